@@ -112,7 +112,7 @@ module _ (t : KnownTable) (m : KnownMachine) (c : KnownCpu) where
     };
   })
 
-  pub fast_unseen : (g : ℕ) (said : fast.Fast) (d : KnownCpu) → FastAnswers g said c d → ((f : ℕ) → said ≢ Got f) → IsUnseen t m c d
+  pub fast_unseen : (g : ℕ) (answer : fast.Fast) (d : KnownCpu) → FastAnswers g answer c d → ((f : ℕ) → answer ≢ Got f) → IsUnseen t m c d
   fast_unseen g FreshFull d is none = unseen_same d is.1
   fast_unseen g ListEmpty d is none = unseen_same d is.2
   fast_unseen g OtherGroup d is none = unseen_stock d (with_view c.stock_seat is.1.0) is.1.2 (ap (λ v. group_of v.last) is.1.1.1)
@@ -249,24 +249,24 @@ module _ (t : KnownTable) (w : KnownStockTable) (run : Run) (locked : KnownLocke
   )
 
   -- a step without the lock
-  step_follows : (action : Action) (said : StepAnswer) (after : LockedState) → (kept : OnlyWatched (cpu_makes p action said ∷ []) locked after.locked) →
-      after.cpu.number ≡ p → is_fast action ≡ true → said ≢ step_answer.Illegal →
-      Makes t (visit_state m c) (cpu_makes p action said ∷ []) (visit_state (record m { watch = after.locked.machine.watch }) after.cpu) →
-      GoesOn (cpu_makes p action said ∷ []) → Follows (cpu_makes p action said ∷ []) after
-  step_follows action said after kept number quick made leads legal =
+  step_follows : (action : Action) (answer : StepAnswer) (after : LockedState) → (kept : OnlyWatched (cpu_makes p action answer ∷ []) locked after.locked) →
+      after.cpu.number ≡ p → is_fast action ≡ true → answer ≢ step_answer.Illegal →
+      Makes t (visit_state m c) (cpu_makes p action answer ∷ []) (visit_state (record m { watch = after.locked.machine.watch }) after.cpu) →
+      GoesOn (cpu_makes p action answer ∷ []) → Follows (cpu_makes p action answer ∷ []) after
+  step_follows action answer after kept number quick made leads legal =
       let n : KnownMachine = record m { watch = after.locked.machine.watch } in
-      let serves : ServesFast t cpus k (visit_state m c) action said (visit_state n after.cpu) = record {
+      let serves : ServesFast t cpus k (visit_state m c) action answer (visit_state n after.cpu) = record {
         is_part = is_part;
         number = number;
         fast = quick;
         machine = refl;
         leads = leads;
-        decided = legal_fast_steps_are_decided t run cpus k m c action said shows is_part quick made legal;
+        decided = legal_fast_steps_are_decided t run cpus k m c action answer shows is_part quick made legal;
       } in (
-        subst (λ (l : KnownLocked). ShowsAll t (run ++ cpu_makes p action said ∷ []) l.machine (slice_set cpus k after.cpu)) (sym kept.locked)
-            (fast_lines_follow t run cpus k (visit_state m c) action said (visit_state n after.cpu) shows serves),
-        λ told. subst (λ (l : KnownLocked). TellsRun t (run ++ cpu_makes p action said ∷ []) l.machine.ledger) (sym kept.locked)
-            (fast_lines_tell t run cpus k (visit_state m c) action said (visit_state n after.cpu) shows serves told),
+        subst (λ (l : KnownLocked). ShowsAll t (run ++ cpu_makes p action answer ∷ []) l.machine (slice_set cpus k after.cpu)) (sym kept.locked)
+            (fast_lines_follow t run cpus k (visit_state m c) action answer (visit_state n after.cpu) shows serves),
+        λ told. subst (λ (l : KnownLocked). TellsRun t (run ++ cpu_makes p action answer ∷ []) l.machine.ledger) (sym kept.locked)
+            (fast_lines_tell t run cpus k (visit_state m c) action answer (visit_state n after.cpu) shows serves told),
       )
 
   this_part : IsPart t w run m cpus k c
@@ -284,8 +284,8 @@ module _ (t : KnownTable) (w : KnownStockTable) (run : Run) (locked : KnownLocke
       (legal_fast_steps_are_decided t run cpus k m c (step.Consume g) step_answer.Took shows is_part refl (λ e. cc) legal)
       after.locked.machine.watch kept.watched) legal
 
-  fast_follows : (g : ℕ) (said : fast.Fast) (after : LockedState) → FastAnswers g said c after.cpu → OnlyWatched (fast_steps p g said) locked after.locked → GoesOn (fast_steps p g said) →
-      Follows (fast_steps p g said) after
+  fast_follows : (g : ℕ) (answer : fast.Fast) (after : LockedState) → FastAnswers g answer c after.cpu → OnlyWatched (fast_steps p g answer) locked after.locked → GoesOn (fast_steps p g answer) →
+      Follows (fast_steps p g answer) after
   fast_follows g FreshFull after is kept legal = unseen_follows after kept (fast_unseen t m c g FreshFull after.cpu is (λ f e. cc))
   fast_follows g ListEmpty after is kept legal = unseen_follows after kept (fast_unseen t m c g ListEmpty after.cpu is (λ f e. cc))
   fast_follows g OtherGroup after is kept legal = unseen_follows after kept (fast_unseen t m c g OtherGroup after.cpu is (λ f e. cc))
@@ -293,8 +293,8 @@ module _ (t : KnownTable) (w : KnownStockTable) (run : Run) (locked : KnownLocke
   fast_follows g NoStock after is kept legal = unseen_follows after kept (fast_unseen t m c g NoStock after.cpu is (λ f e. cc))
   fast_follows g (Got f) after is kept legal = got_follows g f after is kept legal
 
-  get_follows : (f : ℕ) (after : LockedState) (said : Answer) → f < t.frames → GetsPin f c after.cpu said → OnlyWatched (get_steps p f said) locked after.locked → GoesOn (get_steps p f said) →
-      Follows (get_steps p f said) after
+  get_follows : (f : ℕ) (after : LockedState) (answer : Answer) → f < t.frames → GetsPin f c after.cpu answer → OnlyWatched (get_steps p f answer) locked after.locked → GoesOn (get_steps p f answer) →
+      Follows (get_steps p f answer) after
   get_follows f after (answer.Got Held) inside is kept legal =
       step_follows (step.Get f) step_answer.Held after kept (ap (λ (x : KnownCpu). x.number) is.1.2) refl (λ e. cc)
       (fast_calls_lead.held t w run m cpus k c after.cpu this_part f inside is.0 is.1 after.locked.machine.watch kept.watched) legal
@@ -305,10 +305,10 @@ module _ (t : KnownTable) (w : KnownStockTable) (run : Run) (locked : KnownLocke
   get_follows f after (answer.Got Full) inside is kept legal =
       unseen_follows after kept (unseen_seat t m c after.cpu is.1.0 f (looked 255) is.1.2 is.1.1 (λ x. refl))
   get_follows f after (answer.Served (Refused PinsFull)) inside is kept legal = unseen_follows after kept (unseen_same t m c after.cpu is.1)
-  get_follows f after said inside is kept legal = absurd is
+  get_follows f after answer inside is kept legal = absurd is
 
-  put_follows : (f : ℕ) (after : LockedState) (said : Answer) → PutsPin f c after.cpu said → OnlyWatched (put_steps p f said) locked after.locked → GoesOn (put_steps p f said) →
-      Follows (put_steps p f said) after
+  put_follows : (f : ℕ) (after : LockedState) (answer : Answer) → PutsPin f c after.cpu answer → OnlyWatched (put_steps p f answer) locked after.locked → GoesOn (put_steps p f answer) →
+      Follows (put_steps p f answer) after
   put_follows f after (answer.Put putted) is kept legal =
       step_follows (step.Put f) (put_answer putted) after kept (put_number putted is.1) refl (put_made putted)
       (fast_calls_lead.putted t w run m cpus k c after.cpu this_part f putted is.1 after.locked.machine.watch kept.watched) legal
@@ -321,7 +321,7 @@ module _ (t : KnownTable) (w : KnownStockTable) (run : Run) (locked : KnownLocke
       put_made (put.Left n) = λ e. cc
       put_made put.Last = λ e. cc
   put_follows f after (answer.Served (Refused NotPinned)) is kept legal = unseen_follows after kept (unseen_same t m c after.cpu is.1)
-  put_follows f after said is kept legal = absurd is
+  put_follows f after answer is kept legal = absurd is
 
   -- served under the lock
   locked_follows : (is_explained : Bool) (seen : KnownCpu) → IsUnseen t m c seen → (command : Cmd) (reply : Reply) (steps : Run) (after : LockedState) →
@@ -332,13 +332,13 @@ module _ (t : KnownTable) (w : KnownStockTable) (run : Run) (locked : KnownLocke
       (λ all. watched_follows (under_lock p is.served.steps) (cpu_makes seen.number step.Unlock step_answer.Done ∷ []) is.left after is.unlock
       (served_follows seen unseen is.found is_explained is.found.machine.watch is.lock.locked command reply (locked_state is.left after.cpu) is.served left_shut all)) legal
 
-  replied_follows : (is_explained : Bool) (command : Cmd) (steps : Run) (after : LockedState) (said : Answer) → RepliesServed is_explained command (transition t before steps after) said → AllShut after.locked.machine →
+  replied_follows : (is_explained : Bool) (command : Cmd) (steps : Run) (after : LockedState) (answer : Answer) → RepliesServed is_explained command (transition t before steps after) answer → AllShut after.locked.machine →
       GoesOn steps → Follows steps after
   replied_follows is_explained command steps after (answer.Served reply) is shut legal =
       locked_follows is_explained c (unseen_same t m c c refl) command reply steps after is shut legal
-  replied_follows is_explained command steps after said is shut legal = absurd is
+  replied_follows is_explained command steps after answer is shut legal = absurd is
 
-  frame_follows : (is_explained : Bool) (path : Bor (List ℕ)) (steps : Run) (after : LockedState) (said : Answer) (is_noted : Bool) → AnswersFrame is_explained path (transition t before steps after) said is_noted →
+  frame_follows : (is_explained : Bool) (path : Bor (List ℕ)) (steps : Run) (after : LockedState) (answer : Answer) (is_noted : Bool) → AnswersFrame is_explained path (transition t before steps after) answer is_noted →
       AllShut after.locked.machine → GoesOn steps → Follows steps after
   frame_follows is_explained path steps after (answer.Fast (Got f)) false is shut legal =
       as_made steps (fast_steps p is.gets.group (Got f)) after is.alone.steps_are
@@ -350,9 +350,9 @@ module _ (t : KnownTable) (w : KnownStockTable) (run : Run) (locked : KnownLocke
       let none = served.none in
       locked_follows is_explained served.seen (fast_unseen t m c none.group none.fast served.seen none.answers none.none) (cmd.Alloc path 0) reply steps after served.served
       shut legal
-  frame_follows is_explained path steps after said is_noted is shut legal = absurd is
+  frame_follows is_explained path steps after answer is_noted is shut legal = absurd is
 
-  release_follows : (is_explained : Bool) (f : ℕ) (steps : Run) (after : LockedState) (said : Answer) (is_noted : Bool) → AnswersRelease is_explained f (transition t before steps after) said is_noted →
+  release_follows : (is_explained : Bool) (f : ℕ) (steps : Run) (after : LockedState) (answer : Answer) (is_noted : Bool) → AnswersRelease is_explained f (transition t before steps after) answer is_noted →
       AllShut after.locked.machine → GoesOn steps → Follows steps after
   release_follows is_explained f steps after answer.Listed false is shut legal =
       as_made steps (cpu_makes p (step.Credit f) step_answer.Back ∷ []) after is.1.steps_are
@@ -362,25 +362,25 @@ module _ (t : KnownTable) (w : KnownStockTable) (run : Run) (locked : KnownLocke
       after.locked.machine.watch is.1.locked.watched) all) legal
   release_follows is_explained f steps after (answer.Served reply) true is shut legal =
       locked_follows is_explained is.seen (list_unseen t m c f is.seen is.not_listed) (cmd.Release f) reply steps after is.served shut legal
-  release_follows is_explained f steps after said is_noted is shut legal = absurd is
+  release_follows is_explained f steps after answer is_noted is shut legal = absurd is
 
   settle_follows : (steps : Run) (after : LockedState) → SettlesUnderLock (transition t before steps after) → AllShut after.locked.machine → GoesOn steps → Follows steps after
   settle_follows steps after is shut legal = locked_follows false c (unseen_same t m c c refl) cmd.Settle Done steps after is shut legal
 
-  answer_follows : (is_explained : Bool) (asked : Work) (steps : Run) (after : LockedState) (said : Answer) (is_noted : Bool) → WorkInRange t.frames asked →
-      AnswersWork is_explained asked (transition t before steps after) said is_noted → AllShut after.locked.machine → GoesOn steps → Follows steps after
-  answer_follows is_explained (work.Visit command) steps after said true names is shut legal = replied_follows is_explained command steps after said is shut legal
-  answer_follows is_explained (work.Frame path) steps after said is_noted names is shut legal = frame_follows is_explained path steps after said is_noted is shut legal
+  answer_follows : (is_explained : Bool) (asked : Work) (steps : Run) (after : LockedState) (answer : Answer) (is_noted : Bool) → WorkInRange t.frames asked →
+      AnswersWork is_explained asked (transition t before steps after) answer is_noted → AllShut after.locked.machine → GoesOn steps → Follows steps after
+  answer_follows is_explained (work.Visit command) steps after answer true names is shut legal = replied_follows is_explained command steps after answer is shut legal
+  answer_follows is_explained (work.Frame path) steps after answer is_noted names is shut legal = frame_follows is_explained path steps after answer is_noted is shut legal
   answer_follows is_explained (work.Fast g) steps after (answer.Fast taken) false names is shut legal =
       as_made steps (fast_steps p g taken) after is.1.steps_are (λ all. fast_follows g taken after is.0 is.1.locked all) legal
-  answer_follows is_explained (work.Release f) steps after said is_noted names is shut legal = release_follows is_explained f steps after said is_noted is shut legal
-  answer_follows is_explained (work.Get f) steps after said false names is shut legal =
-      as_made steps (get_steps p f said) after is.1.steps_are (λ all. get_follows f after said names is.0 is.1.locked all) legal
-  answer_follows is_explained (work.Put f) steps after said false names is shut legal =
-      as_made steps (put_steps p f said) after is.1.steps_are (λ all. put_follows f after said is.0 is.1.locked all) legal
+  answer_follows is_explained (work.Release f) steps after answer is_noted names is shut legal = release_follows is_explained f steps after answer is_noted is shut legal
+  answer_follows is_explained (work.Get f) steps after answer false names is shut legal =
+      as_made steps (get_steps p f answer) after is.1.steps_are (λ all. get_follows f after answer names is.0 is.1.locked all) legal
+  answer_follows is_explained (work.Put f) steps after answer false names is shut legal =
+      as_made steps (put_steps p f answer) after is.1.steps_are (λ all. put_follows f after answer is.0 is.1.locked all) legal
   answer_follows is_explained work.Settle steps after answer.Settled false names is shut legal = settle_follows steps after is shut legal
-  answer_follows is_explained asked steps after said true names is shut legal = absurd is
-  answer_follows is_explained asked steps after said false names is shut legal = absurd is
+  answer_follows is_explained asked steps after answer true names is shut legal = absurd is
+  answer_follows is_explained asked steps after answer false names is shut legal = absurd is
 
   -- settled, and then looks at words
   looked_follows : (steps : Run) (settled after : LockedState) → SettlesUnderLock (transition t before steps settled)
@@ -403,4 +403,4 @@ module _ (t : KnownTable) (w : KnownStockTable) (run : Run) (locked : KnownLocke
       looked_follows steps is.settled after is.settles
       (units_looked t _ _ _ is.settled.locked.machine after.locked.machine is.told) is.cpu shut legal
   work_follows is_explained asked steps after text names is shut legal =
-      answer_follows is_explained asked steps after is.said is.is_noted names is.answered shut legal
+      answer_follows is_explained asked steps after is.answer is.is_noted names is.answered shut legal

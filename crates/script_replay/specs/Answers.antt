@@ -60,9 +60,9 @@ pub record AddsText {Z T E : Type 0} (result : Result T E) (old new : String Z) 
 
 -- the text of an answer of which `is_answered` holds
 pub record IsTextOf (is_answered : Answer → Type 0) (text : List ℕ) : Type 0 where
-  pub said : Answer
-  pub answered : is_answered said
-  pub text_is : text ≡ answer_text said
+  pub answer : Answer
+  pub answered : is_answered answer
+  pub text_is : text ≡ answer_text answer
 
 -- a call that adds the text of an answer of which `is_answered` holds
 abbrev pub AddsAnswer : {Z T E : Type 0} → Result T E → String Z → String Z → (Answer → Type 0) → Type 0
@@ -273,14 +273,14 @@ AnswersFrame is_explained path call other is_noted = ⊥
 -- The answer of a command, except of those that answer a text of any length, and whether there are notes of it. There
 -- are if the command was served under the lock, except for a Settle, which asks for no memory.
 abbrev pub AnswersWork : (is_explained : Bool) → Work → Transition LockedState → Answer → (is_noted : Bool) → Type 0
-AnswersWork is_explained (Visit command) call said true = RepliesServed is_explained command call said
-AnswersWork is_explained (Frame path) call said is_noted = AnswersFrame is_explained path call said is_noted
-AnswersWork is_explained (Fast group) call said false = AnswersFast group call said
-AnswersWork is_explained (Release frame) call said is_noted = AnswersRelease is_explained frame call said is_noted
-AnswersWork is_explained (Get frame) call said false = AnswersGet frame call said
-AnswersWork is_explained (Put frame) call said false = AnswersPut frame call said
-AnswersWork is_explained Settle call said false = AnswersSettle call said
-AnswersWork is_explained work call said is_noted = ⊥
+AnswersWork is_explained (Visit command) call answer true = RepliesServed is_explained command call answer
+AnswersWork is_explained (Frame path) call answer is_noted = AnswersFrame is_explained path call answer is_noted
+AnswersWork is_explained (Fast group) call answer false = AnswersFast group call answer
+AnswersWork is_explained (Release frame) call answer is_noted = AnswersRelease is_explained frame call answer is_noted
+AnswersWork is_explained (Get frame) call answer false = AnswersGet frame call answer
+AnswersWork is_explained (Put frame) call answer false = AnswersPut frame call answer
+AnswersWork is_explained Settle call answer false = AnswersSettle call answer
+AnswersWork is_explained work call answer is_noted = ⊥
 
 -- the path of the group that the command removes, if it is to remove one
 abbrev pub path_removed : Cmd → List ℕ
@@ -302,11 +302,11 @@ told_text false gone machine = []
 -- the explanation
 pub record WritesAnswer (is_explained : Bool) (work : Work) (call : Transition LockedState)
     (text : List ℕ) : Type 0 where
-  pub said : Answer
+  pub answer : Answer
   pub is_noted : Bool
-  pub answered : AnswersWork is_explained work call said is_noted
+  pub answered : AnswersWork is_explained work call answer is_noted
   pub text_is : text
-      ≡ answer_text said ++ told_text (is_noted && is_explained) (path_gone work) call.after.locked.machine
+      ≡ answer_text answer ++ told_text (is_noted && is_explained) (path_gone work) call.after.locked.machine
 
 -- the CPU is settled, and the text is that of the machine after that
 pub record WritesMachine (machine_text : KnownMachine → List ℕ) (call : Transition LockedState)

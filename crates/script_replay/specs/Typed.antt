@@ -43,16 +43,16 @@ IsShort (work.Units path) = ⊥
 IsShort other = Unit {0}
 
 -- the command was served by some steps, and this is its answer
-pub record SaysWork (table : KnownTable) (work : Work) (before after : LockedState) (said : Answer) : Type 0 where
+pub record SaysWork (table : KnownTable) (work : Work) (before after : LockedState) (answer : Answer) : Type 0 where
   pub steps : Run
   pub is_noted : Bool
-  pub answered : AnswersWork false work (transition table before steps after) said is_noted
+  pub answered : AnswersWork false work (transition table before steps after) answer is_noted
 
 -- The command of the CPU of this number was served with this answer. A script of the command alone, whatever the number
 -- of its line, is replayed from the state before to the state after, and its answer is the text of this one.
 pub record SaysCommand (tables : BootTables) (cpu : ℕ) (command : Command) (before after : SystemState)
-    (said : Answer) : Type 0 where
+    (answer : Answer) : Type 0 where
   pub says : AtPart cpu (λ part left. SaysWork tables.frames (work_of command)
-      (locked_state before.locked part) (locked_state after.locked left) said) before.cpus after.cpus
+      (locked_state before.locked part) (locked_state after.locked left) answer) before.cpus after.cpus
   pub replays : (number : ℕ) → Replays (terms tables.frames tables.stocks false) (At number cpu command ∷ [])
-      before after (answer_text said)
+      before after (answer_text answer)

@@ -81,17 +81,17 @@ AnswersFrameByVisit tables path before after other = ⊥
 
 -- the answer of a command, except of those that answer a text of any length
 abbrev pub AnswersWorkByVisit : BootTables → Work → (before after : KnownCpu) → Answer → Type 0
-AnswersWorkByVisit tables (Visit command) before after said = RepliesVisited tables command before after said
-AnswersWorkByVisit tables (Frame path) before after said = AnswersFrameByVisit tables path before after said
-AnswersWorkByVisit tables (Fast group) before after said = TakesFast group before after said
-AnswersWorkByVisit tables (Release frame) before after said = AnswersReleaseByVisit tables frame before after said
-AnswersWorkByVisit tables (Get frame) before after said = GetsPin frame before after said
-AnswersWorkByVisit tables (Put frame) before after said = PutsPin frame before after said
-AnswersWorkByVisit tables Settle before after said = AnswersSettleByVisit tables before after said
-AnswersWorkByVisit tables Blocks before after said = ⊥
-AnswersWorkByVisit tables Show before after said = ⊥
-AnswersWorkByVisit tables Stock before after said = ⊥
-AnswersWorkByVisit tables (Units path) before after said = ⊥
+AnswersWorkByVisit tables (Visit command) before after answer = RepliesVisited tables command before after answer
+AnswersWorkByVisit tables (Frame path) before after answer = AnswersFrameByVisit tables path before after answer
+AnswersWorkByVisit tables (Fast group) before after answer = TakesFast group before after answer
+AnswersWorkByVisit tables (Release frame) before after answer = AnswersReleaseByVisit tables frame before after answer
+AnswersWorkByVisit tables (Get frame) before after answer = GetsPin frame before after answer
+AnswersWorkByVisit tables (Put frame) before after answer = PutsPin frame before after answer
+AnswersWorkByVisit tables Settle before after answer = AnswersSettleByVisit tables before after answer
+AnswersWorkByVisit tables Blocks before after answer = ⊥
+AnswersWorkByVisit tables Show before after answer = ⊥
+AnswersWorkByVisit tables Stock before after answer = ⊥
+AnswersWorkByVisit tables (Units path) before after answer = ⊥
 
 -- The answer of a command, as text. `blocks` and `show` settle the CPU, and write the machine as it is after that.
 -- `stock` and `units` also look at words, in the same visit.
@@ -105,7 +105,7 @@ VisitsWork tables Stock before after text = TellsAfterSettling tables.frames tab
 VisitsWork tables (Units path) before after text =
     TellsAfterSettling tables.frames tables.stocks (TellsUnitsOf path.now text) before after
 VisitsWork tables work before after text =
-    IsTextOf (λ said. AnswersWorkByVisit tables work before after said) text
+    IsTextOf (λ answer. AnswersWorkByVisit tables work before after answer) text
 
 -- the answer of a script's command for a part, as text, and the part after it
 abbrev pub VisitsCommand : BootTables → Command → (before after : KnownCpu) (text : List ℕ) → Type 0

@@ -24,7 +24,7 @@ pub(crate) fn serve_typed_work<N: BootName>(
 ) -> Said
     requires in_range { WorkInRange N.frames.frames work.now }
     requires short { IsShort work.now }
-    ensures said { SaysWork N.frames work.now (locked_state locked.old cpu.old) (locked_state locked.new cpu.new)
+    ensures answer { SaysWork N.frames work.now (locked_state locked.old cpu.old) (locked_state locked.new cpu.new)
         (answer_of locked.new.machine.ledger result) }
     ensures groups { SaysItsGroups locked.new.machine.ledger result }
 {
@@ -53,7 +53,7 @@ fn serve_typed_frame<N: BootName>(
     cpu: &mut Cpu<N>,
     path: &[u8],
 ) -> Said
-    ensures said { SaysWork N.frames (work.Frame path.entry) (locked_state locked.old cpu.old)
+    ensures answer { SaysWork N.frames (work.Frame path.entry) (locked_state locked.old cpu.old)
         (locked_state locked.new cpu.new) (answer_of locked.new.machine.ledger result) }
     ensures groups { SaysItsGroups locked.new.machine.ledger result }
 {
@@ -79,7 +79,7 @@ fn serve_typed_fast<N: BootName>(
     group: u32,
 ) -> Said
     requires there { group < 64 }
-    ensures said { SaysWork N.frames (work.Fast group) (locked_state locked.old cpu.old)
+    ensures answer { SaysWork N.frames (work.Fast group) (locked_state locked.old cpu.old)
         (locked_state locked.new cpu.new) (answer_of locked.new.machine.ledger result) }
     ensures groups { SaysItsGroups locked.new.machine.ledger result }
 {
@@ -97,7 +97,7 @@ fn serve_typed_release<N: BootName>(
     frame: u32,
 ) -> Said
     requires in_zone { frame < N.frames.frames }
-    ensures said { SaysWork N.frames (work.Release frame) (locked_state locked.old cpu.old)
+    ensures answer { SaysWork N.frames (work.Release frame) (locked_state locked.old cpu.old)
         (locked_state locked.new cpu.new) (answer_of locked.new.machine.ledger result) }
     ensures groups { SaysItsGroups locked.new.machine.ledger result }
 {
@@ -117,7 +117,7 @@ fn serve_typed_get<N: BootName>(
     frame: u32,
 ) -> Said
     requires in_zone { frame < N.frames.frames }
-    ensures said { SaysWork N.frames (work.Get frame) (locked_state locked.old cpu.old)
+    ensures answer { SaysWork N.frames (work.Get frame) (locked_state locked.old cpu.old)
         (locked_state locked.new cpu.new) (answer_of locked.new.machine.ledger result) }
     ensures groups { SaysItsGroups locked.new.machine.ledger result }
 {
@@ -138,7 +138,7 @@ fn serve_typed_put<N: BootName>(
     frame: u32,
 ) -> Said
     requires in_zone { frame < N.frames.frames }
-    ensures said { SaysWork N.frames (work.Put frame) (locked_state locked.old cpu.old)
+    ensures answer { SaysWork N.frames (work.Put frame) (locked_state locked.old cpu.old)
         (locked_state locked.new cpu.new) (answer_of locked.new.machine.ledger result) }
     ensures groups { SaysItsGroups locked.new.machine.ledger result }
 {

@@ -30,7 +30,7 @@ pub fn serve_typed<N: BootName>(
 ) -> Said
     requires there { IsThere N.frames.frames (length cpus.old) cpu command.now }
     requires short { IsShort (work_of command.now) }
-    ensures said { SaysCommand (boot_tables N.frames N.stocks) cpu command.now
+    ensures answer { SaysCommand (boot_tables N.frames N.stocks) cpu command.now
         (system_state locked.old cpus.old) (system_state locked.new cpus.new)
         (answer_of locked.new.machine.ledger result) }
     ensures groups { SaysItsGroups locked.new.machine.ledger result }
@@ -49,7 +49,7 @@ fn serve_typed_part<N: BootName>(
 ) -> Said
     requires in_range { NamesInRange N.frames.frames command.now }
     requires short { IsShort (work_of command.now) }
-    ensures said { SaysWork N.frames (work_of command.now) (locked_state locked.old cpu.old)
+    ensures answer { SaysWork N.frames (work_of command.now) (locked_state locked.old cpu.old)
         (locked_state locked.new cpu.new) (answer_of locked.new.machine.ledger result) }
     ensures groups { SaysItsGroups locked.new.machine.ledger result }
     ensures invariants { HoldsInvariants N.frames N.stocks locked.new }

@@ -5,8 +5,8 @@ use Rattle.mem_machine.specs.Steps.{cpu_makes}
 use Rattle.script_replay.specs.Answers.{OnlyWatched}
 use Rattle.script_replay.proofs.typed_answers.serve_typed_release.Goals as goal
 
-pub returns-then-try_list-clause-said : goal.returns-then-try_list-clause-said
-returns-then-try_list-clause-said g c =
+pub returns-then-try_list-clause-answer : goal.returns-then-try_list-clause-answer
+returns-then-try_list-clause-answer g c =
     let made : OnlyWatched (cpu_makes c.args.cpu.now.number (step.Credit c.args.frame) step_answer.Back ∷ []) c.args.locked.now c.watch_credit.new.locked =
     subst (λ (n : ℕ). OnlyWatched (cpu_makes n (step.Credit c.args.frame) step_answer.Back ∷ []) c.args.locked.now c.watch_credit.new.locked)
     c.number-cpu_number.ensures.number c.watch_credit.ensures in record {
@@ -15,8 +15,8 @@ returns-then-try_list-clause-said g c =
       answered = (search rules, record { locked = made; steps_are = refl });
     }
 
-pub returns-clause-said : goal.returns-clause-said
-returns-clause-said g c = let is = c.serve_under_lock.ensures.served.served in record {
+pub returns-clause-answer : goal.returns-clause-answer
+returns-clause-answer g c = let is = c.serve_under_lock.ensures.served.served in record {
   steps = c.serve_under_lock.ensures.served.steps;
   is_noted = true;
   answered = record {
