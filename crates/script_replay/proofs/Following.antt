@@ -214,9 +214,9 @@ module _ (t : KnownTable) (w : KnownStockTable) (run : Run) (locked : KnownLocke
 
   -- served under the lock, which the watch has taken, after a look at its own stock
   served_follows : (seen : KnownCpu) → IsUnseen t m c seen → (found : KnownLocked) (is_explained : Bool) (watch : KnownWatch) → found ≡ locked_with_watch (locked_with_telling locked is_explained) watch →
-      (command : Cmd) (reply : Reply) (after : LockedState) → (is : IsServed t command reply (locked_state found seen) after) → AllShut after.locked.machine →
+      (cmd : Cmd) (reply : Reply) (after : LockedState) → (is : IsServed t cmd reply (locked_state found seen) after) → AllShut after.locked.machine →
       GoesOn (under_lock p is.steps) → Follows (under_lock p is.steps) after
-  served_follows seen unseen found is_explained watch locks command reply after is shut legal =
+  served_follows seen unseen found is_explained watch locks cmd reply after is shut legal =
       let n : KnownMachine = found.machine in
       let shown : ShowsAll t run n cpus = subst (λ (l : KnownLocked). ShowsAll t run l.machine cpus) (sym locks) (shows_told t run m cpus is_explained watch shows) in
       let same : local_of t n seen ≡ local_of t n c =
@@ -324,19 +324,19 @@ module _ (t : KnownTable) (w : KnownStockTable) (run : Run) (locked : KnownLocke
   put_follows f after answer is kept legal = absurd is
 
   -- served under the lock
-  locked_follows : (is_explained : Bool) (seen : KnownCpu) → IsUnseen t m c seen → (command : Cmd) (reply : Reply) (steps : Run) (after : LockedState) →
-      IsServedUnderLock is_explained command seen reply (transition t before steps after) → AllShut after.locked.machine → GoesOn steps → Follows steps after
-  locked_follows is_explained seen unseen command reply steps after is shut legal =
+  locked_follows : (is_explained : Bool) (seen : KnownCpu) → IsUnseen t m c seen → (cmd : Cmd) (reply : Reply) (steps : Run) (after : LockedState) →
+      IsServedUnderLock is_explained cmd seen reply (transition t before steps after) → AllShut after.locked.machine → GoesOn steps → Follows steps after
+  locked_follows is_explained seen unseen cmd reply steps after is shut legal =
       let left_shut : AllShut is.left.machine = subst (λ (l : KnownLocked). AllShut l.machine) is.unlock.locked shut in
       as_made steps (under_lock p is.served.steps) after (is.steps_are ∙ ap (λ (q : ℕ). under_lock q is.served.steps) unseen.number)
       (λ all. watched_follows (under_lock p is.served.steps) (cpu_makes seen.number step.Unlock step_answer.Done ∷ []) is.left after is.unlock
-      (served_follows seen unseen is.found is_explained is.found.machine.watch is.lock.locked command reply (locked_state is.left after.cpu) is.served left_shut all)) legal
+      (served_follows seen unseen is.found is_explained is.found.machine.watch is.lock.locked cmd reply (locked_state is.left after.cpu) is.served left_shut all)) legal
 
-  replied_follows : (is_explained : Bool) (command : Cmd) (steps : Run) (after : LockedState) (answer : Answer) → RepliesServed is_explained command (transition t before steps after) answer → AllShut after.locked.machine →
+  replied_follows : (is_explained : Bool) (cmd : Cmd) (steps : Run) (after : LockedState) (answer : Answer) → RepliesServed is_explained cmd (transition t before steps after) answer → AllShut after.locked.machine →
       GoesOn steps → Follows steps after
-  replied_follows is_explained command steps after (answer.Served reply) is shut legal =
-      locked_follows is_explained c (unseen_same t m c c refl) command reply steps after is shut legal
-  replied_follows is_explained command steps after answer is shut legal = absurd is
+  replied_follows is_explained cmd steps after (answer.Served reply) is shut legal =
+      locked_follows is_explained c (unseen_same t m c c refl) cmd reply steps after is shut legal
+  replied_follows is_explained cmd steps after answer is shut legal = absurd is
 
   frame_follows : (is_explained : Bool) (path : Bor (List ℕ)) (steps : Run) (after : LockedState) (answer : Answer) (is_noted : Bool) → AnswersFrame is_explained path (transition t before steps after) answer is_noted →
       AllShut after.locked.machine → GoesOn steps → Follows steps after
@@ -369,7 +369,7 @@ module _ (t : KnownTable) (w : KnownStockTable) (run : Run) (locked : KnownLocke
 
   answer_follows : (is_explained : Bool) (asked : Work) (steps : Run) (after : LockedState) (answer : Answer) (is_noted : Bool) → WorkInRange t.frames asked →
       AnswersWork is_explained asked (transition t before steps after) answer is_noted → AllShut after.locked.machine → GoesOn steps → Follows steps after
-  answer_follows is_explained (work.Visit command) steps after answer true names is shut legal = replied_follows is_explained command steps after answer is shut legal
+  answer_follows is_explained (work.Visit cmd) steps after answer true names is shut legal = replied_follows is_explained cmd steps after answer is shut legal
   answer_follows is_explained (work.Frame path) steps after answer is_noted names is shut legal = frame_follows is_explained path steps after answer is_noted is shut legal
   answer_follows is_explained (work.Fast g) steps after (answer.Fast taken) false names is shut legal =
       as_made steps (fast_steps p g taken) after is.1.steps_are (λ all. fast_follows g taken after is.0 is.1.locked all) legal

@@ -69,7 +69,7 @@ module _ (call : Transition LockedState) (answer : Answer) where
   as_answer work false so = record { answer = answer; is_noted = false; answered = so; text_is = sym (append-nil (answer_text answer)) }
 
   pub as_text : (work : Work) (is_noted : Bool) → AnswersWork false work call answer is_noted → WritesWork false work call (answer_text answer)
-  as_text (Visit command) is_noted so = as_answer (Visit command) is_noted so
+  as_text (Visit cmd) is_noted so = as_answer (Visit cmd) is_noted so
   as_text (Frame path) is_noted so = as_answer (Frame path) is_noted so
   as_text (Fast group) is_noted so = as_answer (Fast group) is_noted so
   as_text (Release frame) is_noted so = as_answer (Release frame) is_noted so

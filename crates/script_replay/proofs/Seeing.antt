@@ -50,8 +50,8 @@ module _ (t : KnownTable) (before : LockedState) (steps : Run) (after : LockedSt
   alone_seen : (made : Run) → steps ≡ made → OnlyWatched made before.locked after.locked → SeesAll
   alone_seen made are only = subst (λ (r : Run). Sees r before.locked after.locked) (sym are) (only_sees made before.locked after.locked only)
 
-  locked_seen : (is_explained : Bool) (command : Cmd) (seen : KnownCpu) (reply : Reply) → IsServedUnderLock is_explained command seen reply (transition t before steps after) → SeesAll
-  locked_seen is_explained command seen reply is =
+  locked_seen : (is_explained : Bool) (cmd : Cmd) (seen : KnownCpu) (reply : Reply) → IsServedUnderLock is_explained cmd seen reply (transition t before steps after) → SeesAll
+  locked_seen is_explained cmd seen reply is =
       let first : Run = cpu_makes seen.number step.Lock step_answer.Done ∷ [] in
       let last : Run = cpu_makes seen.number step.Unlock step_answer.Done ∷ [] in
       let a : KnownWatch = before.locked.machine.watch in
@@ -63,9 +63,9 @@ module _ (t : KnownTable) (before : LockedState) (steps : Run) (after : LockedSt
       subst (λ (r : Run). Watches a r e) (sym is.steps_are)
       (watches_both a first b (is.served.steps ++ last) e is.lock.watched rest)
 
-  replied_seen : (is_explained : Bool) (command : Cmd) (answer : Answer) → RepliesServed is_explained command (transition t before steps after) answer → SeesAll
-  replied_seen is_explained command (answer.Served reply) is = locked_seen is_explained command before.cpu reply is
-  replied_seen is_explained command answer is = absurd is
+  replied_seen : (is_explained : Bool) (cmd : Cmd) (answer : Answer) → RepliesServed is_explained cmd (transition t before steps after) answer → SeesAll
+  replied_seen is_explained cmd (answer.Served reply) is = locked_seen is_explained cmd before.cpu reply is
+  replied_seen is_explained cmd answer is = absurd is
 
   frame_seen : (is_explained : Bool) (path : Bor (List ℕ)) (answer : Answer) (is_noted : Bool) → AnswersFrame is_explained path (transition t before steps after) answer is_noted → SeesAll
   frame_seen is_explained path (answer.Fast (Got f)) false is = alone_seen _ is.alone.steps_are is.alone.locked
@@ -79,7 +79,7 @@ module _ (t : KnownTable) (before : LockedState) (steps : Run) (after : LockedSt
   release_seen is_explained f answer is_noted is = absurd is
 
   answer_seen : (is_explained : Bool) (asked : Work) (answer : Answer) (is_noted : Bool) → AnswersWork is_explained asked (transition t before steps after) answer is_noted → SeesAll
-  answer_seen is_explained (work.Visit command) answer true is = replied_seen is_explained command answer is
+  answer_seen is_explained (work.Visit cmd) answer true is = replied_seen is_explained cmd answer is
   answer_seen is_explained (work.Frame path) answer is_noted is = frame_seen is_explained path answer is_noted is
   answer_seen is_explained (work.Fast g) (answer.Fast taken) false is = alone_seen _ is.1.steps_are is.1.locked
   answer_seen is_explained (work.Release f) answer is_noted is = release_seen is_explained f answer is_noted is

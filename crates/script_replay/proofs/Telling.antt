@@ -61,9 +61,9 @@ settle_alone is_explained call text writes = tells writes.answer writes.is_noted
     tells answer true answered is = absurd answered
 
 -- a command that was served under the lock: its reply, followed by its explanation
-pub served : (on : Terms) (command : Cmd) (before after : LockedState) (reply : Reply) → ServesUnderLock on.frames on.is_explained command reply before after
-    → ServesWork on (Visit command) before after (reply_text reply ++ told_text on.is_explained (path_removed command) after.locked.machine)
-served on command before after reply is = record {
+pub served : (on : Terms) (cmd : Cmd) (before after : LockedState) (reply : Reply) → ServesUnderLock on.frames on.is_explained cmd reply before after
+    → ServesWork on (Visit cmd) before after (reply_text reply ++ told_text on.is_explained (path_removed cmd) after.locked.machine)
+served on cmd before after reply is = record {
   steps = is.steps;
   writes = record {
     answer = Served reply;

@@ -154,27 +154,27 @@ AnswersPut frame call answer =
 -- The command is served under the lock for a CPU with the part `seen`: the steps are Lock, those of the command, and
 -- Unlock. Reclaimed units are noted exactly if the command is explained. The command finds `found` behind the lock,
 -- where the watch took the Lock, and leaves `left`.
-pub record IsServedUnderLock (is_explained : Bool) (command : Cmd) (seen : KnownCpu) (reply : Reply)
+pub record IsServedUnderLock (is_explained : Bool) (cmd : Cmd) (seen : KnownCpu) (reply : Reply)
     (call : Transition LockedState) : Type 0 where
   pub found : KnownLocked
   pub left : KnownLocked
   pub lock : OnlyWatched (cpu_makes seen.number step.Lock step_answer.Done ∷ [])
       (locked_with_telling call.before.locked is_explained) found
-  pub served : IsServed call.table command reply (locked_state found seen) (locked_state left call.after.cpu)
+  pub served : IsServed call.table cmd reply (locked_state found seen) (locked_state left call.after.cpu)
   pub unlock : OnlyWatched (cpu_makes seen.number step.Unlock step_answer.Done ∷ []) left call.after.locked
   pub steps_are : call.steps ≡ under_lock seen.number served.steps
 
 -- the command of a CPU was served under the lock with this reply, by some steps
-pub record ServesUnderLock (table : KnownTable) (is_explained : Bool) (command : Cmd) (reply : Reply)
+pub record ServesUnderLock (table : KnownTable) (is_explained : Bool) (cmd : Cmd) (reply : Reply)
     (before after : LockedState) : Type 0 where
   pub steps : Run
-  pub served : IsServedUnderLock is_explained command before.cpu reply (transition table before steps after)
+  pub served : IsServedUnderLock is_explained cmd before.cpu reply (transition table before steps after)
 
 -- the command was served under the lock, and its reply is the answer
 abbrev pub RepliesServed : (is_explained : Bool) → Cmd → Transition LockedState → Answer → Type 0
-RepliesServed is_explained command call (answer.Served reply) =
-    IsServedUnderLock is_explained command call.before.cpu reply call
-RepliesServed is_explained command call other = ⊥
+RepliesServed is_explained cmd call (answer.Served reply) =
+    IsServedUnderLock is_explained cmd call.before.cpu reply call
+RepliesServed is_explained cmd call other = ⊥
 
 -- the CPU was settled under the lock; there is nothing to explain
 abbrev pub SettlesUnderLock : Transition LockedState → Type 0
@@ -273,7 +273,7 @@ AnswersFrame is_explained path call other is_noted = ⊥
 -- The answer of a command, except of those that answer a text of any length, and whether there are notes of it. There
 -- are if the command was served under the lock, except for a Settle, which asks for no memory.
 abbrev pub AnswersWork : (is_explained : Bool) → Work → Transition LockedState → Answer → (is_noted : Bool) → Type 0
-AnswersWork is_explained (Visit command) call answer true = RepliesServed is_explained command call answer
+AnswersWork is_explained (Visit cmd) call answer true = RepliesServed is_explained cmd call answer
 AnswersWork is_explained (Frame path) call answer is_noted = AnswersFrame is_explained path call answer is_noted
 AnswersWork is_explained (Fast group) call answer false = AnswersFast group call answer
 AnswersWork is_explained (Release frame) call answer is_noted = AnswersRelease is_explained frame call answer is_noted
@@ -289,7 +289,7 @@ path_removed other = []
 
 -- the path of the group that a command of a script removes, if it is to remove one
 abbrev pub path_gone : Work → List ℕ
-path_gone (Visit command) = path_removed command
+path_gone (Visit cmd) = path_removed cmd
 path_gone work = []
 
 -- if it is asked for, the explanation of a command that was served under the lock: what it drained, reclaimed and

@@ -31,13 +31,13 @@ use Rattle.script_replay.specs.Works.{work_of}
 
 -- the command was served by a visit, and this was its reply
 abbrev pub IsServedByVisit : BootTables → Cmd → (before after : KnownCpu) → Reply → Type 0
-IsServedByVisit tables command before after reply =
-    IsVisited tables.frames tables.stocks (IsServed tables.frames command reply) before after
+IsServedByVisit tables cmd before after reply =
+    IsVisited tables.frames tables.stocks (IsServed tables.frames cmd reply) before after
 
 -- the command was served by a visit, and its reply is the answer
 abbrev pub RepliesVisited : BootTables → Cmd → (before after : KnownCpu) → Answer → Type 0
-RepliesVisited tables command before after (answer.Served reply) = IsServedByVisit tables command before after reply
-RepliesVisited tables command before after other = ⊥
+RepliesVisited tables cmd before after (answer.Served reply) = IsServedByVisit tables cmd before after reply
+RepliesVisited tables cmd before after other = ⊥
 
 -- Settle: the CPU was settled by a visit
 abbrev pub AnswersSettleByVisit : BootTables → (before after : KnownCpu) → Answer → Type 0
@@ -81,7 +81,7 @@ AnswersFrameByVisit tables path before after other = ⊥
 
 -- the answer of a command, except of those that answer a text of any length
 abbrev pub AnswersWorkByVisit : BootTables → Work → (before after : KnownCpu) → Answer → Type 0
-AnswersWorkByVisit tables (Visit command) before after answer = RepliesVisited tables command before after answer
+AnswersWorkByVisit tables (Visit cmd) before after answer = RepliesVisited tables cmd before after answer
 AnswersWorkByVisit tables (Frame path) before after answer = AnswersFrameByVisit tables path before after answer
 AnswersWorkByVisit tables (Fast group) before after answer = TakesFast group before after answer
 AnswersWorkByVisit tables (Release frame) before after answer = AnswersReleaseByVisit tables frame before after answer
