@@ -17,7 +17,7 @@ use Rattle.stock_word.specs.declared.view.Stock.TheVariants as stock_is
 use Rattle.stock_word.specs.Stock.{KnownStockTable, KnownStockSeat, drained_of, group_of}
 use Rattle.stock_word.specs.Calls.{with_view}
 use Rattle.group_tree.specs.declared.fault.Fault.TheVariants.{PinsFull, NotPinned}
-use Rattle.cpu_part.specs.declared.answers.Fast as fast
+use Rattle.cpu_part.specs.declared.answers.Fast.{Fast as FastAnswer}
 use Rattle.cpu_part.specs.declared.answers.Fast.TheVariants.{FreshFull, ListEmpty, OtherGroup, Drained, NoStock, Got}
 use Rattle.cpu_part.specs.declared.answers.Dropped.TheVariants.{NeedVisit}
 use Rattle.cpu_part.specs.Cpus as parts
@@ -112,7 +112,7 @@ module _ (t : KnownTable) (m : KnownMachine) (c : KnownCpu) where
     };
   })
 
-  pub fast_unseen : (g : ℕ) (answer : fast.Fast) (d : KnownCpu) → FastAnswers g answer c d → ((f : ℕ) → answer ≢ Got f) → IsUnseen t m c d
+  pub fast_unseen : (g : ℕ) (answer : FastAnswer) (d : KnownCpu) → FastAnswers g answer c d → ((f : ℕ) → answer ≢ Got f) → IsUnseen t m c d
   fast_unseen g FreshFull d is none = unseen_same d is.1
   fast_unseen g ListEmpty d is none = unseen_same d is.2
   fast_unseen g OtherGroup d is none = unseen_stock d (with_view c.stock_seat is.1.0) is.1.2 (ap (λ v. group_of v.last) is.1.1.1)
@@ -284,7 +284,7 @@ module _ (t : KnownTable) (w : KnownStockTable) (run : Run) (locked : KnownLocke
       (legal_fast_steps_are_decided t run cpus k m c (step.Consume g) step_answer.Took shows is_part refl (λ e. cc) legal)
       after.locked.machine.watch kept.watched) legal
 
-  fast_follows : (g : ℕ) (answer : fast.Fast) (after : LockedState) → FastAnswers g answer c after.cpu → OnlyWatched (fast_steps p g answer) locked after.locked → GoesOn (fast_steps p g answer) →
+  fast_follows : (g : ℕ) (answer : FastAnswer) (after : LockedState) → FastAnswers g answer c after.cpu → OnlyWatched (fast_steps p g answer) locked after.locked → GoesOn (fast_steps p g answer) →
       Follows (fast_steps p g answer) after
   fast_follows g FreshFull after is kept legal = unseen_follows after kept (fast_unseen t m c g FreshFull after.cpu is (λ f e. cc))
   fast_follows g ListEmpty after is kept legal = unseen_follows after kept (fast_unseen t m c g ListEmpty after.cpu is (λ f e. cc))

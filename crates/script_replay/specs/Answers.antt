@@ -13,7 +13,7 @@ use Rattle.frame_word.specs.Seats.{KnownTable}
 use Rattle.group_tree.specs.Groups.{number_at}
 use Rattle.group_tree.specs.declared.fault.Fault.{Fault}
 use Rattle.group_tree.specs.declared.fault.Fault.TheVariants.{NoGroup, PinsFull, NotPinned}
-use Rattle.cpu_part.specs.declared.answers.Fast as cpu
+use Rattle.cpu_part.specs.declared.answers.Fast.{Fast as FastAnswer}
 use Rattle.cpu_part.specs.declared.answers.Fast.TheVariants.{Got}
 use Rattle.cpu_part.specs.declared.answers.Dropped.TheVariants as dropped
 use Rattle.cpu_part.specs.Cpus.{KnownCpu, most_pins, times}
@@ -91,9 +91,9 @@ pub record TakesNoLock (steps : Run) (call : Transition LockedState) : Type 0 wh
   pub steps_are : call.steps ≡ steps
 
 -- a fast allocation that got a frame made one step, which consumes a page; any other made no step
-abbrev pub fast_steps : ℕ → ℕ → cpu.Fast → Run
-fast_steps number group (Got frame) = cpu_makes number (step.Consume group) step_answer.Took ∷ []
-fast_steps number group other = []
+abbrev pub fast_steps : (cpu group : ℕ) → FastAnswer → Run
+fast_steps cpu group (Got frame) = cpu_makes cpu (step.Consume group) step_answer.Took ∷ []
+fast_steps cpu group other = []
 
 -- Fast: the result of a fast allocation for this group, which takes no lock
 abbrev pub AnswersFast : (group : ℕ) → Transition LockedState → Answer → Type 0
@@ -248,7 +248,7 @@ pub record AllocatesFast (path : List ℕ) (frame : ℕ) (call : Transition Lock
 pub record GetsNoneFast (path : List ℕ) (before : LockedState) (seen : KnownCpu) : Type 0 where
   pub group : ℕ
   pub found : number_at before.locked.machine.ledger.groups path ≡ Some group
-  pub fast : cpu.Fast
+  pub fast : FastAnswer
   pub answers : FastAnswers group fast before.cpu seen
   pub none : (frame : ℕ) → fast ≢ Got frame
 
