@@ -35,7 +35,7 @@ use Rattle.kill_notes.specs.Notes.{KnownNotes, forgotten, no_notes, noted}
 pub use Rattle.mem_machine.specs.Counts.{BalancesCounts}
 use Rattle.mem_machine.specs.Counts.{no_counts}
 use Rattle.mem_machine.specs.FrameStates.{AreUnits, frame_state_at, free_of, is_in_hand, some_cpu, lent_to}
-use Rattle.mem_machine.specs.FrameStates.{frame_state_group, head_group_of, count_of}
+use Rattle.mem_machine.specs.FrameStates.{frame_state_group, head_group_of, one_if_is}
 
 -- The machine holds the free areas, a record for each frame, and the groups with their charges. It holds the links of
 -- all kept units, and two lists for each group number. It holds the zone's seats at the two tables, and which group
@@ -139,11 +139,11 @@ is_killed killed group = slice_index_or killed group false
 -- how many frames are charged to the group itself
 abbrev pub frames_charged : List FrameState → ℕ → ℕ
 frames_charged frame_states group = sum_to (length frame_states)
-    (λ frame. count_of group (frame_state_group (frame_state_at frame_states frame)))
+    (λ frame. one_if_is group (frame_state_group (frame_state_at frame_states frame)))
 
 -- the pages of a CPU's book if its stock is of the group, else 0
 abbrev pub booked : ℕ → Account → ℕ
-booked group account = if count_of group account.group == 0 then 0 else account.book
+booked group account = if one_if_is group account.group == 0 then 0 else account.book
 
 -- how many pages are booked to the stocks of the group itself
 abbrev pub pages_booked : KnownTable → KnownStockSeat → ℕ → ℕ
