@@ -24,6 +24,7 @@
 
 mod ageing;
 mod blocks;
+mod booked_seat;
 mod counts;
 mod evicting;
 mod frame_state;
@@ -42,7 +43,6 @@ mod releasing;
 mod settling;
 mod showing;
 mod start;
-mod stock_ledger;
 mod stocks;
 mod visits;
 mod watching;

@@ -6,10 +6,10 @@ ghost use Rattle.step_watch.specs.Watched.{watch_off};
 ghost use Rattle.stock_word.specs.Stock.{first_zone_stock};
 ghost use Rattle.mem_machine.specs.Machines.{IsConsistent, IsFirst};
 
+use crate::booked_seat::BookedSeat;
 use crate::counts::Counts;
 use crate::frame_state::FrameState;
 use crate::start::{frame_rooms, group_rooms};
-use crate::stock_ledger::StockLedger;
 use cpu_part::{BootName, Tables};
 use frame_word::FrameSeat;
 use group_charge::charges::Charges;
@@ -40,7 +40,7 @@ pub struct Machine<N: BootName> {
     pub(crate) frame_seat: FrameSeat,
     // The zone's seat at the stocks' table: the group and the book of each CPU's stock, 0 to 65,535 pages. Between two
     // calls no reported page is unabsorbed.
-    pub(crate) stock_seat: StockLedger<N>,
+    pub(crate) stock_seat: BookedSeat<N>,
     // Whether each of the 64 group numbers is killed, by the number.
     pub(crate) killed: Vec<bool>,
     // How many units ended, were freed, or were missed since the boot.
@@ -92,7 +92,7 @@ impl<N: BootName> Machine<N> {
             links,
             lists,
             frame_seat,
-            stock_seat: StockLedger::new(stock_seat),
+            stock_seat: BookedSeat::new(stock_seat),
             killed,
             counts: Counts {
                 last_puts: 0,

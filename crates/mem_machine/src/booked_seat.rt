@@ -22,33 +22,33 @@ use stock_word::{Stock, StockSeat};
 /// The zone's seat at the stocks, which contracts see. Each CPU's book exists only in proofs, as a part of what the
 /// seat knows. The code keeps the sums of the books by group.
 #[derive(Drop)]
-pub(crate) struct StockLedger<N: BootName> {
+pub(crate) struct BookedSeat<N: BootName> {
     seat: StockSeat,
     // By group number: the sum of the books of the group's stocks, 0 to 2^32 - 1 pages.
     sums: [u32; MAX_GROUPS],
     of: PhantomData<N>,
 }
 
-impl<N: BootName> Model for StockLedger<N> {
+impl<N: BootName> Model for BookedSeat<N> {
     ghost use Rattle.stock_word.specs.Stock.{KnownStockSeat};
     ghost use Rattle.mem_machine.specs.Booked.{AreBooked};
 
     ghost Value = { KnownStockSeat };
 
-    ghost view = { λ books. books.seat };
+    ghost view = { λ booked. booked.seat };
 
-    ghost invariant = { λ books. AreBooked N.frames N.stocks books.seat books.sums };
+    ghost invariant = { λ booked. AreBooked N.frames N.stocks booked.seat booked.sums };
 }
 
-impl<N: BootName> StockLedger<N> {
+impl<N: BootName> BookedSeat<N> {
     /// The books of a new boot, in which nothing is booked. The seat is the zone's at the boot's table.
-    pub(crate) fn new(seat: StockSeat) -> StockLedger<N>
+    pub(crate) fn new(seat: StockSeat) -> BookedSeat<N>
         requires first { seat.view ≡ first_zone_stock }
         requires table { seat.table ≡ N.stocks.table }
         requires cpus { N.stocks.cpus ≡ N.frames.cpus }
         ensures { result ≡ seat }
     {
-        StockLedger {
+        BookedSeat {
             seat,
             sums: [0; MAX_GROUPS],
             of: PhantomData,
@@ -59,7 +59,7 @@ impl<N: BootName> StockLedger<N> {
     pub(crate) fn into_seat(self) -> StockSeat
         ensures { result ≡ self }
     {
-        let StockLedger {
+        let BookedSeat {
             seat,
             sums: _,
             of: _,
