@@ -141,7 +141,7 @@ abbrev pub frames_charged : List FrameState → ℕ → ℕ
 frames_charged frame_states group = sum_to (length frame_states)
     (λ frame. one_if_is group (frame_state_group (frame_state_at frame_states frame)))
 
--- the pages of a CPU's book if its stock is of the group, else 0
+-- the pages booked to a CPU's stock if that is of the group, else 0
 abbrev pub booked : ℕ → Account → ℕ
 booked group account = if one_if_is group account.group == 0 then 0 else account.book
 
@@ -177,9 +177,9 @@ pub record AreZoneSeats (frame_table : KnownTable) (stock_table : KnownStockTabl
 
 -- The machine is consistent. Its sizes are those of the tables, and its seats are the zone's. The free areas are the
 -- maximal blocks of the free frames. Each frame's record agrees with the zone's seat and the lists. The charged frames
--- make up units. All lists agree with the links. No reported page is unabsorbed, and each book fits a stock word. The
--- own charge of a group is the frames charged to it and the books of its stocks. The units freed are the last puts,
--- freezes and drops together, or the greatest count if that is less.
+-- make up units. All lists agree with the links. No reported page is unabsorbed, and the pages booked to each stock
+-- fit a stock word. The own charge of a group is the frames charged to it and the pages booked to its stocks. The units
+-- freed are the last puts, freezes and drops together, or the greatest count if that is less.
 pub record IsConsistent (table : KnownTable) (stock_table : KnownStockTable) (machine : KnownMachine) : Type 0 where
   pub sizes : AreSized table stock_table machine
   pub seats : AreZoneSeats table stock_table machine.frame_seat machine.stock_seat

@@ -19,12 +19,12 @@ use group_tree::group::{GroupId, MAX_GROUPS};
 use std::marker::{Model, PhantomData};
 use stock_word::{Stock, StockSeat};
 
-/// The zone's seat at the stocks, which contracts see. Each CPU's book exists only in proofs, as a part of what the
-/// seat knows. The code keeps the sums of the books by group.
+/// The zone's seat at the stocks, which contracts see, with the pages booked to the stocks of each group. What is
+/// booked to one CPU's stock exists only in proofs, as a part of what the seat knows.
 #[derive(Drop)]
 pub(crate) struct BookedSeat<N: BootName> {
     seat: StockSeat,
-    // By group number: the sum of the books of the group's stocks, 0 to 2^32 - 1 pages.
+    // By group number: the pages booked to the group's stocks, 0 to 2^32 - 1.
     sums: [u32; MAX_GROUPS],
     of: PhantomData<N>,
 }
@@ -41,7 +41,7 @@ impl<N: BootName> Model for BookedSeat<N> {
 }
 
 impl<N: BootName> BookedSeat<N> {
-    /// The books of a new boot, in which nothing is booked. The seat is the zone's at the boot's table.
+    /// The seat of a new boot, with nothing booked. It is the zone's at the boot's table.
     pub(crate) fn new(seat: StockSeat) -> BookedSeat<N>
         requires first { seat.view ≡ first_zone_stock }
         requires table { seat.table ≡ N.stocks.table }
@@ -148,8 +148,8 @@ impl<N: BootName> BookedSeat<N> {
         cpu.take_front(tables, &mut self.seat, group.number())
     }
 
-    /// Moves the oldest fresh frame of the visited CPU into the zone's hand. Its page leaves the book of the CPU's
-    /// stock, which is of this group.
+    /// Moves the oldest fresh frame of the visited CPU into the zone's hand. Its page is no longer booked to the
+    /// CPU's stock, which is of this group.
     pub(crate) fn collect_fresh(
         &mut self,
         tables: &Tables<N>,

@@ -29,7 +29,7 @@ pub struct Machine<N: BootName> {
     pub(crate) zone: Buddy,
     // A record for each frame, by its number.
     pub(crate) frame_states: Vec<FrameState>,
-    // The groups, with the pages charged to each: its frames, and the books of its stocks.
+    // The groups, with the pages charged to each: its frames, and the pages booked to its stocks.
     pub(crate) charges: Charges,
     // A link for each frame, by its number. Only the heads of kept units are linked into their groups' lists.
     pub(crate) links: Links,
@@ -38,8 +38,8 @@ pub struct Machine<N: BootName> {
     // The zone's seat at the frames' table: which frames are in its hand, which frames it lent to which CPU, and its
     // references, one on the head of each kept unit.
     pub(crate) frame_seat: FrameSeat,
-    // The zone's seat at the stocks' table: the group and the book of each CPU's stock, 0 to 65,535 pages. Between two
-    // calls no reported page is unabsorbed.
+    // The zone's seat at the stocks' table: the group of each CPU's stock, and the pages booked to it, 0 to 65,535.
+    // Between two calls no reported page is unabsorbed.
     pub(crate) stock_seat: BookedSeat<N>,
     // Whether each of the 64 group numbers is killed, by the number.
     pub(crate) killed: Vec<bool>,
