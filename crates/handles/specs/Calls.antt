@@ -15,7 +15,7 @@ use Rattle.reply_texts.specs.Answer.{Answer}
 use Rattle.script_lines.specs.declared.line.Command.{Command}
 use Rattle.script_lines.specs.declared.line.Command.TheVariants as cmd
 use Rattle.script_replay.specs.Terms.{boot_tables}
-use Rattle.script_replay.specs.Typed.{SaysCommand, SaysItsGroups, answer_of}
+use Rattle.script_replay.specs.Typed.{NamesItsGroups, SaysCommand, answer_of}
 use Rattle.handles.specs.Known.{KnownLive}
 use Rattle.handles.specs.Commands.{SameButState}
 use Rattle.handles.specs.declared.calls.FrameCall.{FrameCall}
@@ -72,7 +72,7 @@ NamesNoGroup groups other = ⊥
 
 -- what is told is this answer, with the texts that the ledger after the command gives it
 abbrev pub IsTold : Ledger → Answer → Told → Type 0
-IsTold ledger answer (told.Said said) = SaysItsGroups ledger said × (answer ≡ answer_of ledger said)
+IsTold ledger answer (told.Served value) = NamesItsGroups ledger value × (answer ≡ answer_of ledger value)
 IsTold ledger answer other = ⊥
 
 -- the command was served with this answer, and nothing else changed
@@ -103,8 +103,8 @@ pub record RefusesCall (is_missing : Type 0) (from to : KnownLive) : Type 0 wher
 
 -- what a call of a CPU does, and what it is told; the CPU is looked for first
 abbrev pub Calls : KnownTable → KnownStockTable → (cpu : ℕ) → Call → (from to : KnownLive) → Told → Type 0
-Calls frames stock_table cpu asked from to (told.Said said) =
-    ServesCall frames stock_table cpu asked from to (told.Said said)
+Calls frames stock_table cpu asked from to (told.Served value) =
+    ServesCall frames stock_table cpu asked from to (told.Served value)
 Calls frames stock_table cpu asked from to told.NoCpu = RefusesCall (¬ IsCpu from.sizes.cpus cpu) from to
 Calls frames stock_table cpu asked from to told.NoFrame = RefusesCall (NamesNoFrame from.sizes.frames asked) from to
 Calls frames stock_table cpu asked from to told.NoGroup =

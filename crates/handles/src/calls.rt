@@ -3,7 +3,7 @@
 use control_files::text::ArrayText;
 use group_tree::fault::Fault;
 use script_lines::line::Command;
-use script_replay::Said;
+use script_replay::AnswerValue;
 
 /// What is done at a frame.
 #[derive(Clone, Copy, Debug, PartialEq, Eq)]
@@ -64,7 +64,7 @@ pub enum Call<'a> {
 #[derive(Clone, Copy, PartialEq, Eq)]
 pub enum Told {
     /// It was served with this answer.
-    Said(Said),
+    Served(AnswerValue),
     /// The zone has no such CPU, and nothing was done.
     NoCpu,
     /// The zone has no such frame, and nothing was done.

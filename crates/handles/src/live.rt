@@ -130,7 +130,7 @@ impl<N: BootName> Live<N> {
         requires short { IsShort (work_of command.now) }
         ensures { TellsCommand N.frames N.stocks cpu command.now self.old self.new result }
     {
-        Told::Said(serve_typed(&mut self.locked, &self.tables, &mut self.cpus, cpu, command))
+        Told::Served(serve_typed(&mut self.locked, &self.tables, &mut self.cpus, cpu, command))
     }
 
     // Serves a call that names a frame, of a CPU that is there.

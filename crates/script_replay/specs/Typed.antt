@@ -10,8 +10,8 @@ use Rattle.reply_texts.specs.Answer as answer
 use Rattle.reply_texts.specs.Answers.{answer_text}
 use Rattle.script_lines.specs.declared.line.Command.{Command}
 use Rattle.script_lines.specs.declared.line.Line.TheVariants.{At}
-use Rattle.script_replay.specs.declared.said.Said.{Said}
-use Rattle.script_replay.specs.declared.said.Said.TheVariants as said
+use Rattle.script_replay.specs.declared.answer_value.AnswerValue.{AnswerValue}
+use Rattle.script_replay.specs.declared.answer_value.AnswerValue.TheVariants as value
 use Rattle.script_replay.specs.declared.work.Work.{Work}
 use Rattle.script_replay.specs.declared.work.Work.TheVariants as work
 use Rattle.script_replay.specs.Answers.{AnswersWork}
@@ -20,19 +20,19 @@ use Rattle.script_replay.specs.Lines.{AtPart, SystemState}
 use Rattle.script_replay.specs.Terms.{BootTables, terms}
 use Rattle.script_replay.specs.Works.{work_of}
 
--- the answer that is said, with the texts that the ledger after the command gives it
-abbrev pub answer_of : Ledger → Said → Answer
-answer_of ledger (said.Served outcome) = answer.Served (reply_of ledger outcome)
-answer_of ledger said.Settled = answer.Settled
-answer_of ledger (said.Fast fast) = answer.Fast fast
-answer_of ledger (said.Got got) = answer.Got got
-answer_of ledger (said.Put put) = answer.Put put
-answer_of ledger said.Listed = answer.Listed
+-- the answer that is this value, with the texts that the ledger after the command gives it
+abbrev pub answer_of : Ledger → AnswerValue → Answer
+answer_of ledger (value.Served outcome) = answer.Served (reply_of ledger outcome)
+answer_of ledger value.Settled = answer.Settled
+answer_of ledger (value.Fast fast) = answer.Fast fast
+answer_of ledger (value.Got got) = answer.Got got
+answer_of ledger (value.Put put) = answer.Put put
+answer_of ledger value.Listed = answer.Listed
 
--- a group whose path or file is said exists
-abbrev pub SaysItsGroups : Ledger → Said → Type 0
-SaysItsGroups ledger (said.Served outcome) = HasItsGroups ledger outcome
-SaysItsGroups ledger other = Unit {0}
+-- a group whose path or file is the answer exists
+abbrev pub NamesItsGroups : Ledger → AnswerValue → Type 0
+NamesItsGroups ledger (value.Served outcome) = HasItsGroups ledger outcome
+NamesItsGroups ledger other = Unit {0}
 
 -- the answer isn't a text of any length
 abbrev pub IsShort : Work → Type 0
