@@ -1,4 +1,4 @@
-//! What a host asks of a live boot by a call, and what it is told. A call borrows its texts, and what is told has none.
+//! What a host asks of a live boot by a call, and what the call returns. A call borrows its texts, and its answer has none.
 
 use control_files::text::ArrayText;
 use group_tree::fault::Fault;
@@ -60,9 +60,9 @@ pub enum Call<'a> {
     Settle,
 }
 
-/// What a call is told.
+/// What a call returns.
 #[derive(Clone, Copy, PartialEq, Eq)]
-pub enum Told {
+pub enum CallAnswer {
     /// It was served with this answer.
     Served(AnswerValue),
     /// The zone has no such CPU, and nothing was done.

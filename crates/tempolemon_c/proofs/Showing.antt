@@ -12,7 +12,7 @@ use Rattle.script_replay.specs.Typed.{answer_of}
 use Rattle.script_replay.specs.declared.answer_value.AnswerValue.{AnswerValue}
 use Rattle.script_replay.specs.declared.answer_value.AnswerValue.TheVariants.{Served}
 use Rattle.handles.specs.declared.calls.Call.{Call}
-use Rattle.handles.specs.declared.calls.Told.TheVariants as call
+use Rattle.handles.specs.declared.calls.CallAnswer.TheVariants as call
 use Rattle.handles.specs.declared.calls.Shown.{Shown}
 use Rattle.handles.specs.Calls.{Calls, ShowsFile, shown_reply}
 use Rattle.handles.specs.Known.{KnownLive}
@@ -52,7 +52,7 @@ module _ (cpu : ℕ) (asked : Call) (value : AnswerValue) (before mid : Option L
     (on : OnBoot (λ frames stocks from to. Calls frames stocks cpu asked from to (call.Served value)) before mid) where
   -- the groups that the value names are there
   pub groups_there : IsSomeAnd mid (HasGroupsBehind value)
-  groups_there = subst (λ (b : Option LiveBoot). IsSomeAnd b (HasGroupsBehind value)) (sym on.is) on.done.tells.is_told.0
+  groups_there = subst (λ (b : Option LiveBoot). IsSomeAnd b (HasGroupsBehind value)) (sym on.is) on.done.tells.is_answer.0
 
   -- and what is told of it is that of the call's answer
   pub value_called : (after : Option LiveBoot) (status : ℕ) (told : Told) (old new : List ℕ) → after ≡ mid
@@ -61,7 +61,7 @@ module _ (cpu : ℕ) (asked : Call) (value : AnswerValue) (before mid : Option L
       let answer : Answer = on.done.tells.answer in
       let shows : TellsAnswer (answer_of on.to.state.locked.machine.ledger value) status told old new =
       subst (λ (b : Option LiveBoot). IfSome b (TellsValue value status told old new)) on.is shown in
-      let status_is : status ≡ status_of answer = shows.status_is ∙ ap status_of (sym on.done.tells.is_told.1) in
+      let status_is : status ≡ status_of answer = shows.status_is ∙ ap status_of (sym on.done.tells.is_answer.1) in
       let low : status ≤ most_refusal = subst (λ (k : ℕ). k ≤ most_refusal) (sym status_is) (status_low answer) in record {
         statuses = inl low;
         none_live = (λ e. absurd (omega (arith, e, low)), λ none. absurd (none-some _ (sym none ∙ on.was)));
@@ -77,8 +77,8 @@ module _ (cpu : ℕ) (asked : Call) (value : AnswerValue) (before mid : Option L
             done = record { command = on.done.command; means = on.done.means; serves = on.done.tells.serves };
           };
           status_is = status_is;
-          told_is = shows.told_is ∙ ap told_of (sym on.done.tells.is_told.1);
-          buffer = subst (λ (a : Answer). PutsAnswer a old new) (sym on.done.tells.is_told.1) shows.buffer;
+          told_is = shows.told_is ∙ ap told_of (sym on.done.tells.is_answer.1);
+          buffer = subst (λ (a : Answer). PutsAnswer a old new) (sym on.done.tells.is_answer.1) shows.buffer;
         };
         no_cpu = λ e. absurd (omega (arith, e, low));
         no_frame = λ e. absurd (omega (arith, e, low));

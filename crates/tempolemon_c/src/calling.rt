@@ -13,7 +13,7 @@ use crate::told::{Told, tell};
 use crate::words::{NOTHING, REFUSED, TEXT};
 use control_files::file::File;
 use group_tree::group::GroupId;
-use handles::calls::{Call, Shown, Told as Said};
+use handles::calls::{Call, CallAnswer, Shown};
 use mem_system::Outcome;
 use script_replay::AnswerValue;
 use std::alloc::Global;
@@ -51,10 +51,10 @@ pub(crate) fn serve_into(
         return NOT_LIVE;
     }
     match handle.call(alloc, cpu, call) {
-        Said::Served(value) => tell_value(alloc, handle, &value, buffer, told),
-        Said::NoCpu => BAD_CPU,
-        Said::NoFrame => BAD_FRAME,
-        Said::NoGroup => BAD_GROUP,
+        CallAnswer::Served(value) => tell_value(alloc, handle, &value, buffer, told),
+        CallAnswer::NoCpu => BAD_CPU,
+        CallAnswer::NoFrame => BAD_FRAME,
+        CallAnswer::NoGroup => BAD_GROUP,
     }
 }
 
