@@ -10,7 +10,7 @@ use Rattle.mem_machine.specs.Machines.{IsConsistent, KnownMachine, is_killed, wi
 use Rattle.mem_machine.specs.Local.{MakesForAny}
 use Rattle.mem_machine.specs.Steps.{note_oom_steps}
 use Rattle.mem_reclaim.specs.declared.sets.Killed.{Killed}
-use Rattle.mem_reclaim.specs.Killing.{IsKilledBy, OnlyDrains, OnlyLetsGo, with_all_killed}
+use Rattle.mem_reclaim.specs.Killing.{IsKilledBy, OnlyDrains, OnlyReleases, with_all_killed}
 use Rattle.mem_reclaim.specs.Sets.{kill_set}
 use Rattle.mem_reclaim.specs.Victim.{IsVictim}
 use Rattle.mem_alloc.specs.Stepping.{Transition, InTurn, MachineStays, transition}
@@ -55,7 +55,7 @@ pub record KillsOneVictim (requester : Option ℕ) (limited pages : ℕ) (killed
   pub steps_are : call.steps ≡ kills.steps
   pub marked : call.after.killed ≡ with_all_killed call.before.killed (kill_set call.before killed)
   pub stocks : OnlyDrains call.before call.after
-  pub keeps : OnlyLetsGo call.table call.before call.after
+  pub keeps : OnlyReleases call.table call.before call.after
 
 -- these victims are killed like this, one after the other
 abbrev pub KillsVictims : Option ℕ → ℕ → ℕ → List Killed → Transition KnownMachine → Type 0
