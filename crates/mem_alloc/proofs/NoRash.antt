@@ -402,7 +402,7 @@ module _ (t : KnownTable) (MayAsk : List Group → ℕ → ℕ → Type 0) (s : 
     limited = g;
     need = pages;
     asked = asked;
-    over = one.wanting.over;
+    over = one.needs_room.over;
     noted = ready.noted;
     drained = ready.drained;
     missed = ready.missed;
