@@ -15,7 +15,7 @@ use Rattle.mem_alloc.specs.declared.faults.AllocFault.TheVariants.{Over, NoFrame
 use Rattle.mem_alloc.specs.Stepping.{InTurn, Transition, transition}
 use Rattle.mem_alloc.specs.Room.{AfterRoom, IsRefusedFor}
 use Rattle.mem_alloc.specs.Rounds.{AfterZoneNote, FailsInRounds, SucceedsInRounds}
-use Rattle.mem_alloc.specs.Frames.{UnlessKilled, RefusesKilled}
+use Rattle.mem_alloc.specs.Frames.{RefusesKilled, UnlessKilled}
 
 -- the group is charged for a free block and gets it
 pub record TakesFreeBlock (group order head : ℕ) (call : Transition VisitState) : Type 0 where
