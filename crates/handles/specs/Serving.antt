@@ -5,7 +5,7 @@ use Rattle.stock_word.specs.Stock.{KnownStockTable}
 use Rattle.zone_sizes.specs.declared.config.Config.{Config}
 use Rattle.load_run.specs.Answers.{StandsAtFirst}
 use Rattle.load_run.specs.Ending.{EndsHeld}
-use Rattle.load_run.specs.declared.boot_end.Ended.{Ended}
+use Rattle.load_run.specs.declared.boot_end.BootEnd.{BootEnd}
 use Rattle.handles.specs.Known.{KnownLive}
 use Rattle.handles.specs.Commands.{AnswersScript, RefusesScript, RunsOut, TakesKept, with_kept}
 use Rattle.handles.specs.declared.requests.Request.{Request}
@@ -81,7 +81,7 @@ pub record Starts (frames : KnownTable) (stock_table : KnownStockTable) (sizes :
 
 -- the boot ended, with this report
 pub record Ends (frames : KnownTable) (stock_table : KnownStockTable) (before after : Option KnownLive)
-    (ended : Ended) : Type 0 where
+    (ended : BootEnd) : Type 0 where
   pub from : KnownLive
   pub was : before ≡ Some from
   pub is : after ≡ None

@@ -22,7 +22,7 @@ use control_files::file::{File, file_text};
 use cpu_part::{BootName, Cpu, Tables};
 use group_charge::charges::Charges;
 use group_tree::group::GroupId;
-use load_run::boot_end::{Ended, end_boot};
+use load_run::boot_end::{BootEnd, end_boot};
 use mem_system::{Boot, Locked};
 use script_lines::fault::ScriptFault;
 use script_lines::line::Command;
@@ -189,7 +189,7 @@ impl<N: BootName> Live<N> {
     }
 
     /// Ends the boot. Pins that are still held are put first.
-    pub fn finish(self) -> Ended
+    pub fn finish(self) -> BootEnd
         ensures ends { EndsHeld N.frames N.stocks self.state result }
     {
         let Live {

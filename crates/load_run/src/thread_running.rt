@@ -8,7 +8,7 @@ ghost use Rattle.script_threads.specs.Each.{TellsEach, workers_from};
 ghost use Rattle.load_run.specs.Ending.{EndsAfter};
 ghost use Rattle.load_run.specs.Answers.{AreThreadAnswers, StandsQuiet};
 
-use crate::boot_end::{Ended, end_boot};
+use crate::boot_end::{BootEnd, end_boot};
 use crate::running::tell_end;
 use cpu_part::{BootName, Cpu, Tables};
 use mem_system::{Boot, Locked, NoGate, System};
@@ -70,7 +70,7 @@ fn serve_and_end<N: BootName + Send + Sync, R: Threads + Wait + Sync>(
     lines: &[Line<'_>],
     is_numbered: bool,
     has_memory: bool,
-) -> (Result<Vec<u8>, AllocError>, Ended)
+) -> (Result<Vec<u8>, AllocError>, BootEnd)
     requires count { length cpus.items ≡ N.frames.cpus }
     requires lines { All (LineIsThere N.frames.frames N.frames.cpus) lines.now }
     ensures told { IfOk result.0 (λ text.

@@ -6,7 +6,7 @@ use Rattle.zone_sizes.specs.declared.config.Config.{Config}
 use Rattle.zone_sizes.specs.Config.{IsValidConfig}
 use Rattle.load_run.specs.Answers.{StandsAtFirst}
 use Rattle.load_run.specs.Ending.{EndsHeld}
-use Rattle.load_run.specs.declared.boot_end.Ended.{Ended}
+use Rattle.load_run.specs.declared.boot_end.BootEnd.{BootEnd}
 use Rattle.handles.specs.Known.{KnownLive}
 use Rattle.handles.specs.Commands.{AnswersScript, RefusesScript, RunsOut, TakesKept, with_kept}
 use Rattle.tempolemon_c.specs.declared.report.Report.{Report}
@@ -77,7 +77,7 @@ abbrev pub KeepsAnswer : (boot : Option LiveBoot) (answer : List ℕ) → Type 0
 KeepsAnswer boot answer = OnBoot (λ frames stocks from to. from.kept ≡ answer) boot boot
 
 -- what a host reads of the end of a boot, as the boot told it
-abbrev pub ended_of : Report → Ended
+abbrev pub ended_of : Report → BootEnd
 ended_of report = record {
   held = report.held;
   audit = record {
