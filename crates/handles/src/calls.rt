@@ -1,4 +1,4 @@
-//! What a host asks of a live boot by a call, and what the call returns. A call borrows its texts, and its answer has none.
+//! What a host asks of a live boot by a call, which borrows its texts, and the call's answer, which has none.
 
 use control_files::text::ArrayText;
 use group_tree::fault::Fault;
