@@ -15,15 +15,15 @@ use Rattle.reply_texts.specs.Answer.{Answer}
 use Rattle.script_lines.specs.declared.line.Command.{Command}
 use Rattle.script_lines.specs.declared.line.Command.TheVariants as cmd
 use Rattle.script_replay.specs.Terms.{boot_tables}
-use Rattle.script_replay.specs.Typed.{SaysCommand, SaysItsGroups, answer_of}
+use Rattle.script_replay.specs.Typed.{NamesItsGroups, SaysCommand, answer_of}
 use Rattle.handles.specs.Known.{KnownLive}
 use Rattle.handles.specs.Commands.{SameButState}
 use Rattle.handles.specs.declared.calls.FrameCall.{FrameCall}
 use Rattle.handles.specs.declared.calls.FrameCall.TheVariants as at
 use Rattle.handles.specs.declared.calls.Call.{Call}
 use Rattle.handles.specs.declared.calls.Call.TheVariants as call
-use Rattle.handles.specs.declared.calls.Told.{Told}
-use Rattle.handles.specs.declared.calls.Told.TheVariants as told
+use Rattle.handles.specs.declared.calls.CallAnswer.{CallAnswer}
+use Rattle.handles.specs.declared.calls.CallAnswer.TheVariants as returned
 use Rattle.handles.specs.declared.calls.Shown.{Shown}
 use Rattle.handles.specs.declared.calls.Shown.TheVariants as shown
 
@@ -70,10 +70,10 @@ abbrev pub NamesNoGroup : List Group → Call → Type 0
 NamesNoGroup groups (call.Alloc group order) = HasNoGroup groups group
 NamesNoGroup groups other = ⊥
 
--- what is told is this answer, with the texts that the ledger after the command gives it
-abbrev pub IsTold : Ledger → Answer → Told → Type 0
-IsTold ledger answer (told.Said said) = SaysItsGroups ledger said × (answer ≡ answer_of ledger said)
-IsTold ledger answer other = ⊥
+-- what a call returned is this answer, with the texts that the ledger after the command gives it
+abbrev pub IsAnswer : Ledger → Answer → CallAnswer → Type 0
+IsAnswer ledger answer (returned.Served value) = NamesItsGroups ledger value × (answer ≡ answer_of ledger value)
+IsAnswer ledger answer other = ⊥
 
 -- the command was served with this answer, and nothing else changed
 pub record ServesCommand (frames : KnownTable) (stock_table : KnownStockTable) (cpu : ℕ) (command : Command)
@@ -81,33 +81,33 @@ pub record ServesCommand (frames : KnownTable) (stock_table : KnownStockTable) (
   pub says : SaysCommand (boot_tables frames stock_table) cpu command from.state to.state answer
   pub rest : SameButState from to
 
--- the command was served, and this is told of its answer
+-- the command was served, and this is returned of its answer
 pub record TellsCommand (frames : KnownTable) (stock_table : KnownStockTable) (cpu : ℕ) (command : Command)
-    (from to : KnownLive) (said : Told) : Type 0 where
+    (from to : KnownLive) (returned : CallAnswer) : Type 0 where
   pub answer : Answer
   pub serves : ServesCommand frames stock_table cpu command from to answer
-  pub is_told : IsTold to.state.locked.machine.ledger answer said
+  pub is_answer : IsAnswer to.state.locked.machine.ledger answer returned
 
--- the call was served as the command of a script that it means, and this is told of the answer
+-- the call was served as the command of a script that it means, and this is returned of the answer
 pub record ServesCall (frames : KnownTable) (stock_table : KnownStockTable) (cpu : ℕ) (asked : Call)
     (from to : KnownLive)
-    (said : Told) : Type 0 where
+    (returned : CallAnswer) : Type 0 where
   pub command : Command
   pub means : Means from.state.locked.machine.ledger.groups asked command
-  pub tells : TellsCommand frames stock_table cpu command from to said
+  pub tells : TellsCommand frames stock_table cpu command from to returned
 
 -- the call names what isn't there, and nothing is done
 pub record RefusesCall (is_missing : Type 0) (from to : KnownLive) : Type 0 where
   pub missing : is_missing
   pub stays : to ≡ from
 
--- what a call of a CPU does, and what it is told; the CPU is looked for first
-abbrev pub Calls : KnownTable → KnownStockTable → (cpu : ℕ) → Call → (from to : KnownLive) → Told → Type 0
-Calls frames stock_table cpu asked from to (told.Said said) =
-    ServesCall frames stock_table cpu asked from to (told.Said said)
-Calls frames stock_table cpu asked from to told.NoCpu = RefusesCall (¬ IsCpu from.sizes.cpus cpu) from to
-Calls frames stock_table cpu asked from to told.NoFrame = RefusesCall (NamesNoFrame from.sizes.frames asked) from to
-Calls frames stock_table cpu asked from to told.NoGroup =
+-- what a call of a CPU does, and what it returns; the CPU is looked for first
+abbrev pub Calls : KnownTable → KnownStockTable → (cpu : ℕ) → Call → (from to : KnownLive) → CallAnswer → Type 0
+Calls frames stock_table cpu asked from to (returned.Served value) =
+    ServesCall frames stock_table cpu asked from to (returned.Served value)
+Calls frames stock_table cpu asked from to returned.NoCpu = RefusesCall (¬ IsCpu from.sizes.cpus cpu) from to
+Calls frames stock_table cpu asked from to returned.NoFrame = RefusesCall (NamesNoFrame from.sizes.frames asked) from to
+Calls frames stock_table cpu asked from to returned.NoGroup =
     RefusesCall (NamesNoGroup from.state.locked.machine.ledger.groups asked) from to
 
 -- the group exists, and isn't the root, which has no files

@@ -3,9 +3,9 @@ use Rattle.std.specs.Prelude.{◌≡◌, [], Option, None, Some}
 use Rattle.frame_word.specs.Seats.{KnownTable}
 use Rattle.stock_word.specs.Stock.{KnownStockTable}
 use Rattle.zone_sizes.specs.declared.config.Config.{Config}
-use Rattle.load_run.specs.Answers.{StandsAtFirst}
+use Rattle.load_run.specs.Answers.{IsAfterBoot}
 use Rattle.load_run.specs.Ending.{EndsHeld}
-use Rattle.load_run.specs.declared.boot_end.Ended.{Ended}
+use Rattle.load_run.specs.declared.boot_end.BootEnd.{BootEnd}
 use Rattle.handles.specs.Known.{KnownLive}
 use Rattle.handles.specs.Commands.{AnswersScript, RefusesScript, RunsOut, TakesKept, with_kept}
 use Rattle.handles.specs.declared.requests.Request.{Request}
@@ -75,13 +75,13 @@ pub record Starts (frames : KnownTable) (stock_table : KnownStockTable) (sizes :
     (after : Option KnownLive) : Type 0 where
   pub live : KnownLive
   pub is : after ≡ Some live
-  pub first : StandsAtFirst sizes frames stock_table live.state
+  pub first : IsAfterBoot sizes frames stock_table live.state
   pub sizes_are : live.sizes ≡ sizes
   pub none_kept : live.kept ≡ []
 
 -- the boot ended, with this report
 pub record Ends (frames : KnownTable) (stock_table : KnownStockTable) (before after : Option KnownLive)
-    (ended : Ended) : Type 0 where
+    (ended : BootEnd) : Type 0 where
   pub from : KnownLive
   pub was : before ≡ Some from
   pub is : after ≡ None

@@ -1,9 +1,9 @@
-//! What a host asks of a live boot by a call, and what it is told. A call borrows its texts, and what is told has none.
+//! What a host asks of a live boot by a call, which borrows its texts, and the call's answer, which has none.
 
 use control_files::text::ArrayText;
 use group_tree::fault::Fault;
 use script_lines::line::Command;
-use script_replay::Said;
+use script_replay::AnswerValue;
 
 /// What is done at a frame.
 #[derive(Clone, Copy, Debug, PartialEq, Eq)]
@@ -60,11 +60,11 @@ pub enum Call<'a> {
     Settle,
 }
 
-/// What a call is told.
+/// What a call returns.
 #[derive(Clone, Copy, PartialEq, Eq)]
-pub enum Told {
+pub enum CallAnswer {
     /// It was served with this answer.
-    Said(Said),
+    Served(AnswerValue),
     /// The zone has no such CPU, and nothing was done.
     NoCpu,
     /// The zone has no such frame, and nothing was done.

@@ -10,19 +10,19 @@ ghost use Rattle.script_replay.specs.Ranges.{IsThere};
 ghost use Rattle.script_replay.specs.Terms.{terms};
 ghost use Rattle.script_replay.specs.Typed.{IsShort};
 ghost use Rattle.script_replay.specs.Works.{work_of};
-ghost use Rattle.load_run.specs.Answers.{StandsAtFirst};
+ghost use Rattle.load_run.specs.Answers.{IsAfterBoot};
 ghost use Rattle.load_run.specs.Ending.{EndsHeld};
 ghost use Rattle.handles.specs.Calls.{Calls, HasNoGroup, IsCpu, TellsCommand, shown_reply};
 ghost use Rattle.handles.specs.declared.calls.Call.TheVariants.{Alloc, AtFrame};
 ghost use Rattle.handles.specs.Commands.{AnswersScript, FailsScript, FailsText, ReplaysText, TakesKept};
 ghost use Rattle.handles.specs.Commands.{with_kept};
 
-use crate::calls::{Call, FrameCall, Shown, Told};
+use crate::calls::{Call, CallAnswer, FrameCall, Shown};
 use control_files::file::{File, file_text};
 use cpu_part::{BootName, Cpu, Tables};
 use group_charge::charges::Charges;
 use group_tree::group::GroupId;
-use load_run::boot_end::{Ended, end_boot};
+use load_run::boot_end::{BootEnd, end_boot};
 use mem_system::{Boot, Locked};
 use script_lines::fault::ScriptFault;
 use script_lines::line::Command;
@@ -66,7 +66,7 @@ impl<N: BootName> Live<N> {
         requires frames { boot.frames ≡ N.frames }
         requires stocks { boot.stocks ≡ N.stocks }
         requires sizes { boot.sizes ≡ sizes }
-        ensures first { IfOk result (λ live. StandsAtFirst sizes N.frames N.stocks live.state) }
+        ensures first { IfOk result (λ live. IsAfterBoot sizes N.frames N.stocks live.state) }
         ensures sizes { IfOk result (λ live. live.sizes ≡ sizes) }
         ensures kept { IfOk result (λ live. live.kept ≡ []) }
     {
@@ -103,13 +103,13 @@ impl<N: BootName> Live<N> {
         )
     }
 
-    /// Serves a call of the CPU of this number, and returns what it is told. If the call names what isn't there,
+    /// Serves a call of the CPU of this number, and returns its answer. If the call names what isn't there,
     /// nothing is done. No memory is taken.
-    pub fn call(&mut self, cpu: u32, call: &Call<'_>) -> Told
+    pub fn call(&mut self, cpu: u32, call: &Call<'_>) -> CallAnswer
         ensures { Calls N.frames N.stocks cpu call.now self.old self.new result }
     {
         if cpu == 0 || cpu as usize > self.cpus.len() {
-            return Told::NoCpu;
+            return CallAnswer::NoCpu;
         }
         match *call {
             Call::Mkdir { path } => self.serve(cpu, &Command::Mkdir { path }),
@@ -125,32 +125,38 @@ impl<N: BootName> Live<N> {
     }
 
     // Serves a command of a CPU that is there, as is all that the command names.
-    fn serve(&mut self, cpu: u32, command: &Command<'_>) -> Told
+    fn serve(&mut self, cpu: u32, command: &Command<'_>) -> CallAnswer
         requires there { IsThere N.frames.frames (length self.old.state.cpus) cpu command.now }
         requires short { IsShort (work_of command.now) }
         ensures { TellsCommand N.frames N.stocks cpu command.now self.old self.new result }
     {
-        Told::Said(serve_typed(&mut self.locked, &self.tables, &mut self.cpus, cpu, command))
+        CallAnswer::Served(serve_typed(
+            &mut self.locked,
+            &self.tables,
+            &mut self.cpus,
+            cpu,
+            command,
+        ))
     }
 
     // Serves a call that names a frame, of a CPU that is there.
-    fn serve_at(&mut self, cpu: u32, frame: u32, what: FrameCall) -> Told
+    fn serve_at(&mut self, cpu: u32, frame: u32, what: FrameCall) -> CallAnswer
         requires there { IsCpu (length self.old.state.cpus) cpu }
         ensures { Calls N.frames N.stocks cpu (AtFrame frame what) self.old self.new result }
     {
         if frame >= self.sizes.frames {
-            return Told::NoFrame;
+            return CallAnswer::NoFrame;
         }
         self.serve(cpu, &what.command(frame))
     }
 
     // Takes a block for the group of this number, at a CPU that is there.
-    fn allocate(&mut self, cpu: u32, group: u32, order: u32) -> Told
+    fn allocate(&mut self, cpu: u32, group: u32, order: u32) -> CallAnswer
         requires there { IsCpu (length self.old.state.cpus) cpu }
         ensures { Calls N.frames N.stocks cpu (Alloc group order) self.old self.new result }
     {
         let Some(group) = find_group(self.locked.charges(), group) else {
-            return Told::NoGroup;
+            return CallAnswer::NoGroup;
         };
         let path = *self.locked.charges().tree().path_of(group);
         let path = path.as_bytes();
@@ -183,7 +189,7 @@ impl<N: BootName> Live<N> {
     }
 
     /// Ends the boot. Pins that are still held are put first.
-    pub fn finish(self) -> Ended
+    pub fn finish(self) -> BootEnd
         ensures ends { EndsHeld N.frames N.stocks self.state result }
     {
         let Live {

@@ -8,7 +8,7 @@ ghost use Rattle.handles.specs.Known.{KnownLive};
 ghost use Rattle.handles.specs.Owned.{frames_coded, known_coded, live_owns, marker, stocks_coded};
 ghost use Rattle.handles.specs.Serving.{IsFit, OnRaw, ServesRaw};
 
-use crate::calls::{Call, Shown, Told};
+use crate::calls::{Call, CallAnswer, Shown};
 use crate::hold::Hold;
 use crate::live::Live;
 use crate::requests::{Answer, Request};
@@ -72,7 +72,7 @@ pub fn serve_raw(raw: Raw, request: Request) -> (Raw, Answer)
 
 /// Serves a call of the CPU of this number, as `serve_call` does, under the name that it picks for the tables. Only a
 /// pointer to the call crosses, and no memory is taken.
-pub fn call_raw(raw: Raw, cpu: u32, call: &Call<'_>) -> (Raw, Told)
+pub fn call_raw(raw: Raw, cpu: u32, call: &Call<'_>) -> (Raw, CallAnswer)
     requires some { IsSome raw.live }
     ensures serves { OnRaw (λ from to. Calls raw.frames raw.stocks cpu call.now from to result.1)
         raw.frames raw.stocks raw.live result.0.frames result.0.stocks result.0.live }

@@ -1,6 +1,6 @@
 //! What a live boot can be asked besides calls, and what it answers. Both cross by value.
 
-use load_run::boot_end::Ended;
+use load_run::boot_end::BootEnd;
 use mem_system::Boot;
 use std::alloc::Global;
 use zone_sizes::config::Config;
@@ -46,5 +46,5 @@ pub enum Answer {
     /// Memory ran out.
     NoMemory,
     /// The boot has ended.
-    Ended(Ended),
+    Ended(BootEnd),
 }

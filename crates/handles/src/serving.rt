@@ -5,7 +5,7 @@ ghost use Rattle.handles.specs.Calls.{Calls, HasFile, ShowsFile};
 ghost use Rattle.handles.specs.Serving.{IsAsked, OnLive, Serves};
 ghost use Rattle.handles.specs.declared.requests.Request.TheVariants.{Command, End, Keep, Recall, Start};
 
-use crate::calls::{Call, Shown, Told};
+use crate::calls::{Call, CallAnswer, Shown};
 use crate::hold::Hold;
 use crate::live::Live;
 use crate::loose::Loose;
@@ -37,7 +37,7 @@ pub fn serve<N: BootName>(hold: Hold<N>, request: Request) -> (Hold<N>, Answer)
 }
 
 /// Serves a call of the CPU of this number, on the parts of a boot.
-pub fn serve_call<N: BootName>(hold: Hold<N>, cpu: u32, call: &Call<'_>) -> (Hold<N>, Told)
+pub fn serve_call<N: BootName>(hold: Hold<N>, cpu: u32, call: &Call<'_>) -> (Hold<N>, CallAnswer)
     requires some { IsSome hold.live }
     ensures serves { OnLive (λ from to. Calls N.frames N.stocks cpu call.now from to result.1) hold.live result.0.live }
 {

@@ -12,10 +12,10 @@ use Rattle.script_replay.specs.Ranges.{LineIsThere}
 use Rattle.script_replay.specs.Terms.{boot_tables, numbered_terms}
 use Rattle.script_threads.specs.Each.{TellsEach, workers_from}
 use Rattle.script_threads.specs.Runs.{lines_before_go}
-use Rattle.load_run.specs.declared.boot_end.Ended.{Ended}
-use Rattle.load_run.specs.Answers.{StandsAtFirst}
+use Rattle.load_run.specs.declared.boot_end.BootEnd.{BootEnd}
+use Rattle.load_run.specs.Answers.{IsAfterBoot}
 use Rattle.load_run.specs.Ending.{EndsAfter, end_text}
-use Rattle.load_run.specs.Answers.{AreThreadAnswers, StandsQuiet}
+use Rattle.load_run.specs.Answers.{AreThreadAnswers, IsQuietSystem}
 
 -- all lines name what is there, also as the tables and the parts say it
 there : (frames cpus known parts : ℕ) (lines : List Line) → frames ≡ known → cpus ≡ parts → All (LineIsThere frames cpus) lines
@@ -39,11 +39,11 @@ later_there sizes t w n lines later sized is all =
 -- the early lines were served from the boot on, the later ones told by CPU, and the boot ended: these are the
 -- answers
 pub are_answers : (sizes : Config) (is_numbered is_audited : Bool) (t : KnownTable) (w : KnownStockTable) (lines first_lines other_lines : List Line)
-    (start at_go : SystemState) (early later text : List ℕ) (told : Ended) → StandsAtFirst sizes t w start
+    (start at_go : SystemState) (early later text : List ℕ) (told : BootEnd) → IsAfterBoot sizes t w start
     → first_lines ≡ take (lines_before_go lines) lines → other_lines ≡ drop (lines_before_go lines) lines
     → ServesAll (numbered_terms t w false is_numbered) first_lines start at_go early → TellsHistory (numbered_terms t w false is_numbered) first_lines (past [] start) at_go early
     → TellsEach (boot_tables t w) (workers_from 1 at_go.cpus other_lines is_numbered) later
-    → EndsAfter t w (StandsQuiet t w) told
+    → EndsAfter t w (IsQuietSystem t w) told
     → text ≡ (early ++ later) ++ end_text is_audited told → AreThreadAnswers sizes is_numbered is_audited lines text
 are_answers sizes is_numbered is_audited t w lines first_lines other_lines start at_go early later text told first is_first is_other served history tells
     ended is = record {

@@ -15,8 +15,8 @@ use Rattle.mem_system.specs.declared.audit.Audit.{Audit}
 use Rattle.mem_system.specs.Ends.{Closes, ForEachCpu, KnownSpent, MakesLastVisits, pins_of}
 use Rattle.mem_system.specs.Locked.{KnownLocked}
 use Rattle.script_replay.specs.Lines.{SystemState, system_state}
-use Rattle.load_run.specs.declared.boot_end.Ended.{Ended}
-use Rattle.load_run.specs.declared.boot_end.Seen.{Seen}
+use Rattle.load_run.specs.declared.boot_end.BootEnd.{BootEnd}
+use Rattle.load_run.specs.declared.boot_end.CheckedSteps.{CheckedSteps}
 
 -- a pin of this frame is put, and the machine's watch takes the step
 pub record PutsPin (frame : ℕ) (before after : VisitState) : Type 0 where
@@ -79,21 +79,21 @@ pub record LeavesNothing (table : KnownTable) (stock_table : KnownStockTable) (b
 -- The boot ended, and says how many pins were held. Every pin was put, the last visits were made, and then the tables
 -- were closed.
 pub record EndsHeld (table : KnownTable) (stock_table : KnownStockTable) (before : SystemState)
-    (ended : Ended) : Type 0 where
+    (ended : BootEnd) : Type 0 where
   pub spent : KnownSpent
   pub leaves : LeavesNothing table stock_table before ended.held spent
   pub closes : Closes table stock_table spent ended.audit
 
 -- this is so of some state, and the boot ended from that state
 pub record EndsAfter (table : KnownTable) (stock_table : KnownStockTable) (is_so : SystemState → Type 0)
-    (ended : Ended) : Type 0 where
+    (ended : BootEnd) : Type 0 where
   pub before : SystemState
   pub so : is_so before
   pub ends : EndsHeld table stock_table before ended
 
 -- a boot ended from this state, and this is what the machine's watch saw of all steps
-pub record EndsSeen (table : KnownTable) (stock_table : KnownStockTable) (before : SystemState) (ended : Ended)
-    (seen : Seen)
+pub record EndsSeen (table : KnownTable) (stock_table : KnownStockTable) (before : SystemState) (ended : BootEnd)
+    (seen : CheckedSteps)
     : Type 0 where
   pub ends : EndsHeld table stock_table before ended
   pub is_legal : seen.is_legal ≡ has_legal_steps ends.spent.machine.watch
@@ -101,8 +101,8 @@ pub record EndsSeen (table : KnownTable) (stock_table : KnownStockTable) (before
 
 -- this is so of some state, and the boot ended from that state; this is what the watch saw
 pub record EndsSeenAfter (table : KnownTable) (stock_table : KnownStockTable) (is_so : SystemState → Type 0)
-    (ended : Ended)
-    (seen : Seen) : Type 0 where
+    (ended : BootEnd)
+    (seen : CheckedSteps) : Type 0 where
   pub before : SystemState
   pub so : is_so before
   pub ends : EndsSeen table stock_table before ended seen
@@ -128,13 +128,13 @@ abbrev pub held_text : ℕ → List ℕ
 held_text held = if held == 0 then [] else codes "held " ++ decimal held ++ codes "\n"
 
 -- what is written about the end: the pins that were held and the audit, if the run is audited
-abbrev pub end_text : Bool → Ended → List ℕ
+abbrev pub end_text : Bool → BootEnd → List ℕ
 end_text true ended = held_text ended.held ++ audit_text ended.audit
 end_text false ended = []
 
 -- a boot ended from this state, and the text is what is written about that
 pub record TellsEnd (table : KnownTable) (stock_table : KnownStockTable) (is_audited : Bool) (before : SystemState)
     (text : List ℕ) : Type 0 where
-  pub ended : Ended
+  pub ended : BootEnd
   pub ends : EndsHeld table stock_table before ended
   pub text_is : text ≡ end_text is_audited ended

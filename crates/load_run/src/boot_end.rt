@@ -17,7 +17,7 @@ use step_rules::step::{Action, Answer};
 
 /// What a boot reports at its end.
 #[derive(Clone, Copy, Debug, PartialEq, Eq)]
-pub struct Ended {
+pub struct BootEnd {
     /// The pins that were still held, and were put then.
     pub held: u64,
     /// What was counted.
@@ -26,7 +26,7 @@ pub struct Ended {
 
 /// What the watch saw of all steps of a boot, those of its end included.
 #[derive(Clone, Copy, Debug, PartialEq, Eq)]
-pub struct Seen {
+pub struct CheckedSteps {
     /// Whether each step was legal.
     pub is_legal: bool,
     /// How many steps the watch checked, with the one at which it stopped.
@@ -96,13 +96,13 @@ pub(crate) fn leave_nothing<N: BootName>(
 }
 
 /// Ends a boot. Pins that are still held are put first.
-pub fn end_boot<N: BootName>(locked: Locked<N>, tables: Tables<N>, cpus: Vec<Cpu<N>>) -> Ended
+pub fn end_boot<N: BootName>(locked: Locked<N>, tables: Tables<N>, cpus: Vec<Cpu<N>>) -> BootEnd
     requires count { length cpus.items ≡ N.frames.cpus }
     ensures ends { EndsHeld N.frames N.stocks (system_state locked cpus.items) result }
 {
     let (held, spent) = leave_nothing(locked, tables, cpus);
     let audit = spent.close();
-    Ended { held, audit }
+    BootEnd { held, audit }
 }
 
 /// Ends a boot as `end_boot` does. Returns also what the machine's watch saw of all steps.
@@ -110,22 +110,22 @@ pub fn end_seen_boot<N: BootName>(
     locked: Locked<N>,
     tables: Tables<N>,
     cpus: Vec<Cpu<N>>,
-) -> (Ended, Seen)
+) -> (BootEnd, CheckedSteps)
     requires count { length cpus.items ≡ N.frames.cpus }
     ensures ends { EndsSeen N.frames N.stocks (system_state locked cpus.items) result.0 result.1 }
 {
     let (held, spent) = leave_nothing(locked, tables, cpus);
-    let seen = Seen {
+    let seen = CheckedSteps {
         is_legal: spent.watch().is_legal(),
         steps: spent.watch().steps(),
     };
     let audit = spent.close();
-    (Ended { held, audit }, seen)
+    (BootEnd { held, audit }, seen)
 }
 
 /// Adds the report of the end: the pins that were held, if there were any, and the counts. It fails only if memory runs
 /// out.
-pub fn write_end(ended: &Ended, text: &mut String) -> Result<(), AllocError>
+pub fn write_end(ended: &BootEnd, text: &mut String) -> Result<(), AllocError>
     ensures told { OnOk result (string_bytes text.new
         ≡ string_bytes text.old ++ (held_text ended.now.held ++ audit_text ended.now.audit)) }
 {

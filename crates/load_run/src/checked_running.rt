@@ -10,7 +10,7 @@ ghost use Rattle.zone_sizes.specs.Config.{IsValidConfig};
 ghost use Rattle.load_run.specs.Answers.{AreCheckedAnswers, checked_text};
 ghost use Rattle.load_run.specs.Ending.{EndsSeenAfter};
 
-use crate::boot_end::{Ended, Seen, end_seen_boot};
+use crate::boot_end::{BootEnd, CheckedSteps, end_seen_boot};
 use crate::running::tell_end;
 use cpu_part::{BootName, Cpu, Tables};
 use mem_system::{Boot, Locked};
@@ -22,7 +22,7 @@ use zone_sizes::config::Config;
 
 /// Why a boot whose steps are checked gives no answers.
 #[derive(Clone, Copy, Debug, PartialEq, Eq)]
-pub enum Unanswered {
+pub enum CheckFault {
     /// Memory ran out.
     NoMemory(AllocError),
     /// A step of this line, counted from 1 among all lines of the script, isn't legal.
@@ -31,17 +31,17 @@ pub enum Unanswered {
     IllegalEnd,
 }
 
-impl From<AllocError> for Unanswered {
-    fn from(error: AllocError) -> Unanswered {
-        Unanswered::NoMemory(error)
+impl From<AllocError> for CheckFault {
+    fn from(error: AllocError) -> CheckFault {
+        CheckFault::NoMemory(error)
     }
 }
 
-impl From<Stopped> for Unanswered {
-    fn from(stopped: Stopped) -> Unanswered {
+impl From<Stopped> for CheckFault {
+    fn from(stopped: Stopped) -> CheckFault {
         match stopped {
-            Stopped::NoMemory(error) => Unanswered::NoMemory(error),
-            Stopped::NotLegal(line) => Unanswered::IllegalLine(line),
+            Stopped::NoMemory(error) => CheckFault::NoMemory(error),
+            Stopped::NotLegal(line) => CheckFault::IllegalLine(line),
         }
     }
 }
@@ -57,7 +57,7 @@ pub fn check_on_boot<N: BootName>(
     lines: &[Line<'_>],
     form: Form,
     is_audited: bool,
-) -> Result<Vec<u8>, Unanswered>
+) -> Result<Vec<u8>, CheckFault>
     requires frames { boot.frames ≡ N.frames }
     requires stocks { boot.stocks ≡ N.stocks }
     requires sizes { boot.sizes ≡ sizes }
@@ -71,7 +71,7 @@ pub fn check_on_boot<N: BootName>(
     let (answers, end, seen) = check_and_end_boot(alloc, locked, tables, cpus, lines, form);
     let answers = answers?;
     if !seen.is_legal {
-        return Err(Unanswered::IllegalEnd);
+        return Err(CheckFault::IllegalEnd);
     }
     let told = tell_end(alloc, answers, end, is_audited)?;
     Ok(tell_steps(alloc, told, seen.steps)?)
@@ -85,7 +85,7 @@ fn check_and_end_boot<N: BootName>(
     mut cpus: Vec<Cpu<N>>,
     lines: &[Line<'_>],
     form: Form,
-) -> (Result<Vec<u8>, Stopped>, Ended, Seen)
+) -> (Result<Vec<u8>, Stopped>, BootEnd, CheckedSteps)
     requires count { length cpus.items ≡ N.frames.cpus }
     requires lines { All (LineIsThere N.frames.frames N.frames.cpus) lines.now }
     requires legal { has_legal_steps locked.machine.watch ≡ true }

@@ -16,7 +16,7 @@ ghost use Rattle.load_run.specs.Driving.{AnswersTo, Drives, DrivesScript};
 ghost use Rattle.load_run.specs.Fault.{IsBootFault, IsFailedTask, IsScriptFault, IsWordsFault};
 ghost use Rattle.load_run.specs.Writing.{AppendsBeginning};
 
-use crate::checked_running::{Unanswered, check_on_boot};
+use crate::checked_running::{CheckFault, check_on_boot};
 use crate::checking::drive_check;
 use crate::fault::ProgramFault;
 use crate::fault_lines::tell_fault;
@@ -274,9 +274,9 @@ fn check_answers<N: BootName>(
     let form = form_of(options, is_explained);
     match check_on_boot::<N>(alloc, boot, sizes, lines, form, is_audited) {
         Ok(answers) => Ok(answers),
-        Err(Unanswered::NoMemory(error)) => Err(ProgramFault::NoMemory(error)),
-        Err(Unanswered::IllegalLine(line)) => Err(ProgramFault::IllegalStep(line)),
-        Err(Unanswered::IllegalEnd) => Err(ProgramFault::IllegalEnd),
+        Err(CheckFault::NoMemory(error)) => Err(ProgramFault::NoMemory(error)),
+        Err(CheckFault::IllegalLine(line)) => Err(ProgramFault::IllegalStep(line)),
+        Err(CheckFault::IllegalEnd) => Err(ProgramFault::IllegalEnd),
     }
 }
 

@@ -8,7 +8,7 @@ ghost use Rattle.script_replay.specs.Terms.{form_terms};
 ghost use Rattle.load_run.specs.Answers.{AreReplayAnswers};
 ghost use Rattle.load_run.specs.Ending.{EndsAfter, end_text};
 
-use crate::boot_end::{Ended, end_boot, write_end};
+use crate::boot_end::{BootEnd, end_boot, write_end};
 use cpu_part::{BootName, Cpu, Tables};
 use mem_system::{Boot, Locked};
 use script_lines::line::Line;
@@ -43,7 +43,7 @@ fn replay_and_end_boot<N: BootName>(
     mut cpus: Vec<Cpu<N>>,
     lines: &[Line<'_>],
     form: Form,
-) -> (Result<Vec<u8>, AllocError>, Ended)
+) -> (Result<Vec<u8>, AllocError>, BootEnd)
     requires count { length cpus.items ≡ N.frames.cpus }
     requires lines { All (LineIsThere N.frames.frames N.frames.cpus) lines.now }
     ensures ends { EndsAfter N.frames N.stocks (λ left. ReplaysOrStops (form_terms N.frames N.stocks form) lines.now
@@ -58,7 +58,7 @@ fn replay_and_end_boot<N: BootName>(
 pub fn tell_end(
     alloc: Global,
     mut answers: Vec<u8>,
-    ended: Ended,
+    ended: BootEnd,
     is_audited: bool,
 ) -> Result<Vec<u8>, AllocError>
     ensures told { IfOk result (λ text. text.items ≡ answers.items ++ end_text is_audited ended) }

@@ -10,7 +10,7 @@ ghost use Rattle.load_run.specs.Ending.{end_text};
 ghost use Rattle.load_run.specs.Sessions.{BeginsReport, DrivesSession, LeavesSession, ServesInput, StopsSession};
 ghost use Rattle.load_run.specs.Sessions.{IsSameFault};
 
-use crate::boot_end::{Ended, end_boot};
+use crate::boot_end::{BootEnd, end_boot};
 use crate::fault::ProgramFault;
 use crate::fault_lines::tell_fault;
 use crate::program::write_answers;
@@ -117,7 +117,7 @@ fn serve_on_boot<N: BootName, I: Read, O: Write>(
 // Writes the report of the end, if that is asked for.
 fn write_report<O: Write>(
     alloc: Global,
-    ended: Ended,
+    ended: BootEnd,
     is_audited: bool,
     output: &mut O,
 ) -> Result<(), ProgramFault>

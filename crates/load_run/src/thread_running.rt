@@ -6,9 +6,9 @@ ghost use Rattle.script_replay.specs.Ranges.{LineIsThere};
 ghost use Rattle.script_replay.specs.Terms.{boot_tables};
 ghost use Rattle.script_threads.specs.Each.{TellsEach, workers_from};
 ghost use Rattle.load_run.specs.Ending.{EndsAfter};
-ghost use Rattle.load_run.specs.Answers.{AreThreadAnswers, StandsQuiet};
+ghost use Rattle.load_run.specs.Answers.{AreThreadAnswers, IsQuietSystem};
 
-use crate::boot_end::{Ended, end_boot};
+use crate::boot_end::{BootEnd, end_boot};
 use crate::running::tell_end;
 use cpu_part::{BootName, Cpu, Tables};
 use mem_system::{Boot, Locked, NoGate, System};
@@ -70,12 +70,12 @@ fn serve_and_end<N: BootName + Send + Sync, R: Threads + Wait + Sync>(
     lines: &[Line<'_>],
     is_numbered: bool,
     has_memory: bool,
-) -> (Result<Vec<u8>, AllocError>, Ended)
+) -> (Result<Vec<u8>, AllocError>, BootEnd)
     requires count { length cpus.items ≡ N.frames.cpus }
     requires lines { All (LineIsThere N.frames.frames N.frames.cpus) lines.now }
     ensures told { IfOk result.0 (λ text.
         TellsEach (boot_tables N.frames N.stocks) (workers_from 1 cpus.items lines.now is_numbered) text.items) }
-    ensures ends { EndsAfter N.frames N.stocks (StandsQuiet N.frames N.stocks) result.1 }
+    ensures ends { EndsAfter N.frames N.stocks (IsQuietSystem N.frames N.stocks) result.1 }
 {
     locked.see_quiet(); // Called for its contract: there are fewer than 2^31 CPUs, as `run_each` requires.
     let system = System::of(locked, tables);

@@ -24,7 +24,7 @@ use Rattle.mem_machine.specs.Steps.{drain_steps, fill_steps, over_steps, refill_
 use Rattle.mem_machine.proofs.Prepaying.{filled_account, filled_at}
 use Rattle.mem_alloc.specs.declared.faults.AllocFault.{AllocFault}
 use Rattle.mem_alloc.specs.declared.faults.AllocFault.TheVariants.{Over, NoFrames, RequesterKilled}
-use Rattle.mem_alloc.specs.Stepping.{BySteps, Transition, InTurn, OfMachineAlone, Where, transition}
+use Rattle.mem_alloc.specs.Stepping.{BySteps, Finds, InTurn, OfMachineAlone, Transition, transition}
 use Rattle.mem_alloc.specs.Room.{AfterRoom, IsRefusedAt, IsRefusedFor, IsRefusedAtSome, MakesRoom}
 use Rattle.mem_alloc.specs.Charging.{ChargesAfterDrain, ChargesFrame, ChargesOne, DrainsStock, FillsStock, AfterBatchRefused, PaysForFrame}
 use Rattle.mem_alloc.specs.Rounds.{FailsInRounds}
@@ -388,7 +388,7 @@ module _ (t : KnownTable) (sizes : Config) (m k x n : KnownMachine) (c e y : Kno
 
   -- or free frames come to the list after rounds
   pub reclaims_for : BySteps t (RefillsInRounds sizes.batch true) (visit_state k e) (visit_state x y)
-      → BySteps t (Where HasNoFreeFrame (RefillsInRounds sizes.batch true)) (visit_state m c) (visit_state x y)
+      → BySteps t (Finds HasNoFreeFrame (RefillsInRounds sizes.batch true)) (visit_state m c) (visit_state x y)
   reclaims_for rounds =
       let here = from_first (λ u v. BySteps t (RefillsInRounds sizes.batch true) (visit_state u v) (visit_state x y)) rounds in record {
         steps = here.steps;
@@ -421,7 +421,7 @@ spared_page t g m n c d s page =
     }
 
 module _ (t : KnownTable) (sizes : Config) (m n : KnownMachine) (c d : KnownCpu) (steps : Run)
-    (h : Where HasNoFreeFrame (RefillsInRounds sizes.batch true) (transition t (visit_state m c) steps (visit_state n d))) where
+    (h : Finds HasNoFreeFrame (RefillsInRounds sizes.batch true) (transition t (visit_state m c) steps (visit_state n d))) where
   abbrev last : InTheEnd t 1 LendsNoFrame (no_frame_spares t) (LendsBatch sizes.batch) m c (visit_state n d)
   last = noted_in_the_end t 1 LendsNoFrame (no_frame_spares t) 0 (LendsBatch sizes.batch) m c (visit_state n d) steps h.does
 

@@ -21,13 +21,13 @@ use Rattle.mem_machine.specs.Machines.{IsConsistent, KnownMachine, is_killed, wi
 use Rattle.mem_machine.specs.Local.{MakesForAny, visit_state}
 use Rattle.mem_machine.specs.Steps.{note_oom_steps}
 use Rattle.mem_reclaim.specs.declared.sets.Killed.{Killed}
-use Rattle.mem_reclaim.specs.Killing.{IsKilledBy, OnlyDrains, OnlyLetsGo, with_all_killed}
+use Rattle.mem_reclaim.specs.Killing.{IsKilledBy, OnlyDrains, OnlyReleases, with_all_killed}
 use Rattle.mem_reclaim.specs.Sets.{IsHead, kill_set}
 use Rattle.mem_reclaim.specs.Victim.{IsVictim}
 use Rattle.mem_reclaim.proofs.Choosing.{chosen_there}
 use Rattle.mem_reclaim.proofs.Dying.{victims_die}
 use Rattle.mem_alloc.specs.Stepping.{ByStepsOfAny, MachineStays, transition}
-use Rattle.mem_alloc.specs.Kills.{IsWanting, KillsVictims, KillsForRoom, KillsOneVictim, has_room_at, with_oom_noted_at}
+use Rattle.mem_alloc.specs.Kills.{NeedsRoom, KillsVictims, KillsForRoom, KillsOneVictim, has_room_at, with_oom_noted_at}
 use Rattle.mem_alloc.specs.Room.{KillsForFewPages, RelievesLimit}
 use Rattle.mem_alloc.proofs.Lowering.{Lowers, lowers_none, lowers_both, same_visit, clears_lower, keeps_lower, sum_less}
 use Rattle.mem_machine.proofs.Followed.{makes_both, makes_none}
@@ -47,7 +47,7 @@ all_stay_marked : (groups : List ℕ) (marks : List Bool) (j : ℕ) → is_kille
 all_stay_marked [] marks j dead = dead
 all_stay_marked (v ∷ groups) marks j dead = all_stay_marked groups (slice_set marks v true) j (stays_marked marks v j dead)
 
-pub one_lowers : (t : KnownTable) (groups : List ℕ) (m n : KnownMachine) → n.killed ≡ with_all_killed m.killed groups → OnlyDrains m n → OnlyLetsGo t m n
+pub one_lowers : (t : KnownTable) (groups : List ℕ) (m n : KnownMachine) → n.killed ≡ with_all_killed m.killed groups → OnlyDrains m n → OnlyReleases t m n
     → Lowers t m n
 one_lowers t groups m n marked stocks keeps = record {
   groups = keeps.groups;
@@ -210,15 +210,15 @@ so_far_nobody r t g pages m x n event noting noted =
     })
 
 pub so_far_killed : (r : Option ℕ) (t : KnownTable) (w : KnownStockTable) (g pages : ℕ) (killed : Killed) (m x n : KnownMachine) → KillsSoFar r t g pages m x
-    → IsWanting r g pages x → IsConsistent t w x → AreCharges x.ledger → IsVictim x g (Some killed.victim) → IsKilledBy t g killed x n
-    → n.killed ≡ with_all_killed x.killed (kill_set x killed) → OnlyDrains x n → OnlyLetsGo t x n → KillsSoFar r t g pages m n
-so_far_killed r t w g pages killed m x n so_far wanting whole charges chosen kills marked stocks keeps = record {
+    → NeedsRoom r g pages x → IsConsistent t w x → AreCharges x.ledger → IsVictim x g (Some killed.victim) → IsKilledBy t g killed x n
+    → n.killed ≡ with_all_killed x.killed (kill_set x killed) → OnlyDrains x n → OnlyReleases t x n → KillsSoFar r t g pages m n
+so_far_killed r t w g pages killed m x n so_far needs_room whole charges chosen kills marked stocks keeps = record {
   seen = so_far.seen;
   notes = so_far.notes;
   victims = so_far.victims ++ killed ∷ [];
   killing = so_far.killing ++ kills.steps;
   kills = kills_more r t g pages killed so_far.victims (with_watch (with_oom_noted_at m g) so_far.seen) x n so_far.killing kills.steps so_far.kills (record {
-    wanting = wanting;
+    needs_room = needs_room;
     chosen = chosen;
     stock_table = w;
     consistent = whole;
@@ -241,7 +241,7 @@ so_far_there r t g pages m n so_far there =
 
 -- the kills are over
 pub kills_end : (r : Option ℕ) (t : KnownTable) (g pages : ℕ) (m n : KnownMachine) → has_room_at m.ledger g pages ≡ false
-    → KillsSoFar r t g pages m n → (IsWanting r g pages n → IsVictim n g None) → ByStepsOfAny t (KillsForRoom r g pages) m n
+    → KillsSoFar r t g pages m n → (NeedsRoom r g pages n → IsVictim n g None) → ByStepsOfAny t (KillsForRoom r g pages) m n
 kills_end r t g pages m n over so_far ended = record {
   steps = note_oom_steps g ++ so_far.killing;
   does = record {

@@ -18,7 +18,7 @@ use Rattle.mem_reclaim.proofs.KillSets.{missed_both}
 use Rattle.mem_reclaim.proofs.LettingGo.{AreQuiet, misses_put, quiet_both, quiet_drain, quiet_drains}
 use Rattle.mem_alloc.specs.declared.faults.AllocFault.{AllocFault}
 use Rattle.mem_alloc.specs.declared.faults.AllocFault.TheVariants.{Over, NoFrames, RequesterKilled}
-use Rattle.mem_alloc.specs.Stepping.{CountsMisses, Transition, InTurn, OfMachineAlone, Stays, Where, transition, of_machine}
+use Rattle.mem_alloc.specs.Stepping.{CountsMisses, Finds, InTurn, OfMachineAlone, Stays, Transition, of_machine, transition}
 use Rattle.mem_alloc.specs.Kills.{KillsVictims, KillsForRoom, KillsOneVictim, has_room_at, with_oom_noted_at}
 use Rattle.mem_alloc.specs.Room.{AfterRoom, ClearsBelow, IsRefusedAt, IsRefusedFor, IsRefusedAtSome, KillsForFewPages, MakesRoom, RelievesLimit, with_max_noted_at}
 use Rattle.mem_alloc.specs.Charging.{ChargesAfterDrain, ChargesFrame, ChargesOne, DrainsStock, FillsStock, AfterBatchRefused, PaysForFrame}
@@ -255,7 +255,7 @@ fills_count sizes (Ok v) call (inr h) = elim h.does [
   | inr rounds ↦ refills_count sizes.batch true call rounds.does
 ]
 fills_count sizes (Err NoFrames) call h =
-    counts_turns (RefillsInRounds sizes.batch false) (Where HasNoFreeFrame DrainsStock) (refills_count sizes.batch false)
+    counts_turns (RefillsInRounds sizes.batch false) (Finds HasNoFreeFrame DrainsStock) (refills_count sizes.batch false)
     (λ last drains. drains_count last drains.does) call h.does.does
 fills_count sizes (Err (Over over)) call h = absurd h
 fills_count sizes (Err RequesterKilled) call h = absurd h

@@ -29,12 +29,12 @@ use Rattle.mem_machine.proofs.Reaching.{run_both}
 use Rattle.mem_reclaim.specs.declared.sets.Killed.{Killed}
 use Rattle.mem_reclaim.specs.Moves.{has_kill, is_kill, killed_by, kills_in, missed_in}
 use Rattle.mem_reclaim.specs.Staying.{Keeps, MissedAll}
-use Rattle.mem_reclaim.specs.Killing.{IsKilledBy, KillsGroups, KillsHeadOrVictim, OnlyDrains, OnlyLetsGo}
+use Rattle.mem_reclaim.specs.Killing.{IsKilledBy, KillsGroups, KillsHeadOrVictim, OnlyDrains, OnlyReleases}
 use Rattle.mem_reclaim.specs.Sets.{alive_below, group_kill_note, kill_set}
 use Rattle.mem_reclaim.specs.Victim.{victim_note}
 use Rattle.mem_reclaim.proofs.KillSets.{kills_both, missed_both}
 use Rattle.mem_reclaim.proofs.LettingGo.{AreQuiet, quiet_both, quiet_drains}
-use Rattle.mem_alloc.specs.Stepping.{Transition, OfMachineAlone, MachineStays, transition}
+use Rattle.mem_alloc.specs.Stepping.{MachineStays, OfMachineAlone, Transition, transition}
 use Rattle.mem_alloc.specs.Kills.{KillsVictims, KillsForRoom, KillsOneVictim, KillsUntilRoom, has_room_at, with_oom_noted_at}
 use Rattle.mem_alloc.specs.Room.{AfterRoom, ClearsBelow, IsRefusedAt, IsRefusedFor, IsRefusedAtSome, KillsForFewPages, MakesRoom, ReclaimsFor, RelievesLimit}
 use Rattle.mem_alloc.specs.Room.{with_max_noted_at}
@@ -357,7 +357,7 @@ module _ (t : KnownTable) (MayAsk : List Group → ℕ → ℕ → Type 0) (s : 
   is_kept (Some h) kept = (h, refl)
 
   -- the steps of a victim's kill, with all who die with it
-  kill_passes : (g : ℕ) (killed : Killed) (m n : KnownMachine) (kills : IsKilledBy t g killed m n) → OnlyLetsGo t m n → Passes t c m kills.steps n
+  kill_passes : (g : ℕ) (killed : Killed) (m n : KnownMachine) (kills : IsKilledBy t g killed m n) → OnlyReleases t m n → Passes t c m kills.steps n
   kill_passes g killed m n kills keeps = record {
     runs = (kills.runs c).leads;
     tied = record {
@@ -377,7 +377,7 @@ module _ (t : KnownTable) (MayAsk : List Group → ℕ → ℕ → Type 0) (s : 
       stocks.drained q (drained q low high
       (ap (λ (z : List Group × Option ℕ). of_subtree g z.0 z.1) (λ i. (sym groups i, sym (stocks.of q) i)) ∙ is))
 
-  still_missed : (g : ℕ) (m n : KnownMachine) → OnlyLetsGo t m n → MissedAll g s m → MissedAll g s n
+  still_missed : (g : ℕ) (m n : KnownMachine) → OnlyReleases t m n → MissedAll g s m → MissedAll g s n
   still_missed g m n keeps missed f h inside is clean =
       let there = keeps.leaves f h is in
       let kept : home_of n.links f ≢ None = λ none. none-some h (sym none ∙ is) in
@@ -402,7 +402,7 @@ module _ (t : KnownTable) (MayAsk : List Group → ℕ → ℕ → Type 0) (s : 
     limited = g;
     need = pages;
     asked = asked;
-    over = one.wanting.over;
+    over = one.needs_room.over;
     noted = ready.noted;
     drained = ready.drained;
     missed = ready.missed;

@@ -21,7 +21,7 @@ use Rattle.mem_reclaim.specs.Moves.{has_kill, is_kill}
 use Rattle.mem_reclaim.proofs.LettingGo.{quiet_drain}
 use Rattle.mem_alloc.specs.declared.faults.AllocFault.{AllocFault}
 use Rattle.mem_alloc.specs.declared.faults.AllocFault.TheVariants.{Over, NoFrames, RequesterKilled}
-use Rattle.mem_alloc.specs.Stepping.{Transition, InTurn, Where, transition}
+use Rattle.mem_alloc.specs.Stepping.{Finds, InTurn, Transition, transition}
 use Rattle.mem_alloc.specs.Charging.{ChargesAfterDrain, ChargesFrame, ChargesOne, DrainsStock, FillsStock, AfterBatchRefused, PaysForFrame}
 use Rattle.mem_alloc.specs.Rounds.{AfterZoneNote, FailsInRounds, FreesInRound, MakesRound, SucceedsInRounds}
 use Rattle.mem_alloc.specs.Frames.{AllocatesFrame, FillsList, HasNoFreeFrame, LendsBatch, LendsNoFrame, MakesRefillRounds, RefillsInRounds}
@@ -97,7 +97,7 @@ fills_quiet sizes (Ok v) call (inr h) = elim h.does [
   | inr rounds ↦ refills_quiet sizes.batch true call rounds.does
 ]
 fills_quiet sizes (Err NoFrames) call h =
-    turns_quiet (RefillsInRounds sizes.batch false) (Where HasNoFreeFrame DrainsStock) (refills_quiet sizes.batch false)
+    turns_quiet (RefillsInRounds sizes.batch false) (Finds HasNoFreeFrame DrainsStock) (refills_quiet sizes.batch false)
     (λ last drains. drains_quiet last drains.does) call h.does.does
 fills_quiet sizes (Err (Over over)) call h = absurd h
 fills_quiet sizes (Err RequesterKilled) call h = absurd h

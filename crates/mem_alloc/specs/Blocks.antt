@@ -12,10 +12,10 @@ use Rattle.mem_machine.specs.Steps.{drain_list_steps}
 use Rattle.mem_reclaim.specs.Rounds.{max_rounds}
 use Rattle.mem_alloc.specs.declared.faults.AllocFault.{AllocFault}
 use Rattle.mem_alloc.specs.declared.faults.AllocFault.TheVariants.{Over, NoFrames, RequesterKilled}
-use Rattle.mem_alloc.specs.Stepping.{Transition, InTurn, transition}
+use Rattle.mem_alloc.specs.Stepping.{InTurn, Transition, transition}
 use Rattle.mem_alloc.specs.Room.{AfterRoom, IsRefusedFor}
 use Rattle.mem_alloc.specs.Rounds.{AfterZoneNote, FailsInRounds, SucceedsInRounds}
-use Rattle.mem_alloc.specs.Frames.{ForLiving, RefusesKilled}
+use Rattle.mem_alloc.specs.Frames.{RefusesKilled, UnlessKilled}
 
 -- the group is charged for a free block and gets it
 pub record TakesFreeBlock (group order head : ℕ) (call : Transition VisitState) : Type 0 where
@@ -79,9 +79,9 @@ RetriesBlock group order answer call =
 -- for good. Or no block is free, even after rounds of reclaim.
 abbrev pub AllocatesBlock : ℕ → ℕ → Result ℕ AllocFault → Transition VisitState → Type 0
 AllocatesBlock group order (Ok head) call =
-    ForLiving group (ChargesBlock group order (Ok head)) call
-    ⊎ ForLiving group (RetriesBlock group order (Ok head)) call
-AllocatesBlock group order (Err (Over over)) call = ForLiving group (ChargesBlock group order (Err (Over over))) call
-AllocatesBlock group order (Err NoFrames) call = ForLiving group (RetriesBlock group order (Err NoFrames)) call
+    UnlessKilled group (ChargesBlock group order (Ok head)) call
+    ⊎ UnlessKilled group (RetriesBlock group order (Ok head)) call
+AllocatesBlock group order (Err (Over over)) call = UnlessKilled group (ChargesBlock group order (Err (Over over))) call
+AllocatesBlock group order (Err NoFrames) call = UnlessKilled group (RetriesBlock group order (Err NoFrames)) call
 AllocatesBlock group order (Err RequesterKilled) call =
-    RefusesKilled group call ⊎ ForLiving group (ChargesBlock group order (Err RequesterKilled)) call
+    RefusesKilled group call ⊎ UnlessKilled group (ChargesBlock group order (Err RequesterKilled)) call

@@ -8,7 +8,7 @@ use Rattle.mem_machine.specs.Steps.{drain_steps, fill_steps, over_steps}
 use Rattle.mem_machine.specs.Paying.{HoldsPage}
 use Rattle.mem_machine.specs.Local.{Makes, VisitState, visit_state}
 use Rattle.mem_alloc.specs.declared.faults.AllocFault.{AllocFault}
-use Rattle.mem_alloc.specs.Stepping.{Transition, InTurn, Stays, Where, transition}
+use Rattle.mem_alloc.specs.Stepping.{Finds, InTurn, Stays, Transition, transition}
 use Rattle.mem_alloc.specs.Room.{AfterRoom, IsRefusedFor}
 use Rattle.step_watch.specs.Watched.{KnownWatch}
 
@@ -60,11 +60,11 @@ AfterLook Does call =
 -- charged.
 abbrev pub ChargesAfterDrain : Config → ℕ → Result (Unit {0}) AllocFault → Transition VisitState → Type 0
 ChargesAfterDrain sizes group answer call =
-    Where (λ now. ¬ HoldsPage now group) (AfterLook (InTurn DrainsStock (ChargesFrame sizes group answer))) call
+    Finds (λ now. ¬ HoldsPage now group) (AfterLook (InTurn DrainsStock (ChargesFrame sizes group answer))) call
 
 -- The CPU's stock has a page of the group: a look shows that it had one before, or one is charged. Or that charge is
 -- refused.
 abbrev pub PaysForFrame : Config → ℕ → Result (Unit {0}) AllocFault → Transition VisitState → Type 0
 PaysForFrame sizes group (Ok done) call =
-    Where (λ now. HoldsPage now group) (AfterLook Stays) call ⊎ ChargesAfterDrain sizes group (Ok done) call
+    Finds (λ now. HoldsPage now group) (AfterLook Stays) call ⊎ ChargesAfterDrain sizes group (Ok done) call
 PaysForFrame sizes group (Err cause) call = ChargesAfterDrain sizes group (Err cause) call

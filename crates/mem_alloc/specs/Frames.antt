@@ -12,7 +12,7 @@ use Rattle.mem_machine.specs.Steps.{refill_steps, take_front_steps}
 use Rattle.mem_reclaim.specs.Rounds.{max_rounds}
 use Rattle.mem_alloc.specs.declared.faults.AllocFault.{AllocFault}
 use Rattle.mem_alloc.specs.declared.faults.AllocFault.TheVariants.{Over, NoFrames, RequesterKilled}
-use Rattle.mem_alloc.specs.Stepping.{Transition, InTurn, Stays, Where, transition}
+use Rattle.mem_alloc.specs.Stepping.{Finds, InTurn, Stays, Transition, transition}
 use Rattle.mem_alloc.specs.Charging.{DrainsStock, PaysForFrame}
 use Rattle.mem_alloc.specs.Rounds.{AfterZoneNote, FailsInRounds, SucceedsInRounds}
 
@@ -31,7 +31,7 @@ pub record LendsBatch (batch : ℕ) (call : Transition VisitState) : Type 0 wher
 
 -- no frame is free, and nothing changed
 abbrev pub LendsNoFrame : Transition VisitState → Type 0
-LendsNoFrame call = Where HasNoFreeFrame Stays call
+LendsNoFrame call = Finds HasNoFreeFrame Stays call
 
 -- rounds of reclaim, each of which wants one page and is followed by a refill: free frames are added to the list, or no
 -- round leaves a free frame
@@ -45,12 +45,12 @@ RefillsInRounds batch filled call = AfterZoneNote 0 (MakesRefillRounds batch fil
 
 -- free frames are added to the list: at once or, if none is free, after rounds of reclaim
 abbrev pub RefillsList : ℕ → Transition VisitState → Type 0
-RefillsList batch call = LendsBatch batch call ⊎ Where HasNoFreeFrame (RefillsInRounds batch true) call
+RefillsList batch call = LendsBatch batch call ⊎ Finds HasNoFreeFrame (RefillsInRounds batch true) call
 
 -- no frame is free, not even after rounds of reclaim; then the CPU's stock is drained
 abbrev pub DrainsForNoFrame : ℕ → Transition VisitState → Type 0
 DrainsForNoFrame batch call =
-    Where HasNoFreeFrame (InTurn (RefillsInRounds batch false) (Where HasNoFreeFrame DrainsStock)) call
+    Finds HasNoFreeFrame (InTurn (RefillsInRounds batch false) (Finds HasNoFreeFrame DrainsStock)) call
 
 -- the CPU's list is empty
 abbrev pub HasEmptyList : VisitState → Type 0
@@ -59,8 +59,8 @@ HasEmptyList now = now.cpu.list ≡ []
 -- the CPU's list has a frame: it had one before, or free frames are added to it; or no frame is free
 abbrev pub FillsList : Config → Result (Unit {0}) AllocFault → Transition VisitState → Type 0
 FillsList sizes (Ok done) call =
-    Where (λ now. 1 ≤ length now.cpu.list) Stays call ⊎ Where HasEmptyList (RefillsList sizes.batch) call
-FillsList sizes (Err NoFrames) call = Where HasEmptyList (DrainsForNoFrame sizes.batch) call
+    Finds (λ now. 1 ≤ length now.cpu.list) Stays call ⊎ Finds HasEmptyList (RefillsList sizes.batch) call
+FillsList sizes (Err NoFrames) call = Finds HasEmptyList (DrainsForNoFrame sizes.batch) call
 FillsList sizes (Err other) call = ⊥
 
 -- The CPU's stock gets a page of the group, and its list a frame. The front of the list is paid for with that page.
@@ -75,19 +75,19 @@ pub record GetsFrame (sizes : Config) (group frame : ℕ) (call : Transition Vis
   pub steps_are : call.steps ≡ paying ++ (filling ++ take_front_steps call.before.cpu.number group)
 
 -- the group isn't killed, and `Does` holds
-abbrev pub ForLiving : ℕ → (Transition VisitState → Type 0) → Transition VisitState → Type 0
-ForLiving group Does call = Where (λ now. is_killed now.machine.killed group ≡ false) Does call
+abbrev pub UnlessKilled : ℕ → (Transition VisitState → Type 0) → Transition VisitState → Type 0
+UnlessKilled group Does call = Finds (λ now. is_killed now.machine.killed group ≡ false) Does call
 
 -- the group was killed before, and nothing changed
 abbrev pub RefusesKilled : ℕ → Transition VisitState → Type 0
-RefusesKilled group call = Where (λ now. is_killed now.machine.killed group ≡ true) Stays call
+RefusesKilled group call = Finds (λ now. is_killed now.machine.killed group ≡ true) Stays call
 
 -- Allocates one frame for the group, or says why not. The group may have been killed before. A charge may be refused
 -- for good. Or a page is charged, but there is no frame for it.
 abbrev pub AllocatesFrame : Config → ℕ → Result ℕ AllocFault → Transition VisitState → Type 0
-AllocatesFrame sizes group (Ok frame) call = ForLiving group (GetsFrame sizes group frame) call
-AllocatesFrame sizes group (Err (Over over)) call = ForLiving group (PaysForFrame sizes group (Err (Over over))) call
+AllocatesFrame sizes group (Ok frame) call = UnlessKilled group (GetsFrame sizes group frame) call
+AllocatesFrame sizes group (Err (Over over)) call = UnlessKilled group (PaysForFrame sizes group (Err (Over over))) call
 AllocatesFrame sizes group (Err NoFrames) call =
-    ForLiving group (InTurn (PaysForFrame sizes group (Ok tt)) (FillsList sizes (Err NoFrames))) call
+    UnlessKilled group (InTurn (PaysForFrame sizes group (Ok tt)) (FillsList sizes (Err NoFrames))) call
 AllocatesFrame sizes group (Err RequesterKilled) call =
-    RefusesKilled group call ⊎ ForLiving group (PaysForFrame sizes group (Err RequesterKilled)) call
+    RefusesKilled group call ⊎ UnlessKilled group (PaysForFrame sizes group (Err RequesterKilled)) call

@@ -10,10 +10,10 @@ use Rattle.mem_machine.specs.Machines.{IsConsistent, KnownMachine, is_killed, wi
 use Rattle.mem_machine.specs.Local.{MakesForAny}
 use Rattle.mem_machine.specs.Steps.{note_oom_steps}
 use Rattle.mem_reclaim.specs.declared.sets.Killed.{Killed}
-use Rattle.mem_reclaim.specs.Killing.{IsKilledBy, OnlyDrains, OnlyLetsGo, with_all_killed}
+use Rattle.mem_reclaim.specs.Killing.{IsKilledBy, OnlyDrains, OnlyReleases, with_all_killed}
 use Rattle.mem_reclaim.specs.Sets.{kill_set}
 use Rattle.mem_reclaim.specs.Victim.{IsVictim}
-use Rattle.mem_alloc.specs.Stepping.{Transition, InTurn, MachineStays, transition}
+use Rattle.mem_alloc.specs.Stepping.{InTurn, MachineStays, Transition, transition}
 use Rattle.step_watch.specs.Watched.{KnownWatch}
 
 -- the most pages of one charge for which groups are killed: those of an order of 3
@@ -37,7 +37,7 @@ IsAlive None machine = Unit {0}
 IsAlive (Some requester) machine = is_killed machine.killed requester ≡ false
 
 -- the limit of the group has no room for this many pages, and the group that asks for them, if any, isn't killed
-pub record IsWanting (requester : Option ℕ) (limited pages : ℕ) (machine : KnownMachine) : Type 0 where
+pub record NeedsRoom (requester : Option ℕ) (limited pages : ℕ) (machine : KnownMachine) : Type 0 where
   pub over : has_room_at machine.ledger limited pages ≡ false
   pub alive : IsAlive requester machine
 
@@ -46,7 +46,7 @@ pub record IsWanting (requester : Option ℕ) (limited pages : ℕ) (machine : K
 -- some kept units are released.
 pub record KillsOneVictim (requester : Option ℕ) (limited pages : ℕ) (killed : Killed)
     (call : Transition KnownMachine) : Type 0 where
-  pub wanting : IsWanting requester limited pages call.before
+  pub needs_room : NeedsRoom requester limited pages call.before
   pub chosen : IsVictim call.before limited (Some killed.victim)
   pub stock_table : KnownStockTable
   pub consistent : IsConsistent call.table stock_table call.before
@@ -55,7 +55,7 @@ pub record KillsOneVictim (requester : Option ℕ) (limited pages : ℕ) (killed
   pub steps_are : call.steps ≡ kills.steps
   pub marked : call.after.killed ≡ with_all_killed call.before.killed (kill_set call.before killed)
   pub stocks : OnlyDrains call.before call.after
-  pub keeps : OnlyLetsGo call.table call.before call.after
+  pub keeps : OnlyReleases call.table call.before call.after
 
 -- these victims are killed like this, one after the other
 abbrev pub KillsVictims : Option ℕ → ℕ → ℕ → List Killed → Transition KnownMachine → Type 0
@@ -74,7 +74,7 @@ pub record KillsUntilRoom (requester : Option ℕ) (limited pages : ℕ) (call :
       (with_watch (with_oom_noted_at call.before limited) seen)
   pub kills : KillsVictims requester limited pages victims
       (transition call.table (with_watch (with_oom_noted_at call.before limited) seen) killing call.after)
-  pub ended : IsWanting requester limited pages call.after → IsVictim call.after limited None
+  pub ended : NeedsRoom requester limited pages call.after → IsVictim call.after limited None
   pub steps_are : call.steps ≡ note_oom_steps limited ++ killing
 
 -- if the group's limit has no room for this many pages, victims of the group are killed; else nothing is done

@@ -16,10 +16,10 @@ use Rattle.mem_reclaim.specs.Rounds.{ReclaimsRounds, max_rounds, pages_missing}
 use Rattle.mem_reclaim.specs.Staying.{Keeps, MissedAll}
 use Rattle.mem_alloc.specs.declared.faults.AllocFault.{AllocFault}
 use Rattle.mem_alloc.specs.declared.faults.AllocFault.TheVariants.{Over, NoFrames, RequesterKilled}
-use Rattle.mem_alloc.specs.Stepping.{Transition, InTurn, OfMachineAlone, MachineStays, transition}
+use Rattle.mem_alloc.specs.Stepping.{InTurn, MachineStays, OfMachineAlone, Transition, transition}
 use Rattle.step_watch.specs.Watched.{KnownWatch}
 -- what is killed, and whether there is room
-pub use Rattle.mem_alloc.specs.Kills.{IsWanting, KillsForRoom, has_room_at, most_killed_for}
+pub use Rattle.mem_alloc.specs.Kills.{KillsForRoom, NeedsRoom, has_room_at, most_killed_for}
 
 -- the notes with one more, if the group has a limit: that the limit has no room for this many more pages
 abbrev pub limit_notes : Option ℕ → Ledger → ℕ → ℕ → KnownNotes → KnownNotes
@@ -90,7 +90,7 @@ pub record HasMadeRoom (requester limited pages : ℕ) (after : KnownMachine) : 
 abbrev pub TellsRoom : ℕ → ℕ → ℕ → Result (Unit {0}) AllocFault → KnownMachine → Type 0
 TellsRoom requester limited pages (Ok done) after = HasMadeRoom requester limited pages after
 TellsRoom requester limited pages (Err (Over named)) after =
-    (named ≡ limited) × IsWanting (Some requester) limited pages after
+    (named ≡ limited) × NeedsRoom (Some requester) limited pages after
 TellsRoom requester limited pages (Err RequesterKilled) after = is_killed after.killed requester ≡ true
 TellsRoom requester limited pages (Err NoFrames) after = ⊥
 

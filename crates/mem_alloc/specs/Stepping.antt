@@ -9,14 +9,14 @@ use Rattle.mem_reclaim.specs.Moves.{missed_in}
 
 -- The transition of a call at a table: the state before, its steps with their answers, and the state after. The state
 -- is a visit state, or the machine alone.
-pub record Transition (Stand : Type 0) : Type 0 where
+pub record Transition (S : Type 0) : Type 0 where
   pub table : KnownTable
-  pub before : Stand
+  pub before : S
   pub steps : Run
-  pub after : Stand
+  pub after : S
 
 -- the transition with these parts
-abbrev pub transition : {Stand : Type 0} → KnownTable → Stand → Run → Stand → Transition Stand
+abbrev pub transition : {S : Type 0} → KnownTable → S → Run → S → Transition S
 transition table before steps after = record { table = table; before = before; steps = steps; after = after }
 
 -- the transition of the machine alone
@@ -34,17 +34,17 @@ pub record OfMachineAlone (Does : Transition KnownMachine → Type 0) (call : Tr
 
 -- One thing is done after another. The second begins with what the first left, and the steps are those of the first
 -- followed by those of the second.
-pub record InTurn {Stand : Type 0} (First Second : Transition Stand → Type 0) (call : Transition Stand) : Type 0 where
-  pub between : Stand
+pub record InTurn {S : Type 0} (First Second : Transition S → Type 0) (call : Transition S) : Type 0 where
+  pub between : S
   pub earlier : Run
   pub later : Run
   pub first : First (transition call.table call.before earlier between)
   pub second : Second (transition call.table between later call.after)
   pub steps_are : call.steps ≡ earlier ++ later
 
--- `Is` holds of the state before, and `Does` holds of the transition
-pub record Where {Stand : Type 0} (Is : Stand → Type 0) (Does : Transition Stand → Type 0)
-    (call : Transition Stand) : Type 0 where
+-- the call finds a state of which `Is` holds, and `Does` holds of the transition
+pub record Finds {S : Type 0} (Is : S → Type 0) (Does : Transition S → Type 0)
+    (call : Transition S) : Type 0 where
   pub is : Is call.before
   pub does : Does call
 

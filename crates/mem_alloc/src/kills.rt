@@ -2,7 +2,7 @@
 
 ghost use Rattle.std.specs.Prelude.{◌≡◌, ◌↔◌, IsTrue};
 ghost use Rattle.group_tree.specs.Groups.{has_group};
-ghost use Rattle.mem_alloc.specs.Kills.{IsWanting, KillsForRoom, has_room_at};
+ghost use Rattle.mem_alloc.specs.Kills.{KillsForRoom, NeedsRoom, has_room_at};
 ghost use Rattle.mem_alloc.specs.Room.{KillsForFewPages};
 ghost use Rattle.mem_alloc.specs.Stepping.{ByStepsOfAny};
 
@@ -30,14 +30,14 @@ pub(crate) fn has_room_at(charges: &Charges, group: GroupId, pages: u32) -> bool
 
 // Whether a victim of the group is to be killed: its limit has no room for this many more pages, and the group that
 // asks for them, if any, isn't killed.
-fn is_wanting<N: BootName>(
+fn needs_room<N: BootName>(
     machine: &Machine<N>,
     requester: &Option<GroupId>,
     limited: GroupId,
     pages: u32,
 ) -> bool
     requires { IsTrue (has_group machine.now.ledger.groups limited) }
-    ensures { IsTrue result ↔ IsWanting requester.now limited pages machine.now }
+    ensures { IsTrue result ↔ NeedsRoom requester.now limited pages machine.now }
 {
     match requester {
         Some(asking) if machine.is_killed(*asking) => false,
@@ -70,7 +70,7 @@ pub fn kill_for<N: BootName>(
         let _frame_states = machine.frame_states(); // Called for its contract.
         let charges = machine.charges();
         let _tree = charges.tree(); // Called for its contract.
-        if !is_wanting(machine, &requester, limited, pages) {
+        if !needs_room(machine, &requester, limited, pages) {
             return;
         }
         let Some(_killed) = kill(machine, tables, limited) else {

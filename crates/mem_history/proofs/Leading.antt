@@ -38,7 +38,7 @@ use Rattle.mem_machine.specs.declared.frame_state.FrameState.{FrameState}
 use Rattle.mem_machine.specs.declared.frame_state.FrameState.TheVariants.{Free, Lent, Head, Tail}
 use Rattle.mem_machine.specs.FrameStates.{frame_state_at}
 use Rattle.mem_machine.specs.Machines.{KnownMachine, visit_state}
-use Rattle.mem_machine.specs.Counting.{with_one_put_last}
+use Rattle.mem_machine.specs.Counting.{one_more_last_put}
 use Rattle.mem_machine.specs.Local.{local_of, phase_of, part_of, part_with, references_of, fresh_group, number_or_0}
 use Rattle.mem_machine.specs.Interleaving.{zone_of}
 use Rattle.mem_machine.specs.Steps.{cpu_makes}
@@ -292,7 +292,7 @@ module _ (t : KnownTable) (w : KnownStockTable) (run : Run) (m : KnownMachine) (
           },
         );
         follows = follows_same _ _ _ refl;
-        counts = sym (ap (λ (b : Bool). cond b (with_one_put_last m.counts) m.counts) (ne_eqb q 0 some));
+        counts = sym (ap (λ (b : Bool). cond b (one_more_last_put m.counts) m.counts) (ne_eqb q 0 some));
       })
 
   -- ---- a frame that becomes fresh, and one that is listed again

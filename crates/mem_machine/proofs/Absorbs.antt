@@ -13,7 +13,7 @@ use Rattle.stock_word.proofs.CallerLemmas.{account_of-with_account, account_of-w
 use Rattle.step_rules.specs.State.{sum_to, with_at}
 use Rattle.step_rules.proofs.Basics.{at_same, at_other, at_each}
 use Rattle.step_rules.proofs.Sums.{sum_change}
-use Rattle.mem_machine.specs.FrameStates.{count_of}
+use Rattle.mem_machine.specs.FrameStates.{one_if_is}
 use Rattle.mem_machine.specs.Machines.{booked, pages_booked}
 use Rattle.mem_machine.specs.Local.{number_or_0}
 use Rattle.mem_machine.specs.Settling.{with_page_absorbed}
@@ -80,13 +80,13 @@ books_fall t stock p g inside group noted some h =
     ∙ sum_change (t.cpus + 1) (λ q. booked h (account_of stock.view q)) p (booked h b) (omega (arith, inside)) in
     elim (cases_eq h g) [
       | inl e ↦
-          let u : count_of h a.group ≡ 1 = ap (count_of h) group ∙ counts_own h g e in
+          let u : one_if_is h a.group ≡ 1 = ap (one_if_is h) group ∙ counts_own h g e in
           let x : booked h a ≡ a.book = booked_is h a 1 u in
           let y : booked h b ≡ a.book - (a.unabsorbed + 1) = booked_is h b 1 u in
           let z : ◌≡◌ {A = ℕ} (cond (h == g) 1 0) 1 = cond-true (h == g) 1 0 (eq-eqb h g e) in
           omega (arith, change, x, y, z, noted, some)
       | inr ne ↦
-          let u : count_of h a.group ≡ 0 = ap (count_of h) group ∙ counts_other h g ne in
+          let u : one_if_is h a.group ≡ 0 = ap (one_if_is h) group ∙ counts_other h g ne in
           let x : booked h a ≡ 0 = booked_is h a 0 u in
           let y : booked h b ≡ 0 = booked_is h b 0 u in
           let z : ◌≡◌ {A = ℕ} (cond (h == g) 1 0) 0 = cond-false (h == g) 1 0 (ne_eqb h g ne) in

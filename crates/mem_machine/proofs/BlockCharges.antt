@@ -10,7 +10,7 @@ use Rattle.step_rules.proofs.Placing.{within_cases}
 use Rattle.step_rules.proofs.Sums.{sum_same, sum_both, sum_none}
 use Rattle.mem_machine.specs.declared.frame_state.FrameState.{FrameState}
 use Rattle.mem_machine.specs.declared.frame_state.FrameState.TheVariants.{Head, Tail}
-use Rattle.mem_machine.specs.FrameStates.{frame_state_at, frame_state_group, count_of}
+use Rattle.mem_machine.specs.FrameStates.{frame_state_at, frame_state_group, one_if_is}
 use Rattle.mem_machine.specs.Machines.{frames_charged}
 use Rattle.mem_machine.specs.Blocks.{PlacesUnit}
 use Rattle.mem_machine.proofs.PlacesUnits.{in_block, off_block}
@@ -58,14 +58,14 @@ group_within : (g : ℕ) (b : Block) (x : Bool) → frame_state_group (cond x (H
 group_within g b true = refl
 group_within g b false = refl
 
-none_counts : (h : ℕ) (o : Option ℕ) → o ≡ None → count_of h o ≡ 0
+none_counts : (h : ℕ) (o : Option ℕ) → o ≡ None → one_if_is h o ≡ 0
 none_counts h None e = refl
-none_counts h (Some k) e = ap (count_of h) e
+none_counts h (Some k) e = ap (one_if_is h) e
 
-counts_same : (h g : ℕ) → h ≡ g → count_of h (Some g) ≡ 1
+counts_same : (h g : ℕ) → h ≡ g → one_if_is h (Some g) ≡ 1
 counts_same h g e = ap (λ (x : Bool). cond x 1 0) (eq-eqb g h (sym e))
 
-counts_else : (h g : ℕ) → (h ≡ g → ⊥) → count_of h (Some g) ≡ 0
+counts_else : (h g : ℕ) → (h ≡ g → ⊥) → one_if_is h (Some g) ≡ 0
 counts_else h g ne = ap (λ (x : Bool). cond x 1 0) (ne_eqb g h (λ e. ne (sym e)))
 
 module _ (old new : List FrameState) (g : ℕ) (b : Block) (placed : PlacesUnit g b old new) (block : IsBlock (length old) b)
@@ -74,16 +74,16 @@ module _ (old new : List FrameState) (g : ℕ) (b : Block) (placed : PlacesUnit 
   size = 2 ^ b.order
 
   abbrev before : ℕ → ℕ
-  before f = count_of h (frame_state_group (frame_state_at old f))
+  before f = one_if_is h (frame_state_group (frame_state_at old f))
 
   abbrev after : ℕ → ℕ
-  after f = count_of h (frame_state_group (frame_state_at new f))
+  after f = one_if_is h (frame_state_group (frame_state_at new f))
 
   same_out : (f : ℕ) → is_within b.at size f ≡ false → after f ≡ before f
-  same_out f w = ap (λ (x : FrameState). count_of h (frame_state_group x)) (placed.records f ∙ off_block old g b f w)
+  same_out f w = ap (λ (x : FrameState). one_if_is h (frame_state_group x)) (placed.records f ∙ off_block old g b f w)
 
-  own_in : (f : ℕ) → is_within b.at size f ≡ true → after f ≡ count_of h (Some g)
-  own_in f w = ap (count_of h) (ap frame_state_group (placed.records f ∙ in_block old g b f w) ∙ group_within g b (f == b.at))
+  own_in : (f : ℕ) → is_within b.at size f ≡ true → after f ≡ one_if_is h (Some g)
+  own_in f w = ap (one_if_is h) (ap frame_state_group (placed.records f ∙ in_block old g b f w) ∙ group_within g b (f == b.at))
 
   own_share : h ≡ g → (f : ℕ) → after f ≡ before f + within_one b.at size f
   own_share e f = elim (within_cases b.at size f) [

@@ -1,5 +1,5 @@
 -- The pages booked to the stocks of each group, as they are counted, through each change of a book. Serves the calls of
--- `StockLedger`.
+-- `BookedSeat`.
 use Rattle.std.proofs.Common.{◌≡◌, ℕ, ◌+◌, ◌-◌, ◌<◌, ◌≤◌, ◌==◌, ◌^◌, cond, true, false, Option, Some, None, List, length, replicate, get_or, refl, sym, ap, ◌∙◌, subst, inl, inr, arith, eq-eqb}
 use Rattle.std.specs.Prelude.{slice_set}
 use Rattle.std.proofs.lemmas.Bool.{cases_eq, cases_lt, false≢true, ne_eqb, cond-true, cond-false}

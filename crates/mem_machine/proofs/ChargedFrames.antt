@@ -14,16 +14,16 @@ use Rattle.step_rules.proofs.Sums.{sum_none, sum_only, sum_same, sum_swap}
 use Rattle.mem_machine.specs.declared.frame_state.FrameState.{FrameState}
 use Rattle.mem_machine.specs.declared.frame_state.FrameState.TheVariants.{Free, Lent, Head, Tail}
 use Rattle.mem_machine.specs.declared.frame_state.Place.TheVariants as place
-use Rattle.mem_machine.specs.FrameStates.{frame_state_at, place_of, frame_state_group, count_of}
+use Rattle.mem_machine.specs.FrameStates.{frame_state_at, place_of, frame_state_group, one_if_is}
 use Rattle.mem_machine.specs.Machines.{KnownMachine, IsConsistent, frames_charged}
 use Rattle.mem_machine.specs.Places.{frames_in_groups}
 use Rattle.mem_machine.proofs.Keepers.{keeper_there}
 
 -- a group below the bound is counted once
-one_number : (k : ℕ) (group : Option ℕ) → IfSome group (λ g. g < k) → sum_to k (λ g. count_of g group) ≡ one_if (is_some group)
+one_number : (k : ℕ) (group : Option ℕ) → IfSome group (λ g. g < k) → sum_to k (λ g. one_if_is g group) ≡ one_if (is_some group)
 one_number k None few = sum_none k (λ g. 0) (λ g below. refl)
 one_number k (Some n) few =
-    sum_only k (λ g. count_of g (Some n)) n few (λ g below ne. ap (λ (b : Bool). cond b 1 0) (ne_eqb n g (λ e. ne (sym e))))
+    sum_only k (λ g. one_if_is g (Some n)) n few (λ g below ne. ap (λ (b : Bool). cond b 1 0) (ne_eqb n g (λ e. ne (sym e))))
     ∙ ap (λ (b : Bool). cond b 1 0) (eq-eqb n n refl)
 
 -- a sum over the first frames, one after the other
@@ -49,8 +49,8 @@ all_charged : (t : KnownTable) (w : KnownStockTable) (m : KnownMachine) → IsCo
     → sum_to 64 (frames_charged m.frame_states) ≡ frames_in_groups m.frame_states
 all_charged t w m ok legal =
     let n : ℕ = length m.frame_states in
-    sum_swap 64 n (λ g f. count_of g (frame_state_group (frame_state_at m.frame_states f)))
-    ∙ sum_same n (λ f. sum_to 64 (λ g. count_of g (frame_state_group (frame_state_at m.frame_states f)))) (λ f. one_if (is_some (frame_state_group (frame_state_at m.frame_states f))))
+    sum_swap 64 n (λ g f. one_if_is g (frame_state_group (frame_state_at m.frame_states f)))
+    ∙ sum_same n (λ f. sum_to 64 (λ g. one_if_is g (frame_state_group (frame_state_at m.frame_states f)))) (λ f. one_if (is_some (frame_state_group (frame_state_at m.frame_states f))))
     (λ f inside. one_number 64 (frame_state_group (frame_state_at m.frame_states f)) (low f inside))
     ∙ sum_over (λ s. one_if (is_some (frame_state_group s))) m.frame_states n (omega arith)
     ∙ ap frames_in_groups (take_all n m.frame_states (omega arith))

@@ -13,7 +13,7 @@ use Rattle.step_rules.specs.After.{after}
 use Rattle.step_rules.proofs.Basics.{at_same}
 use Rattle.mem_machine.specs.declared.counts.Counts.{Counts}
 use Rattle.mem_machine.specs.Counts.{with_drop}
-use Rattle.mem_machine.specs.Counting.{counts_after, is_back_passing, with_one_put_last, with_one_returned}
+use Rattle.mem_machine.specs.Counting.{counts_after, is_back_passing, one_more_last_put, one_more_return}
 
 module _ (s : State) (f : ℕ) (x : Phase) (is : s.phases f ≡ x) where
   -- the phases after the frame was passed back
@@ -29,17 +29,17 @@ module _ (s : State) (f : ℕ) (x : Phase) (is : s.phases f ≡ x) where
 
   -- a frame that is collected, and isn't a back frame, is no last put
   pub collects_none : is_back_passing (passed_back x) ≡ false → (counts : Counts)
-      → counts ≡ cond (is_back_passing (passed f)) (with_one_put_last counts) counts
-  collects_none other counts = sym (ap (λ (b : Bool). cond b (with_one_put_last counts) counts) (ap is_back_passing passed_at ∙ other))
+      → counts ≡ cond (is_back_passing (passed f)) (one_more_last_put counts) counts
+  collects_none other counts = sym (ap (λ (b : Bool). cond b (one_more_last_put counts) counts) (ap is_back_passing passed_at ∙ other))
 
   -- a unit whose head is passed back, collected and returned
   pub comes_back : (is_back is_killed_return : Bool) → is_back_passing (passed_back x) ≡ is_back → is_killed_return_phase s.killed (collected (passed_back x)) ≡ is_killed_return → (counts : Counts)
-      → (let here = cond is_back (with_one_put_last counts) counts in cond is_killed_return (with_drop here) (with_one_returned here))
-      ≡ (let here = cond (is_back_passing (passed f)) (with_one_put_last counts) counts in
-      cond (is_killed_return_phase s.killed (with_at passed f (collected (passed f)) f)) (with_drop here) (with_one_returned here))
+      → (let here = cond is_back (one_more_last_put counts) counts in cond is_killed_return (with_drop here) (one_more_return here))
+      ≡ (let here = cond (is_back_passing (passed f)) (one_more_last_put counts) counts in
+      cond (is_killed_return_phase s.killed (with_at passed f (collected (passed f)) f)) (with_drop here) (one_more_return here))
   comes_back is_back is_killed_return back drop counts = λ i.
-      let here = cond (sym (ap is_back_passing passed_at ∙ back) i) (with_one_put_last counts) counts in
-      cond (sym (ap (is_killed_return_phase s.killed) collected_at ∙ drop) i) (with_drop here) (with_one_returned here)
+      let here = cond (sym (ap is_back_passing passed_at ∙ back) i) (one_more_last_put counts) counts in
+      cond (sym (ap (is_killed_return_phase s.killed) collected_at ∙ drop) i) (with_drop here) (one_more_return here)
 
 -- a unit that ended is no drop
 no_drop : (killed : ℕ → Bool) (x : Phase) → is_killed_return_phase killed (at_stage Ended x) ≡ false
@@ -49,6 +49,6 @@ no_drop killed (phase.Head unit stage) = refl
 no_drop killed (phase.Tail g) = refl
 
 -- the return of a unit of which the zone had the last reference
-pub returned_ended : (s : State) (f : ℕ) (counts : Counts) → counts_after (after s 0 (Put f) Last) 0 (Return f) Done counts ≡ with_one_returned counts
-returned_ended s f counts = ap (λ (b : Bool). cond b (with_drop counts) (with_one_returned counts))
+pub returned_ended : (s : State) (f : ℕ) (counts : Counts) → counts_after (after s 0 (Put f) Last) 0 (Return f) Done counts ≡ one_more_return counts
+returned_ended s f counts = ap (λ (b : Bool). cond b (with_drop counts) (one_more_return counts))
     (ap (is_killed_return_phase s.killed) (at_same s.phases f (at_stage Ended (s.phases f))) ∙ no_drop s.killed (s.phases f))

@@ -25,7 +25,7 @@ use Rattle.step_rules.specs.State.{State, Part, with_at, sum_to, may_zone_act}
 use Rattle.step_rules.specs.After.{drained, with_more, with_part}
 use Rattle.step_rules.proofs.Basics.{at_same, at_other, at_each, at_itself, cond-ap}
 use Rattle.step_rules.proofs.Sums.{sum_part, sum_change}
-use Rattle.mem_machine.specs.FrameStates.{count_of}
+use Rattle.mem_machine.specs.FrameStates.{one_if_is}
 use Rattle.mem_machine.specs.Machines.{KnownMachine, IsConsistent, booked, frames_charged, pages_booked}
 use Rattle.mem_machine.specs.Local.{local_of, part_of, part_with, IsLocalRun, MakesAs, visit_state}
 use Rattle.mem_machine.specs.Steps.{ungrant_steps, drain_steps, zone_makes}
@@ -94,13 +94,13 @@ module _ (view : StockView) (q n : ℕ) where
     | inr ne ↦ ap h (drained_else p ne) ∙ sym (at_other (λ k. h (account_of view k)) q (h drained_account) p ne)
   ]
 
-pub booked_is : (h : ℕ) (a : Account) (c : ℕ) → count_of h a.group ≡ c → booked h a ≡ cond (c == 0) 0 a.book
+pub booked_is : (h : ℕ) (a : Account) (c : ℕ) → one_if_is h a.group ≡ c → booked h a ≡ cond (c == 0) 0 a.book
 booked_is h a c is = ap (λ (k : ℕ). cond (k == 0) 0 a.book) is
 
-pub counts_own : (h g : ℕ) → h ≡ g → count_of h (Some g) ≡ 1
+pub counts_own : (h g : ℕ) → h ≡ g → one_if_is h (Some g) ≡ 1
 counts_own h g e = cond-true (g == h) 1 0 (eq-eqb g h (sym e))
 
-pub counts_other : (h g : ℕ) → (h ≡ g → ⊥) → count_of h (Some g) ≡ 0
+pub counts_other : (h g : ℕ) → (h ≡ g → ⊥) → one_if_is h (Some g) ≡ 0
 counts_other h g ne = cond-false (g == h) 1 0 (ne_eqb g h (λ e. ne (sym e)))
 
 -- an account with k pages of its group less
@@ -110,13 +110,13 @@ booked_less h g k a group enough =
     let b : Account = record a { book = a.book - k; filled = false } in
     elim (cases_eq h g) [
       | inl e ↦
-          let u : count_of h a.group ≡ 1 = ap (count_of h) group ∙ counts_own h g e in
+          let u : one_if_is h a.group ≡ 1 = ap (one_if_is h) group ∙ counts_own h g e in
           let x : booked h a ≡ a.book = booked_is h a 1 u in
           let y : booked h b ≡ a.book - k = booked_is h b 1 u in
           let z : cond (h == g) k 0 ≡ k = cond-true (h == g) k 0 (eq-eqb h g e) in
           omega (arith, x, y, z, enough)
       | inr ne ↦
-          let u : count_of h a.group ≡ 0 = ap (count_of h) group ∙ counts_other h g ne in
+          let u : one_if_is h a.group ≡ 0 = ap (one_if_is h) group ∙ counts_other h g ne in
           let x : booked h a ≡ 0 = booked_is h a 0 u in
           let y : booked h b ≡ 0 = booked_is h b 0 u in
           let z : cond (h == g) k 0 ≡ 0 = cond-false (h == g) k 0 (ne_eqb h g ne) in
@@ -124,14 +124,14 @@ booked_less h g k a group enough =
     ]
 
 booked_no_group : (h : ℕ) (a : Account) → a.group ≡ None → booked h a ≡ 0
-booked_no_group h a none = booked_is h a 0 (ap (count_of h) none)
+booked_no_group h a none = booked_is h a 0 (ap (one_if_is h) none)
 
 -- what is booked to a CPU's stock is charged to its group
 pub booked_within : (t : KnownTable) (stock : KnownStockSeat) (q g : ℕ) → q ≤ t.cpus → (account_of stock.view q).group ≡ Some g
     → (account_of stock.view q).book ≤ pages_booked t stock g
 booked_within t stock q g inside group =
     let x : booked g (account_of stock.view q) ≡ (account_of stock.view q).book =
-    booked_is g (account_of stock.view q) 1 (ap (count_of g) group ∙ counts_own g g refl) in
+    booked_is g (account_of stock.view q) 1 (ap (one_if_is g) group ∙ counts_own g g refl) in
     let y = sum_part (t.cpus + 1) (λ p. booked g (account_of stock.view p)) q (omega (arith, inside)) in
     omega (arith, x, y)
 

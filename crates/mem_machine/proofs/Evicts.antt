@@ -28,7 +28,7 @@ use Rattle.mem_machine.specs.Machines.{KnownMachine, FitsFrameState, IsConsisten
 use Rattle.mem_machine.specs.Local.{local_of, references_of, visit_state}
 use Rattle.mem_machine.specs.Freeing.{FreesFrames}
 use Rattle.mem_machine.specs.Counts.{with_freeze, with_miss}
-use Rattle.mem_machine.specs.Counting.{with_one_frozen}
+use Rattle.mem_machine.specs.Counting.{one_more_freeze}
 use Rattle.mem_machine.specs.Lists.{LeavesList}
 use Rattle.mem_machine.specs.Evicting.{MissesUnit, EvictsUnit, evict_steps}
 use Rattle.kill_notes.specs.Notes.{KnownNotes, unit_noted}
@@ -165,7 +165,7 @@ evicted_all t w m now same ok f i inside is kept_now links lists left_list stand
     } in
     let back = back_all t w m now same ok f i inside is kept_now links lists left_list stand linked listed (frozen 1) frozen_in_hand seat answered.1
     (Freeze f 1) answer.Done (λ c held. zone_step (local_of t m c) c.number (Freeze f 1) answer.Done refl (may_freeze t m f inside held c) tt) refl (λ c. refl)
-    (with_one_frozen m.counts) (λ c. refl)
+    (one_more_freeze m.counts) (λ c. refl)
     unit head before free blocks frame_states ledger counts was frees_i gives_i areas_free uncharged (rw counted (balanced_freeze m.counts ok.balances)) counted in
     let here : frame_state_at m.frame_states f ≡ Head unit = subst (λ (x : ℕ). frame_state_at m.frame_states x ≡ Head unit) is head in
     let list : LeavesList f (lists_of now) (group_lists links lists) = back.list in

@@ -19,7 +19,7 @@ use Rattle.step_rules.specs.declared.phase.ChargedUnit.{ChargedUnit}
 use Rattle.step_rules.proofs.Sums.{sum_none}
 use Rattle.mem_machine.specs.declared.frame_state.FrameState.{FrameState}
 use Rattle.mem_machine.specs.declared.frame_state.FrameState.TheVariants.{Free, Head, Tail}
-use Rattle.mem_machine.specs.FrameStates.{frame_state_at, free_of, frame_state_group, count_of, AreUnits}
+use Rattle.mem_machine.specs.FrameStates.{frame_state_at, free_of, frame_state_group, one_if_is, AreUnits}
 use Rattle.mem_machine.specs.Start.{AreEmpty}
 use Rattle.mem_machine.specs.Counts.{no_counts}
 use Rattle.mem_machine.specs.Machines.{KnownMachine, FitsFrameState, IsConsistent, IsFirst, BalancesCounts, home_of, frames_charged, pages_booked, booked}
@@ -116,7 +116,7 @@ module _ (t : KnownTable) (w : KnownStockTable) (m : KnownMachine) (first : IsFi
   charged_first g =
       let pages : pages_of m.ledger g ≡ 0 = ap (λ (l : Ledger). pages_of l g) first.ledger ∙ no_pages g in
       let frames : frames_charged m.frame_states g ≡ 0 =
-      sum_none (length m.frame_states) (λ f. count_of g (frame_state_group (frame_state_at m.frame_states f))) (λ f inside. ap (λ (x : FrameState). count_of g (frame_state_group x)) (all_free f)) in
+      sum_none (length m.frame_states) (λ f. one_if_is g (frame_state_group (frame_state_at m.frame_states f))) (λ f inside. ap (λ (x : FrameState). one_if_is g (frame_state_group x)) (all_free f)) in
       let books : pages_booked t m.stock_seat g ≡ 0 =
       sum_none (t.cpus + 1) (λ p. booked g (account_of m.stock_seat.view p)) (λ p inside. ap (λ (x : KnownStockSeat). booked g (account_of x.view p)) first.stock_seat) in
       omega (arith, pages, frames, books)

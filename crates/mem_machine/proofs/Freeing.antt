@@ -28,7 +28,7 @@ use Rattle.step_rules.proofs.Placing.{within_cases}
 use Rattle.mem_machine.specs.declared.frame_state.FrameState.{FrameState}
 use Rattle.mem_machine.specs.declared.frame_state.FrameState.TheVariants.{Free, Head, Tail}
 use Rattle.mem_machine.specs.declared.counts.Counts.{Counts}
-use Rattle.mem_machine.specs.FrameStates.{frame_state_at, is_free, free_of, frame_state_group, head_group_of, count_of, AreUnits, IsUnitAt}
+use Rattle.mem_machine.specs.FrameStates.{frame_state_at, is_free, free_of, frame_state_group, head_group_of, one_if_is, AreUnits, IsUnitAt}
 use Rattle.mem_machine.specs.Machines.{KnownMachine, FitsFrameState, IsConsistent, BalancesCounts, home_of, frames_charged}
 use Rattle.mem_machine.specs.Freeing.{FreesFrames}
 use Rattle.mem_machine.proofs.Records.{free_at, length_free}
@@ -218,13 +218,13 @@ module _ (frame_states new : List FrameState) (f : ℕ) (unit : ChargedUnit) (he
       told_unit x = unit
 
   -- the frames of the unit are charged to its group no more
-  one_less : (g x : ℕ) → count_of g (frame_state_group (frame_state_at frame_states x))
-      ≡ count_of g (frame_state_group (frame_state_at new x)) + cond (g == unit.group) (one_if (is_within f n x)) 0
+  one_less : (g x : ℕ) → one_if_is g (frame_state_group (frame_state_at frame_states x))
+      ≡ one_if_is g (frame_state_group (frame_state_at new x)) + cond (g == unit.group) (one_if (is_within f n x)) 0
   one_less g x = elim (within_cases f n x) [
     | inl w ↦
-        let now : count_of g (frame_state_group (frame_state_at new x)) ≡ 0 = ap (λ (s : FrameState). count_of g (frame_state_group s)) (frame_state_in x w.0) in
+        let now : one_if_is g (frame_state_group (frame_state_at new x)) ≡ 0 = ap (λ (s : FrameState). one_if_is g (frame_state_group s)) (frame_state_in x w.0) in
         let one : one_if (is_within f n x) ≡ 1 = ap one_if w.0 in
-        let was : count_of g (frame_state_group (frame_state_at frame_states x)) ≡ cond (unit.group == g) 1 0 = ap (count_of g) (group_in x w.1 w.2) in
+        let was : one_if_is g (frame_state_group (frame_state_at frame_states x)) ≡ cond (unit.group == g) 1 0 = ap (one_if_is g) (group_in x w.1 w.2) in
         elim (cases_eq g unit.group) [
           | inl e ↦
               let a : ◌≡◌ {A = ℕ} (cond (unit.group == g) 1 0) 1 = cond-true (unit.group == g) 1 0 (eq-eqb unit.group g (sym e)) in
@@ -237,8 +237,8 @@ module _ (frame_states new : List FrameState) (f : ℕ) (unit : ChargedUnit) (he
               omega (arith, now, was, a, b)
         ]
     | inr out ↦
-        let same : count_of g (frame_state_group (frame_state_at frame_states x)) ≡ count_of g (frame_state_group (frame_state_at new x)) =
-        ap (λ (s : FrameState). count_of g (frame_state_group s)) (sym (frame_state_out x out.0)) in
+        let same : one_if_is g (frame_state_group (frame_state_at frame_states x)) ≡ one_if_is g (frame_state_group (frame_state_at new x)) =
+        ap (λ (s : FrameState). one_if_is g (frame_state_group s)) (sym (frame_state_out x out.0)) in
         let none : one_if (is_within f n x) ≡ 0 = ap one_if out.0 in
         let zero_is : cond (g == unit.group) (one_if (is_within f n x)) 0 ≡ 0 =
         ap (λ (k : ℕ). cond (g == unit.group) k 0) none ∙ cond_zero (g == unit.group) in
@@ -259,11 +259,11 @@ module _ (frame_states new : List FrameState) (f : ℕ) (unit : ChargedUnit) (he
   pub charges_freed : (g : ℕ) → frames_charged frame_states g ≡ frames_charged new g + cond (g == unit.group) n 0
   charges_freed g =
       let l = length frame_states in
-      let a : frames_charged new g ≡ sum_to l (λ x. count_of g (frame_state_group (frame_state_at new x))) =
-      ap (λ (k : ℕ). sum_to k (λ x. count_of g (frame_state_group (frame_state_at new x)))) frees.frames in
-      let b = sum_same l (λ x. count_of g (frame_state_group (frame_state_at frame_states x)))
-      (λ x. count_of g (frame_state_group (frame_state_at new x)) + cond (g == unit.group) (one_if (is_within f n x)) 0) (λ x below. one_less g x) in
-      let c = sum_both l (λ x. count_of g (frame_state_group (frame_state_at new x))) (λ x. cond (g == unit.group) (one_if (is_within f n x)) 0) in
+      let a : frames_charged new g ≡ sum_to l (λ x. one_if_is g (frame_state_group (frame_state_at new x))) =
+      ap (λ (k : ℕ). sum_to k (λ x. one_if_is g (frame_state_group (frame_state_at new x)))) frees.frames in
+      let b = sum_same l (λ x. one_if_is g (frame_state_group (frame_state_at frame_states x)))
+      (λ x. one_if_is g (frame_state_group (frame_state_at new x)) + cond (g == unit.group) (one_if (is_within f n x)) 0) (λ x below. one_less g x) in
+      let c = sum_both l (λ x. one_if_is g (frame_state_group (frame_state_at new x))) (λ x. cond (g == unit.group) (one_if (is_within f n x)) 0) in
       let d = sum_of g l mine.block.inside in
       omega (arith, a, b, c, d)
 

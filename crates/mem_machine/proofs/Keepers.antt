@@ -9,12 +9,12 @@ use Rattle.step_rules.proofs.Sums.{sum_part}
 use Rattle.mem_machine.specs.declared.frame_state.FrameState.{FrameState}
 use Rattle.mem_machine.specs.declared.frame_state.FrameState.TheVariants.{Free, Lent, Head, Tail}
 use Rattle.mem_machine.specs.declared.frame_state.Place.TheVariants as place
-use Rattle.mem_machine.specs.FrameStates.{frame_state_at, place_of, frame_state_group, count_of}
+use Rattle.mem_machine.specs.FrameStates.{frame_state_at, place_of, frame_state_group, one_if_is}
 use Rattle.mem_machine.specs.Machines.{KnownMachine, IsConsistent, frames_charged}
 use Rattle.mem_machine.proofs.Draining.{charged_there}
 
 -- a frame that is charged to the group counts as one
-counts : (s : FrameState) (g : ℕ) → place_of s ≡ place.Charged g → count_of g (frame_state_group s) ≡ 1
+counts : (s : FrameState) (g : ℕ) → place_of s ≡ place.Charged g → one_if_is g (frame_state_group s) ≡ 1
 counts Free g is = cc
 counts (Lent p) g is = cc
 counts (Head unit) g is = let e : unit.group ≡ g = cc in ap (λ b. cond b 1 0) (eq-eqb unit.group g e)
@@ -26,7 +26,7 @@ pub keeper_there : (t : KnownTable) (w : KnownStockTable) (m : KnownMachine) (f 
 keeper_there t w m f g good legal inside is =
     let one = counts (frame_state_at m.frame_states f) g is in
     let sized = good.sizes.frame_states in
-    let part = sum_part (length m.frame_states) (λ (x : ℕ). count_of g (frame_state_group (frame_state_at m.frame_states x))) f (omega arith) in
+    let part = sum_part (length m.frame_states) (λ (x : ℕ). one_if_is g (frame_state_group (frame_state_at m.frame_states x))) f (omega arith) in
     let all = good.charged g in
     let some : 1 ≤ frames_charged m.frame_states g = omega (arith, one, part) in
     charged_there m.ledger g legal (omega (arith, all, some))

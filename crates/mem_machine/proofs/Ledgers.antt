@@ -20,7 +20,7 @@ use Rattle.step_rules.specs.State.{one_if, sum_to}
 use Rattle.step_rules.specs.Usage.{is_below}
 use Rattle.step_rules.proofs.Sums.{sum_same, sum_none, sum_both, sum_part, sum_swap, sum_only}
 use Rattle.mem_machine.specs.declared.frame_state.FrameState.{FrameState}
-use Rattle.mem_machine.specs.FrameStates.{frame_state_at, frame_state_group, count_of}
+use Rattle.mem_machine.specs.FrameStates.{frame_state_at, frame_state_group, one_if_is}
 use Rattle.mem_machine.specs.Machines.{KnownMachine, IsConsistent, booked, pages_booked}
 
 abbrev nothing : ℕ
@@ -125,26 +125,26 @@ module _ (groups : List Group) (g : ℕ) where
   picked_none : (F : ℕ → ℕ) → ((h : ℕ) → F h ≡ 0) → sum_to 64 (λ h. cond (in_subtree groups g h) (F h) 0) ≡ 0
   picked_none F none = sum_none 64 _ (λ h lt. ap (λ (x : ℕ). cond (in_subtree groups g h) x 0) (none h) ∙ cond_zero (in_subtree groups g h))
 
-  count_own : (k : ℕ) → count_of k (Some k) ≡ 1
+  count_own : (k : ℕ) → one_if_is k (Some k) ≡ 1
   count_own k = ap (λ (b : Bool). cond b 1 0) (eq-eqb k k refl)
 
-  count_other : (k h : ℕ) → (h ≡ k → ⊥) → count_of h (Some k) ≡ 0
+  count_other : (k h : ℕ) → (h ≡ k → ⊥) → one_if_is h (Some k) ≡ 0
   count_other k h ne = ap (λ (b : Bool). cond b 1 0) (ne_eqb k h (λ e. ne (sym e)))
 
   frame_counts : (o : Option ℕ) → ((k : ℕ) → o ≡ Some k → k < 64)
-      → sum_to 64 (λ h. cond (in_subtree groups g h) (count_of h o) 0) ≡ one_if (is_below groups g o)
+      → sum_to 64 (λ h. cond (in_subtree groups g h) (one_if_is h o) 0) ≡ one_if (is_below groups g o)
   frame_counts None small = picked_none (λ h. 0) (λ h. refl)
-  frame_counts (Some k) small = picked k 1 (λ h. count_of h (Some k)) (small k refl) (count_own k) (count_other k) ∙ cond_one (in_subtree groups g k)
+  frame_counts (Some k) small = picked k 1 (λ h. one_if_is h (Some k)) (small k refl) (count_own k) (count_other k) ∙ cond_one (in_subtree groups g k)
 
   book_counts : (o : Option ℕ) (b : ℕ) → ((k : ℕ) → o ≡ Some k → (k < 64) ⊎ (b ≡ 0))
-      → sum_to 64 (λ h. cond (in_subtree groups g h) (cond (count_of h o == 0) 0 b) 0) ≡ cond (is_below groups g o) b 0
+      → sum_to 64 (λ h. cond (in_subtree groups g h) (cond (one_if_is h o == 0) 0 b) 0) ≡ cond (is_below groups g o) b 0
   book_counts None b small = picked_none (λ h. 0) (λ h. refl)
   book_counts (Some k) b small = elim (small k refl) [
-    | inl inside ↦ picked k b (λ h. cond (count_of h (Some k) == 0) 0 b) inside (ap (λ (n : ℕ). cond (n == 0) 0 b) (count_own k))
+    | inl inside ↦ picked k b (λ h. cond (one_if_is h (Some k) == 0) 0 b) inside (ap (λ (n : ℕ). cond (n == 0) 0 b) (count_own k))
         (λ h ne. ap (λ (n : ℕ). cond (n == 0) 0 b) (count_other k h ne))
     | inr none ↦
-        picked_none (λ h. cond (count_of h (Some k) == 0) 0 b)
-        (λ h. ap (λ (x : ℕ). cond (count_of h (Some k) == 0) 0 x) none ∙ cond_zero (count_of h (Some k) == 0))
+        picked_none (λ h. cond (one_if_is h (Some k) == 0) 0 b)
+        (λ h. ap (λ (x : ℕ). cond (one_if_is h (Some k) == 0) 0 x) none ∙ cond_zero (one_if_is h (Some k) == 0))
         ∙ sym (ap (λ (x : ℕ). cond (in_subtree groups g k) x 0) none ∙ cond_zero (in_subtree groups g k))
   ]
 
@@ -161,7 +161,7 @@ module _ (t : KnownTable) (w : KnownStockTable) (m : KnownMachine) (is : IsConsi
   book p = account_of m.stock_seat.view p
 
   abbrev frame_count : ℕ → ℕ → ℕ
-  frame_count h f = count_of h (frame_state_group (frame_state f))
+  frame_count h f = one_if_is h (frame_state_group (frame_state f))
 
   abbrev book_count : ℕ → ℕ → ℕ
   book_count h p = booked h (book p)
@@ -174,7 +174,7 @@ module _ (t : KnownTable) (w : KnownStockTable) (m : KnownMachine) (is : IsConsi
         let all = is.charged k in
         let sized = is.sizes.frame_states in
         let part = sum_part (length m.frame_states) (frame_count k) f (omega arith) in
-        let one : frame_count k f ≡ 1 = ap (λ (o : Option ℕ). count_of k o) at ∙ ap (λ (b : Bool). cond b 1 0) (eq-eqb k k refl) in
+        let one : frame_count k f ≡ 1 = ap (λ (o : Option ℕ). one_if_is k o) at ∙ ap (λ (b : Bool). cond b 1 0) (eq-eqb k k refl) in
         omega arith)
   ]
 
@@ -185,7 +185,7 @@ module _ (t : KnownTable) (w : KnownStockTable) (m : KnownMachine) (is : IsConsi
         let none = none_beyond m.ledger k charges beyond in
         let all = is.charged k in
         let part = sum_part (t.cpus + 1) (book_count k) p inside in
-        let one : count_of k (book p).group ≡ 1 = ap (λ (o : Option ℕ). count_of k o) at ∙ ap (λ (b : Bool). cond b 1 0) (eq-eqb k k refl) in
+        let one : one_if_is k (book p).group ≡ 1 = ap (λ (o : Option ℕ). one_if_is k o) at ∙ ap (λ (b : Bool). cond b 1 0) (eq-eqb k k refl) in
         let whole : book_count k p ≡ (book p).book = ap (λ (n : ℕ). cond (n == 0) 0 (book p).book) one in
         omega arith)
   ]

@@ -31,7 +31,7 @@ use Rattle.step_rules.proofs.Basics.{at_same, at_other, at_each}
 use Rattle.step_rules.proofs.Sums.{sum_change}
 use Rattle.mem_machine.specs.declared.frame_state.FrameState.{FrameState}
 use Rattle.mem_machine.specs.declared.frame_state.FrameState.TheVariants.{Free, Lent, Head, Tail}
-use Rattle.mem_machine.specs.FrameStates.{frame_state_at, count_of}
+use Rattle.mem_machine.specs.FrameStates.{frame_state_at, one_if_is}
 use Rattle.mem_machine.specs.Machines.{KnownMachine, IsConsistent, Visits, is_killed, booked, pages_booked}
 use Rattle.mem_machine.specs.Local.{local_of, phase_of, part_of, part_with, Makes, visit_state, MakesAs}
 use Rattle.mem_machine.specs.Steps.{drain_steps, fill_steps, over_steps, zone_makes}
@@ -70,7 +70,7 @@ module _ (view : StockView) (q g n : ℕ) where
 pub booked_more : (h g k : ℕ) (a : Account) → a.book ≡ 0 → booked h (record a { book = a.book + k; group = Some g; filled = true }) ≡ booked h a + cond (h == g) k 0
 booked_more h g k a empty =
     let b : Account = record a { book = a.book + k; group = Some g; filled = true } in
-    let none : booked h a ≡ 0 = ap (λ (x : ℕ). cond (count_of h a.group == 0) 0 x) empty ∙ cond-same (count_of h a.group == 0) 0 in
+    let none : booked h a ≡ 0 = ap (λ (x : ℕ). cond (one_if_is h a.group == 0) 0 x) empty ∙ cond-same (one_if_is h a.group == 0) 0 in
     elim (cases_eq h g) [
       | inl e ↦
           let y : booked h b ≡ a.book + k = booked_is h b 1 (counts_own h g e) in

@@ -20,7 +20,7 @@ use Rattle.step_rules.proofs.Sums.{sum_same}
 use Rattle.lru_lists.specs.declared.record.Link.{Link}
 use Rattle.mem_machine.specs.declared.frame_state.FrameState.{FrameState}
 use Rattle.mem_machine.specs.declared.frame_state.FrameState.TheVariants.{Free, Lent, Head, Tail}
-use Rattle.mem_machine.specs.FrameStates.{frame_state_at, is_free, free_of, frame_state_group, count_of, is_in_hand, some_cpu, lent_to, AreUnits}
+use Rattle.mem_machine.specs.FrameStates.{frame_state_at, is_free, free_of, frame_state_group, one_if_is, is_in_hand, some_cpu, lent_to, AreUnits}
 use Rattle.mem_machine.specs.Machines.{FitsFrameState, home_of, frames_charged}
 
 -- ---- which frames are free
@@ -179,10 +179,10 @@ module _ (frame_states : List FrameState) (f : ℕ) (x : FrameState) (inside : f
 
   pub charges_stay : (g : ℕ) → frames_charged (slice_set frame_states f x) g ≡ frames_charged frame_states g
   charges_stay g =
-      ap (λ (n : ℕ). sum_to n (λ y. count_of g (frame_state_group (frame_state_at (slice_set frame_states f x) y)))) (length-set frame_states f x)
-      ∙ sum_same (length frame_states) (λ y. count_of g (frame_state_group (frame_state_at (slice_set frame_states f x) y))) (λ y. count_of g (frame_state_group (frame_state_at frame_states y)))
+      ap (λ (n : ℕ). sum_to n (λ y. one_if_is g (frame_state_group (frame_state_at (slice_set frame_states f x) y)))) (length-set frame_states f x)
+      ∙ sum_same (length frame_states) (λ y. one_if_is g (frame_state_group (frame_state_at (slice_set frame_states f x) y))) (λ y. one_if_is g (frame_state_group (frame_state_at frame_states y)))
       (λ y within. elim (cases_eq y f) [
-        | inl e ↦ ap (count_of g) (ap (λ (k : ℕ). frame_state_group (frame_state_at (slice_set frame_states f x) k)) e ∙ ap frame_state_group (get_or-set_same frame_states f x Free inside) ∙ now
+        | inl e ↦ ap (one_if_is g) (ap (λ (k : ℕ). frame_state_group (frame_state_at (slice_set frame_states f x) k)) e ∙ ap frame_state_group (get_or-set_same frame_states f x Free inside) ∙ now
             ∙ sym was ∙ ap (λ (k : ℕ). frame_state_group (frame_state_at frame_states k)) (sym e))
-        | inr ne ↦ ap (λ (z : FrameState). count_of g (frame_state_group z)) (get_or-set_other frame_states f y x Free ne)
+        | inr ne ↦ ap (λ (z : FrameState). one_if_is g (frame_state_group z)) (get_or-set_other frame_states f y x Free ne)
       ])

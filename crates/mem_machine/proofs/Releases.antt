@@ -41,7 +41,7 @@ use Rattle.mem_machine.specs.FrameStates.{frame_state_at, free_of, head_group_of
 use Rattle.mem_machine.specs.Machines.{KnownMachine, FitsFrameState, IsConsistent, Visits, BalancesCounts, home_of, is_killed, group_lists, lists_of}
 use Rattle.mem_machine.specs.Local.{IsLocalRun, local_of, phase_of, references_of, visit_state}
 use Rattle.mem_machine.specs.Counts.{with_last_put}
-use Rattle.mem_machine.specs.Counting.{counts_after, with_one_put_last, with_one_returned}
+use Rattle.mem_machine.specs.Counting.{counts_after, one_more_last_put, one_more_return}
 use Rattle.mem_machine.specs.Freeing.{FreesFrames}
 use Rattle.mem_machine.specs.Lists.{LeavesList}
 use Rattle.mem_machine.specs.Releasing.{ReturnsUnit, release_steps}
@@ -340,7 +340,7 @@ pub back_all : (t : KnownTable) (w : KnownStockTable) (m now : KnownMachine) →
     → (before free : List Bool) (blocks : List Block) (frame_states : List FrameState) (ledger : Ledger) (counts : Counts)
     → before ≡ free_of m.frame_states → FreesFrames i (2 ^ unit.order) m.frame_states frame_states → GivesFrames before (record { at = i; order = unit.order }) free
     → AreMaximalBlocks free blocks → ledger ≡ with_uncharge m.ledger unit.group (2 ^ unit.order) → BalancesCounts counts
-    → counts ≡ with_one_returned one
+    → counts ≡ one_more_return one
     → AllBack t w now f unit free (zone_makes action answered ∷ zone_makes (Return f) answer.Done ∷ []) (record m {
       blocks = blocks;
       frame_states = frame_states;
@@ -390,7 +390,7 @@ back_all t w m now same ok f i inside is kept_now links lists left_list stand li
               (return_runs t w m ok f inside kept links lists leaves stand sized listed unit heads c change takes frame_states blocks counts frees),
         );
         counts = counted ∙ sym (ap (λ (s : State). counts_after s 0 (Return f) answer.Done (counts_after (local_of t m c) 0 action answered m.counts)) (ends c)
-            ∙ returned_ended (local_of t m c) f (counts_after (local_of t m c) 0 action answered m.counts) ∙ ap with_one_returned (ending c));
+            ∙ returned_ended (local_of t m c) f (counts_after (local_of t m c) 0 action answered m.counts) ∙ ap one_more_return (ending c));
         follows = follows_still _ m.ledger steps _ (and_from _ _ still refl) (uncharge_peaks m.ledger unit.group (2 ^ unit.order))
             (uncharge_events m.ledger unit.group (2 ^ unit.order));
       };
@@ -435,7 +435,7 @@ returned_all t w m now same ok f i inside is kept_now links lists left_list stan
     ledger counts was frees_i gives_i areas_free uncharged counted =
     let back = back_all t w m now same ok f i inside is kept_now links lists left_list stand linked listed let_go_last last_in_hand seat put
     (Put f) answer.Last (λ c held. zone_step (local_of t m c) c.number (Put f) answer.Last refl (may_put_one t m f inside held c) tt) refl (λ c. refl)
-    (with_one_put_last m.counts) (λ c. refl)
+    (one_more_last_put m.counts) (λ c. refl)
     unit head before free blocks frame_states ledger counts was frees_i gives_i areas_free uncharged (rw counted (balanced_last_put m.counts ok.balances)) counted in
     record {
       consistent = back.consistent;

@@ -26,28 +26,28 @@ is_back_passing (Head unit stage) = is_stage_back_passing stage
 is_back_passing phase = false
 
 -- one more last put
-abbrev pub with_one_put_last : Counts → Counts
-with_one_put_last counts = record counts { last_puts = one_more counts.last_puts }
+abbrev pub one_more_last_put : Counts → Counts
+one_more_last_put counts = record counts { last_puts = one_more counts.last_puts }
 
 -- one more freeze
-abbrev pub with_one_frozen : Counts → Counts
-with_one_frozen counts = record counts { freezes = one_more counts.freezes }
+abbrev pub one_more_freeze : Counts → Counts
+one_more_freeze counts = record counts { freezes = one_more counts.freezes }
 
 -- one more unit freed
-abbrev pub with_one_returned : Counts → Counts
-with_one_returned counts = record counts { returns = one_more counts.returns }
+abbrev pub one_more_return : Counts → Counts
+one_more_return counts = record counts { returns = one_more counts.returns }
 
 -- The counts after a step with its answer, by the state before it; a count stays at its greatest value. A last put
 -- counts if the zone made it, or when the zone collects the back frame. A freeze counts as done or as missed, by its
 -- answer. A freed unit counts, and also as a drop if it was a fresh frame of a killed group.
 abbrev pub counts_after : State → (seat : ℕ) → Action → Answer → Counts → Counts
-counts_after state seat (Put frame) Last counts = if seat == 0 then with_one_put_last counts else counts
+counts_after state seat (Put frame) Last counts = if seat == 0 then one_more_last_put counts else counts
 counts_after state seat (Collect frame cpu) Done counts =
-    if is_back_passing (state.phases frame) then with_one_put_last counts else counts
-counts_after state seat (Freeze frame references) Done counts = with_one_frozen counts
+    if is_back_passing (state.phases frame) then one_more_last_put counts else counts
+counts_after state seat (Freeze frame references) Done counts = one_more_freeze counts
 counts_after state seat (Freeze frame references) Missed counts = with_miss counts
 counts_after state seat (Return frame) Done counts =
-    if is_killed_return_phase state.killed (state.phases frame) then with_drop counts else with_one_returned counts
+    if is_killed_return_phase state.killed (state.phases frame) then with_drop counts else one_more_return counts
 counts_after state seat action answer counts = counts
 
 -- the counts after all steps of a list, the first of which is made in this state

@@ -62,9 +62,9 @@ place_of (Head unit) = place.Charged unit.group
 place_of (Tail group) = place.Charged group
 
 -- 1 if the number is the wanted one, else 0
-abbrev pub count_of : ℕ → Option ℕ → ℕ
-count_of wanted None = 0
-count_of wanted (Some number) = if number == wanted then 1 else 0
+abbrev pub one_if_is : ℕ → Option ℕ → ℕ
+one_if_is wanted None = 0
+one_if_is wanted (Some number) = if number == wanted then 1 else 0
 
 -- the unit's frames are a block of the zone, and all but the head are tails of the unit's group
 pub record IsUnitAt (frame_states : List FrameState) (frame : ℕ) (unit : ChargedUnit) : Type 0 where

@@ -35,7 +35,7 @@ use Rattle.kill_notes.specs.Notes.{KnownNotes, forgotten, no_notes, noted}
 pub use Rattle.mem_machine.specs.Counts.{BalancesCounts}
 use Rattle.mem_machine.specs.Counts.{no_counts}
 use Rattle.mem_machine.specs.FrameStates.{AreUnits, frame_state_at, free_of, is_in_hand, some_cpu, lent_to}
-use Rattle.mem_machine.specs.FrameStates.{frame_state_group, head_group_of, count_of}
+use Rattle.mem_machine.specs.FrameStates.{frame_state_group, head_group_of, one_if_is}
 
 -- The machine holds the free areas, a record for each frame, and the groups with their charges. It holds the links of
 -- all kept units, and two lists for each group number. It holds the zone's seats at the two tables, and which group
@@ -139,11 +139,11 @@ is_killed killed group = slice_index_or killed group false
 -- how many frames are charged to the group itself
 abbrev pub frames_charged : List FrameState → ℕ → ℕ
 frames_charged frame_states group = sum_to (length frame_states)
-    (λ frame. count_of group (frame_state_group (frame_state_at frame_states frame)))
+    (λ frame. one_if_is group (frame_state_group (frame_state_at frame_states frame)))
 
--- the pages of a CPU's book if its stock is of the group, else 0
+-- the pages booked to a CPU's stock if that is of the group, else 0
 abbrev pub booked : ℕ → Account → ℕ
-booked group account = if count_of group account.group == 0 then 0 else account.book
+booked group account = if one_if_is group account.group == 0 then 0 else account.book
 
 -- how many pages are booked to the stocks of the group itself
 abbrev pub pages_booked : KnownTable → KnownStockSeat → ℕ → ℕ
@@ -177,9 +177,9 @@ pub record AreZoneSeats (frame_table : KnownTable) (stock_table : KnownStockTabl
 
 -- The machine is consistent. Its sizes are those of the tables, and its seats are the zone's. The free areas are the
 -- maximal blocks of the free frames. Each frame's record agrees with the zone's seat and the lists. The charged frames
--- make up units. All lists agree with the links. No reported page is unabsorbed, and each book fits a stock word. The
--- own charge of a group is the frames charged to it and the books of its stocks. The units freed are the last puts,
--- freezes and drops together, or the greatest count if that is less.
+-- make up units. All lists agree with the links. No reported page is unabsorbed, and the pages booked to each stock
+-- fit a stock word. The own charge of a group is the frames charged to it and the pages booked to its stocks. The units
+-- freed are the last puts, freezes and drops together, or the greatest count if that is less.
 pub record IsConsistent (table : KnownTable) (stock_table : KnownStockTable) (machine : KnownMachine) : Type 0 where
   pub sizes : AreSized table stock_table machine
   pub seats : AreZoneSeats table stock_table machine.frame_seat machine.stock_seat

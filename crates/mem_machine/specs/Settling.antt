@@ -30,7 +30,7 @@ use Rattle.mem_machine.specs.Freeing.{FreesFrames}
 abbrev pub with_page_absorbed : KnownStockSeat → ℕ → KnownStockSeat
 with_page_absorbed seat cpu = with_view seat (with_steps 1 (absorbing (noting seat.view cpu 1) cpu))
 
--- at least one page of the account's book isn't reported yet
+-- at least one of the pages booked in the account isn't reported yet
 abbrev pub HasUnreportedPage : Account → Type 0
 HasUnreportedPage account = 1 + account.unabsorbed ≤ account.book
 
@@ -41,8 +41,7 @@ pub record IsVisitedAt (table : KnownTable) (seat : KnownSeat) (cpu : KnownCpu) 
   pub still : NothingPasses table seat cpu.frame_seat
 
 -- What the zone's seats know of a fresh frame of the CPU. The zone has no reference on it and doesn't own it; it is
--- lent to the CPU. A page for it is in the book of the CPU's stock, and the CPU and the zone agree on the stock's
--- group.
+-- lent to the CPU. A page for it is booked to the CPU's stock, and the CPU and the zone agree on the stock's group.
 pub record KnowsFresh (table : KnownTable) (seat : KnownSeat) (stock : KnownStockSeat)
     (cpu : KnownCpu) (frame : ℕ) : Type 0 where
   pub inside : frame < table.frames
@@ -61,7 +60,7 @@ pub record HandsOver (frame : ℕ) (before after : KnownCpu) : Type 0 where
   }
 
 -- The oldest fresh frame becomes a kept unit of one frame, of this group. It is in use, has one reference of the zone,
--- and is on the group's inactive list. Its page leaves the book and stays charged, now for the frame.
+-- and is on the group's inactive list. Its page stays charged, now for the frame, and is no longer booked to the stock.
 pub record KeepsFresh (group frame : ℕ) (before after : VisitState) : Type 0 where
   pub listed : ListsUnit group frame before.machine after.machine
   pub machine : after.machine ≡ record before.machine {
@@ -74,7 +73,7 @@ pub record KeepsFresh (group frame : ℕ) (before after : VisitState) : Type 0 w
   }
   pub cpu : HandsOver frame before.cpu after.cpu
 
--- a drop: the oldest fresh frame is free again, and its page leaves the book and the group's charge
+-- a drop: the oldest fresh frame is free again, and its page is no longer booked to the stock, nor charged to the group
 pub record DropsFresh (group frame : ℕ) (before after : VisitState) : Type 0 where
   pub frees : FreesFrames frame 1 before.machine.frame_states after.machine.frame_states
   pub areas : AreMaximalBlocks (free_of after.machine.frame_states) after.machine.blocks
@@ -161,7 +160,7 @@ pub record Settles (before after : VisitState) : Type 0 where
 
 -- ---- the steps
 
--- the steps by which the zone takes over a fresh frame, and its page leaves the book
+-- the steps by which the zone takes over a fresh frame, whose page is booked to the stock no longer
 abbrev pub collect_steps : ℕ → ℕ → Run
 collect_steps cpu frame =
     cpu_makes cpu (PassBack frame) Done

@@ -35,7 +35,7 @@ IsDrained machine cpu = (account_of machine.stock_seat.view cpu).filled ≡ fals
 abbrev pub FitsStock : ℕ → Type 0
 FitsStock pages = (0 < pages) × (pages < 65536)
 
--- how many pages are in the CPU's stock: its book without the pages that paid for fresh frames
+-- how many pages are in the CPU's stock: those booked to it without those that paid for fresh frames
 abbrev pub pages_held : VisitState → ℕ
 pages_held now = (account_of now.machine.stock_seat.view now.cpu.number).book - length now.cpu.fresh
 
@@ -51,8 +51,8 @@ abbrev pub steps_to_drain : Option ℕ → ℕ
 steps_to_drain None = 1
 steps_to_drain (Some group) = 3
 
--- The zone's seat drains the CPU's stock of this many pages, by this many steps. The pages leave the stock's book and
--- the charge of its group. A stock that is already drained gives 0 pages.
+-- The zone's seat drains the CPU's stock of this many pages, by this many steps. They are no longer booked to the
+-- stock, nor charged to its group. A stock that is already drained gives 0 pages.
 pub record DrainsBy (steps cpu pages : ℕ) (before after : KnownMachine) : Type 0 where
   pub machine : after ≡ record before {
     ledger = uncharged before.ledger (stock_group before cpu) pages;

@@ -10,8 +10,8 @@
 //! - A `FrameState` is the record of one frame: free, lent, or in a charged unit.
 //! - A lent frame is fresh from the time it is taken and paid for until the CPU is settled. A back frame heads a unit
 //!   whose last reference the CPU put.
-//! - A stock's book is all that was charged through it: the pages in it, those that paid for fresh frames, and those
-//!   that are reported and not absorbed yet.
+//! - The pages booked to a stock are all that were charged through it: the pages in it, those that paid for fresh
+//!   frames, and those that are reported and not absorbed yet. In the stock's account they are its `book`.
 //! - A `VisitState` is the machine with the part of the CPU that holds its lock. `Visits` says that this CPU's visit is
 //!   open. A visit lasts from `open` to `shut`, and frames are handed over only inside it.
 //! - `local_of` is what a visit state shows, in the words of the rules. `Makes` says that a list of steps leads from
@@ -24,6 +24,7 @@
 
 mod ageing;
 mod blocks;
+mod booked_seat;
 mod counts;
 mod evicting;
 mod frame_state;
@@ -42,7 +43,6 @@ mod releasing;
 mod settling;
 mod showing;
 mod start;
-mod stock_ledger;
 mod stocks;
 mod visits;
 mod watching;

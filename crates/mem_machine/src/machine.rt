@@ -6,10 +6,10 @@ ghost use Rattle.step_watch.specs.Watched.{watch_off};
 ghost use Rattle.stock_word.specs.Stock.{first_zone_stock};
 ghost use Rattle.mem_machine.specs.Machines.{IsConsistent, IsFirst};
 
+use crate::booked_seat::BookedSeat;
 use crate::counts::Counts;
 use crate::frame_state::FrameState;
 use crate::start::{frame_rooms, group_rooms};
-use crate::stock_ledger::StockLedger;
 use cpu_part::{BootName, Tables};
 use frame_word::FrameSeat;
 use group_charge::charges::Charges;
@@ -29,7 +29,7 @@ pub struct Machine<N: BootName> {
     pub(crate) zone: Buddy,
     // A record for each frame, by its number.
     pub(crate) frame_states: Vec<FrameState>,
-    // The groups, with the pages charged to each: its frames, and the books of its stocks.
+    // The groups, with the pages charged to each: its frames, and the pages booked to its stocks.
     pub(crate) charges: Charges,
     // A link for each frame, by its number. Only the heads of kept units are linked into their groups' lists.
     pub(crate) links: Links,
@@ -38,9 +38,9 @@ pub struct Machine<N: BootName> {
     // The zone's seat at the frames' table: which frames are in its hand, which frames it lent to which CPU, and its
     // references, one on the head of each kept unit.
     pub(crate) frame_seat: FrameSeat,
-    // The zone's seat at the stocks' table: the group and the book of each CPU's stock, 0 to 65,535 pages. Between two
-    // calls no reported page is unabsorbed.
-    pub(crate) stock_seat: StockLedger<N>,
+    // The zone's seat at the stocks' table: the group of each CPU's stock, and the pages booked to it, 0 to 65,535.
+    // Between two calls no reported page is unabsorbed.
+    pub(crate) stock_seat: BookedSeat<N>,
     // Whether each of the 64 group numbers is killed, by the number.
     pub(crate) killed: Vec<bool>,
     // How many units ended, were freed, or were missed since the boot.
@@ -92,7 +92,7 @@ impl<N: BootName> Machine<N> {
             links,
             lists,
             frame_seat,
-            stock_seat: StockLedger::new(stock_seat),
+            stock_seat: BookedSeat::new(stock_seat),
             killed,
             counts: Counts {
                 last_puts: 0,

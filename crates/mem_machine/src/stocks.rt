@@ -69,8 +69,8 @@ impl<N: BootName> Machine<N> {
         pages
     }
 
-    /// Drains the stock of any CPU of the boot, and returns how many pages were in it. The pages leave the stock's book
-    /// and the charge of its group. That CPU may go on with its own calls meanwhile.
+    /// Drains the stock of any CPU of the boot, and returns how many pages were in it. They are no longer booked to
+    /// the stock, nor charged to its group. That CPU may go on with its own calls meanwhile.
     pub fn drain_stock(&mut self, tables: &Tables<N>, cpu: u32) -> u32
         requires cpu { IsCpuOf N.frames cpu }
         ensures drains { Drains cpu result self.old self.new }
@@ -110,8 +110,8 @@ impl<N: BootName> Machine<N> {
     }
 
     /// Drains all stocks of groups in the subtree of `group`, empty ones included, and returns how many pages were in
-    /// them. The pages leave the books and the charges of their groups, and each drain is noted. It looks once at the
-    /// stock of each CPU.
+    /// them. The pages are no longer booked to the stocks, nor charged to the groups, and each drain is noted. It looks
+    /// once at the stock of each CPU.
     pub fn drain_stocks(&mut self, tables: &Tables<N>, group: GroupId) -> u64
         requires there { IsTrue (has_group self.old.ledger.groups group) }
         ensures drains { DrainsSubtree N.frames group result self.old self.new }
@@ -136,8 +136,9 @@ impl<N: BootName> Machine<N> {
         }
     }
 
-    /// Drains all stocks of the group itself, empty ones included, and returns how many pages were in them. The pages
-    /// leave the books and the charge of the group, and each drain is noted. It looks once at the stock of each CPU.
+    /// Drains all stocks of the group itself, empty ones included, and returns how many pages were in them. They are
+    /// no longer booked to the stocks, nor charged to the group, and each drain is noted. It looks once at the stock of
+    /// each CPU.
     pub fn drain_group_stocks(&mut self, tables: &Tables<N>, group: GroupId) -> u64
         ensures drains { DrainsGroup N.frames group result self.old self.new }
         ensures drained { AreOwnDrained group N.frames.cpus self.new }

@@ -25,7 +25,7 @@ use Rattle.mem_machine.proofs.Followed.{makes_both, makes_none}
 use Rattle.mem_reclaim.specs.declared.noting.GroupSnapshot.{GroupSnapshot}
 use Rattle.mem_reclaim.specs.declared.sets.Killed.{Killed}
 use Rattle.mem_reclaim.specs.Killing.{HasNoKeptUnit, IsKilledBy, KillsGroups, KillsHeadOrVictim, KillsGroupBySteps, KillsGroupNoted, KillsGroupsBySteps, KillsSubtree, AreKillsOf}
-use Rattle.mem_reclaim.specs.Killing.{OnlyDrains, OnlyLetsGo, snapshot_of, killed_note, with_all_killed}
+use Rattle.mem_reclaim.specs.Killing.{OnlyDrains, OnlyReleases, snapshot_of, killed_note, with_all_killed}
 use Rattle.mem_reclaim.specs.KillNotes.{NotesVictim}
 use Rattle.mem_reclaim.specs.Moves.{Rises, has_kill, is_kill, is_miss, killed_by, kills_in, missed_in, returned_in}
 use Rattle.mem_reclaim.specs.Sets.{HasNoFlagged, IsHead, IsHighestFlagged, alive_below, group_kill_note, kill_set}
@@ -92,12 +92,12 @@ pub record KilledSo (t : KnownTable) (groups : List ℕ) (Kills : KnownMachine �
   pub drained : All (λ g. AreOwnDrained g t.cpus n) groups
   pub stocks : OnlyDrains m n
   pub none_kept : All (λ g. HasNoKeptUnit g n) groups
-  pub keeps : OnlyLetsGo t m n
+  pub keeps : OnlyReleases t m n
 
 -- ---- one group, and the note behind its kill
 
 -- a note changes nothing that a kill keeps
-pub lets_before_note : (t : KnownTable) (m b : KnownMachine) (last : Note) → OnlyLetsGo t m b → OnlyLetsGo t m (with_note b last)
+pub lets_before_note : (t : KnownTable) (m b : KnownMachine) (last : Note) → OnlyReleases t m b → OnlyReleases t m (with_note b last)
 lets_before_note t m b last k = record {
   groups = k.groups;
   opened = k.opened;
@@ -108,7 +108,7 @@ lets_before_note t m b last k = record {
   misses = k.misses;
 }
 
-pub lets_after_note : (t : KnownTable) (m n : KnownMachine) (first : Note) → OnlyLetsGo t (with_note m first) n → OnlyLetsGo t m n
+pub lets_after_note : (t : KnownTable) (m n : KnownMachine) (first : Note) → OnlyReleases t (with_note m first) n → OnlyReleases t m n
 lets_after_note t m n first k = record {
   groups = k.groups;
   opened = k.opened;
@@ -126,7 +126,7 @@ pub record OneKilled (t : KnownTable) (limited g : ℕ) (m n : KnownMachine) : T
   pub drained : AreOwnDrained g t.cpus n
   pub stocks : OnlyDrains m n
   pub none_kept : HasNoKeptUnit g n
-  pub keeps : OnlyLetsGo t m n
+  pub keeps : OnlyReleases t m n
 
 pub one_so : (t : KnownTable) (limited g : ℕ) (m n : KnownMachine) → OneKilled t limited g m n → KilledSo t (g ∷ []) (KillsGroupNoted t limited g) m n
 one_so t limited g m n one = record {
@@ -139,7 +139,7 @@ one_so t limited g m n one = record {
 }
 
 pub one_killed : (t : KnownTable) (limited g : ℕ) (m b n : KnownMachine) (had : GroupSnapshot) → had ≡ snapshot_of m g → KillsGroupBySteps t g m b
-    → b.killed ≡ slice_set m.killed g true → AreOwnDrained g t.cpus b → OnlyDrains m b → HasNoKeptUnit g b → OnlyLetsGo t m b
+    → b.killed ≡ slice_set m.killed g true → AreOwnDrained g t.cpus b → OnlyDrains m b → HasNoKeptUnit g b → OnlyReleases t m b
     → n ≡ with_note b (killed_note limited g had b) → OneKilled t limited g m n
 one_killed t limited g m b n had had_is kills marked drained stocks none_kept keeps noted_had =
     let last : Note = killed_note limited g (snapshot_of m g) b in
@@ -327,7 +327,7 @@ pub record VictimKilled (t : KnownTable) (limited : ℕ) (killed : Killed) (m n 
   pub drained : All (λ g. AreOwnDrained g t.cpus n) (kill_set m killed)
   pub stocks : OnlyDrains m n
   pub none_kept : All (λ g. HasNoKeptUnit g n) (kill_set m killed)
-  pub keeps : OnlyLetsGo t m n
+  pub keeps : OnlyReleases t m n
 
 pub victim_killed : (t : KnownTable) (limited : ℕ) (killed : Killed) (m a n : KnownMachine) → NotesVictim limited killed.victim m a
     → IsHead a.ledger.groups limited killed → (flag : Bool) → is_oom_group a.ledger.groups killed.head ≡ flag

@@ -1,4 +1,4 @@
--- What a release of units keeps, and how a group is killed. Serves `let_go_all` and `kill_group`.
+-- What a release of units keeps, and how a group is killed. Serves `release_units` and `kill_group`.
 use Rattle.std.proofs.Common.{◌≡◌, ◌≢◌, ℕ, ◌+◌, ◌<◌, ◌≤◌, ◌==◌, Bool, true, Option, Some, None, List, [], ◌∷◌, ◌++◌, length, zero, suc, refl, sym, ap, ◌∙◌, subst, ◌||◌, ◌^◌, cond, false}
 use Rattle.std.proofs.Common.{inl, inr, arith, eq-eqb}
 use Rattle.std.specs.Prelude.{slice_set}
@@ -43,14 +43,14 @@ use Rattle.mem_machine.proofs.Prepaying.{current_falls}
 use Rattle.mem_machine.specs.declared.counts.Counts.{Counts}
 use Rattle.mem_reclaim.specs.Moves.{Rises, has_kill, is_kill, is_miss, missed_in, returned_in}
 use Rattle.mem_reclaim.specs.Staying.{OnlyLeave}
-use Rattle.mem_reclaim.specs.Killing.{KillsGroupBySteps, HasNoKeptUnit, KeepsStocks, LetsGoAll, LetsGoBySteps, OnlyDrains, OnlyLetsGo, with_killed}
+use Rattle.mem_reclaim.specs.Killing.{KillsGroupBySteps, HasNoKeptUnit, KeepsStocks, ReleasesUnits, ReleasesUnitsBySteps, OnlyDrains, OnlyReleases, with_killed}
 use Rattle.mem_machine.proofs.Listing.{has_unit, listed_is, home_inside, has_mid}
 use Rattle.mem_reclaim.proofs.Rising.{drains_return_none, returned_both, rises_both, units_rise}
 use Rattle.mem_machine.proofs.Followed.{makes_both, makes_none}
 
 -- ---- what stays
 
-pub only_lets_none : (t : KnownTable) (m : KnownMachine) → OnlyLetsGo t m m
+pub only_lets_none : (t : KnownTable) (m : KnownMachine) → OnlyReleases t m m
 only_lets_none t m = record {
   groups = refl;
   opened = refl;
@@ -68,7 +68,7 @@ kept_was m n leaves f kept none = was (home_of n.links f) refl
     was None is = kept is
     was (Some h) is = none-some h (sym none ∙ leaves f h is)
 
-pub only_lets_both : (t : KnownTable) (a b c : KnownMachine) → OnlyLetsGo t a b → OnlyLetsGo t b c → OnlyLetsGo t a c
+pub only_lets_both : (t : KnownTable) (a b c : KnownMachine) → OnlyReleases t a b → OnlyReleases t b c → OnlyReleases t a c
 only_lets_both t a b c p q = record {
   groups = q.groups ∙ p.groups;
   opened = q.opened ∙ p.opened;
@@ -81,7 +81,7 @@ only_lets_both t a b c p q = record {
 
 -- the links and the zone's seat at the frames stay
 pub only_lets_same : (t : KnownTable) (m n : KnownMachine) → n.ledger.groups ≡ m.ledger.groups
-    → ((g : ℕ) → current_of n.ledger g ≤ current_of m.ledger g) → n.frame_seat ≡ m.frame_seat → n.links ≡ m.links → OnlyLetsGo t m n
+    → ((g : ℕ) → current_of n.ledger g ≤ current_of m.ledger g) → n.frame_seat ≡ m.frame_seat → n.links ≡ m.links → OnlyReleases t m n
 only_lets_same t m n groups usage seat links = record {
   groups = groups;
   usage = usage;
@@ -109,7 +109,7 @@ misses_put seat f g change keeps = elim (cases_eq g f) [
 
 off_list : (t : KnownTable) (m n : KnownMachine) (f : ℕ) → LeavesList f (lists_of m) (lists_of n) → n.ledger.groups ≡ m.ledger.groups
     → ((g : ℕ) → current_of n.ledger g ≤ current_of m.ledger g) → n.frame_seat.view.opened ≡ m.frame_seat.view.opened → ((g : ℕ) → misses_of n.frame_seat g ≡ misses_of m.frame_seat g)
-    → ((c : KnownCpu) → Visits t (visit_state m c) → Visits t (visit_state n c)) → OnlyLetsGo t m n
+    → ((c : KnownCpu) → Visits t (visit_state m c) → Visits t (visit_state n c)) → OnlyReleases t m n
 off_list t m n f list groups usage opened misses visit =
     let gone : home_of n.links f ≡ None = ap (λ (k : Link). k.home) list.forgotten in
     record {
@@ -126,7 +126,7 @@ off_list t m n f list groups usage opened misses visit =
     }
 
 pub release_lets : (t : KnownTable) (m n : KnownMachine) (f : ℕ) (left : Released) → Releases f left m n
-    → ((c : KnownCpu) → Visits t (visit_state m c) → Visits t (visit_state n c)) → OnlyLetsGo t m n
+    → ((c : KnownCpu) → Visits t (visit_state m c) → Visits t (visit_state n c)) → OnlyReleases t m n
 release_lets t m n f (Left left) is visit = off_list t m n f is.list (ap (λ (x : KnownMachine). x.ledger.groups) is.machine)
     (λ g. let e = ap (λ (x : KnownMachine). current_of x.ledger g) is.machine in omega (arith, e))
     (ap (λ (x : KnownMachine). x.frame_seat.view.opened) is.machine)
@@ -163,10 +163,10 @@ off_entries m n g f Active is home =
 
 pub record LetGoSoFar (t : KnownTable) (g : ℕ) (list : LruList) (m : KnownMachine) (i : ℕ) (now : KnownMachine) : Type 0 where
   pub steps : Run
-  pub whole : (rest : Run) (n : KnownMachine) → LetsGoAll (entries_in now g list) now rest n → LetsGoAll (entries_in m g list) m (steps ++ rest) n
+  pub whole : (rest : Run) (n : KnownMachine) → ReleasesUnits (entries_in now g list) now rest n → ReleasesUnits (entries_in m g list) m (steps ++ rest) n
   pub runs : MakesForAny t m steps now
   pub left : length (entries_in now g list) + i ≡ length (entries_in m g list)
-  pub keeps : OnlyLetsGo t m now
+  pub keeps : OnlyReleases t m now
   pub stocks : KeepsStocks m now
 
 pub let_go_first : (t : KnownTable) (g : ℕ) (list : LruList) (m : KnownMachine) → LetGoSoFar t g list m 0 m
@@ -230,14 +230,14 @@ let_go_more t g list m i now s u o f at left then releases_f visit runs_f =
     record {
       steps = s.steps ++ release_steps u.number left;
       whole = λ rest n all.
-          subst (λ (r : Run). LetsGoAll (entries_in m g list) m r n) (sym (append_assoc s.steps (release_steps u.number left) rest))
-          (s.whole (release_steps u.number left ++ rest) n (subst (λ (l : List Entry). LetsGoAll l now (release_steps u.number left ++ rest) n) (sym o.entries)
+          subst (λ (r : Run). ReleasesUnits (entries_in m g list) m r n) (sym (append_assoc s.steps (release_steps u.number left) rest))
+          (s.whole (release_steps u.number left ++ rest) n (subst (λ (l : List Entry). ReleasesUnits l now (release_steps u.number left ++ rest) n) (sym o.entries)
           (record {
             between = then;
             left = left;
             later = rest;
             releases = releases;
-            others = subst (λ (l : List Entry). LetsGoAll l then rest n) tail all;
+            others = subst (λ (l : List Entry). ReleasesUnits l then rest n) tail all;
             steps_are = refl;
           })));
       runs = λ c. makes_both t c.number s.steps (release_steps u.number left) (visit_state m c) (visit_state now c) (visit_state then c) (s.runs c) (runs c);
@@ -261,13 +261,13 @@ pub let_go_empty : (t : KnownTable) (g : ℕ) (list : LruList) (m : KnownMachine
 let_go_empty t g list m i now s all = none_left (entries_in now g list) i _ s.left all
 
 pub let_go_done : (t : KnownTable) (g : ℕ) (list : LruList) (m : KnownMachine) (i : ℕ) (now : KnownMachine) → LetGoSoFar t g list m i now
-    → length (entries_in m g list) ≤ i → LetsGoBySteps t (entries_in m g list) m now
+    → length (entries_in m g list) ≤ i → ReleasesUnitsBySteps t (entries_in m g list) m now
 let_go_done t g list m i now s all =
     let empty = let_go_empty t g list m i now s all in
     record {
       steps = s.steps;
-      lets_go = subst (λ (r : Run). LetsGoAll (entries_in m g list) m r now) (append-nil s.steps)
-          (s.whole [] now (subst (λ (l : List Entry). LetsGoAll l now [] now) (sym empty) (refl, refl)));
+      releases = subst (λ (r : Run). ReleasesUnits (entries_in m g list) m r now) (append-nil s.steps)
+          (s.whole [] now (subst (λ (l : List Entry). ReleasesUnits l now [] now) (sym empty) (refl, refl)));
       runs = s.runs;
     }
 
@@ -389,7 +389,7 @@ quiet_release : (f : ℕ) (left : Released) → AreQuiet (release_steps f left)
 quiet_release f (Left left) = record { quiet = refl; no_miss = λ g. refl }
 quiet_release f Returned = record { quiet = refl; no_miss = λ g. refl }
 
-quiet_units : (units : List Entry) (m : KnownMachine) (steps : Run) (n : KnownMachine) → LetsGoAll units m steps n → AreQuiet steps
+quiet_units : (units : List Entry) (m : KnownMachine) (steps : Run) (n : KnownMachine) → ReleasesUnits units m steps n → AreQuiet steps
 quiet_units [] m steps n all = subst AreQuiet (sym all.1) (record { quiet = refl; no_miss = λ f. refl })
 quiet_units (u ∷ rest) m steps n all =
     subst AreQuiet (sym all.steps_are)
@@ -427,7 +427,7 @@ pub record AllKilled (t : KnownTable) (v : ℕ) (m n : KnownMachine) : Type 0 wh
   pub marked : n.killed ≡ slice_set m.killed v true
   pub drained : AreOwnDrained v t.cpus n
   pub none_kept : HasNoKeptUnit v n
-  pub keeps : OnlyLetsGo t m n
+  pub keeps : OnlyReleases t m n
   pub stocks : OnlyDrains m n
 
 -- no unit is on an empty list
@@ -445,20 +445,20 @@ keeps_none_of t w b n ok_b ok_n v fits first last leaves f Active home = none_li
 pub all_killed : (t : KnownTable) (w : KnownStockTable) (v : ℕ) → v < 64 → (m a d b n : KnownMachine) → a ≡ with_watch (with_killed m v) a.watch
     → ((g : ℕ) → current_of a.ledger g ≡ current_of m.ledger g) → MakesForAny t m (kill_steps v) a
     → (pages : ℕ) → DrainsGroup t v pages a d → AreOwnDrained v t.cpus d
-    → LetsGoBySteps t (entries_in d v Inactive) d b → entries_in b v Inactive ≡ [] → OnlyLetsGo t d b → KeepsStocks d b → IsConsistent t w b
-    → LetsGoBySteps t (entries_in b v Active) b n → entries_in n v Active ≡ [] → OnlyLetsGo t b n → KeepsStocks b n → IsConsistent t w n → AllKilled t v m n
+    → ReleasesUnitsBySteps t (entries_in d v Inactive) d b → entries_in b v Inactive ≡ [] → OnlyReleases t d b → KeepsStocks d b → IsConsistent t w b
+    → ReleasesUnitsBySteps t (entries_in b v Active) b n → entries_in n v Active ≡ [] → OnlyReleases t b n → KeepsStocks b n → IsConsistent t w n → AllKilled t v m n
 all_killed t w v fits m a d b n is usage killed pages drains drained first first_empty first_keeps first_stocks ok_b last last_empty last_keeps last_stocks ok_n =
     let unit = drains_leave (of_group v) t.cpus a d drains.drains drains.all in
     let stock : n.stock_seat ≡ d.stock_seat = last_stocks.stock_seat ∙ first_stocks.stock_seat in
     let groups : n.ledger.groups ≡ d.ledger.groups = last_keeps.groups ∙ first_keeps.groups in
-    let at_first : OnlyLetsGo t m a = only_lets_same t m a (ap (λ (x : KnownMachine). x.ledger.groups) is)
+    let at_first : OnlyReleases t m a = only_lets_same t m a (ap (λ (x : KnownMachine). x.ledger.groups) is)
     (λ g. let e = usage g in omega (arith, e)) (ap (λ (x : KnownMachine). x.frame_seat) is)
     (ap (λ (x : KnownMachine). x.links) is) in
-    let at_drain : OnlyLetsGo t a d = only_lets_same t a d unit.groups unit.usage unit.frame_seat unit.links in
+    let at_drain : OnlyReleases t a d = only_lets_same t a d unit.groups unit.usage unit.frame_seat unit.links in
     let later : Run = drain_stocks_steps drains.drains ++ (first.steps ++ last.steps) in
     let quiet : AreQuiet later = quiet_both (drain_stocks_steps drains.drains) (first.steps ++ last.steps) (quiet_drains drains.drains)
-    (quiet_both first.steps last.steps (quiet_units (entries_in d v Inactive) d first.steps b first.lets_go)
-    (quiet_units (entries_in b v Active) b last.steps n last.lets_go)) in
+    (quiet_both first.steps last.steps (quiet_units (entries_in d v Inactive) d first.steps b first.releases)
+    (quiet_units (entries_in b v Active) b last.steps n last.releases)) in
     record {
       kills = record {
         steps = kill_steps v ++ (drain_stocks_steps drains.drains ++ (first.steps ++ last.steps));
@@ -470,8 +470,8 @@ all_killed t w v fits m a d b n is usage killed pages drains drained first first
           last = last.steps;
           seen = a.watch;
           stocks = subst (λ (x : KnownMachine). DrainsAllIf (of_group v) t.cpus drains.drains x d) is drains.all;
-          inactive = first.lets_go;
-          active = last.lets_go;
+          inactive = first.releases;
+          active = last.releases;
           steps_are = refl;
         };
         runs = λ c.
@@ -484,7 +484,7 @@ all_killed t w v fits m a d b n is usage killed pages drains drained first first
           quiet = quiet.quiet;
           no_miss = quiet.no_miss;
           returned = last_puts_rise v m a d b n is unit.counts drains.drains first.steps last.steps
-              (units_rise (entries_in d v Inactive) d first.steps b first.lets_go) (units_rise (entries_in b v Active) b last.steps n last.lets_go);
+              (units_rise (entries_in d v Inactive) d first.steps b first.releases) (units_rise (entries_in b v Active) b last.steps n last.releases);
         };
       };
       marked = last_stocks.killed ∙ first_stocks.killed ∙ unit.killed ∙ ap (λ (x : KnownMachine). x.killed) is;

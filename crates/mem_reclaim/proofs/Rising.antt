@@ -14,7 +14,7 @@ use Rattle.mem_machine.specs.Machines.{KnownMachine}
 use Rattle.mem_machine.specs.Releasing.{Releases, release_steps}
 use Rattle.mem_machine.specs.Steps.{Drain, drain_steps, drain_stocks_steps}
 use Rattle.mem_reclaim.specs.Moves.{Rises, all_missed_in, is_any_miss, is_return, returned_in}
-use Rattle.mem_reclaim.specs.Killing.{LetsGoAll}
+use Rattle.mem_reclaim.specs.Killing.{ReleasesUnits}
 
 -- ---- one count
 
@@ -64,7 +64,7 @@ release_rises : (m n : KnownMachine) (f : ℕ) (left : Released) → Releases f 
 release_rises m n f (Left left) is = rises_none m.counts.last_puts n.counts.last_puts (ap (λ (x : KnownMachine). x.counts.last_puts) is.machine)
 release_rises m n f Returned is = rises_one m.counts.last_puts n.counts.last_puts (ap (λ (x : KnownMachine). x.counts.last_puts) is.machine)
 
-pub units_rise : (units : List Entry) (m : KnownMachine) (steps : Run) (n : KnownMachine) → LetsGoAll units m steps n
+pub units_rise : (units : List Entry) (m : KnownMachine) (steps : Run) (n : KnownMachine) → ReleasesUnits units m steps n
     → Rises m.counts.last_puts (returned_in steps) n.counts.last_puts
 units_rise [] m steps n all =
     subst (λ (r : Run). Rises m.counts.last_puts (returned_in r) n.counts.last_puts) (sym all.1)

@@ -30,7 +30,7 @@ use Rattle.mem_reclaim.specs.Victim.{IsNext, own_frames, victim_note}
 
 -- The unit is released: it leaves its list, and the zone's reference is put. Without another reference it is freed and
 -- uncharged; else it stays charged and isn't kept. Then `Then` leads on.
-pub record LetsGo (unit : Entry) (Then : KnownMachine → Run → KnownMachine → Type 0) (before : KnownMachine)
+pub record ReleasesUnit (unit : Entry) (Then : KnownMachine → Run → KnownMachine → Type 0) (before : KnownMachine)
     (steps : Run) (after : KnownMachine) : Type 0 where
   pub between : KnownMachine
   pub left : Released
@@ -40,14 +40,14 @@ pub record LetsGo (unit : Entry) (Then : KnownMachine → Run → KnownMachine �
   pub steps_are : steps ≡ release_steps unit.number left ++ later
 
 -- the units are released in this order
-abbrev pub LetsGoAll : List Entry → KnownMachine → Run → KnownMachine → Type 0
-LetsGoAll [] before steps after = (after ≡ before) × (steps ≡ [])
-LetsGoAll (unit ∷ others) before steps after = LetsGo unit (LetsGoAll others) before steps after
+abbrev pub ReleasesUnits : List Entry → KnownMachine → Run → KnownMachine → Type 0
+ReleasesUnits [] before steps after = (after ≡ before) × (steps ≡ [])
+ReleasesUnits (unit ∷ others) before steps after = ReleasesUnit unit (ReleasesUnits others) before steps after
 
 -- the units are released by some steps, whichever CPU holds the lock
-pub record LetsGoBySteps (table : KnownTable) (units : List Entry) (before after : KnownMachine) : Type 0 where
+pub record ReleasesUnitsBySteps (table : KnownTable) (units : List Entry) (before after : KnownMachine) : Type 0 where
   pub steps : Run
-  pub lets_go : LetsGoAll units before steps after
+  pub releases : ReleasesUnits units before steps after
   pub runs : MakesForAny table before steps after
 
 -- the machine with the group killed, and with one more kill noted at the group
@@ -69,8 +69,8 @@ pub record KillsGroup (table : KnownTable) (group : ℕ) (before : KnownMachine)
   pub last : Run
   pub seen : KnownWatch
   pub stocks : DrainsAllIf (of_group group) table.cpus drains (with_watch (with_killed before group) seen) drained
-  pub inactive : LetsGoAll (inactive_in drained group) drained first between
-  pub active : LetsGoAll (active_in between group) between last after
+  pub inactive : ReleasesUnits (inactive_in drained group) drained first between
+  pub active : ReleasesUnits (active_in between group) between last after
   pub steps_are : steps ≡ kill_steps group ++ (drain_stocks_steps drains ++ (first ++ last))
 
 -- The first of these steps kills the group, and no other step kills. None is a freeze that missed. The machine's last
@@ -194,7 +194,7 @@ with_all_killed marks groups = fold (λ (old : List Bool) (group : ℕ). slice_s
 -- What a release of units keeps. Groups with their limits and each visit stay, and no visit is opened or shut. No usage
 -- rises. Each unit that is kept was kept on the same list, and is as dirty as before. No unit is frozen, so no miss is
 -- noted.
-pub record OnlyLetsGo (table : KnownTable) (before after : KnownMachine) : Type 0 where
+pub record OnlyReleases (table : KnownTable) (before after : KnownMachine) : Type 0 where
   pub groups : after.ledger.groups ≡ before.ledger.groups
   pub opened : after.frame_seat.view.opened ≡ before.frame_seat.view.opened
   pub usage : (group : ℕ) → current_of after.ledger group ≤ current_of before.ledger group

@@ -8,9 +8,9 @@ ghost use Rattle.mem_machine.specs.Ageing.{entries_in};
 ghost use Rattle.mem_machine.specs.Stocks.{AreOwnDrained};
 ghost use Rattle.mem_reclaim.specs.Victim.{IsVictim};
 ghost use Rattle.mem_reclaim.specs.Sets.{alive_below, kill_set};
-ghost use Rattle.mem_reclaim.specs.Killing.{HasNoKeptUnit, KeepsStocks, KillsGroups, KillsGroupBySteps};
+ghost use Rattle.mem_reclaim.specs.Killing.{HasNoKeptUnit, KeepsStocks, KillsGroupBySteps, KillsGroups};
 ghost use Rattle.mem_reclaim.specs.Killing.{KillsGroupNoted, KillsGroupsBySteps, KillsSubtree, KillsVictim};
-ghost use Rattle.mem_reclaim.specs.Killing.{LetsGoBySteps, OnlyDrains, OnlyLetsGo, victim_of, with_all_killed};
+ghost use Rattle.mem_reclaim.specs.Killing.{OnlyDrains, OnlyReleases, ReleasesUnitsBySteps, victim_of, with_all_killed};
 
 use crate::noting::{note_killed, note_subtree, note_victim, take_snapshot};
 use crate::sets::{Killed, highest_flagged};
@@ -21,15 +21,15 @@ use lru_lists::record::LruList;
 use mem_machine::Machine;
 
 // Releases all units on one of a group's lists, the oldest first.
-fn let_go_all<N: BootName>(
+fn release_units<N: BootName>(
     machine: &mut Machine<N>,
     tables: &Tables<N>,
     group: GroupId,
     list: LruList,
 )
-    ensures lets_go { LetsGoBySteps N.frames (entries_in machine.old group list) machine.old machine.new }
+    ensures releases { ReleasesUnitsBySteps N.frames (entries_in machine.old group list) machine.old machine.new }
     ensures empty { entries_in machine.new group list ≡ [] }
-    ensures keeps { OnlyLetsGo N.frames machine.old machine.new }
+    ensures keeps { OnlyReleases N.frames machine.old machine.new }
     ensures stocks { KeepsStocks machine.old machine.new }
 {
     for _unit in 0..machine.listed(group, list) {
@@ -53,13 +53,13 @@ fn kill_group<N: BootName>(machine: &mut Machine<N>, tables: &Tables<N>, group: 
     ensures drained { AreOwnDrained group N.frames.cpus machine.new }
     ensures stocks { OnlyDrains machine.old machine.new }
     ensures none_kept { HasNoKeptUnit group machine.new }
-    ensures keeps { OnlyLetsGo N.frames machine.old machine.new }
+    ensures keeps { OnlyReleases N.frames machine.old machine.new }
 {
     machine.mark_killed(group);
     machine.drain_group_stocks(tables, group);
-    let_go_all(machine, tables, group, LruList::Inactive);
+    release_units(machine, tables, group, LruList::Inactive);
     let _frame_states = machine.frame_states(); // Called for its contract.
-    let_go_all(machine, tables, group, LruList::Active);
+    release_units(machine, tables, group, LruList::Active);
     let _frame_states = machine.frame_states(); // Called for its contract.
 }
 
@@ -79,7 +79,7 @@ fn kill_noted<N: BootName>(
     ensures drained { AreOwnDrained group N.frames.cpus machine.new }
     ensures stocks { OnlyDrains machine.old machine.new }
     ensures none_kept { HasNoKeptUnit group machine.new }
-    ensures keeps { OnlyLetsGo N.frames machine.old machine.new }
+    ensures keeps { OnlyReleases N.frames machine.old machine.new }
 {
     let had = take_snapshot(machine, group);
     kill_group(machine, tables, group);
@@ -101,7 +101,7 @@ fn kill_below<N: BootName>(
     ensures drained { All (λ group. AreOwnDrained group N.frames.cpus machine.new) (alive_below machine.old head) }
     ensures stocks { OnlyDrains machine.old machine.new }
     ensures none_kept { All (λ group. HasNoKeptUnit group machine.new) (alive_below machine.old head) }
-    ensures keeps { OnlyLetsGo N.frames machine.old machine.new }
+    ensures keeps { OnlyReleases N.frames machine.old machine.new }
 {
     for number in 0..MAX_GROUPS as u32 {
         let Some(turn) = GroupId::of(number) else {
@@ -129,7 +129,7 @@ fn kill_subtree<N: BootName>(
     ensures drained { All (λ group. AreOwnDrained group N.frames.cpus machine.new) (alive_below machine.old head) }
     ensures stocks { OnlyDrains machine.old machine.new }
     ensures none_kept { All (λ group. HasNoKeptUnit group machine.new) (alive_below machine.old head) }
-    ensures keeps { OnlyLetsGo N.frames machine.old machine.new }
+    ensures keeps { OnlyReleases N.frames machine.old machine.new }
 {
     note_subtree(machine, head);
     kill_below(machine, tables, limited, head);
@@ -159,7 +159,7 @@ pub fn kill<N: BootName>(
     ensures stocks { OnlyDrains machine.old machine.new }
     ensures none_kept { IfSome result (λ killed.
         All (λ g. HasNoKeptUnit g machine.new) (kill_set machine.old killed)) }
-    ensures keeps { OnlyLetsGo N.frames machine.old machine.new }
+    ensures keeps { OnlyReleases N.frames machine.old machine.new }
 {
     let victim = victim(machine, group)?;
     note_victim(machine, group, victim);

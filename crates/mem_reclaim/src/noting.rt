@@ -3,7 +3,7 @@
 ghost use Rattle.std.specs.Prelude.{◌≡◌, IsTrue};
 ghost use Rattle.group_tree.specs.Groups.{has_group};
 ghost use Rattle.mem_machine.specs.Machines.{with_note};
-ghost use Rattle.mem_reclaim.specs.Killing.{snapshot_of, killed_note};
+ghost use Rattle.mem_reclaim.specs.Killing.{killed_note, snapshot_of};
 ghost use Rattle.mem_reclaim.specs.KillNotes.{NotesVictim};
 ghost use Rattle.mem_reclaim.specs.Sets.{group_kill_note};
 

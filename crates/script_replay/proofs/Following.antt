@@ -17,7 +17,7 @@ use Rattle.stock_word.specs.declared.view.Stock.TheVariants as stock_is
 use Rattle.stock_word.specs.Stock.{KnownStockTable, KnownStockSeat, drained_of, group_of}
 use Rattle.stock_word.specs.Calls.{with_view}
 use Rattle.group_tree.specs.declared.fault.Fault.TheVariants.{PinsFull, NotPinned}
-use Rattle.cpu_part.specs.declared.answers.Fast as fast
+use Rattle.cpu_part.specs.declared.answers.Fast.{Fast as FastAnswer}
 use Rattle.cpu_part.specs.declared.answers.Fast.TheVariants.{FreshFull, ListEmpty, OtherGroup, Drained, NoStock, Got}
 use Rattle.cpu_part.specs.declared.answers.Dropped.TheVariants.{NeedVisit}
 use Rattle.cpu_part.specs.Cpus as parts
@@ -28,8 +28,8 @@ use Rattle.step_rules.specs.declared.phase.Stage.TheVariants.{FreshAt}
 use Rattle.step_rules.specs.declared.phase.Phase.TheVariants as phase
 use Rattle.step_rules.specs.declared.step.Action.{Action}
 use Rattle.step_rules.specs.declared.step.Action.TheVariants as step
-use Rattle.step_rules.specs.declared.step.Answer.{Answer as Said}
-use Rattle.step_rules.specs.declared.step.Answer.TheVariants as says
+use Rattle.step_rules.specs.declared.step.Answer.{Answer as StepAnswer}
+use Rattle.step_rules.specs.declared.step.Answer.TheVariants as step_answer
 use Rattle.step_rules.specs.State.{State}
 use Rattle.step_rules.specs.After.{Run, state_of, IsLegalRun}
 use Rattle.step_watch.specs.Watched.{KnownWatch, Watches}
@@ -112,7 +112,7 @@ module _ (t : KnownTable) (m : KnownMachine) (c : KnownCpu) where
     };
   })
 
-  pub fast_unseen : (g : ℕ) (said : fast.Fast) (d : KnownCpu) → FastAnswers g said c d → ((f : ℕ) → said ≢ Got f) → IsUnseen t m c d
+  pub fast_unseen : (g : ℕ) (answer : FastAnswer) (d : KnownCpu) → FastAnswers g answer c d → ((f : ℕ) → answer ≢ Got f) → IsUnseen t m c d
   fast_unseen g FreshFull d is none = unseen_same d is.1
   fast_unseen g ListEmpty d is none = unseen_same d is.2
   fast_unseen g OtherGroup d is none = unseen_stock d (with_view c.stock_seat is.1.0) is.1.2 (ap (λ v. group_of v.last) is.1.1.1)
@@ -214,9 +214,9 @@ module _ (t : KnownTable) (w : KnownStockTable) (run : Run) (locked : KnownLocke
 
   -- served under the lock, which the watch has taken, after a look at its own stock
   served_follows : (seen : KnownCpu) → IsUnseen t m c seen → (found : KnownLocked) (is_explained : Bool) (watch : KnownWatch) → found ≡ locked_with_watch (locked_with_telling locked is_explained) watch →
-      (command : Cmd) (reply : Reply) (after : LockedState) → (is : IsServed t command reply (locked_state found seen) after) → AllShut after.locked.machine →
+      (cmd : Cmd) (reply : Reply) (after : LockedState) → (is : IsServed t cmd reply (locked_state found seen) after) → AllShut after.locked.machine →
       GoesOn (under_lock p is.steps) → Follows (under_lock p is.steps) after
-  served_follows seen unseen found is_explained watch locks command reply after is shut legal =
+  served_follows seen unseen found is_explained watch locks cmd reply after is shut legal =
       let n : KnownMachine = found.machine in
       let shown : ShowsAll t run n cpus = subst (λ (l : KnownLocked). ShowsAll t run l.machine cpus) (sym locks) (shows_told t run m cpus is_explained watch shows) in
       let same : local_of t n seen ≡ local_of t n c =
@@ -249,24 +249,24 @@ module _ (t : KnownTable) (w : KnownStockTable) (run : Run) (locked : KnownLocke
   )
 
   -- a step without the lock
-  step_follows : (action : Action) (said : Said) (after : LockedState) → (kept : OnlyWatched (cpu_makes p action said ∷ []) locked after.locked) →
-      after.cpu.number ≡ p → is_fast action ≡ true → said ≢ says.Illegal →
-      Makes t (visit_state m c) (cpu_makes p action said ∷ []) (visit_state (record m { watch = after.locked.machine.watch }) after.cpu) →
-      GoesOn (cpu_makes p action said ∷ []) → Follows (cpu_makes p action said ∷ []) after
-  step_follows action said after kept number quick made leads legal =
+  step_follows : (action : Action) (answer : StepAnswer) (after : LockedState) → (kept : OnlyWatched (cpu_makes p action answer ∷ []) locked after.locked) →
+      after.cpu.number ≡ p → is_fast action ≡ true → answer ≢ step_answer.Illegal →
+      Makes t (visit_state m c) (cpu_makes p action answer ∷ []) (visit_state (record m { watch = after.locked.machine.watch }) after.cpu) →
+      GoesOn (cpu_makes p action answer ∷ []) → Follows (cpu_makes p action answer ∷ []) after
+  step_follows action answer after kept number quick made leads legal =
       let n : KnownMachine = record m { watch = after.locked.machine.watch } in
-      let serves : ServesFast t cpus k (visit_state m c) action said (visit_state n after.cpu) = record {
+      let serves : ServesFast t cpus k (visit_state m c) action answer (visit_state n after.cpu) = record {
         is_part = is_part;
         number = number;
         fast = quick;
         machine = refl;
         leads = leads;
-        decided = legal_fast_steps_are_decided t run cpus k m c action said shows is_part quick made legal;
+        decided = legal_fast_steps_are_decided t run cpus k m c action answer shows is_part quick made legal;
       } in (
-        subst (λ (l : KnownLocked). ShowsAll t (run ++ cpu_makes p action said ∷ []) l.machine (slice_set cpus k after.cpu)) (sym kept.locked)
-            (fast_lines_follow t run cpus k (visit_state m c) action said (visit_state n after.cpu) shows serves),
-        λ told. subst (λ (l : KnownLocked). TellsRun t (run ++ cpu_makes p action said ∷ []) l.machine.ledger) (sym kept.locked)
-            (fast_lines_tell t run cpus k (visit_state m c) action said (visit_state n after.cpu) shows serves told),
+        subst (λ (l : KnownLocked). ShowsAll t (run ++ cpu_makes p action answer ∷ []) l.machine (slice_set cpus k after.cpu)) (sym kept.locked)
+            (fast_lines_follow t run cpus k (visit_state m c) action answer (visit_state n after.cpu) shows serves),
+        λ told. subst (λ (l : KnownLocked). TellsRun t (run ++ cpu_makes p action answer ∷ []) l.machine.ledger) (sym kept.locked)
+            (fast_lines_tell t run cpus k (visit_state m c) action answer (visit_state n after.cpu) shows serves told),
       )
 
   this_part : IsPart t w run m cpus k c
@@ -279,13 +279,13 @@ module _ (t : KnownTable) (w : KnownStockTable) (run : Run) (locked : KnownLocke
   got_follows : (g f : ℕ) (after : LockedState) → FastAnswers g (Got f) c after.cpu → OnlyWatched (fast_steps p g (Got f)) locked after.locked → GoesOn (fast_steps p g (Got f)) →
       Follows (fast_steps p g (Got f)) after
   got_follows g f after is kept legal =
-      step_follows (step.Consume g) says.Took after kept (ap (λ (x : KnownCpu). x.number) is.5) refl (λ e. cc)
+      step_follows (step.Consume g) step_answer.Took after kept (ap (λ (x : KnownCpu). x.number) is.5) refl (λ e. cc)
       (fast_calls_lead.got t w run m cpus k c after.cpu this_part g f is
-      (legal_fast_steps_are_decided t run cpus k m c (step.Consume g) says.Took shows is_part refl (λ e. cc) legal)
+      (legal_fast_steps_are_decided t run cpus k m c (step.Consume g) step_answer.Took shows is_part refl (λ e. cc) legal)
       after.locked.machine.watch kept.watched) legal
 
-  fast_follows : (g : ℕ) (said : fast.Fast) (after : LockedState) → FastAnswers g said c after.cpu → OnlyWatched (fast_steps p g said) locked after.locked → GoesOn (fast_steps p g said) →
-      Follows (fast_steps p g said) after
+  fast_follows : (g : ℕ) (answer : FastAnswer) (after : LockedState) → FastAnswers g answer c after.cpu → OnlyWatched (fast_steps p g answer) locked after.locked → GoesOn (fast_steps p g answer) →
+      Follows (fast_steps p g answer) after
   fast_follows g FreshFull after is kept legal = unseen_follows after kept (fast_unseen t m c g FreshFull after.cpu is (λ f e. cc))
   fast_follows g ListEmpty after is kept legal = unseen_follows after kept (fast_unseen t m c g ListEmpty after.cpu is (λ f e. cc))
   fast_follows g OtherGroup after is kept legal = unseen_follows after kept (fast_unseen t m c g OtherGroup after.cpu is (λ f e. cc))
@@ -293,10 +293,10 @@ module _ (t : KnownTable) (w : KnownStockTable) (run : Run) (locked : KnownLocke
   fast_follows g NoStock after is kept legal = unseen_follows after kept (fast_unseen t m c g NoStock after.cpu is (λ f e. cc))
   fast_follows g (Got f) after is kept legal = got_follows g f after is kept legal
 
-  get_follows : (f : ℕ) (after : LockedState) (said : Answer) → f < t.frames → GetsPin f c after.cpu said → OnlyWatched (get_steps p f said) locked after.locked → GoesOn (get_steps p f said) →
-      Follows (get_steps p f said) after
+  get_follows : (f : ℕ) (after : LockedState) (answer : Answer) → f < t.frames → GetsPin f c after.cpu answer → OnlyWatched (get_steps p f answer) locked after.locked → GoesOn (get_steps p f answer) →
+      Follows (get_steps p f answer) after
   get_follows f after (answer.Got Held) inside is kept legal =
-      step_follows (step.Get f) says.Held after kept (ap (λ (x : KnownCpu). x.number) is.1.2) refl (λ e. cc)
+      step_follows (step.Get f) step_answer.Held after kept (ap (λ (x : KnownCpu). x.number) is.1.2) refl (λ e. cc)
       (fast_calls_lead.held t w run m cpus k c after.cpu this_part f inside is.0 is.1 after.locked.machine.watch kept.watched) legal
   get_follows f after (answer.Got Zero) inside is kept legal =
       unseen_follows after kept (unseen_seat t m c after.cpu is.1.0 f (looked is.1.1.0) is.1.2 is.1.1.2 (λ x. refl))
@@ -305,10 +305,10 @@ module _ (t : KnownTable) (w : KnownStockTable) (run : Run) (locked : KnownLocke
   get_follows f after (answer.Got Full) inside is kept legal =
       unseen_follows after kept (unseen_seat t m c after.cpu is.1.0 f (looked 255) is.1.2 is.1.1 (λ x. refl))
   get_follows f after (answer.Served (Refused PinsFull)) inside is kept legal = unseen_follows after kept (unseen_same t m c after.cpu is.1)
-  get_follows f after said inside is kept legal = absurd is
+  get_follows f after answer inside is kept legal = absurd is
 
-  put_follows : (f : ℕ) (after : LockedState) (said : Answer) → PutsPin f c after.cpu said → OnlyWatched (put_steps p f said) locked after.locked → GoesOn (put_steps p f said) →
-      Follows (put_steps p f said) after
+  put_follows : (f : ℕ) (after : LockedState) (answer : Answer) → PutsPin f c after.cpu answer → OnlyWatched (put_steps p f answer) locked after.locked → GoesOn (put_steps p f answer) →
+      Follows (put_steps p f answer) after
   put_follows f after (answer.Put putted) is kept legal =
       step_follows (step.Put f) (put_answer putted) after kept (put_number putted is.1) refl (put_made putted)
       (fast_calls_lead.putted t w run m cpus k c after.cpu this_part f putted is.1 after.locked.machine.watch kept.watched) legal
@@ -317,28 +317,28 @@ module _ (t : KnownTable) (w : KnownStockTable) (run : Run) (locked : KnownLocke
       put_number (put.Left n) a = ap (λ (y : KnownCpu). y.number) a.3
       put_number put.Last a = ap (λ (y : KnownCpu). y.number) a.3
 
-      put_made : (x : Putted) → put_answer x ≢ says.Illegal
+      put_made : (x : Putted) → put_answer x ≢ step_answer.Illegal
       put_made (put.Left n) = λ e. cc
       put_made put.Last = λ e. cc
   put_follows f after (answer.Served (Refused NotPinned)) is kept legal = unseen_follows after kept (unseen_same t m c after.cpu is.1)
-  put_follows f after said is kept legal = absurd is
+  put_follows f after answer is kept legal = absurd is
 
   -- served under the lock
-  locked_follows : (is_explained : Bool) (seen : KnownCpu) → IsUnseen t m c seen → (command : Cmd) (reply : Reply) (steps : Run) (after : LockedState) →
-      IsServedUnderLock is_explained command seen reply (transition t before steps after) → AllShut after.locked.machine → GoesOn steps → Follows steps after
-  locked_follows is_explained seen unseen command reply steps after is shut legal =
+  locked_follows : (is_explained : Bool) (seen : KnownCpu) → IsUnseen t m c seen → (cmd : Cmd) (reply : Reply) (steps : Run) (after : LockedState) →
+      IsServedUnderLock is_explained cmd seen reply (transition t before steps after) → AllShut after.locked.machine → GoesOn steps → Follows steps after
+  locked_follows is_explained seen unseen cmd reply steps after is shut legal =
       let left_shut : AllShut is.left.machine = subst (λ (l : KnownLocked). AllShut l.machine) is.unlock.locked shut in
       as_made steps (under_lock p is.served.steps) after (is.steps_are ∙ ap (λ (q : ℕ). under_lock q is.served.steps) unseen.number)
-      (λ all. watched_follows (under_lock p is.served.steps) (cpu_makes seen.number step.Unlock says.Done ∷ []) is.left after is.unlock
-      (served_follows seen unseen is.found is_explained is.found.machine.watch is.lock.locked command reply (locked_state is.left after.cpu) is.served left_shut all)) legal
+      (λ all. watched_follows (under_lock p is.served.steps) (cpu_makes seen.number step.Unlock step_answer.Done ∷ []) is.left after is.unlock
+      (served_follows seen unseen is.found is_explained is.found.machine.watch is.lock.locked cmd reply (locked_state is.left after.cpu) is.served left_shut all)) legal
 
-  replied_follows : (is_explained : Bool) (command : Cmd) (steps : Run) (after : LockedState) (said : Answer) → RepliesServed is_explained command (transition t before steps after) said → AllShut after.locked.machine →
+  replied_follows : (is_explained : Bool) (cmd : Cmd) (steps : Run) (after : LockedState) (answer : Answer) → RepliesServed is_explained cmd (transition t before steps after) answer → AllShut after.locked.machine →
       GoesOn steps → Follows steps after
-  replied_follows is_explained command steps after (answer.Served reply) is shut legal =
-      locked_follows is_explained c (unseen_same t m c c refl) command reply steps after is shut legal
-  replied_follows is_explained command steps after said is shut legal = absurd is
+  replied_follows is_explained cmd steps after (answer.Served reply) is shut legal =
+      locked_follows is_explained c (unseen_same t m c c refl) cmd reply steps after is shut legal
+  replied_follows is_explained cmd steps after answer is shut legal = absurd is
 
-  frame_follows : (is_explained : Bool) (path : Bor (List ℕ)) (steps : Run) (after : LockedState) (said : Answer) (is_noted : Bool) → AnswersFrame is_explained path (transition t before steps after) said is_noted →
+  frame_follows : (is_explained : Bool) (path : Bor (List ℕ)) (steps : Run) (after : LockedState) (answer : Answer) (is_noted : Bool) → AnswersFrame is_explained path (transition t before steps after) answer is_noted →
       AllShut after.locked.machine → GoesOn steps → Follows steps after
   frame_follows is_explained path steps after (answer.Fast (Got f)) false is shut legal =
       as_made steps (fast_steps p is.gets.group (Got f)) after is.alone.steps_are
@@ -350,37 +350,37 @@ module _ (t : KnownTable) (w : KnownStockTable) (run : Run) (locked : KnownLocke
       let none = served.none in
       locked_follows is_explained served.seen (fast_unseen t m c none.group none.fast served.seen none.answers none.none) (cmd.Alloc path 0) reply steps after served.served
       shut legal
-  frame_follows is_explained path steps after said is_noted is shut legal = absurd is
+  frame_follows is_explained path steps after answer is_noted is shut legal = absurd is
 
-  release_follows : (is_explained : Bool) (f : ℕ) (steps : Run) (after : LockedState) (said : Answer) (is_noted : Bool) → AnswersRelease is_explained f (transition t before steps after) said is_noted →
+  release_follows : (is_explained : Bool) (f : ℕ) (steps : Run) (after : LockedState) (answer : Answer) (is_noted : Bool) → AnswersRelease is_explained f (transition t before steps after) answer is_noted →
       AllShut after.locked.machine → GoesOn steps → Follows steps after
   release_follows is_explained f steps after answer.Listed false is shut legal =
-      as_made steps (cpu_makes p (step.Credit f) says.Back ∷ []) after is.1.steps_are
-      (λ all. step_follows (step.Credit f) says.Back after is.1.locked (ap (λ (x : KnownCpu). x.number) is.0.listed.5) refl (λ e. cc)
+      as_made steps (cpu_makes p (step.Credit f) step_answer.Back ∷ []) after is.1.steps_are
+      (λ all. step_follows (step.Credit f) step_answer.Back after is.1.locked (ap (λ (x : KnownCpu). x.number) is.0.listed.5) refl (λ e. cc)
       (fast_calls_lead.listed t w run m cpus k c after.cpu this_part f is.0.fresh is.0.listed
-      (legal_fast_steps_are_decided t run cpus k m c (step.Credit f) says.Back shows is_part refl (λ e. cc) all)
+      (legal_fast_steps_are_decided t run cpus k m c (step.Credit f) step_answer.Back shows is_part refl (λ e. cc) all)
       after.locked.machine.watch is.1.locked.watched) all) legal
   release_follows is_explained f steps after (answer.Served reply) true is shut legal =
       locked_follows is_explained is.seen (list_unseen t m c f is.seen is.not_listed) (cmd.Release f) reply steps after is.served shut legal
-  release_follows is_explained f steps after said is_noted is shut legal = absurd is
+  release_follows is_explained f steps after answer is_noted is shut legal = absurd is
 
   settle_follows : (steps : Run) (after : LockedState) → SettlesUnderLock (transition t before steps after) → AllShut after.locked.machine → GoesOn steps → Follows steps after
   settle_follows steps after is shut legal = locked_follows false c (unseen_same t m c c refl) cmd.Settle Done steps after is shut legal
 
-  answer_follows : (is_explained : Bool) (asked : Work) (steps : Run) (after : LockedState) (said : Answer) (is_noted : Bool) → WorkInRange t.frames asked →
-      AnswersWork is_explained asked (transition t before steps after) said is_noted → AllShut after.locked.machine → GoesOn steps → Follows steps after
-  answer_follows is_explained (work.Visit command) steps after said true names is shut legal = replied_follows is_explained command steps after said is shut legal
-  answer_follows is_explained (work.Frame path) steps after said is_noted names is shut legal = frame_follows is_explained path steps after said is_noted is shut legal
+  answer_follows : (is_explained : Bool) (asked : Work) (steps : Run) (after : LockedState) (answer : Answer) (is_noted : Bool) → WorkInRange t.frames asked →
+      AnswersWork is_explained asked (transition t before steps after) answer is_noted → AllShut after.locked.machine → GoesOn steps → Follows steps after
+  answer_follows is_explained (work.Visit cmd) steps after answer true names is shut legal = replied_follows is_explained cmd steps after answer is shut legal
+  answer_follows is_explained (work.Frame path) steps after answer is_noted names is shut legal = frame_follows is_explained path steps after answer is_noted is shut legal
   answer_follows is_explained (work.Fast g) steps after (answer.Fast taken) false names is shut legal =
       as_made steps (fast_steps p g taken) after is.1.steps_are (λ all. fast_follows g taken after is.0 is.1.locked all) legal
-  answer_follows is_explained (work.Release f) steps after said is_noted names is shut legal = release_follows is_explained f steps after said is_noted is shut legal
-  answer_follows is_explained (work.Get f) steps after said false names is shut legal =
-      as_made steps (get_steps p f said) after is.1.steps_are (λ all. get_follows f after said names is.0 is.1.locked all) legal
-  answer_follows is_explained (work.Put f) steps after said false names is shut legal =
-      as_made steps (put_steps p f said) after is.1.steps_are (λ all. put_follows f after said is.0 is.1.locked all) legal
+  answer_follows is_explained (work.Release f) steps after answer is_noted names is shut legal = release_follows is_explained f steps after answer is_noted is shut legal
+  answer_follows is_explained (work.Get f) steps after answer false names is shut legal =
+      as_made steps (get_steps p f answer) after is.1.steps_are (λ all. get_follows f after answer names is.0 is.1.locked all) legal
+  answer_follows is_explained (work.Put f) steps after answer false names is shut legal =
+      as_made steps (put_steps p f answer) after is.1.steps_are (λ all. put_follows f after answer is.0 is.1.locked all) legal
   answer_follows is_explained work.Settle steps after answer.Settled false names is shut legal = settle_follows steps after is shut legal
-  answer_follows is_explained asked steps after said true names is shut legal = absurd is
-  answer_follows is_explained asked steps after said false names is shut legal = absurd is
+  answer_follows is_explained asked steps after answer true names is shut legal = absurd is
+  answer_follows is_explained asked steps after answer false names is shut legal = absurd is
 
   -- settled, and then looks at words
   looked_follows : (steps : Run) (settled after : LockedState) → SettlesUnderLock (transition t before steps settled)
@@ -403,4 +403,4 @@ module _ (t : KnownTable) (w : KnownStockTable) (run : Run) (locked : KnownLocke
       looked_follows steps is.settled after is.settles
       (units_looked t _ _ _ is.settled.locked.machine after.locked.machine is.told) is.cpu shut legal
   work_follows is_explained asked steps after text names is shut legal =
-      answer_follows is_explained asked steps after is.said is.is_noted names is.answered shut legal
+      answer_follows is_explained asked steps after is.answer is.is_noted names is.answered shut legal

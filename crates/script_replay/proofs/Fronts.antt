@@ -12,9 +12,9 @@ use Rattle.script_replay.specs.Answers.{AnswersWork, CanNotList, GetsNoneFast, S
 use Rattle.script_replay.specs.Terms.{Terms}
 
 module _ (on : Terms) (l : KnownLocked) (c seen : KnownCpu) (after : LockedState) where
-  allocated : (path : Bor (List ℕ)) → GetsNoneFast path.now (locked_state l c) seen → (steps : Run) (said : Answer) (is_noted : Bool)
-      → AnswersWork on.is_explained (Visit (cmd.Alloc path 0)) (transition on.frames (locked_state l seen) steps after) said is_noted
-      → AnswersWork on.is_explained (Frame path) (transition on.frames (locked_state l c) steps after) said is_noted
+  allocated : (path : Bor (List ℕ)) → GetsNoneFast path.now (locked_state l c) seen → (steps : Run) (answer : Answer) (is_noted : Bool)
+      → AnswersWork on.is_explained (Visit (cmd.Alloc path 0)) (transition on.frames (locked_state l seen) steps after) answer is_noted
+      → AnswersWork on.is_explained (Frame path) (transition on.frames (locked_state l c) steps after) answer is_noted
   allocated path none steps (Served reply) true is =
       record {
         seen = seen;
@@ -28,8 +28,8 @@ module _ (on : Terms) (l : KnownLocked) (c seen : KnownCpu) (after : LockedState
           steps_are = is.steps_are;
         };
       }
-  allocated path none steps said true is = absurd is
-  allocated path none steps said false is = absurd is
+  allocated path none steps answer true is = absurd is
+  allocated path none steps answer false is = absurd is
 
   -- if there is no frame for the group, the command is served
   pub served_after : (path : Bor (List ℕ)) → GetsNoneFast path.now (locked_state l c) seen → (text : List ℕ)
@@ -37,16 +37,16 @@ module _ (on : Terms) (l : KnownLocked) (c seen : KnownCpu) (after : LockedState
   served_after path none text is = let writes = is.writes in record {
     steps = is.steps;
     writes = record {
-      said = writes.said;
+      answer = writes.answer;
       is_noted = writes.is_noted;
-      answered = allocated path none is.steps writes.said writes.is_noted writes.answered;
+      answered = allocated path none is.steps writes.answer writes.is_noted writes.answered;
       text_is = writes.text_is;
     };
   }
 
-  released : (f : ℕ) → CanNotList f c seen → (steps : Run) (said : Answer) (is_noted : Bool)
-      → AnswersWork on.is_explained (Visit (cmd.Release f)) (transition on.frames (locked_state l seen) steps after) said is_noted
-      → AnswersWork on.is_explained (Release f) (transition on.frames (locked_state l c) steps after) said is_noted
+  released : (f : ℕ) → CanNotList f c seen → (steps : Run) (answer : Answer) (is_noted : Bool)
+      → AnswersWork on.is_explained (Visit (cmd.Release f)) (transition on.frames (locked_state l seen) steps after) answer is_noted
+      → AnswersWork on.is_explained (Release f) (transition on.frames (locked_state l c) steps after) answer is_noted
   released f can_not steps (Served reply) true is =
       record {
         seen = seen;
@@ -60,8 +60,8 @@ module _ (on : Terms) (l : KnownLocked) (c seen : KnownCpu) (after : LockedState
           steps_are = is.steps_are;
         };
       }
-  released f can_not steps said true is = absurd is
-  released f can_not steps said false is = absurd is
+  released f can_not steps answer true is = absurd is
+  released f can_not steps answer false is = absurd is
 
   -- if the frame can't be listed again, the command is served
   pub released_after : (f : ℕ) → CanNotList f c seen → (text : List ℕ)
@@ -69,9 +69,9 @@ module _ (on : Terms) (l : KnownLocked) (c seen : KnownCpu) (after : LockedState
   released_after f can_not text is = let writes = is.writes in record {
     steps = is.steps;
     writes = record {
-      said = writes.said;
+      answer = writes.answer;
       is_noted = writes.is_noted;
-      answered = released f can_not is.steps writes.said writes.is_noted writes.answered;
+      answered = released f can_not is.steps writes.answer writes.is_noted writes.answered;
       text_is = writes.text_is;
     };
   }

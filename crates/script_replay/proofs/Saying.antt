@@ -30,9 +30,9 @@ use Rattle.script_replay.proofs.Going.{all_replayed, tied_still}
 
 -- ---- what is said without the lock
 
-module _ (table : KnownTable) (f n : ℕ) (l m : KnownLocked) (c d : KnownCpu) (is : n ≡ c.number) (said : Answer) where
+module _ (table : KnownTable) (f n : ℕ) (l m : KnownLocked) (c d : KnownCpu) (is : n ≡ c.number) (answer : Answer) where
   pub got : (r : Result GetAnswer Fault) → GetsPin f c d (pin_answer r) → OnlyWatched (get_steps n f (pin_answer r)) l m
-      → pin_answer r ≡ said → SaysWork table (Get f) (locked_state l c) (locked_state m d) said
+      → pin_answer r ≡ answer → SaysWork table (Get f) (locked_state l c) (locked_state m d) answer
   got r pins watched says =
       subst (SaysWork table (Get f) (locked_state l c) (locked_state m d)) says (record {
         steps = get_steps c.number f (pin_answer r);
@@ -47,7 +47,7 @@ module _ (table : KnownTable) (f n : ℕ) (l m : KnownLocked) (c d : KnownCpu) (
       })
 
   pub put : (r : Option PutAnswer) → PutsPin f c d (unpin_answer r) → OnlyWatched (put_steps n f (unpin_answer r)) l m
-      → unpin_answer r ≡ said → SaysWork table (Put f) (locked_state l c) (locked_state m d) said
+      → unpin_answer r ≡ answer → SaysWork table (Put f) (locked_state l c) (locked_state m d) answer
   put r pins watched says =
       subst (SaysWork table (Put f) (locked_state l c) (locked_state m d)) says (record {
         steps = put_steps c.number f (unpin_answer r);
@@ -63,13 +63,13 @@ module _ (table : KnownTable) (f n : ℕ) (l m : KnownLocked) (c d : KnownCpu) (
 
 -- ---- the text of what is said
 
-module _ (call : Transition LockedState) (said : Answer) where
-  as_answer : (work : Work) (is_noted : Bool) → AnswersWork false work call said is_noted → WritesAnswer false work call (answer_text said)
-  as_answer work true so = record { said = said; is_noted = true; answered = so; text_is = sym (append-nil (answer_text said)) }
-  as_answer work false so = record { said = said; is_noted = false; answered = so; text_is = sym (append-nil (answer_text said)) }
+module _ (call : Transition LockedState) (answer : Answer) where
+  as_answer : (work : Work) (is_noted : Bool) → AnswersWork false work call answer is_noted → WritesAnswer false work call (answer_text answer)
+  as_answer work true so = record { answer = answer; is_noted = true; answered = so; text_is = sym (append-nil (answer_text answer)) }
+  as_answer work false so = record { answer = answer; is_noted = false; answered = so; text_is = sym (append-nil (answer_text answer)) }
 
-  pub as_text : (work : Work) (is_noted : Bool) → AnswersWork false work call said is_noted → WritesWork false work call (answer_text said)
-  as_text (Visit command) is_noted so = as_answer (Visit command) is_noted so
+  pub as_text : (work : Work) (is_noted : Bool) → AnswersWork false work call answer is_noted → WritesWork false work call (answer_text answer)
+  as_text (Visit cmd) is_noted so = as_answer (Visit cmd) is_noted so
   as_text (Frame path) is_noted so = as_answer (Frame path) is_noted so
   as_text (Fast group) is_noted so = as_answer (Fast group) is_noted so
   as_text (Release frame) is_noted so = as_answer (Release frame) is_noted so
@@ -83,9 +83,9 @@ module _ (call : Transition LockedState) (said : Answer) where
 
 -- ---- a command at its part
 
-module _ (tables : BootTables) (l m : KnownLocked) (cpus : List KnownCpu) (cpu : ℕ) (command : Command) (c d : KnownCpu) (said : Answer)
+module _ (tables : BootTables) (l m : KnownLocked) (cpus : List KnownCpu) (cpu : ℕ) (command : Command) (c d : KnownCpu) (answer : Answer)
     (there : IsThere tables.frames.frames (length cpus) cpu command) (is_part : slice_get cpus (cpu - 1) ≡ Some c)
-    (says : SaysWork tables.frames (work_of command) (locked_state l c) (locked_state m d) said) (holds : HoldsInvariants tables.frames tables.stocks m)
+    (says : SaysWork tables.frames (work_of command) (locked_state l c) (locked_state m d) answer) (holds : HoldsInvariants tables.frames tables.stocks m)
     (tied : IsTied tables.frames tables.stocks d) (none : d.stock_seat.view.last ≡ stock_is.NoGroup → d.fresh ≡ []) where
   abbrev on : Terms
   on = terms tables.frames tables.stocks false
@@ -96,18 +96,18 @@ module _ (tables : BootTables) (l m : KnownLocked) (cpus : List KnownCpu) (cpu :
   abbrev after : SystemState
   after = system_state m (slice_set cpus (cpu - 1) d)
 
-  one_line : (number : ℕ) → ServesAndKeeps on (At number cpu command) before after (answer_text said)
+  one_line : (number : ℕ) → ServesAndKeeps on (At number cpu command) before after (answer_text answer)
   one_line number = record {
     there = there;
     serves = record {
       steps = says.steps;
       tells = record {
-        plain = answer_text said;
+        plain = answer_text answer;
         so = record {
           part = c;
           left = d;
           is_part = is_part;
-          done = as_text (transition tables.frames (locked_state l c) says.steps (locked_state m d)) said (work_of command) says.is_noted says.answered;
+          done = as_text (transition tables.frames (locked_state l c) says.steps (locked_state m d)) answer (work_of command) says.is_noted says.answered;
           cpus = refl;
         };
         text_is = refl;
@@ -119,16 +119,16 @@ module _ (tables : BootTables) (l m : KnownLocked) (cpus : List KnownCpu) (cpu :
     };
   }
 
-  pub command_said : SaysCommand tables cpu command before after said
+  pub command_said : SaysCommand tables cpu command before after answer
   command_said = record {
     says = record { part = c; left = d; is_part = is_part; done = says; cpus = refl };
-    replays = λ number. all_replayed on (At number cpu command ∷ []) before after (answer_text said) (record {
-      first = answer_text said;
+    replays = λ number. all_replayed on (At number cpu command ∷ []) before after (answer_text answer) (record {
+      first = answer_text answer;
       rest = [];
       between = after;
       serves_first = one_line number;
       serves_rest = (refl, refl);
-      text_is = sym (append-nil (answer_text said));
+      text_is = sym (append-nil (answer_text answer));
     });
   }
 

@@ -6,7 +6,7 @@ use Rattle.frame_word.specs.Seats.{KnownTable}
 use Rattle.cpu_part.specs.declared.answers.Fast.TheVariants.{Got}
 use Rattle.cpu_part.specs.Cpus.{KnownCpu}
 use Rattle.step_rules.specs.declared.step.Action.TheVariants as step
-use Rattle.step_rules.specs.declared.step.Answer.TheVariants as says
+use Rattle.step_rules.specs.declared.step.Answer.TheVariants as step_answer
 use Rattle.step_rules.specs.After.{Run, IsLegalRun}
 use Rattle.step_watch.specs.Watched.{KnownWatch, Watches, IsNewWatch, SawRun, has_legal_steps}
 use Rattle.step_watch.proofs.Watching.{watches_none, watches_both, watched_runs_are_legal}
@@ -50,10 +50,10 @@ module _ (t : KnownTable) (before : LockedState) (steps : Run) (after : LockedSt
   alone_seen : (made : Run) → steps ≡ made → OnlyWatched made before.locked after.locked → SeesAll
   alone_seen made are only = subst (λ (r : Run). Sees r before.locked after.locked) (sym are) (only_sees made before.locked after.locked only)
 
-  locked_seen : (is_explained : Bool) (command : Cmd) (seen : KnownCpu) (reply : Reply) → IsServedUnderLock is_explained command seen reply (transition t before steps after) → SeesAll
-  locked_seen is_explained command seen reply is =
-      let first : Run = cpu_makes seen.number step.Lock says.Done ∷ [] in
-      let last : Run = cpu_makes seen.number step.Unlock says.Done ∷ [] in
+  locked_seen : (is_explained : Bool) (cmd : Cmd) (seen : KnownCpu) (reply : Reply) → IsServedUnderLock is_explained cmd seen reply (transition t before steps after) → SeesAll
+  locked_seen is_explained cmd seen reply is =
+      let first : Run = cpu_makes seen.number step.Lock step_answer.Done ∷ [] in
+      let last : Run = cpu_makes seen.number step.Unlock step_answer.Done ∷ [] in
       let a : KnownWatch = before.locked.machine.watch in
       let b : KnownWatch = is.found.machine.watch in
       let d : KnownWatch = is.left.machine.watch in
@@ -63,31 +63,31 @@ module _ (t : KnownTable) (before : LockedState) (steps : Run) (after : LockedSt
       subst (λ (r : Run). Watches a r e) (sym is.steps_are)
       (watches_both a first b (is.served.steps ++ last) e is.lock.watched rest)
 
-  replied_seen : (is_explained : Bool) (command : Cmd) (said : Answer) → RepliesServed is_explained command (transition t before steps after) said → SeesAll
-  replied_seen is_explained command (answer.Served reply) is = locked_seen is_explained command before.cpu reply is
-  replied_seen is_explained command said is = absurd is
+  replied_seen : (is_explained : Bool) (cmd : Cmd) (answer : Answer) → RepliesServed is_explained cmd (transition t before steps after) answer → SeesAll
+  replied_seen is_explained cmd (answer.Served reply) is = locked_seen is_explained cmd before.cpu reply is
+  replied_seen is_explained cmd answer is = absurd is
 
-  frame_seen : (is_explained : Bool) (path : Bor (List ℕ)) (said : Answer) (is_noted : Bool) → AnswersFrame is_explained path (transition t before steps after) said is_noted → SeesAll
+  frame_seen : (is_explained : Bool) (path : Bor (List ℕ)) (answer : Answer) (is_noted : Bool) → AnswersFrame is_explained path (transition t before steps after) answer is_noted → SeesAll
   frame_seen is_explained path (answer.Fast (Got f)) false is = alone_seen _ is.alone.steps_are is.alone.locked
   frame_seen is_explained path (answer.Served reply) false none = stays_seen steps before.locked after.locked none.1 none.0.same_locked
   frame_seen is_explained path (answer.Served reply) true is = locked_seen is_explained _ is.seen reply is.served
-  frame_seen is_explained path said is_noted is = absurd is
+  frame_seen is_explained path answer is_noted is = absurd is
 
-  release_seen : (is_explained : Bool) (f : ℕ) (said : Answer) (is_noted : Bool) → AnswersRelease is_explained f (transition t before steps after) said is_noted → SeesAll
+  release_seen : (is_explained : Bool) (f : ℕ) (answer : Answer) (is_noted : Bool) → AnswersRelease is_explained f (transition t before steps after) answer is_noted → SeesAll
   release_seen is_explained f answer.Listed false is = alone_seen _ is.1.steps_are is.1.locked
   release_seen is_explained f (answer.Served reply) true is = locked_seen is_explained _ is.seen reply is.served
-  release_seen is_explained f said is_noted is = absurd is
+  release_seen is_explained f answer is_noted is = absurd is
 
-  answer_seen : (is_explained : Bool) (asked : Work) (said : Answer) (is_noted : Bool) → AnswersWork is_explained asked (transition t before steps after) said is_noted → SeesAll
-  answer_seen is_explained (work.Visit command) said true is = replied_seen is_explained command said is
-  answer_seen is_explained (work.Frame path) said is_noted is = frame_seen is_explained path said is_noted is
+  answer_seen : (is_explained : Bool) (asked : Work) (answer : Answer) (is_noted : Bool) → AnswersWork is_explained asked (transition t before steps after) answer is_noted → SeesAll
+  answer_seen is_explained (work.Visit cmd) answer true is = replied_seen is_explained cmd answer is
+  answer_seen is_explained (work.Frame path) answer is_noted is = frame_seen is_explained path answer is_noted is
   answer_seen is_explained (work.Fast g) (answer.Fast taken) false is = alone_seen _ is.1.steps_are is.1.locked
-  answer_seen is_explained (work.Release f) said is_noted is = release_seen is_explained f said is_noted is
-  answer_seen is_explained (work.Get f) said false is = alone_seen _ is.1.steps_are is.1.locked
-  answer_seen is_explained (work.Put f) said false is = alone_seen _ is.1.steps_are is.1.locked
+  answer_seen is_explained (work.Release f) answer is_noted is = release_seen is_explained f answer is_noted is
+  answer_seen is_explained (work.Get f) answer false is = alone_seen _ is.1.steps_are is.1.locked
+  answer_seen is_explained (work.Put f) answer false is = alone_seen _ is.1.steps_are is.1.locked
   answer_seen is_explained work.Settle answer.Settled false is = locked_seen false _ before.cpu _ is
-  answer_seen is_explained asked said true is = absurd is
-  answer_seen is_explained asked said false is = absurd is
+  answer_seen is_explained asked answer true is = absurd is
+  answer_seen is_explained asked answer false is = absurd is
 
 -- the watch took nothing at a look
 looked_seen : (t : KnownTable) (before : LockedState) (steps : Run) (settled after : LockedState) → SettlesUnderLock (transition t before steps settled)
@@ -103,7 +103,7 @@ work_seen t before steps after is_explained work.Stock text is =
     looked_seen t before steps is.settled after is.settles (stock_looked t is.settled.locked.machine after.locked.machine is.told.look)
 work_seen t before steps after is_explained (work.Units path) text is =
     looked_seen t before steps is.settled after is.settles (units_looked t _ _ _ is.settled.locked.machine after.locked.machine is.told)
-work_seen t before steps after is_explained asked text is = answer_seen t before steps after is_explained asked is.said is.is_noted is.answered
+work_seen t before steps after is_explained asked text is = answer_seen t before steps after is_explained asked is.answer is.is_noted is.answered
 
 -- ---- a line, and all lines
 

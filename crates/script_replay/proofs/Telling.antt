@@ -25,48 +25,48 @@ pub added_as : {Z T E : Type 0} (is as_well : List ℕ → Type 0) (before after
 added_as is as_well before after r turn adds = record { text = adds.text; so = turn adds.text adds.so; added = adds.added }
 
 -- the text of an answer of which it is so
-pub told : {Z T E : Type 0} (is : Answer → Type 0) (said : Answer) (before after : String Z) (r : Result T E) → is said
-    → IfOk r (λ _. string_bytes after ≡ string_bytes before ++ answer_text said) → AddsAnswer r before after is
-told is said before after r so added = record {
-  text = answer_text said;
-  so = record { said = said; answered = so; text_is = refl };
+pub told : {Z T E : Type 0} (is : Answer → Type 0) (answer : Answer) (before after : String Z) (r : Result T E) → is answer
+    → IfOk r (λ _. string_bytes after ≡ string_bytes before ++ answer_text answer) → AddsAnswer r before after is
+told is answer before after r so added = record {
+  text = answer_text answer;
+  so = record { answer = answer; answered = so; text_is = refl };
   added = added;
 }
 
 -- what is so of an answer for one reason is so for another
 pub told_as : {Z T E : Type 0} (is as_well : Answer → Type 0) (before after : String Z) (r : Result T E)
-    → ((said : Answer) → is said → as_well said) → AddsAnswer r before after is → AddsAnswer r before after as_well
+    → ((answer : Answer) → is answer → as_well answer) → AddsAnswer r before after is → AddsAnswer r before after as_well
 told_as is as_well before after r turn adds = record {
   text = adds.text;
   so = record {
-    said = adds.so.said;
-    answered = turn adds.so.said adds.so.answered;
+    answer = adds.so.answer;
+    answered = turn adds.so.answer adds.so.answered;
     text_is = adds.so.text_is;
   };
   added = adds.added;
 }
 
 -- an answer without an explanation
-pub alone : (is_explained : Bool) (work : Work) (call : Transition LockedState) (said : Answer) → AnswersWork is_explained work call said false
-    → WritesAnswer is_explained work call (answer_text said)
-alone is_explained work call said so = record { said = said; is_noted = false; answered = so; text_is = sym (append-nil (answer_text said)) }
+pub alone : (is_explained : Bool) (work : Work) (call : Transition LockedState) (answer : Answer) → AnswersWork is_explained work call answer false
+    → WritesAnswer is_explained work call (answer_text answer)
+alone is_explained work call answer so = record { answer = answer; is_noted = false; answered = so; text_is = sym (append-nil (answer_text answer)) }
 
 -- the answer to a Settle has no explanation, whether or not one is asked for
 pub settle_alone : (is_explained : Bool) (call : Transition LockedState) (text : List ℕ) → WritesAnswer false Settle call text → WritesAnswer is_explained Settle call text
-settle_alone is_explained call text writes = tells writes.said writes.is_noted writes.answered writes.text_is
+settle_alone is_explained call text writes = tells writes.answer writes.is_noted writes.answered writes.text_is
   where
-    tells : (said : Answer) (is_noted : Bool) → AnswersWork false Settle call said is_noted
-        → text ≡ answer_text said ++ told_text (is_noted && false) [] call.after.locked.machine → WritesAnswer is_explained Settle call text
-    tells said false answered is = record { said = said; is_noted = false; answered = answered; text_is = is }
-    tells said true answered is = absurd answered
+    tells : (answer : Answer) (is_noted : Bool) → AnswersWork false Settle call answer is_noted
+        → text ≡ answer_text answer ++ told_text (is_noted && false) [] call.after.locked.machine → WritesAnswer is_explained Settle call text
+    tells answer false answered is = record { answer = answer; is_noted = false; answered = answered; text_is = is }
+    tells answer true answered is = absurd answered
 
 -- a command that was served under the lock: its reply, followed by its explanation
-pub served : (on : Terms) (command : Cmd) (before after : LockedState) (reply : Reply) → ServesUnderLock on.frames on.is_explained command reply before after
-    → ServesWork on (Visit command) before after (reply_text reply ++ told_text on.is_explained (path_removed command) after.locked.machine)
-served on command before after reply is = record {
+pub served : (on : Terms) (cmd : Cmd) (before after : LockedState) (reply : Reply) → ServesUnderLock on.frames on.is_explained cmd reply before after
+    → ServesWork on (Visit cmd) before after (reply_text reply ++ told_text on.is_explained (path_removed cmd) after.locked.machine)
+served on cmd before after reply is = record {
   steps = is.steps;
   writes = record {
-    said = Served reply;
+    answer = Served reply;
     is_noted = true;
     answered = is.served;
     text_is = refl;

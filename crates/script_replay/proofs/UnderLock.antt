@@ -5,7 +5,7 @@ use Rattle.frame_word.specs.Seats.{KnownTable}
 use Rattle.group_charge.specs.Charges.{Ledger}
 use Rattle.cpu_part.specs.Cpus.{KnownCpu}
 use Rattle.step_rules.specs.declared.step.Action.TheVariants.{Lock, Unlock}
-use Rattle.step_rules.specs.declared.step.Answer.TheVariants as says
+use Rattle.step_rules.specs.declared.step.Answer.TheVariants as step_answer
 use Rattle.mem_machine.specs.Steps.{cpu_makes}
 use Rattle.mem_history.specs.Whole.{under_lock}
 use Rattle.mem_system.specs.declared.command.Cmd.{Cmd}
@@ -17,7 +17,7 @@ use Rattle.mem_system.specs.Visits.{IsServed, ServesOutcome, locked_state}
 use Rattle.script_replay.specs.Answers.{OnlyWatched, ServesUnderLock, locked_with_telling}
 
 module _ (t : KnownTable) (is_explained : Bool) (cmd : Cmd) (before found left after : KnownLocked) (c d : KnownCpu) (number : ℕ) (named : number ≡ c.number)
-    (lock : OnlyWatched (cpu_makes number Lock says.Done ∷ []) (locked_with_telling before is_explained) found) (unlock : OnlyWatched (cpu_makes number Unlock says.Done ∷ []) left after) where
+    (lock : OnlyWatched (cpu_makes number Lock step_answer.Done ∷ []) (locked_with_telling before is_explained) found) (unlock : OnlyWatched (cpu_makes number Unlock step_answer.Done ∷ []) left after) where
   -- the watch took a Lock before the command, and an Unlock after it
   pub served_locked : (reply : Reply) → IsServed t cmd reply (locked_state found c) (locked_state left d)
       → ServesUnderLock t is_explained cmd reply (locked_state before c) (locked_state after d)
@@ -26,9 +26,9 @@ module _ (t : KnownTable) (is_explained : Bool) (cmd : Cmd) (before found left a
     served = record {
       found = found;
       left = left;
-      lock = subst (λ (n : ℕ). OnlyWatched (cpu_makes n Lock says.Done ∷ []) (locked_with_telling before is_explained) found) named lock;
+      lock = subst (λ (n : ℕ). OnlyWatched (cpu_makes n Lock step_answer.Done ∷ []) (locked_with_telling before is_explained) found) named lock;
       served = served;
-      unlock = subst (λ (n : ℕ). OnlyWatched (cpu_makes n Unlock says.Done ∷ []) left after) named unlock;
+      unlock = subst (λ (n : ℕ). OnlyWatched (cpu_makes n Unlock step_answer.Done ∷ []) left after) named unlock;
       steps_are = refl;
     };
   }

@@ -28,17 +28,17 @@ pub settled_done : (on : BootTables) (c d : KnownCpu) (reply : Reply) → IsServ
 settled_done on c d reply is = subst (λ (r : Reply). IsServedByVisit on cmd.Settle c d r) is.served.serves.executes.0 is
 
 -- if there is no frame for the group, the command is served by a visit
-pub visited_after : (on : BootTables) (path : Bor (List ℕ)) (l : KnownLocked) (c seen d : KnownCpu) (said : Answer) →
-    IsSound on.frames on.stocks l → GetsNoneFast path.now (locked_state l c) seen → RepliesVisited on (cmd.Alloc path 0) seen d said → AnswersFrameByVisit on path c d said
+pub visited_after : (on : BootTables) (path : Bor (List ℕ)) (l : KnownLocked) (c seen d : KnownCpu) (answer : Answer) →
+    IsSound on.frames on.stocks l → GetsNoneFast path.now (locked_state l c) seen → RepliesVisited on (cmd.Alloc path 0) seen d answer → AnswersFrameByVisit on path c d answer
 visited_after on path l c seen d (Served reply) sound none served =
     inr (record { seen = seen; none = record { locked = l; sound = sound; so = none }; visited = served })
-visited_after on path l c seen d said sound none served = absurd served
+visited_after on path l c seen d answer sound none served = absurd served
 
 -- if the frame can't be listed again, the command is served by a visit
-pub released_after : (on : BootTables) (f : ℕ) (c seen d : KnownCpu) (said : Answer) →
-    CanNotList f c seen → RepliesVisited on (cmd.Release f) seen d said → AnswersReleaseByVisit on f c d said
+pub released_after : (on : BootTables) (f : ℕ) (c seen d : KnownCpu) (answer : Answer) →
+    CanNotList f c seen → RepliesVisited on (cmd.Release f) seen d answer → AnswersReleaseByVisit on f c d answer
 released_after on f c seen d (Served reply) can_not served = record { seen = seen; not_listed = can_not; visited = served }
-released_after on f c seen d said can_not served = absurd served
+released_after on f c seen d answer can_not served = absurd served
 
 -- ---- one line
 

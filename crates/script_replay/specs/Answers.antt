@@ -13,13 +13,13 @@ use Rattle.frame_word.specs.Seats.{KnownTable}
 use Rattle.group_tree.specs.Groups.{number_at}
 use Rattle.group_tree.specs.declared.fault.Fault.{Fault}
 use Rattle.group_tree.specs.declared.fault.Fault.TheVariants.{NoGroup, PinsFull, NotPinned}
-use Rattle.cpu_part.specs.declared.answers.Fast as cpu
+use Rattle.cpu_part.specs.declared.answers.Fast.{Fast as FastAnswer}
 use Rattle.cpu_part.specs.declared.answers.Fast.TheVariants.{Got}
 use Rattle.cpu_part.specs.declared.answers.Dropped.TheVariants as dropped
 use Rattle.cpu_part.specs.Cpus.{KnownCpu, most_pins, times}
 use Rattle.cpu_part.specs.Calls.{FastAnswers, DropAnswers, PinAnswers, UnpinAnswers}
 use Rattle.step_rules.specs.declared.step.Action.TheVariants as step
-use Rattle.step_rules.specs.declared.step.Answer.TheVariants as says
+use Rattle.step_rules.specs.declared.step.Answer.TheVariants as step_answer
 use Rattle.step_rules.specs.After.{Run}
 use Rattle.step_watch.specs.Watched.{KnownWatch, Watches}
 use Rattle.kill_texts.specs.Explanation.{explanation_text}
@@ -60,9 +60,9 @@ pub record AddsText {Z T E : Type 0} (result : Result T E) (old new : String Z) 
 
 -- the text of an answer of which `is_answered` holds
 pub record IsTextOf (is_answered : Answer → Type 0) (text : List ℕ) : Type 0 where
-  pub said : Answer
-  pub answered : is_answered said
-  pub text_is : text ≡ answer_text said
+  pub answer : Answer
+  pub answered : is_answered answer
+  pub text_is : text ≡ answer_text answer
 
 -- a call that adds the text of an answer of which `is_answered` holds
 abbrev pub AddsAnswer : {Z T E : Type 0} → Result T E → String Z → String Z → (Answer → Type 0) → Type 0
@@ -91,9 +91,9 @@ pub record TakesNoLock (steps : Run) (call : Transition LockedState) : Type 0 wh
   pub steps_are : call.steps ≡ steps
 
 -- a fast allocation that got a frame made one step, which consumes a page; any other made no step
-abbrev pub fast_steps : ℕ → ℕ → cpu.Fast → Run
-fast_steps number group (Got frame) = cpu_makes number (step.Consume group) says.Took ∷ []
-fast_steps number group other = []
+abbrev pub fast_steps : (cpu group : ℕ) → FastAnswer → Run
+fast_steps cpu group (Got frame) = cpu_makes cpu (step.Consume group) step_answer.Took ∷ []
+fast_steps cpu group other = []
 
 -- Fast: the result of a fast allocation for this group, which takes no lock
 abbrev pub AnswersFast : (group : ℕ) → Transition LockedState → Answer → Type 0
@@ -117,7 +117,7 @@ GetsPin frame before after other = ⊥
 
 -- a get that was held made one step; any other made none
 abbrev pub get_steps : (cpu frame : ℕ) → Answer → Run
-get_steps cpu frame (answer.Got Held) = cpu_makes cpu (step.Get frame) says.Held ∷ []
+get_steps cpu frame (answer.Got Held) = cpu_makes cpu (step.Get frame) step_answer.Held ∷ []
 get_steps cpu frame other = []
 
 -- Get: the pin and the answer, without the lock
@@ -154,27 +154,27 @@ AnswersPut frame call answer =
 -- The command is served under the lock for a CPU with the part `seen`: the steps are Lock, those of the command, and
 -- Unlock. Reclaimed units are noted exactly if the command is explained. The command finds `found` behind the lock,
 -- where the watch took the Lock, and leaves `left`.
-pub record IsServedUnderLock (is_explained : Bool) (command : Cmd) (seen : KnownCpu) (reply : Reply)
+pub record IsServedUnderLock (is_explained : Bool) (cmd : Cmd) (seen : KnownCpu) (reply : Reply)
     (call : Transition LockedState) : Type 0 where
   pub found : KnownLocked
   pub left : KnownLocked
-  pub lock : OnlyWatched (cpu_makes seen.number step.Lock says.Done ∷ [])
+  pub lock : OnlyWatched (cpu_makes seen.number step.Lock step_answer.Done ∷ [])
       (locked_with_telling call.before.locked is_explained) found
-  pub served : IsServed call.table command reply (locked_state found seen) (locked_state left call.after.cpu)
-  pub unlock : OnlyWatched (cpu_makes seen.number step.Unlock says.Done ∷ []) left call.after.locked
+  pub served : IsServed call.table cmd reply (locked_state found seen) (locked_state left call.after.cpu)
+  pub unlock : OnlyWatched (cpu_makes seen.number step.Unlock step_answer.Done ∷ []) left call.after.locked
   pub steps_are : call.steps ≡ under_lock seen.number served.steps
 
 -- the command of a CPU was served under the lock with this reply, by some steps
-pub record ServesUnderLock (table : KnownTable) (is_explained : Bool) (command : Cmd) (reply : Reply)
+pub record ServesUnderLock (table : KnownTable) (is_explained : Bool) (cmd : Cmd) (reply : Reply)
     (before after : LockedState) : Type 0 where
   pub steps : Run
-  pub served : IsServedUnderLock is_explained command before.cpu reply (transition table before steps after)
+  pub served : IsServedUnderLock is_explained cmd before.cpu reply (transition table before steps after)
 
 -- the command was served under the lock, and its reply is the answer
 abbrev pub RepliesServed : (is_explained : Bool) → Cmd → Transition LockedState → Answer → Type 0
-RepliesServed is_explained command call (answer.Served reply) =
-    IsServedUnderLock is_explained command call.before.cpu reply call
-RepliesServed is_explained command call other = ⊥
+RepliesServed is_explained cmd call (answer.Served reply) =
+    IsServedUnderLock is_explained cmd call.before.cpu reply call
+RepliesServed is_explained cmd call other = ⊥
 
 -- the CPU was settled under the lock; there is nothing to explain
 abbrev pub SettlesUnderLock : Transition LockedState → Type 0
@@ -219,7 +219,7 @@ abbrev pub AnswersRelease : (is_explained : Bool) → (frame : ℕ) → Transiti
     → Type 0
 AnswersRelease is_explained frame call answer.Listed false =
     ListsAgain frame call.before.cpu call.after.cpu
-    × TakesNoLock (cpu_makes call.before.cpu.number (step.Credit frame) says.Back ∷ []) call
+    × TakesNoLock (cpu_makes call.before.cpu.number (step.Credit frame) step_answer.Back ∷ []) call
 AnswersRelease is_explained frame call (answer.Served reply) true = ReleasesUnderLock is_explained frame reply call
 AnswersRelease is_explained frame call other is_noted = ⊥
 
@@ -248,7 +248,7 @@ pub record AllocatesFast (path : List ℕ) (frame : ℕ) (call : Transition Lock
 pub record GetsNoneFast (path : List ℕ) (before : LockedState) (seen : KnownCpu) : Type 0 where
   pub group : ℕ
   pub found : number_at before.locked.machine.ledger.groups path ≡ Some group
-  pub fast : cpu.Fast
+  pub fast : FastAnswer
   pub answers : FastAnswers group fast before.cpu seen
   pub none : (frame : ℕ) → fast ≢ Got frame
 
@@ -273,14 +273,14 @@ AnswersFrame is_explained path call other is_noted = ⊥
 -- The answer of a command, except of those that answer a text of any length, and whether there are notes of it. There
 -- are if the command was served under the lock, except for a Settle, which asks for no memory.
 abbrev pub AnswersWork : (is_explained : Bool) → Work → Transition LockedState → Answer → (is_noted : Bool) → Type 0
-AnswersWork is_explained (Visit command) call said true = RepliesServed is_explained command call said
-AnswersWork is_explained (Frame path) call said is_noted = AnswersFrame is_explained path call said is_noted
-AnswersWork is_explained (Fast group) call said false = AnswersFast group call said
-AnswersWork is_explained (Release frame) call said is_noted = AnswersRelease is_explained frame call said is_noted
-AnswersWork is_explained (Get frame) call said false = AnswersGet frame call said
-AnswersWork is_explained (Put frame) call said false = AnswersPut frame call said
-AnswersWork is_explained Settle call said false = AnswersSettle call said
-AnswersWork is_explained work call said is_noted = ⊥
+AnswersWork is_explained (Visit cmd) call answer true = RepliesServed is_explained cmd call answer
+AnswersWork is_explained (Frame path) call answer is_noted = AnswersFrame is_explained path call answer is_noted
+AnswersWork is_explained (Fast group) call answer false = AnswersFast group call answer
+AnswersWork is_explained (Release frame) call answer is_noted = AnswersRelease is_explained frame call answer is_noted
+AnswersWork is_explained (Get frame) call answer false = AnswersGet frame call answer
+AnswersWork is_explained (Put frame) call answer false = AnswersPut frame call answer
+AnswersWork is_explained Settle call answer false = AnswersSettle call answer
+AnswersWork is_explained work call answer is_noted = ⊥
 
 -- the path of the group that the command removes, if it is to remove one
 abbrev pub path_removed : Cmd → List ℕ
@@ -289,7 +289,7 @@ path_removed other = []
 
 -- the path of the group that a command of a script removes, if it is to remove one
 abbrev pub path_gone : Work → List ℕ
-path_gone (Visit command) = path_removed command
+path_gone (Visit cmd) = path_removed cmd
 path_gone work = []
 
 -- if it is asked for, the explanation of a command that was served under the lock: what it drained, reclaimed and
@@ -302,11 +302,11 @@ told_text false gone machine = []
 -- the explanation
 pub record WritesAnswer (is_explained : Bool) (work : Work) (call : Transition LockedState)
     (text : List ℕ) : Type 0 where
-  pub said : Answer
+  pub answer : Answer
   pub is_noted : Bool
-  pub answered : AnswersWork is_explained work call said is_noted
+  pub answered : AnswersWork is_explained work call answer is_noted
   pub text_is : text
-      ≡ answer_text said ++ told_text (is_noted && is_explained) (path_gone work) call.after.locked.machine
+      ≡ answer_text answer ++ told_text (is_noted && is_explained) (path_gone work) call.after.locked.machine
 
 -- the CPU is settled, and the text is that of the machine after that
 pub record WritesMachine (machine_text : KnownMachine → List ℕ) (call : Transition LockedState)

@@ -12,7 +12,7 @@ use Rattle.script_replay.specs.Works.{work_of}
 
 -- a frame that is named has a number below `frames`, and a group that is named has a possible number
 abbrev pub WorkInRange : ℕ → Work → Type 0
-WorkInRange frames (Visit command) = NamesFrameBelow frames command
+WorkInRange frames (Visit cmd) = NamesFrameBelow frames cmd
 WorkInRange frames (Fast group) = group < most_groups
 WorkInRange frames (Release frame) = frame < frames
 WorkInRange frames (Get frame) = frame < frames

@@ -10,8 +10,8 @@ use Rattle.reply_texts.specs.Answer as answer
 use Rattle.reply_texts.specs.Answers.{answer_text}
 use Rattle.script_lines.specs.declared.line.Command.{Command}
 use Rattle.script_lines.specs.declared.line.Line.TheVariants.{At}
-use Rattle.script_replay.specs.declared.said.Said.{Said}
-use Rattle.script_replay.specs.declared.said.Said.TheVariants as said
+use Rattle.script_replay.specs.declared.answer_value.AnswerValue.{AnswerValue}
+use Rattle.script_replay.specs.declared.answer_value.AnswerValue.TheVariants as value
 use Rattle.script_replay.specs.declared.work.Work.{Work}
 use Rattle.script_replay.specs.declared.work.Work.TheVariants as work
 use Rattle.script_replay.specs.Answers.{AnswersWork}
@@ -20,19 +20,19 @@ use Rattle.script_replay.specs.Lines.{AtPart, SystemState}
 use Rattle.script_replay.specs.Terms.{BootTables, terms}
 use Rattle.script_replay.specs.Works.{work_of}
 
--- the answer that is said, with the texts that the ledger after the command gives it
-abbrev pub answer_of : Ledger → Said → Answer
-answer_of ledger (said.Served outcome) = answer.Served (reply_of ledger outcome)
-answer_of ledger said.Settled = answer.Settled
-answer_of ledger (said.Fast fast) = answer.Fast fast
-answer_of ledger (said.Got got) = answer.Got got
-answer_of ledger (said.Put put) = answer.Put put
-answer_of ledger said.Listed = answer.Listed
+-- the answer that is this value, with the texts that the ledger after the command gives it
+abbrev pub answer_of : Ledger → AnswerValue → Answer
+answer_of ledger (value.Served outcome) = answer.Served (reply_of ledger outcome)
+answer_of ledger value.Settled = answer.Settled
+answer_of ledger (value.Fast fast) = answer.Fast fast
+answer_of ledger (value.Got got) = answer.Got got
+answer_of ledger (value.Put put) = answer.Put put
+answer_of ledger value.Listed = answer.Listed
 
--- a group whose path or file is said exists
-abbrev pub SaysItsGroups : Ledger → Said → Type 0
-SaysItsGroups ledger (said.Served outcome) = HasItsGroups ledger outcome
-SaysItsGroups ledger other = Unit {0}
+-- a group whose path or file is the answer exists
+abbrev pub NamesItsGroups : Ledger → AnswerValue → Type 0
+NamesItsGroups ledger (value.Served outcome) = HasItsGroups ledger outcome
+NamesItsGroups ledger other = Unit {0}
 
 -- the answer isn't a text of any length
 abbrev pub IsShort : Work → Type 0
@@ -43,16 +43,16 @@ IsShort (work.Units path) = ⊥
 IsShort other = Unit {0}
 
 -- the command was served by some steps, and this is its answer
-pub record SaysWork (table : KnownTable) (work : Work) (before after : LockedState) (said : Answer) : Type 0 where
+pub record SaysWork (table : KnownTable) (work : Work) (before after : LockedState) (answer : Answer) : Type 0 where
   pub steps : Run
   pub is_noted : Bool
-  pub answered : AnswersWork false work (transition table before steps after) said is_noted
+  pub answered : AnswersWork false work (transition table before steps after) answer is_noted
 
 -- The command of the CPU of this number was served with this answer. A script of the command alone, whatever the number
 -- of its line, is replayed from the state before to the state after, and its answer is the text of this one.
 pub record SaysCommand (tables : BootTables) (cpu : ℕ) (command : Command) (before after : SystemState)
-    (said : Answer) : Type 0 where
+    (answer : Answer) : Type 0 where
   pub says : AtPart cpu (λ part left. SaysWork tables.frames (work_of command)
-      (locked_state before.locked part) (locked_state after.locked left) said) before.cpus after.cpus
+      (locked_state before.locked part) (locked_state after.locked left) answer) before.cpus after.cpus
   pub replays : (number : ℕ) → Replays (terms tables.frames tables.stocks false) (At number cpu command ∷ [])
-      before after (answer_text said)
+      before after (answer_text answer)

@@ -31,13 +31,13 @@ use Rattle.script_replay.specs.Works.{work_of}
 
 -- the command was served by a visit, and this was its reply
 abbrev pub IsServedByVisit : BootTables → Cmd → (before after : KnownCpu) → Reply → Type 0
-IsServedByVisit tables command before after reply =
-    IsVisited tables.frames tables.stocks (IsServed tables.frames command reply) before after
+IsServedByVisit tables cmd before after reply =
+    IsVisited tables.frames tables.stocks (IsServed tables.frames cmd reply) before after
 
 -- the command was served by a visit, and its reply is the answer
 abbrev pub RepliesVisited : BootTables → Cmd → (before after : KnownCpu) → Answer → Type 0
-RepliesVisited tables command before after (answer.Served reply) = IsServedByVisit tables command before after reply
-RepliesVisited tables command before after other = ⊥
+RepliesVisited tables cmd before after (answer.Served reply) = IsServedByVisit tables cmd before after reply
+RepliesVisited tables cmd before after other = ⊥
 
 -- Settle: the CPU was settled by a visit
 abbrev pub AnswersSettleByVisit : BootTables → (before after : KnownCpu) → Answer → Type 0
@@ -81,17 +81,17 @@ AnswersFrameByVisit tables path before after other = ⊥
 
 -- the answer of a command, except of those that answer a text of any length
 abbrev pub AnswersWorkByVisit : BootTables → Work → (before after : KnownCpu) → Answer → Type 0
-AnswersWorkByVisit tables (Visit command) before after said = RepliesVisited tables command before after said
-AnswersWorkByVisit tables (Frame path) before after said = AnswersFrameByVisit tables path before after said
-AnswersWorkByVisit tables (Fast group) before after said = TakesFast group before after said
-AnswersWorkByVisit tables (Release frame) before after said = AnswersReleaseByVisit tables frame before after said
-AnswersWorkByVisit tables (Get frame) before after said = GetsPin frame before after said
-AnswersWorkByVisit tables (Put frame) before after said = PutsPin frame before after said
-AnswersWorkByVisit tables Settle before after said = AnswersSettleByVisit tables before after said
-AnswersWorkByVisit tables Blocks before after said = ⊥
-AnswersWorkByVisit tables Show before after said = ⊥
-AnswersWorkByVisit tables Stock before after said = ⊥
-AnswersWorkByVisit tables (Units path) before after said = ⊥
+AnswersWorkByVisit tables (Visit cmd) before after answer = RepliesVisited tables cmd before after answer
+AnswersWorkByVisit tables (Frame path) before after answer = AnswersFrameByVisit tables path before after answer
+AnswersWorkByVisit tables (Fast group) before after answer = TakesFast group before after answer
+AnswersWorkByVisit tables (Release frame) before after answer = AnswersReleaseByVisit tables frame before after answer
+AnswersWorkByVisit tables (Get frame) before after answer = GetsPin frame before after answer
+AnswersWorkByVisit tables (Put frame) before after answer = PutsPin frame before after answer
+AnswersWorkByVisit tables Settle before after answer = AnswersSettleByVisit tables before after answer
+AnswersWorkByVisit tables Blocks before after answer = ⊥
+AnswersWorkByVisit tables Show before after answer = ⊥
+AnswersWorkByVisit tables Stock before after answer = ⊥
+AnswersWorkByVisit tables (Units path) before after answer = ⊥
 
 -- The answer of a command, as text. `blocks` and `show` settle the CPU, and write the machine as it is after that.
 -- `stock` and `units` also look at words, in the same visit.
@@ -105,7 +105,7 @@ VisitsWork tables Stock before after text = TellsAfterSettling tables.frames tab
 VisitsWork tables (Units path) before after text =
     TellsAfterSettling tables.frames tables.stocks (TellsUnitsOf path.now text) before after
 VisitsWork tables work before after text =
-    IsTextOf (λ said. AnswersWorkByVisit tables work before after said) text
+    IsTextOf (λ answer. AnswersWorkByVisit tables work before after answer) text
 
 -- the answer of a script's command for a part, as text, and the part after it
 abbrev pub VisitsCommand : BootTables → Command → (before after : KnownCpu) (text : List ℕ) → Type 0

@@ -9,7 +9,7 @@ ghost use Rattle.mem_system.specs.Visits.{locked_state};
 ghost use Rattle.mem_system.specs.Commands.{IsOfZone};
 ghost use Rattle.script_replay.specs.declared.work.Work.TheVariants.{Blocks, Frame, Release, Settle, Show, Stock};
 ghost use Rattle.script_replay.specs.declared.work.Work.TheVariants.{Units, Visit};
-ghost use Rattle.script_replay.specs.declared.work.Work.TheVariants as asked;
+ghost use Rattle.script_replay.specs.declared.work.Work.TheVariants as work;
 ghost use Rattle.script_replay.specs.Answers.{AddsText, ServesCommand, ServesWork, path_removed, told_text};
 ghost use Rattle.script_replay.specs.Ranges.{NamesInRange, WorkInRange};
 ghost use Rattle.script_replay.specs.Terms.{terms};
@@ -88,7 +88,7 @@ fn answer_fast<N: BootName>(
 ) -> Result<(), AllocError>
     requires there { group < 64 }
     ensures answered { (is_explained : Bool) → AddsText result text.old text.new
-        (ServesWork (terms N.frames N.stocks is_explained) (asked.Fast group)
+        (ServesWork (terms N.frames N.stocks is_explained) (work.Fast group)
         (locked_state locked.old cpu.old) (locked_state locked.new cpu.new)) }
 {
     let cpu_number = cpu.number();
@@ -107,7 +107,7 @@ fn answer_get<N: BootName>(
 ) -> Result<(), AllocError>
     requires in_zone { frame < N.frames.frames }
     ensures answered { (is_explained : Bool) → AddsText result text.old text.new
-        (ServesWork (terms N.frames N.stocks is_explained) (asked.Get frame)
+        (ServesWork (terms N.frames N.stocks is_explained) (work.Get frame)
         (locked_state locked.old cpu.old) (locked_state locked.new cpu.new)) }
 {
     let cpu_number = cpu.number();
@@ -126,7 +126,7 @@ fn answer_put<N: BootName>(
 ) -> Result<(), AllocError>
     requires in_zone { frame < N.frames.frames }
     ensures answered { (is_explained : Bool) → AddsText result text.old text.new
-        (ServesWork (terms N.frames N.stocks is_explained) (asked.Put frame)
+        (ServesWork (terms N.frames N.stocks is_explained) (work.Put frame)
         (locked_state locked.old cpu.old) (locked_state locked.new cpu.new)) }
 {
     let cpu_number = cpu.number();

@@ -6,10 +6,10 @@
 //! type only from the contract of such a call.
 #![tactic(auto)]
 
+mod answer_value;
 mod command_answers;
 mod form;
 mod locked_calls;
-mod said;
 mod typed_answers;
 mod typed_calls;
 mod unlocked_calls;
@@ -19,8 +19,8 @@ mod visit_replay;
 mod watched_steps;
 mod work;
 
+pub use answer_value::AnswerValue;
 pub use form::Form;
-pub use said::Said;
 pub use typed_calls::serve_typed;
 pub use value_replay::{Stopped, replay, replay_checked, serve_line};
 pub use visit_answers::{Visitor, visit_line, visit_numbered_line};

@@ -2,12 +2,12 @@
 
 ghost use Rattle.std.specs.Prelude.{◌≡◌, ◌<◌};
 ghost use Rattle.mem_system.specs.Visits.{locked_state};
-ghost use Rattle.script_replay.specs.declared.work.Work.TheVariants as asked;
+ghost use Rattle.script_replay.specs.declared.work.Work.TheVariants as work;
 ghost use Rattle.script_replay.specs.Ranges.{WorkInRange};
-ghost use Rattle.script_replay.specs.Typed.{IsShort, SaysItsGroups, SaysWork, answer_of};
+ghost use Rattle.script_replay.specs.Typed.{IsShort, NamesItsGroups, SaysWork, answer_of};
 
+use crate::answer_value::AnswerValue;
 use crate::locked_calls::{serve_frame_under_lock, serve_under_lock, settle_under_lock};
-use crate::said::Said;
 use crate::unlocked_calls::{pin, try_list, unpin};
 use crate::watched_steps::{watch_credit, watch_fast, watch_get, watch_put};
 use crate::work::Work;
@@ -21,15 +21,15 @@ pub(crate) fn serve_typed_work<N: BootName>(
     tables: &Tables<N>,
     cpu: &mut Cpu<N>,
     work: &Work<'_>,
-) -> Said
+) -> AnswerValue
     requires in_range { WorkInRange N.frames.frames work.now }
     requires short { IsShort work.now }
-    ensures said { SaysWork N.frames work.now (locked_state locked.old cpu.old) (locked_state locked.new cpu.new)
+    ensures answer { SaysWork N.frames work.now (locked_state locked.old cpu.old) (locked_state locked.new cpu.new)
         (answer_of locked.new.machine.ledger result) }
-    ensures groups { SaysItsGroups locked.new.machine.ledger result }
+    ensures groups { NamesItsGroups locked.new.machine.ledger result }
 {
     match *work {
-        Work::Visit(cmd) => Said::Served(serve_under_lock(locked, tables, cpu, &cmd, false)),
+        Work::Visit(cmd) => AnswerValue::Served(serve_under_lock(locked, tables, cpu, &cmd, false)),
         Work::Frame { path } => serve_typed_frame(locked, tables, cpu, path),
         Work::Fast { group } => serve_typed_fast(locked, tables, cpu, group),
         Work::Release { frame } => serve_typed_release(locked, tables, cpu, frame),
@@ -37,7 +37,7 @@ pub(crate) fn serve_typed_work<N: BootName>(
         Work::Put { frame } => serve_typed_put(locked, tables, cpu, frame),
         Work::Settle => {
             settle_under_lock(locked, tables, cpu);
-            Said::Settled
+            AnswerValue::Settled
         }
         Work::Blocks => unreachable!(),
         Work::Show => unreachable!(),
@@ -52,22 +52,22 @@ fn serve_typed_frame<N: BootName>(
     tables: &Tables<N>,
     cpu: &mut Cpu<N>,
     path: &[u8],
-) -> Said
-    ensures said { SaysWork N.frames (asked.Frame path.entry) (locked_state locked.old cpu.old)
+) -> AnswerValue
+    ensures answer { SaysWork N.frames (work.Frame path.entry) (locked_state locked.old cpu.old)
         (locked_state locked.new cpu.new) (answer_of locked.new.machine.ledger result) }
-    ensures groups { SaysItsGroups locked.new.machine.ledger result }
+    ensures groups { NamesItsGroups locked.new.machine.ledger result }
 {
     let Some(group) = locked.find(path) else {
-        return Said::Served(Outcome::Refused(Fault::NoGroup));
+        return AnswerValue::Served(Outcome::Refused(Fault::NoGroup));
     };
     let cpu_number = cpu.number();
     let group_number = group.number();
     match cpu.alloc_fast(tables, group_number) {
         Fast::Got(frame) => {
             watch_fast(locked, cpu_number, group_number, &Fast::Got(frame));
-            Said::Fast(Fast::Got(frame))
+            AnswerValue::Fast(Fast::Got(frame))
         }
-        _ => Said::Served(serve_frame_under_lock(locked, tables, cpu, group, false)),
+        _ => AnswerValue::Served(serve_frame_under_lock(locked, tables, cpu, group, false)),
     }
 }
 
@@ -77,16 +77,16 @@ fn serve_typed_fast<N: BootName>(
     tables: &Tables<N>,
     cpu: &mut Cpu<N>,
     group: u32,
-) -> Said
+) -> AnswerValue
     requires there { group < 64 }
-    ensures said { SaysWork N.frames (asked.Fast group) (locked_state locked.old cpu.old)
+    ensures answer { SaysWork N.frames (work.Fast group) (locked_state locked.old cpu.old)
         (locked_state locked.new cpu.new) (answer_of locked.new.machine.ledger result) }
-    ensures groups { SaysItsGroups locked.new.machine.ledger result }
+    ensures groups { NamesItsGroups locked.new.machine.ledger result }
 {
     let cpu_number = cpu.number();
     let fast = cpu.alloc_fast(tables, group);
     watch_fast(locked, cpu_number, group, &fast);
-    Said::Fast(fast)
+    AnswerValue::Fast(fast)
 }
 
 // Lists a fresh frame again, if possible without the lock.
@@ -95,18 +95,18 @@ fn serve_typed_release<N: BootName>(
     tables: &Tables<N>,
     cpu: &mut Cpu<N>,
     frame: u32,
-) -> Said
+) -> AnswerValue
     requires in_zone { frame < N.frames.frames }
-    ensures said { SaysWork N.frames (asked.Release frame) (locked_state locked.old cpu.old)
+    ensures answer { SaysWork N.frames (work.Release frame) (locked_state locked.old cpu.old)
         (locked_state locked.new cpu.new) (answer_of locked.new.machine.ledger result) }
-    ensures groups { SaysItsGroups locked.new.machine.ledger result }
+    ensures groups { NamesItsGroups locked.new.machine.ledger result }
 {
     let cpu_number = cpu.number();
     if try_list(tables, cpu, frame) {
         watch_credit(locked, cpu_number, frame);
-        return Said::Listed;
+        return AnswerValue::Listed;
     }
-    Said::Served(serve_under_lock(locked, tables, cpu, &Cmd::Release { frame }, false))
+    AnswerValue::Served(serve_under_lock(locked, tables, cpu, &Cmd::Release { frame }, false))
 }
 
 // Pins the frame without the lock.
@@ -115,18 +115,18 @@ fn serve_typed_get<N: BootName>(
     tables: &Tables<N>,
     cpu: &mut Cpu<N>,
     frame: u32,
-) -> Said
+) -> AnswerValue
     requires in_zone { frame < N.frames.frames }
-    ensures said { SaysWork N.frames (asked.Get frame) (locked_state locked.old cpu.old)
+    ensures answer { SaysWork N.frames (work.Get frame) (locked_state locked.old cpu.old)
         (locked_state locked.new cpu.new) (answer_of locked.new.machine.ledger result) }
-    ensures groups { SaysItsGroups locked.new.machine.ledger result }
+    ensures groups { NamesItsGroups locked.new.machine.ledger result }
 {
     let cpu_number = cpu.number();
     let got = pin(tables, cpu, frame);
     watch_get(locked, cpu_number, frame, &got);
     match got {
-        Ok(got) => Said::Got(got),
-        Err(fault) => Said::Served(Outcome::Refused(fault)),
+        Ok(got) => AnswerValue::Got(got),
+        Err(fault) => AnswerValue::Served(Outcome::Refused(fault)),
     }
 }
 
@@ -136,17 +136,17 @@ fn serve_typed_put<N: BootName>(
     tables: &Tables<N>,
     cpu: &mut Cpu<N>,
     frame: u32,
-) -> Said
+) -> AnswerValue
     requires in_zone { frame < N.frames.frames }
-    ensures said { SaysWork N.frames (asked.Put frame) (locked_state locked.old cpu.old)
+    ensures answer { SaysWork N.frames (work.Put frame) (locked_state locked.old cpu.old)
         (locked_state locked.new cpu.new) (answer_of locked.new.machine.ledger result) }
-    ensures groups { SaysItsGroups locked.new.machine.ledger result }
+    ensures groups { NamesItsGroups locked.new.machine.ledger result }
 {
     let cpu_number = cpu.number();
     let put = unpin(tables, cpu, frame);
     watch_put(locked, cpu_number, frame, &put);
     match put {
-        Some(put) => Said::Put(put),
-        None => Said::Served(Outcome::Refused(Fault::NotPinned)),
+        Some(put) => AnswerValue::Put(put),
+        None => AnswerValue::Served(Outcome::Refused(Fault::NotPinned)),
     }
 }

@@ -8,10 +8,10 @@ ghost use Rattle.script_replay.specs.History.{HoldsInvariants};
 ghost use Rattle.script_replay.specs.Lines.{system_state};
 ghost use Rattle.script_replay.specs.Ranges.{IsThere, NamesInRange};
 ghost use Rattle.script_replay.specs.Terms.{boot_tables};
-ghost use Rattle.script_replay.specs.Typed.{IsShort, SaysCommand, SaysItsGroups, SaysWork, answer_of};
+ghost use Rattle.script_replay.specs.Typed.{IsShort, NamesItsGroups, SaysCommand, SaysWork, answer_of};
 ghost use Rattle.script_replay.specs.Works.{work_of};
 
-use crate::said::Said;
+use crate::answer_value::AnswerValue;
 use crate::typed_answers::serve_typed_work;
 use crate::value_replay::see_invariants;
 use crate::work::work_of;
@@ -27,13 +27,13 @@ pub fn serve_typed<N: BootName>(
     cpus: &mut [Cpu<N>],
     cpu: u32,
     command: &Command<'_>,
-) -> Said
+) -> AnswerValue
     requires there { IsThere N.frames.frames (length cpus.old) cpu command.now }
     requires short { IsShort (work_of command.now) }
-    ensures said { SaysCommand (boot_tables N.frames N.stocks) cpu command.now
+    ensures answer { SaysCommand (boot_tables N.frames N.stocks) cpu command.now
         (system_state locked.old cpus.old) (system_state locked.new cpus.new)
         (answer_of locked.new.machine.ledger result) }
-    ensures groups { SaysItsGroups locked.new.machine.ledger result }
+    ensures groups { NamesItsGroups locked.new.machine.ledger result }
 {
     let at = (cpu - 1) as usize;
     serve_typed_part(locked, tables, &mut cpus[at], command)
@@ -46,20 +46,20 @@ fn serve_typed_part<N: BootName>(
     tables: &Tables<N>,
     cpu: &mut Cpu<N>,
     command: &Command<'_>,
-) -> Said
+) -> AnswerValue
     requires in_range { NamesInRange N.frames.frames command.now }
     requires short { IsShort (work_of command.now) }
-    ensures said { SaysWork N.frames (work_of command.now) (locked_state locked.old cpu.old)
+    ensures answer { SaysWork N.frames (work_of command.now) (locked_state locked.old cpu.old)
         (locked_state locked.new cpu.new) (answer_of locked.new.machine.ledger result) }
-    ensures groups { SaysItsGroups locked.new.machine.ledger result }
+    ensures groups { NamesItsGroups locked.new.machine.ledger result }
     ensures invariants { HoldsInvariants N.frames N.stocks locked.new }
     ensures tied { IsTied N.frames N.stocks cpu.new }
     ensures none_fresh { cpu.new.stock_seat.view.last ≡ NoGroup → cpu.new.fresh ≡ [] }
 {
     let work = work_of(command);
-    let said = serve_typed_work(locked, tables, cpu, &work);
+    let answer = serve_typed_work(locked, tables, cpu, &work);
     let _cpu_number = cpu.number(); // Called for its contract: `tied`.
     let _last = cpu.last_stock(); // Called for its contract: `none_fresh`.
     see_invariants(locked);
-    said
+    answer
 }

@@ -4,7 +4,7 @@
 ghost use Rattle.std.specs.Prelude.{◌≡◌, ◌<◌, ◌^◌, ◌∷◌, [], ℕ};
 ghost use Rattle.frame_word.specs.declared.answers.Put.TheVariants.{Left};
 ghost use Rattle.step_rules.specs.declared.step.Action.TheVariants as step;
-ghost use Rattle.step_rules.specs.declared.step.Answer.TheVariants as says;
+ghost use Rattle.step_rules.specs.declared.step.Answer.TheVariants as step_answer;
 ghost use Rattle.mem_machine.specs.Steps.{cpu_makes};
 ghost use Rattle.reply_texts.specs.Answer as answer;
 ghost use Rattle.script_replay.specs.Answers.{OnlyWatched, fast_steps, get_steps, pin_answer, put_steps, unpin_answer};
@@ -87,7 +87,7 @@ pub(crate) fn watch_put<N: BootName>(
 #[inline(always)]
 #[tactic(auto, using(crate::proofs::Taking::unwatched))]
 pub(crate) fn watch_credit<N: BootName>(locked: &mut Locked<N>, cpu: u32, frame: u32)
-    ensures { OnlyWatched (cpu_makes cpu (step.Credit frame) says.Back ∷ []) locked.old locked.new }
+    ensures { OnlyWatched (cpu_makes cpu (step.Credit frame) step_answer.Back ∷ []) locked.old locked.new }
 {
     if !locked.watch().is_on() {
         return;

@@ -36,12 +36,12 @@ number_low NotKept = omega arith
 number_low NotPinned = omega arith
 number_low WriteOnly = omega arith
 
-reply_low : (said : Reply) → reply_status said ≤ most_refusal
+reply_low : (reply : Reply) → reply_status reply ≤ most_refusal
 reply_low (reply.OverLimit group path) = omega arith
 reply_low (reply.Refused fault) = number_low fault
-reply_low said = omega arith
+reply_low reply = omega arith
 
 -- the status of an answer
-pub status_low : (said : Answer) → status_of said ≤ most_refusal
-status_low (answer.Served said) = reply_low said
-status_low said = omega arith
+pub status_low : (answer : Answer) → status_of answer ≤ most_refusal
+status_low (answer.Served reply) = reply_low reply
+status_low answer = omega arith

@@ -9,27 +9,27 @@ use Rattle.group_charge.specs.Charges.{Ledger}
 use Rattle.reply_texts.specs.Answer.{Answer}
 use Rattle.reply_texts.specs.Answer as answer
 use Rattle.script_replay.specs.Typed.{answer_of}
-use Rattle.script_replay.specs.declared.said.Said.{Said}
-use Rattle.script_replay.specs.declared.said.Said.TheVariants.{Served}
+use Rattle.script_replay.specs.declared.answer_value.AnswerValue.{AnswerValue}
+use Rattle.script_replay.specs.declared.answer_value.AnswerValue.TheVariants.{Served}
 use Rattle.handles.specs.declared.calls.Call.{Call}
-use Rattle.handles.specs.declared.calls.Told.TheVariants as call
+use Rattle.handles.specs.declared.calls.CallAnswer.TheVariants as call
 use Rattle.handles.specs.declared.calls.Shown.{Shown}
 use Rattle.handles.specs.Calls.{Calls, ShowsFile, shown_reply}
 use Rattle.handles.specs.Known.{KnownLive}
 use Rattle.tempolemon_c.specs.declared.told.Told.{Told}
-use Rattle.tempolemon_c.specs.Calls.{CallsInto, HasSaid, PutsAnswer, TellsAnswer, TellsSaid}
+use Rattle.tempolemon_c.specs.Calls.{CallsInto, HasGroupsBehind, PutsAnswer, TellsAnswer, TellsValue}
 use Rattle.tempolemon_c.specs.Handles.{LiveBoot, OnBoot, live_boot}
 use Rattle.tempolemon_c.specs.Statuses.{most_refusal}
 use Rattle.tempolemon_c.specs.Words.{status_of, told_of}
 use Rattle.tempolemon_c.proofs.Numbers.{status_low}
 
 -- what is told of what isn't a text doesn't depend on the boot
-pub plain_told : (boot : Option LiveBoot) (said : Said) (status : ℕ) (told : Told) (buffer : List ℕ)
-    → ((ledger : Ledger) → status ≡ status_of (answer_of ledger said)) → ((ledger : Ledger) → told ≡ told_of (answer_of ledger said))
-    → ((ledger : Ledger) (buffer : List ℕ) → PutsAnswer (answer_of ledger said) buffer buffer)
-    → IfSome boot (TellsSaid said status told buffer buffer)
-plain_told None said status told buffer status_is told_is no_text = tt
-plain_told (Some boot) said status told buffer status_is told_is no_text = let ledger = boot.live.state.locked.machine.ledger in record {
+pub plain_told : (boot : Option LiveBoot) (value : AnswerValue) (status : ℕ) (told : Told) (buffer : List ℕ)
+    → ((ledger : Ledger) → status ≡ status_of (answer_of ledger value)) → ((ledger : Ledger) → told ≡ told_of (answer_of ledger value))
+    → ((ledger : Ledger) (buffer : List ℕ) → PutsAnswer (answer_of ledger value) buffer buffer)
+    → IfSome boot (TellsValue value status told buffer buffer)
+plain_told None value status told buffer status_is told_is no_text = tt
+plain_told (Some boot) value status told buffer status_is told_is no_text = let ledger = boot.live.state.locked.machine.ledger in record {
   status_is = status_is ledger;
   told_is = told_is ledger;
   buffer = no_text ledger buffer;
@@ -43,25 +43,25 @@ module _ (group : ℕ) (file : File) (shown : Shown) (before after : Option Live
 
   -- what is told of what a file shows is that of the reply to a read of it
   pub tells : (status : ℕ) (told : Told) (old new : List ℕ) → TellsAnswer (answer.Served (shown_reply shown)) status told old new
-      → IfSome before (TellsSaid (Served (outcome.Text group file)) status told old new)
+      → IfSome before (TellsValue (Served (outcome.Text group file)) status told old new)
   tells status told old new told_so =
-      subst (λ (b : Option LiveBoot). IfSome b (TellsSaid (Served (outcome.Text group file)) status told old new))
+      subst (λ (b : Option LiveBoot). IfSome b (TellsValue (Served (outcome.Text group file)) status told old new))
       (sym on.was) (subst (λ (r : Reply). TellsAnswer (answer.Served r) status told old new) on.done.reply_is told_so)
 
-module _ (cpu : ℕ) (asked : Call) (said : Said) (before mid : Option LiveBoot)
-    (on : OnBoot (λ frames stocks from to. Calls frames stocks cpu asked from to (call.Said said)) before mid) where
-  -- the groups that are said are there
-  pub said_there : IsSomeAnd mid (HasSaid said)
-  said_there = subst (λ (b : Option LiveBoot). IsSomeAnd b (HasSaid said)) (sym on.is) on.done.tells.is_told.0
+module _ (cpu : ℕ) (asked : Call) (value : AnswerValue) (before mid : Option LiveBoot)
+    (on : OnBoot (λ frames stocks from to. Calls frames stocks cpu asked from to (call.Served value)) before mid) where
+  -- the groups that the value names are there
+  pub groups_there : IsSomeAnd mid (HasGroupsBehind value)
+  groups_there = subst (λ (b : Option LiveBoot). IsSomeAnd b (HasGroupsBehind value)) (sym on.is) on.done.tells.is_answer.0
 
   -- and what is told of it is that of the call's answer
-  pub said_called : (after : Option LiveBoot) (status : ℕ) (told : Told) (old new : List ℕ) → after ≡ mid
-      → IfSome mid (TellsSaid said status told old new) → CallsInto cpu asked before after status told old new
-  said_called after status told old new same shown =
+  pub value_called : (after : Option LiveBoot) (status : ℕ) (told : Told) (old new : List ℕ) → after ≡ mid
+      → IfSome mid (TellsValue value status told old new) → CallsInto cpu asked before after status told old new
+  value_called after status told old new same shown =
       let answer : Answer = on.done.tells.answer in
-      let shows : TellsAnswer (answer_of on.to.state.locked.machine.ledger said) status told old new =
-      subst (λ (b : Option LiveBoot). IfSome b (TellsSaid said status told old new)) on.is shown in
-      let status_is : status ≡ status_of answer = shows.status_is ∙ ap status_of (sym on.done.tells.is_told.1) in
+      let shows : TellsAnswer (answer_of on.to.state.locked.machine.ledger value) status told old new =
+      subst (λ (b : Option LiveBoot). IfSome b (TellsValue value status told old new)) on.is shown in
+      let status_is : status ≡ status_of answer = shows.status_is ∙ ap status_of (sym on.done.tells.is_answer.1) in
       let low : status ≤ most_refusal = subst (λ (k : ℕ). k ≤ most_refusal) (sym status_is) (status_low answer) in record {
         statuses = inl low;
         none_live = (λ e. absurd (omega (arith, e, low)), λ none. absurd (none-some _ (sym none ∙ on.was)));
@@ -77,8 +77,8 @@ module _ (cpu : ℕ) (asked : Call) (said : Said) (before mid : Option LiveBoot)
             done = record { command = on.done.command; means = on.done.means; serves = on.done.tells.serves };
           };
           status_is = status_is;
-          told_is = shows.told_is ∙ ap told_of (sym on.done.tells.is_told.1);
-          buffer = subst (λ (a : Answer). PutsAnswer a old new) (sym on.done.tells.is_told.1) shows.buffer;
+          told_is = shows.told_is ∙ ap told_of (sym on.done.tells.is_answer.1);
+          buffer = subst (λ (a : Answer). PutsAnswer a old new) (sym on.done.tells.is_answer.1) shows.buffer;
         };
         no_cpu = λ e. absurd (omega (arith, e, low));
         no_frame = λ e. absurd (omega (arith, e, low));

@@ -15,9 +15,9 @@ use Rattle.handles.specs.declared.calls.Call.TheVariants as call
 use Rattle.control_files.specs.declared.file.File.{File}
 use Rattle.handles.specs.Calls.{HasFile, IsCpu, Means, NamesNoFrame, NamesNoGroup, RefusesCall, ServesCommand}
 use Rattle.handles.specs.Known.{KnownLive}
-use Rattle.script_replay.specs.Typed.{SaysItsGroups, answer_of}
-use Rattle.script_replay.specs.declared.said.Said.{Said}
-use Rattle.script_replay.specs.declared.said.Said.TheVariants as said
+use Rattle.script_replay.specs.Typed.{NamesItsGroups, answer_of}
+use Rattle.script_replay.specs.declared.answer_value.AnswerValue.{AnswerValue}
+use Rattle.script_replay.specs.declared.answer_value.AnswerValue.TheVariants as value
 use Rattle.tempolemon_c.specs.declared.told.Told.{Told}
 use Rattle.tempolemon_c.specs.Handles.{LiveBoot, OnBoot}
 use Rattle.tempolemon_c.specs.Statuses.{IsHostStatus, bad_cpu, bad_frame, bad_group, most_refusal}
@@ -43,8 +43,8 @@ IsPlainOutcome (outcome.Text group file) = ⊥
 IsPlainOutcome other = Unit {0}
 
 -- the answer isn't a text
-abbrev pub IsPlain : Said → Type 0
-IsPlain (said.Served outcome) = IsPlainOutcome outcome
+abbrev pub IsPlain : AnswerValue → Type 0
+IsPlain (value.Served outcome) = IsPlainOutcome outcome
 IsPlain other = Unit {0}
 
 -- a text was written at the start of a buffer that has room for it; one without room stays
@@ -63,19 +63,19 @@ PutsAnswer (answer.Served reply) old new = PutsReply reply old new
 PutsAnswer other old new = new ≡ old
 
 -- the status, what is told, and what the buffer gets are those of this answer
-pub record TellsAnswer (said : Answer) (status : ℕ) (told : Told) (old new : List ℕ) : Type 0 where
-  pub status_is : status ≡ status_of said
-  pub told_is : told ≡ told_of said
-  pub buffer : PutsAnswer said old new
+pub record TellsAnswer (answer : Answer) (status : ℕ) (told : Told) (old new : List ℕ) : Type 0 where
+  pub status_is : status ≡ status_of answer
+  pub told_is : told ≡ told_of answer
+  pub buffer : PutsAnswer answer old new
 
--- the same of what is said, with the texts that the boot gives it
-abbrev pub TellsSaid : Said → (status : ℕ) → Told → (old new : List ℕ) → LiveBoot → Type 0
-TellsSaid said status told old new boot =
-    TellsAnswer (answer_of boot.live.state.locked.machine.ledger said) status told old new
+-- the same of the answer that is this value, with the texts that the boot gives it
+abbrev pub TellsValue : AnswerValue → (status : ℕ) → Told → (old new : List ℕ) → LiveBoot → Type 0
+TellsValue value status told old new boot =
+    TellsAnswer (answer_of boot.live.state.locked.machine.ledger value) status told old new
 
--- the boot has the groups whose paths or files are said
-abbrev pub HasSaid : Said → LiveBoot → Type 0
-HasSaid said boot = SaysItsGroups boot.live.state.locked.machine.ledger said
+-- the boot has the groups whose paths or files are the answer
+abbrev pub HasGroupsBehind : AnswerValue → LiveBoot → Type 0
+HasGroupsBehind value boot = NamesItsGroups boot.live.state.locked.machine.ledger value
 
 -- the boot behind the handle has the group, and it isn't the root, which has no files
 abbrev pub HasFileBehind : (group : ℕ) → File → LiveBoot → Type 0

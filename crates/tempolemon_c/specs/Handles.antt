@@ -4,9 +4,9 @@ use Rattle.frame_word.specs.Seats.{KnownTable}
 use Rattle.stock_word.specs.Stock.{KnownStockTable}
 use Rattle.zone_sizes.specs.declared.config.Config.{Config}
 use Rattle.zone_sizes.specs.Config.{IsValidConfig}
-use Rattle.load_run.specs.Answers.{StandsAtFirst}
+use Rattle.load_run.specs.Answers.{IsAfterBoot}
 use Rattle.load_run.specs.Ending.{EndsHeld}
-use Rattle.load_run.specs.declared.boot_end.Ended.{Ended}
+use Rattle.load_run.specs.declared.boot_end.BootEnd.{BootEnd}
 use Rattle.handles.specs.Known.{KnownLive}
 use Rattle.handles.specs.Commands.{AnswersScript, RefusesScript, RunsOut, TakesKept, with_kept}
 use Rattle.tempolemon_c.specs.declared.report.Report.{Report}
@@ -31,7 +31,7 @@ pub record BootsNew (sizes : Config) (after : Option LiveBoot) : Type 0 where
   pub boot : LiveBoot
   pub is : after ≡ Some boot
   pub valid : IsValidConfig sizes
-  pub first : StandsAtFirst sizes boot.frames boot.stocks boot.live.state
+  pub first : IsAfterBoot sizes boot.frames boot.stocks boot.live.state
   pub sizes_are : boot.live.sizes ≡ sizes
 
 -- a boot stands behind the handle before and after a call, and under its tables `does` leads from one to the other
@@ -77,7 +77,7 @@ abbrev pub KeepsAnswer : (boot : Option LiveBoot) (answer : List ℕ) → Type 0
 KeepsAnswer boot answer = OnBoot (λ frames stocks from to. from.kept ≡ answer) boot boot
 
 -- what a host reads of the end of a boot, as the boot told it
-abbrev pub ended_of : Report → Ended
+abbrev pub ended_of : Report → BootEnd
 ended_of report = record {
   held = report.held;
   audit = record {

@@ -2,9 +2,9 @@
 
 ghost use Rattle.std.specs.Prelude.{◌≡◌, IfSome, IsSomeAnd};
 ghost use Rattle.mem_system.specs.declared.outcome.Outcome.TheVariants.{Text};
-ghost use Rattle.script_replay.specs.declared.said.Said.TheVariants.{Served};
+ghost use Rattle.script_replay.specs.declared.answer_value.AnswerValue.TheVariants.{Served};
 ghost use Rattle.tempolemon_c.specs.Behind.{behind};
-ghost use Rattle.tempolemon_c.specs.Calls.{CallsHost, CallsInto, HasFileBehind, HasSaid, TellsSaid};
+ghost use Rattle.tempolemon_c.specs.Calls.{CallsHost, CallsInto, HasFileBehind, HasGroupsBehind, TellsValue};
 
 use crate::buffers::put_answers;
 use crate::handle::Handle;
@@ -13,9 +13,9 @@ use crate::told::{Told, tell};
 use crate::words::{NOTHING, REFUSED, TEXT};
 use control_files::file::File;
 use group_tree::group::GroupId;
-use handles::calls::{Call, Shown, Told as Said};
+use handles::calls::{Call, CallAnswer, Shown};
 use mem_system::Outcome;
-use script_replay::Said as Answer;
+use script_replay::AnswerValue;
 use std::alloc::Global;
 
 /// Serves a call of the CPU of this number, and tells the host.
@@ -32,7 +32,7 @@ pub(crate) fn serve_call(
 }
 
 /// Serves a call as `serve_call` does, and writes the text of a file into the buffer, if that has room for it.
-#[tactic(auto, using(crate::proofs::Showing::said_there, crate::proofs::Showing::said_called))]
+#[tactic(auto, using(crate::proofs::Showing::groups_there, crate::proofs::Showing::value_called))]
 pub(crate) fn serve_into(
     alloc: Global,
     handle: &mut Handle,
@@ -51,32 +51,32 @@ pub(crate) fn serve_into(
         return NOT_LIVE;
     }
     match handle.call(alloc, cpu, call) {
-        Said::Said(said) => tell_said(alloc, handle, &said, buffer, told),
-        Said::NoCpu => BAD_CPU,
-        Said::NoFrame => BAD_FRAME,
-        Said::NoGroup => BAD_GROUP,
+        CallAnswer::Served(value) => tell_value(alloc, handle, &value, buffer, told),
+        CallAnswer::NoCpu => BAD_CPU,
+        CallAnswer::NoFrame => BAD_FRAME,
+        CallAnswer::NoGroup => BAD_GROUP,
     }
 }
 
-// Tells what is said, and writes the text of a file into the buffer, if that has room for it.
+// Tells the answer of a call, and writes the text of a file into the buffer, if that has room for it.
 #[tactic(auto, using(crate::proofs::Showing::plain_told))]
-fn tell_said(
+fn tell_value(
     alloc: Global,
     handle: &mut Handle,
-    said: &Answer,
+    value: &AnswerValue,
     buffer: &mut [u8],
     told: &mut Told,
 ) -> u8
-    requires there { IsSomeAnd (behind handle.old) (HasSaid said.now) }
+    requires there { IsSomeAnd (behind handle.old) (HasGroupsBehind value.now) }
     ensures stays { behind handle.new ≡ behind handle.old }
-    ensures told { IfSome (behind handle.old) (TellsSaid said.now result told.new buffer.old buffer.new) }
+    ensures told { IfSome (behind handle.old) (TellsValue value.now result told.new buffer.old buffer.new) }
 {
-    match *said {
-        Answer::Served(Outcome::Text(group, file)) => {
+    match *value {
+        AnswerValue::Served(Outcome::Text(group, file)) => {
             tell_file(alloc, handle, group, file, buffer, told)
         }
         _ => {
-            let answered = tell(said);
+            let answered = tell(value);
             *told = answered.told;
             answered.status
         }
@@ -97,7 +97,7 @@ fn tell_file(
     requires there { IsSomeAnd (behind handle.old) (HasFileBehind group file) }
     ensures stays { behind handle.new ≡ behind handle.old }
     ensures told { IfSome (behind handle.old)
-        (TellsSaid (Served (Text group file)) result told.new buffer.old buffer.new) }
+        (TellsValue (Served (Text group file)) result told.new buffer.old buffer.new) }
 {
     match handle.show(alloc, group, file) {
         Shown::Text(text) => {

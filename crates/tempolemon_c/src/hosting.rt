@@ -12,7 +12,7 @@ use crate::handle::Handle;
 use crate::report::Report;
 use control_files::file::File;
 use group_tree::group::GroupId;
-use handles::calls::{Call, Shown, Told};
+use handles::calls::{Call, CallAnswer, Shown};
 use handles::raw::{Raw, call_raw, serve_raw, show_raw};
 use handles::requests::{Answer, Request};
 use mem_system::Boot;
@@ -56,7 +56,7 @@ impl Handle {
 
     /// Serves a call of the CPU of this number.
     #[tactic(auto, using(crate::proofs::Crossing::crossed, crate::proofs::Crossing::some_behind))]
-    pub(crate) fn call(&mut self, alloc: Global, cpu: u32, call: &Call<'_>) -> Told
+    pub(crate) fn call(&mut self, alloc: Global, cpu: u32, call: &Call<'_>) -> CallAnswer
         requires live { IsSome (behind self.old) }
         ensures { OnBoot (λ frames stocks from to. Calls frames stocks cpu call.now from to result)
             (behind self.old) (behind self.new) }

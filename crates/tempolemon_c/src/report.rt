@@ -2,7 +2,7 @@
 
 ghost use Rattle.std.specs.Prelude.{◌≡◌};
 
-use load_run::boot_end::Ended;
+use load_run::boot_end::BootEnd;
 
 /// What a boot reports at its end, in the order and of the widths that the header gives.
 #[repr(C)]
@@ -30,7 +30,7 @@ impl Report {
     ghost use Rattle.tempolemon_c.specs.Handles.{ended_of};
 
     /// What the boot told.
-    pub fn of(ended: Ended) -> Report
+    pub fn of(ended: BootEnd) -> Report
         ensures { ended_of result ≡ ended }
     {
         Report {

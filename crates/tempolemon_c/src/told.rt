@@ -16,7 +16,7 @@ use crate::words::{
 use cpu_part::Fast;
 use frame_word::{Get, Put};
 use mem_system::Outcome;
-use script_replay::Said;
+use script_replay::AnswerValue;
 
 /// What a host is told by a call: a word, and the number that goes with it.
 #[repr(C)]
@@ -49,19 +49,19 @@ fn with_number(word: u8, number: u64) -> Answered
 }
 
 /// What is told of an answer that isn't a text.
-pub(crate) fn tell(said: &Said) -> Answered
-    requires { IsPlain said.now }
-    ensures status { (ledger : Ledger) → result.status ≡ status_of (answer_of ledger said.now) }
-    ensures told { (ledger : Ledger) → result.told ≡ told_of (answer_of ledger said.now) }
-    ensures no_text { (ledger : Ledger) (buffer : List ℕ) → PutsAnswer (answer_of ledger said.now) buffer buffer }
+pub(crate) fn tell(value: &AnswerValue) -> Answered
+    requires { IsPlain value.now }
+    ensures status { (ledger : Ledger) → result.status ≡ status_of (answer_of ledger value.now) }
+    ensures told { (ledger : Ledger) → result.told ≡ told_of (answer_of ledger value.now) }
+    ensures no_text { (ledger : Ledger) (buffer : List ℕ) → PutsAnswer (answer_of ledger value.now) buffer buffer }
 {
-    match said {
-        Said::Served(outcome) => tell_outcome(outcome),
-        Said::Settled => with_number(SETTLED, 0),
-        Said::Fast(fast) => tell_fast(fast),
-        Said::Got(got) => tell_get(got),
-        Said::Put(put) => tell_put(put),
-        Said::Listed => with_number(LISTED, 0),
+    match value {
+        AnswerValue::Served(outcome) => tell_outcome(outcome),
+        AnswerValue::Settled => with_number(SETTLED, 0),
+        AnswerValue::Fast(fast) => tell_fast(fast),
+        AnswerValue::Got(got) => tell_get(got),
+        AnswerValue::Put(put) => tell_put(put),
+        AnswerValue::Listed => with_number(LISTED, 0),
     }
 }
 

@@ -52,11 +52,11 @@ use Rattle.cpu_part.specs.declared.boot_name.BootName.{Ghosts}
 use Rattle.handles.specs.contracts.raw.Raw as Raw
 use Rattle.handles.specs.contracts.hold.Hold as Hold
 use Rattle.handles.specs.contracts.calls.Call as Call
-use Rattle.handles.specs.contracts.calls.Told as Told
+use Rattle.handles.specs.contracts.calls.CallAnswer as CallAnswer
 use Rattle.handles.specs.contracts.serving.serve_call as S
 use Rattle.handles.proofs.serving.serve_call.Symbol as serve_sym
 use Rattle.handles.proofs.serving.serve_call.Met as serve_met
-use Rattle.handles.proofs.calls.Told.TheLaws as told_laws
+use Rattle.handles.proofs.calls.CallAnswer.TheLaws as told_laws
 use Rattle.handles.specs.contracts.raw.call_raw as F
 use Rattle.handles.specs.contracts.raw.call_raw.Key.{name as #self}
 use Rattle.handles.proofs.raw.call_raw.Statement as stated
@@ -128,7 +128,7 @@ module _ {M : Type 1} {𝓤 : Ura M} (𝓛 : Logic 𝓤) (at_mem : Memory → SP
       let y : (Served g).Ghost = (((κ₀, (κ₁, (α ∷ [], tt))), (q₀, (q₁, (full_share, tt))), z.0.2, (from, (n, (r, tt))), (word p hv ∷ [], (vint w32 n ∷ [], (vptr b o ∷ [], tt)))), tt) in
       use1 𝓛 (raw ((Served g).pre y)) (id⊢ 𝓤 _) $
       calls_at ! (fm_of 𝓤 H 𝓛.laws 𝓣) (Served g) (kn g) y (and_then ! (get ! refl) (and_then ! (get ! refl) (and_then ! (get ! refl) (no_more !)))) (λ u.
-      use1 𝓛 (later (some (λ (t : HoldR.Denot × Told.the_row.Denot). ((‵ (flft κ₀ q₀) ⊛ (‵ (flft κ₁ q₁) ⊛ (‵ (flft (α ∷ []) full_share) ⊛ ‵ ftrue))) ⊛ ‵ ((Tuple (HoldR ∷ Told.the_row ∷ [])).own_val t (u ∷ []))) ⊛
+      use1 𝓛 (later (some (λ (t : HoldR.Denot × CallAnswer.the_row.Denot). ((‵ (flft κ₀ q₀) ⊛ (‵ (flft κ₁ q₁) ⊛ (‵ (flft (α ∷ []) full_share) ⊛ ‵ ftrue))) ⊛ ‵ ((Tuple (HoldR ∷ CallAnswer.the_row ∷ [])).own_val t (u ∷ []))) ⊛
       some (λ ended. ‵ (lasts (S.ended brand g none) (κ₀, (κ₁, (α ∷ [], tt))) (from, (n, (r, tt))) ended) ⊛ raw (fact 𝓤 (OnLive (λ live to. Calls g.frames g.stocks n r.now live to t.1) d.live t.0.live)))))) (id⊢ 𝓤 _) $
       await ! tt $ pick ! (λ t. split ! $ move ! (1 ∷ []) $ pick ! (λ ended. split ! $ drop ! $ heard ! (OnLive (λ live to. Calls g.frames g.stocks n r.now live to t.1) d.live t.0.live) (λ did. split ! $
       -- [the tokens; the result]
@@ -138,9 +138,9 @@ module _ {M : Type 1} {𝓤 : Ura M} (𝓛 : Logic 𝓤) (at_mem : Memory → SP
       let made : Raw.the_row.Denot = record { ptr = p'; alloc = a'; frames = g.frames; stocks = g.stocks; live = t.0.live } in
       fpick ! (λ vss. fsplit ! $ feq_l ! (λ eu. fsplit ! $
       parts_out (shape (Hold.the_type marker g)) ! p' a' vss.0 F₂ (λ hw e0 fw. move ! (2 ∷ []) $ fsplit ! $
-      row_tells Told.the_row told_laws.the_row_laws ! t.1 vss.1.0 (λ tv e1 fv. move ! (1 ∷ []) $ drop ! $
+      row_tells CallAnswer.the_row told_laws.the_row_laws ! t.1 vss.1.0 (λ tv e1 fv. move ! (1 ∷ []) $ drop ! $
       -- [what is told; what the hold owns; the handle; the tokens]
-      let both_typed : T (has_ty (layout Raw.the_row) (word p' hw) && (has_ty (layout Told.the_row) tv && true)) × WT (vstruct (of_list (word p' hw ∷ tv ∷ []))) = (both (has_ty (layout Raw.the_row) (word p' hw)) (has_ty (layout Told.the_row) tv && true) (word_typed p' hw fw).0 (and_tt (has_ty (layout Told.the_row) tv) fv.0), ((word_typed p' hw fw).1, (fv.1, tt))) in
+      let both_typed : T (has_ty (layout Raw.the_row) (word p' hw) && (has_ty (layout CallAnswer.the_row) tv && true)) × WT (vstruct (of_list (word p' hw ∷ tv ∷ []))) = (both (has_ty (layout Raw.the_row) (word p' hw)) (has_ty (layout CallAnswer.the_row) tv && true) (word_typed p' hw fw).0 (and_tt (has_ty (layout CallAnswer.the_row) tv) fv.0), ((word_typed p' hw fw).1, (fv.1, tt))) in
       lands_as ! (ap only (eu ∙ (λ j. vstruct (of_list (e0 j ++ (e1 j ++ []))) ∷ []))) refl both_typed $
       sets ! (of_opd ! (get_in ! (fld ! refl (stop !)) (sub ! 0 refl (whole !)))) refl (word_typed p' hw fw) $
       sets ! (of_opd ! (get_in ! (fld ! refl (stop !)) (sub ! 1 refl (whole !)))) refl fv $
@@ -155,7 +155,7 @@ module _ {M : Type 1} {𝓤 : Ura M} (𝓛 : Logic 𝓤) (at_mem : Memory → SP
       let out = vstruct (of_list (word p' hw ∷ tv ∷ [])) in
       suffices ! _ (ends_at 𝓛 F.ended stayed held z out (made, t.1) (tt, (tt, (tt, tt))) (tt, (tt, (tt, tt)))) $ says ! (record { frames_are = refl; stocks_are = refl; on_live = did }) $
       nothing ! $ move ! (2 ∷ 0 ∷ []) $ fjoin ! $ move ! (1 ∷ 0 ∷ []) $ fjoin ! $ feq_i ! (List Val) (out ∷ []) (out ∷ []) refl $ fjoin ! $
-      fpack ! (Valss (Raw.the_row ∷ Told.the_row ∷ [])) (λ vss. fsep (feq (List Val) (out ∷ []) (vstruct (of_list (vss.0 ++ (vss.1.0 ++ []))) ∷ [])) (owns (Raw.the_row ∷ Told.the_row ∷ []) (made, (t.1, tt)) vss)) (word p' hw ∷ [], (tv ∷ [], tt)) $
+      fpack ! (Valss (Raw.the_row ∷ CallAnswer.the_row ∷ [])) (λ vss. fsep (feq (List Val) (out ∷ []) (vstruct (of_list (vss.0 ++ (vss.1.0 ++ []))) ∷ [])) (owns (Raw.the_row ∷ CallAnswer.the_row ∷ []) (made, (t.1, tt)) vss)) (word p' hw ∷ [], (tv ∷ [], tt)) $
       nothing ! $ nothing ! $ fjoin ! $ nothing ! $ fjoin ! $ nothing ! $ fjoin ! $ join ! $ move ! (1 ∷ 0 ∷ []) $ join ! $ done !))))))))))))))))
 
 pub call_raw_spec : {M : Type 1} → stated.statement M

@@ -17,17 +17,17 @@ kills-init g c =
     so_far_nobody c.args.requester g.N.BootName.frames c.args.limited c.args.pages c.args.machine.now c.note_oom.new.self c.note.new.self
     c.note_oom.ensures.machine c.note_oom.ensures.steps c.note.ensures
 
-pub is_wanting-requires : goal.is_wanting-requires
-is_wanting-requires g c =
+pub needs_room-requires : goal.needs_room-requires
+needs_room-requires g c =
     so_far_there c.args.requester g.N.BootName.frames c.args.limited c.args.pages c.args.machine.now c.kills.machine
     c.kills.invariant c.requires
 
-pub returns-then-not-is_wanting : goal.returns-then-not-is_wanting
-returns-then-not-is_wanting g c =
+pub returns-then-not-needs_room : goal.returns-then-not-needs_room
+returns-then-not-needs_room g c =
     let over : has_room_at c.args.machine.now.ledger c.args.limited c.args.pages ≡ false =
     ap (λ (l : Ledger). has_room_at l c.args.limited c.args.pages) (sym c.charges.ensures) ∙ sym c.has_room_at.ensures ∙ c.if-has_room_at.false in
     kills_end c.args.requester g.N.BootName.frames c.args.limited c.args.pages c.args.machine.now c.kills.machine over c.kills.invariant
-    (λ wanting. absurd (false≢true (sym c.if-not-is_wanting.true ∙ c.is_wanting.ensures.1 wanting)))
+    (λ needs_room. absurd (false≢true (sym c.if-not-needs_room.true ∙ c.needs_room.ensures.1 needs_room)))
 
 pub kill-requires : goal.kill-requires
 kill-requires g c =
@@ -43,7 +43,7 @@ returns-in_default g c =
     let same : c.kill.new.machine ≡ c.kills.machine =
     subst (λ (o : Option Killed). KillsVictim t c.args.limited o c.kills.machine c.kill.new.machine) c.in_default.is c.kill.ensures.kills in
     subst (λ (y : KnownMachine). ByStepsOfAny t (KillsForRoom c.args.requester c.args.limited c.args.pages) c.args.machine.now y) (sym same)
-    (kills_end c.args.requester t c.args.limited c.args.pages c.args.machine.now c.kills.machine over c.kills.invariant (λ wanting. none))
+    (kills_end c.args.requester t c.args.limited c.args.pages c.args.machine.now c.kills.machine over c.kills.invariant (λ needs_room. none))
 
 pub kills-smaller : goal.kills-smaller
 kills-smaller g c =
@@ -72,7 +72,7 @@ kills-preserved g c =
     let marked : n.killed ≡ with_all_killed x.killed (kill_set x killed) =
     subst (λ (o : Option Killed). IfSome o (λ k. n.killed ≡ with_all_killed x.killed (kill_set x k))) c.in-Some.is c.kill.ensures.marked in
     so_far_killed c.args.requester t g.N.BootName.stocks c.args.limited c.args.pages killed c.args.machine.now
-    x n c.kills.invariant (c.is_wanting.ensures.0 c.if-not-is_wanting.false) c.frame_states-frame_states.ensures.consistent charges most kills
+    x n c.kills.invariant (c.needs_room.ensures.0 c.if-not-needs_room.false) c.frame_states-frame_states.ensures.consistent charges most kills
     marked c.kill.ensures.stocks c.kill.ensures.keeps
 
 pub returns-then-has_room_at : goal.returns-then-has_room_at

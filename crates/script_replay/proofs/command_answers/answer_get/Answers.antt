@@ -7,15 +7,15 @@ use Rattle.script_replay.proofs.command_answers.answer_get.Goals as goal
 
 pub returns : goal.returns
 returns g c =
-    let said : Answer = pin_answer c.pin-got.result in
-    let watched : OnlyWatched (get_steps c.args.cpu.now.number c.args.frame said) c.args.locked.now c.watch_get.new.locked =
-    subst (λ (n : ℕ). OnlyWatched (get_steps n c.args.frame said) c.args.locked.now c.watch_get.new.locked) c.number-cpu_number.ensures.number
+    let answer : Answer = pin_answer c.pin-got.result in
+    let watched : OnlyWatched (get_steps c.args.cpu.now.number c.args.frame answer) c.args.locked.now c.watch_get.new.locked =
+    subst (λ (n : ℕ). OnlyWatched (get_steps n c.args.frame answer) c.args.locked.now c.watch_get.new.locked) c.number-cpu_number.ensures.number
     c.watch_get.ensures in record {
       answered = λ is_explained. record {
-        text = answer_text said;
+        text = answer_text answer;
         so = record {
-          steps = get_steps c.args.cpu.now.number c.args.frame said;
-          writes = alone _ _ _ said (c.pin-got.ensures, record { locked = watched; steps_are = refl });
+          steps = get_steps c.args.cpu.now.number c.args.frame answer;
+          writes = alone _ _ _ answer (c.pin-got.ensures, record { locked = watched; steps_are = refl });
         };
         added = c.write_pin.ensures;
       };

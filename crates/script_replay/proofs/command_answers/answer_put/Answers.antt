@@ -7,15 +7,15 @@ use Rattle.script_replay.proofs.command_answers.answer_put.Goals as goal
 
 pub returns : goal.returns
 returns g c =
-    let said : Answer = unpin_answer c.unpin-put.result in
-    let watched : OnlyWatched (put_steps c.args.cpu.now.number c.args.frame said) c.args.locked.now c.watch_put.new.locked =
-    subst (λ (n : ℕ). OnlyWatched (put_steps n c.args.frame said) c.args.locked.now c.watch_put.new.locked) c.number-cpu_number.ensures.number
+    let answer : Answer = unpin_answer c.unpin-put.result in
+    let watched : OnlyWatched (put_steps c.args.cpu.now.number c.args.frame answer) c.args.locked.now c.watch_put.new.locked =
+    subst (λ (n : ℕ). OnlyWatched (put_steps n c.args.frame answer) c.args.locked.now c.watch_put.new.locked) c.number-cpu_number.ensures.number
     c.watch_put.ensures in record {
       answered = λ is_explained. record {
-        text = answer_text said;
+        text = answer_text answer;
         so = record {
-          steps = put_steps c.args.cpu.now.number c.args.frame said;
-          writes = alone _ _ _ said (c.unpin-put.ensures.put, record { locked = watched; steps_are = refl });
+          steps = put_steps c.args.cpu.now.number c.args.frame answer;
+          writes = alone _ _ _ answer (c.unpin-put.ensures.put, record { locked = watched; steps_are = refl });
         };
         added = c.write_unpin.ensures;
       };

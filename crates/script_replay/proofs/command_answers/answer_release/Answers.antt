@@ -1,6 +1,6 @@
 use Rattle.std.proofs.Common.{ℕ, [], ◌∷◌, refl, rules, subst}
 use Rattle.step_rules.specs.declared.step.Action.TheVariants as step
-use Rattle.step_rules.specs.declared.step.Answer.TheVariants as says
+use Rattle.step_rules.specs.declared.step.Answer.TheVariants as step_answer
 use Rattle.mem_machine.specs.Steps.{cpu_makes}
 use Rattle.mem_system.specs.Visits.{locked_state}
 use Rattle.reply_texts.specs.Answer.{Listed}
@@ -13,13 +13,13 @@ use Rattle.script_replay.proofs.command_answers.answer_release.Goals as goal
 
 pub returns-then-try_list : goal.returns-then-try_list
 returns-then-try_list g c =
-    let made : OnlyWatched (cpu_makes c.args.cpu.now.number (step.Credit c.args.frame) says.Back ∷ []) c.args.locked.now c.watch_credit.new.locked =
-    subst (λ (n : ℕ). OnlyWatched (cpu_makes n (step.Credit c.args.frame) says.Back ∷ []) c.args.locked.now c.watch_credit.new.locked)
+    let made : OnlyWatched (cpu_makes c.args.cpu.now.number (step.Credit c.args.frame) step_answer.Back ∷ []) c.args.locked.now c.watch_credit.new.locked =
+    subst (λ (n : ℕ). OnlyWatched (cpu_makes n (step.Credit c.args.frame) step_answer.Back ∷ []) c.args.locked.now c.watch_credit.new.locked)
     c.number-cpu_number.ensures.number c.watch_credit.ensures in record {
       answered = record {
         text = answer_text Listed;
         so = record {
-          steps = cpu_makes c.args.cpu.now.number (step.Credit c.args.frame) says.Back ∷ [];
+          steps = cpu_makes c.args.cpu.now.number (step.Credit c.args.frame) step_answer.Back ∷ [];
           writes = alone _ _ _ Listed (search rules, record { locked = made; steps_are = refl });
         };
         added = c.write_listed.ensures;

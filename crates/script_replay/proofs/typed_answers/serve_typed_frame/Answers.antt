@@ -6,8 +6,8 @@ use Rattle.mem_system.proofs.Found.{found_there}
 use Rattle.script_replay.specs.Answers.{GetsNoneFast, OnlyWatched, fast_steps}
 use Rattle.script_replay.proofs.typed_answers.serve_typed_frame.Goals as goal
 
-pub returns-in_default-clause-said : goal.returns-in_default-clause-said
-returns-in_default-clause-said g c = record {
+pub returns-in_default-clause-answer : goal.returns-in_default-clause-answer
+returns-in_default-clause-answer g c = record {
   steps = [];
   is_noted = false;
   answered = (
@@ -24,8 +24,8 @@ returns-in_default-clause-said g c = record {
 pub serve_frame_under_lock-requires : goal.serve_frame_under_lock-requires
 serve_frame_under_lock-requires g c = record { there = found_there _ _ _ (sym c.in-Some.ensures.found) }
 
-pub returns-in-Got-clause-said : goal.returns-in-Got-clause-said
-returns-in-Got-clause-said g c =
+pub returns-in-Got-clause-answer : goal.returns-in-Got-clause-answer
+returns-in-Got-clause-answer g c =
     let f = c.in-Got.frame in
     let group = c.in-Some.group in
     let made : OnlyWatched (fast_steps c.args.cpu.now.number group (Got f)) c.args.locked.now c.watch_fast.new.locked =
@@ -56,7 +56,7 @@ returns-in_default-alloc_fast g c =
       answers = subst (λ (g : ℕ). FastAnswers g c.alloc_fast.result c.args.cpu.now c.alloc_fast.new.self) c.number-group_number.ensures.value c.alloc_fast.ensures.answer;
       none = c.in_default-alloc_fast.not-Got;
     } in record {
-      said = record {
+      answer = record {
         steps = served.steps;
         is_noted = true;
         answered = record {

@@ -3,10 +3,10 @@ use Rattle.script_replay.specs.Answers.{pin_answer}
 use Rattle.script_replay.proofs.Saying.{got}
 use Rattle.script_replay.proofs.typed_answers.serve_typed_get.Goals as goal
 
-pub returns-in-Ok-clause-said : goal.returns-in-Ok-clause-said
-returns-in-Ok-clause-said g c =
+pub returns-in-Ok-clause-answer : goal.returns-in-Ok-clause-answer
+returns-in-Ok-clause-answer g c =
     got _ _ _ _ _ _ _ c.number-cpu_number.ensures.number _ c.pin-got.result c.pin-got.ensures c.watch_get.ensures (ap pin_answer c.in-Ok.is)
 
-pub returns-in-Err-clause-said : goal.returns-in-Err-clause-said
-returns-in-Err-clause-said g c =
+pub returns-in-Err-clause-answer : goal.returns-in-Err-clause-answer
+returns-in-Err-clause-answer g c =
     got _ _ _ _ _ _ _ c.number-cpu_number.ensures.number _ c.pin-got.result c.pin-got.ensures c.watch_get.ensures (ap pin_answer c.in-Err.is)

@@ -1,22 +1,22 @@
 use Rattle.std.proofs.Common.{ℕ, true, false, [], ◌∷◌, refl, rules, subst}
 use Rattle.step_rules.specs.declared.step.Action.TheVariants as step
-use Rattle.step_rules.specs.declared.step.Answer.TheVariants as says
+use Rattle.step_rules.specs.declared.step.Answer.TheVariants as step_answer
 use Rattle.mem_machine.specs.Steps.{cpu_makes}
 use Rattle.script_replay.specs.Answers.{OnlyWatched}
 use Rattle.script_replay.proofs.typed_answers.serve_typed_release.Goals as goal
 
-pub returns-then-try_list-clause-said : goal.returns-then-try_list-clause-said
-returns-then-try_list-clause-said g c =
-    let made : OnlyWatched (cpu_makes c.args.cpu.now.number (step.Credit c.args.frame) says.Back ∷ []) c.args.locked.now c.watch_credit.new.locked =
-    subst (λ (n : ℕ). OnlyWatched (cpu_makes n (step.Credit c.args.frame) says.Back ∷ []) c.args.locked.now c.watch_credit.new.locked)
+pub returns-then-try_list-clause-answer : goal.returns-then-try_list-clause-answer
+returns-then-try_list-clause-answer g c =
+    let made : OnlyWatched (cpu_makes c.args.cpu.now.number (step.Credit c.args.frame) step_answer.Back ∷ []) c.args.locked.now c.watch_credit.new.locked =
+    subst (λ (n : ℕ). OnlyWatched (cpu_makes n (step.Credit c.args.frame) step_answer.Back ∷ []) c.args.locked.now c.watch_credit.new.locked)
     c.number-cpu_number.ensures.number c.watch_credit.ensures in record {
-      steps = cpu_makes c.args.cpu.now.number (step.Credit c.args.frame) says.Back ∷ [];
+      steps = cpu_makes c.args.cpu.now.number (step.Credit c.args.frame) step_answer.Back ∷ [];
       is_noted = false;
       answered = (search rules, record { locked = made; steps_are = refl });
     }
 
-pub returns-clause-said : goal.returns-clause-said
-returns-clause-said g c = let is = c.serve_under_lock.ensures.served.served in record {
+pub returns-clause-answer : goal.returns-clause-answer
+returns-clause-answer g c = let is = c.serve_under_lock.ensures.served.served in record {
   steps = c.serve_under_lock.ensures.served.steps;
   is_noted = true;
   answered = record {

@@ -44,7 +44,7 @@ returns-in_default-alloc_fast g c =
     (RepliesVisited (boot_tables g.N.BootName.frames g.N.BootName.stocks) (cmd.Alloc c.args.path 0) c.alloc_fast.new.self c.visit_and_reply.new.cpu)
     (AnswersFrameByVisit (boot_tables g.N.BootName.frames g.N.BootName.stocks) c.args.path c.args.cpu.now c.visit_and_reply.new.cpu)
     c.args.text.now c.visit_and_reply.new.text c.visit_and_reply.result
-    (λ said so. visited_after (boot_tables g.N.BootName.frames g.N.BootName.stocks) c.args.path found.locked c.args.cpu.now c.alloc_fast.new.self c.visit_and_reply.new.cpu said found.sound (record {
+    (λ answer so. visited_after (boot_tables g.N.BootName.frames g.N.BootName.stocks) c.args.path found.locked c.args.cpu.now c.alloc_fast.new.self c.visit_and_reply.new.cpu answer found.sound (record {
       group = c.in-Some.group;
       found = sym found.so;
       fast = c.alloc_fast.result;

@@ -7,7 +7,7 @@ use mem_system::Outcome;
 /// What a command of a script is answered, without texts. `show` and `blocks`, whose answers are texts of any length,
 /// have none.
 #[derive(Clone, Copy, PartialEq, Eq)]
-pub enum Said {
+pub enum AnswerValue {
     /// The outcome of what was served under the lock, or refused before.
     Served(Outcome),
     /// The CPU was settled, and nothing else.

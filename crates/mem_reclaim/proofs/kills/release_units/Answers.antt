@@ -2,7 +2,7 @@ use Rattle.std.proofs.Common.{◌<◌, ◌≤◌, length, ap, arith, rules}
 use Rattle.frame_word.specs.Seats.{KnownTable}
 use Rattle.mem_machine.specs.Ageing.{entries_in}
 use Rattle.mem_reclaim.proofs.LettingGo.{let_go_done, let_go_empty, let_go_first, let_go_more, oldest_is}
-use Rattle.mem_reclaim.proofs.kills.let_go_all.Goals as goal
+use Rattle.mem_reclaim.proofs.kills.release_units.Goals as goal
 
 pub loop-unit-init : goal.loop-unit-init
 loop-unit-init g c = let_go_first g.N.BootName.frames c.args.group c.args.list c.args.machine.now
@@ -25,8 +25,8 @@ loop-unit-preserved g c =
     let_go_more g.N.BootName.frames c.args.group c.args.list c.args.machine.now c.loop-unit._unit c.loop-unit.machine c.loop-unit.invariant c.in-Some.unit o
     c.in-Some-frame.frame c.in-Some-frame.ensures.0 c.drop_zone_reference.result c.drop_zone_reference.new.self c.drop_zone_reference.ensures.releases c.drop_zone_reference.ensures.visit c.drop_zone_reference.ensures.steps
 
-pub returns-clause-lets_go : goal.returns-clause-lets_go
-returns-clause-lets_go g c =
+pub returns-clause-releases : goal.returns-clause-releases
+returns-clause-releases g c =
     let counted = c.listed-unit-end.ensures in
     let all = c.loop-unit-test.false in
     let done : length (entries_in c.args.machine.now c.args.group c.args.list) ≤ c.loop-unit._unit = omega (arith, counted, all) in

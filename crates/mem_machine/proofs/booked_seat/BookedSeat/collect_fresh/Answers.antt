@@ -4,7 +4,7 @@ use Rattle.stock_word.specs.Stock.{account_of}
 use Rattle.cpu_part.proofs.CallerLemmas.{handed_passes}
 use Rattle.cpu_part.specs.Cpus.{KnownCpu}
 use Rattle.mem_machine.proofs.Booking.{after_absorb, after_note, noted_group, within_count}
-use Rattle.mem_machine.proofs.stock_ledger.StockLedger.collect_fresh.Goals as goal
+use Rattle.mem_machine.proofs.booked_seat.BookedSeat.collect_fresh.Goals as goal
 
 pub collect-requires-clause-passes : goal.collect-requires-clause-passes
 collect-requires-clause-passes g c =

@@ -3,7 +3,7 @@ use Rattle.stock_word.specs.Stock.{KnownStockSeat, account_of}
 use Rattle.stock_word.specs.Kinds.{draining, with_steps}
 use Rattle.stock_word.specs.Calls.{steps_of_drain, with_view}
 use Rattle.mem_machine.proofs.Booking.{after_drain, within_count}
-use Rattle.mem_machine.proofs.stock_ledger.StockLedger.drain.Goals as goal
+use Rattle.mem_machine.proofs.booked_seat.BookedSeat.drain.Goals as goal
 
 pub overflow_sub-self : goal.overflow_sub-self
 overflow_sub-self g c =

@@ -1,6 +1,6 @@
 use Rattle.std.proofs.Common.{refl}
 use Rattle.mem_machine.proofs.Booking.{after_fill}
-use Rattle.mem_machine.proofs.stock_ledger.StockLedger.fill.Goals as goal
+use Rattle.mem_machine.proofs.booked_seat.BookedSeat.fill.Goals as goal
 
 pub invariant_of-self : goal.invariant_of-self
 invariant_of-self g c =

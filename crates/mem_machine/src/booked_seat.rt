@@ -19,36 +19,36 @@ use group_tree::group::{GroupId, MAX_GROUPS};
 use std::marker::{Model, PhantomData};
 use stock_word::{Stock, StockSeat};
 
-/// The zone's seat at the stocks, which contracts see. Each CPU's book exists only in proofs, as a part of what the
-/// seat knows. The code keeps the sums of the books by group.
+/// The zone's seat at the stocks, which contracts see, with the pages booked to the stocks of each group. What is
+/// booked to one CPU's stock exists only in proofs, as a part of what the seat knows.
 #[derive(Drop)]
-pub(crate) struct StockLedger<N: BootName> {
+pub(crate) struct BookedSeat<N: BootName> {
     seat: StockSeat,
-    // By group number: the sum of the books of the group's stocks, 0 to 2^32 - 1 pages.
+    // By group number: the pages booked to the group's stocks, 0 to 2^32 - 1.
     sums: [u32; MAX_GROUPS],
     of: PhantomData<N>,
 }
 
-impl<N: BootName> Model for StockLedger<N> {
+impl<N: BootName> Model for BookedSeat<N> {
     ghost use Rattle.stock_word.specs.Stock.{KnownStockSeat};
     ghost use Rattle.mem_machine.specs.Booked.{AreBooked};
 
     ghost Value = { KnownStockSeat };
 
-    ghost view = { λ books. books.seat };
+    ghost view = { λ booked. booked.seat };
 
-    ghost invariant = { λ books. AreBooked N.frames N.stocks books.seat books.sums };
+    ghost invariant = { λ booked. AreBooked N.frames N.stocks booked.seat booked.sums };
 }
 
-impl<N: BootName> StockLedger<N> {
-    /// The books of a new boot, in which nothing is booked. The seat is the zone's at the boot's table.
-    pub(crate) fn new(seat: StockSeat) -> StockLedger<N>
+impl<N: BootName> BookedSeat<N> {
+    /// The seat of a new boot, with nothing booked. It is the zone's at the boot's table.
+    pub(crate) fn new(seat: StockSeat) -> BookedSeat<N>
         requires first { seat.view ≡ first_zone_stock }
         requires table { seat.table ≡ N.stocks.table }
         requires cpus { N.stocks.cpus ≡ N.frames.cpus }
         ensures { result ≡ seat }
     {
-        StockLedger {
+        BookedSeat {
             seat,
             sums: [0; MAX_GROUPS],
             of: PhantomData,
@@ -59,7 +59,7 @@ impl<N: BootName> StockLedger<N> {
     pub(crate) fn into_seat(self) -> StockSeat
         ensures { result ≡ self }
     {
-        let StockLedger {
+        let BookedSeat {
             seat,
             sums: _,
             of: _,
@@ -148,8 +148,8 @@ impl<N: BootName> StockLedger<N> {
         cpu.take_front(tables, &mut self.seat, group.number())
     }
 
-    /// Moves the oldest fresh frame of the visited CPU into the zone's hand. Its page leaves the book of the CPU's
-    /// stock, which is of this group.
+    /// Moves the oldest fresh frame of the visited CPU into the zone's hand. Its page is no longer booked to the
+    /// CPU's stock, which is of this group.
     pub(crate) fn collect_fresh(
         &mut self,
         tables: &Tables<N>,

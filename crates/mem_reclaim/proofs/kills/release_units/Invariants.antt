@@ -1,5 +1,5 @@
 use Rattle.mem_reclaim.proofs.LettingGo.{LetGoSoFar}
-use Rattle.mem_reclaim.proofs.kills.let_go_all.Given as goal
+use Rattle.mem_reclaim.proofs.kills.release_units.Given as goal
 
 abbrev pub invariant-loop-unit : goal.invariant-loop-unit
 invariant-loop-unit g l = LetGoSoFar g.N.BootName.frames l.group l.list l.fn.machine l._unit l.machine

@@ -1,5 +1,5 @@
 use Rattle.mem_machine.proofs.Booking.{after_group}
-use Rattle.mem_machine.proofs.stock_ledger.StockLedger.group.Goals as goal
+use Rattle.mem_machine.proofs.booked_seat.BookedSeat.group.Goals as goal
 
 pub invariant_of-self : goal.invariant_of-self
 invariant_of-self g c =
