@@ -84,7 +84,7 @@ pub enum Shown {
 
 impl FrameCall {
     ghost use Rattle.std.specs.Prelude.{◌≡◌, ◌<◌, ℕ};
-    ghost use Rattle.script_replay.specs.Ranges.{NamesInRange};
+    ghost use Rattle.script_replay.specs.Ranges.{CommandInRange};
     ghost use Rattle.script_replay.specs.Typed.{IsShort};
     ghost use Rattle.script_replay.specs.Works.{work_of};
     ghost use Rattle.handles.specs.Calls.{frame_command};
@@ -92,7 +92,7 @@ impl FrameCall {
     /// The script's command that does this.
     pub fn command(self, frame: u32) -> Command<'static>
         ensures value { result ≡ frame_command self frame }
-        ensures in_zone { (frames : ℕ) → frame < frames → NamesInRange frames result }
+        ensures in_zone { (frames : ℕ) → frame < frames → CommandInRange frames result }
         ensures short { IsShort (work_of result) }
     {
         match self {

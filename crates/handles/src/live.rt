@@ -6,7 +6,7 @@ ghost use Rattle.mem_system.specs.declared.outcome.Outcome.TheVariants.{Text};
 ghost use Rattle.mem_system.specs.Boots.{IsSizedAs};
 ghost use Rattle.mem_system.specs.Outcomes.{HasItsGroups, reply_of};
 ghost use Rattle.script_replay.specs.Lines.{system_state};
-ghost use Rattle.script_replay.specs.Ranges.{IsThere};
+ghost use Rattle.script_replay.specs.Ranges.{CpuCommandInRange};
 ghost use Rattle.script_replay.specs.Terms.{terms};
 ghost use Rattle.script_replay.specs.Typed.{IsShort};
 ghost use Rattle.script_replay.specs.Works.{work_of};
@@ -126,7 +126,7 @@ impl<N: BootName> Live<N> {
 
     // Serves a command of a CPU that is there, as is all that the command names.
     fn serve(&mut self, cpu: u32, command: &Command<'_>) -> CallAnswer
-        requires there { IsThere N.frames.frames (length self.old.state.cpus) cpu command.now }
+        requires there { CpuCommandInRange N.frames.frames (length self.old.state.cpus) cpu command.now }
         requires short { IsShort (work_of command.now) }
         ensures { TellsCommand N.frames N.stocks cpu command.now self.old self.new result }
     {

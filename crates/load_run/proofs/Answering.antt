@@ -16,7 +16,7 @@ use Rattle.script_lines.specs.Script.{IsScript}
 use Rattle.load_options.specs.declared.task.Options.{Options}
 use Rattle.load_run.specs.Answers.{AreAnswers, IsAnswered, IsWritten}
 use Rattle.load_run.specs.Refusals.{answered_status}
-use Rattle.script_replay.specs.Ranges.{LineIsThere}
+use Rattle.script_replay.specs.Ranges.{LineInRange}
 use Rattle.script_replay.proofs.InRange.{script_there}
 
 the_same : (a b : Options) → Some a ≡ Some b → a ≡ b
@@ -79,10 +79,10 @@ sized_as sizes f t s w sized names = subst (λ (b : KnownTable × KnownStockTabl
 
 -- what the lines of a script name is there, in a boot of the script's sizes
 pub script_of_boot : (sizes booted : Config) (bytes : List ℕ) (parsed lines : List Line) → booted ≡ sizes → lines ≡ parsed
-    → IsScript sizes bytes parsed → All (LineIsThere booted.frames booted.cpus) lines
+    → IsScript sizes bytes parsed → All (LineInRange booted.frames booted.cpus) lines
 script_of_boot sizes booted bytes parsed lines same is_parsed is =
     let there = script_there sizes bytes parsed is in
-    subst (λ (b : Config × List Line). All (LineIsThere b.0.frames b.0.cpus) b.1) (λ i. (sym same i, sym is_parsed i)) there
+    subst (λ (b : Config × List Line). All (LineInRange b.0.frames b.0.cpus) b.1) (λ i. (sym same i, sym is_parsed i)) there
 
 -- what holds of a good result holds of what was kept of it
 pub kept_ok : {T E : Type 0} (r : Result T E) (x : T) (P : T → Type 0) → Some x ≡ result_ok r → IfOk r P → P x

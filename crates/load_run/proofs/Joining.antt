@@ -8,7 +8,7 @@ use Rattle.mem_system.specs.Boots.{IsSizedAs}
 use Rattle.script_lines.specs.declared.line.Line.{Line}
 use Rattle.script_replay.specs.History.{TellsHistory, past}
 use Rattle.script_replay.specs.Lines.{ServesAll, SystemState}
-use Rattle.script_replay.specs.Ranges.{LineIsThere}
+use Rattle.script_replay.specs.Ranges.{LineInRange}
 use Rattle.script_replay.specs.Terms.{boot_tables, numbered_terms}
 use Rattle.script_threads.specs.Each.{TellsEach, workers_from}
 use Rattle.script_threads.specs.Runs.{lines_before_go}
@@ -18,23 +18,23 @@ use Rattle.load_run.specs.Ending.{EndsAfter, end_text}
 use Rattle.load_run.specs.Answers.{AreThreadAnswers, IsQuietSystem}
 
 -- all lines name what is there, also as the tables and the parts say it
-there : (frames cpus known parts : ℕ) (lines : List Line) → frames ≡ known → cpus ≡ parts → All (LineIsThere frames cpus) lines
-    → All (LineIsThere known parts) lines
-there frames cpus known parts lines f p all = subst (λ (b : ℕ × ℕ). All (LineIsThere b.0 b.1) lines) (λ i. (f i, p i)) all
+there : (frames cpus known parts : ℕ) (lines : List Line) → frames ≡ known → cpus ≡ parts → All (LineInRange frames cpus) lines
+    → All (LineInRange known parts) lines
+there frames cpus known parts lines f p all = subst (λ (b : ℕ × ℕ). All (LineInRange b.0 b.1) lines) (λ i. (f i, p i)) all
 
 -- so do the first of them
 pub early_there : (sizes : Config) (t : KnownTable) (w : KnownStockTable) (n parts : ℕ) (lines early : List Line) → IsSizedAs sizes t w
-    → parts ≡ sizes.cpus → early ≡ take n lines → All (LineIsThere sizes.frames sizes.cpus) lines → All (LineIsThere t.frames parts) early
+    → parts ≡ sizes.cpus → early ≡ take n lines → All (LineInRange sizes.frames sizes.cpus) lines → All (LineInRange t.frames parts) early
 early_there sizes t w n parts lines early sized count is all =
-    subst (λ (l : List Line). All (LineIsThere t.frames parts) l) (sym is)
-    (All-take (LineIsThere t.frames parts) n lines (there sizes.frames sizes.cpus t.frames parts lines (sym sized.frames) (sym count) all))
+    subst (λ (l : List Line). All (LineInRange t.frames parts) l) (sym is)
+    (All-take (LineInRange t.frames parts) n lines (there sizes.frames sizes.cpus t.frames parts lines (sym sized.frames) (sym count) all))
 
 -- and the others
 pub later_there : (sizes : Config) (t : KnownTable) (w : KnownStockTable) (n : ℕ) (lines later : List Line) → IsSizedAs sizes t w
-    → later ≡ drop n lines → All (LineIsThere sizes.frames sizes.cpus) lines → All (LineIsThere t.frames t.cpus) later
+    → later ≡ drop n lines → All (LineInRange sizes.frames sizes.cpus) lines → All (LineInRange t.frames t.cpus) later
 later_there sizes t w n lines later sized is all =
-    subst (λ (l : List Line). All (LineIsThere t.frames t.cpus) l) (sym is)
-    (All-drop (LineIsThere t.frames t.cpus) n lines (there sizes.frames sizes.cpus t.frames t.cpus lines (sym sized.frames) (sym sized.cpus) all))
+    subst (λ (l : List Line). All (LineInRange t.frames t.cpus) l) (sym is)
+    (All-drop (LineInRange t.frames t.cpus) n lines (there sizes.frames sizes.cpus t.frames t.cpus lines (sym sized.frames) (sym sized.cpus) all))
 
 -- the early lines were served from the boot on, the later ones told by CPU, and the boot ended: these are the
 -- answers

@@ -3,7 +3,7 @@
 ghost use Rattle.std.specs.Prelude.{◌≡◌, ◌++◌, All, IfOk, length, true};
 ghost use Rattle.script_replay.specs.History.{ReplaysCheckedOrStops};
 ghost use Rattle.script_replay.specs.Lines.{system_state};
-ghost use Rattle.script_replay.specs.Ranges.{LineIsThere};
+ghost use Rattle.script_replay.specs.Ranges.{LineInRange};
 ghost use Rattle.script_replay.specs.Terms.{form_terms};
 ghost use Rattle.step_watch.specs.Watched.{has_legal_steps};
 ghost use Rattle.zone_sizes.specs.Config.{IsValidConfig};
@@ -62,7 +62,7 @@ pub fn check_on_boot<N: BootName>(
     requires stocks { boot.stocks ≡ N.stocks }
     requires sizes { boot.sizes ≡ sizes }
     requires valid { IsValidConfig sizes }
-    requires lines { All (LineIsThere boot.sizes.frames boot.sizes.cpus) lines.now }
+    requires lines { All (LineInRange boot.sizes.frames boot.sizes.cpus) lines.now }
     ensures answers { IfOk result (λ text. AreCheckedAnswers boot.sizes form is_audited lines.now text.items) }
 {
     let watch = Watch::new(alloc, sizes)?;
@@ -87,7 +87,7 @@ fn check_and_end_boot<N: BootName>(
     form: Form,
 ) -> (Result<Vec<u8>, Stopped>, BootEnd, CheckedSteps)
     requires count { length cpus.items ≡ N.frames.cpus }
-    requires lines { All (LineIsThere N.frames.frames N.frames.cpus) lines.now }
+    requires lines { All (LineInRange N.frames.frames N.frames.cpus) lines.now }
     requires legal { has_legal_steps locked.machine.watch ≡ true }
     ensures ends { EndsSeenAfter N.frames N.stocks
         (λ left. ReplaysCheckedOrStops (form_terms N.frames N.stocks form) lines.now (system_state locked cpus.items)

@@ -4,7 +4,7 @@ ghost use Rattle.std.specs.Prelude.{◌≡◌, ◌≤◌, ◌++◌, ◌∷◌, [
 ghost use Rattle.log_lines.specs.Line.{zone_text};
 ghost use Rattle.script_lines.specs.Script.{texts_of};
 ghost use Rattle.script_replay.specs.Lines.{system_state};
-ghost use Rattle.script_replay.specs.Ranges.{LineIsThere};
+ghost use Rattle.script_replay.specs.Ranges.{LineInRange};
 ghost use Rattle.script_replay.specs.Terms.{terms};
 ghost use Rattle.step_watch.specs.Watched.{has_whole_log, log_text};
 ghost use Rattle.load_run.specs.Logs.{AreLoggedSteps, GrowsBy, LogsAll, LogsAllAndEnd, LogsLine};
@@ -51,7 +51,7 @@ fn log_line<N: BootName>(
     texts: &[&[u8]],
     log: &mut Vec<u8>,
 ) -> Result<(), AllocError>
-    requires there { LineIsThere N.frames.frames (length cpus.old) line.now }
+    requires there { LineInRange N.frames.frames (length cpus.old) line.now }
     ensures logged { OnOk result (GrowsBy (LogsLine (terms N.frames N.stocks false) (map (λ text. text.now) texts.now)
         line.now (system_state locked.old cpus.old) (system_state locked.new cpus.new)) log.old.items log.new.items) }
 {
@@ -71,7 +71,7 @@ fn log_lines<N: BootName>(
     texts: &[&[u8]],
     log: &mut Vec<u8>,
 ) -> Result<(), AllocError>
-    requires there { All (LineIsThere N.frames.frames (length cpus.old)) lines.now }
+    requires there { All (LineInRange N.frames.frames (length cpus.old)) lines.now }
     ensures logged { OnOk result (GrowsBy (LogsAll (terms N.frames N.stocks false) (map (λ text. text.now) texts.now)
         lines.now (system_state locked.old cpus.old) (system_state locked.new cpus.new)) log.old.items log.new.items) }
 {
@@ -102,7 +102,7 @@ fn log_and_end_boot<N: BootName>(
     log: &mut Vec<u8>,
 ) -> Result<(), AllocError>
     requires count { length cpus.items ≡ N.frames.cpus }
-    requires lines { All (LineIsThere N.frames.frames N.frames.cpus) lines.now }
+    requires lines { All (LineInRange N.frames.frames N.frames.cpus) lines.now }
     ensures logged { OnOk result (GrowsBy (LogsAllAndEnd N.frames N.stocks (map (λ text. text.now) texts.now) lines.now
         (system_state locked cpus.items)) log.old.items log.new.items) }
 {
@@ -152,7 +152,7 @@ pub fn steps_on_boot<N: BootName>(
     requires frames { boot.frames ≡ N.frames }
     requires stocks { boot.stocks ≡ N.stocks }
     requires sizes { boot.sizes ≡ sizes }
-    requires lines { All (LineIsThere boot.sizes.frames boot.sizes.cpus) lines.now }
+    requires lines { All (LineInRange boot.sizes.frames boot.sizes.cpus) lines.now }
     ensures steps { IfOk result (λ text. AreLoggedSteps boot.sizes script.now lines.now text.items) }
 {
     let mut log = zone_line(alloc, &sizes)?;

@@ -5,7 +5,7 @@ ghost use Rattle.std.specs.Prelude.{◌≡◌, All, IfErr, IfOk, OnOk, Some, map
 ghost use Rattle.std.specs.Io.KnownBytes.{Appends};
 ghost use Rattle.zone_sizes.specs.Config.{IsValidConfig};
 ghost use Rattle.script_lines.specs.Script.{IsScript};
-ghost use Rattle.script_replay.specs.Ranges.{LineIsThere};
+ghost use Rattle.script_replay.specs.Ranges.{LineInRange};
 ghost use Rattle.load_options.specs.Sizes.{HasSizesInRange};
 ghost use Rattle.load_options.specs.Words.{options_of};
 ghost use Rattle.load_options.specs.declared.task.Task.TheVariants.{Replay};
@@ -175,7 +175,7 @@ fn answers_of<R: Threads + Wait + Sync>(
     lines: &[Line<'_>],
 ) -> Result<Vec<u8>, ProgramFault>
     requires task { IsOnScript options.now.task }
-    requires lines { All (LineIsThere options.now.sizes.frames options.now.sizes.cpus) lines.now }
+    requires lines { All (LineInRange options.now.sizes.frames options.now.sizes.cpus) lines.now }
     ensures answers { IfOk result (λ text.
         AreAnswers options.now.task options.now.sizes options.now.is_audited options.now.is_numbered script.now
         lines.now
@@ -204,7 +204,7 @@ fn answers_on_boot<N: BootName + Send + Sync, R: Threads + Wait + Sync>(
     requires stocks { boot.stocks ≡ N.stocks }
     requires sizes { boot.sizes ≡ options.now.sizes }
     requires valid { IsValidConfig options.now.sizes }
-    requires lines { All (LineIsThere boot.sizes.frames boot.sizes.cpus) lines.now }
+    requires lines { All (LineInRange boot.sizes.frames boot.sizes.cpus) lines.now }
     ensures answers { IfOk result (λ text.
         AreAnswers options.now.task boot.sizes options.now.is_audited options.now.is_numbered script.now lines.now
         text.items) }
@@ -263,7 +263,7 @@ fn check_answers<N: BootName>(
     requires stocks { boot.stocks ≡ N.stocks }
     requires sizes { boot.sizes ≡ options.now.sizes }
     requires valid { IsValidConfig options.now.sizes }
-    requires lines { All (LineIsThere boot.sizes.frames boot.sizes.cpus) lines.now }
+    requires lines { All (LineInRange boot.sizes.frames boot.sizes.cpus) lines.now }
     ensures answers { IfOk result (λ text.
         AreCheckedAnswers boot.sizes (form_of is_explained options.now.is_numbered) options.now.is_audited lines.now
         text.items) }

@@ -3,7 +3,7 @@
 ghost use Rattle.std.specs.Prelude.{◌≡◌, ◌++◌, All, IfOk, length};
 ghost use Rattle.script_replay.specs.History.{ReplaysOrStops};
 ghost use Rattle.script_replay.specs.Lines.{system_state};
-ghost use Rattle.script_replay.specs.Ranges.{LineIsThere};
+ghost use Rattle.script_replay.specs.Ranges.{LineInRange};
 ghost use Rattle.script_replay.specs.Terms.{form_terms};
 ghost use Rattle.load_run.specs.Answers.{AreReplayAnswers};
 ghost use Rattle.load_run.specs.Ending.{EndsAfter, end_text};
@@ -27,7 +27,7 @@ pub fn replay_on_boot<N: BootName>(
 ) -> Result<Vec<u8>, AllocError>
     requires frames { boot.frames ≡ N.frames }
     requires stocks { boot.stocks ≡ N.stocks }
-    requires lines { All (LineIsThere boot.sizes.frames boot.sizes.cpus) lines.now }
+    requires lines { All (LineInRange boot.sizes.frames boot.sizes.cpus) lines.now }
     ensures answers { IfOk result (λ text. AreReplayAnswers boot.sizes form is_audited lines.now text.items) }
 {
     let (locked, tables, cpus) = boot.into_parts::<N>(alloc)?;
@@ -45,7 +45,7 @@ fn replay_and_end_boot<N: BootName>(
     form: Form,
 ) -> (Result<Vec<u8>, AllocError>, BootEnd)
     requires count { length cpus.items ≡ N.frames.cpus }
-    requires lines { All (LineIsThere N.frames.frames N.frames.cpus) lines.now }
+    requires lines { All (LineInRange N.frames.frames N.frames.cpus) lines.now }
     ensures ends { EndsAfter N.frames N.stocks (λ left. ReplaysOrStops (form_terms N.frames N.stocks form) lines.now
         (system_state locked cpus.items) left result.0) result.1 }
 {

@@ -2,7 +2,7 @@
 //! the end.
 
 ghost use Rattle.std.specs.Prelude.{◌≡◌, ◌<◌, ◌^◌, All, IfOk, length};
-ghost use Rattle.script_replay.specs.Ranges.{LineIsThere};
+ghost use Rattle.script_replay.specs.Ranges.{LineInRange};
 ghost use Rattle.script_replay.specs.Terms.{boot_tables};
 ghost use Rattle.script_threads.specs.Each.{TellsEach, workers_from};
 ghost use Rattle.load_run.specs.Ending.{EndsAfter};
@@ -34,7 +34,7 @@ pub fn run_by_threads<N: BootName + Send + Sync, R: Threads + Wait + Sync>(
 ) -> Result<Vec<u8>, AllocError>
     requires frames { boot.frames ≡ N.frames }
     requires stocks { boot.stocks ≡ N.stocks }
-    requires lines { All (LineIsThere boot.sizes.frames boot.sizes.cpus) lines.now }
+    requires lines { All (LineInRange boot.sizes.frames boot.sizes.cpus) lines.now }
     ensures answers { IfOk result (λ text. AreThreadAnswers boot.sizes is_numbered is_audited lines.now text.items) }
 {
     let (early, later) = lines.split_at(before_go(lines));
@@ -72,7 +72,7 @@ fn serve_and_end<N: BootName + Send + Sync, R: Threads + Wait + Sync>(
     has_memory: bool,
 ) -> (Result<Vec<u8>, AllocError>, BootEnd)
     requires count { length cpus.items ≡ N.frames.cpus }
-    requires lines { All (LineIsThere N.frames.frames N.frames.cpus) lines.now }
+    requires lines { All (LineInRange N.frames.frames N.frames.cpus) lines.now }
     ensures told { IfOk result.0 (λ text.
         TellsEach (boot_tables N.frames N.stocks) (workers_from 1 cpus.items lines.now is_numbered) text.items) }
     ensures ends { EndsAfter N.frames N.stocks (IsQuietSystem N.frames N.stocks) result.1 }
@@ -104,7 +104,7 @@ fn serve_later<N: BootName + Send + Sync, R: Threads + Wait + Sync>(
     has_memory: bool,
 ) -> Result<Vec<u8>, AllocError>
     requires count { length cpus.old < 2 ^ 31 }
-    requires lines { All (LineIsThere N.frames.frames (length cpus.old)) lines.now }
+    requires lines { All (LineInRange N.frames.frames (length cpus.old)) lines.now }
     ensures told { IfOk result (λ text.
         TellsEach (boot_tables N.frames N.stocks) (workers_from 1 cpus.old lines.now is_numbered) text.items) }
 {

@@ -30,7 +30,7 @@ use Rattle.script_replay.specs.Answers.{AddsText, ServesCommand, WritesWork}
 use Rattle.script_replay.specs.Lines.{SystemState, system_state, AtPart, InOrder, ServesLine, ServesAll, StopsAt, number_in_script}
 use Rattle.script_replay.specs.History.{Past, past, past_line, TellsHistory, Replays, ReplaysLegally, ServesAndKeeps, StopsFor, HoldsInvariants}
 use Rattle.script_replay.specs.declared.value_replay.Stopped.TheVariants.{NotLegal}
-use Rattle.script_replay.specs.Ranges.{LineIsThere}
+use Rattle.script_replay.specs.Ranges.{LineInRange}
 use Rattle.script_replay.specs.declared.form.Form.{Form}
 use Rattle.script_replay.specs.Numbers.{numbered_text, text_with_number}
 use Rattle.script_replay.specs.Terms.{Terms, form_terms, numbered_terms, terms}
@@ -61,7 +61,7 @@ tied_still t w cpus k c d is_part tied none all j e at = elim (cases_eq j k) [
 -- a command that was served at its part
 pub part_keeps : (on : Terms) (before after : KnownLocked) (cpus : List KnownCpu) (line : Line) (cpu : ℕ) (command : Command) (c d : KnownCpu)
     {number : ℕ} {Z U E : Type 0} (r : Result U E) (old new : String Z) → on.is_numbered ≡ false → line ≡ At number cpu command →
-    LineIsThere on.frames.frames (length cpus) line → slice_get cpus (cpu - 1) ≡ Some c →
+    LineInRange on.frames.frames (length cpus) line → slice_get cpus (cpu - 1) ≡ Some c →
     AddsText r old new (ServesCommand on command (locked_state before c) (locked_state after d)) →
     HoldsInvariants on.frames on.stocks after → IsTied on.frames on.stocks d → (d.stock_seat.view.last ≡ stock_is.NoGroup → d.fresh ≡ []) →
     AddsText r old new (ServesAndKeeps on line (system_state before cpus) (system_state after (slice_set cpus (cpu - 1) d)))
@@ -89,12 +89,12 @@ part_keeps on before after cpus line cpu command c d {number = number} r old new
 -- the same, of the part that was read
 pub part_read : (on : Terms) (before after : KnownLocked) (cpus : List KnownCpu) (line : Line) (cpu : ℕ) (command : Command) (c d : KnownCpu)
     {number : ℕ} {Z U E : Type 0} (r : Result U E) (old new : String Z) → on.is_numbered ≡ false → line ≡ At number cpu command →
-    LineIsThere on.frames.frames (length cpus) line → c ≡ get_or cpus (cpu - 1) c →
+    LineInRange on.frames.frames (length cpus) line → c ≡ get_or cpus (cpu - 1) c →
     AddsText r old new (ServesCommand on command (locked_state before c) (locked_state after d)) →
     HoldsInvariants on.frames on.stocks after → IsTied on.frames on.stocks d → (d.stock_seat.view.last ≡ stock_is.NoGroup → d.fresh ≡ []) →
     AddsText r old new (ServesAndKeeps on line (system_state before cpus) (system_state after (slice_set cpus (cpu - 1) d)))
 part_read on before after cpus line cpu command c d {number = number} r old new plain is there read answered holds tied none =
-    let named : LineIsThere on.frames.frames (length cpus) (At number cpu command) = subst (LineIsThere on.frames.frames (length cpus)) is there in
+    let named : LineInRange on.frames.frames (length cpus) (At number cpu command) = subst (LineInRange on.frames.frames (length cpus)) is there in
     let low = named.low in
     let high = named.high in
     part_keeps on before after cpus line cpu command c d r old new plain is there

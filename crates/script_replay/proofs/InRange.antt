@@ -8,11 +8,11 @@ use Rattle.script_lines.specs.declared.line.Command.TheVariants.{Dirty, Clean, O
 use Rattle.script_lines.specs.declared.line.Line.{Line}
 use Rattle.script_lines.specs.declared.line.Line.TheVariants.{Go, At}
 use Rattle.script_lines.specs.Script.{IsCommandText, IsLineText, IsScript, asking_texts, texts_of}
-use Rattle.script_replay.specs.Ranges.{LineIsThere, NamesInRange, WorkInRange}
+use Rattle.script_replay.specs.Ranges.{CommandInRange, LineInRange, WorkInRange}
 use Rattle.script_replay.specs.Works.{work_of}
 
 -- what the command's text names is in range
-named_in_range : (sizes : Config) (command : Command) (text : List ℕ) → IsCommandText sizes command text → NamesInRange sizes.frames command
+named_in_range : (sizes : Config) (command : Command) (text : List ℕ) → IsCommandText sizes command text → CommandInRange sizes.frames command
 named_in_range sizes (Fast group) text is = is.2.low
 named_in_range sizes (Release frame) text is = is.2.in_zone
 named_in_range sizes (Get frame) text is = is.2.in_zone
@@ -24,24 +24,24 @@ named_in_range sizes (Owner frame) text is = is.2.in_zone
 named_in_range sizes command text is = tt
 
 -- what is done for it names nothing else
-pub work_in_range : (frames : ℕ) (command : Command) → NamesInRange frames command → WorkInRange frames (work_of command)
+pub work_in_range : (frames : ℕ) (command : Command) → CommandInRange frames command → WorkInRange frames (work_of command)
 work_in_range frames (Alloc path zero) named = tt
 work_in_range frames (Alloc path (suc order)) named = tt
 work_in_range frames command named = named
 
 -- the same of a line
-pub line_there : (sizes : Config) (n : ℕ) (line : Line) (text : List ℕ) → IsLineText sizes n line text → LineIsThere sizes.frames sizes.cpus line
+pub line_there : (sizes : Config) (n : ℕ) (line : Line) (text : List ℕ) → IsLineText sizes n line text → LineInRange sizes.frames sizes.cpus line
 line_there sizes n Go text is = tt
 line_there sizes n (At number cpu command) text is =
     record { low = is.1.low; high = is.1.high; names = named_in_range sizes command is.1.rest is.1.command_text }
 
 lines_there : (sizes : Config) (texts : List (ℕ × List ℕ)) (lines : List Line) → AllZip (λ t line. IsLineText sizes t.0 line t.1) texts lines
-    → All (LineIsThere sizes.frames sizes.cpus) lines
+    → All (LineInRange sizes.frames sizes.cpus) lines
 lines_there sizes texts [] zip k d h = absurd (omega arith)
 lines_there sizes [] (line ∷ lines) zip k d h = absurd zip
 lines_there sizes (text ∷ texts) (line ∷ lines) zip zero d h = line_there sizes text.0 line text.1 zip.0
 lines_there sizes (text ∷ texts) (line ∷ lines) zip (suc k) d h = lines_there sizes texts lines zip.1 k d (omega arith)
 
 -- the same for all lines of a script
-pub script_there : (sizes : Config) (script : List ℕ) (lines : List Line) → IsScript sizes script lines → All (LineIsThere sizes.frames sizes.cpus) lines
+pub script_there : (sizes : Config) (script : List ℕ) (lines : List Line) → IsScript sizes script lines → All (LineInRange sizes.frames sizes.cpus) lines
 script_there sizes script lines is = lines_there sizes (asking_texts (texts_of script)) lines is.says

@@ -22,7 +22,7 @@ use Rattle.script_replay.specs.Answers.{WritesAnswer, WritesWork, get_steps, pin
 use Rattle.script_replay.specs.Answers.{unpin_answer}
 use Rattle.script_replay.specs.History.{HoldsInvariants, ServesAndKeeps}
 use Rattle.script_replay.specs.Lines.{SystemState, system_state}
-use Rattle.script_replay.specs.Ranges.{IsThere}
+use Rattle.script_replay.specs.Ranges.{CpuCommandInRange}
 use Rattle.script_replay.specs.Terms.{BootTables, Terms, terms}
 use Rattle.script_replay.specs.Typed.{SaysCommand, SaysWork}
 use Rattle.script_replay.specs.Works.{work_of}
@@ -84,7 +84,7 @@ module _ (call : Transition LockedState) (answer : Answer) where
 -- ---- a command at its part
 
 module _ (tables : BootTables) (l m : KnownLocked) (cpus : List KnownCpu) (cpu : ℕ) (command : Command) (c d : KnownCpu) (answer : Answer)
-    (there : IsThere tables.frames.frames (length cpus) cpu command) (is_part : slice_get cpus (cpu - 1) ≡ Some c)
+    (there : CpuCommandInRange tables.frames.frames (length cpus) cpu command) (is_part : slice_get cpus (cpu - 1) ≡ Some c)
     (says : SaysWork tables.frames (work_of command) (locked_state l c) (locked_state m d) answer) (holds : HoldsInvariants tables.frames tables.stocks m)
     (tied : IsTied tables.frames tables.stocks d) (none : d.stock_seat.view.last ≡ stock_is.NoGroup → d.fresh ≡ []) where
   abbrev on : Terms
@@ -133,7 +133,7 @@ module _ (tables : BootTables) (l m : KnownLocked) (cpus : List KnownCpu) (cpu :
   }
 
 -- the part of a CPU that is there
-pub part_of : (cpus : List KnownCpu) (frames cpu : ℕ) (command : Command) (c : KnownCpu) → IsThere frames (length cpus) cpu command
+pub part_of : (cpus : List KnownCpu) (frames cpu : ℕ) (command : Command) (c : KnownCpu) → CpuCommandInRange frames (length cpus) cpu command
     → c ≡ get_or cpus (cpu - 1) c → slice_get cpus (cpu - 1) ≡ Some c
 part_of cpus frames cpu command c there read =
     let low = there.low in

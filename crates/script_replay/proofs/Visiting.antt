@@ -19,7 +19,7 @@ use Rattle.script_replay.specs.Terms.{BootTables}
 use Rattle.script_replay.specs.Visits.{RepliesVisited, IsServedByVisit, AnswersReleaseByVisit, AnswersFrameByVisit, VisitsCommand, VisitsLine, VisitsAll}
 use Rattle.script_replay.specs.Lines.{StopsAt}
 use Rattle.script_replay.proofs.InOrder.{in_order_line}
-use Rattle.script_replay.specs.Ranges.{LineIsThere}
+use Rattle.script_replay.specs.Ranges.{LineInRange}
 
 -- ---- one visit
 
@@ -44,12 +44,12 @@ released_after on f c seen d answer can_not served = absurd served
 
 -- a command that was answered at the part that was read
 pub part_visited : (on : BootTables) (cpus : List KnownCpu) (line : Line) (cpu : ℕ) (command : Command) (c d : KnownCpu)
-    {number : ℕ} {Z U E : Type 0} (r : Result U E) (old new : String Z) → line ≡ At number cpu command → LineIsThere on.frames.frames (length cpus) line →
+    {number : ℕ} {Z U E : Type 0} (r : Result U E) (old new : String Z) → line ≡ At number cpu command → LineInRange on.frames.frames (length cpus) line →
     c ≡ get_or cpus (cpu - 1) c →
     AddsText r old new (VisitsCommand on command c d) →
     AddsText r old new (VisitsLine on line cpus (slice_set cpus (cpu - 1) d))
 part_visited on cpus line cpu command c d {number = number} r old new is there read answered =
-    let named : LineIsThere on.frames.frames (length cpus) (At number cpu command) = subst (LineIsThere on.frames.frames (length cpus)) is there in
+    let named : LineInRange on.frames.frames (length cpus) (At number cpu command) = subst (LineInRange on.frames.frames (length cpus)) is there in
     let low = named.low in
     let high = named.high in record {
       text = answered.text;

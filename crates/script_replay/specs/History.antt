@@ -20,7 +20,7 @@ use Rattle.script_replay.specs.declared.value_replay.Stopped.{Stopped}
 use Rattle.script_replay.specs.declared.value_replay.Stopped.TheVariants.{NoMemory, NotLegal}
 use Rattle.script_replay.specs.Lines.{SystemState, ServesAll, ServesLine, StopsAt, TellsLine}
 use Rattle.script_replay.specs.Lines.{number_in_script}
-use Rattle.script_replay.specs.Ranges.{LineIsThere}
+use Rattle.script_replay.specs.Ranges.{LineInRange}
 use Rattle.script_replay.specs.Terms.{Terms}
 
 -- ---- the history
@@ -159,6 +159,6 @@ pub record KeepsInvariants (table : KnownTable) (stock_table : KnownStockTable)
 
 -- what the line names exists, the line is served, and the invariants are kept
 pub record ServesAndKeeps (terms : Terms) (line : Line) (before after : SystemState) (text : List ℕ) : Type 0 where
-  pub there : LineIsThere terms.frames.frames (length before.cpus) line
+  pub there : LineInRange terms.frames.frames (length before.cpus) line
   pub serves : ServesLine terms line before after text
   pub keeps : KeepsInvariants terms.frames terms.stocks before after

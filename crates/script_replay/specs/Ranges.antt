@@ -1,4 +1,4 @@
--- That all a line names exists.
+-- What a line names is in range.
 use Rattle.std.specs.Prelude.{ℕ, ◌≤◌, ◌<◌}
 use Rattle.group_tree.specs.Bounds.{most_groups}
 use Rattle.mem_system.specs.Commands.{NamesFrameBelow}
@@ -20,17 +20,17 @@ WorkInRange frames (Put frame) = frame < frames
 WorkInRange frames other = Unit {0}
 
 -- the frame and the group that a command names are in range; an Alloc names neither by number
-abbrev pub NamesInRange : ℕ → Command → Type 0
-NamesInRange frames (Alloc path order) = Unit {0}
-NamesInRange frames command = WorkInRange frames (work_of command)
+abbrev pub CommandInRange : ℕ → Command → Type 0
+CommandInRange frames (Alloc path order) = Unit {0}
+CommandInRange frames command = WorkInRange frames (work_of command)
 
--- a line's CPU is one of this many, and all that its command names is in range
-pub record IsThere (frames cpus cpu : ℕ) (command : Command) : Type 0 where
+-- the CPU is one of this many, and all that the command names is in range
+pub record CpuCommandInRange (frames cpus cpu : ℕ) (command : Command) : Type 0 where
   pub low : 1 ≤ cpu
   pub high : cpu ≤ cpus
-  pub names : NamesInRange frames command
+  pub names : CommandInRange frames command
 
--- all that a line names exists; `go` names nothing
-abbrev pub LineIsThere : ℕ → ℕ → Line → Type 0
-LineIsThere frames cpus Go = Unit {0}
-LineIsThere frames cpus (At number cpu command) = IsThere frames cpus cpu command
+-- a line's CPU and all that its command names are in range; `go` names nothing
+abbrev pub LineInRange : ℕ → ℕ → Line → Type 0
+LineInRange frames cpus Go = Unit {0}
+LineInRange frames cpus (At number cpu command) = CpuCommandInRange frames cpus cpu command

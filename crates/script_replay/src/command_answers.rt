@@ -11,7 +11,7 @@ ghost use Rattle.script_replay.specs.declared.work.Work.TheVariants.{Blocks, Fra
 ghost use Rattle.script_replay.specs.declared.work.Work.TheVariants.{Units, Visit};
 ghost use Rattle.script_replay.specs.declared.work.Work.TheVariants as work;
 ghost use Rattle.script_replay.specs.Answers.{AddsText, ServesCommand, ServesWork, path_removed, told_text};
-ghost use Rattle.script_replay.specs.Ranges.{NamesInRange, WorkInRange};
+ghost use Rattle.script_replay.specs.Ranges.{CommandInRange, WorkInRange};
 ghost use Rattle.script_replay.specs.Terms.{terms};
 
 use crate::locked_calls::{serve_frame_under_lock, serve_under_lock, settle_under_lock};
@@ -39,7 +39,7 @@ pub(crate) fn answer_text<N: BootName>(
     is_explained: bool,
     text: &mut String,
 ) -> Result<(), AllocError>
-    requires in_range { NamesInRange N.frames.frames command.now }
+    requires in_range { CommandInRange N.frames.frames command.now }
     ensures answered { AddsText result text.old text.new
         (ServesCommand (terms N.frames N.stocks is_explained) command.now
         (locked_state locked.old cpu.old) (locked_state locked.new cpu.new)) }

@@ -6,7 +6,7 @@ ghost use Rattle.cpu_part.specs.Cpus.{IsTied};
 ghost use Rattle.mem_system.specs.Visits.{locked_state};
 ghost use Rattle.script_replay.specs.History.{HoldsInvariants};
 ghost use Rattle.script_replay.specs.Lines.{system_state};
-ghost use Rattle.script_replay.specs.Ranges.{IsThere, NamesInRange};
+ghost use Rattle.script_replay.specs.Ranges.{CommandInRange, CpuCommandInRange};
 ghost use Rattle.script_replay.specs.Terms.{boot_tables};
 ghost use Rattle.script_replay.specs.Typed.{IsShort, NamesItsGroups, SaysCommand, SaysWork, answer_of};
 ghost use Rattle.script_replay.specs.Works.{work_of};
@@ -28,7 +28,7 @@ pub fn serve_typed<N: BootName>(
     cpu: u32,
     command: &Command<'_>,
 ) -> AnswerValue
-    requires there { IsThere N.frames.frames (length cpus.old) cpu command.now }
+    requires there { CpuCommandInRange N.frames.frames (length cpus.old) cpu command.now }
     requires short { IsShort (work_of command.now) }
     ensures answer { SaysCommand (boot_tables N.frames N.stocks) cpu command.now
         (system_state locked.old cpus.old) (system_state locked.new cpus.new)
@@ -47,7 +47,7 @@ fn serve_typed_part<N: BootName>(
     cpu: &mut Cpu<N>,
     command: &Command<'_>,
 ) -> AnswerValue
-    requires in_range { NamesInRange N.frames.frames command.now }
+    requires in_range { CommandInRange N.frames.frames command.now }
     requires short { IsShort (work_of command.now) }
     ensures answer { SaysWork N.frames (work_of command.now) (locked_state locked.old cpu.old)
         (locked_state locked.new cpu.new) (answer_of locked.new.machine.ledger result) }

@@ -9,7 +9,7 @@ ghost use Rattle.script_replay.specs.declared.value_replay.Stopped.TheVariants.{
 ghost use Rattle.script_replay.specs.Answers.{AddsText, ServesCommand};
 ghost use Rattle.script_replay.specs.History.{HoldsInvariants, ReplaysCheckedOrStops, ReplaysOrStops, ServesAndKeeps};
 ghost use Rattle.script_replay.specs.Lines.{number_in_script, system_state};
-ghost use Rattle.script_replay.specs.Ranges.{LineIsThere, NamesInRange};
+ghost use Rattle.script_replay.specs.Ranges.{CommandInRange, LineInRange};
 ghost use Rattle.script_replay.specs.Terms.{form_terms, numbered_terms, terms};
 
 use crate::command_answers::answer_text;
@@ -30,7 +30,7 @@ pub fn replay<N: BootName>(
     lines: &[Line<'_>],
     form: Form,
 ) -> Result<Vec<u8>, AllocError>
-    requires there { All (LineIsThere N.frames.frames (length cpus.old)) lines.now }
+    requires there { All (LineInRange N.frames.frames (length cpus.old)) lines.now }
     ensures outcome { ReplaysOrStops (form_terms N.frames N.stocks form) lines.now
         (system_state locked.old cpus.old) (system_state locked.new cpus.new) result }
 {
@@ -68,7 +68,7 @@ pub fn replay_checked<N: BootName>(
     lines: &[Line<'_>],
     form: Form,
 ) -> Result<Vec<u8>, Stopped>
-    requires there { All (LineIsThere N.frames.frames (length cpus.old)) lines.now }
+    requires there { All (LineInRange N.frames.frames (length cpus.old)) lines.now }
     requires legal { has_legal_steps locked.old.machine.watch ≡ true }
     ensures outcome { ReplaysCheckedOrStops (form_terms N.frames N.stocks form) lines.now
         (system_state locked.old cpus.old) (system_state locked.new cpus.new) result }
@@ -104,7 +104,7 @@ fn serve_in_form<N: BootName>(
     form: Form,
     answers: &mut String,
 ) -> Result<(), AllocError>
-    requires there { LineIsThere N.frames.frames (length cpus.old) line.now }
+    requires there { LineInRange N.frames.frames (length cpus.old) line.now }
     ensures served { AddsText result answers.old answers.new
         (ServesAndKeeps (form_terms N.frames N.stocks form) line.now
         (system_state locked.old cpus.old) (system_state locked.new cpus.new)) }
@@ -134,7 +134,7 @@ fn serve_numbered<N: BootName>(
     is_explained: bool,
     answers: &mut String,
 ) -> Result<(), AllocError>
-    requires there { LineIsThere N.frames.frames (length cpus.old) line.now }
+    requires there { LineInRange N.frames.frames (length cpus.old) line.now }
     ensures served { AddsText result answers.old answers.new
         (ServesAndKeeps (numbered_terms N.frames N.stocks is_explained true) line.now
         (system_state locked.old cpus.old) (system_state locked.new cpus.new)) }
@@ -155,7 +155,7 @@ pub fn serve_line<N: BootName>(
     is_explained: bool,
     answers: &mut String,
 ) -> Result<(), AllocError>
-    requires there { LineIsThere N.frames.frames (length cpus.old) line.now }
+    requires there { LineInRange N.frames.frames (length cpus.old) line.now }
     ensures served { AddsText result answers.old answers.new
         (ServesAndKeeps (terms N.frames N.stocks is_explained) line.now
         (system_state locked.old cpus.old) (system_state locked.new cpus.new)) }
@@ -188,7 +188,7 @@ fn serve_part<N: BootName>(
     is_explained: bool,
     answers: &mut String,
 ) -> Result<(), AllocError>
-    requires in_range { NamesInRange N.frames.frames command.now }
+    requires in_range { CommandInRange N.frames.frames command.now }
     ensures answered { AddsText result answers.old answers.new
         (ServesCommand (terms N.frames N.stocks is_explained) command.now
         (locked_state locked.old cpu.old) (locked_state locked.new cpu.new)) }

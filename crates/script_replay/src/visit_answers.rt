@@ -5,7 +5,7 @@ ghost use Rattle.mem_system.specs.Commands.{IsOfZone};
 ghost use Rattle.script_replay.specs.Answers.{AddsAnswer, AddsText};
 ghost use Rattle.script_replay.specs.Numbers.{SaysNumbered};
 ghost use Rattle.script_replay.specs.declared.work.Work.TheVariants.{Blocks, Show, Stock, Units};
-ghost use Rattle.script_replay.specs.Ranges.{NamesInRange, WorkInRange};
+ghost use Rattle.script_replay.specs.Ranges.{CommandInRange, WorkInRange};
 ghost use Rattle.script_replay.specs.Terms.{boot_tables};
 ghost use Rattle.script_replay.specs.Visits.{AnswersFrameByVisit, AnswersReleaseByVisit, AnswersSettleByVisit};
 ghost use Rattle.script_replay.specs.Visits.{RepliesVisited, VisitsCommand, VisitsWork};
@@ -42,7 +42,7 @@ pub fn visit_line<N: BootName, R: Wait, G: Gate>(
     command: &Command<'_>,
     text: &mut String,
 ) -> Result<(), AllocError>
-    requires in_range { NamesInRange N.frames.frames command.now }
+    requires in_range { CommandInRange N.frames.frames command.now }
     ensures answered { AddsText result text.old text.new
         (VisitsCommand (boot_tables N.frames N.stocks) command.now cpu.old cpu.new) }
 {
@@ -63,7 +63,7 @@ pub fn visit_numbered_line<N: BootName, R: Wait, G: Gate>(
     command: &Command<'_>,
     text: &mut String,
 ) -> Result<(), AllocError>
-    requires in_range { NamesInRange N.frames.frames command.now }
+    requires in_range { CommandInRange N.frames.frames command.now }
     ensures answered { AddsText result text.old text.new (SaysNumbered true line
         (VisitsCommand (boot_tables N.frames N.stocks) command.now cpu.old cpu.new)) }
 {
@@ -80,7 +80,7 @@ pub(crate) fn visit_text<N: BootName, R: Wait, G: Gate>(
     command: &Command<'_>,
     text: &mut String,
 ) -> Result<(), AllocError>
-    requires in_range { NamesInRange N.frames.frames command.now }
+    requires in_range { CommandInRange N.frames.frames command.now }
     ensures answered { AddsText result text.old text.new
         (VisitsCommand (boot_tables N.frames N.stocks) command.now cpu.old cpu.new) }
 {

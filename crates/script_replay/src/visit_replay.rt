@@ -4,7 +4,7 @@ ghost use Rattle.std.specs.Prelude.{◌≡◌, All, IfOk, OnErr, length};
 ghost use Rattle.mem_system.specs.Commands.{IsOfZone};
 ghost use Rattle.script_replay.specs.Answers.{AddsText};
 ghost use Rattle.script_replay.specs.Lines.{StopsAt};
-ghost use Rattle.script_replay.specs.Ranges.{LineIsThere};
+ghost use Rattle.script_replay.specs.Ranges.{LineInRange};
 ghost use Rattle.script_replay.specs.Terms.{boot_tables};
 ghost use Rattle.script_replay.specs.Visits.{VisitsAll, VisitsLine};
 
@@ -26,7 +26,7 @@ pub fn replay_lines<N: BootName, R: Wait>(
     cpus: &mut [Cpu<N>],
     lines: &[Line<'_>],
 ) -> Result<Vec<u8>, AllocError>
-    requires there { All (LineIsThere N.frames.frames (length cpus.old)) lines.now }
+    requires there { All (LineInRange N.frames.frames (length cpus.old)) lines.now }
     ensures answers { IfOk result (λ answers.
         VisitsAll (boot_tables N.frames N.stocks) lines.now cpus.old cpus.new answers.items) }
     ensures stopped { OnErr result
@@ -47,7 +47,7 @@ fn serve_by_visit<N: BootName, R: Wait>(
     line: &Line<'_>,
     answers: &mut String,
 ) -> Result<(), AllocError>
-    requires there { LineIsThere N.frames.frames (length cpus.old) line.now }
+    requires there { LineInRange N.frames.frames (length cpus.old) line.now }
     ensures served { AddsText result answers.old answers.new
         (VisitsLine (boot_tables N.frames N.stocks) line.now cpus.old cpus.new) }
 {

@@ -5,14 +5,14 @@ use Rattle.script_lines.specs.declared.line.Line.{Line}
 use Rattle.script_lines.specs.declared.line.Line.TheVariants.{Go, At}
 use Rattle.script_replay.specs.Lines.{InOrder}
 use Rattle.script_replay.specs.Numbers.{SaysNumbered}
-use Rattle.script_replay.specs.Ranges.{NamesInRange}
+use Rattle.script_replay.specs.Ranges.{CommandInRange}
 use Rattle.script_replay.specs.Terms.{BootTables}
 use Rattle.script_replay.specs.Visits.{VisitsCommand}
 
 -- the frames and groups that a line names are in range, whichever its CPU; `go` names nothing
-abbrev pub LineNames : ℕ → Line → Type 0
-LineNames frames Go = Unit {0}
-LineNames frames (At number cpu command) = NamesInRange frames command
+abbrev pub LineCommandInRange : ℕ → Line → Type 0
+LineCommandInRange frames Go = Unit {0}
+LineCommandInRange frames (At number cpu command) = CommandInRange frames command
 
 -- a line of the CPU of this number is answered with this text on its part, with its number if that is asked for; any
 -- other line is skipped

@@ -3,9 +3,9 @@
 ghost use Rattle.std.specs.Prelude.{◌≡◌, ◌<◌, ◌^◌, All, IfOk, length};
 ghost use Rattle.std.specs.String.{string_bytes};
 ghost use Rattle.std.specs.Thread.{IsSend, IsSync};
-ghost use Rattle.script_replay.specs.Ranges.{LineIsThere};
+ghost use Rattle.script_replay.specs.Ranges.{LineInRange};
 ghost use Rattle.script_replay.specs.Terms.{boot_tables};
-ghost use Rattle.script_threads.specs.Own.{LineNames};
+ghost use Rattle.script_threads.specs.Own.{LineCommandInRange};
 ghost use Rattle.script_threads.specs.Each.{TellsEach, workers_from};
 
 use crate::workers::{Job, Worker, start};
@@ -33,7 +33,7 @@ pub fn run_each<N: BootName + Send + Sync, R: Threads + Wait + Sync, G: Gate + S
     gate: &G,
 ) -> Result<Vec<u8>, AllocError>
     requires count { length cpus.old < 2 ^ 31 }
-    requires lines { All (LineIsThere N.frames.frames (length cpus.old)) lines.now }
+    requires lines { All (LineInRange N.frames.frames (length cpus.old)) lines.now }
     ensures { IfOk result (λ text.
         TellsEach (boot_tables N.frames N.stocks) (workers_from 1 cpus.old lines.now is_numbered) text.items) }
 {
@@ -52,7 +52,7 @@ fn run_named<N: BootName + Send + Sync, R: Threads + Wait + Sync, G: Gate + Sync
     gate: &G,
 ) -> Result<Vec<u8>, AllocError>
     requires count { length cpus.old < 2 ^ 31 }
-    requires lines { All (LineNames N.frames.frames) lines.now }
+    requires lines { All (LineCommandInRange N.frames.frames) lines.now }
     ensures { IfOk result (λ text.
         TellsEach (boot_tables N.frames N.stocks) (workers_from 1 cpus.old lines.now is_numbered) text.items) }
 {
@@ -66,7 +66,7 @@ fn run_named<N: BootName + Send + Sync, R: Threads + Wait + Sync, G: Gate + Sync
         rt,
         |scope| -> Result<Vec<u8>, AllocError>
             requires { IsSync R.row × IsSync G.row × IsSync N.row × IsSend N.row × (length cpus.now < 2 ^ 31)
-                × All (LineNames N.frames.frames) lines.now }
+                × All (LineCommandInRange N.frames.frames) lines.now }
             ensures { IfOk result (λ text. TellsEach (boot_tables N.frames N.stocks)
                 (workers_from 1 cpus.entry.now lines.entry.now is_numbered) text.items) }
         {
@@ -88,7 +88,7 @@ fn start_all<'s, E, N: BootName + Send + Sync, R: Wait + Sync, G: Gate + Sync>(
     cpus: &'s mut [Cpu<N>],
 ) -> Result<Vec<Worker<'s, N>>, AllocError>
     requires count { length cpus.old < 2 ^ 31 }
-    requires lines { All (LineNames N.frames.frames) lines.now }
+    requires lines { All (LineCommandInRange N.frames.frames) lines.now }
     ensures { IfOk result (λ workers. workers.items ≡ workers_from 1 cpus.old lines.now is_numbered) }
 {
     let mut workers = Vec::with_capacity(alloc, cpus.len())?;

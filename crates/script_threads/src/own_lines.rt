@@ -4,7 +4,7 @@ ghost use Rattle.std.specs.Prelude.{All, IfOk};
 ghost use Rattle.std.specs.String.{string_bytes};
 ghost use Rattle.script_replay.specs.Answers.{AddsText};
 ghost use Rattle.script_replay.specs.Terms.{boot_tables};
-ghost use Rattle.script_threads.specs.Own.{LineNames, ServesOwn, ServesOwnLine, worker};
+ghost use Rattle.script_threads.specs.Own.{LineCommandInRange, ServesOwn, ServesOwnLine, worker};
 
 use cpu_part::{BootName, Cpu};
 use mem_system::{Gate, System};
@@ -26,7 +26,7 @@ pub(crate) fn serve_own<N: BootName, R: Wait, G: Gate>(
     is_numbered: bool,
     gate: &G,
 ) -> Result<String, AllocError>
-    requires { All (LineNames N.frames.frames) lines.now }
+    requires { All (LineCommandInRange N.frames.frames) lines.now }
     ensures { IfOk result (λ text.
         ServesOwn (boot_tables N.frames N.stocks) (worker cpu_number cpu.old lines.now is_numbered) cpu.new
         (string_bytes text)) }
@@ -57,7 +57,7 @@ fn serve_own_line<N: BootName, R: Wait, G: Gate>(
     is_numbered: bool,
     text: &mut String,
 ) -> Result<(), AllocError>
-    requires { LineNames N.frames.frames line.now }
+    requires { LineCommandInRange N.frames.frames line.now }
     ensures { AddsText result text.old text.new
         (ServesOwnLine (boot_tables N.frames N.stocks) is_numbered cpu_number line.now cpu.old cpu.new) }
 {

@@ -3,7 +3,7 @@
 ghost use Rattle.std.specs.Prelude.{◌≡◌, ◌++◌, ℕ, All, IfOk, List, OnOk};
 ghost use Rattle.std.specs.String.{string_bytes};
 ghost use Rattle.script_replay.specs.Terms.{boot_tables};
-ghost use Rattle.script_threads.specs.Own.{KnownWorker, LineNames, ServesOwn, worker};
+ghost use Rattle.script_threads.specs.Own.{KnownWorker, LineCommandInRange, ServesOwn, worker};
 ghost use Rattle.script_threads.specs.Each.{TellsOwn, heading};
 
 use crate::own_lines::serve_own;
@@ -68,7 +68,7 @@ impl<'a, N: BootName> Model for Worker<'a, N> {
 
 impl<'a, N: BootName, R: Wait, G: Gate> Job<'a, N, R, G> {
     fn run(self) -> Result<Told<N>, AllocError>
-        requires { All (LineNames N.frames.frames) self.lines.now }
+        requires { All (LineCommandInRange N.frames.frames) self.lines.now }
         ensures { IfOk result (λ told. ServesOwn (boot_tables N.frames N.stocks)
             (worker self.entry.cpu_number self.entry.cpu.now self.entry.lines.now self.entry.is_numbered)
             told.after.value (string_bytes told.text)) }
@@ -94,7 +94,7 @@ pub(crate) fn start<'s, E, N: BootName + Send + Sync, R: Wait + Sync, G: Gate + 
     scope: &Scope<'s, E>,
     job: Job<'s, N, R, G>,
 ) -> Result<Worker<'s, N>, AllocError>
-    requires { All (LineNames N.frames.frames) job.lines.now }
+    requires { All (LineCommandInRange N.frames.frames) job.lines.now }
     ensures { IfOk result (λ started. started
         ≡ worker job.entry.cpu_number job.entry.cpu.now job.entry.lines.now job.entry.is_numbered) }
 {

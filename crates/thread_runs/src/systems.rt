@@ -2,7 +2,7 @@
 
 ghost use Rattle.std.specs.Prelude.{◌≡◌, ◌<◌, ◌≤◌, ◌^◌, All, length};
 ghost use Rattle.mem_system.specs.Boots.{IsSizedAs};
-ghost use Rattle.script_replay.specs.Ranges.{LineIsThere};
+ghost use Rattle.script_replay.specs.Ranges.{LineInRange};
 
 use cpu_part::{BootName, Cpu};
 use load_run::boot_end::end_boot;
@@ -54,8 +54,8 @@ fn run_and_replay<N: BootName + Send + Sync, R: Threads + Wait + Sync, G: Gate +
     gate: &G,
 ) -> Result<(Vec<u8>, Vec<u8>), AllocError>
     requires count { length cpus.old < 2 ^ 31 }
-    requires lines { All (LineIsThere N.frames.frames (length cpus.old)) lines.now }
-    requires last { All (LineIsThere N.frames.frames (length cpus.old)) last.now }
+    requires lines { All (LineInRange N.frames.frames (length cpus.old)) lines.now }
+    requires last { All (LineInRange N.frames.frames (length cpus.old)) last.now }
 {
     let by_threads = run_lines(rt, alloc, system, cpus, lines, gate)?;
     let after_threads = replay_lines(rt, alloc, system, cpus, last)?;
@@ -75,8 +75,8 @@ fn live_by_threads<N: BootName + Send + Sync, R: Threads + Wait + Sync, G: Gate 
     requires names { (boot.frames ≡ N.frames) × (boot.stocks ≡ N.stocks) }
     requires sized { IsSizedAs boot.sizes boot.frames boot.stocks }
     requires count { boot.sizes.cpus < 2 ^ 31 }
-    requires lines { All (LineIsThere boot.sizes.frames boot.sizes.cpus) lines.now }
-    requires last { All (LineIsThere boot.sizes.frames boot.sizes.cpus) last.now }
+    requires lines { All (LineInRange boot.sizes.frames boot.sizes.cpus) lines.now }
+    requires last { All (LineInRange boot.sizes.frames boot.sizes.cpus) last.now }
 {
     let (system, mut cpus) = boot.start::<N>(alloc)?;
     let told = run_and_replay(rt, alloc, &system, &mut cpus, lines, last, gate);

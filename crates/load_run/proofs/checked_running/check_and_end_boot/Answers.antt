@@ -3,7 +3,7 @@ use Rattle.cpu_part.specs.Cpus.{KnownCpu}
 use Rattle.mem_system.proofs.Closing.{written_back}
 use Rattle.script_replay.specs.History.{ReplaysCheckedOrStops}
 use Rattle.script_replay.specs.Lines.{system_state}
-use Rattle.script_replay.specs.Ranges.{LineIsThere}
+use Rattle.script_replay.specs.Ranges.{LineInRange}
 use Rattle.script_replay.specs.Terms.{form_terms}
 use Rattle.load_run.specs.Ending.{EndsSeen}
 use Rattle.load_run.proofs.checked_running.check_and_end_boot.Goals as goal
@@ -11,7 +11,7 @@ use Rattle.load_run.proofs.checked_running.check_and_end_boot.Goals as goal
 pub replay_checked-answers-requires-clause-there : goal.replay_checked-answers-requires-clause-there
 replay_checked-answers-requires-clause-there g c =
     let long : length c.deref_mut.result.now ≡ g.N.BootName.frames.cpus = ap length c.deref_mut.ensures.value ∙ c.requires.count in
-    subst (λ (n : ℕ). All (LineIsThere g.N.BootName.frames.frames n) c.args.lines.now) (sym long) c.requires.lines
+    subst (λ (n : ℕ). All (LineInRange g.N.BootName.frames.frames n) c.args.lines.now) (sym long) c.requires.lines
 
 pub end_seen_boot-requires : goal.end_seen_boot-requires
 end_seen_boot-requires g c =

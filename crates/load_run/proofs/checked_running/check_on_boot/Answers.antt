@@ -4,7 +4,7 @@ use Rattle.mem_machine.specs.Interleaving.{zone_of}
 use Rattle.mem_machine.specs.Machines.{IsFirst}
 use Rattle.mem_system.specs.Locked.{KnownLocked}
 use Rattle.script_replay.specs.Lines.{system_state}
-use Rattle.script_replay.specs.Ranges.{LineIsThere}
+use Rattle.script_replay.specs.Ranges.{LineInRange}
 use Rattle.mem_history.proofs.Told.{a_boot_tells}
 use Rattle.load_run.specs.Answers.{checked_text}
 use Rattle.load_run.specs.Ending.{end_text}
@@ -16,7 +16,7 @@ use Rattle.load_run.proofs.checked_running.check_on_boot.Goals as goal
 pub check_and_end_boot-answers-requires-clause-lines : goal.check_and_end_boot-answers-requires-clause-lines
 check_and_end_boot-answers-requires-clause-lines g c =
     let sized = c.in_ok-locked.ensures.sized in
-    subst (λ (b : ℕ × ℕ). All (LineIsThere b.0 b.1) c.args.lines.now) (λ i. (sym sized.frames i, sym sized.cpus i)) c.requires.lines
+    subst (λ (b : ℕ × ℕ). All (LineInRange b.0 b.1) c.args.lines.now) (λ i. (sym sized.frames i, sym sized.cpus i)) c.requires.lines
 
 pub check_and_end_boot-answers-requires-clause-legal : goal.check_and_end_boot-answers-requires-clause-legal
 check_and_end_boot-answers-requires-clause-legal g c =

@@ -3,7 +3,7 @@ use Rattle.cpu_part.specs.Cpus.{KnownCpu}
 use Rattle.mem_system.proofs.Closing.{written_back}
 use Rattle.script_replay.specs.History.{ReplaysOrStops}
 use Rattle.script_replay.specs.Lines.{system_state}
-use Rattle.script_replay.specs.Ranges.{LineIsThere}
+use Rattle.script_replay.specs.Ranges.{LineInRange}
 use Rattle.script_replay.specs.Terms.{form_terms}
 use Rattle.load_run.specs.Ending.{EndsHeld}
 use Rattle.load_run.proofs.running.replay_and_end_boot.Goals as goal
@@ -11,7 +11,7 @@ use Rattle.load_run.proofs.running.replay_and_end_boot.Goals as goal
 pub replay-answers-requires : goal.replay-answers-requires
 replay-answers-requires g c =
     let long : length c.deref_mut.result.now ≡ g.N.BootName.frames.cpus = ap length c.deref_mut.ensures.value ∙ c.requires.count in
-    record { there = subst (λ (n : ℕ). All (LineIsThere g.N.BootName.frames.frames n) c.args.lines.now) (sym long) c.requires.lines }
+    record { there = subst (λ (n : ℕ). All (LineInRange g.N.BootName.frames.frames n) c.args.lines.now) (sym long) c.requires.lines }
 
 pub end_boot-ended-requires : goal.end_boot-ended-requires
 end_boot-ended-requires g c =

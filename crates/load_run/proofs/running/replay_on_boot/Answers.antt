@@ -1,6 +1,6 @@
 use Rattle.std.proofs.Common.{ℕ, [], All, sym, subst, refl}
 use Rattle.script_replay.specs.Lines.{system_state}
-use Rattle.script_replay.specs.Ranges.{LineIsThere}
+use Rattle.script_replay.specs.Ranges.{LineInRange}
 use Rattle.mem_history.proofs.Told.{a_boot_tells}
 use Rattle.load_run.specs.Ending.{end_text}
 use Rattle.load_run.proofs.Answering.{at_ok, weakened}
@@ -10,7 +10,7 @@ use Rattle.load_run.proofs.running.replay_on_boot.Goals as goal
 pub replay_and_end_boot-answers-requires-clause-lines : goal.replay_and_end_boot-answers-requires-clause-lines
 replay_and_end_boot-answers-requires-clause-lines g c =
     let sized = c.in_ok-locked.ensures.sized in
-    subst (λ (b : ℕ × ℕ). All (LineIsThere b.0 b.1) c.args.lines.now) (λ i. (sym sized.frames i, sym sized.cpus i)) c.requires.lines
+    subst (λ (b : ℕ × ℕ). All (LineInRange b.0 b.1) c.args.lines.now) (λ i. (sym sized.frames i, sym sized.cpus i)) c.requires.lines
 
 pub returns : goal.returns
 returns g c =

@@ -4,7 +4,7 @@ use Rattle.std.proofs.Common.{◌≡◌, ◌∙◌, ℕ, List, All, IfOk, length
 use Rattle.cpu_part.specs.Cpus.{KnownCpu}
 use Rattle.mem_system.proofs.Closing.{written_back}
 use Rattle.script_replay.specs.Lines.{system_state}
-use Rattle.script_replay.specs.Ranges.{LineIsThere}
+use Rattle.script_replay.specs.Ranges.{LineInRange}
 use Rattle.script_replay.specs.Terms.{boot_tables}
 use Rattle.script_threads.specs.Each.{TellsEach, workers_from}
 use Rattle.load_run.specs.Ending.{EndsHeld}
@@ -20,7 +20,7 @@ serve_later-told-requires-clause-count g c =
 pub serve_later-told-requires-clause-lines : goal.serve_later-told-requires-clause-lines
 serve_later-told-requires-clause-lines g c κs within =
     let long : length c.deref_mut.result.now ≡ g.N.BootName.frames.cpus = ap length c.deref_mut.ensures.value ∙ c.requires.count in
-    subst (λ (n : ℕ). All (LineIsThere g.N.BootName.frames.frames n) c.args.lines.now) (sym long) c.requires.lines
+    subst (λ (n : ℕ). All (LineInRange g.N.BootName.frames.frames n) c.args.lines.now) (sym long) c.requires.lines
 
 pub end_boot-ended-requires : goal.end_boot-ended-requires
 end_boot-ended-requires g c =
