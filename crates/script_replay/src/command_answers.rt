@@ -31,7 +31,7 @@ use std::alloc::AllocError;
 // Serves a command of the script and adds its answer. If `is_explained` is true, what was drained, reclaimed and killed
 // for it follows the answer. If memory runs out, the command was served all the same.
 #[tactic(auto, using(crate::proofs::InRange::work_in_range))]
-pub(crate) fn answer_text<N: BootName>(
+pub(crate) fn serve_and_write<N: BootName>(
     locked: &mut Locked<N>,
     tables: &Tables<N>,
     cpu: &mut Cpu<N>,

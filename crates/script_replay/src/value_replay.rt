@@ -12,7 +12,7 @@ ghost use Rattle.script_replay.specs.Lines.{number_in_script, system_state};
 ghost use Rattle.script_replay.specs.Ranges.{CommandInRange, LineInRange};
 ghost use Rattle.script_replay.specs.Terms.{form_terms, numbered_terms, terms};
 
-use crate::command_answers::answer_text;
+use crate::command_answers::serve_and_write;
 use crate::form::{Form, write_numbered};
 use cpu_part::{BootName, Cpu, Tables};
 use mem_system::Locked;
@@ -196,7 +196,7 @@ fn serve_part<N: BootName>(
     ensures tied { IsTied N.frames N.stocks cpu.new }
     ensures none_fresh { cpu.new.stock_seat.view.last ≡ NoGroup → cpu.new.fresh ≡ [] }
 {
-    let served = answer_text(locked, tables, cpu, command, is_explained, answers);
+    let served = serve_and_write(locked, tables, cpu, command, is_explained, answers);
     let _cpu_number = cpu.number(); // Called for its contract: `tied`.
     let _last = cpu.last_stock(); // Called for its contract: `none_fresh`.
     see_invariants(locked);
