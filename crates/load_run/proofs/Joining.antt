@@ -6,7 +6,7 @@ use Rattle.stock_word.specs.Stock.{KnownStockTable}
 use Rattle.zone_sizes.specs.declared.config.Config.{Config}
 use Rattle.mem_system.specs.Boots.{IsSizedAs}
 use Rattle.script_lines.specs.declared.line.Line.{Line}
-use Rattle.script_replay.specs.History.{TellsHistory, past}
+use Rattle.script_replay.specs.History.{HasHistory, past}
 use Rattle.script_replay.specs.Lines.{ServesAll, SystemState}
 use Rattle.script_replay.specs.Ranges.{LineInRange}
 use Rattle.script_replay.specs.Terms.{boot_tables, numbered_terms}
@@ -41,7 +41,7 @@ later_there sizes t w n lines later sized is all =
 pub are_answers : (sizes : Config) (is_numbered is_audited : Bool) (t : KnownTable) (w : KnownStockTable) (lines first_lines other_lines : List Line)
     (start at_go : SystemState) (early later text : List ℕ) (told : BootEnd) → IsAfterBoot sizes t w start
     → first_lines ≡ take (lines_before_go lines) lines → other_lines ≡ drop (lines_before_go lines) lines
-    → ServesAll (numbered_terms t w false is_numbered) first_lines start at_go early → TellsHistory (numbered_terms t w false is_numbered) first_lines (past [] start) at_go early
+    → ServesAll (numbered_terms t w false is_numbered) first_lines start at_go early → HasHistory (numbered_terms t w false is_numbered) first_lines (past [] start) at_go early
     → TellsEach (boot_tables t w) (workers_from 1 at_go.cpus other_lines is_numbered) later
     → EndsAfter t w (IsQuietSystem t w) told
     → text ≡ (early ++ later) ++ end_text is_audited told → AreThreadAnswers sizes is_numbered is_audited lines text
@@ -57,7 +57,7 @@ are_answers sizes is_numbered is_audited t w lines first_lines other_lines start
       ending = end_text is_audited told;
       first = first;
       served = subst (λ (l : List Line). ServesAll (numbered_terms t w false is_numbered) l start at_go early) is_first served;
-      history = subst (λ (l : List Line). TellsHistory (numbered_terms t w false is_numbered) l (past [] start) at_go early) is_first history;
+      history = subst (λ (l : List Line). HasHistory (numbered_terms t w false is_numbered) l (past [] start) at_go early) is_first history;
       tells = subst (λ (l : List Line). TellsEach (boot_tables t w) (workers_from 1 at_go.cpus l is_numbered) later) is_other tells;
       quiet = ended.so;
       ends = record { ended = told; ends = ended.ends; text_is = refl };

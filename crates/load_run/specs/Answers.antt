@@ -15,7 +15,7 @@ use Rattle.script_lines.specs.declared.line.Line.{Line}
 use Rattle.script_lines.specs.Script.{IsScript, longest_script}
 use Rattle.script_replay.specs.Lines.{ServesAll, SystemState}
 use Rattle.script_replay.specs.declared.form.Form.{Form}
-use Rattle.script_replay.specs.History.{KeepsHistory, TellsHistory, past}
+use Rattle.script_replay.specs.History.{HasHistory, KeepsHistory, past}
 use Rattle.script_replay.specs.Terms.{boot_tables, form_of, form_terms, numbered_terms}
 use Rattle.script_threads.specs.Each.{TellsEach, workers_from}
 use Rattle.script_threads.specs.Runs.{lines_before_go}
@@ -46,7 +46,7 @@ pub record AreReplayAnswers (sizes : Config) (form : Form) (is_audited : Bool) (
   pub ending : List ℕ
   pub first : IsAfterBoot sizes frames stocks start
   pub served : ServesAll (form_terms frames stocks form) lines start end answers
-  pub history : TellsHistory (form_terms frames stocks form) lines (past [] start) end answers
+  pub history : HasHistory (form_terms frames stocks form) lines (past [] start) end answers
   pub told : TellsRun frames [] start.locked.machine.ledger
   pub ends : TellsEnd frames stocks is_audited end ending
   pub text_is : text ≡ answers ++ ending
@@ -102,7 +102,7 @@ pub record AreThreadAnswers (sizes : Config) (is_numbered is_audited : Bool) (li
   pub served : ServesAll (numbered_terms frames stocks false is_numbered) (take (lines_before_go lines) lines) start
       at_go
       early
-  pub history : TellsHistory (numbered_terms frames stocks false is_numbered) (take (lines_before_go lines) lines)
+  pub history : HasHistory (numbered_terms frames stocks false is_numbered) (take (lines_before_go lines) lines)
       (past [] start) at_go early
   pub tells : TellsEach (boot_tables frames stocks)
       (workers_from 1 at_go.cpus (drop (lines_before_go lines) lines) is_numbered) later

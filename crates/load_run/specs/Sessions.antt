@@ -5,7 +5,7 @@ use Rattle.frame_word.specs.Seats.{KnownTable}
 use Rattle.stock_word.specs.Stock.{KnownStockTable}
 use Rattle.zone_sizes.specs.Config.{IsValidConfig}
 use Rattle.mem_machine.specs.Telling.{TellsRun}
-use Rattle.script_replay.specs.History.{TellsHistory, past}
+use Rattle.script_replay.specs.History.{HasHistory, past}
 use Rattle.script_replay.specs.Lines.{SystemState}
 use Rattle.script_replay.specs.Terms.{terms}
 use Rattle.line_server.specs.declared.fault.ServeFault.{ServeFault}
@@ -33,7 +33,7 @@ pub record EndsSession (options : Options) (is_explained : Bool) (input before m
   pub end : SystemState
   pub first : IsAfterBoot options.sizes frames stocks start
   pub session : ServesSession (terms frames stocks is_explained) options.sizes input start end before middle
-  pub history : TellsHistory (terms frames stocks is_explained) (lines_of session.turns) (past [] start) end
+  pub history : HasHistory (terms frames stocks is_explained) (lines_of session.turns) (past [] start) end
       (answers_of session.turns)
   pub told : TellsRun frames [] start.locked.machine.ledger
   pub ends : TellsEnd frames stocks options.is_audited end ending

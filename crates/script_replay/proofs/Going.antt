@@ -28,7 +28,8 @@ use Rattle.script_lines.specs.declared.line.Line.{Line}
 use Rattle.script_lines.specs.declared.line.Line.TheVariants.{Go, At}
 use Rattle.script_replay.specs.Answers.{AddsText, ServesCommand, WritesWork}
 use Rattle.script_replay.specs.Lines.{SystemState, system_state, AtPart, InOrder, ServesLine, ServesAll, StopsAt, number_in_script}
-use Rattle.script_replay.specs.History.{Past, past, past_line, TellsHistory, Replays, ReplaysLegally, ServesAndKeeps, StopsFor, HoldsInvariants}
+use Rattle.script_replay.specs.History.{Past, past, past_line, HasHistory, Replays, ReplaysLegally, ServesAndKeeps}
+use Rattle.script_replay.specs.History.{StopsFor, HoldsInvariants}
 use Rattle.script_replay.specs.declared.value_replay.Stopped.TheVariants.{NotLegal}
 use Rattle.script_replay.specs.Ranges.{LineInRange}
 use Rattle.script_replay.specs.declared.form.Form.{Form}
@@ -197,7 +198,7 @@ line_follows on run (At number cpu command) s e text shows tied keeps legal =
 
 pub keeps_history : (on : Terms) (lines : List Line) (before : Past) (e : SystemState) (text : List ℕ) →
     (IsLegalRun (zone_of on.frames) before.run → ShowsAll on.frames before.run before.now.locked.machine before.now.cpus) → AreTied on.frames on.stocks before.now.cpus →
-    ServesAllAndKeeps on lines before.now e text → TellsHistory on lines before e text
+    ServesAllAndKeeps on lines before.now e text → HasHistory on lines before e text
 keeps_history on [] before e text shows tied all = all
 keeps_history on (line ∷ lines) before e text shows tied all =
     let one = all.serves_first in
@@ -211,7 +212,7 @@ keeps_history on (line ∷ lines) before e text shows tied all =
       rest = all.rest;
       between = mid;
       steps = steps;
-      tells_first = one.serves.tells;
+      writes_first = one.serves.tells;
       watched = line_seen on.frames on.is_explained line before.now steps mid one.serves.tells.plain one.serves.tells.so;
       kept_where_legal = λ legal. record {
         tells = (follows legal).1;

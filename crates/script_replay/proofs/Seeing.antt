@@ -26,7 +26,7 @@ use Rattle.script_replay.specs.declared.work.Work.{Work}
 use Rattle.script_replay.specs.declared.work.Work.TheVariants as work
 use Rattle.script_replay.specs.Answers.{AnswersFrame, AnswersRelease, AnswersWork, IsServedUnderLock, OnlyWatched, RepliesServed, SettlesUnderLock, WritesWork}
 use Rattle.script_replay.proofs.Looking.{IsLookedAt, stock_looked, units_looked}
-use Rattle.script_replay.specs.History.{Past, past, past_line, KeepsHistory, TellsHistory, TellsLegalHistory}
+use Rattle.script_replay.specs.History.{Past, past, past_line, KeepsHistory, HasHistory, HasLegalHistory}
 use Rattle.script_replay.specs.Lines.{SystemState, WritesLine}
 use Rattle.script_replay.specs.Terms.{Terms}
 
@@ -119,7 +119,7 @@ record SawAll (begins : Past) (end : SystemState) : Type 0 where
   pub more : Run
   pub seen : Watches begins.now.locked.machine.watch more end.locked.machine.watch
 
-all_seen : (on : Terms) (lines : List Line) (begins : Past) (end : SystemState) (text : List ℕ) → TellsHistory on lines begins end text
+all_seen : (on : Terms) (lines : List Line) (begins : Past) (end : SystemState) (text : List ℕ) → HasHistory on lines begins end text
     → SawAll begins end
 all_seen on [] begins end text tells = record {
   more = [];
@@ -133,7 +133,7 @@ all_seen on (line ∷ lines) begins end text tells =
     }
 
 -- if the run of all steps is legal, the promise holds after each line
-all_kept : (on : Terms) (lines : List Line) (begins : Past) (end : SystemState) (text : List ℕ) → (tells : TellsHistory on lines begins end text)
+all_kept : (on : Terms) (lines : List Line) (begins : Past) (end : SystemState) (text : List ℕ) → (tells : HasHistory on lines begins end text)
     → (whole : Run) → whole ≡ begins.run ++ (all_seen on lines begins end text tells).more → IsLegalRun (zone_of on.frames) whole
     → TellsRun on.frames begins.run begins.now.locked.machine.ledger → KeepsHistory on lines begins (past whole end) text
 unfolding all_seen
@@ -152,16 +152,16 @@ all_kept on (line ∷ lines) begins end text tells whole is legal told =
       rest = tells.rest;
       between = tells.between;
       steps = tells.steps;
-      tells_first = tells.tells_first;
+      writes_first = tells.writes_first;
       kept = record { promise = holds.promise; tells = holds.tells told };
       keeps = all_kept on lines next end tells.rest tells.tells whole parts legal (holds.tells told);
       text_is = tells.text_is;
     }
 
 -- if the watch was new before the lines and allowed all steps, the lines have a legal history
-pub legal_history : (on : Terms) (lines : List Line) (before after : SystemState) (text : List ℕ) → TellsHistory on lines (past [] before) after text
+pub legal_history : (on : Terms) (lines : List Line) (before after : SystemState) (text : List ℕ) → HasHistory on lines (past [] before) after text
     → TellsRun on.frames [] before.locked.machine.ledger → IsNewWatch (zone_of on.frames) before.locked.machine.watch
-    → has_legal_steps after.locked.machine.watch ≡ true → TellsLegalHistory on lines before after text
+    → has_legal_steps after.locked.machine.watch ≡ true → HasLegalHistory on lines before after text
 legal_history on lines before after text tells told new allowed =
     let all = all_seen on lines (past [] before) after text tells in
     let saw : SawRun (zone_of on.frames) all.more after.locked.machine.watch =

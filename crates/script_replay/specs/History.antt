@@ -18,7 +18,7 @@ use Rattle.script_lines.specs.declared.line.Line.{Line}
 use Rattle.script_lines.specs.declared.line.Line.TheVariants.{Go}
 use Rattle.script_replay.specs.declared.value_replay.Stopped.{Stopped}
 use Rattle.script_replay.specs.declared.value_replay.Stopped.TheVariants.{NoMemory, NotLegal}
-use Rattle.script_replay.specs.Lines.{SystemState, ServesAll, ServesLine, StopsAt, TellsLine}
+use Rattle.script_replay.specs.Lines.{SystemState, ServesAll, ServesLine, StopsAt, WritesLineOnTerms}
 use Rattle.script_replay.specs.Lines.{number_in_script}
 use Rattle.script_replay.specs.Ranges.{LineInRange}
 use Rattle.script_replay.specs.Terms.{Terms}
@@ -47,25 +47,25 @@ pub record HoldsPromise (table : KnownTable) (earlier : Run) (before : SystemSta
 -- The first line is served by these steps, which the watch took. If the run so far with these steps is legal, the
 -- promise holds after it, and the ledger keeps the peaks and event counts of the run. The other lines have their
 -- history from there on.
-pub record TellsFirstAndRest (terms : Terms) (line : Line) (past : Past) (text : List ℕ)
-    (tells_rest : Past → List ℕ → Type 0) : Type 0 where
+pub record HasFirstAndRest (terms : Terms) (line : Line) (past : Past) (text : List ℕ)
+    (has_rest : Past → List ℕ → Type 0) : Type 0 where
   pub first : List ℕ
   pub rest : List ℕ
   pub between : SystemState
   pub steps : Run
-  pub tells_first : TellsLine terms line (transition terms.frames past.now steps between) first
+  pub writes_first : WritesLineOnTerms terms line (transition terms.frames past.now steps between) first
   pub watched : Watches past.now.locked.machine.watch steps between.locked.machine.watch
   pub kept_where_legal : IsLegalRun (zone_of terms.frames) (past.run ++ steps)
       → HoldsPromise terms.frames past.run past.now (past.run ++ steps) between
-  pub tells : tells_rest (past_line past steps between) rest
+  pub tells : has_rest (past_line past steps between) rest
   pub text_is : text ≡ first ++ rest
 
 -- The history of lines that are served one after the other, as `ServesAll` says. After each line the promise holds if
 -- the steps so far are a legal run.
-abbrev pub TellsHistory : Terms → List Line → Past → (after : SystemState) (text : List ℕ) → Type 0
-TellsHistory terms [] past after text = (text ≡ []) × (after ≡ past.now)
-TellsHistory terms (line ∷ lines) past after text =
-    TellsFirstAndRest terms line past text (λ later rest. TellsHistory terms lines later after rest)
+abbrev pub HasHistory : Terms → List Line → Past → (after : SystemState) (text : List ℕ) → Type 0
+HasHistory terms [] past after text = (text ≡ []) × (after ≡ past.now)
+HasHistory terms (line ∷ lines) past after text =
+    HasFirstAndRest terms line past text (λ later rest. HasHistory terms lines later after rest)
 
 -- the promise holds after the run, of what the machine and the CPUs show, and the ledger has the peaks and event counts
 -- of the run
@@ -81,7 +81,7 @@ pub record KeepsFirstAndRest (terms : Terms) (line : Line) (past : Past) (text :
   pub rest : List ℕ
   pub between : SystemState
   pub steps : Run
-  pub tells_first : TellsLine terms line (transition terms.frames past.now steps between) first
+  pub writes_first : WritesLineOnTerms terms line (transition terms.frames past.now steps between) first
   pub kept : KeepsPromise terms.frames (past.run ++ steps) between
   pub keeps : keeps_rest (past_line past steps between) rest
   pub text_is : text ≡ first ++ rest
@@ -95,7 +95,7 @@ KeepsHistory terms (line ∷ lines) past last text =
 
 -- The watch saw all steps of the lines: they are one legal run, which the watch counted, and after each line the
 -- promise holds.
-pub record TellsLegalHistory (terms : Terms) (lines : List Line) (before after : SystemState) (text : List ℕ)
+pub record HasLegalHistory (terms : Terms) (lines : List Line) (before after : SystemState) (text : List ℕ)
     : Type 0 where
   pub run : Run
   pub saw : SawRun (zone_of terms.frames) run after.locked.machine.watch
@@ -106,7 +106,7 @@ pub record TellsLegalHistory (terms : Terms) (lines : List Line) (before after :
 pub record Replays (terms : Terms) (lines : List Line) (before after : SystemState) (text : List ℕ) : Type 0 where
   pub served : ServesAll terms lines before after text
   pub history : (run : Run) → ShowsAll terms.frames run before.locked.machine before.cpus
-      → AreTied terms.frames terms.stocks before.cpus → TellsHistory terms lines (past run before) after text
+      → AreTied terms.frames terms.stocks before.cpus → HasHistory terms lines (past run before) after text
 
 -- The result of a replay. If it succeeds, all lines were served and these are their answers. If memory runs out for the
 -- text of a line, the lines up to that one were served.
@@ -123,7 +123,7 @@ pub record ReplaysLegally (terms : Terms) (lines : List Line) (before after : Sy
   pub history : ShowsAll terms.frames [] before.locked.machine before.cpus
       → AreTied terms.frames terms.stocks before.cpus → TellsRun terms.frames [] before.locked.machine.ledger
       → IsNewWatch (zone_of terms.frames) before.locked.machine.watch
-      → TellsLegalHistory terms lines before after text
+      → HasLegalHistory terms lines before after text
 
 -- why a checked replay stopped after so many lines: memory ran out for the text of the last of them; or the watch
 -- didn't allow a step, and the last of them has this number

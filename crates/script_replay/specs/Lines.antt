@@ -50,14 +50,14 @@ WritesLine is_explained (At number cpu command) call text =
     text) call.before.cpus call.after.cpus
 
 -- the answer of a line on these terms, as text, on this transition
-abbrev pub TellsLine : Terms → Line → Transition SystemState → (text : List ℕ) → Type 0
-TellsLine terms line call text =
+abbrev pub WritesLineOnTerms : Terms → Line → Transition SystemState → (text : List ℕ) → Type 0
+WritesLineOnTerms terms line call text =
     SaysNumbered terms.is_numbered (number_in_script line) (WritesLine terms.is_explained line call) text
 
 -- the answer of a line, as text, by some steps
 pub record ServesLine (terms : Terms) (line : Line) (before after : SystemState) (text : List ℕ) : Type 0 where
   pub steps : Run
-  pub tells : TellsLine terms line (transition terms.frames before steps after) text
+  pub tells : WritesLineOnTerms terms line (transition terms.frames before steps after) text
 
 -- the first line leads to a state between, the other lines lead on from there, and the text is that of the first line
 -- followed by that of the rest
