@@ -10,7 +10,8 @@ use Rattle.reply_texts.specs.Answers.{answer_text}
 use Rattle.reply_texts.specs.Replies.{reply_text}
 use Rattle.script_replay.specs.declared.work.Work.{Work}
 use Rattle.script_replay.specs.declared.work.Work.TheVariants.{Visit, Settle}
-use Rattle.script_replay.specs.Answers.{AddsAnswer, AddsText, AnswersWork, ServesUnderLock, ServesWork, WritesAnswer, path_removed, told_text}
+use Rattle.script_replay.specs.Answers.{AddsAnswer, AddsText, AnswersWork, ServesUnderLock, ServesWork, WritesAnswer}
+use Rattle.script_replay.specs.Answers.{explanation_if, path_removed}
 use Rattle.script_replay.specs.Numbers.{SaysNumbered, numbered_text}
 use Rattle.script_replay.specs.Terms.{Terms}
 
@@ -56,13 +57,13 @@ pub settle_alone : (is_explained : Bool) (call : Transition LockedState) (text :
 settle_alone is_explained call text writes = tells writes.answer writes.is_noted writes.answered writes.text_is
   where
     tells : (answer : Answer) (is_noted : Bool) → AnswersWork false Settle call answer is_noted
-        → text ≡ answer_text answer ++ told_text (is_noted && false) [] call.after.locked.machine → WritesAnswer is_explained Settle call text
+        → text ≡ answer_text answer ++ explanation_if (is_noted && false) [] call.after.locked.machine → WritesAnswer is_explained Settle call text
     tells answer false answered is = record { answer = answer; is_noted = false; answered = answered; text_is = is }
     tells answer true answered is = absurd answered
 
 -- a command that was served under the lock: its reply, followed by its explanation
 pub served : (on : Terms) (cmd : Cmd) (before after : LockedState) (reply : Reply) → ServesUnderLock on.frames on.is_explained cmd reply before after
-    → ServesWork on (Visit cmd) before after (reply_text reply ++ told_text on.is_explained (path_removed cmd) after.locked.machine)
+    → ServesWork on (Visit cmd) before after (reply_text reply ++ explanation_if on.is_explained (path_removed cmd) after.locked.machine)
 served on cmd before after reply is = record {
   steps = is.steps;
   writes = record {

@@ -288,15 +288,16 @@ path_removed (cmd.Rmdir path) = path.now
 path_removed other = []
 
 -- the path of the group that a command of a script removes, if it is to remove one
-abbrev pub path_gone : Work → List ℕ
-path_gone (Visit cmd) = path_removed cmd
-path_gone work = []
+abbrev pub path_removed_by : Work → List ℕ
+path_removed_by (Visit cmd) = path_removed cmd
+path_removed_by work = []
 
 -- if it is asked for, the explanation of a command that was served under the lock: what it drained, reclaimed and
 -- killed, from the groups and notes that the command left
-abbrev pub told_text : (is_told : Bool) → (gone : List ℕ) → KnownMachine → List ℕ
-told_text true gone machine = explanation_text machine.ledger.groups gone machine.notes.list machine.notes.left_out
-told_text false gone machine = []
+abbrev pub explanation_if : (is_asked : Bool) → (removed : List ℕ) → KnownMachine → List ℕ
+explanation_if true removed machine =
+    explanation_text machine.ledger.groups removed machine.notes.list machine.notes.left_out
+explanation_if false removed machine = []
 
 -- the text of the answer; if there are notes of the command and an explanation is asked for, the text continues with
 -- the explanation
@@ -306,7 +307,7 @@ pub record WritesAnswer (is_explained : Bool) (work : Work) (call : Transition L
   pub is_noted : Bool
   pub answered : AnswersWork is_explained work call answer is_noted
   pub text_is : text
-      ≡ answer_text answer ++ told_text (is_noted && is_explained) (path_gone work) call.after.locked.machine
+      ≡ answer_text answer ++ explanation_if (is_noted && is_explained) (path_removed_by work) call.after.locked.machine
 
 -- the CPU is settled, and the text is that of the machine after that
 pub record WritesMachine (machine_text : KnownMachine → List ℕ) (call : Transition LockedState)

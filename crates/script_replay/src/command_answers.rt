@@ -10,7 +10,7 @@ ghost use Rattle.mem_system.specs.Commands.{IsOfZone};
 ghost use Rattle.script_replay.specs.declared.work.Work.TheVariants.{Blocks, Frame, Release, Settle, Show, Stock};
 ghost use Rattle.script_replay.specs.declared.work.Work.TheVariants.{Units, Visit};
 ghost use Rattle.script_replay.specs.declared.work.Work.TheVariants as work;
-ghost use Rattle.script_replay.specs.Answers.{AddsText, ServesCommand, ServesWork, path_removed, told_text};
+ghost use Rattle.script_replay.specs.Answers.{AddsText, ServesCommand, ServesWork, explanation_if, path_removed};
 ghost use Rattle.script_replay.specs.Ranges.{CommandInRange, WorkInRange};
 ghost use Rattle.script_replay.specs.Terms.{terms};
 
@@ -186,22 +186,22 @@ fn path_removed<'a>(cmd: &Cmd<'a>) -> &'a [u8]
 }
 
 // Adds what the last command drained, reclaimed and killed, if that is asked for. The group that it removed, if it
-// removed one, had the path `gone`.
+// removed one, had the path `removed`.
 fn explain<N: BootName>(
     locked: &Locked<N>,
     is_explained: bool,
-    gone: &[u8],
+    removed: &[u8],
     text: &mut String,
 ) -> Result<(), AllocError>
     ensures { OnOk result
-        (string_bytes text.new ≡ string_bytes text.old ++ told_text is_explained gone.now locked.now.machine) }
+        (string_bytes text.new ≡ string_bytes text.old ++ explanation_if is_explained removed.now locked.now.machine) }
 {
     if !is_explained {
         return Ok(());
     }
     let machine = locked.machine();
     let (notes, left_out) = (machine.notes(), machine.notes_left_out());
-    write_explanation(machine.charges().tree(), gone, notes, left_out, text)
+    write_explanation(machine.charges().tree(), removed, notes, left_out, text)
 }
 
 // Takes a frame, if possible without the lock.

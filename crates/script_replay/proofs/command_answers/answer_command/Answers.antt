@@ -4,7 +4,7 @@ use Rattle.group_charge.specs.Charges.{Ledger}
 use Rattle.mem_system.specs.Outcomes.{reply_of}
 use Rattle.mem_system.specs.Visits.{locked_state}
 use Rattle.reply_texts.specs.Replies.{reply_text}
-use Rattle.script_replay.specs.Answers.{path_removed, told_text}
+use Rattle.script_replay.specs.Answers.{explanation_if, path_removed}
 use Rattle.script_replay.specs.Terms.{terms}
 use Rattle.script_replay.proofs.Telling.{behind, served}
 use Rattle.script_replay.proofs.command_answers.answer_command.Goals as goal
@@ -14,7 +14,7 @@ returns-in_err-write_outcome g c =
     let after = c.serve_under_lock-outcome.new in
     let reply = reply_of after.locked.machine.ledger c.serve_under_lock-outcome.result in record {
       answered = record {
-        text = reply_text reply ++ told_text c.args.is_explained (path_removed c.args.cmd.now) after.locked.machine;
+        text = reply_text reply ++ explanation_if c.args.is_explained (path_removed c.args.cmd.now) after.locked.machine;
         so = served (terms g.N.BootName.frames g.N.BootName.stocks c.args.is_explained) c.args.cmd.now (locked_state c.args.locked.now c.args.cpu.now) (locked_state after.locked after.cpu)
             reply c.serve_under_lock-outcome.ensures.served;
         added = search rules;
@@ -27,14 +27,14 @@ returns g c =
     let outcome = c.serve_under_lock-outcome.result in
     let reply = reply_of after.locked.machine.ledger outcome in record {
       answered = record {
-        text = reply_text reply ++ told_text c.args.is_explained (path_removed c.args.cmd.now) after.locked.machine;
+        text = reply_text reply ++ explanation_if c.args.is_explained (path_removed c.args.cmd.now) after.locked.machine;
         so = served (terms g.N.BootName.frames g.N.BootName.stocks c.args.is_explained) c.args.cmd.now (locked_state c.args.locked.now c.args.cpu.now) (locked_state after.locked after.cpu)
             reply c.serve_under_lock-outcome.ensures.served;
         added = behind c.explain.result (string_bytes c.args.text.now) (string_bytes c.write_outcome.new.text) (string_bytes c.explain.new.text)
-            (reply_text reply) (told_text c.args.is_explained (path_removed c.args.cmd.now) after.locked.machine)
+            (reply_text reply) (explanation_if c.args.is_explained (path_removed c.args.cmd.now) after.locked.machine)
             (c.in_ok-write_outcome.ensures ∙ ap (λ (l : Ledger). string_bytes c.args.text.now ++ reply_text (reply_of l outcome)) c.charges.ensures)
             (subst (λ (p : List ℕ). IfOk c.explain.result
-            (λ _. string_bytes c.explain.new.text ≡ string_bytes c.write_outcome.new.text ++ told_text c.args.is_explained p after.locked.machine))
+            (λ _. string_bytes c.explain.new.text ≡ string_bytes c.write_outcome.new.text ++ explanation_if c.args.is_explained p after.locked.machine))
             c.path_removed.ensures c.explain.ensures);
       };
     }
