@@ -10,7 +10,7 @@ use Rattle.script_replay.specs.History.{HasHistory, past}
 use Rattle.script_replay.specs.Lines.{ServesAll, SystemState}
 use Rattle.script_replay.specs.Ranges.{LineInRange}
 use Rattle.script_replay.specs.Terms.{boot_tables, numbered_terms}
-use Rattle.script_threads.specs.Each.{TellsEach, workers_from}
+use Rattle.script_threads.specs.Each.{AreAllAnswers, workers_from}
 use Rattle.script_threads.specs.Runs.{lines_before_go}
 use Rattle.load_run.specs.declared.boot_end.BootEnd.{BootEnd}
 use Rattle.load_run.specs.Answers.{IsAfterBoot}
@@ -42,7 +42,7 @@ pub are_answers : (sizes : Config) (is_numbered is_audited : Bool) (t : KnownTab
     (start at_go : SystemState) (early later text : List ℕ) (told : BootEnd) → IsAfterBoot sizes t w start
     → first_lines ≡ take (lines_before_go lines) lines → other_lines ≡ drop (lines_before_go lines) lines
     → ServesAll (numbered_terms t w false is_numbered) first_lines start at_go early → HasHistory (numbered_terms t w false is_numbered) first_lines (past [] start) at_go early
-    → TellsEach (boot_tables t w) (workers_from 1 at_go.cpus other_lines is_numbered) later
+    → AreAllAnswers (boot_tables t w) (workers_from 1 at_go.cpus other_lines is_numbered) later
     → EndsAfter t w (IsQuietSystem t w) told
     → text ≡ (early ++ later) ++ end_text is_audited told → AreThreadAnswers sizes is_numbered is_audited lines text
 are_answers sizes is_numbered is_audited t w lines first_lines other_lines start at_go early later text told first is_first is_other served history tells
@@ -58,7 +58,7 @@ are_answers sizes is_numbered is_audited t w lines first_lines other_lines start
       first = first;
       served = subst (λ (l : List Line). ServesAll (numbered_terms t w false is_numbered) l start at_go early) is_first served;
       history = subst (λ (l : List Line). HasHistory (numbered_terms t w false is_numbered) l (past [] start) at_go early) is_first history;
-      tells = subst (λ (l : List Line). TellsEach (boot_tables t w) (workers_from 1 at_go.cpus l is_numbered) later) is_other tells;
+      tells = subst (λ (l : List Line). AreAllAnswers (boot_tables t w) (workers_from 1 at_go.cpus l is_numbered) later) is_other tells;
       quiet = ended.so;
       ends = record { ended = told; ends = ended.ends; text_is = refl };
       text_is = is;

@@ -17,7 +17,7 @@ use Rattle.script_replay.specs.Lines.{ServesAll, SystemState}
 use Rattle.script_replay.specs.declared.form.Form.{Form}
 use Rattle.script_replay.specs.History.{HasHistory, KeepsHistory, past}
 use Rattle.script_replay.specs.Terms.{boot_tables, form_of, form_terms, numbered_terms}
-use Rattle.script_threads.specs.Each.{TellsEach, workers_from}
+use Rattle.script_threads.specs.Each.{AreAllAnswers, workers_from}
 use Rattle.script_threads.specs.Runs.{lines_before_go}
 use Rattle.load_options.specs.declared.task.Options.{Options}
 use Rattle.load_options.specs.declared.task.Task.{Task}
@@ -104,7 +104,7 @@ pub record AreThreadAnswers (sizes : Config) (is_numbered is_audited : Bool) (li
       early
   pub history : HasHistory (numbered_terms frames stocks false is_numbered) (take (lines_before_go lines) lines)
       (past [] start) at_go early
-  pub tells : TellsEach (boot_tables frames stocks)
+  pub tells : AreAllAnswers (boot_tables frames stocks)
       (workers_from 1 at_go.cpus (drop (lines_before_go lines) lines) is_numbered) later
   pub quiet : IsQuietSystem frames stocks end
   pub ends : TellsEnd frames stocks is_audited end ending

@@ -4,7 +4,7 @@
 ghost use Rattle.std.specs.Prelude.{◌≡◌, ◌<◌, ◌^◌, All, IfOk, length};
 ghost use Rattle.script_replay.specs.Ranges.{LineInRange};
 ghost use Rattle.script_replay.specs.Terms.{boot_tables};
-ghost use Rattle.script_threads.specs.Each.{TellsEach, workers_from};
+ghost use Rattle.script_threads.specs.Each.{AreAllAnswers, workers_from};
 ghost use Rattle.load_run.specs.Ending.{EndsAfter};
 ghost use Rattle.load_run.specs.Answers.{AreThreadAnswers, IsQuietSystem};
 
@@ -74,7 +74,7 @@ fn serve_and_end<N: BootName + Send + Sync, R: Threads + Wait + Sync>(
     requires count { length cpus.items ≡ N.frames.cpus }
     requires lines { All (LineInRange N.frames.frames N.frames.cpus) lines.now }
     ensures told { IfOk result.0 (λ text.
-        TellsEach (boot_tables N.frames N.stocks) (workers_from 1 cpus.items lines.now is_numbered) text.items) }
+        AreAllAnswers (boot_tables N.frames N.stocks) (workers_from 1 cpus.items lines.now is_numbered) text.items) }
     ensures ends { EndsAfter N.frames N.stocks (IsQuietSystem N.frames N.stocks) result.1 }
 {
     locked.see_quiet(); // Called for its contract: there are fewer than 2^31 CPUs, as `run_each` requires.
@@ -106,7 +106,7 @@ fn serve_later<N: BootName + Send + Sync, R: Threads + Wait + Sync>(
     requires count { length cpus.old < 2 ^ 31 }
     requires lines { All (LineInRange N.frames.frames (length cpus.old)) lines.now }
     ensures told { IfOk result (λ text.
-        TellsEach (boot_tables N.frames N.stocks) (workers_from 1 cpus.old lines.now is_numbered) text.items) }
+        AreAllAnswers (boot_tables N.frames N.stocks) (workers_from 1 cpus.old lines.now is_numbered) text.items) }
 {
     if has_memory {
         run_each(rt, alloc, system, cpus, lines, is_numbered, &NoGate)

@@ -5,7 +5,7 @@ use Rattle.cpu_part.specs.Cpus.{KnownCpu}
 use Rattle.script_lines.specs.declared.line.Line.{Line}
 use Rattle.script_replay.specs.Terms.{BootTables}
 use Rattle.script_threads.specs.Own.{KnownWorker, ServesOwn, worker}
-use Rattle.script_threads.specs.Each.{workers_from, TellsEach, TellsOwn}
+use Rattle.script_threads.specs.Each.{workers_from, AreAllAnswers, AreOwnAnswers}
 
 -- a worker for one part more
 workers_push : (p : ℕ) (cs : List KnownCpu) (c : KnownCpu) (lines : List Line) (numbered : Bool) →
@@ -32,14 +32,14 @@ started_more cs i default lines numbered inside =
 -- a worker's text, behind its heading
 pub joined : {T E : Type 0} (on : BootTables) (p : ℕ) (c d : KnownCpu) (lines : List Line) (numbered : Bool) (before head mid own new : List ℕ) (r : Result T E) →
     ServesOwn on (worker p c lines numbered) d own → mid ≡ before ++ head → IfOk r (λ _. new ≡ mid ++ own) →
-    IfOk r (λ _. (said : List ℕ) × TellsOwn on (worker p c lines numbered) said × (new ≡ before ++ (head ++ said)))
+    IfOk r (λ _. (said : List ℕ) × AreOwnAnswers on (worker p c lines numbered) said × (new ≡ before ++ (head ++ said)))
 joined on p c d lines numbered before head mid own new (Ok x) serves first second =
     (own, record { after = d; serves = serves }, second ∙ (ap (λ xs. xs ++ own) first ∙ append_assoc before head own))
 joined on p c d lines numbered before head mid own new (Err e) serves first second = tt
 
 -- no worker is left
 pub all_told : (on : BootTables) (ws all : List KnownWorker) (text items : List ℕ) → length ws ≡ 0 →
-    ((rest : List ℕ) → TellsEach on ws rest → TellsEach on all (text ++ rest)) → items ≡ text → TellsEach on all items
+    ((rest : List ℕ) → AreAllAnswers on ws rest → AreAllAnswers on all (text ++ rest)) → items ≡ text → AreAllAnswers on all items
 all_told on [] all text items none tells is =
-    subst (λ (x : List ℕ). TellsEach on all x) (append-nil text ∙ sym is) (tells [] refl)
+    subst (λ (x : List ℕ). AreAllAnswers on all x) (append-nil text ∙ sym is) (tells [] refl)
 all_told on (x ∷ ws) all text items none tells is = absurd (omega arith)

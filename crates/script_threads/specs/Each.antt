@@ -17,13 +17,13 @@ abbrev pub heading : ℕ → List ℕ
 heading cpu_number = codes "cpu " ++ decimal cpu_number ++ codes "\n"
 
 -- the text is the answers of the worker's own lines, from its part at the start to some part that it left
-pub record TellsOwn (tables : BootTables) (worker : KnownWorker) (text : List ℕ) : Type 0 where
+pub record AreOwnAnswers (tables : BootTables) (worker : KnownWorker) (text : List ℕ) : Type 0 where
   pub after : KnownCpu
   pub serves : ServesOwn tables worker after text
 
 -- for each worker a heading, followed by the answers of its own lines
-abbrev pub TellsEach : BootTables → List KnownWorker → (text : List ℕ) → Type 0
-TellsEach tables [] text = text ≡ []
-TellsEach tables (worker ∷ workers) text =
-    (own : List ℕ) × (others : List ℕ) × TellsOwn tables worker own × TellsEach tables workers others
+abbrev pub AreAllAnswers : BootTables → List KnownWorker → (text : List ℕ) → Type 0
+AreAllAnswers tables [] text = text ≡ []
+AreAllAnswers tables (worker ∷ workers) text =
+    (own : List ℕ) × (others : List ℕ) × AreOwnAnswers tables worker own × AreAllAnswers tables workers others
     × (text ≡ (heading worker.cpu_number ++ own) ++ others)

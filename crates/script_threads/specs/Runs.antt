@@ -5,7 +5,7 @@ use Rattle.script_lines.specs.declared.line.Line.{Line}
 use Rattle.script_lines.specs.declared.line.Line.TheVariants.{Go, At}
 use Rattle.script_replay.specs.Terms.{BootTables}
 use Rattle.script_replay.specs.Visits.{VisitsAll}
-use Rattle.script_threads.specs.Each.{TellsEach, workers_from}
+use Rattle.script_threads.specs.Each.{AreAllAnswers, workers_from}
 
 -- the place of the first `go`, if the lines begin at `place`; `last` if there is no `go`
 abbrev pub go_or : ℕ → ℕ → List Line → ℕ
@@ -24,5 +24,5 @@ pub record RunsLines (tables : BootTables) (lines : List Line) (cpus : List Know
   pub later : List ℕ
   pub parts : List KnownCpu
   pub visits : VisitsAll tables (take (lines_before_go lines) lines) cpus parts early
-  pub tells : TellsEach tables (workers_from 1 parts (drop (lines_before_go lines) lines) false) later
+  pub are_answers : AreAllAnswers tables (workers_from 1 parts (drop (lines_before_go lines) lines) false) later
   pub text_is : text ≡ early ++ later

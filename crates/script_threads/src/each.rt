@@ -6,7 +6,7 @@ ghost use Rattle.std.specs.Thread.{IsSend, IsSync};
 ghost use Rattle.script_replay.specs.Ranges.{LineInRange};
 ghost use Rattle.script_replay.specs.Terms.{boot_tables};
 ghost use Rattle.script_threads.specs.Own.{LineCommandInRange};
-ghost use Rattle.script_threads.specs.Each.{TellsEach, workers_from};
+ghost use Rattle.script_threads.specs.Each.{AreAllAnswers, workers_from};
 
 use crate::workers::{Job, Worker, start};
 use cpu_part::{BootName, Cpu};
@@ -35,7 +35,7 @@ pub fn run_each<N: BootName + Send + Sync, R: Threads + Wait + Sync, G: Gate + S
     requires count { length cpus.old < 2 ^ 31 }
     requires lines { All (LineInRange N.frames.frames (length cpus.old)) lines.now }
     ensures { IfOk result (λ text.
-        TellsEach (boot_tables N.frames N.stocks) (workers_from 1 cpus.old lines.now is_numbered) text.items) }
+        AreAllAnswers (boot_tables N.frames N.stocks) (workers_from 1 cpus.old lines.now is_numbered) text.items) }
 {
     run_named(rt, alloc, system, cpus, lines, is_numbered, gate)
 }
@@ -54,7 +54,7 @@ fn run_named<N: BootName + Send + Sync, R: Threads + Wait + Sync, G: Gate + Sync
     requires count { length cpus.old < 2 ^ 31 }
     requires lines { All (LineCommandInRange N.frames.frames) lines.now }
     ensures { IfOk result (λ text.
-        TellsEach (boot_tables N.frames N.stocks) (workers_from 1 cpus.old lines.now is_numbered) text.items) }
+        AreAllAnswers (boot_tables N.frames N.stocks) (workers_from 1 cpus.old lines.now is_numbered) text.items) }
 {
     // Shared borrows, which every thread can hold.
     let rt = &*rt;
@@ -67,7 +67,7 @@ fn run_named<N: BootName + Send + Sync, R: Threads + Wait + Sync, G: Gate + Sync
         |scope| -> Result<Vec<u8>, AllocError>
             requires { IsSync R.row × IsSync G.row × IsSync N.row × IsSend N.row × (length cpus.now < 2 ^ 31)
                 × All (LineCommandInRange N.frames.frames) lines.now }
-            ensures { IfOk result (λ text. TellsEach (boot_tables N.frames N.stocks)
+            ensures { IfOk result (λ text. AreAllAnswers (boot_tables N.frames N.stocks)
                 (workers_from 1 cpus.entry.now lines.entry.now is_numbered) text.items) }
         {
             let workers = start_all(scope, rt, alloc, system, lines, is_numbered, gate, cpus)?;
@@ -116,7 +116,7 @@ fn gather<'s, N: BootName, R: Threads>(
     alloc: Global,
     mut workers: Vec<Worker<'s, N>>,
 ) -> Result<Vec<u8>, AllocError>
-    ensures { IfOk result (λ text. TellsEach (boot_tables N.frames N.stocks) workers.entry.items text.items) }
+    ensures { IfOk result (λ text. AreAllAnswers (boot_tables N.frames N.stocks) workers.entry.items text.items) }
 {
     let mut text = String::new(alloc);
     while !workers.is_empty() {

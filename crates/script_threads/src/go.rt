@@ -33,8 +33,8 @@ pub fn run_lines<N: BootName + Send + Sync, R: Threads + Wait + Sync, G: Gate + 
 {
     let (early, later) = lines.split_at(before_go(lines));
     let mut text = replay_lines(rt, alloc, system, cpus, early)?;
-    let told = run_each(rt, alloc, system, cpus, later, false, gate)?;
-    text.extend_from_slice(&told)?;
+    let answers = run_each(rt, alloc, system, cpus, later, false, gate)?;
+    text.extend_from_slice(&answers)?;
     Ok(text)
 }
 

@@ -4,7 +4,7 @@ ghost use Rattle.std.specs.Prelude.{◌≡◌, ◌++◌, ℕ, All, IfOk, List, O
 ghost use Rattle.std.specs.String.{string_bytes};
 ghost use Rattle.script_replay.specs.Terms.{boot_tables};
 ghost use Rattle.script_threads.specs.Own.{KnownWorker, LineCommandInRange, ServesOwn, worker};
-ghost use Rattle.script_threads.specs.Each.{TellsOwn, heading};
+ghost use Rattle.script_threads.specs.Each.{AreOwnAnswers, heading};
 
 use crate::own_lines::serve_own;
 use cpu_part::{BootName, Cpu};
@@ -18,7 +18,7 @@ use std::thread::{Promise, PromisedHandle, Scope, Threads};
 
 // The answers of a worker, and the part as the worker left it.
 #[derive(Drop)]
-struct Told<N: BootName> {
+struct WorkerEnd<N: BootName> {
     text: String,
     after: Snapshot<Cpu<N>>,
 }
@@ -45,15 +45,15 @@ struct Answers<'a, N: BootName> {
     is_numbered: bool,
 }
 
-impl<'a, N: BootName> Promise<Result<Told<N>, AllocError>> for Answers<'a, N> {
-    ghost kept_by = { λ p r. IfOk r (λ told. ServesOwn (boot_tables N.frames N.stocks)
-        (worker p.cpu_number p.before.value p.lines.now p.is_numbered) told.after.value (string_bytes told.text)) };
+impl<'a, N: BootName> Promise<Result<WorkerEnd<N>, AllocError>> for Answers<'a, N> {
+    ghost kept_by = { λ p r. IfOk r (λ ended. ServesOwn (boot_tables N.frames N.stocks)
+        (worker p.cpu_number p.before.value p.lines.now p.is_numbered) ended.after.value (string_bytes ended.text)) };
 }
 
 #[derive(Drop)]
 pub(crate) struct Worker<'a, N: BootName> {
     cpu_number: u32,
-    handle: PromisedHandle<Result<Told<N>, AllocError>, Answers<'a, N>>,
+    handle: PromisedHandle<Result<WorkerEnd<N>, AllocError>, Answers<'a, N>>,
 }
 
 impl<'a, N: BootName> Model for Worker<'a, N> {
@@ -67,11 +67,11 @@ impl<'a, N: BootName> Model for Worker<'a, N> {
 }
 
 impl<'a, N: BootName, R: Wait, G: Gate> Job<'a, N, R, G> {
-    fn run(self) -> Result<Told<N>, AllocError>
+    fn run(self) -> Result<WorkerEnd<N>, AllocError>
         requires { All (LineCommandInRange N.frames.frames) self.lines.now }
-        ensures { IfOk result (λ told. ServesOwn (boot_tables N.frames N.stocks)
+        ensures { IfOk result (λ ended. ServesOwn (boot_tables N.frames N.stocks)
             (worker self.entry.cpu_number self.entry.cpu.now self.entry.lines.now self.entry.is_numbered)
-            told.after.value (string_bytes told.text)) }
+            ended.after.value (string_bytes ended.text)) }
     {
         let Job {
             rt,
@@ -85,7 +85,7 @@ impl<'a, N: BootName, R: Wait, G: Gate> Job<'a, N, R, G> {
         } = self;
         let text = serve_own(rt, alloc, system, cpu, cpu_number, lines, is_numbered, gate)?;
         let after = Snapshot::of(&*cpu);
-        Ok(Told { text, after })
+        Ok(WorkerEnd { text, after })
     }
 }
 
@@ -112,13 +112,13 @@ pub(crate) fn start<'s, E, N: BootName + Send + Sync, R: Wait + Sync, G: Gate + 
 impl<'a, N: BootName> Worker<'a, N> {
     // Joins the worker and appends its answers under its heading.
     pub(crate) fn join<R: Threads>(self, rt: &R, text: &mut String) -> Result<(), AllocError>
-        ensures { IfOk result (λ _. (own : List ℕ) × TellsOwn (boot_tables N.frames N.stocks) self.entry own
+        ensures { IfOk result (λ _. (own : List ℕ) × AreOwnAnswers (boot_tables N.frames N.stocks) self.entry own
             × (string_bytes text.new ≡ string_bytes text.old ++ (heading self.entry.cpu_number ++ own))) }
     {
         let Worker { cpu_number, handle } = self;
-        let told = handle.join(rt)?;
+        let ended = handle.join(rt)?;
         write_heading(cpu_number, text)?;
-        text.push_str(told.text.as_str())
+        text.push_str(ended.text.as_str())
     }
 }
 

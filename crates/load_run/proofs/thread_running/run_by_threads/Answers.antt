@@ -6,7 +6,7 @@ use Rattle.mem_system.proofs.Closing.{written_back}
 use Rattle.script_replay.specs.History.{Replays}
 use Rattle.script_replay.specs.Lines.{SystemState, system_state}
 use Rattle.script_replay.specs.Terms.{boot_tables, numbered_terms}
-use Rattle.script_threads.specs.Each.{TellsEach, workers_from}
+use Rattle.script_threads.specs.Each.{AreAllAnswers, workers_from}
 use Rattle.script_threads.proofs.Going.{go_least}
 use Rattle.load_run.specs.Ending.{end_text}
 use Rattle.load_run.proofs.Answering.{at_ok, first_long, weakened}
@@ -62,8 +62,8 @@ returns g c =
     c.replay-first.ensures.outcome.replayed in
     let history = replays.history [] (boot_shown sizes t w c.in_ok-locked.locked.machine c.deref_mut.result.now sized c.in_ok-locked.ensures.machine firsts)
     (parts_tied sizes t w c.in_ok-locked.locked.machine c.deref_mut.result.now sized c.in_ok-locked.ensures.machine firsts) in
-    let tells : TellsEach (boot_tables t w) (workers_from 1 at_go.cpus c.split_at.result.1.now c.args.is_numbered) later =
-    subst (λ (cpus : List KnownCpu). TellsEach (boot_tables t w) (workers_from 1 cpus c.split_at.result.1.now c.args.is_numbered) later) same
+    let tells : AreAllAnswers (boot_tables t w) (workers_from 1 at_go.cpus c.split_at.result.1.now c.args.is_numbered) later =
+    subst (λ (cpus : List KnownCpu). AreAllAnswers (boot_tables t w) (workers_from 1 cpus c.split_at.result.1.now c.args.is_numbered) later) same
     (at_ok c.serve_and_end-told.result.0 c.in_ok-told.field-0 _ c.in_ok-told.was c.serve_and_end-told.ensures.told) in
     let joined : c.extend_from_slice.new.self.items ≡ early ++ later =
     c.in_ok-extend_from_slice.ensures.items ∙ ap (λ (l : List ℕ). early ++ l) c.deref.ensures.value in

@@ -6,7 +6,7 @@ use Rattle.mem_system.proofs.Closing.{written_back}
 use Rattle.script_replay.specs.Lines.{system_state}
 use Rattle.script_replay.specs.Ranges.{LineInRange}
 use Rattle.script_replay.specs.Terms.{boot_tables}
-use Rattle.script_threads.specs.Each.{TellsEach, workers_from}
+use Rattle.script_threads.specs.Each.{AreAllAnswers, workers_from}
 use Rattle.load_run.specs.Ending.{EndsHeld}
 use Rattle.load_run.proofs.thread_running.serve_and_end.Goals as goal
 
@@ -33,7 +33,7 @@ pub returns-clause-told : goal.returns-clause-told
 returns-clause-told g c =
     let t = g.N.BootName.frames in
     let w = g.N.BootName.stocks in
-    subst (λ (cpus : List KnownCpu). IfOk c.serve_later-told.result (λ text. TellsEach (boot_tables t w) (workers_from 1 cpus c.args.lines.now c.args.is_numbered) text.items))
+    subst (λ (cpus : List KnownCpu). IfOk c.serve_later-told.result (λ text. AreAllAnswers (boot_tables t w) (workers_from 1 cpus c.args.lines.now c.args.is_numbered) text.items))
     c.deref_mut.ensures.value c.serve_later-told.ensures.told
 
 pub returns-clause-ends : goal.returns-clause-ends
