@@ -4,8 +4,10 @@ use Rattle.std.specs.Prelude.{if◌then◌else◌, ⊤}
 use Rattle.std.proofs.lemmas.Bool.{ltb-false, ltb-true}
 use Rattle.std.proofs.lemmas.List.{length-take-le}
 use Rattle.zone_sizes.specs.declared.config.Config.{Config}
-use Rattle.script_lint.specs.Causes.{byte_at, cause_at, is_between_words, is_double_space, is_printable, lacks_command, lacks_number}
-use Rattle.script_lint.specs.Causes.{lacks_cpu, later_cause_at, misses_frame, misses_group, misses_cpu}
+use Rattle.script_lint.specs.Causes.{byte_at, cause_at, is_between_words, is_double_space, is_printable}
+use Rattle.script_lint.specs.Causes.{is_number_out_of_range, is_unknown_command}
+use Rattle.script_lint.specs.Causes.{is_no_cpu, later_cause_at, is_frame_out_of_zone, is_group_out_of_range}
+use Rattle.script_lint.specs.Causes.{is_cpu_out_of_range}
 use Rattle.script_lint.specs.Continuation.{GoesOn, IsStuck}
 use Rattle.script_lint.specs.Lines.{IsCause, IsGoodHere, IsSpot, stuck_spot, whole_spot}
 use Rattle.script_lint.specs.Shapes.{IsGoodText}
@@ -37,8 +39,8 @@ later_of false false false false false false false = tt
 
 later_local : (text : List ℕ) (place : ℕ) → IsLocal (later_cause_at text place)
 later_local text place =
-    later_of (byte_at text place == 32) (byte_at text place == 9) (byte_at text place == 13) (lacks_number text place)
-    (misses_frame text place) (misses_group text place) (not (is_printable (byte_at text place)))
+    later_of (byte_at text place == 32) (byte_at text place == 9) (byte_at text place == 13) (is_number_out_of_range text place)
+    (is_frame_out_of_zone text place) (is_group_out_of_range text place) (not (is_printable (byte_at text place)))
 
 first_of : (a b c d e f : Bool) (later : Cause) → IsLocal later
     → IsLocal (if a then NoCpu else if b then CpuOutOfRange else if c then UnknownCommand else if d then TooFewWords
@@ -53,7 +55,7 @@ first_of false false false false false false later is = is
 
 cause_local : (text : List ℕ) (place : ℕ) → IsLocal (cause_at text place)
 cause_local text place =
-    first_of (lacks_cpu text place) (misses_cpu text place) (lacks_command text place) (byte_at text place == 10)
+    first_of (is_no_cpu text place) (is_cpu_out_of_range text place) (is_unknown_command text place) (byte_at text place == 10)
     (is_between_words text place) (is_double_space text place) (later_cause_at text place) (later_local text place)
 
 is_cause : (sizes : Config) (went : Bool) (Within : Type 0) (text : List ℕ) (place : ℕ) (cause : Cause) → IsLocal cause

@@ -70,14 +70,14 @@ is_gap b = b == 32 || b == 9 || b == 13 || b == 10
 -- ---- the causes
 
 -- the first word isn't a number: a byte of it is neither a digit nor one of those that have causes of their own
-abbrev pub lacks_cpu : List ℕ → ℕ → Bool
-lacks_cpu text place =
+abbrev pub is_no_cpu : List ℕ → ℕ → Bool
+is_no_cpu text place =
     (spaces_before text place == 0) && not (is_gap (byte_at text place)) && not (is_digit (byte_at text place))
     && not (is_go text)
 
 -- the first word is a number, and no CPU has it: a digit makes it too great, or it ends as zero
-abbrev pub misses_cpu : List ℕ → ℕ → Bool
-misses_cpu text place =
+abbrev pub is_cpu_out_of_range : List ℕ → ℕ → Bool
+is_cpu_out_of_range text place =
     (spaces_before text place == 0)
     && (is_digit (byte_at text place) || ((byte_at text place == 32) && is_digit (byte_at text 0)))
 
@@ -93,8 +93,8 @@ is_known [] = true
 is_known (b ∷ bs) = list_any (λ v. pointwise nat_eq (b ∷ bs) (name_of v)) all_verbs
 
 -- no command has the second word as its name: a byte leaves all names, or it ends before it is one
-abbrev pub lacks_command : List ℕ → ℕ → Bool
-lacks_command text place =
+abbrev pub is_unknown_command : List ℕ → ℕ → Bool
+is_unknown_command text place =
     (spaces_before text place == 1)
     && (not (is_gap (byte_at text place))
     || ((byte_at text place == 32 || byte_at text place == 10) && not (is_known (after_space (take place text)))))
@@ -114,19 +114,19 @@ abbrev pub is_line_of : List ℕ → List ℕ → Bool
 is_line_of name text = pointwise nat_eq (word_behind 1 text) name
 
 -- an argument is no number of 32 bits: a byte of it is no digit, or a digit makes an order too great
-abbrev pub lacks_number : List ℕ → ℕ → Bool
-lacks_number text place =
+abbrev pub is_number_out_of_range : List ℕ → ℕ → Bool
+is_number_out_of_range text place =
     nat_lt 1 (spaces_before text place) && is_printable (byte_at text place)
     && (not (is_digit (byte_at text place)) || is_line_of (codes "alloc") text)
 
 -- a digit makes the number of a group too great
-abbrev pub misses_group : List ℕ → ℕ → Bool
-misses_group text place =
+abbrev pub is_group_out_of_range : List ℕ → ℕ → Bool
+is_group_out_of_range text place =
     nat_lt 1 (spaces_before text place) && is_digit (byte_at text place) && is_line_of (codes "fast") text
 
 -- a digit makes the number of a frame too great
-abbrev pub misses_frame : List ℕ → ℕ → Bool
-misses_frame text place =
+abbrev pub is_frame_out_of_zone : List ℕ → ℕ → Bool
+is_frame_out_of_zone text place =
     nat_lt 1 (spaces_before text place) && is_digit (byte_at text place) && not (is_line_of (codes "fast") text)
 
 -- the first cause that holds at the place, of those that come late
@@ -135,18 +135,18 @@ later_cause_at text place =
     if byte_at text place == 32 then SpaceAtEnd
     else if byte_at text place == 9 then Tab
     else if byte_at text place == 13 then CarriageReturn
-    else if lacks_number text place then NumberOutOfRange
-    else if misses_frame text place then FrameOutOfZone
-    else if misses_group text place then GroupOutOfRange
+    else if is_number_out_of_range text place then NumberOutOfRange
+    else if is_frame_out_of_zone text place then FrameOutOfZone
+    else if is_group_out_of_range text place then GroupOutOfRange
     else if not (is_printable (byte_at text place)) then UnprintableByte
     else SecondGo
 
 -- the first cause that holds at the place
 abbrev pub cause_at : List ℕ → ℕ → Cause
 cause_at text place =
-    if lacks_cpu text place then NoCpu
-    else if misses_cpu text place then CpuOutOfRange
-    else if lacks_command text place then UnknownCommand
+    if is_no_cpu text place then NoCpu
+    else if is_cpu_out_of_range text place then CpuOutOfRange
+    else if is_unknown_command text place then UnknownCommand
     else if byte_at text place == 10 then TooFewWords
     else if is_between_words text place then TooManyWords
     else if is_double_space text place then TwoSpaces

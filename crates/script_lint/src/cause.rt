@@ -4,8 +4,9 @@ ghost use Rattle.std.specs.Prelude.{◌≡◌, ◌≤◌, length};
 ghost use Rattle.script_lint.specs.Causes.{after_space, byte_at, byte_before, cause_at, is_between_words};
 ghost use Rattle.script_lint.specs.Causes.{is_digit, is_double_space, is_gap};
 ghost use Rattle.script_lint.specs.Causes.{is_known, is_line_of, is_printable, later_cause_at};
-ghost use Rattle.script_lint.specs.Causes.{lacks_command, lacks_number, lacks_cpu, misses_frame, misses_group};
-ghost use Rattle.script_lint.specs.Causes.{misses_cpu, spaces_before, until_space, word_at, word_behind};
+ghost use Rattle.script_lint.specs.Causes.{is_unknown_command, is_number_out_of_range, is_no_cpu, is_frame_out_of_zone};
+ghost use Rattle.script_lint.specs.Causes.{is_group_out_of_range};
+ghost use Rattle.script_lint.specs.Causes.{is_cpu_out_of_range, spaces_before, until_space, word_at, word_behind};
 
 use crate::command::{VERBS, name_of};
 use crate::finding::Cause;
@@ -16,11 +17,11 @@ pub(crate) fn cause_of(text: &[u8], place: usize) -> Cause
     requires { place ≤ length text.now }
     ensures { result ≡ cause_at text.now place }
 {
-    if lacks_cpu(text, place) {
+    if is_no_cpu(text, place) {
         Cause::NoCpu
-    } else if misses_cpu(text, place) {
+    } else if is_cpu_out_of_range(text, place) {
         Cause::CpuOutOfRange
-    } else if lacks_command(text, place) {
+    } else if is_unknown_command(text, place) {
         Cause::UnknownCommand
     } else if byte_at(text, place) == b'\n' {
         Cause::TooFewWords
@@ -45,11 +46,11 @@ fn later_cause(text: &[u8], place: usize) -> Cause
         Cause::Tab
     } else if byte == b'\r' {
         Cause::CarriageReturn
-    } else if lacks_number(text, place) {
+    } else if is_number_out_of_range(text, place) {
         Cause::NumberOutOfRange
-    } else if misses_frame(text, place) {
+    } else if is_frame_out_of_zone(text, place) {
         Cause::FrameOutOfZone
-    } else if misses_group(text, place) {
+    } else if is_group_out_of_range(text, place) {
         Cause::GroupOutOfRange
     } else if !is_printable(byte) {
         Cause::UnprintableByte
@@ -150,18 +151,18 @@ fn is_gap(byte: u8) -> bool
 }
 
 // Whether the first word isn't a number.
-fn lacks_cpu(text: &[u8], place: usize) -> bool
+fn is_no_cpu(text: &[u8], place: usize) -> bool
     requires { place ≤ length text.now }
-    ensures { result ≡ lacks_cpu text.now place }
+    ensures { result ≡ is_no_cpu text.now place }
 {
     let byte = byte_at(text, place);
     spaces_before(text, place) == 0 && !is_gap(byte) && !is_digit(byte) && !is_go(text)
 }
 
 // Whether the first word is a number, and no CPU has it.
-fn misses_cpu(text: &[u8], place: usize) -> bool
+fn is_cpu_out_of_range(text: &[u8], place: usize) -> bool
     requires { place ≤ length text.now }
-    ensures { result ≡ misses_cpu text.now place }
+    ensures { result ≡ is_cpu_out_of_range text.now place }
 {
     let byte = byte_at(text, place);
     spaces_before(text, place) == 0
@@ -169,9 +170,9 @@ fn misses_cpu(text: &[u8], place: usize) -> bool
 }
 
 // Whether the second word is no command's name.
-fn lacks_command(text: &[u8], place: usize) -> bool
+fn is_unknown_command(text: &[u8], place: usize) -> bool
     requires { place ≤ length text.now }
-    ensures { result ≡ lacks_command text.now place }
+    ensures { result ≡ is_unknown_command text.now place }
 {
     let byte = byte_at(text, place);
     spaces_before(text, place) == 1
@@ -219,9 +220,9 @@ fn is_line_of(name: &[u8], text: &[u8]) -> bool
 }
 
 // Whether an argument is no number of 32 bits.
-fn lacks_number(text: &[u8], place: usize) -> bool
+fn is_number_out_of_range(text: &[u8], place: usize) -> bool
     requires { place ≤ length text.now }
-    ensures { result ≡ lacks_number text.now place }
+    ensures { result ≡ is_number_out_of_range text.now place }
 {
     let byte = byte_at(text, place);
     1 < spaces_before(text, place)
@@ -230,17 +231,17 @@ fn lacks_number(text: &[u8], place: usize) -> bool
 }
 
 // Whether a digit makes the number of a group too great.
-fn misses_group(text: &[u8], place: usize) -> bool
+fn is_group_out_of_range(text: &[u8], place: usize) -> bool
     requires { place ≤ length text.now }
-    ensures { result ≡ misses_group text.now place }
+    ensures { result ≡ is_group_out_of_range text.now place }
 {
     1 < spaces_before(text, place) && is_digit(byte_at(text, place)) && is_line_of(b"fast", text)
 }
 
 // Whether a digit makes the number of a frame too great.
-fn misses_frame(text: &[u8], place: usize) -> bool
+fn is_frame_out_of_zone(text: &[u8], place: usize) -> bool
     requires { place ≤ length text.now }
-    ensures { result ≡ misses_frame text.now place }
+    ensures { result ≡ is_frame_out_of_zone text.now place }
 {
     1 < spaces_before(text, place) && is_digit(byte_at(text, place)) && !is_line_of(b"fast", text)
 }
