@@ -17,10 +17,10 @@ use Rattle.zone_sizes.specs.declared.config.Config.{Config}
 use Rattle.script_lines.specs.declared.line.Line.{Line}
 
 -- the first lines of the script were good, and are these, with a `go` or none
-pub record IsReadTo (sizes : Config) (script : List ℕ) (count : ℕ) (went : Bool) (lines : List Line) : Type 0 where
+pub record IsReadTo (sizes : Config) (script : List ℕ) (count : ℕ) (had_go : Bool) (lines : List Line) : Type 0 where
   pub good : (n : ℕ) → 1 ≤ n → n ≤ count → IsGoodLine sizes script n
   pub says : AreLines sizes (take count (texts_of script)) lines
-  pub went_is : went ≡ has_go (take count (texts_of script))
+  pub went_is : had_go ≡ has_go (take count (texts_of script))
 
 -- the text of the next line
 pub record IsNext (script : List ℕ) (count index : ℕ) (text : List ℕ) : Type 0 where
@@ -75,9 +75,9 @@ next_text script count index text next =
     take_more (texts_of script) count text below ∙ ap (λ (t : List ℕ). take count (texts_of script) ++ t ∷ []) here
 
 -- whether there is a `go` up to and with the next
-next_go : (script : List ℕ) (count index : ℕ) (text : List ℕ) (went now : Bool) → IsNext script count index text
-    → went ≡ has_go (take count (texts_of script)) → now ≡ (went || is_go text) → now ≡ has_go (take (count + 1) (texts_of script))
-next_go script count index text went now next is now_is =
+next_go : (script : List ℕ) (count index : ℕ) (text : List ℕ) (had_go now : Bool) → IsNext script count index text
+    → had_go ≡ has_go (take count (texts_of script)) → now ≡ (had_go || is_go text) → now ≡ has_go (take (count + 1) (texts_of script))
+next_go script count index text had_go now next is now_is =
     let more : has_go (take (count + 1) (texts_of script)) ≡ has_go (take count (texts_of script) ++ text ∷ [])
     = ap has_go (next_text script count index text next) in
     let parts : has_go (take count (texts_of script) ++ text ∷ []) ≡ (has_go (take count (texts_of script)) || has_go (text ∷ []))
@@ -95,24 +95,24 @@ more_good sizes script count before last n low high =
     ]
 
 -- a line that asks for nothing
-pub passes_over : (sizes : Config) (script : List ℕ) (count : ℕ) (went now : Bool) (lines : List Line) (index : ℕ) (text : List ℕ)
-    → IsReadTo sizes script count went lines → IsNext script count index text → IsGoodLine sizes script (index + 1)
-    → is_skipped text ≡ true → now ≡ (went || is_go text) → IsReadTo sizes script (count + 1) now lines
-passes_over sizes script count went now lines index text so_far next good skipped is =
+pub passes_over : (sizes : Config) (script : List ℕ) (count : ℕ) (had_go now : Bool) (lines : List Line) (index : ℕ) (text : List ℕ)
+    → IsReadTo sizes script count had_go lines → IsNext script count index text → IsGoodLine sizes script (index + 1)
+    → is_skipped text ≡ true → now ≡ (had_go || is_go text) → IsReadTo sizes script (count + 1) now lines
+passes_over sizes script count had_go now lines index text so_far next good skipped is =
     let asked = ap asking_texts (next_text script count index text next) ∙ asking_push (take count (texts_of script)) text in
     let same : asking_texts (take (count + 1) (texts_of script)) ≡ asking_texts (take count (texts_of script)) ++ [] = asked ∙ rw skipped refl in
     record {
       good = more_good sizes script count so_far.good (rw (← next.index_is) good);
       says = let P : List (ℕ × List ℕ) → Type 0 = λ texts. AllZip (λ t l. IsLineText sizes t.0 l t.1) texts lines in
           subst P (sym (same ∙ append-nil (asking_texts (take count (texts_of script))))) so_far.says;
-      went_is = next_go script count index text went now next so_far.went_is is;
+      went_is = next_go script count index text had_go now next so_far.went_is is;
     }
 
 -- a line that asks for something
-pub takes_line : (sizes : Config) (script : List ℕ) (count : ℕ) (went now : Bool) (lines : List Line) (index : ℕ) (text : List ℕ) (line : Line)
-    → IsReadTo sizes script count went lines → IsNext script count index text → IsGoodLine sizes script (index + 1)
-    → is_skipped text ≡ false → IsLineText sizes (index + 1) line text → now ≡ (went || is_go text) → IsReadTo sizes script (count + 1) now (lines ++ line ∷ [])
-takes_line sizes script count went now lines index text line so_far next good asks is now_is =
+pub takes_line : (sizes : Config) (script : List ℕ) (count : ℕ) (had_go now : Bool) (lines : List Line) (index : ℕ) (text : List ℕ) (line : Line)
+    → IsReadTo sizes script count had_go lines → IsNext script count index text → IsGoodLine sizes script (index + 1)
+    → is_skipped text ≡ false → IsLineText sizes (index + 1) line text → now ≡ (had_go || is_go text) → IsReadTo sizes script (count + 1) now (lines ++ line ∷ [])
+takes_line sizes script count had_go now lines index text line so_far next good asks is now_is =
     let at = next.index_is in
     let read = count_read script count index text next in
     let number : 1 + length (take count (texts_of script)) ≡ index + 1 = omega arith in
@@ -122,14 +122,14 @@ takes_line sizes script count went now lines index text line so_far next good as
     record {
       good = more_good sizes script count so_far.good (rw (← next.index_is) good);
       says = rw same (zip_push (λ t l. IsLineText sizes t.0 l t.1) _ lines (index + 1, text) line so_far.says is);
-      went_is = next_go script count index text went now next so_far.went_is now_is;
+      went_is = next_go script count index text had_go now next so_far.went_is now_is;
     }
 
 -- the next line is the first that isn't good
-pub is_first_bad : (sizes : Config) (script : List ℕ) (count : ℕ) (went : Bool) (lines : List Line) (index : ℕ) (text : List ℕ)
-    → IsReadTo sizes script count went lines → IsNext script count index text → ¬ IsGoodLine sizes script (index + 1)
+pub is_first_bad : (sizes : Config) (script : List ℕ) (count : ℕ) (had_go : Bool) (lines : List Line) (index : ℕ) (text : List ℕ)
+    → IsReadTo sizes script count had_go lines → IsNext script count index text → ¬ IsGoodLine sizes script (index + 1)
     → IsFirstBadLine sizes script (index + 1)
-is_first_bad sizes script count went lines index text so_far next bad =
+is_first_bad sizes script count had_go lines index text so_far next bad =
     let at = next.index_is in
     let inside = next.inside in
     record {
@@ -224,10 +224,10 @@ fits_when_good sizes script (Some first) is_over good =
     absurd (omega arith)
 
 -- after the last line
-pub is_whole : (sizes : Config) (script : List ℕ) (count : ℕ) (went : Bool) (lines : List Line) (over : Option ℕ)
-    → IsReadTo sizes script count went lines → count ≡ length (texts_of script) → IsOver script over
+pub is_whole : (sizes : Config) (script : List ℕ) (count : ℕ) (had_go : Bool) (lines : List Line) (over : Option ℕ)
+    → IsReadTo sizes script count had_go lines → count ≡ length (texts_of script) → IsOver script over
     → IsScript sizes script lines
-is_whole sizes script count went lines over so_far all is_over =
+is_whole sizes script count had_go lines over so_far all is_over =
     let good : (n : ℕ) → 1 ≤ n → n ≤ length (texts_of script) → IsGoodLine sizes script n = λ n low high. so_far.good n low (omega arith) in
     let taken : take count (texts_of script) ≡ texts_of script = take_all count (texts_of script) (omega arith) in
     let P : List (List ℕ) → Type 0 = λ texts. AreLines sizes texts lines in

@@ -57,7 +57,7 @@ fn parse_lines<'a>(
 {
     let over = line_over(input);
     let mut lines = Vec::new(alloc);
-    let mut went = false;
+    let mut had_go = false;
     let mut number = 0;
     let mut rest = Some(input);
     while let Some(left) = rest {
@@ -68,10 +68,10 @@ fn parse_lines<'a>(
             return Err(ScriptFault::BadLine(number));
         }
         let goes = is_go(text);
-        if went && goes {
+        if had_go && goes {
             return Err(ScriptFault::BadLine(number));
         }
-        went = went || goes;
+        had_go = had_go || goes;
         if is_skipped(text) {
             continue;
         }

@@ -85,34 +85,34 @@ request_not_go sizes (b ∷ bs) is =
     let digit = begins_with_digit sizes b bs is in
     other_byte b bs (λ e. let g : digit_value 103 < 10 = subst (λ (c : ℕ). digit_value c < 10) e digit in omega arith)
 
-pub good_request : (sizes : Config) (went : Bool) (text : List ℕ) → IsRequest sizes text → IsGoodText sizes went text
-good_request sizes went text is = record { says = λ _. inr is; once = λ _. request_not_go sizes text is }
+pub good_request : (sizes : Config) (had_go : Bool) (text : List ℕ) → IsRequest sizes text → IsGoodText sizes had_go text
+good_request sizes had_go text is = record { says = λ _. inr is; once = λ _. request_not_go sizes text is }
 
 -- a good text that begins with neither `#` nor `g` is a request
-request_of : (sizes : Config) (went : Bool) (b : ℕ) (bs : List ℕ) → b ≢ 35 → b ≢ 103 → IsGoodText sizes went (b ∷ bs) → IsRequest sizes (b ∷ bs)
-request_of sizes went b bs not_comment not_g good = elim (good.says (ne_eqb b 35 not_comment)) [
+request_of : (sizes : Config) (had_go : Bool) (b : ℕ) (bs : List ℕ) → b ≢ 35 → b ≢ 103 → IsGoodText sizes had_go (b ∷ bs) → IsRequest sizes (b ∷ bs)
+request_of sizes had_go b bs not_comment not_g good = elim (good.says (ne_eqb b 35 not_comment)) [
   | inl goes ↦ let no = other_byte b bs not_g in cc
   | inr is ↦ is
 ]
 
 -- a line that is neither a comment nor may be `go`
-pub stuck_line : (sizes : Config) (went : Bool) (b : ℕ) (bs : List ℕ) (place : ℕ) → b ≢ 35 → b ≢ 103
-    → IsStuck (IsRequest sizes) (b ∷ bs) place → IsStuck (IsGoodText sizes went) (b ∷ bs) place
-stuck_line sizes went b bs place not_comment not_g is = record {
+pub stuck_line : (sizes : Config) (had_go : Bool) (b : ℕ) (bs : List ℕ) (place : ℕ) → b ≢ 35 → b ≢ 103
+    → IsStuck (IsRequest sizes) (b ∷ bs) place → IsStuck (IsGoodText sizes had_go) (b ∷ bs) place
+stuck_line sizes had_go b bs place not_comment not_g is = record {
   inside = is.inside;
-  goes_on = (is.goes_on.0, good_request sizes went _ is.goes_on.1);
+  goes_on = (is.goes_on.0, good_request sizes had_go _ is.goes_on.1);
   stuck = λ h on.
       let next : place + 1 ≡ suc place = omega arith in
-      let here : IsGoodText sizes went (b ∷ (take place bs ++ on.0)) = rw next at on.1 in
+      let here : IsGoodText sizes had_go (b ∷ (take place bs ++ on.0)) = rw next at on.1 in
       let back : GoesOn (IsRequest sizes) (take (place + 1) (b ∷ bs))
-      = rw next ((on.0, request_of sizes went b (take place bs ++ on.0) not_comment not_g here)) in
+      = rw next ((on.0, request_of sizes had_go b (take place bs ++ on.0) not_comment not_g here)) in
       is.stuck h back;
-  bad = λ good. is.bad (request_of sizes went b bs not_comment not_g good);
+  bad = λ good. is.bad (request_of sizes had_go b bs not_comment not_g good);
 }
 
 -- a good text that begins with `g` is `go`
-go_of : (sizes : Config) (went : Bool) (bs : List ℕ) → IsGoodText sizes went (103 ∷ bs) → is_go (103 ∷ bs) ≡ true
-go_of sizes went bs good = elim (good.says refl) [
+go_of : (sizes : Config) (had_go : Bool) (bs : List ℕ) → IsGoodText sizes had_go (103 ∷ bs) → is_go (103 ∷ bs) ≡ true
+go_of sizes had_go bs good = elim (good.says refl) [
   | inl goes ↦ goes
   | inr is ↦ let digit = begins_with_digit sizes 103 bs is in absurd (omega arith)
 ]
@@ -125,8 +125,8 @@ pub go_is : (text : List ℕ) → text ≡ codes "go" → is_go text ≡ true
 go_is text e = rw e refl
 
 -- an empty text is good
-pub empty_good : (sizes : Config) (went : Bool) → IsGoodText sizes went []
-empty_good sizes went = record { says = λ e. cc; once = λ _. refl }
+pub empty_good : (sizes : Config) (had_go : Bool) → IsGoodText sizes had_go []
+empty_good sizes had_go = record { says = λ e. cc; once = λ _. refl }
 
 -- after a `go`, no good text begins with `g`
 pub stuck_went : (sizes : Config) (bs : List ℕ) → IsStuck (IsGoodText sizes true) (103 ∷ bs) 0
@@ -188,12 +188,12 @@ command_behind sizes zone text v rest None cut is = command_from sizes zone text
 command_behind sizes zone text v rest (Some place) cut is = stuck_in_arguments sizes zone text v rest place cut is
 
 -- a line that is neither empty nor a comment nor may be `go`
-pub line_found : (sizes : Config) (went : Bool) (text : List ℕ) (found : Option ℕ) → 0 < length text → get_or text 0 0 ≢ 35 → get_or text 0 0 ≢ 103
+pub line_found : (sizes : Config) (had_go : Bool) (text : List ℕ) (found : Option ℕ) → 0 < length text → get_or text 0 0 ≢ 35 → get_or text 0 0 ≢ 103
     → MatchOption found (IsRequest sizes text) (λ place. IsStuck (IsRequest sizes) text place)
-    → MatchOption found (IsGoodText sizes went text) (λ place. IsStuck (IsGoodText sizes went) text place)
-line_found sizes went [] found some not_comment not_g is = absurd (omega arith)
-line_found sizes went (b ∷ bs) None some not_comment not_g is = good_request sizes went (b ∷ bs) is
-line_found sizes went (b ∷ bs) (Some place) some not_comment not_g is = stuck_line sizes went b bs place not_comment not_g is
+    → MatchOption found (IsGoodText sizes had_go text) (λ place. IsStuck (IsGoodText sizes had_go) text place)
+line_found sizes had_go [] found some not_comment not_g is = absurd (omega arith)
+line_found sizes had_go (b ∷ bs) None some not_comment not_g is = good_request sizes had_go (b ∷ bs) is
+line_found sizes had_go (b ∷ bs) (Some place) some not_comment not_g is = stuck_line sizes had_go b bs place not_comment not_g is
 
 -- a text that begins with `g`
 pub begins_with_g : (text : List ℕ) → 0 < length text → get_or text 0 0 ≡ 103 → (bs : List ℕ) × (text ≡ 103 ∷ bs)

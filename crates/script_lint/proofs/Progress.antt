@@ -25,9 +25,9 @@ use Rattle.script_lint.specs.declared.finding.Spot.{Spot}
 use Rattle.script_lint.proofs.LinePlaces.{go_is, go_text}
 
 -- the first lines of the script were linted, with a `go` or none among them
-pub record IsLintedTo (sizes : Config) (script : List ℕ) (count : ℕ) (went : Bool) (findings : List Finding) : Type 0 where
+pub record IsLintedTo (sizes : Config) (script : List ℕ) (count : ℕ) (had_go : Bool) (findings : List Finding) : Type 0 where
   pub are : AreFindings sizes script count findings
-  pub went_is : went ≡ has_go (take count (texts_of script))
+  pub went_is : had_go ≡ has_go (take count (texts_of script))
 
 -- ---- one line
 
@@ -36,9 +36,9 @@ either true = inl refl
 either false = inr refl
 
 -- a good text has a line of any number
-says_line : (sizes : Config) (n : ℕ) (went : Bool) (text : List ℕ) → IsGoodText sizes went text
+says_line : (sizes : Config) (n : ℕ) (had_go : Bool) (text : List ℕ) → IsGoodText sizes had_go text
     → is_skipped text ≡ false → (line : Line) × IsLineText sizes n line text
-says_line sizes n went text good asks = elim (good.says asks) [
+says_line sizes n had_go text good asks = elim (good.says asks) [
   | inl goes ↦ (Go, go_text text goes)
   | inr is ↦ (At n is.0 is.1, (refl, is.2))
 ]
@@ -47,9 +47,9 @@ of_line : (sizes : Config) (n : ℕ) (text : List ℕ) (line : Line) → IsLineT
 of_line sizes n text Go is = inl (go_is text is)
 of_line sizes n text (At number cpu command) is = inr (cpu, command, is.1)
 
-never_both : (goes went : Bool) → (goes ≡ true → went ≡ false) → went ≡ true → goes ≡ false
+never_both : (goes had_go : Bool) → (goes ≡ true → had_go ≡ false) → had_go ≡ true → goes ≡ false
 never_both true true once e = once refl
-never_both false went once e = refl
+never_both false had_go once e = refl
 never_both true false once e = cc
 
 -- whether a line is before the first that isn't within the script
@@ -68,20 +68,20 @@ within_before script n None is_within is_over before within = true_of is_within 
 within_before script n (Some first) is_within is_over before within =
     let last = is_over.1 in let near = within is_over.0 in true_of is_within (before.1 (omega arith))
 
-cause_to : (sizes : Config) (went : Bool) (A B : Type 0) → (B → A) → (text : List ℕ) (place : ℕ) (cause : Cause)
-    → IsCause sizes went A text place cause → IsCause sizes went B text place cause
-cause_to sizes went A B to text place LineTooLong is = is
-cause_to sizes went A B to text place InputTooLong is = (is.0, is.1, λ b. is.2 (to b))
-cause_to sizes went A B to text place cause is = is
+cause_to : (sizes : Config) (had_go : Bool) (A B : Type 0) → (B → A) → (text : List ℕ) (place : ℕ) (cause : Cause)
+    → IsCause sizes had_go A text place cause → IsCause sizes had_go B text place cause
+cause_to sizes had_go A B to text place LineTooLong is = is
+cause_to sizes had_go A B to text place InputTooLong is = (is.0, is.1, λ b. is.2 (to b))
+cause_to sizes had_go A B to text place cause is = is
 
-spot_to : (sizes : Config) (went : Bool) (A B : Type 0) → (B → A) → (text : List ℕ) (spot : Spot) → IsSpot sizes went A text spot
-    → IsSpot sizes went B text spot
-spot_to sizes went A B to text spot is = record {
+spot_to : (sizes : Config) (had_go : Bool) (A B : Type 0) → (B → A) → (text : List ℕ) (spot : Spot) → IsSpot sizes had_go A text spot
+    → IsSpot sizes had_go B text spot
+spot_to sizes had_go A B to text spot is = record {
   inside = is.inside;
   goes_on = is.goes_on;
   stuck = is.stuck;
   bad = λ good. is.bad (record { good = good.good; short = good.short; within = to good.within });
-  cause = cause_to sizes went A B to text spot.place spot.cause is.cause;
+  cause = cause_to sizes had_go A B to text spot.place spot.cause is.cause;
 }
 
 -- what is true within the script is true of the text by itself
@@ -94,7 +94,7 @@ spot_alone sizes Within text spot within is = spot_to sizes false Within ⊤ (λ
 
 -- the next line of the script, and what is known of it
 module _ (sizes : Config) (script : List ℕ) (count index : ℕ) (text : List ℕ) (next : IsNext script count index text)
-    (went : Bool) (went_is : went ≡ has_go (take count (texts_of script))) (over : Option ℕ) (is_over : IsOver script over)
+    (had_go : Bool) (went_is : had_go ≡ has_go (take count (texts_of script))) (over : Option ℕ) (is_over : IsOver script over)
     (is_within : Bool) (before : IsBefore is_within (index + 1) over) where
   same_text : (good : IsGoodLine sizes script (index + 1)) → good.text ≡ text
   same_text good =
@@ -103,15 +103,15 @@ module _ (sizes : Config) (script : List ℕ) (count index : ℕ) (text : List �
       let is = next.is_text in cc
 
   -- a good text is that of a good line
-  pub line_of : IsGoodHere sizes went (is_within ≡ true) text → IsGoodLine sizes script (index + 1)
+  pub line_of : IsGoodHere sizes had_go (is_within ≡ true) text → IsGoodLine sizes script (index + 1)
   line_of good = is_good sizes script count index text over next good.short is_over (before.0 (true_is is_within good.within))
-      (says_line sizes (index + 1) went text good.good) once
+      (says_line sizes (index + 1) had_go text good.good) once
     where
       once : is_go text ≡ true → has_go (take count (texts_of script)) ≡ false
-      once goes = sym went_is ∙ never_both went (is_go text) (λ e. good.good.once e) goes
+      once goes = sym went_is ∙ never_both had_go (is_go text) (λ e. good.good.once e) goes
 
   -- the text of a good line is good
-  pub text_of : IsGoodLine sizes script (index + 1) → IsGoodHere sizes went (is_within ≡ true) text
+  pub text_of : IsGoodLine sizes script (index + 1) → IsGoodHere sizes had_go (is_within ≡ true) text
   text_of good =
       let same = same_text good in
       let at = next.index_is in
@@ -121,7 +121,7 @@ module _ (sizes : Config) (script : List ℕ) (count index : ℕ) (text : List �
           says = λ asks.
               let said = good.says (subst (λ (t : List ℕ). is_skipped t ≡ false) (sym same) asks) in
               of_line sizes (index + 1) text said.0 (subst (λ (t : List ℕ). IsLineText sizes (index + 1) said.0 t) same said.1);
-          once = never_both (is_go text) went (λ goes.
+          once = never_both (is_go text) had_go (λ goes.
               let first : has_go (take (index + 1 - 1) (texts_of script)) ≡ false
               = good.once (subst (λ (t : List ℕ). is_go t ≡ true) (sym same) goes) in
               went_is ∙ rw e at first);
@@ -135,7 +135,7 @@ module _ (sizes : Config) (script : List ℕ) (count index : ℕ) (text : List �
 
   -- the finding of the line
   pub is_finding : (found : Finding) → found.line ≡ index + 1 → found.text.now ≡ text
-      → IsSpot sizes went (is_within ≡ true) text found.spot → IsFinding sizes script found
+      → IsSpot sizes had_go (is_within ≡ true) text found.spot → IsFinding sizes script found
   is_finding found line_is text_is spot =
       let at = next.index_is in
       let here : found.line - 1 ≡ index = omega arith in
@@ -145,7 +145,7 @@ module _ (sizes : Config) (script : List ℕ) (count index : ℕ) (text : List �
         is_text = rw here (rw text_is next.is_text);
         bad = λ good. spot.bad (text_of (rw line_is at good));
         spot = rw first (rw text_is (rw (← went_is) (rw line_is
-            (spot_to sizes went (is_within ≡ true) (IsWithin script (index + 1))
+            (spot_to sizes had_go (is_within ≡ true) (IsWithin script (index + 1))
             (within_before script (index + 1) over is_within is_over before) text found.spot spot))));
       }
 
@@ -172,9 +172,9 @@ none_linted sizes script = record {
 }
 
 -- whether there is a `go` up to and with the next line
-go_more : (script : List ℕ) (count index : ℕ) (text : List ℕ) (went : Bool) → IsNext script count index text
-    → went ≡ has_go (take count (texts_of script)) → (went || is_go text) ≡ has_go (take (count + 1) (texts_of script))
-go_more script count index text went next is =
+go_more : (script : List ℕ) (count index : ℕ) (text : List ℕ) (had_go : Bool) → IsNext script count index text
+    → had_go ≡ has_go (take count (texts_of script)) → (had_go || is_go text) ≡ has_go (take (count + 1) (texts_of script))
+go_more script count index text had_go next is =
     let at = get_or_from_slice_get (texts_of script) index text text next.is_text in
     let inside = next.inside in
     let here : get_or (texts_of script) count text ≡ text = rw (← next.index_is) at in
@@ -221,42 +221,42 @@ module _ (sizes : Config) (script : List ℕ) (count : ℕ) (findings : List Fin
   }
 
 -- the next line was linted
-pub next_linted : (sizes : Config) (script : List ℕ) (count index : ℕ) (text : Bor (List ℕ)) (went is_within : Bool) (over : Option ℕ)
-    (old now : List Finding) → IsLintedTo sizes script count went old → IsNext script count index text.now → IsOver script over
-    → IsBefore is_within (index + 1) over → AddsFinding sizes (index + 1) went is_within text old now
+pub next_linted : (sizes : Config) (script : List ℕ) (count index : ℕ) (text : Bor (List ℕ)) (had_go is_within : Bool) (over : Option ℕ)
+    (old now : List Finding) → IsLintedTo sizes script count had_go old → IsNext script count index text.now → IsOver script over
+    → IsBefore is_within (index + 1) over → AddsFinding sizes (index + 1) had_go is_within text old now
     → AreFindings sizes script (index + 1) now
-next_linted sizes script count index text went is_within over old now so_far next is_over before (inl same) =
+next_linted sizes script count index text had_go is_within over old now so_far next is_over before (inl same) =
     let at = next.index_is in
-    let good = line_of sizes script count index text.now next went so_far.went_is over is_over is_within before same.1 in
+    let good = line_of sizes script count index text.now next had_go so_far.went_is over is_over is_within before same.1 in
     rw at (rw same.0 (passes sizes script count old so_far.are (rw at at good)))
-next_linted sizes script count index text went is_within over old now so_far next is_over before (inr found) =
+next_linted sizes script count index text had_go is_within over old now so_far next is_over before (inr found) =
     let at = next.index_is in
     let one : Finding = record { line = index + 1; text = text; spot = found.0; near = found.1 } in
-    let is = is_finding sizes script count index text.now next went so_far.went_is over is_over is_within before one refl refl found.3 in
+    let is = is_finding sizes script count index text.now next had_go so_far.went_is over is_over is_within before one refl refl found.3 in
     rw at (rw found.2 (finds sizes script count old so_far.are one (omega arith) is))
 
-pub goes_further : (sizes : Config) (script : List ℕ) (count index : ℕ) (text : List ℕ) (went : Bool) (old now : List Finding)
-    → IsLintedTo sizes script count went old → IsNext script count index text → AreFindings sizes script (index + 1) now
-    → IsLintedTo sizes script (index + 1) (went || is_go text) now
-goes_further sizes script count index text went old now so_far next are =
+pub goes_further : (sizes : Config) (script : List ℕ) (count index : ℕ) (text : List ℕ) (had_go : Bool) (old now : List Finding)
+    → IsLintedTo sizes script count had_go old → IsNext script count index text → AreFindings sizes script (index + 1) now
+    → IsLintedTo sizes script (index + 1) (had_go || is_go text) now
+goes_further sizes script count index text had_go old now so_far next are =
     let at = next.index_is in
-    record { are = are; went_is = rw at (go_more script count index text went next so_far.went_is) }
+    record { are = are; went_is = rw at (go_more script count index text had_go next so_far.went_is) }
 
 -- ---- the parts of the loop
 
 -- the place of what is found is in the text
-pub found_inside : (sizes : Config) (went : Bool) (Within : Type 0) (text : List ℕ) (found : Option Spot)
-    → MatchOption found (IsGoodHere sizes went Within text) (λ spot. IsSpot sizes went Within text spot)
+pub found_inside : (sizes : Config) (had_go : Bool) (Within : Type 0) (text : List ℕ) (found : Option Spot)
+    → MatchOption found (IsGoodHere sizes had_go Within text) (λ spot. IsSpot sizes had_go Within text spot)
     → IfSome found (λ spot. spot.place ≤ length text)
-found_inside sizes went Within text None is = tt
-found_inside sizes went Within text (Some spot) is = is.inside
+found_inside sizes had_go Within text None is = tt
+found_inside sizes had_go Within text (Some spot) is = is.inside
 
 -- what is found is what is added
-pub adds_of : (sizes : Config) (number : ℕ) (went is_within : Bool) (text : Bor (List ℕ)) (found : Option Spot) (old now : List Finding)
-    → MatchOption found (IsGoodHere sizes went (is_within ≡ true) text.now) (λ spot. IsSpot sizes went (is_within ≡ true) text.now spot)
-    → AddsSpot number text found old now → AddsFinding sizes number went is_within text old now
-adds_of sizes number went is_within text None old now is adds = inl (adds, is)
-adds_of sizes number went is_within text (Some spot) old now is adds = inr (spot, adds.0, adds.1, is)
+pub adds_of : (sizes : Config) (number : ℕ) (had_go is_within : Bool) (text : Bor (List ℕ)) (found : Option Spot) (old now : List Finding)
+    → MatchOption found (IsGoodHere sizes had_go (is_within ≡ true) text.now) (λ spot. IsSpot sizes had_go (is_within ≡ true) text.now spot)
+    → AddsSpot number text found old now → AddsFinding sizes number had_go is_within text old now
+adds_of sizes number had_go is_within text None old now is adds = inl (adds, is)
+adds_of sizes number had_go is_within text (Some spot) old now is adds = inr (spot, adds.0, adds.1, is)
 
 -- the line with the first byte too many was linted
 pub ends_over : (sizes : Config) (script : List ℕ) (index : ℕ) (over : Option ℕ) (is_within : Bool) (findings : List Finding)

@@ -58,34 +58,34 @@ cause_local text place =
     first_of (is_no_cpu text place) (is_cpu_out_of_range text place) (is_unknown_command text place) (byte_at text place == 10)
     (is_between_words text place) (is_double_space text place) (later_cause_at text place) (later_local text place)
 
-is_cause : (sizes : Config) (went : Bool) (Within : Type 0) (text : List ℕ) (place : ℕ) (cause : Cause) → IsLocal cause
-    → IsStuck (IsGoodText sizes went) text place → cause ≡ cause_at text place → IsCause sizes went Within text place cause
-is_cause sizes went Within text place LineTooLong local is e = absurd local
-is_cause sizes went Within text place InputTooLong local is e = absurd local
-is_cause sizes went Within text place cause local is e = (is, e)
+is_cause : (sizes : Config) (had_go : Bool) (Within : Type 0) (text : List ℕ) (place : ℕ) (cause : Cause) → IsLocal cause
+    → IsStuck (IsGoodText sizes had_go) text place → cause ≡ cause_at text place → IsCause sizes had_go Within text place cause
+is_cause sizes had_go Within text place LineTooLong local is e = absurd local
+is_cause sizes had_go Within text place InputTooLong local is e = absurd local
+is_cause sizes had_go Within text place cause local is e = (is, e)
 
 -- the line is too long, if a good text goes on with one byte too many
-too_long : (sizes : Config) (went : Bool) (Within : Type 0) (text : List ℕ) → 1024 < length text
-    → GoesOn (IsGoodText sizes went) (take 1025 text) → IsSpot sizes went Within text (record { place = 1024; cause = LineTooLong })
-too_long sizes went Within text long on =
+too_long : (sizes : Config) (had_go : Bool) (Within : Type 0) (text : List ℕ) → 1024 < length text
+    → GoesOn (IsGoodText sizes had_go) (take 1025 text) → IsSpot sizes had_go Within text (record { place = 1024; cause = LineTooLong })
+too_long sizes had_go Within text long on =
     let most = length-take-le 1024 text (omega arith) in
     let more = length-take-le 1025 text (omega arith) in
     record {
       inside = omega arith;
-      goes_on = record { short = omega arith; on = goes_on_sooner (IsGoodText sizes went) text 1024 1025 (omega arith) on };
+      goes_on = record { short = omega arith; on = goes_on_sooner (IsGoodText sizes had_go) text 1024 1025 (omega arith) on };
       stuck = λ h here. let short = here.short in omega arith;
       bad = λ good. let short = good.short in omega arith;
       cause = (refl, long, on);
     }
 
-stuck_by : (sizes : Config) (went : Bool) (Within : Type 0) (text : List ℕ) (place : ℕ) → IsStuck (IsGoodText sizes went) text place
+stuck_by : (sizes : Config) (had_go : Bool) (Within : Type 0) (text : List ℕ) (place : ℕ) → IsStuck (IsGoodText sizes had_go) text place
     → (b : Bool) → nat_lt 1024 place ≡ b
-    → IsSpot sizes went Within text (if b then record { place = 1024; cause = LineTooLong } else record { place = place; cause = cause_at text place })
-stuck_by sizes went Within text place is true e =
+    → IsSpot sizes had_go Within text (if b then record { place = 1024; cause = LineTooLong } else record { place = place; cause = cause_at text place })
+stuck_by sizes had_go Within text place is true e =
     let past = ltb-true 1024 place e in
     let inside = is.inside in
-    too_long sizes went Within text (omega arith) (goes_on_sooner (IsGoodText sizes went) text 1025 place (omega arith) is.goes_on)
-stuck_by sizes went Within text place is false e =
+    too_long sizes had_go Within text (omega arith) (goes_on_sooner (IsGoodText sizes had_go) text 1025 place (omega arith) is.goes_on)
+stuck_by sizes had_go Within text place is false e =
     let near = ltb-false 1024 place e in
     let taken = length-take-le place text is.inside in
     record {
@@ -93,37 +93,37 @@ stuck_by sizes went Within text place is false e =
       goes_on = record { short = omega arith; on = is.goes_on };
       stuck = λ h here. is.stuck h here.on;
       bad = λ good. is.bad good.good;
-      cause = is_cause sizes went Within text place (cause_at text place) (cause_local text place) is refl;
+      cause = is_cause sizes had_go Within text place (cause_at text place) (cause_local text place) is refl;
     }
 
 -- a text that, however long, is stuck at some place
-pub stuck_is : (sizes : Config) (went : Bool) (Within : Type 0) (text : List ℕ) (place : ℕ) → IsStuck (IsGoodText sizes went) text place
-    → IsSpot sizes went Within text (stuck_spot text place)
-stuck_is sizes went Within text place is = stuck_by sizes went Within text place is (nat_lt 1024 place) refl
+pub stuck_is : (sizes : Config) (had_go : Bool) (Within : Type 0) (text : List ℕ) (place : ℕ) → IsStuck (IsGoodText sizes had_go) text place
+    → IsSpot sizes had_go Within text (stuck_spot text place)
+stuck_is sizes had_go Within text place is = stuck_by sizes had_go Within text place is (nat_lt 1024 place) refl
 
 -- what is known of the spot of a line, or of a line without one
 abbrev IsJudged : Config → Bool → Bool → List ℕ → Option Spot → Type 0
-IsJudged sizes went is_within text found =
-    MatchOption found (IsGoodHere sizes went (is_within ≡ true) text) (λ spot. IsSpot sizes went (is_within ≡ true) text spot)
+IsJudged sizes had_go is_within text found =
+    MatchOption found (IsGoodHere sizes had_go (is_within ≡ true) text) (λ spot. IsSpot sizes had_go (is_within ≡ true) text spot)
 
-whole_by : (sizes : Config) (went : Bool) (text : List ℕ) → IsGoodText sizes went text → (b is_within : Bool) → nat_lt 1024 (length text) ≡ b
-    → IsJudged sizes went is_within text (if b then Some (record { place = 1024; cause = LineTooLong })
+whole_by : (sizes : Config) (had_go : Bool) (text : List ℕ) → IsGoodText sizes had_go text → (b is_within : Bool) → nat_lt 1024 (length text) ≡ b
+    → IsJudged sizes had_go is_within text (if b then Some (record { place = 1024; cause = LineTooLong })
     else if is_within then None else Some (record { place = length text; cause = InputTooLong }))
-whole_by sizes went text good true is_within e =
-    too_long sizes went (is_within ≡ true) text (ltb-true 1024 (length text) e) (good_goes_on (IsGoodText sizes went) text 1025 good)
-whole_by sizes went text good false true e = let short = ltb-false 1024 (length text) e in record { good = good; short = short; within = refl }
-whole_by sizes went text good false false e =
+whole_by sizes had_go text good true is_within e =
+    too_long sizes had_go (is_within ≡ true) text (ltb-true 1024 (length text) e) (good_goes_on (IsGoodText sizes had_go) text 1025 good)
+whole_by sizes had_go text good false true e = let short = ltb-false 1024 (length text) e in record { good = good; short = short; within = refl }
+whole_by sizes had_go text good false false e =
     let short = ltb-false 1024 (length text) e in
     let taken = length-take-le (length text) text (omega arith) in
     record {
       inside = omega arith;
-      goes_on = record { short = omega arith; on = good_goes_on (IsGoodText sizes went) text (length text) good };
+      goes_on = record { short = omega arith; on = good_goes_on (IsGoodText sizes had_go) text (length text) good };
       stuck = λ h. absurd (omega arith);
       bad = λ here. let within = here.within in cc;
       cause = (refl, good, λ within. cc);
     }
 
 -- a text that, however long, is good
-pub whole_is : (sizes : Config) (went is_within : Bool) (text : List ℕ) → IsGoodText sizes went text
-    → MatchOption (whole_spot text is_within) (IsGoodHere sizes went (is_within ≡ true) text) (λ spot. IsSpot sizes went (is_within ≡ true) text spot)
-whole_is sizes went is_within text good = whole_by sizes went text good (nat_lt 1024 (length text)) is_within refl
+pub whole_is : (sizes : Config) (had_go is_within : Bool) (text : List ℕ) → IsGoodText sizes had_go text
+    → MatchOption (whole_spot text is_within) (IsGoodHere sizes had_go (is_within ≡ true) text) (λ spot. IsSpot sizes had_go (is_within ≡ true) text spot)
+whole_is sizes had_go is_within text good = whole_by sizes had_go text good (nat_lt 1024 (length text)) is_within refl

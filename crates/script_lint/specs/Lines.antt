@@ -11,32 +11,32 @@ use Rattle.script_lint.specs.declared.finding.Cause.TheVariants.{InputTooLong, L
 use Rattle.script_lint.specs.declared.finding.Spot.{Spot}
 
 -- a good text that is short enough, if the line is within the script (the fact `Within`)
-pub record IsGoodHere (sizes : Config) (went : Bool) (Within : Type 0) (text : List ℕ) : Type 0 where
-  pub good : IsGoodText sizes went text
+pub record IsGoodHere (sizes : Config) (had_go : Bool) (Within : Type 0) (text : List ℕ) : Type 0 where
+  pub good : IsGoodText sizes had_go text
   pub short : length text ≤ longest_line
   pub within : Within
 
 -- a good text begins so, and so many bytes may be on a line
-pub record GoesOnHere (sizes : Config) (went : Bool) (front : List ℕ) : Type 0 where
+pub record GoesOnHere (sizes : Config) (had_go : Bool) (front : List ℕ) : Type 0 where
   pub short : length front ≤ longest_line
-  pub on : GoesOn (IsGoodText sizes went) front
+  pub on : GoesOn (IsGoodText sizes had_go) front
 
 -- why the text goes wrong at this place. The line is too long only if a good text goes on with the byte that is one too
 -- many, and the script only if the text is good.
 abbrev pub IsCause : Config → Bool → Type 0 → List ℕ → ℕ → Cause → Type 0
-IsCause sizes went Within text place LineTooLong =
-    (place ≡ longest_line) × (place < length text) × GoesOn (IsGoodText sizes went) (take (place + 1) text)
-IsCause sizes went Within text place InputTooLong = (place ≡ length text) × IsGoodText sizes went text × ¬ Within
-IsCause sizes went Within text place cause = IsStuck (IsGoodText sizes went) text place × (cause ≡ cause_at text place)
+IsCause sizes had_go Within text place LineTooLong =
+    (place ≡ longest_line) × (place < length text) × GoesOn (IsGoodText sizes had_go) (take (place + 1) text)
+IsCause sizes had_go Within text place InputTooLong = (place ≡ length text) × IsGoodText sizes had_go text × ¬ Within
+IsCause sizes had_go Within text place cause = IsStuck (IsGoodText sizes had_go) text place × (cause ≡ cause_at text place)
 
 -- the bytes before the place go on to a good line, and with one byte more they don't, or the line ends wrongly; and the
 -- cause
-pub record IsSpot (sizes : Config) (went : Bool) (Within : Type 0) (text : List ℕ) (spot : Spot) : Type 0 where
+pub record IsSpot (sizes : Config) (had_go : Bool) (Within : Type 0) (text : List ℕ) (spot : Spot) : Type 0 where
   pub inside : spot.place ≤ length text
-  pub goes_on : GoesOnHere sizes went (take spot.place text)
-  pub stuck : spot.place < length text → ¬ GoesOnHere sizes went (take (spot.place + 1) text)
-  pub bad : ¬ IsGoodHere sizes went Within text
-  pub cause : IsCause sizes went Within text spot.place spot.cause
+  pub goes_on : GoesOnHere sizes had_go (take spot.place text)
+  pub stuck : spot.place < length text → ¬ GoesOnHere sizes had_go (take (spot.place + 1) text)
+  pub bad : ¬ IsGoodHere sizes had_go Within text
+  pub cause : IsCause sizes had_go Within text spot.place spot.cause
 
 -- where a text goes wrong whose bytes from this place on don't go on, however long it may be
 abbrev pub stuck_spot : List ℕ → ℕ → Spot

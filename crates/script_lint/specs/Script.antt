@@ -15,8 +15,8 @@ AddsSpot number text (Some spot) old new =
 
 -- the line is good and adds nothing, or adds where and why it goes wrong
 abbrev pub AddsFinding : Config → ℕ → Bool → Bool → Bor (List ℕ) → List Finding → List Finding → Type 0
-AddsFinding sizes number went is_within text old new =
-    ((new ≡ old) × IsGoodHere sizes went (is_within ≡ true) text.now)
+AddsFinding sizes number had_go is_within text old new =
+    ((new ≡ old) × IsGoodHere sizes had_go (is_within ≡ true) text.now)
     ⊎ (spot : Spot) × (near : Option Verb)
     × (new ≡ old ++ record { line = number; text = text; spot = spot; near = near } ∷ [])
-    × IsSpot sizes went (is_within ≡ true) text.now spot
+    × IsSpot sizes had_go (is_within ≡ true) text.now spot

@@ -99,6 +99,6 @@ abbrev pub IsRequest : Config → List ℕ → Type 0
 IsRequest sizes text = (cpu : ℕ) × (command : Command) × IsRequestText sizes cpu command text
 
 -- the text of a line, however long: it is empty, a comment, `go` or `P COMMAND`, and isn't `go` after a `go`
-pub record IsGoodText (sizes : Config) (went : Bool) (text : List ℕ) : Type 0 where
+pub record IsGoodText (sizes : Config) (had_go : Bool) (text : List ℕ) : Type 0 where
   pub says : is_skipped text ≡ false → (is_go text ≡ true) ⊎ IsRequest sizes text
-  pub once : went ≡ true → is_go text ≡ false
+  pub once : had_go ≡ true → is_go text ≡ false

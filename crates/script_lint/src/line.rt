@@ -20,16 +20,16 @@ use zone_sizes::config::Config;
 pub(crate) fn lint_line(
     names: &Names,
     text: &[u8],
-    went: bool,
+    had_go: bool,
     is_within: bool,
     sizes: &Config,
 ) -> Option<Spot>
     requires names { IsNames names.now }
     requires zone { HasZone sizes.now }
-    ensures { MatchOption result (IsGoodHere sizes.now went (is_within ≡ true) text.now)
-        (λ spot. IsSpot sizes.now went (is_within ≡ true) text.now spot) }
+    ensures { MatchOption result (IsGoodHere sizes.now had_go (is_within ≡ true) text.now)
+        (λ spot. IsSpot sizes.now had_go (is_within ≡ true) text.now spot) }
 {
-    match line_place(names, text, went, sizes) {
+    match line_place(names, text, had_go, sizes) {
         Some(place) => Some(stuck_spot(text, place)),
         None => whole_spot(text, is_within),
     }
@@ -73,28 +73,28 @@ fn whole_spot(text: &[u8], is_within: bool) -> Option<Spot>
 }
 
 // The place from which on the text, however long, doesn't go on to a good one. None if it is one.
-fn line_place(names: &Names, text: &[u8], went: bool, sizes: &Config) -> Option<usize>
+fn line_place(names: &Names, text: &[u8], had_go: bool, sizes: &Config) -> Option<usize>
     requires names { IsNames names.now }
     requires zone { HasZone sizes.now }
-    ensures { MatchOption result (IsGoodText sizes.now went text.now)
-        (λ place. IsStuck (IsGoodText sizes.now went) text.now place) }
+    ensures { MatchOption result (IsGoodText sizes.now had_go text.now)
+        (λ place. IsStuck (IsGoodText sizes.now had_go) text.now place) }
 {
     if text.is_empty() || text[0] == b'#' {
         return None;
     }
     if text[0] == b'g' {
-        return go_place(text, went);
+        return go_place(text, had_go);
     }
     request_place(names, text, sizes)
 }
 
 // The same for a text that begins with `g`.
-fn go_place(text: &[u8], went: bool) -> Option<usize>
+fn go_place(text: &[u8], had_go: bool) -> Option<usize>
     requires { (bs : List ℕ) × (text.now ≡ 103 ∷ bs) }
-    ensures { (sizes : Config) → MatchOption result (IsGoodText sizes went text.now)
-        (λ place. IsStuck (IsGoodText sizes went) text.now place) }
+    ensures { (sizes : Config) → MatchOption result (IsGoodText sizes had_go text.now)
+        (λ place. IsStuck (IsGoodText sizes had_go) text.now place) }
 {
-    if went {
+    if had_go {
         return Some(0);
     }
     if is_go(text) {

@@ -66,20 +66,20 @@ fn lint_lines<'a>(
 {
     let over = line_over(input);
     let mut findings = Vec::new(alloc);
-    let mut went = false;
+    let mut had_go = false;
     let mut number = 0;
     let mut rest = Some(input);
     while let Some(left) = rest {
         let (text, after) = first_line(left);
         number += 1;
         let is_within = is_within(number, over);
-        let found = lint_line(names, text, went, is_within, sizes);
+        let found = lint_line(names, text, had_go, is_within, sizes);
         add_finding(alloc, number, text, found, &mut findings)?;
         if !is_within {
             return Ok(findings);
         }
         let goes = is_go(text);
-        went = went || goes;
+        had_go = had_go || goes;
         rest = after;
     }
     Ok(findings)

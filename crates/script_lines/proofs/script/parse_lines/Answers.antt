@@ -28,7 +28,7 @@ returns-then-goes-clause-bad_line c =
     let next = next_of c.args.input.now c.loop-rest.number c.first_line.result.0.now (texts_left c.first_line.result.1)
     (c.loop-rest.invariant.1 ∙ ap texts_left c.in-Some.is ∙ c.first_line.ensures) in
     is_first_bad _ _ _ _ _ _ _ c.loop-rest.invariant.0 next.0
-    (not_once _ _ _ _ _ next.0 (sym c.is_go-goes.ensures ∙ c.if-goes.true) (sym c.loop-rest.invariant.0.went_is ∙ c.if-went.true))
+    (not_once _ _ _ _ _ next.0 (sym c.is_go-goes.ensures ∙ c.if-goes.true) (sym c.loop-rest.invariant.0.went_is ∙ c.if-had_go.true))
 
 pub loop-rest-preserved-then-is_skipped : goal.loop-rest-preserved-then-is_skipped
 loop-rest-preserved-then-is_skipped c =
@@ -38,7 +38,7 @@ loop-rest-preserved-then-is_skipped c =
     let good = is_good c.args.sizes.now _ _ _ _ c.line_over-over.result next.0 c.if-text-gt-MOST_LINE.false c.line_over-over.ensures
     (search rules) (λ asks. let bad : false ≡ true = sym asks ∙ is in cc) (search rules) in
     let inside = next.0.inside in
-    (passes_over _ _ _ c.loop-rest.went _ _ _ _ c.loop-rest.invariant.0 next.0 good is (search rules), next.1, omega arith)
+    (passes_over _ _ _ c.loop-rest.had_go _ _ _ _ c.loop-rest.invariant.0 next.0 good is (search rules), next.1, omega arith)
 
 pub loop-rest-preserved : goal.loop-rest-preserved
 loop-rest-preserved c =
@@ -48,7 +48,7 @@ loop-rest-preserved c =
     (search rules) (λ asks. (c.in-Some-parse_line.line, c.in-Some-parse_line.ensures)) (search rules) in
     let pushed : c.push.new.self.items ≡ c.loop-rest.lines.items ++ c.in-Some-parse_line.line ∷ [] = search rules in
     let inside = next.0.inside in (
-      rw pushed (takes_line _ _ _ c.loop-rest.went _ _ _ _ c.in-Some-parse_line.line c.loop-rest.invariant.0 next.0 good
+      rw pushed (takes_line _ _ _ c.loop-rest.had_go _ _ _ _ c.in-Some-parse_line.line c.loop-rest.invariant.0 next.0 good
           (sym c.is_skipped.ensures ∙ c.if-is_skipped.false) c.in-Some-parse_line.ensures (search rules)),
       next.1,
       omega arith,

@@ -8,4 +8,4 @@ returns c =
     let some : 0 < length text = search rules in
     let not_comment : get_or text 0 0 ≢ 35 = c.if-text-eq35.false in
     let not_g : get_or text 0 0 ≢ 103 = c.if-text-eq103.false in
-    line_found c.args.sizes.now c.args.went text c.request_place.result some not_comment not_g c.request_place.ensures
+    line_found c.args.sizes.now c.args.had_go text c.request_place.result some not_comment not_g c.request_place.ensures

@@ -4,7 +4,7 @@ use Rattle.script_lint.proofs.line.lint_line.Goals as goal
 
 pub returns-in-Some : goal.returns-in-Some
 returns-in-Some c =
-    rw c.stuck_spot.ensures (stuck_is c.args.sizes.now c.args.went (c.args.is_within ≡ true) c.args.text.now c.in-Some.place c.in-Some.ensures)
+    rw c.stuck_spot.ensures (stuck_is c.args.sizes.now c.args.had_go (c.args.is_within ≡ true) c.args.text.now c.in-Some.place c.in-Some.ensures)
 
 pub returns-in-None : goal.returns-in-None
-returns-in-None c = rw c.whole_spot.ensures (whole_is c.args.sizes.now c.args.went c.args.is_within c.args.text.now c.in-None.ensures)
+returns-in-None c = rw c.whole_spot.ensures (whole_is c.args.sizes.now c.args.had_go c.args.is_within c.args.text.now c.in-None.ensures)

@@ -14,7 +14,7 @@ overflow_add-number c =
 
 pub add_finding-requires : goal.add_finding-requires
 add_finding-requires c =
-    found_inside c.args.sizes.now c.loop-rest.went _ c.first_line.result.0.now c.lint_line-found.result c.lint_line-found.ensures
+    found_inside c.args.sizes.now c.loop-rest.had_go _ c.first_line.result.0.now c.lint_line-found.result c.lint_line-found.ensures
 
 pub returns-then-not-is_within : goal.returns-then-not-is_within
 returns-then-not-is_within c =
@@ -23,30 +23,30 @@ returns-then-not-is_within c =
     let index = c.loop-rest.number in
     let next = next_of script index c.first_line.result.0.now (texts_left c.first_line.result.1)
     (c.loop-rest.invariant.1 ∙ ap texts_left c.in-Some.is ∙ c.first_line.ensures) in
-    let adds = adds_of sizes (index + 1) c.loop-rest.went c.is_within-is_within.result c.first_line.result.0 c.lint_line-found.result
+    let adds = adds_of sizes (index + 1) c.loop-rest.had_go c.is_within-is_within.result c.first_line.result.0 c.lint_line-found.result
     c.loop-rest.findings.items c.add_finding.new.findings.items c.lint_line-found.ensures c.in_ok-add_finding.ensures in
-    let are = next_linted sizes script index index c.first_line.result.0 c.loop-rest.went c.is_within-is_within.result c.line_over-over.result
+    let are = next_linted sizes script index index c.first_line.result.0 c.loop-rest.had_go c.is_within-is_within.result c.line_over-over.result
     c.loop-rest.findings.items c.add_finding.new.findings.items c.loop-rest.invariant.0 next.0 c.line_over-over.ensures
     c.is_within-is_within.ensures adds in
     ends_over sizes script index c.line_over-over.result c.is_within-is_within.result c.add_finding.new.findings.items
     c.line_over-over.ensures c.is_within-is_within.ensures c.if-not-is_within.true are
 
-pub loop-rest-preserved-then-went : goal.loop-rest-preserved-then-went
-loop-rest-preserved-then-went c =
+pub loop-rest-preserved-then-had_go : goal.loop-rest-preserved-then-had_go
+loop-rest-preserved-then-had_go c =
     let script = c.args.input.now in
     let sizes = c.args.sizes.now in
     let index = c.loop-rest.number in
     let next = next_of script index c.first_line.result.0.now (texts_left c.first_line.result.1)
     (c.loop-rest.invariant.1 ∙ ap texts_left c.in-Some.is ∙ c.first_line.ensures) in
-    let adds = adds_of sizes (index + 1) c.loop-rest.went c.is_within-is_within.result c.first_line.result.0 c.lint_line-found.result
+    let adds = adds_of sizes (index + 1) c.loop-rest.had_go c.is_within-is_within.result c.first_line.result.0 c.lint_line-found.result
     c.loop-rest.findings.items c.add_finding.new.findings.items c.lint_line-found.ensures c.in_ok-add_finding.ensures in
-    let are = next_linted sizes script index index c.first_line.result.0 c.loop-rest.went c.is_within-is_within.result c.line_over-over.result
+    let are = next_linted sizes script index index c.first_line.result.0 c.loop-rest.had_go c.is_within-is_within.result c.line_over-over.result
     c.loop-rest.findings.items c.add_finding.new.findings.items c.loop-rest.invariant.0 next.0 c.line_over-over.ensures
     c.is_within-is_within.ensures adds in
-    let further = goes_further sizes script index index c.first_line.result.0.now c.loop-rest.went c.loop-rest.findings.items
+    let further = goes_further sizes script index index c.first_line.result.0.now c.loop-rest.had_go c.loop-rest.findings.items
     c.add_finding.new.findings.items c.loop-rest.invariant.0 next.0 are in
     let inside = next.0.inside in (
-      subst (λ (went : Bool). IsLintedTo sizes script (index + 1) went c.add_finding.new.findings.items) (rw c.if-went.true refl) further,
+      subst (λ (had_go : Bool). IsLintedTo sizes script (index + 1) had_go c.add_finding.new.findings.items) (rw c.if-had_go.true refl) further,
       next.1,
       omega arith,
     )
@@ -58,15 +58,15 @@ loop-rest-preserved c =
     let index = c.loop-rest.number in
     let next = next_of script index c.first_line.result.0.now (texts_left c.first_line.result.1)
     (c.loop-rest.invariant.1 ∙ ap texts_left c.in-Some.is ∙ c.first_line.ensures) in
-    let adds = adds_of sizes (index + 1) c.loop-rest.went c.is_within-is_within.result c.first_line.result.0 c.lint_line-found.result
+    let adds = adds_of sizes (index + 1) c.loop-rest.had_go c.is_within-is_within.result c.first_line.result.0 c.lint_line-found.result
     c.loop-rest.findings.items c.add_finding.new.findings.items c.lint_line-found.ensures c.in_ok-add_finding.ensures in
-    let are = next_linted sizes script index index c.first_line.result.0 c.loop-rest.went c.is_within-is_within.result c.line_over-over.result
+    let are = next_linted sizes script index index c.first_line.result.0 c.loop-rest.had_go c.is_within-is_within.result c.line_over-over.result
     c.loop-rest.findings.items c.add_finding.new.findings.items c.loop-rest.invariant.0 next.0 c.line_over-over.ensures
     c.is_within-is_within.ensures adds in
-    let further = goes_further sizes script index index c.first_line.result.0.now c.loop-rest.went c.loop-rest.findings.items
+    let further = goes_further sizes script index index c.first_line.result.0.now c.loop-rest.had_go c.loop-rest.findings.items
     c.add_finding.new.findings.items c.loop-rest.invariant.0 next.0 are in
     let inside = next.0.inside in (
-      subst (λ (went : Bool). IsLintedTo sizes script (index + 1) went c.add_finding.new.findings.items) (search rules) further,
+      subst (λ (had_go : Bool). IsLintedTo sizes script (index + 1) had_go c.add_finding.new.findings.items) (search rules) further,
       next.1,
       omega arith,
     )

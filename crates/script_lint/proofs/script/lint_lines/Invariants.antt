@@ -6,7 +6,7 @@ use Rattle.script_lint.proofs.script.lint_lines.Given as goal
 
 abbrev pub invariant-loop-rest : goal.invariant-loop-rest
 invariant-loop-rest l =
-    IsLintedTo l.sizes l.input l.number l.went l.findings.items × IsLeft l.input l.number l.rest × (l.number ≤ length (texts_of l.input))
+    IsLintedTo l.sizes l.input l.number l.had_go l.findings.items × IsLeft l.input l.number l.rest × (l.number ≤ length (texts_of l.input))
 
 abbrev pub decreases-loop-rest : goal.decreases-loop-rest
 decreases-loop-rest l = length (texts_left l.rest)
