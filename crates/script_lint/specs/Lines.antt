@@ -27,7 +27,8 @@ abbrev pub IsCause : Config → Bool → Type 0 → List ℕ → ℕ → Cause �
 IsCause sizes had_go Within text place LineTooLong =
     (place ≡ longest_line) × (place < length text) × GoesOn (IsGoodText sizes had_go) (take (place + 1) text)
 IsCause sizes had_go Within text place InputTooLong = (place ≡ length text) × IsGoodText sizes had_go text × ¬ Within
-IsCause sizes had_go Within text place cause = IsStuck (IsGoodText sizes had_go) text place × (cause ≡ cause_at text place)
+IsCause sizes had_go Within text place cause =
+    IsStuck (IsGoodText sizes had_go) text place × (cause ≡ cause_at text place)
 
 -- the bytes before the place go on to a good line, and with one byte more they don't, or the line ends wrongly; and the
 -- cause
