@@ -10,7 +10,7 @@ use Rattle.kill_notes.specs.declared.note.Note.TheVariants.{Zone}
 use Rattle.mem_machine.specs.Machines.{KnownMachine, with_note, with_watch}
 use Rattle.mem_machine.specs.Local.{VisitState, visit_state}
 use Rattle.mem_machine.specs.Blocks.{taken_steps, unplaced_steps}
-use Rattle.mem_machine.specs.Lending.{LendsMany, TakesManyBack}
+use Rattle.mem_machine.specs.Lending.{LendsMany, UnlistsMany}
 use Rattle.mem_machine.specs.Stocks.{Drains, DrainsAllBelow, stock_group, with_look}
 use Rattle.mem_machine.specs.Steps.{Drain, unlist_steps, drain_list_steps, drain_steps, drain_stocks_steps, fill_steps, lend_steps, note_max_steps, note_oom_steps, over_steps, refill_steps, take_front_steps}
 use Rattle.mem_reclaim.specs.declared.sets.Killed.{Killed}
@@ -156,7 +156,7 @@ lent_same (f ∷ frames) m n h g =
     lent_same frames h.between n h.rest g ∙ ap (λ (x : KnownMachine). misses_of x.frame_seat g) h.first.lends.machine
     ∙ misses_put m.machine.frame_seat f g (passed_out_to m.cpu.number) (λ k. refl)
 
-pub back_same : (frames : List ℕ) (m n : VisitState) → TakesManyBack frames m n → (g : ℕ) → misses_of n.machine.frame_seat g ≡ misses_of m.machine.frame_seat g
+pub back_same : (frames : List ℕ) (m n : VisitState) → UnlistsMany frames m n → (g : ℕ) → misses_of n.machine.frame_seat g ≡ misses_of m.machine.frame_seat g
 back_same [] m n h g = ap (λ (x : KnownMachine). misses_of x.frame_seat g) h.machine
 back_same (f ∷ frames) m n h g =
     back_same frames h.between n h.rest g ∙ ap (λ (x : KnownMachine). misses_of x.frame_seat g) h.first.machine

@@ -17,7 +17,7 @@ use Rattle.mem_machine.specs.declared.blocks.TakeFault.TheVariants as fault
 use Rattle.kill_notes.specs.declared.note.Note.{Note}
 use Rattle.mem_machine.specs.Machines.{KnownMachine, is_killed, with_note, with_watch}
 use Rattle.mem_machine.specs.Local.{visit_state, MakesAs, VisitState}
-use Rattle.mem_machine.specs.Lending.{TakesManyBack}
+use Rattle.mem_machine.specs.Lending.{UnlistsMany}
 use Rattle.mem_machine.specs.Blocks.{TakesBlock, TakesNoBlock, RefusesBlock, block_steps, taken_steps, unplaced_steps}
 use Rattle.mem_machine.specs.Paying.{HasRoomFor}
 use Rattle.mem_machine.specs.Steps.{over_steps, drain_list_steps}
@@ -124,7 +124,7 @@ pub record BackPart (frames : List ℕ) (m : KnownMachine) (c : KnownCpu) (n : K
   pub ledger : n.ledger ≡ m.ledger
   pub killed : n.killed ≡ m.killed
 
-pub back_part : (frames : List ℕ) (m n : KnownMachine) (c d : KnownCpu) → TakesManyBack frames (visit_state m c) (visit_state n d) → BackPart frames m c n d
+pub back_part : (frames : List ℕ) (m n : KnownMachine) (c d : KnownCpu) → UnlistsMany frames (visit_state m c) (visit_state n d) → BackPart frames m c n d
 back_part [] m n c d h = record {
   split = sym (ap (λ (e : KnownCpu). e.list) h.cpu);
   number = ap (λ (e : KnownCpu). e.number) h.cpu;
@@ -208,7 +208,7 @@ rounds_open t g k (Err RequesterKilled) m n c d steps h = absurd h
 
 -- ---- what the second try leaves
 module _ (t : KnownTable) (g k : ℕ) (m x n : KnownMachine) (c y d : KnownCpu) (count listed : ℕ) (counts : listed ≡ length c.list) (few : count ≤ listed)
-    (gives : TakesManyBack (take count c.list) (visit_state m c) (visit_state x y)) (rest : count < listed → y.list ≡ []) (stays : d ≡ y)
+    (gives : UnlistsMany (take count c.list) (visit_state m c) (visit_state x y)) (rest : count < listed → y.list ≡ []) (stays : d ≡ y)
     (giving : MakesAs t c.number (visit_state m c) (drain_list_steps c.number (take count c.list)) (visit_state x y)) where
   part : BackPart (take count c.list) m c x y
   part = back_part (take count c.list) m x c y gives
@@ -216,8 +216,8 @@ module _ (t : KnownTable) (g k : ℕ) (m x n : KnownMachine) (c y d : KnownCpu) 
   whole : take count c.list ≡ c.list
   whole = all_back count listed c.list y.list few counts rest part.split
 
-  given : TakesManyBack c.list (visit_state m c) (visit_state x d)
-  given = subst (λ (z : List ℕ × KnownCpu). TakesManyBack z.0 (visit_state m c) (visit_state x z.1)) (λ i. (whole i, sym stays i)) gives
+  given : UnlistsMany c.list (visit_state m c) (visit_state x d)
+  given = subst (λ (z : List ℕ × KnownCpu). UnlistsMany z.0 (visit_state m c) (visit_state x z.1)) (λ i. (whole i, sym stays i)) gives
 
   by_giving : MakesAs t c.number (visit_state m c) (drain_list_steps c.number c.list) (visit_state x y)
   by_giving = subst (λ (z : List ℕ). MakesAs t c.number (visit_state m c) (drain_list_steps c.number z) (visit_state x y)) whole giving

@@ -5,7 +5,7 @@ use Rattle.group_charge.specs.Charges.{current_of}
 use Rattle.step_rules.specs.After.{Run}
 use Rattle.mem_machine.specs.Machines.{KnownMachine}
 use Rattle.mem_machine.specs.Local.{VisitState, visit_state}
-use Rattle.mem_machine.specs.Lending.{TakesManyBack}
+use Rattle.mem_machine.specs.Lending.{UnlistsMany}
 use Rattle.mem_machine.specs.Blocks.{TakesBlock, TakesNoBlock, taken_steps, unplaced_steps}
 use Rattle.mem_machine.specs.Paying.{MayCharge}
 use Rattle.mem_machine.specs.Steps.{drain_list_steps}
@@ -65,7 +65,7 @@ pub record TakesAfterDrain (group order : ℕ) (answer : Result ℕ AllocFault) 
     : Type 0 where
   pub drained : KnownMachine
   pub later : Run
-  pub drains : TakesManyBack call.before.cpu.list call.before (visit_state drained call.after.cpu)
+  pub drains : UnlistsMany call.before.cpu.list call.before (visit_state drained call.after.cpu)
   pub takes : TakesOrReclaims group order answer
       (transition call.table (visit_state drained call.after.cpu) later call.after)
   pub steps_are : call.steps ≡ drain_list_steps call.before.cpu.number call.before.cpu.list ++ later

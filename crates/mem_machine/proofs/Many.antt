@@ -9,7 +9,8 @@ use Rattle.frame_word.specs.Seats.{KnownTable}
 use Rattle.cpu_part.specs.Cpus.{KnownCpu}
 use Rattle.step_rules.specs.After.{Run}
 use Rattle.mem_machine.specs.Machines.{KnownMachine, VisitStateStays, Visits}
-use Rattle.mem_machine.specs.Lending.{LendsOne, LendsNone, LendsMany, LendsByStep, Refills, TakesOneBack, TakesNoneBack, TakesManyBack, TakesBackByStep}
+use Rattle.mem_machine.specs.Lending.{LendsOne, LendsNone, LendsMany, LendsByStep, Refills, UnlistsOne, UnlistsNone}
+use Rattle.mem_machine.specs.Lending.{UnlistsMany, UnlistsByStep}
 use Rattle.mem_machine.specs.Local.{MakesAs, VisitState, visit_state}
 use Rattle.mem_machine.specs.Steps.{lend_steps, unlist_steps, drain_list_steps}
 use Rattle.mem_machine.proofs.Followed.{makes_none, makes_both}
@@ -92,11 +93,11 @@ lent_end t k m c x y n d before none = (
 
 -- frames that are returned to the zone, and then one more
 takes_more : (frames : List ℕ) (f : ℕ) (m : KnownMachine) (c : KnownCpu) (x : KnownMachine) (y : KnownCpu) (n : KnownMachine) (d : KnownCpu)
-    → TakesManyBack frames (visit_state m c) (visit_state x y) → TakesOneBack f (visit_state x y) (visit_state n d) → TakesManyBack (frames ++ f ∷ []) (visit_state m c) (visit_state n d)
+    → UnlistsMany frames (visit_state m c) (visit_state x y) → UnlistsOne f (visit_state x y) (visit_state n d) → UnlistsMany (frames ++ f ∷ []) (visit_state m c) (visit_state n d)
 takes_more [] f m c x y n d before one =
     record {
       between = visit_state n d;
-      first = subst (λ (z : KnownMachine × KnownCpu). TakesOneBack f (visit_state z.0 z.1) (visit_state n d)) (λ i. (before.machine i, before.cpu i)) one;
+      first = subst (λ (z : KnownMachine × KnownCpu). UnlistsOne f (visit_state z.0 z.1) (visit_state n d)) (λ i. (before.machine i, before.cpu i)) one;
       rest = visit_state_stays (visit_state n d);
     }
 takes_more (g ∷ frames) f m c x y n d before one = record {
@@ -110,7 +111,7 @@ pub record TakenSoFar (t : KnownTable) (k : ℕ) (m : KnownMachine) (c : KnownCp
   pub frames : List ℕ
   pub all : k ≡ length frames
   pub split : c.list ≡ frames ++ d.list
-  pub takes : TakesManyBack frames (visit_state m c) (visit_state n d)
+  pub takes : UnlistsMany frames (visit_state m c) (visit_state n d)
   pub visit : Visits t (visit_state n d)
   pub steps : MakesAs t c.number (visit_state m c) (drain_list_steps c.number frames) (visit_state n d)
   pub number : d.number ≡ c.number
@@ -120,7 +121,7 @@ taken_start t m c visit =
     record { frames = []; all = refl; split = refl; takes = visit_state_stays (visit_state m c); visit = visit; steps = makes_none t c.number (visit_state m c); number = refl }
 
 pub taken_more : (t : KnownTable) (k : ℕ) (m : KnownMachine) (c : KnownCpu) (x : KnownMachine) (y : KnownCpu) (n : KnownMachine) (d : KnownCpu)
-    → TakenSoFar t k m c x y → TakesBackByStep t (visit_state x y) (visit_state n d) → Visits t (visit_state n d) → TakenSoFar t (k + 1) m c n d
+    → TakenSoFar t k m c x y → UnlistsByStep t (visit_state x y) (visit_state n d) → Visits t (visit_state n d) → TakenSoFar t (k + 1) m c n d
 taken_more t k m c x y n d before one visit =
     let f = one.frame in
     let left : y.list ≡ f ∷ d.list = one.takes.front ∙ ap (λ (l : List ℕ). f ∷ l) (sym (ap (λ (e : KnownCpu). e.list) one.takes.cpu)) in
@@ -137,7 +138,7 @@ taken_more t k m c x y n d before one visit =
 
 pub taken_end : (t : KnownTable) (k : ℕ) (m : KnownMachine) (c : KnownCpu) (x : KnownMachine) (y : KnownCpu) (n : KnownMachine) (d : KnownCpu)
     → TakenSoFar t k m c x y
-    → TakesNoneBack (visit_state x y) (visit_state n d) → TakenSoFar t k m c n d × (d.list ≡ [])
+    → UnlistsNone (visit_state x y) (visit_state n d) → TakenSoFar t k m c n d × (d.list ≡ [])
 taken_end t k m c x y n d before none = (
   subst (λ (z : KnownMachine × KnownCpu). TakenSoFar t k m c z.0 z.1) (λ i. (sym none.stays.machine i, sym none.stays.cpu i)) before,
   ap (λ (e : KnownCpu). e.list) none.stays.cpu ∙ none.none,
@@ -146,7 +147,7 @@ taken_end t k m c x y n d before none = (
 -- what was taken after k frames, said of the front of the list
 pub record TakesFront (t : KnownTable) (k : ℕ) (m : KnownMachine) (c : KnownCpu) (n : KnownMachine) (d : KnownCpu) : Type 0 where
   pub listed : k ≤ length c.list
-  pub takes : TakesManyBack (take k c.list) (visit_state m c) (visit_state n d)
+  pub takes : UnlistsMany (take k c.list) (visit_state m c) (visit_state n d)
   pub steps : MakesAs t c.number (visit_state m c) (drain_list_steps c.number (take k c.list)) (visit_state n d)
 
 pub taken_front : (t : KnownTable) (k : ℕ) (m : KnownMachine) (c : KnownCpu) (n : KnownMachine) (d : KnownCpu) → TakenSoFar t k m c n d
@@ -158,7 +159,7 @@ taken_front t k m c n d so_far =
     sym ((λ i. take (all i) (so_far.split i)) ∙ take-append_seam so_far.frames d.list) in
     record {
       listed = omega (arith, long, all);
-      takes = subst (λ (l : List ℕ). TakesManyBack l (visit_state m c) (visit_state n d)) front so_far.takes;
+      takes = subst (λ (l : List ℕ). UnlistsMany l (visit_state m c) (visit_state n d)) front so_far.takes;
       steps = subst (λ (l : List ℕ). MakesAs t c.number (visit_state m c) (drain_list_steps c.number l) (visit_state n d)) front so_far.steps;
     }
 

@@ -1,4 +1,4 @@
--- One frame's record and the zone's note of it change. Serves `lend_one`, `take_one_back` and all calls that move
+-- One frame's record and the zone's note of it change. Serves `lend_one`, `unlist_one` and all calls that move
 -- frames.
 use Rattle.std.proofs.Common.{◌≡◌, ℕ, ◌+◌, ◌<◌, ◌≤◌, Bool, true, false, Option, Some, None, List, [], ◌∷◌, length, get_or, refl, sym, ap, ◌∙◌, subst, inl, inr}
 use Rattle.std.proofs.Common.{arith, zero, suc}

@@ -1,4 +1,4 @@
--- The front of the visited CPU's list is returned to the free areas. Serves `take_one_back`.
+-- The front of the visited CPU's list is returned to the free areas. Serves `unlist_one`.
 use Rattle.std.proofs.Common.{◌≡◌, ℕ, ◌+◌, ◌<◌, ◌==◌, Bool, true, false, Option, Some, None, List, [], ◌∷◌, length, get_or, refl, sym, ap, ◌∙◌}
 use Rattle.std.proofs.Common.{subst, inl, inr, arith, eq-eqb}
 use Rattle.std.specs.Prelude.{slice_set, IfSome}
@@ -30,7 +30,7 @@ use Rattle.mem_machine.specs.declared.frame_state.FrameState.{FrameState}
 use Rattle.mem_machine.specs.declared.frame_state.FrameState.TheVariants.{Free, Lent, Head, Tail}
 use Rattle.mem_machine.specs.FrameStates.{frame_state_at, is_free, free_of, frame_state_group, head_group_of, some_cpu}
 use Rattle.mem_machine.specs.Machines.{KnownMachine, FitsFrameState, IsConsistent, Visits, home_of}
-use Rattle.mem_machine.specs.Lending.{TakesOneBack, TakesNoneBack}
+use Rattle.mem_machine.specs.Lending.{UnlistsOne, UnlistsNone}
 use Rattle.mem_machine.specs.Local.{local_of, phase_of, part_of, part_with, visit_state}
 use Rattle.mem_machine.specs.Steps.{unlist_steps}
 use Rattle.mem_machine.proofs.Reaching.{zone_step, cpu_step}
@@ -197,7 +197,7 @@ module _ (t : KnownTable) (w : KnownStockTable) (m : KnownMachine) (c : KnownCpu
 pub record AllTaken (t : KnownTable) (w : KnownStockTable) (now : KnownMachine) (c : KnownCpu) (f : ℕ) (n : KnownMachine) (d : KnownCpu) (free : List Bool) : Type 0 where
   pub consistent : IsConsistent t w n
   pub free_is : free ≡ free_of n.frame_states
-  pub takes : TakesOneBack f (visit_state now c) (visit_state n d)
+  pub takes : UnlistsOne f (visit_state now c) (visit_state n d)
   pub steps : LeadsAs t c.number (visit_state now c) (unlist_steps c.number f) (visit_state n d)
   pub visit : Visits t (visit_state n d)
 
@@ -240,7 +240,7 @@ take_all t w m now same c h d tied ok visit_now before free k blocks f i seat wa
 
 -- the list is empty
 pub taken_none : (m now : KnownMachine) → m ≡ now → (c d : KnownCpu) (seat : KnownSeat) → (c.list ≡ []) × (d ≡ c) → seat ≡ m.frame_seat
-    → TakesNoneBack (visit_state now c) (visit_state (record m { frame_seat = seat }) d)
+    → UnlistsNone (visit_state now c) (visit_state (record m { frame_seat = seat }) d)
 taken_none m now same c d seat none is = record { none = none.0; stays = record { machine = (λ i. record m { frame_seat = is i }) ∙ same; cpu = none.1 } }
 
 -- the frame passes for the CPU once it was handed

@@ -7,7 +7,7 @@ use Rattle.cpu_part.specs.Cpus.{KnownCpu}
 use Rattle.kill_notes.specs.Notes.{KnownNotes}
 use Rattle.step_watch.specs.Watched.{KnownWatch}
 use Rattle.mem_machine.specs.Machines.{KnownMachine, VisitState, IsConsistent, Visits, visit_state, with_watch}
-use Rattle.mem_machine.specs.Lending.{LendsFrame, LendsOne, TakesOneBack}
+use Rattle.mem_machine.specs.Lending.{LendsFrame, LendsOne, UnlistsOne}
 use Rattle.mem_machine.specs.Settling.{KeepsFresh, DropsFresh, ReturnsBack}
 use Rattle.mem_machine.specs.Releasing.{LeavesReferences, ReturnsUnit}
 use Rattle.mem_machine.specs.Evicting.{MissesUnit, EvictsUnit}
@@ -56,7 +56,7 @@ module _ (a : VisitState) (n : KnownMachine) (d : KnownCpu) (v : KnownWatch) whe
   pub lends_one_still : (f : ℕ) → LendsOne f a (visit_state n d) → LendsOne f a (visit_state (with_watch n v) d)
   lends_one_still f does = record { front = does.front; lends = lends_still f does.lends }
 
-  pub takes_still : (f : ℕ) → TakesOneBack f a (visit_state n d) → TakesOneBack f a (visit_state (with_watch n v) d)
+  pub takes_still : (f : ℕ) → UnlistsOne f a (visit_state n d) → UnlistsOne f a (visit_state (with_watch n v) d)
   takes_still f does = record { rest = does.rest; front = does.front; areas = does.areas; machine = λ i. with_watch (does.machine i) v; cpu = does.cpu }
 
   pub keeps_still : (g f : ℕ) → KeepsFresh g f a (visit_state n d) → KeepsFresh g f a (visit_state (with_watch n v) d)

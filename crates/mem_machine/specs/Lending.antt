@@ -64,7 +64,7 @@ pub record Refills (table : KnownTable) (count : ℕ) (before after : VisitState
   pub steps : Makes table before (refill_steps before.cpu.number frames) after
 
 -- the frame was at the front of the CPU's list and is free again
-pub record TakesOneBack (frame : ℕ) (before after : VisitState) : Type 0 where
+pub record UnlistsOne (frame : ℕ) (before after : VisitState) : Type 0 where
   pub rest : List ℕ
   pub front : before.cpu.list ≡ frame ∷ rest
   pub areas : AreMaximalBlocks (free_of after.machine.frame_states) after.machine.blocks
@@ -77,25 +77,25 @@ pub record TakesOneBack (frame : ℕ) (before after : VisitState) : Type 0 where
   pub cpu : after.cpu ≡ record before.cpu { list = rest; frame_seat = seat_with before.cpu.frame_seat frame gave_back }
 
 -- the list is empty, and nothing changed
-pub record TakesNoneBack (before after : VisitState) : Type 0 where
+pub record UnlistsNone (before after : VisitState) : Type 0 where
   pub none : before.cpu.list ≡ []
   pub stays : VisitStateStays before after
 
 -- these frames are returned to the zone, one after the other
-abbrev pub TakesManyBack : List ℕ → VisitState → VisitState → Type 0
-TakesManyBack frames before after = OneByOne TakesOneBack frames before after
+abbrev pub UnlistsMany : List ℕ → VisitState → VisitState → Type 0
+UnlistsMany frames before after = OneByOne UnlistsOne frames before after
 
 -- one frame is returned to the zone, by its steps
-pub record TakesBackByStep (table : KnownTable) (before after : VisitState) : Type 0 where
+pub record UnlistsByStep (table : KnownTable) (before after : VisitState) : Type 0 where
   pub frame : ℕ
-  pub takes : TakesOneBack frame before after
+  pub takes : UnlistsOne frame before after
   pub steps : Makes table before (unlist_steps before.cpu.number frame) after
 
 -- what returning one frame to the zone leaves, by its result: true if the front of the list is free again, false if the
 -- list is empty
-abbrev pub TakesBackIfListed : KnownTable → Bool → VisitState → VisitState → Type 0
-TakesBackIfListed table true before after = TakesBackByStep table before after
-TakesBackIfListed table false before after = TakesNoneBack before after
+abbrev pub UnlistsIfListed : KnownTable → Bool → VisitState → VisitState → Type 0
+UnlistsIfListed table true before after = UnlistsByStep table before after
+UnlistsIfListed table false before after = UnlistsNone before after
 
 -- the steps that return this many frames from the front of the CPU's list to the zone
 abbrev pub unlist_front_steps : ℕ → VisitState → Run

@@ -6,7 +6,7 @@ ghost use Rattle.mem_machine.specs.declared.frame_state.FrameState.TheVariants.{
 ghost use Rattle.mem_machine.specs.FrameStates.{frame_state_at};
 ghost use Rattle.mem_machine.specs.Machines.{Visits};
 ghost use Rattle.mem_machine.specs.Lending.{HasListRoom, LendsIfFree, LendsFrame, Refills};
-ghost use Rattle.mem_machine.specs.Lending.{TakesBackIfListed, TakesManyBack, unlist_front_steps};
+ghost use Rattle.mem_machine.specs.Lending.{UnlistsIfListed, UnlistsMany, unlist_front_steps};
 ghost use Rattle.mem_machine.specs.Local.{Makes, MakesBy, visit_state};
 ghost use Rattle.mem_machine.specs.Steps.{lend_steps};
 
@@ -88,9 +88,9 @@ impl<N: BootName> Machine<N> {
     }
 
     // Frees the front of the CPU's list, if there is one.
-    fn take_one_back(&mut self, tables: &Tables<N>, cpu: &mut Cpu<N>) -> bool
+    fn unlist_one(&mut self, tables: &Tables<N>, cpu: &mut Cpu<N>) -> bool
         requires { Visits N.frames (visit_state self.old cpu.old) }
-        ensures takes { TakesBackIfListed N.frames result (visit_state self.old cpu.old)
+        ensures takes { UnlistsIfListed N.frames result (visit_state self.old cpu.old)
             (visit_state self.new cpu.new) }
         ensures visit { Visits N.frames (visit_state self.new cpu.new) }
     {
@@ -116,7 +116,7 @@ impl<N: BootName> Machine<N> {
         requires { Visits N.frames (visit_state self.old cpu.old) }
         ensures at_most { result ≤ count }
         ensures listed { result ≤ length cpu.old.list }
-        ensures takes { TakesManyBack (take result cpu.old.list) (visit_state self.old cpu.old)
+        ensures takes { UnlistsMany (take result cpu.old.list) (visit_state self.old cpu.old)
             (visit_state self.new cpu.new) }
         ensures fewer_only_at_the_end { result < count → cpu.new.list ≡ [] }
         ensures visit { Visits N.frames (visit_state self.new cpu.new) }
@@ -124,7 +124,7 @@ impl<N: BootName> Machine<N> {
             (visit_state self.new cpu.new) }
     {
         for taken in 0..count {
-            if !self.take_one_back(tables, cpu) {
+            if !self.unlist_one(tables, cpu) {
                 return taken;
             }
         }

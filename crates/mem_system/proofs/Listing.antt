@@ -11,7 +11,7 @@ use Rattle.mem_machine.specs.declared.frame_state.FrameState.TheVariants.{Free}
 use Rattle.mem_machine.specs.declared.releasing.Released.TheVariants.{Returned}
 use Rattle.mem_machine.specs.FrameStates.{frame_state_at}
 use Rattle.mem_machine.specs.Machines.{KnownMachine}
-use Rattle.mem_machine.specs.Lending.{TakesManyBack}
+use Rattle.mem_machine.specs.Lending.{UnlistsMany}
 use Rattle.mem_machine.specs.Local.{visit_state, MakesAs}
 use Rattle.mem_machine.specs.Releasing.{ReturnsUnit, release_steps}
 use Rattle.mem_system.specs.Commands.{BySteps}
@@ -35,7 +35,7 @@ pub record Cut (frames : List ℕ) (m : KnownMachine) (c : KnownCpu) (n : KnownM
   pub opened : n.frame_seat.view.opened ≡ m.frame_seat.view.opened
   pub free : (f : ℕ) → frame_state_at m.frame_states f ≡ Free → frame_state_at n.frame_states f ≡ Free
 
-pub cut_off : (frames : List ℕ) (m : KnownMachine) (c : KnownCpu) (n : KnownMachine) (d : KnownCpu) → TakesManyBack frames (visit_state m c) (visit_state n d) → Cut frames m c n d
+pub cut_off : (frames : List ℕ) (m : KnownMachine) (c : KnownCpu) (n : KnownMachine) (d : KnownCpu) → UnlistsMany frames (visit_state m c) (visit_state n d) → Cut frames m c n d
 cut_off [] m c n d t = record {
   split = sym (ap (λ (e : KnownCpu). e.list) t.cpu);
   number = ap (λ (e : KnownCpu). e.number) t.cpu;

@@ -12,7 +12,7 @@ use Rattle.mem_machine.specs.declared.frame_state.FrameState.{FrameState}
 use Rattle.mem_machine.specs.declared.frame_state.FrameState.TheVariants.{Free, Lent}
 use Rattle.mem_machine.specs.FrameStates.{frame_state_at}
 use Rattle.mem_machine.specs.Machines.{KnownMachine, with_watch}
-use Rattle.mem_machine.specs.Lending.{TakesManyBack}
+use Rattle.mem_machine.specs.Lending.{UnlistsMany}
 use Rattle.mem_machine.specs.Stocks.{Drains, stock_group}
 use Rattle.mem_machine.specs.Local.{visit_state, MakesAs}
 use Rattle.mem_machine.specs.Settling.{Settles, settle_steps}
@@ -89,7 +89,7 @@ pub record TakenAlone (m : KnownMachine) (c : KnownCpu) (n : KnownMachine) (d : 
   pub stock_seat : n.stock_seat ≡ m.stock_seat
   pub pins : d.pins ≡ c.pins
 
-pub taken_alone : (frames : List ℕ) (m : KnownMachine) (c : KnownCpu) (n : KnownMachine) (d : KnownCpu) → TakesManyBack frames (visit_state m c) (visit_state n d) → TakenAlone m c n d
+pub taken_alone : (frames : List ℕ) (m : KnownMachine) (c : KnownCpu) (n : KnownMachine) (d : KnownCpu) → UnlistsMany frames (visit_state m c) (visit_state n d) → TakenAlone m c n d
 taken_alone [] m c n d t = record {
   lent = λ f p is. sym (ap (λ (k : KnownMachine). frame_state_at k.frame_states f) t.machine) ∙ is;
   stock_seat = ap (λ (k : KnownMachine). k.stock_seat) t.machine;
@@ -107,7 +107,7 @@ taken_alone (f ∷ rest) m c n d t =
 -- the visit leaves alone whom a frame is lent to, and which stocks are drained
 pub emptied_alone : (m entered x y n : KnownMachine) (c1 c2 : KnownCpu) (frames : List ℕ) (p q k : ℕ)
     → entered ≡ with_watch (with_visit_of m p 1) entered.watch
-    → TakesManyBack frames (visit_state entered c1) (visit_state x c2) → Drains q k x y → n ≡ with_watch (with_visit_of y p 0) n.watch → LendsAndFillsNone m n
+    → UnlistsMany frames (visit_state entered c1) (visit_state x c2) → Drains q k x y → n ≡ with_watch (with_visit_of y p 0) n.watch → LendsAndFillsNone m n
 emptied_alone m entered x y n c1 c2 frames p q k opened takes drains shut =
     let taken = taken_alone frames entered c1 x c2 takes in
     let frame_states : n.frame_states ≡ x.frame_states = ap (λ (z : KnownMachine). z.frame_states) shut ∙ ap (λ (z : KnownMachine). z.frame_states) drains.machine in
@@ -135,7 +135,7 @@ pub emptied : (t : KnownTable) (m n : KnownMachine) (c d : KnownCpu) (entered x 
     → entered ≡ with_watch (with_visit_of m c.number 1) entered.watch → c1 ≡ c → c2.number ≡ c1.number → q ≡ c2.number
     → n ≡ with_watch (with_visit_of y c2.number 0) n.watch → d ≡ c2
     → take k c1.list ≡ c1.list → MakesAs t c.number (visit_state m c) (open_steps c.number) (visit_state entered c1)
-    → TakesManyBack (take k c1.list) (visit_state entered c1) (visit_state x c2)
+    → UnlistsMany (take k c1.list) (visit_state entered c1) (visit_state x c2)
     → MakesAs t c1.number (visit_state entered c1) (drain_list_steps c1.number (take k c1.list)) (visit_state x c2)
     → Drains q pages x y
     → ((e : KnownCpu) → MakesAs t e.number (visit_state x e) (drain_steps q (stock_group x q) pages) (visit_state y e))
@@ -149,8 +149,8 @@ emptied t m n c d entered x y c1 c2 k q pages opened same second named shut afte
     let list : take k c1.list ≡ c.list = whole ∙ ap (λ (z : KnownCpu). z.list) same in
     let before : KnownMachine × KnownCpu → Type 0 = λ (z : KnownMachine × KnownCpu). MakesAs t p (visit_state m c) (open_steps p) (visit_state z.0 z.1) in
     let begun : MakesAs t p (visit_state m c) (open_steps p) (visit_state begins c) = subst before (λ i. (opened i, same i)) first in
-    let taken : TakesManyBack c.list (visit_state begins c) (visit_state x c2) =
-    subst (λ (z : List ℕ × KnownMachine × KnownCpu). TakesManyBack z.0 (visit_state z.1 z.2) (visit_state x c2)) (λ i. (list i, opened i, same i)) takes in
+    let taken : UnlistsMany c.list (visit_state begins c) (visit_state x c2) =
+    subst (λ (z : List ℕ × KnownMachine × KnownCpu). UnlistsMany z.0 (visit_state z.1 z.2) (visit_state x c2)) (λ i. (list i, opened i, same i)) takes in
     let given : MakesAs t p (visit_state begins c) (drain_list_steps p c.list) (visit_state x c2) =
     subst (λ (z : List ℕ × KnownMachine × KnownCpu). MakesAs t z.2.number (visit_state z.1 z.2) (drain_list_steps z.2.number z.0) (visit_state x c2))
     (λ i. (list i, opened i, same i)) gives in
@@ -161,7 +161,7 @@ emptied t m n c d entered x y c1 c2 k q pages opened same second named shut afte
       does = record {
         emptied = x;
         seen = entered.watch;
-        takes = subst (λ (z : KnownCpu). TakesManyBack c.list (visit_state begins c) (visit_state x z)) (sym after) taken;
+        takes = subst (λ (z : KnownCpu). UnlistsMany c.list (visit_state begins c) (visit_state x z)) (sym after) taken;
         pages = pages;
         drained = y;
         drains = subst (λ (r : ℕ). Drains r pages x y) its drains;

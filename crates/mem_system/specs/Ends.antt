@@ -15,7 +15,7 @@ use Rattle.group_tree.specs.Room.{max_count}
 use Rattle.cpu_part.specs.Cpus.{KnownCpu, IsTied, IsIdle}
 use Rattle.mem_machine.specs.Machines.{KnownMachine, IsConsistent, home_of, with_watch}
 use Rattle.mem_machine.specs.Settling.{Settles}
-use Rattle.mem_machine.specs.Lending.{TakesManyBack}
+use Rattle.mem_machine.specs.Lending.{UnlistsMany}
 use Rattle.mem_machine.specs.Stocks.{Drains, stock_group}
 use Rattle.mem_machine.specs.Steps.{cpu_makes, open_steps, shut_steps, drain_list_steps, drain_steps}
 use Rattle.mem_machine.specs.Places.{frames_free, frames_in_groups, NoneLentTo}
@@ -47,7 +47,7 @@ pub record SettlesInVisit (call : Transition VisitState) : Type 0 where
 pub record Empties (call : Transition VisitState) : Type 0 where
   pub emptied : KnownMachine
   pub seen : KnownWatch
-  pub takes : TakesManyBack call.before.cpu.list (with_watch_at (visited call.before) seen)
+  pub takes : UnlistsMany call.before.cpu.list (with_watch_at (visited call.before) seen)
       (visit_state emptied call.after.cpu)
   pub pages : ℕ
   pub drained : KnownMachine

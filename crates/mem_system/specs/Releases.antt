@@ -7,7 +7,7 @@ use Rattle.mem_machine.specs.declared.releasing.Released.TheVariants as released
 use Rattle.mem_machine.specs.Machines.{KnownMachine}
 use Rattle.mem_machine.specs.Local.{VisitState, visit_state}
 use Rattle.mem_machine.specs.Releasing.{LeavesReferences, ReturnsUnit, release_steps}
-use Rattle.mem_machine.specs.Lending.{LendsFrame, TakesManyBack}
+use Rattle.mem_machine.specs.Lending.{LendsFrame, UnlistsMany}
 use Rattle.mem_machine.specs.Steps.{lend_steps, drain_list_steps}
 use Rattle.mem_alloc.specs.Stepping.{Transition, OfMachineAlone, Stays, transition}
 use Rattle.mem_system.specs.declared.command.Reply.{Reply}
@@ -19,7 +19,7 @@ pub record CutsList (sizes : Config) (call : Transition VisitState) : Type 0 whe
   pub cut : List ℕ
   pub at_high : sizes.high ≤ length call.before.cpu.list → cut ≡ take sizes.batch call.before.cpu.list
   pub below_high : length call.before.cpu.list < sizes.high → cut ≡ []
-  pub takes : TakesManyBack cut call.before call.after
+  pub takes : UnlistsMany cut call.before call.after
   pub steps_are : call.steps ≡ drain_list_steps call.before.cpu.number cut
 
 -- the CPU's list is cut if it has at least `high` frames; then the free frame is added to its end

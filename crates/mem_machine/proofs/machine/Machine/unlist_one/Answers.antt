@@ -7,7 +7,7 @@ use Rattle.step_watch.proofs.Watching.{watches_both}
 use Rattle.mem_machine.specs.Steps.{unlist_steps}
 use Rattle.mem_machine.proofs.Followed.{makes_watched}
 use Rattle.mem_machine.proofs.Watched.{consistent_still, takes_still, visits_still}
-use Rattle.mem_machine.proofs.machine.Machine.take_one_back.Goals as goal
+use Rattle.mem_machine.proofs.machine.Machine.unlist_one.Goals as goal
 
 pub collect-requires-clause-passes : goal.collect-requires-clause-passes
 collect-requires-clause-passes g c =
