@@ -5,7 +5,7 @@ use Rattle.std.proofs.lemmas.List.Sums.{sum_by-set}
 use Rattle.std.proofs.lemmas.Option.{slice_get_within, get_or_from_slice_get, none-some}
 use Rattle.kill_notes.specs.declared.note.Note.{Note}
 use Rattle.kill_notes.specs.declared.note.Note.TheVariants.{Reclaimed}
-use Rattle.kill_notes.specs.Notes.{KnownNotes, is_run, joined, last_told, last_frame}
+use Rattle.kill_notes.specs.Notes.{KnownNotes, is_run, joined, last_noted, last_frame}
 
 same_note : (a b : Note) → Some a ≡ Some b → a ≡ b
 same_note a b e = cc
@@ -41,10 +41,10 @@ last_there false list x e = absurd (none-some x e)
 abbrev counted : Bool → ℕ
 counted b = cond b 1 0
 
-pub runs_kept : (notes : KnownNotes) (g f k : ℕ) (run : Note) → joined (last_told notes) g f k ≡ Some run
+pub runs_kept : (notes : KnownNotes) (g f k : ℕ) (run : Note) → joined (last_noted notes) g f k ≡ Some run
     → count_by is_run (slice_set notes.list (length notes.list - 1) run) ≡ count_by is_run notes.list
 runs_kept notes g f k run e =
-    let runs = joined_runs (last_told notes) g f k run e in
+    let runs = joined_runs (last_noted notes) g f k run e in
     let list = notes.list in
     let at : ℕ = length list - 1 in
     let there = last_there (notes.left_out == 0) list runs.old runs.is in

@@ -18,11 +18,11 @@ most_runs = 1024
 pub record KnownNotes : Type 0 where
   pub list : List Note
   pub left_out : ℕ
-  pub tells_units : Bool
+  pub notes_units : Bool
 
 -- nothing is noted, and freed units won't be
 abbrev pub no_notes : KnownNotes
-no_notes = record { list = []; left_out = 0; tells_units = false }
+no_notes = record { list = []; left_out = 0; notes_units = false }
 
 -- the list with one more note at the end, as long as there are fewer than `most_notes`
 abbrev pub added : List Note → Note → List Note
@@ -58,8 +58,8 @@ joined (Some (Reclaimed owner low high)) group first frames =
 joined _ group first frames = None
 
 -- the note that the next freed unit may join: the last one, if each freed unit was noted so far
-abbrev pub last_told : KnownNotes → Option Note
-last_told notes = if notes.left_out == 0 then slice_get notes.list (length notes.list - 1) else None
+abbrev pub last_noted : KnownNotes → Option Note
+last_noted notes = if notes.left_out == 0 then slice_get notes.list (length notes.list - 1) else None
 
 -- the notes with a new run, which is this unit; if there is no room for a run, its frames are left out
 abbrev pub with_new_run : KnownNotes → (group first frames : ℕ) → KnownNotes
@@ -78,4 +78,4 @@ with_run None notes group first frames = with_new_run notes group first frames
 -- the unit joins the last run if it can, and is a new run otherwise.
 abbrev pub unit_noted : KnownNotes → (group first frames : ℕ) → KnownNotes
 unit_noted notes group first frames =
-    if notes.tells_units then with_run (joined (last_told notes) group first frames) notes group first frames else notes
+    if notes.notes_units then with_run (joined (last_noted notes) group first frames) notes group first frames else notes

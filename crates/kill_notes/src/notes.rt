@@ -1,7 +1,7 @@
 //! The notes of a visit.
 
 ghost use Rattle.std.specs.Prelude.{◌≡◌, IfOk};
-ghost use Rattle.kill_notes.specs.Notes.{forgotten, joined, last_told, no_notes, noted};
+ghost use Rattle.kill_notes.specs.Notes.{forgotten, joined, last_noted, no_notes, noted};
 ghost use Rattle.kill_notes.specs.Notes.{unit_noted, with_new_run, with_run};
 
 use crate::note::Note;
@@ -31,7 +31,7 @@ pub struct Notes {
     // How many freed frames no note tells of.
     left_out: u64,
     // Whether freed units are noted.
-    tells_units: bool,
+    notes_units: bool,
 }
 
 impl Model for Notes {
@@ -40,7 +40,7 @@ impl Model for Notes {
 
     ghost Value = { KnownNotes };
 
-    ghost view = { λ n. record { list = n.notes.items; left_out = n.left_out; tells_units = n.tells_units } };
+    ghost view = { λ n. record { list = n.notes.items; left_out = n.left_out; notes_units = n.notes_units } };
 
     ghost invariant = { λ n. (most_notes ≤ vec_capacity n.notes) × (n.runs ≡ count_by is_run n.notes.items) };
 }
@@ -56,15 +56,15 @@ impl Notes {
             notes,
             runs: 0,
             left_out: 0,
-            tells_units: false,
+            notes_units: false,
         })
     }
 
     /// Notes freed units from now on, or no longer. The notes stay.
-    pub fn tell_units(&mut self, is_on: bool)
-        ensures { self.new ≡ record self.old { tells_units = is_on } }
+    pub fn set_unit_notes(&mut self, is_on: bool)
+        ensures { self.new ≡ record self.old { notes_units = is_on } }
     {
-        self.tells_units = is_on;
+        self.notes_units = is_on;
     }
 
     /// Adds a note, unless there are 2,048.
@@ -85,14 +85,14 @@ impl Notes {
     pub fn note_unit(&mut self, group: GroupId, first: u32, frames: u32)
         ensures { self.new ≡ unit_noted self.old group first frames }
     {
-        if self.tells_units {
+        if self.notes_units {
             self.add_unit(group, first, frames);
         }
     }
 
     // The last run with this unit's frames, if the unit may join it.
     fn joined(&self, group: GroupId, first: u32, frames: u32) -> Option<Note>
-        ensures { result ≡ joined (last_told self.now) group first frames }
+        ensures { result ≡ joined (last_noted self.now) group first frames }
     {
         if self.left_out > 0 {
             return None;
@@ -102,7 +102,7 @@ impl Notes {
 
     // Notes a freed unit: it joins the last run, or is a new one.
     fn add_unit(&mut self, group: GroupId, first: u32, frames: u32)
-        ensures { self.new ≡ with_run (joined (last_told self.old) group first frames) self.old group first frames }
+        ensures { self.new ≡ with_run (joined (last_noted self.old) group first frames) self.old group first frames }
     {
         let Some(run) = self.joined(group, first, frames) else {
             self.add_run(group, first, frames);

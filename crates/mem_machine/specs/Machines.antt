@@ -63,8 +63,8 @@ abbrev pub without_notes : KnownMachine → KnownMachine
 without_notes machine = record machine { notes = forgotten machine.notes }
 
 -- the machine with freed units noted from now on, or not
-abbrev pub with_telling : KnownMachine → (is_on : Bool) → KnownMachine
-with_telling machine is_on = record machine { notes = record machine.notes { tells_units = is_on } }
+abbrev pub with_unit_notes : KnownMachine → (is_on : Bool) → KnownMachine
+with_unit_notes machine is_on = record machine { notes = record machine.notes { notes_units = is_on } }
 
 -- the machine with another watch
 abbrev pub with_watch : KnownMachine → KnownWatch → KnownMachine

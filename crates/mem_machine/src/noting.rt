@@ -1,7 +1,7 @@
 //! Notes of what was tried and reclaimed, for explanations.
 
 ghost use Rattle.std.specs.Prelude.{◌≡◌};
-ghost use Rattle.mem_machine.specs.Machines.{with_note, with_telling, without_notes};
+ghost use Rattle.mem_machine.specs.Machines.{with_note, with_unit_notes, without_notes};
 
 use crate::machine::Machine;
 use cpu_part::BootName;
@@ -25,10 +25,10 @@ impl<N: BootName> Machine<N> {
     }
 
     /// Notes each reclaimed unit from now on, or no longer. Nothing else changes, and no step is made.
-    pub fn tell_units(&mut self, is_on: bool)
-        ensures { self.new ≡ with_telling self.old is_on }
+    pub fn set_unit_notes(&mut self, is_on: bool)
+        ensures { self.new ≡ with_unit_notes self.old is_on }
     {
-        self.notes.tell_units(is_on);
+        self.notes.set_unit_notes(is_on);
     }
 
     /// Adds a note. Nothing else changes, and no step is made.

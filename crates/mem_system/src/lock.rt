@@ -4,7 +4,7 @@ ghost use Rattle.std.specs.Prelude.{◌≡◌, ◌∷◌, []};
 ghost use Rattle.group_tree.specs.Groups.{number_at};
 ghost use Rattle.group_charge.specs.Charges.{AreCharges};
 ghost use Rattle.step_watch.specs.Watched.{Watches};
-ghost use Rattle.mem_machine.specs.Machines.{IsConsistent, with_telling, with_watch};
+ghost use Rattle.mem_machine.specs.Machines.{IsConsistent, with_unit_notes, with_watch};
 ghost use Rattle.mem_machine.specs.Steps.{cpu_makes};
 ghost use Rattle.mem_system.specs.Locked.{IsQuiet};
 
@@ -76,10 +76,10 @@ impl<N: BootName> Locked<N> {
     }
 
     /// Notes each unit that is reclaimed from now on, or no longer. Nothing else changes.
-    pub fn tell_units(&mut self, is_on: bool)
-        ensures { self.new ≡ record self.old { machine = with_telling self.old.machine is_on } }
+    pub fn set_unit_notes(&mut self, is_on: bool)
+        ensures { self.new ≡ record self.old { machine = with_unit_notes self.old.machine is_on } }
     {
-        self.machine.tell_units(is_on);
+        self.machine.set_unit_notes(is_on);
     }
 
     /// Puts a watch into the machine. A boot does this before the first step.

@@ -37,7 +37,7 @@ use Rattle.step_watch.proofs.Watching.{watches_none}
 use Rattle.mem_machine.specs.declared.frame_state.FrameState.{FrameState}
 use Rattle.mem_machine.specs.declared.frame_state.FrameState.TheVariants as frame_state_is
 use Rattle.mem_machine.specs.FrameStates.{frame_state_at}
-use Rattle.mem_machine.specs.Machines.{KnownMachine, visit_state, with_telling, with_watch}
+use Rattle.mem_machine.specs.Machines.{KnownMachine, visit_state, with_unit_notes, with_watch}
 use Rattle.mem_machine.specs.Local.{local_of, phase_of, number_or_0, Makes, IsLocalRun}
 use Rattle.mem_machine.specs.Interleaving.{zone_of}
 use Rattle.mem_machine.specs.Steps.{cpu_makes}
@@ -62,7 +62,8 @@ use Rattle.reply_texts.specs.Answer as answer
 use Rattle.script_replay.specs.declared.work.Work.{Work}
 use Rattle.script_replay.specs.declared.work.Work.TheVariants as work
 use Rattle.script_replay.specs.Answers.{RepliesServed, GetsPin, PutsPin, CanNotList, AnswersRelease, AnswersFrame, IsServedUnderLock, SettlesUnderLock}
-use Rattle.script_replay.specs.Answers.{AnswersWork, OnlyWatched, WritesWork, fast_steps, get_steps, put_steps, locked_with_telling, locked_with_watch}
+use Rattle.script_replay.specs.Answers.{AnswersWork, OnlyWatched, WritesWork, fast_steps, get_steps, put_steps}
+use Rattle.script_replay.specs.Answers.{locked_with_unit_notes, locked_with_watch}
 use Rattle.script_replay.specs.Ranges.{WorkInRange}
 use Rattle.script_replay.proofs.Looking.{IsLookedAt, shut_before, stock_looked, units_looked}
 use Rattle.group_charge.specs.Charges.{Ledger}
@@ -142,7 +143,7 @@ shows_watched t run m cpus watch shows = record {
 
 -- nor does it matter whether units are told
 pub shows_told : (t : KnownTable) (run : Run) (m : KnownMachine) (cpus : List KnownCpu) (is_on : Bool) (watch : KnownWatch) → ShowsAll t run m cpus
-    → ShowsAll t run (with_watch (with_telling m is_on) watch) cpus
+    → ShowsAll t run (with_watch (with_unit_notes m is_on) watch) cpus
 shows_told t run m cpus is_on watch shows = record {
   legal = shows.legal;
   free = shows.free;
@@ -213,7 +214,7 @@ module _ (t : KnownTable) (w : KnownStockTable) (run : Run) (locked : KnownLocke
       )
 
   -- served under the lock, which the watch has taken, after a look at its own stock
-  served_follows : (seen : KnownCpu) → IsUnseen t m c seen → (found : KnownLocked) (is_explained : Bool) (watch : KnownWatch) → found ≡ locked_with_watch (locked_with_telling locked is_explained) watch →
+  served_follows : (seen : KnownCpu) → IsUnseen t m c seen → (found : KnownLocked) (is_explained : Bool) (watch : KnownWatch) → found ≡ locked_with_watch (locked_with_unit_notes locked is_explained) watch →
       (cmd : Cmd) (reply : Reply) (after : LockedState) → (is : IsServed t cmd reply (locked_state found seen) after) → AllShut after.locked.machine →
       GoesOn (under_lock p is.steps) → Follows (under_lock p is.steps) after
   served_follows seen unseen found is_explained watch locks cmd reply after is shut legal =

@@ -14,10 +14,10 @@ use Rattle.mem_system.specs.declared.outcome.Outcome.{Outcome}
 use Rattle.mem_system.specs.Locked.{KnownLocked}
 use Rattle.mem_system.specs.Outcomes.{HasItsGroups, reply_of}
 use Rattle.mem_system.specs.Visits.{IsServed, ServesOutcome, locked_state}
-use Rattle.script_replay.specs.Answers.{OnlyWatched, ServesUnderLock, locked_with_telling}
+use Rattle.script_replay.specs.Answers.{OnlyWatched, ServesUnderLock, locked_with_unit_notes}
 
 module _ (t : KnownTable) (is_explained : Bool) (cmd : Cmd) (before found left after : KnownLocked) (c d : KnownCpu) (number : ℕ) (named : number ≡ c.number)
-    (lock : OnlyWatched (cpu_makes number Lock step_answer.Done ∷ []) (locked_with_telling before is_explained) found) (unlock : OnlyWatched (cpu_makes number Unlock step_answer.Done ∷ []) left after) where
+    (lock : OnlyWatched (cpu_makes number Lock step_answer.Done ∷ []) (locked_with_unit_notes before is_explained) found) (unlock : OnlyWatched (cpu_makes number Unlock step_answer.Done ∷ []) left after) where
   -- the watch took a Lock before the command, and an Unlock after it
   pub served_locked : (reply : Reply) → IsServed t cmd reply (locked_state found c) (locked_state left d)
       → ServesUnderLock t is_explained cmd reply (locked_state before c) (locked_state after d)
@@ -26,7 +26,7 @@ module _ (t : KnownTable) (is_explained : Bool) (cmd : Cmd) (before found left a
     served = record {
       found = found;
       left = left;
-      lock = subst (λ (n : ℕ). OnlyWatched (cpu_makes n Lock step_answer.Done ∷ []) (locked_with_telling before is_explained) found) named lock;
+      lock = subst (λ (n : ℕ). OnlyWatched (cpu_makes n Lock step_answer.Done ∷ []) (locked_with_unit_notes before is_explained) found) named lock;
       served = served;
       unlock = subst (λ (n : ℕ). OnlyWatched (cpu_makes n Unlock step_answer.Done ∷ []) left after) named unlock;
       steps_are = refl;

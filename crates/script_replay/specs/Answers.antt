@@ -26,7 +26,7 @@ use Rattle.kill_texts.specs.Explanation.{explanation_text}
 use Rattle.machine_texts.specs.Blocks.{blocks_text}
 use Rattle.machine_texts.specs.Show.{show_text}
 use Rattle.machine_texts.specs.Stock.{stock_line_text}
-use Rattle.mem_machine.specs.Machines.{KnownMachine, with_telling, with_watch}
+use Rattle.mem_machine.specs.Machines.{KnownMachine, with_unit_notes, with_watch}
 use Rattle.mem_machine.specs.Steps.{cpu_makes}
 use Rattle.mem_machine.specs.Stocks.{with_look}
 use Rattle.mem_history.specs.Whole.{under_lock}
@@ -75,8 +75,8 @@ abbrev pub locked_with_watch : KnownLocked → KnownWatch → KnownLocked
 locked_with_watch locked watch = record locked { machine = with_watch locked.machine watch }
 
 -- the same behind the lock, with reclaimed units noted from now on, or not
-abbrev pub locked_with_telling : KnownLocked → (is_on : Bool) → KnownLocked
-locked_with_telling locked is_on = record locked { machine = with_telling locked.machine is_on }
+abbrev pub locked_with_unit_notes : KnownLocked → (is_on : Bool) → KnownLocked
+locked_with_unit_notes locked is_on = record locked { machine = with_unit_notes locked.machine is_on }
 
 -- the watch of the machine takes these steps, and nothing else changes behind the lock
 pub record OnlyWatched (steps : Run) (before after : KnownLocked) : Type 0 where
@@ -159,7 +159,7 @@ pub record IsServedUnderLock (is_explained : Bool) (cmd : Cmd) (seen : KnownCpu)
   pub found : KnownLocked
   pub left : KnownLocked
   pub lock : OnlyWatched (cpu_makes seen.number step.Lock step_answer.Done ∷ [])
-      (locked_with_telling call.before.locked is_explained) found
+      (locked_with_unit_notes call.before.locked is_explained) found
   pub served : IsServed call.table cmd reply (locked_state found seen) (locked_state left call.after.cpu)
   pub unlock : OnlyWatched (cpu_makes seen.number step.Unlock step_answer.Done ∷ []) left call.after.locked
   pub steps_are : call.steps ≡ under_lock seen.number served.steps

@@ -11,7 +11,7 @@ ghost use Rattle.mem_system.specs.declared.command.Reply.TheVariants as reply;
 ghost use Rattle.mem_system.specs.Commands.{IsOfZone};
 ghost use Rattle.mem_system.specs.Outcomes.{HasItsGroups, reply_of};
 ghost use Rattle.mem_system.specs.Visits.{locked_state};
-ghost use Rattle.script_replay.specs.Answers.{OnlyWatched, ServesUnderLock, locked_with_telling};
+ghost use Rattle.script_replay.specs.Answers.{OnlyWatched, ServesUnderLock, locked_with_unit_notes};
 
 use cpu_part::{BootName, Cpu, Tables};
 use group_tree::group::GroupId;
@@ -34,9 +34,9 @@ fn watch_lock<N: BootName>(locked: &mut Locked<N>, cpu: u32)
 // This CPU takes the lock for a command. Reclaimed units are noted from now on exactly if the command is explained.
 #[inline(always)]
 fn lock<N: BootName>(locked: &mut Locked<N>, cpu: u32, is_explained: bool)
-    ensures { OnlyWatched (cpu_makes cpu Lock Done ∷ []) (locked_with_telling locked.old is_explained) locked.new }
+    ensures { OnlyWatched (cpu_makes cpu Lock Done ∷ []) (locked_with_unit_notes locked.old is_explained) locked.new }
 {
-    locked.tell_units(is_explained);
+    locked.set_unit_notes(is_explained);
     watch_lock(locked, cpu);
 }
 
