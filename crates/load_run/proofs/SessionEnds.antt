@@ -6,7 +6,7 @@ use Rattle.stock_word.specs.Stock.{KnownStockTable}
 use Rattle.cpu_part.specs.Cpus.{KnownCpu}
 use Rattle.zone_sizes.specs.declared.config.Config.{Config}
 use Rattle.mem_machine.specs.Machines.{IsFirst}
-use Rattle.mem_history.proofs.Told.{a_boot_tells}
+use Rattle.mem_history.proofs.Agreeing.{a_boot_agrees}
 use Rattle.mem_system.specs.Boots.{IsSizedAs, first_cpus}
 use Rattle.mem_system.specs.Locked.{KnownLocked}
 use Rattle.script_replay.specs.Lines.{SystemState, system_state}
@@ -179,7 +179,7 @@ module _ (booted : Config) (options : Options) (is_explained : Bool) (t : KnownT
     session = session;
     history = session.holds.replays.history [] (boot_shown booted t w locked.machine cpus sized machine first)
         (parts_tied booted t w locked.machine cpus sized machine first);
-    told = a_boot_tells t w locked.machine machine;
+    told = a_boot_agrees t w locked.machine machine;
     ends = record { ended = ended; ends = ends; text_is = refl };
   }
 

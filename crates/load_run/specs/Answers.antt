@@ -9,7 +9,7 @@ use Rattle.zone_sizes.specs.Config.{IsValidConfig}
 use Rattle.step_rules.specs.After.{Run as StepRun, IsLegalRun}
 use Rattle.mem_core.specs.Promise.{AlwaysKeepsPromise}
 use Rattle.mem_machine.specs.Interleaving.{zone_of}
-use Rattle.mem_machine.specs.Telling.{TellsRun}
+use Rattle.mem_machine.specs.Agreeing.{AgreesWithRun}
 use Rattle.mem_system.specs.Locked.{IsQuiet}
 use Rattle.script_lines.specs.declared.line.Line.{Line}
 use Rattle.script_lines.specs.Script.{IsScript, longest_script}
@@ -47,7 +47,7 @@ pub record AreReplayAnswers (sizes : Config) (form : Form) (is_audited : Bool) (
   pub first : IsAfterBoot sizes frames stocks start
   pub served : ServesAll (form_terms frames stocks form) lines start end answers
   pub history : HasHistory (form_terms frames stocks form) lines (past [] start) end answers
-  pub told : TellsRun frames [] start.locked.machine.ledger
+  pub told : AgreesWithRun frames [] start.locked.machine.ledger
   pub ends : TellsEnd frames stocks is_audited end ending
   pub text_is : text ≡ answers ++ ending
 

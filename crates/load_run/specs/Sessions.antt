@@ -4,7 +4,7 @@ use Rattle.std.specs.Io.KnownBytes.{Appends}
 use Rattle.frame_word.specs.Seats.{KnownTable}
 use Rattle.stock_word.specs.Stock.{KnownStockTable}
 use Rattle.zone_sizes.specs.Config.{IsValidConfig}
-use Rattle.mem_machine.specs.Telling.{TellsRun}
+use Rattle.mem_machine.specs.Agreeing.{AgreesWithRun}
 use Rattle.script_replay.specs.History.{HasHistory, past}
 use Rattle.script_replay.specs.Lines.{SystemState}
 use Rattle.script_replay.specs.Terms.{terms}
@@ -35,7 +35,7 @@ pub record EndsSession (options : Options) (is_explained : Bool) (input before m
   pub session : ServesSession (terms frames stocks is_explained) options.sizes input start end before middle
   pub history : HasHistory (terms frames stocks is_explained) (lines_of session.turns) (past [] start) end
       (answers_of session.turns)
-  pub told : TellsRun frames [] start.locked.machine.ledger
+  pub told : AgreesWithRun frames [] start.locked.machine.ledger
   pub ends : TellsEnd frames stocks options.is_audited end ending
 
 -- a session ended, and all of the report was written behind its answers

@@ -8,5 +8,5 @@ pub mod Booting
 pub mod Currents
 pub mod Promised
 pub mod Leading
-pub mod Told
+pub mod Agreeing
 pub mod Deciding

@@ -1,5 +1,5 @@
 pub mod Whole
 pub mod Kept
 pub mod Leading
-pub mod Told
+pub mod Agreeing
 pub mod Decided

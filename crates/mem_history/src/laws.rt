@@ -4,7 +4,7 @@ ghost use Rattle.mem_history.specs.Whole.{LinesFollow, FastLinesFollow, TheHolde
 ghost use Rattle.mem_history.specs.Decided.{LegalLinesAreDecided, LegalFastStepsAreDecided};
 ghost use Rattle.mem_history.specs.Kept.{ABootIsShown, CurrentIsKept, TheFirstHolderIsShown, TheWholeIsPromised};
 ghost use Rattle.mem_history.specs.Leading.{FastCallsLead};
-ghost use Rattle.mem_history.specs.Told.{ABootTells, LinesTell, FastLinesTell};
+ghost use Rattle.mem_history.specs.Agreeing.{ABootAgrees, LinesAgree, FastLinesAgree};
 
 /// The run without steps shows a new boot.
 pub fn a_boot_is_shown()
@@ -53,19 +53,19 @@ pub fn fast_calls_lead()
 {}
 
 /// The ledger of a new boot agrees with the run without steps: the root's peak is 0, and so is each count.
-pub fn a_boot_tells()
-    ensures { ABootTells }
+pub fn a_boot_agrees()
+    ensures { ABootAgrees }
 {}
 
 /// If the peaks and event counts of the ledger are those of the run that shows the whole, they still are after a line
 /// under the lock.
-pub fn lines_tell()
-    ensures { LinesTell }
+pub fn lines_agree()
+    ensures { LinesAgree }
 {}
 
 /// They also still are after a step that takes no lock.
-pub fn fast_lines_tell()
-    ensures { FastLinesTell }
+pub fn fast_lines_agree()
+    ensures { FastLinesAgree }
 {}
 
 /// If the run that continues with a line under the lock is legal, then each answer in the line is what all parts

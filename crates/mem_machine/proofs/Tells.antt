@@ -1,4 +1,4 @@
--- The ledger has a run's peaks and event counts, and each call keeps this true. Serves `ledgers_tell`.
+-- The ledger has a run's peaks and event counts, and each call keeps this true. Serves `ledgers_agree`.
 use Rattle.std.proofs.Common.{◌≡◌, ◌≢◌, ℕ, ◌==◌, ◌&&◌, ◌++◌, Bool, true, false, [], ◌∷◌, cond, take, length, Option, Some, refl, sym, ap, ◌∙◌, subst, inl, inr, zero, suc, eq-eqb}
 use Rattle.std.specs.Prelude.{IfSome, max}
 use Rattle.std.specs.List.{slice_get}
@@ -30,7 +30,7 @@ use Rattle.step_rules.proofs.Noting.{events_are_counted}
 use Rattle.mem_machine.specs.Following.{Moves, moved_over, moves_peak, moves_count}
 use Rattle.mem_machine.specs.Local.{local_of, IsLocalRun}
 use Rattle.mem_machine.specs.Interleaving.{zone_of}
-use Rattle.mem_machine.specs.Telling.{LedgersTell}
+use Rattle.mem_machine.specs.Agreeing.{LedgersAgree}
 use Rattle.mem_machine.proofs.Followed.{is_still, only_made, Stays, Test, still_peak, below_stays, at_stays, count_begins}
 
 -- ---- steps of other CPUs
@@ -178,8 +178,8 @@ module _ (zone : Zone) (p m : ℕ) where
 
 -- ---- the law
 
-pub ledgers_tell : LedgersTell
-ledgers_tell t run steps mixed before after shows told makes mixes =
+pub ledgers_agree : LedgersAgree
+ledgers_agree t run steps mixed before after shows told makes mixes =
     let zone = zone_of t in
     let c = before.cpu in
     let p = c.number in

@@ -16,7 +16,7 @@ pub mod Freeing
 pub mod Lists
 pub mod Blocks
 pub mod Interleaving
-pub mod Telling
+pub mod Agreeing
 pub mod Releasing
 pub mod Evicting
 pub mod Settling

@@ -1,7 +1,7 @@
 //! Laws of every run, machine and CPU: each function ensures one.
 
 ghost use Rattle.mem_machine.specs.Interleaving.{CallsInterleave};
-ghost use Rattle.mem_machine.specs.Telling.{LedgersTell};
+ghost use Rattle.mem_machine.specs.Agreeing.{LedgersAgree};
 
 use step_rules::laws as rules;
 
@@ -18,6 +18,6 @@ pub fn calls_interleave()
 /// the ledger has each group's peak and event counts of that run. The run goes on with the call's steps, with any
 /// allowed steps of other CPUs between them. Then the ledger after the call has the peaks and event counts of the
 /// longer run.
-pub fn ledgers_tell()
-    ensures { LedgersTell }
+pub fn ledgers_agree()
+    ensures { LedgersAgree }
 {}

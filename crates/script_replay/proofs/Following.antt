@@ -42,14 +42,14 @@ use Rattle.mem_machine.specs.Local.{local_of, phase_of, number_or_0, Makes, IsLo
 use Rattle.mem_machine.specs.Interleaving.{zone_of}
 use Rattle.mem_machine.specs.Steps.{cpu_makes}
 use Rattle.mem_machine.proofs.Records.{holds_same}
-use Rattle.mem_machine.specs.Telling.{TellsRun}
+use Rattle.mem_machine.specs.Agreeing.{AgreesWithRun}
 use Rattle.mem_history.specs.Whole.{ShowsAll, ServesAt, ServesFast, IsSeenAt, seen_by, under_lock, is_fast}
 use Rattle.mem_history.specs.Kept.{AreTied}
 use Rattle.mem_history.specs.Leading.{IsPart, put_answer}
 use Rattle.mem_history.proofs.Wholes.{set_here, set_else, lines_follow}
 use Rattle.mem_history.proofs.Fast.{fast_lines_follow}
 use Rattle.mem_history.proofs.Deciding.{legal_lines_are_decided, legal_fast_steps_are_decided}
-use Rattle.mem_history.proofs.Told.{lines_tell, fast_lines_tell}
+use Rattle.mem_history.proofs.Agreeing.{lines_agree, fast_lines_agree}
 use Rattle.mem_history.proofs.Leading.{fast_calls_lead}
 use Rattle.mem_system.specs.declared.command.Cmd.{Cmd}
 use Rattle.mem_system.specs.declared.command.Cmd.TheVariants as cmd
@@ -183,7 +183,7 @@ module _ (t : KnownTable) (w : KnownStockTable) (run : Run) (locked : KnownLocke
   -- these steps lead the whole to this holder, and its ledger has their peaks and event counts
   abbrev Follows : Run → LockedState → Type 0
   Follows steps after = ShowsAll t (run ++ steps) after.locked.machine (slice_set cpus k after.cpu)
-      × (TellsRun t run m.ledger → TellsRun t (run ++ steps) after.locked.machine.ledger)
+      × (AgreesWithRun t run m.ledger → AgreesWithRun t (run ++ steps) after.locked.machine.ledger)
 
   -- the run that goes on with these steps is legal
   abbrev GoesOn : Run → Type 0
@@ -209,8 +209,8 @@ module _ (t : KnownTable) (w : KnownStockTable) (run : Run) (locked : KnownLocke
                 | inr ne ↦ shows.each j e (set_else cpus k j d e ne at)
               ];
             }))),
-        λ told. subst (λ (r : Run). TellsRun t r after.locked.machine.ledger) (sym (append-nil run))
-            (subst (λ (l : KnownLocked). TellsRun t run l.machine.ledger) (sym kept.locked) told),
+        λ told. subst (λ (r : Run). AgreesWithRun t r after.locked.machine.ledger) (sym (append-nil run))
+            (subst (λ (l : KnownLocked). AgreesWithRun t run l.machine.ledger) (sym kept.locked) told),
       )
 
   -- served under the lock, which the watch has taken, after a look at its own stock
@@ -236,8 +236,8 @@ module _ (t : KnownTable) (w : KnownStockTable) (run : Run) (locked : KnownLocke
         shut = shut;
       } in (
         lines_follow t run cpus k (visit_state n c) is.steps (visit_state after.locked.machine after.cpu) shown serves,
-        λ told. lines_tell t run cpus k (visit_state n c) is.steps (visit_state after.locked.machine after.cpu) shown serves
-            (subst (λ (l : KnownLocked). TellsRun t run l.machine.ledger) (sym locks) told),
+        λ told. lines_agree t run cpus k (visit_state n c) is.steps (visit_state after.locked.machine after.cpu) shown serves
+            (subst (λ (l : KnownLocked). AgreesWithRun t run l.machine.ledger) (sym locks) told),
       )
 
   -- the same, after the watch took more steps
@@ -246,7 +246,7 @@ module _ (t : KnownTable) (w : KnownStockTable) (run : Run) (locked : KnownLocke
   watched_follows steps more left after only follows = (
     subst (λ (l : KnownLocked). ShowsAll t (run ++ steps) l.machine (slice_set cpus k after.cpu)) (sym only.locked)
         (shows_watched t (run ++ steps) left.machine (slice_set cpus k after.cpu) after.locked.machine.watch follows.0),
-    λ told. subst (λ (l : KnownLocked). TellsRun t (run ++ steps) l.machine.ledger) (sym only.locked) (follows.1 told),
+    λ told. subst (λ (l : KnownLocked). AgreesWithRun t (run ++ steps) l.machine.ledger) (sym only.locked) (follows.1 told),
   )
 
   -- a step without the lock
@@ -266,8 +266,8 @@ module _ (t : KnownTable) (w : KnownStockTable) (run : Run) (locked : KnownLocke
       } in (
         subst (λ (l : KnownLocked). ShowsAll t (run ++ cpu_makes p action answer ∷ []) l.machine (slice_set cpus k after.cpu)) (sym kept.locked)
             (fast_lines_follow t run cpus k (visit_state m c) action answer (visit_state n after.cpu) shows serves),
-        λ told. subst (λ (l : KnownLocked). TellsRun t (run ++ cpu_makes p action answer ∷ []) l.machine.ledger) (sym kept.locked)
-            (fast_lines_tell t run cpus k (visit_state m c) action answer (visit_state n after.cpu) shows serves told),
+        λ told. subst (λ (l : KnownLocked). AgreesWithRun t (run ++ cpu_makes p action answer ∷ []) l.machine.ledger) (sym kept.locked)
+            (fast_lines_agree t run cpus k (visit_state m c) action answer (visit_state n after.cpu) shows serves told),
       )
 
   this_part : IsPart t w run m cpus k c
@@ -391,7 +391,7 @@ module _ (t : KnownTable) (w : KnownStockTable) (run : Run) (locked : KnownLocke
       let was = settle_follows steps settled is (shut_before t settled.locked.machine n looked shut) legal in (
         subst (λ (d : KnownCpu). ShowsAll t (run ++ steps) n (slice_set cpus k d)) (sym same)
             (shows_looked t (run ++ steps) settled.locked.machine n (slice_set cpus k settled.cpu) looked was.0),
-        λ told. subst (λ (l : Ledger). TellsRun t (run ++ steps) l) (sym looked.ledger) (was.1 told),
+        λ told. subst (λ (l : Ledger). AgreesWithRun t (run ++ steps) l) (sym looked.ledger) (was.1 told),
       )
 
   pub work_follows : (is_explained : Bool) (asked : Work) (steps : Run) (after : LockedState) (text : List ℕ) → WorkInRange t.frames asked

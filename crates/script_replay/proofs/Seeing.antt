@@ -12,7 +12,7 @@ use Rattle.step_watch.specs.Watched.{KnownWatch, Watches, IsNewWatch, SawRun, ha
 use Rattle.step_watch.proofs.Watching.{watches_none, watches_both, watched_runs_are_legal}
 use Rattle.mem_machine.specs.Interleaving.{zone_of}
 use Rattle.mem_machine.specs.Steps.{cpu_makes}
-use Rattle.mem_machine.specs.Telling.{TellsRun}
+use Rattle.mem_machine.specs.Agreeing.{AgreesWithRun}
 use Rattle.mem_history.proofs.Deciding.{legal_front}
 use Rattle.mem_system.specs.declared.command.Cmd.{Cmd}
 use Rattle.mem_system.specs.declared.command.Reply.{Reply}
@@ -135,7 +135,7 @@ all_seen on (line ∷ lines) begins end text tells =
 -- if the run of all steps is legal, the promise holds after each line
 all_kept : (on : Terms) (lines : List Line) (begins : Past) (end : SystemState) (text : List ℕ) → (tells : HasHistory on lines begins end text)
     → (whole : Run) → whole ≡ begins.run ++ (all_seen on lines begins end text tells).more → IsLegalRun (zone_of on.frames) whole
-    → TellsRun on.frames begins.run begins.now.locked.machine.ledger → KeepsHistory on lines begins (past whole end) text
+    → AgreesWithRun on.frames begins.run begins.now.locked.machine.ledger → KeepsHistory on lines begins (past whole end) text
 unfolding all_seen
 all_kept on [] begins end text tells whole is legal told = (
   tells.0,
@@ -160,7 +160,7 @@ all_kept on (line ∷ lines) begins end text tells whole is legal told =
 
 -- if the watch was new before the lines and allowed all steps, the lines have a legal history
 pub legal_history : (on : Terms) (lines : List Line) (before after : SystemState) (text : List ℕ) → HasHistory on lines (past [] before) after text
-    → TellsRun on.frames [] before.locked.machine.ledger → IsNewWatch (zone_of on.frames) before.locked.machine.watch
+    → AgreesWithRun on.frames [] before.locked.machine.ledger → IsNewWatch (zone_of on.frames) before.locked.machine.watch
     → has_legal_steps after.locked.machine.watch ≡ true → HasLegalHistory on lines before after text
 legal_history on lines before after text tells told new allowed =
     let all = all_seen on lines (past [] before) after text tells in

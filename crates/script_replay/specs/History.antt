@@ -9,7 +9,7 @@ use Rattle.step_rules.specs.Promise.{Promise}
 use Rattle.step_watch.specs.Watched.{IsNewWatch, SawRun, Watches, has_legal_steps}
 use Rattle.mem_machine.specs.Machines.{IsConsistent}
 use Rattle.mem_machine.specs.Interleaving.{zone_of}
-use Rattle.mem_machine.specs.Telling.{TellsRun}
+use Rattle.mem_machine.specs.Agreeing.{AgreesWithRun}
 use Rattle.mem_history.specs.Whole.{ShowsAll}
 use Rattle.mem_history.specs.Kept.{AreTied, shown_of}
 use Rattle.mem_system.specs.Locked.{IsQuiet, KnownLocked}
@@ -42,7 +42,7 @@ past_line past steps after = record { run = past.run ++ steps; now = after }
 pub record HoldsPromise (table : KnownTable) (earlier : Run) (before : SystemState) (run : Run) (now : SystemState)
     : Type 0 where
   pub promise : Promise (zone_of table) run (shown_of now.locked.machine now.cpus)
-  pub tells : TellsRun table earlier before.locked.machine.ledger → TellsRun table run now.locked.machine.ledger
+  pub tells : AgreesWithRun table earlier before.locked.machine.ledger → AgreesWithRun table run now.locked.machine.ledger
 
 -- The first line is served by these steps, which the watch took. If the run so far with these steps is legal, the
 -- promise holds after it, and the ledger keeps the peaks and event counts of the run. The other lines have their
@@ -71,7 +71,7 @@ HasHistory terms (line ∷ lines) past after text =
 -- of the run
 pub record KeepsPromise (table : KnownTable) (run : Run) (now : SystemState) : Type 0 where
   pub promise : Promise (zone_of table) run (shown_of now.locked.machine now.cpus)
-  pub tells : TellsRun table run now.locked.machine.ledger
+  pub tells : AgreesWithRun table run now.locked.machine.ledger
 
 -- The first line is served by these steps, and the promise holds after them. The other lines have such a history from
 -- there on.
@@ -121,7 +121,7 @@ pub record ReplaysLegally (terms : Terms) (lines : List Line) (before after : Sy
     (text : List ℕ) : Type 0 where
   pub served : ServesAll terms lines before after text
   pub history : ShowsAll terms.frames [] before.locked.machine before.cpus
-      → AreTied terms.frames terms.stocks before.cpus → TellsRun terms.frames [] before.locked.machine.ledger
+      → AreTied terms.frames terms.stocks before.cpus → AgreesWithRun terms.frames [] before.locked.machine.ledger
       → IsNewWatch (zone_of terms.frames) before.locked.machine.watch
       → HasLegalHistory terms lines before after text
 

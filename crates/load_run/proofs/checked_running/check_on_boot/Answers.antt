@@ -5,7 +5,7 @@ use Rattle.mem_machine.specs.Machines.{IsFirst}
 use Rattle.mem_system.specs.Locked.{KnownLocked}
 use Rattle.script_replay.specs.Lines.{system_state}
 use Rattle.script_replay.specs.Ranges.{LineInRange}
-use Rattle.mem_history.proofs.Told.{a_boot_tells}
+use Rattle.mem_history.proofs.Agreeing.{a_boot_agrees}
 use Rattle.load_run.specs.Answers.{checked_text}
 use Rattle.load_run.specs.Ending.{end_text}
 use Rattle.load_run.proofs.Answering.{at_ok}
@@ -39,7 +39,7 @@ returns g c =
     let replays = at_ok _ _ _ c.in_ok-answers.was ended.so.replayed in
     let tells = replays.history (boot_shown c.args.boot.sizes t w start.locked.machine c.in_ok-locked.cpus.items sized is_first first)
     (parts_tied c.args.boot.sizes t w start.locked.machine c.in_ok-locked.cpus.items sized is_first first)
-    (a_boot_tells t w start.locked.machine is_first) new in
+    (a_boot_agrees t w start.locked.machine is_first) new in
     let held = ended.ends.ends in
     let on : has_legal_steps held.spent.machine.watch ≡ true = sym ended.ends.is_legal ∙ c.if-not-seen.false in
     let saw = saw_more (zone_of t) tells.run ended.before.locked.machine.watch held.leaves.steps held.spent.machine.watch tells.saw held.leaves.watched on in

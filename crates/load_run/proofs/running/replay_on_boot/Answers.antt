@@ -1,7 +1,7 @@
 use Rattle.std.proofs.Common.{ℕ, [], All, sym, subst, refl}
 use Rattle.script_replay.specs.Lines.{system_state}
 use Rattle.script_replay.specs.Ranges.{LineInRange}
-use Rattle.mem_history.proofs.Told.{a_boot_tells}
+use Rattle.mem_history.proofs.Agreeing.{a_boot_agrees}
 use Rattle.load_run.specs.Ending.{end_text}
 use Rattle.load_run.proofs.Answering.{at_ok, weakened}
 use Rattle.load_run.proofs.Starting.{boot_shown, parts_tied}
@@ -39,7 +39,7 @@ returns g c =
         history = replays.history [] (boot_shown c.args.boot.sizes t w c.in_ok-locked.locked.machine c.in_ok-locked.cpus.items sized
             c.in_ok-locked.ensures.machine first) (parts_tied c.args.boot.sizes t w c.in_ok-locked.locked.machine c.in_ok-locked.cpus.items sized
             c.in_ok-locked.ensures.machine first);
-        told = a_boot_tells t w c.in_ok-locked.locked.machine c.in_ok-locked.ensures.machine;
+        told = a_boot_agrees t w c.in_ok-locked.locked.machine c.in_ok-locked.ensures.machine;
         ends = record { ended = told; ends = ended.ends; text_is = refl };
         text_is = is;
       }) c.tell_end.ensures.told;

@@ -1,4 +1,4 @@
--- The ledger goes on telling the run, line by line. Serves `a_boot_tells`, `lines_tell`, `fast_lines_tell`.
+-- The ledger goes on telling the run, line by line. Serves `a_boot_agrees`, `lines_agree`, `fast_lines_agree`.
 use Rattle.std.proofs.Common.{◌≡◌, ◌≢◌, ℕ, ◌==◌, ◌||◌, Bool, true, false, cond, Option, Some, None, [], ◌∷◌, ◌++◌, length, take, refl, sym, ◌∙◌, ap, subst, inl, inr, zero, suc, eq-eqb}
 use Rattle.std.specs.Prelude.{IfSome}
 use Rattle.std.specs.List.{slice_get}
@@ -37,11 +37,11 @@ use Rattle.step_rules.proofs.Noting.{events_are_counted}
 use Rattle.mem_machine.specs.Local.{local_of}
 use Rattle.mem_machine.specs.Interleaving.{zone_of}
 use Rattle.mem_machine.specs.Steps.{cpu_makes}
-use Rattle.mem_machine.specs.Telling.{TellsRun}
+use Rattle.mem_machine.specs.Agreeing.{AgreesWithRun}
 use Rattle.mem_machine.proofs.Followed.{is_still, still_peak, below_stays, at_stays}
-use Rattle.mem_machine.proofs.Tells.{ledgers_tell}
+use Rattle.mem_machine.proofs.Tells.{ledgers_agree}
 use Rattle.mem_history.specs.Whole.{IsDecided, seen_together, under_lock, is_fast}
-use Rattle.mem_history.specs.Told.{ABootTells, LinesTell, FastLinesTell}
+use Rattle.mem_history.specs.Agreeing.{ABootAgrees, LinesAgree, FastLinesAgree}
 use Rattle.mem_history.proofs.Staying.{Stays, Along, stays_on, stays_made}
 use Rattle.mem_history.proofs.Wholes.{locked, locked_is, takes, decided_count, lines_follow}
 use Rattle.mem_history.proofs.Fast.{fast_lines_follow}
@@ -62,7 +62,7 @@ last_allowed zone run step answer legal =
 -- if the run continues with a step that changes no peak and no count, the ledger still has those of the run
 tells_still : (t : KnownTable) (run : Run) (l : Ledger) (step : Step) (answer : Answer) → IsLegalRun (zone_of t) run
     → IsLegalRun (zone_of t) (pushed run step answer) → is_still step.action answer ≡ true
-    → l.groups ≡ (state_of (zone_of t) (pushed run step answer)).groups → TellsRun t run l → TellsRun t (pushed run step answer) l
+    → l.groups ≡ (state_of (zone_of t) (pushed run step answer)).groups → AgreesWithRun t run l → AgreesWithRun t (pushed run step answer) l
 tells_still t run l step answer legal more still groups told =
     let zone = zone_of t in
     let s = state_of zone run in
@@ -117,8 +117,8 @@ module _ (zone : Zone) (p : ℕ) (start : State) (D : State → ℕ → Action �
           subst (λ (r : Run). IfSome (slice_get steps j) (λ d. MayFollow p (state_of zone r) d.0.seat d.0.action d.1))
           (append_assoc run (e ∷ []) (take j steps)) (rest j)
 
-pub lines_tell : LinesTell
-lines_tell t run cpus k before steps after_visit_state shows serves told =
+pub lines_agree : LinesAgree
+lines_agree t run cpus k before steps after_visit_state shows serves told =
     let zone = zone_of t in
     let m = before.machine in
     let n = after_visit_state.machine in
@@ -131,7 +131,7 @@ lines_tell t run cpus k before steps after_visit_state shows serves told =
     let took = takes t run m cpus k c shows serves.is_part in
     let start : Stays p whole (state_of zone lock) =
     subst (Stays p whole) (sym lock_is) (record { references = λ q ne other f. refl; parts = λ q ne other. refl }) in
-    let told_lock : TellsRun t lock m.ledger =
+    let told_lock : AgreesWithRun t lock m.ledger =
     tells_still t run m.ledger (record { seat = p; action = Lock }) Done shows.legal took.legal refl (ap (λ (s : State). s.groups) took.sees) told in
     let mixed : IsInterleaved zone lock p steps =
     mixed_on zone p whole (λ x seat action answer. IsDecided (seen_together cpus p x) seat action answer)
@@ -139,8 +139,8 @@ lines_tell t run cpus k before steps after_visit_state shows serves told =
     lock (local_of t m c) steps (local_of t n d) took start (λ r. zone_of_run zone r ∙ sym (zone_of_run zone run)) serves.leads.leads serves.decided in
     let made : Run = lock ++ steps in
     let own = own_all p (local_of t m c) steps (local_of t n d) serves.leads.leads in
-    let told_made : TellsRun t made n.ledger =
-    ledgers_tell t lock steps steps before after_visit_state took told_lock serves.leads (record { own = own; follows = mixed }) in
+    let told_made : AgreesWithRun t made n.ledger =
+    ledgers_agree t lock steps steps before after_visit_state took told_lock serves.leads (record { own = own; follows = mixed }) in
     let joined : pushed made (record { seat = p; action = Unlock }) Done ≡ run ++ under_lock p steps =
     append_assoc (run ++ cpu_makes p Lock Done ∷ []) steps (cpu_makes p Unlock Done ∷ [])
     ∙ append_assoc run (cpu_makes p Lock Done ∷ []) (steps ++ cpu_makes p Unlock Done ∷ []) in
@@ -149,7 +149,7 @@ lines_tell t run cpus k before steps after_visit_state shows serves told =
     let shown = made_shows zone lock p (local_of t m c) steps (local_of t n d) took serves.leads.leads mixed own in
     let groups : n.ledger.groups ≡ (state_of zone (pushed made (record { seat = p; action = Unlock }) Done)).groups =
     ap (λ (s : State). s.groups) shown.sees ∙ sym (ap (λ (s : State). s.groups) (state_more zone made (record { seat = p; action = Unlock }) Done)) in
-    subst (λ (r : Run). TellsRun t r n.ledger) joined
+    subst (λ (r : Run). AgreesWithRun t r n.ledger) joined
     (tells_still t made n.ledger (record { seat = p; action = Unlock }) Done shown.legal done refl groups told_made)
   where
     made_shows : (zone : Zone) (run : Run) (p : ℕ) (a : State) (steps : Run) (b : State) → ShowsLocal zone run p a → IsLocalRun p a steps b
@@ -166,8 +166,8 @@ fast_still (Consume g) answer fast = refl
 fast_still (Credit f) answer fast = refl
 fast_still action answer fast = absurd (false≢true fast)
 
-pub fast_lines_tell : FastLinesTell
-fast_lines_tell t run cpus k before action answer after_visit_state shows serves told =
+pub fast_lines_agree : FastLinesAgree
+fast_lines_agree t run cpus k before action answer after_visit_state shows serves told =
     let zone = zone_of t in
     let m = before.machine in
     let p = before.cpu.number in
@@ -179,7 +179,7 @@ fast_lines_tell t run cpus k before action answer after_visit_state shows serves
     ∙ fast_groups (local_of t m before.cpu) (state_of zone run) p action answer
     (ap (λ (s : State). s.groups) (shows.each k before.cpu serves.is_part).sees) serves.fast
     ∙ sym (ap (λ (s : State). s.groups) (state_more zone run step answer)) in
-    subst (λ (l : Ledger). TellsRun t (pushed run step answer) l) (sym (ap (λ x. x.ledger) serves.machine))
+    subst (λ (l : Ledger). AgreesWithRun t (pushed run step answer) l) (sym (ap (λ x. x.ledger) serves.machine))
     (tells_still t run m.ledger step answer shows.legal goes.legal (fast_still action answer serves.fast) groups told)
   where
     fast_groups : (a b : State) (p : ℕ) (action : Action) (answer : Answer) → a.groups ≡ b.groups → is_fast action ≡ true
@@ -228,10 +228,10 @@ root_alone m there = elim (cases_eq m 0) [
   | inr ne ↦ absurd (true≢false (sym there ∙ has_group-any initial_groups m ∙ ap (λ (b : Bool). b || false) (ne_eqb 0 m (λ e. ne (sym e)))))
 ]
 
-pub a_boot_tells : ABootTells
-a_boot_tells t w m first =
+pub a_boot_agrees : ABootAgrees
+a_boot_agrees t w m first =
     let zone = zone_of t in
-    subst (TellsRun t []) (sym first.ledger) (record {
+    subst (AgreesWithRun t []) (sym first.ledger) (record {
       peak = λ g there. subst (λ (k : ℕ). IsPeak zone [] k (peak_of initial_ledger k)) (sym (root_alone g there))
           (subst (IsPeak zone [] 0) (sym first_peak) (peaks_are_kept.boot zone));
       events = λ key g there. first_events key g ∙ sym (events_are_counted.boot zone key g).0;

@@ -13,7 +13,7 @@ use Rattle.mem_machine.specs.Interleaving.{zone_of, Shows, IsMixed}
 
 -- for each existing group, the ledger has the peak that the group reached in the run, and the counts of the events that
 -- the run noted
-pub record TellsRun (table : KnownTable) (run : Run) (ledger : Ledger) : Type 0 where
+pub record AgreesWithRun (table : KnownTable) (run : Run) (ledger : Ledger) : Type 0 where
   pub peak : (group : ℕ) → has_group ledger.groups group ≡ true
       → IsPeak (zone_of table) run group (peak_of ledger group)
   pub events : (key : EventKey) (group : ℕ) → has_group ledger.groups group ≡ true
@@ -24,7 +24,7 @@ pub record TellsRun (table : KnownTable) (run : Run) (ledger : Ledger) : Type 0 
 -- Suppose that a run shows a CPU the machine, that the ledger has the run's peaks and event counts, and that a call
 -- makes these steps. Mix in any steps that other CPUs may make. Then the ledger after the call has the peaks and event
 -- counts of the longer run.
-abbrev pub LedgersTell : Type 0
-LedgersTell = (table : KnownTable) (run steps mixed : Run) (before after : VisitState)
-    → Shows table run before → TellsRun table run before.machine.ledger → Makes table before steps after
-    → IsMixed table run before.cpu.number steps mixed → TellsRun table (run ++ mixed) after.machine.ledger
+abbrev pub LedgersAgree : Type 0
+LedgersAgree = (table : KnownTable) (run steps mixed : Run) (before after : VisitState)
+    → Shows table run before → AgreesWithRun table run before.machine.ledger → Makes table before steps after
+    → IsMixed table run before.cpu.number steps mixed → AgreesWithRun table (run ++ mixed) after.machine.ledger

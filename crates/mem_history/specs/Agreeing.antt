@@ -9,27 +9,27 @@ use Rattle.step_rules.specs.declared.step.Answer.{Answer}
 use Rattle.step_rules.specs.After.{Run}
 use Rattle.mem_machine.specs.Machines.{KnownMachine, VisitState, IsFirst}
 use Rattle.mem_machine.specs.Steps.{cpu_makes}
-use Rattle.mem_machine.specs.Telling.{TellsRun}
+use Rattle.mem_machine.specs.Agreeing.{AgreesWithRun}
 use Rattle.mem_history.specs.Whole.{ShowsAll, ServesAt, ServesFast, under_lock}
 
 -- the peaks and counts of a new boot are those of the run without steps
-abbrev pub ABootTells : Type 0
-ABootTells = (table : KnownTable) (stock_table : KnownStockTable) (machine : KnownMachine)
+abbrev pub ABootAgrees : Type 0
+ABootAgrees = (table : KnownTable) (stock_table : KnownStockTable) (machine : KnownMachine)
     → IsFirst table stock_table machine
-    → TellsRun table [] machine.ledger
+    → AgreesWithRun table [] machine.ledger
 
 -- if a run shows the whole and the ledger has its peaks and counts, then after a line under the lock the ledger has
 -- those of the longer run
-abbrev pub LinesTell : Type 0
-LinesTell = (table : KnownTable) (run : Run) (cpus : List KnownCpu) (index : ℕ) (before : VisitState) (steps : Run)
+abbrev pub LinesAgree : Type 0
+LinesAgree = (table : KnownTable) (run : Run) (cpus : List KnownCpu) (index : ℕ) (before : VisitState) (steps : Run)
     (after : VisitState) → ShowsAll table run before.machine cpus → ServesAt table cpus index before steps after
-    → TellsRun table run before.machine.ledger
-    → TellsRun table (run ++ under_lock before.cpu.number steps) after.machine.ledger
+    → AgreesWithRun table run before.machine.ledger
+    → AgreesWithRun table (run ++ under_lock before.cpu.number steps) after.machine.ledger
 
 -- the same holds for a step that takes no lock
-abbrev pub FastLinesTell : Type 0
-FastLinesTell = (table : KnownTable) (run : Run) (cpus : List KnownCpu) (index : ℕ) (before : VisitState)
+abbrev pub FastLinesAgree : Type 0
+FastLinesAgree = (table : KnownTable) (run : Run) (cpus : List KnownCpu) (index : ℕ) (before : VisitState)
     (action : Action)
     (answer : Answer) (after : VisitState) → ShowsAll table run before.machine cpus
-    → ServesFast table cpus index before action answer after → TellsRun table run before.machine.ledger
-    → TellsRun table (run ++ cpu_makes before.cpu.number action answer ∷ []) after.machine.ledger
+    → ServesFast table cpus index before action answer after → AgreesWithRun table run before.machine.ledger
+    → AgreesWithRun table (run ++ cpu_makes before.cpu.number action answer ∷ []) after.machine.ledger
