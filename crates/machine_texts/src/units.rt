@@ -39,8 +39,8 @@ fn keeps_none<N: BootName>(machine: &Machine<N>, group: GroupId) -> bool
     ensures none { result ≡ true → units_in machine.now group ≡ [] }
     ensures some { result ≡ false → 0 < length (units_in machine.now group) }
 {
-    let inactive = machine.listed(group, LruList::Inactive);
-    let active = machine.listed(group, LruList::Active);
+    let inactive = machine.list_len(group, LruList::Inactive);
+    let active = machine.list_len(group, LruList::Active);
     inactive == 0 && active == 0
 }
 
@@ -56,7 +56,7 @@ fn write_list<N: BootName>(
     ensures lines { TellsLines group list
         (λ shown. IfOk result (λ _. string_bytes text.new ≡ string_bytes text.old ++ shown)) machine.old machine.new }
 {
-    let count = machine.listed(group, list);
+    let count = machine.list_len(group, list);
     let mut next = machine.oldest(group, list);
     let mut written = Ok(());
     for _seen in 0..count {

@@ -43,7 +43,7 @@ impl<N: BootName> Machine<N> {
     }
 
     /// How many units are on one of a group's lists.
-    pub fn listed(&self, group: GroupId, list: LruList) -> u32
+    pub fn list_len(&self, group: GroupId, list: LruList) -> u32
         ensures { result ≡ length (entries_in self.now group list) }
     {
         self.lists[group.number() as usize].len(list)

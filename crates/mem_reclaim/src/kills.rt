@@ -32,7 +32,7 @@ fn release_units<N: BootName>(
     ensures keeps { OnlyReleases N.frames machine.old machine.new }
     ensures stocks { KeepsStocks machine.old machine.new }
 {
-    for _unit in 0..machine.listed(group, list) {
+    for _unit in 0..machine.list_len(group, list) {
         let _frame_states = machine.frame_states(); // Called for its contract.
         let Some(unit) = machine.oldest(group, list) else {
             unreachable!()

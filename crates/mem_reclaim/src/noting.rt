@@ -32,8 +32,8 @@ pub(crate) fn take_snapshot<N: BootName>(machine: &Machine<N>, group: GroupId) -
     GroupSnapshot {
         last_puts: machine.counts().last_puts,
         frames: machine.frames_of(group),
-        units: u64::from(machine.listed(group, LruList::Inactive))
-            + u64::from(machine.listed(group, LruList::Active)),
+        units: u64::from(machine.list_len(group, LruList::Inactive))
+            + u64::from(machine.list_len(group, LruList::Active)),
     }
 }
 

@@ -34,7 +34,7 @@ pub(crate) fn scan<N: BootName>(
 {
     let _frame_states = machine.frame_states(); // Called for its contract.
     let _usage = machine.current(group); // At most this much is freed, so no sum overflows.
-    let units = machine.listed(group, list);
+    let units = machine.list_len(group, list);
     let mut next = machine.oldest(group, list);
     let mut freed = 0;
     for _met in 0..units {

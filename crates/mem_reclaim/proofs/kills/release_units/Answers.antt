@@ -27,14 +27,14 @@ loop-unit-preserved g c =
 
 pub returns-clause-releases : goal.returns-clause-releases
 returns-clause-releases g c =
-    let counted = c.listed-unit-end.ensures in
+    let counted = c.list_len-unit-end.ensures in
     let all = c.loop-unit-test.false in
     let done : length (entries_in c.args.machine.now c.args.group c.args.list) ≤ c.loop-unit._unit = omega (arith, counted, all) in
     let_go_done g.N.BootName.frames c.args.group c.args.list c.args.machine.now c.loop-unit._unit c.loop-unit.machine c.loop-unit.invariant done
 
 pub returns-clause-empty : goal.returns-clause-empty
 returns-clause-empty g c =
-    let counted = c.listed-unit-end.ensures in
+    let counted = c.list_len-unit-end.ensures in
     let all = c.loop-unit-test.false in
     let done : length (entries_in c.args.machine.now c.args.group c.args.list) ≤ c.loop-unit._unit = omega (arith, counted, all) in
     let_go_empty g.N.BootName.frames c.args.group c.args.list c.args.machine.now c.loop-unit._unit c.loop-unit.machine c.loop-unit.invariant done

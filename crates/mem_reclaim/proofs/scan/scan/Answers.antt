@@ -21,8 +21,8 @@ pub unreachable-requires-in_default-frame : goal.unreachable-requires-in_default
 unreachable-requires-in_default-frame g c =
     let fits : c.args.group < 64 = search rules in
     let h = scan_here g.N.BootName.frames g.N.BootName.stocks c.args.marks_count c.args.group fits c.args.list c.args.want c.args.machine.now
-    c.loop-met._met c.loop-met.freed c.loop-met.next c.loop-met.machine c.frame_states-frame_states-in-loop-met.ensures.consistent c.loop-met.invariant c.listed-units.result
-    c.listed-units.ensures c.loop-met-test.true c.in-Some.unit c.in-Some.is in
+    c.loop-met._met c.loop-met.freed c.loop-met.next c.loop-met.machine c.frame_states-frame_states-in-loop-met.ensures.consistent c.loop-met.invariant c.list_len-units.result
+    c.list_len-units.ensures c.loop-met-test.true c.in-Some.unit c.in-Some.is in
     let lt = h.inside in
     let le : c.args.tables.now.frames.frames ≤ c.in-Some.unit.number = c.in_default-frame.ensures {u = tt} in
     let tie = ap (λ (x : KnownTable). x.frames) c.args.tables.now.frames_are in
@@ -32,24 +32,24 @@ pub newer-next-requires-clause-home : goal.newer-next-requires-clause-home
 newer-next-requires-clause-home g c =
     let fits : c.args.group < 64 = search rules in
     let h = scan_here g.N.BootName.frames g.N.BootName.stocks c.args.marks_count c.args.group fits c.args.list c.args.want c.args.machine.now
-    c.loop-met._met c.loop-met.freed c.loop-met.next c.loop-met.machine c.frame_states-frame_states-in-loop-met.ensures.consistent c.loop-met.invariant c.listed-units.result
-    c.listed-units.ensures c.loop-met-test.true c.in-Some.unit c.in-Some.is in
+    c.loop-met._met c.loop-met.freed c.loop-met.next c.loop-met.machine c.frame_states-frame_states-in-loop-met.ensures.consistent c.loop-met.invariant c.list_len-units.result
+    c.list_len-units.ensures c.loop-met-test.true c.in-Some.unit c.in-Some.is in
     ap (home_of c.loop-met.machine.links) c.in-Some-frame.ensures.0 ∙ h.home
 
 pub try_reclaim-requires-clause-unit : goal.try_reclaim-requires-clause-unit
 try_reclaim-requires-clause-unit g c =
     let fits : c.args.group < 64 = search rules in
     let h = scan_here g.N.BootName.frames g.N.BootName.stocks c.args.marks_count c.args.group fits c.args.list c.args.want c.args.machine.now
-    c.loop-met._met c.loop-met.freed c.loop-met.next c.loop-met.machine c.frame_states-frame_states-in-loop-met.ensures.consistent c.loop-met.invariant c.listed-units.result
-    c.listed-units.ensures c.loop-met-test.true c.in-Some.unit c.in-Some.is in
+    c.loop-met._met c.loop-met.freed c.loop-met.next c.loop-met.machine c.frame_states-frame_states-in-loop-met.ensures.consistent c.loop-met.invariant c.list_len-units.result
+    c.list_len-units.ensures c.loop-met-test.true c.in-Some.unit c.in-Some.is in
     h.read ∙ ap (entry_of c.loop-met.machine.links) (sym c.in-Some-frame.ensures.0)
 
 pub try_reclaim-requires-clause-home : goal.try_reclaim-requires-clause-home
 try_reclaim-requires-clause-home g c =
     let fits : c.args.group < 64 = search rules in
     let h = scan_here g.N.BootName.frames g.N.BootName.stocks c.args.marks_count c.args.group fits c.args.list c.args.want c.args.machine.now
-    c.loop-met._met c.loop-met.freed c.loop-met.next c.loop-met.machine c.frame_states-frame_states-in-loop-met.ensures.consistent c.loop-met.invariant c.listed-units.result
-    c.listed-units.ensures c.loop-met-test.true c.in-Some.unit c.in-Some.is in
+    c.loop-met._met c.loop-met.freed c.loop-met.next c.loop-met.machine c.frame_states-frame_states-in-loop-met.ensures.consistent c.loop-met.invariant c.list_len-units.result
+    c.list_len-units.ensures c.loop-met-test.true c.in-Some.unit c.in-Some.is in
     ap (home_of c.loop-met.machine.links) c.in-Some-frame.ensures.0 ∙ h.home
 
 pub loop-met-preserved : goal.loop-met-preserved
@@ -59,15 +59,15 @@ loop-met-preserved g c =
     let e = c.from-freed.ensures in
     rw e
     (scan_more g.N.BootName.frames g.N.BootName.stocks c.args.marks_count c.args.group fits c.args.list c.args.want c.args.machine.now
-    c.loop-met._met c.loop-met.freed c.loop-met.next c.loop-met.machine c.frame_states-frame_states-in-loop-met.ensures.consistent c.loop-met.invariant c.listed-units.result
-    c.listed-units.ensures c.loop-met-test.true c.in-Some.unit c.in-Some.is c.try_reclaim.result c.try_reclaim.new.machine c.requires.inactive c.if-want-freed.false
+    c.loop-met._met c.loop-met.freed c.loop-met.next c.loop-met.machine c.frame_states-frame_states-in-loop-met.ensures.consistent c.loop-met.invariant c.list_len-units.result
+    c.list_len-units.ensures c.loop-met-test.true c.in-Some.unit c.in-Some.is c.try_reclaim.result c.try_reclaim.new.machine c.requires.inactive c.if-want-freed.false
     (omega (arith, small)) c.try_reclaim.ensures.attempts c.try_reclaim.ensures.keeps c.try_reclaim.ensures.usage c.newer-next.result c.in-Some-frame.frame c.in-Some-frame.ensures.0
     c.newer-next.ensures)
 
 pub returns : goal.returns
 returns g c =
     let all = scan_done g.N.BootName.frames c.args.marks_count c.args.group c.args.list c.args.want c.args.machine.now c.loop-met._met c.loop-met.freed c.loop-met.next
-    c.loop-met.machine c.loop-met.invariant c.listed-units.result c.listed-units.ensures c.loop-met-test.false in
+    c.loop-met.machine c.loop-met.invariant c.list_len-units.result c.list_len-units.ensures c.loop-met-test.false in
     record { scans = all.scans; keeps = search rules; usage = search rules; few = search rules; leaves = search rules; missed = all.missed }
 
 pub returns-then-want-freed-clause-few : goal.returns-then-want-freed-clause-few

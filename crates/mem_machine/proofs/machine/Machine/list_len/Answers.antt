@@ -2,7 +2,7 @@ use Rattle.std.proofs.Common.{ap, sym, ◌∙◌, length}
 use Rattle.lru_lists.specs.declared.lru.Lru.{Lru}
 use Rattle.lru_lists.specs.Lists.{entries_of}
 use Rattle.mem_machine.proofs.OneGroup.{lists_read}
-use Rattle.mem_machine.proofs.machine.Machine.listed.Goals as goal
+use Rattle.mem_machine.proofs.machine.Machine.list_len.Goals as goal
 
 pub returns : goal.returns
 returns g c =
