@@ -29,7 +29,7 @@ use Rattle.mem_machine.specs.Local.{IsLocalRun, local_of, visit_state}
 use Rattle.mem_machine.specs.Freeing.{FreesFrames}
 use Rattle.mem_machine.specs.Settling.{ReturnsBack, return_steps}
 use Rattle.mem_machine.specs.Counts.{with_last_put}
-use Rattle.mem_machine.specs.Counting.{counts_over}
+use Rattle.mem_machine.specs.Counting.{counts_along}
 use Rattle.mem_machine.proofs.Holds.{own_part}
 use Rattle.mem_machine.proofs.Records.{heads_one}
 use Rattle.mem_machine.proofs.Freeing.{free_block_given, unit_in_use, head_inside, unit_freed_consistent}
@@ -137,7 +137,7 @@ module _ (t : KnownTable) (w : KnownStockTable) (m : KnownMachine) (c : KnownCpu
       return_run s c.number f unit _ v (own_part m c) (local_of t returned d) (back_phase c f (frame_state_at m.frame_states f) unit heads at.once)
       (λ i. record s { phases = λ x. sym (ph x) i; references = λ q x. sym (re q x) i; parts = λ q. sym (pa q) i })
 
-  pub returned_counts : counts ≡ counts_over s (return_steps c.number f) m.counts
+  pub returned_counts : counts ≡ counts_along s (return_steps c.number f) m.counts
   returned_counts = counted
       ∙ comes_back s f (phase.Head unit (BackAt c.number)) (back_phase c f (frame_state_at m.frame_states f) unit heads at.once) true false refl refl m.counts
 

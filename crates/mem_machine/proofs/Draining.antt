@@ -35,7 +35,7 @@ use Rattle.mem_machine.proofs.Holds.{zone_may_act}
 use Rattle.mem_machine.proofs.Followed.{follows_same, follows_still, LeadsAs}
 use Rattle.mem_machine.specs.Following.{FollowsSteps}
 use Rattle.mem_machine.specs.declared.counts.Counts.{Counts}
-use Rattle.mem_machine.specs.Counting.{counts_over}
+use Rattle.mem_machine.specs.Counting.{counts_along}
 
 -- ---- the ledger
 
@@ -279,7 +279,7 @@ ungrants p s (Some g) (suc k) acts there =
     (λ i. record s { pending = sym (pending_back g (0 + suc k) (suc k) (omega arith)) i })
 
 -- no unit ends
-drain_counts : (s : State) (counts : Counts) (o : Option ℕ) (q k : ℕ) → counts ≡ counts_over s (drain_steps q o k) counts
+drain_counts : (s : State) (counts : Counts) (o : Option ℕ) (q k : ℕ) → counts ≡ counts_along s (drain_steps q o k) counts
 drain_counts s counts None q k = refl
 drain_counts s counts (Some g) q zero = refl
 drain_counts s counts (Some g) q (suc k) = refl

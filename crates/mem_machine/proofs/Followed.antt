@@ -25,9 +25,9 @@ use Rattle.step_rules.specs.Usage.{is_below}
 use Rattle.step_rules.specs.Legal.{is_of_group}
 use Rattle.step_rules.proofs.CallerLemmas.{noted_nowhere}
 use Rattle.step_rules.proofs.Moving.{gone_itself}
-use Rattle.mem_machine.specs.Following.{Moves, moved_over, moves_peak, moves_count, FollowsSteps}
+use Rattle.mem_machine.specs.Following.{Moves, moved_along, moves_peak, moves_count, FollowsSteps}
 use Rattle.mem_machine.specs.declared.counts.Counts.{Counts}
-use Rattle.mem_machine.specs.Counting.{counts_after, counts_over}
+use Rattle.mem_machine.specs.Counting.{counts_after, counts_along}
 use Rattle.mem_machine.specs.Machines.{KnownMachine}
 use Rattle.mem_machine.specs.Local.{VisitState, visit_state, local_of, local_at, IsLocalRun, MakesAs}
 use Rattle.step_watch.specs.Watched.{KnownWatch, Watches}
@@ -79,36 +79,36 @@ count_begins test m s e x y made =
     ∙ sym (ap (λ (b : Bool). cond b 0 (cond (test s.groups e.0.action e.1) (one_more y) y)) made)
 
 over_both : (moves : Moves) (p : ℕ) (a : State) (one two : Run) (b : State) (x : ℕ) → IsLocalRun p a one b
-    → moved_over moves a (one ++ two) x ≡ moved_over moves b two (moved_over moves a one x)
-over_both moves p a [] two b x run = ap (λ (s : State). moved_over moves s two x) run
+    → moved_along moves a (one ++ two) x ≡ moved_along moves b two (moved_along moves a one x)
+over_both moves p a [] two b x run = ap (λ (s : State). moved_along moves s two x) run
 over_both moves p a (e ∷ rest) two b x run =
     over_both moves p (after a e.0.seat e.0.action e.1) rest two b (moves a e x) run.1
 
 -- of a group that isn't there at first, and is at the end, it is the same whatever it was at first
 over_anew : (moves : Moves) (m : ℕ) → Begins moves m → (p : ℕ) (s : State) (steps : Run) (t : State) (x y : ℕ) → IsLocalRun p s steps t
-    → has_group s.groups m ≡ false → has_group t.groups m ≡ true → moved_over moves s steps x ≡ moved_over moves s steps y
+    → has_group s.groups m ≡ false → has_group t.groups m ≡ true → moved_along moves s steps x ≡ moved_along moves s steps y
 over_anew moves m begins p s [] t x y run absent there = absurd (true≢false (sym there ∙ ap (λ (k : State). has_group k.groups m) (sym run) ∙ absent))
 over_anew moves m begins p s (e ∷ rest) t x y run absent there =
     let now : State = after s e.0.seat e.0.action e.1 in
     elim (cases_Bool (has_group now.groups m)) [
-      | inl here ↦ ap (moved_over moves now rest)
+      | inl here ↦ ap (moved_along moves now rest)
           (begins s e x y (only_made s e.0.seat e.0.action e.1 m absent here))
       | inr none ↦ over_anew moves m begins p now rest t (moves s e x) (moves s e y) run.1 none there
     ]
 
 module _ (p : ℕ) (a : State) (one : Run) (b : State) (two : Run) (c : State) (first : IsLocalRun p a one b) (second : IsLocalRun p b two c) (m : ℕ) where
-  joined : (moves : Moves) → Begins moves m → (x y z : ℕ) → (has_group b.groups m ≡ true → y ≡ moved_over moves a one x)
-      → z ≡ moved_over moves b two y → has_group c.groups m ≡ true → z ≡ moved_over moves a (one ++ two) x
+  joined : (moves : Moves) → Begins moves m → (x y z : ℕ) → (has_group b.groups m ≡ true → y ≡ moved_along moves a one x)
+      → z ≡ moved_along moves b two y → has_group c.groups m ≡ true → z ≡ moved_along moves a (one ++ two) x
   joined moves begins x y z before behind there =
       behind ∙ elim (cases_Bool (has_group b.groups m)) [
-        | inl here ↦ ap (moved_over moves b two) (before here)
-        | inr none ↦ over_anew moves m begins p b two c y (moved_over moves a one x) second none there
+        | inl here ↦ ap (moved_along moves b two) (before here)
+        | inr none ↦ over_anew moves m begins p b two c y (moved_along moves a one x) second none there
       ] ∙ sym (over_both moves p a one two b x first)
 
 -- the counts after one list and then another
 counts_both : (p : ℕ) (a : State) (one two : Run) (b : State) (x : Counts) → IsLocalRun p a one b
-    → counts_over a (one ++ two) x ≡ counts_over b two (counts_over a one x)
-counts_both p a [] two b x run = ap (λ (s : State). counts_over s two x) run
+    → counts_along a (one ++ two) x ≡ counts_along b two (counts_along a one x)
+counts_both p a [] two b x run = ap (λ (s : State). counts_along s two x) run
 counts_both p a (e ∷ rest) two b x run =
     counts_both p (after a e.0.seat e.0.action e.1) rest two b (counts_after a e.0.seat e.0.action e.1 x) run.1
 
@@ -128,7 +128,7 @@ makes_both t p one two a b c first second =
         events_local = λ key m there. joined p s one u two v first.leads second.leads m (moves_count (is_noted_at key m) m)
             (count_begins (is_noted_at key m) m) _ _ _ (first.follows.events_local key m) (second.follows.events_local key m there) there;
       };
-      counts = second.counts ∙ ap (counts_over u two) first.counts ∙ sym (counts_both p s one two u a.machine.counts first.leads);
+      counts = second.counts ∙ ap (counts_along u two) first.counts ∙ sym (counts_both p s one two u a.machine.counts first.leads);
       watched = watches_both a.machine.watch one b.machine.watch two c.machine.watch first.watched second.watched;
     }
 
@@ -138,7 +138,7 @@ makes_both t p one two a b c first second =
 pub record LeadsAs (table : KnownTable) (number : ℕ) (before : VisitState) (steps : Run) (after : VisitState) : Type 0 where
   pub leads : IsLocalRun number (local_at table before) steps (local_at table after)
   pub follows : FollowsSteps (local_at table before) before.machine.ledger steps after.machine.ledger
-  pub counts : after.machine.counts ≡ counts_over (local_at table before) steps before.machine.counts
+  pub counts : after.machine.counts ≡ counts_along (local_at table before) steps before.machine.counts
 
 -- the same for each CPU that may hold the lock
 abbrev pub LeadsForAny : KnownTable → KnownMachine → Run → KnownMachine → Type 0
@@ -195,14 +195,14 @@ count_stays test m none s e x still =
     ap (λ (b : Bool). cond b 0 (cond (test s.groups e.0.action e.1) (one_more x) x)) (still_make m e.0.action e.1 still)
     ∙ ap (λ (b : Bool). cond b (one_more x) x) (none s.groups e.0.action e.1 still)
 
-over_still : (moves : Moves) → Stays moves → (s : State) (steps : Run) (x : ℕ) → are_still steps ≡ true → moved_over moves s steps x ≡ x
+over_still : (moves : Moves) → Stays moves → (s : State) (steps : Run) (x : ℕ) → are_still steps ≡ true → moved_along moves s steps x ≡ x
 over_still moves stays s [] x still = refl
 over_still moves stays s (e ∷ rest) x still =
     let both = and_parts (is_still e.0.action e.1) (are_still rest) still in
     over_still moves stays (after s e.0.seat e.0.action e.1) rest (moves s e x) both.1
     ∙ stays s e x both.0
 
-pub peak_still : (m : ℕ) (s : State) (steps : Run) (x : ℕ) → are_still steps ≡ true → moved_over (moves_peak m) s steps x ≡ x
+pub peak_still : (m : ℕ) (s : State) (steps : Run) (x : ℕ) → are_still steps ≡ true → moved_along (moves_peak m) s steps x ≡ x
 peak_still m = over_still (moves_peak m) (λ s e x still. still_peak (after s e.0.seat e.0.action e.1) e.0.action e.1 m x still)
 
 pub below_stays : (key : EventKey) (m : ℕ) → Stays (moves_count (is_noted_below key m) m)
@@ -212,11 +212,11 @@ pub at_stays : (key : EventKey) (m : ℕ) → Stays (moves_count (is_noted_at ke
 at_stays key m = count_stays (is_noted_at key m) m (λ groups action answer still. ap (λ (o : Option ℕ). is_of_group o m) (still_note key action answer still))
 
 pub below_still : (key : EventKey) (m : ℕ) (s : State) (steps : Run) (x : ℕ) → are_still steps ≡ true
-    → moved_over (moves_count (is_noted_below key m) m) s steps x ≡ x
+    → moved_along (moves_count (is_noted_below key m) m) s steps x ≡ x
 below_still key m = over_still (moves_count (is_noted_below key m) m) (below_stays key m)
 
 pub at_still : (key : EventKey) (m : ℕ) (s : State) (steps : Run) (x : ℕ) → are_still steps ≡ true
-    → moved_over (moves_count (is_noted_at key m) m) s steps x ≡ x
+    → moved_along (moves_count (is_noted_at key m) m) s steps x ≡ x
 at_still key m = over_still (moves_count (is_noted_at key m) m) (at_stays key m)
 
 pub follows_still : (s : State) (l : Ledger) (steps : Run) (k : Ledger) → are_still steps ≡ true → SamePeaks l k → SameEvents l k → FollowsSteps s l steps k

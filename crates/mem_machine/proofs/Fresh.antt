@@ -34,7 +34,7 @@ use Rattle.mem_machine.specs.Local.{IsLocalRun, local_of, fresh_group, number_or
 use Rattle.mem_machine.specs.Steps.{zone_makes}
 use Rattle.mem_machine.specs.Blocks.{PlacesUnit}
 use Rattle.mem_machine.specs.Counts.{with_drop}
-use Rattle.mem_machine.specs.Counting.{counts_over}
+use Rattle.mem_machine.specs.Counting.{counts_along}
 use Rattle.mem_machine.specs.Freeing.{FreesFrames}
 use Rattle.mem_machine.specs.Settling.{KeepsFresh, DropsFresh, with_page_absorbed, keep_steps, drop_steps}
 use Rattle.mem_machine.proofs.Holds.{own_part}
@@ -130,7 +130,7 @@ module _ (t : KnownTable) (w : KnownStockTable) (m : KnownMachine) (c : KnownCpu
 
   -- ---- kept
 
-  kept_counts : m.counts ≡ counts_over s (keep_steps c.number f) m.counts
+  kept_counts : m.counts ≡ counts_along s (keep_steps c.number f) m.counts
   kept_counts = collects_none s f (phase.Head (fresh_unit c) (FreshAt c.number)) fresh_now refl m.counts
 
   module _ (links : List Link) (lists : List Lru) (joined : AllJoin m.links m.lists g f links lists) where
@@ -260,7 +260,7 @@ module _ (t : KnownTable) (w : KnownStockTable) (m : KnownMachine) (c : KnownCpu
         (drop_run s c.number f (fresh_unit c) _ v (own_part m c) (local_of t dropped d) (ap (is_killed m.killed) was.named ∙ killed)
         (λ i. record s { phases = λ x. sym (ph x) i; references = λ q x. sym (re q x) i; parts = λ q. sym (pa q) i }))
 
-    dropped_counts : is_killed m.killed g ≡ true → counts ≡ counts_over s (drop_steps c.number f) m.counts
+    dropped_counts : is_killed m.killed g ≡ true → counts ≡ counts_along s (drop_steps c.number f) m.counts
     dropped_counts killed = counted ∙ comes_back s f (phase.Head (fresh_unit c) (FreshAt c.number)) fresh_now false true refl
         (ap (is_killed m.killed) was.named ∙ killed) m.counts
 

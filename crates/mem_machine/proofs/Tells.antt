@@ -27,7 +27,7 @@ use Rattle.step_rules.proofs.CoverUsage.{usage_seen}
 use Rattle.step_rules.proofs.LocalLaws.{own_step_is_legal, other_step_is_hidden}
 use Rattle.step_rules.proofs.Peaking.{peaks_are_kept}
 use Rattle.step_rules.proofs.Noting.{events_are_counted}
-use Rattle.mem_machine.specs.Following.{Moves, moved_over, moves_peak, moves_count}
+use Rattle.mem_machine.specs.Following.{Moves, moved_along, moves_peak, moves_count}
 use Rattle.mem_machine.specs.Local.{local_of, IsLocalRun}
 use Rattle.mem_machine.specs.Interleaving.{zone_of}
 use Rattle.mem_machine.specs.Agreeing.{LedgersAgree}
@@ -103,7 +103,7 @@ module _ (zone : Zone) (p m : ℕ) where
       → Tells (pushed run e.0 e.1) x) where
     tells_on : (run : Run) (a : State) (mixed : Run) (b : State) (x : ℕ) → ShowsLocal zone run p a → IsLocalRun p a (own_steps p mixed) b
         → IsInterleaved zone run p mixed → has_group b.groups m ≡ true → (has_group a.groups m ≡ true → Tells run x)
-        → Tells (run ++ mixed) (moved_over moves a (own_steps p mixed) x)
+        → Tells (run ++ mixed) (moved_along moves a (own_steps p mixed) x)
     tells_on run a [] b x shows leads mixes there told =
         subst (λ (r : Run). Tells r x) (sym (append-nil run)) (told (ap (λ (s : State). has_group s.groups m) leads ∙ there))
     tells_on run a (e ∷ mixed) b x shows leads mixes there told =
@@ -112,7 +112,7 @@ module _ (zone : Zone) (p m : ℕ) where
         let later : IsInterleaved zone (pushed run e.0 e.1) p mixed = λ k.
         subst (λ (r : Run). IfSome (slice_get mixed k) (λ d. MayFollow p (state_of zone r) d.0.seat d.0.action d.1))
         (sym (append_assoc run (e ∷ []) (take k mixed))) (mixes (suc k)) in
-        subst (λ (r : Run). Tells r (moved_over moves a (own_steps p (e ∷ mixed)) x)) (append_assoc run (e ∷ []) mixed)
+        subst (λ (r : Run). Tells r (moved_along moves a (own_steps p (e ∷ mixed)) x)) (append_assoc run (e ∷ []) mixed)
         (elim (cases_Bool (is_own p e.0.seat)) [
           | inl own ↦
               let parts : IsLocalRun p a (e ∷ own_steps p mixed) b =
@@ -120,7 +120,7 @@ module _ (zone : Zone) (p m : ℕ) where
               let now : State = after a e.0.seat e.0.action e.1 in
               let seen : ShowsLocal zone (pushed run e.0 e.1) p now = own_step_is_legal zone run p a e.0 e.1 shows parts.0 (here.own own) in
               let ok : Allows (state_of zone run) e.0.seat e.0.action e.1 = last_allowed zone run e.0 e.1 seen.legal in
-              subst (λ (c : Bool). Tells (pushed run e.0 e.1 ++ mixed) (moved_over moves a (cond c (e ∷ own_steps p mixed) (own_steps p mixed)) x)) (sym own)
+              subst (λ (c : Bool). Tells (pushed run e.0 e.1 ++ mixed) (moved_along moves a (cond c (e ∷ own_steps p mixed) (own_steps p mixed)) x)) (sym own)
               (tells_on (pushed run e.0 e.1) now mixed b (moves a e x) seen parts.1 later there
               (λ is. own_on run a e x shows parts.0 ok seen is told))
           | inr other ↦
@@ -129,7 +129,7 @@ module _ (zone : Zone) (p m : ℕ) where
               let who = not_own p e.0.seat other in
               let ok = here.other other in
               let seen : ShowsLocal zone (pushed run e.0 e.1) p a = other_step_is_hidden zone run p a e.0 e.1 shows (inl who) ok in
-              subst (λ (c : Bool). Tells (pushed run e.0 e.1 ++ mixed) (moved_over moves a (cond c (e ∷ own_steps p mixed) (own_steps p mixed)) x)) (sym other)
+              subst (λ (c : Bool). Tells (pushed run e.0 e.1 ++ mixed) (moved_along moves a (cond c (e ∷ own_steps p mixed) (own_steps p mixed)) x)) (sym other)
               (tells_on (pushed run e.0 e.1) a mixed b x seen rest later there
               (λ is. other_on run a e x shows seen ok (other_still (state_of zone run) e.0.seat e.0.action e.1 who.0 ok) is (told is)))
         ])
@@ -188,7 +188,7 @@ ledgers_agree t run steps mixed before after shows told makes mixes =
     let own : IsLocalRun p a (own_steps p mixed) b = subst (λ (r : Run). IsLocalRun p a r b) (sym mixes.own) makes.leads in
     record {
       peak = λ m there.
-          subst (IsPeak zone (run ++ mixed) m) (ap (λ (r : Run). moved_over (moves_peak m) a r (peak_of before.machine.ledger m)) mixes.own
+          subst (IsPeak zone (run ++ mixed) m) (ap (λ (r : Run). moved_along (moves_peak m) a r (peak_of before.machine.ledger m)) mixes.own
           ∙ sym (makes.follows.peak m there))
           (tells_on zone p m (λ r x. IsPeak zone r m x) (moves_peak m) (peak_own zone p m) (peak_other zone p m)
           run a mixed b (peak_of before.machine.ledger m) shows own mixes.follows there (told.peak m));
@@ -196,7 +196,7 @@ ledgers_agree t run steps mixed before after shows told makes mixes =
           let test = is_noted_below key m in
           let law = λ (r : Run) (e : Step × Answer). (events_are_counted.step zone r e.0 e.1 key m).below in
           makes.follows.events key m there
-          ∙ ap (λ (r : Run). moved_over (moves_count test m) a r (count_of (events_of before.machine.ledger m) key)) (sym mixes.own)
+          ∙ ap (λ (r : Run). moved_along (moves_count test m) a r (count_of (events_of before.machine.ledger m) key)) (sym mixes.own)
           ∙ tells_on zone p m (λ r x. x ≡ events_in key zone r m) (moves_count test m)
           (count_own zone p m test (λ r. events_in key zone r m) law (below_stays key m)) (count_other zone p m test (λ r. events_in key zone r m) law (below_stays key m))
           run a mixed b (count_of (events_of before.machine.ledger m) key) shows own mixes.follows there (told.events key m);
@@ -204,7 +204,7 @@ ledgers_agree t run steps mixed before after shows told makes mixes =
           let test = is_noted_at key m in
           let law = λ (r : Run) (e : Step × Answer). (events_are_counted.step zone r e.0 e.1 key m).local in
           makes.follows.events_local key m there
-          ∙ ap (λ (r : Run). moved_over (moves_count test m) a r (count_of (events_local_of before.machine.ledger m) key)) (sym mixes.own)
+          ∙ ap (λ (r : Run). moved_along (moves_count test m) a r (count_of (events_local_of before.machine.ledger m) key)) (sym mixes.own)
           ∙ tells_on zone p m (λ r x. x ≡ events_local_in key zone r m) (moves_count test m)
           (count_own zone p m test (λ r. events_local_in key zone r m) law (at_stays key m)) (count_other zone p m test (λ r. events_local_in key zone r m) law (at_stays key m))
           run a mixed b (count_of (events_local_of before.machine.ledger m) key) shows own mixes.follows there (told.events_local key m);

@@ -51,8 +51,8 @@ counts_after state seat (Return frame) Done counts =
 counts_after state seat action answer counts = counts
 
 -- the counts after all steps of a list, the first of which is made in this state
-abbrev pub counts_over : State → Run → Counts → Counts
-counts_over state [] counts = counts
-counts_over state (made ∷ rest) counts =
-    counts_over (after state made.0.seat made.0.action made.1) rest
+abbrev pub counts_along : State → Run → Counts → Counts
+counts_along state [] counts = counts
+counts_along state (made ∷ rest) counts =
+    counts_along (after state made.0.seat made.0.action made.1) rest
     (counts_after state made.0.seat made.0.action made.1 counts)

@@ -19,10 +19,10 @@ abbrev pub Moves : Type 0
 Moves = State → Step × Answer → ℕ → ℕ
 
 -- the number after all steps of a list, the first of which is made in this state
-abbrev pub moved_over : Moves → State → Run → ℕ → ℕ
-moved_over moves state [] number = number
-moved_over moves state (made ∷ rest) number =
-    moved_over moves (after state made.0.seat made.0.action made.1) rest (moves state made number)
+abbrev pub moved_along : Moves → State → Run → ℕ → ℕ
+moved_along moves state [] number = number
+moved_along moves state (made ∷ rest) number =
+    moved_along moves (after state made.0.seat made.0.action made.1) rest (moves state made number)
 
 -- how a step changes the group's peak, by the state after the step
 abbrev pub moves_peak : ℕ → Moves
@@ -34,21 +34,21 @@ abbrev pub moves_count : (List Group → Action → Answer → Bool) → ℕ →
 moves_count test group state made count = count_after test group state.groups made.0.action made.1 count
 
 -- the peak of the group after these steps from this state on
-abbrev pub peak_over : ℕ → State → Run → ℕ → ℕ
-peak_over group state steps peak = moved_over (moves_peak group) state steps peak
+abbrev pub peak_along : ℕ → State → Run → ℕ → ℕ
+peak_along group state steps peak = moved_along (moves_peak group) state steps peak
 
 -- a count of the group after these steps from this state on
-abbrev pub count_over : (List Group → Action → Answer → Bool) → ℕ → State → Run → ℕ → ℕ
-count_over test group state steps count = moved_over (moves_count test group) state steps count
+abbrev pub count_along : (List Group → Action → Answer → Bool) → ℕ → State → Run → ℕ → ℕ
+count_along test group state steps count = moved_along (moves_count test group) state steps count
 
 -- For each group that exists after the steps, the peak and the counts follow the steps from their values before. A
 -- group that the steps make starts at 0, whatever its number had before.
 pub record FollowsSteps (state : State) (before : Ledger) (steps : Run) (after : Ledger) : Type 0 where
   pub peak : (group : ℕ) → has_group after.groups group ≡ true
-      → peak_of after group ≡ peak_over group state steps (peak_of before group)
+      → peak_of after group ≡ peak_along group state steps (peak_of before group)
   pub events : (key : EventKey) (group : ℕ) → has_group after.groups group ≡ true
       → count_of (events_of after group) key
-      ≡ count_over (is_noted_below key group) group state steps (count_of (events_of before group) key)
+      ≡ count_along (is_noted_below key group) group state steps (count_of (events_of before group) key)
   pub events_local : (key : EventKey) (group : ℕ) → has_group after.groups group ≡ true
       → count_of (events_local_of after group) key
-      ≡ count_over (is_noted_at key group) group state steps (count_of (events_local_of before group) key)
+      ≡ count_along (is_noted_at key group) group state steps (count_of (events_local_of before group) key)

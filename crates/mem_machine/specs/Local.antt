@@ -24,7 +24,7 @@ use Rattle.mem_machine.specs.declared.frame_state.FrameState.TheVariants.{Free, 
 use Rattle.mem_machine.specs.FrameStates.{frame_state_at}
 use Rattle.mem_machine.specs.Machines.{KnownMachine, is_killed}
 use Rattle.mem_machine.specs.Following.{FollowsSteps}
-use Rattle.mem_machine.specs.Counting.{counts_over}
+use Rattle.mem_machine.specs.Counting.{counts_along}
 
 -- the number, or 0 if there is none
 abbrev pub number_or_0 : Option ℕ → ℕ
@@ -106,7 +106,7 @@ pub record MakesAs (table : KnownTable) (cpu_number : ℕ) (before : VisitState)
     (after : VisitState) : Type 0 where
   pub leads : IsLocalRun cpu_number (local_at table before) steps (local_at table after)
   pub follows : FollowsSteps (local_at table before) before.machine.ledger steps after.machine.ledger
-  pub counts : after.machine.counts ≡ counts_over (local_at table before) steps before.machine.counts
+  pub counts : after.machine.counts ≡ counts_along (local_at table before) steps before.machine.counts
   pub watched : Watches before.machine.watch steps after.machine.watch
 
 -- these steps lead the CPU that holds the lock from one visit state to the other

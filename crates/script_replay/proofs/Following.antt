@@ -67,7 +67,7 @@ use Rattle.script_replay.specs.Answers.{locked_with_unit_notes, locked_with_watc
 use Rattle.script_replay.specs.Ranges.{WorkInRange}
 use Rattle.script_replay.proofs.Looking.{IsLookedAt, shut_before, stock_looked, units_looked}
 use Rattle.group_charge.specs.Charges.{Ledger}
-use Rattle.mem_machine.specs.Counting.{counts_over}
+use Rattle.mem_machine.specs.Counting.{counts_along}
 use Rattle.mem_machine.specs.Following.{FollowsSteps}
 
 -- ---- what no one sees
@@ -226,7 +226,7 @@ module _ (t : KnownTable) (w : KnownStockTable) (run : Run) (locked : KnownLocke
         leads = subst (λ (x : ℕ × State). IsLocalRun x.0 x.1 is.steps (local_of t after.locked.machine after.cpu)) (λ i. (unseen.number i, same i))
             is.makes.leads;
         follows = subst (λ (x : State). FollowsSteps x n.ledger is.steps after.locked.machine.ledger) same is.makes.follows;
-        counts = is.makes.counts ∙ ap (λ (x : State). counts_over x is.steps n.counts) same;
+        counts = is.makes.counts ∙ ap (λ (x : State). counts_along x is.steps n.counts) same;
         watched = is.makes.watched;
       } in
       let serves : ServesAt t cpus k (visit_state n c) is.steps (visit_state after.locked.machine after.cpu) = record {
