@@ -17,7 +17,7 @@ use Rattle.mem_machine.specs.FrameStates.{frame_state_at, head_group_of}
 use Rattle.mem_machine.specs.Machines.{KnownMachine, IsConsistent, OthersStay, home_of, lists_at, no_lists, group_lists, lists_of}
 use Rattle.mem_machine.specs.Marks.{Dirties}
 use Rattle.mem_machine.specs.Local.{MakesAs, visit_state}
-use Rattle.mem_machine.proofs.Listed.{dirtied_owners, fits_home, place_here, loose_stay, others_stay}
+use Rattle.mem_machine.proofs.Listed.{dirtied_owners, fits_home, place_here, unlisted_stay, others_stay}
 use Rattle.mem_machine.proofs.Followed.{makes_stay}
 
 -- a home that is there is of a group number
@@ -82,7 +82,7 @@ module _ (t : KnownTable) (w : KnownStockTable) (m : KnownMachine) (ok : IsConsi
       active = subst (λ (x : Lru). entries_of links x Active ≡ changed_at f (dirtied d) (entries_of m.links x Active)) (sym its_lists) (entries Active);
       others = subst (λ (l : List Lru). OthersStay h.owner (lists_of m) (group_lists links l)) same_lists
           (others_stay m.links links m.lists h.owner lru lru ok.lists ok.sizes.lists owned changes others_stay_linked);
-      loose = λ g none. loose_stay m.links links lru.owner g changes (owners g) none;
+      unlisted = λ g none. unlisted_stay m.links links lru.owner g changes (owners g) none;
     }
 
 -- a kept unit has a home

@@ -56,7 +56,7 @@ module _ (links : List Link) (lists : List Lru) (g f : ℕ) (fits : g < 64) (gro
                 ∙ ap (λ (l : Lru). inactive_of links l ++ record { number = f; is_marked = false; is_dirty = false } ∷ []) was;
             active = ap (active_of after) now ∙ added.active ∙ ap (active_of links) was;
             others = others_stay links after lists g lru new all groups own added.changes others_stay_linked;
-            loose = λ x ne none. added.moves.kept x ne (ap (λ (h : Option Home). place_of h lru.owner) none);
+            unlisted = λ x ne none. added.moves.kept x ne (ap (λ (h : Option Home). place_of h lru.owner) none);
           };
           stand = all_stand;
           frames = added.changes.frames;

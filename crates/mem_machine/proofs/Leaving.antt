@@ -66,7 +66,7 @@ module _ (links : List Link) (lists : List Lru) (f : ℕ) (h : Home) (home : Som
         home = sym home;
         forgotten = forgotten;
         homes = moves.home;
-        loose = λ g none. moves.kept g (λ e. none-some h (sym none ∙ ap (home_of links) e ∙ sym home)) (ap (λ (x : Option Home). place_of x lru.owner) none);
+        unlisted = λ g none. moves.kept g (λ e. none-some h (sym none ∙ ap (home_of links) e ∙ sym home)) (ap (λ (x : Option Home). place_of x lru.owner) none);
         used = used;
         inactive = subst (λ (x : Lru × Lru). inactive_of after x.1 ≡ entries_without f (inactive_of links x.0))
             (λ i. (sym its_lists i, sym now_its i)) inactive;

@@ -77,10 +77,10 @@ none_stays : (h k : Option Home) → option_map (λ (x : Home). x.owner) k ≡ o
 none_stays h None same none = refl
 none_stays h (Some k) same none = absurd (none-some k.owner (sym (same ∙ ap (option_map (λ (x : Home). x.owner)) none)))
 
-pub loose_stay : (before after : List Link) (owner f : ℕ) → ChangesOwn before after owner
+pub unlisted_stay : (before after : List Link) (owner f : ℕ) → ChangesOwn before after owner
     → option_map (λ (x : Home). x.owner) (link_at after f).home ≡ option_map (λ (x : Home). x.owner) (link_at before f).home
     → (link_at before f).home ≡ None → link_at after f ≡ link_at before f
-loose_stay before after owner f changes same none =
+unlisted_stay before after owner f changes same none =
     changes.kept f (ap (λ (h : Option Home). place_of h owner) none)
     (ap (λ (h : Option Home). place_of h owner) (none_stays (link_at before f).home (link_at after f).home same none))
 

@@ -14,10 +14,11 @@ use Rattle.lru_lists.specs.declared.lru.Lru.{Lru}
 use Rattle.lru_lists.specs.Lists.{OthersStayLinked, OneOfAllChanges, AreLinked, AllLinked, ChangesOwn, SameOwners, Ages, owner_of, list_of, place_of, entries_of}
 use Rattle.lru_lists.specs.Lists.{inactive_of, active_of, entries_without, entry_of, marked, first_entry, entry_after}
 use Rattle.mem_machine.specs.FrameStates.{frame_state_at}
-use Rattle.mem_machine.specs.Machines.{KnownMachine, IsConsistent, OthersStay, LooseStay, home_of, lists_at, entries_in, no_lists, lists_of}
+use Rattle.mem_machine.specs.Machines.{KnownMachine, IsConsistent, OthersStay, UnlistedStay, home_of, lists_at}
+use Rattle.mem_machine.specs.Machines.{entries_in, no_lists, lists_of}
 use Rattle.mem_machine.specs.Ageing.{AgesGroup, RenewsUnit}
 use Rattle.mem_machine.specs.Local.{MakesForAny}
-use Rattle.mem_machine.proofs.Listed.{fits_home, loose_stay, others_stay, place_here}
+use Rattle.mem_machine.proofs.Listed.{fits_home, others_stay, place_here, unlisted_stay}
 use Rattle.mem_machine.proofs.KeptUnits.{there, read_owner, read_stands, read_is}
 use Rattle.mem_machine.proofs.Followed.{makes_stay}
 
@@ -75,7 +76,7 @@ pub record GroupChanged (t : KnownTable) (w : KnownStockTable) (now : KnownMachi
   pub after : lists_at n.lists g ≡ new
   pub others : OthersStay g (lists_of now) (lists_of n)
   pub owners : SameOwners now.links n.links
-  pub loose : LooseStay now.links n.links
+  pub unlisted : UnlistedStay now.links n.links
   pub steps : MakesForAny t now [] n
 
 module _ (t : KnownTable) (w : KnownStockTable) (m : KnownMachine) (ok : IsConsistent t w m) (g : ℕ) (fits : g < 64) (any lru : Lru) (read : lru ≡ get_or m.lists g any)
@@ -120,7 +121,7 @@ module _ (t : KnownTable) (w : KnownStockTable) (m : KnownMachine) (ok : IsConsi
     after = get_or-set_same m.lists g new no_lists room;
     others = others_stay m.links links m.lists g lru new ok.lists ok.sizes.lists own changes others_stay_linked;
     owners = owners;
-    loose = λ f none. loose_stay m.links links lru.owner f changes (mapped f) none;
+    unlisted = λ f none. unlisted_stay m.links links lru.owner f changes (mapped f) none;
     steps = λ c. makes_stay t m (record m { links = links; lists = slice_set m.lists g new }) c c refl refl refl refl;
   }
 
@@ -142,7 +143,7 @@ ages_group t w m now same g lru new n changed ages = record {
   ages = subst (λ (x : KnownMachine × Lru × Lru). Ages x.0.links x.1 n.links x.2) (λ j. (same j, sym changed.before j, sym changed.after j)) ages;
   others = changed.others;
   owners = changed.owners;
-  loose = changed.loose;
+  unlisted = changed.unlisted;
 }
 
 -- ---- a unit of the group was renewed
@@ -159,5 +160,5 @@ renews_unit t w m now same g f i is lru new n changed inactive active = record {
       (λ j. (same j, sym changed.before j, sym changed.after j)) active;
   others = changed.others;
   owners = changed.owners;
-  loose = changed.loose;
+  unlisted = changed.unlisted;
 }

@@ -15,7 +15,7 @@ use Rattle.mem_machine.specs.FrameStates.{frame_state_at}
 use Rattle.mem_machine.specs.Machines.{KnownMachine, IsConsistent, home_of, no_lists}
 use Rattle.mem_machine.specs.Marks.{TouchesUnit}
 use Rattle.mem_machine.specs.Local.{MakesAs, visit_state}
-use Rattle.mem_machine.proofs.Listed.{touched_owners, fits_home, loose_stay, others_stay}
+use Rattle.mem_machine.proofs.Listed.{touched_owners, fits_home, unlisted_stay, others_stay}
 use Rattle.mem_machine.proofs.Dirties.{owner_bound, on_list, owned, stands, its_lists}
 use Rattle.mem_machine.proofs.Followed.{makes_stay}
 
@@ -68,7 +68,7 @@ module _ (t : KnownTable) (w : KnownStockTable) (m : KnownMachine) (ok : IsConsi
     touches = subst (λ (x : Lru × Lru). Touches m.links x.0 f touched links x.1)
         (λ i. (sym (its_lists t w m ok f inside h home lru read) i, sym (get_or-set_same m.lists h.owner new no_lists bound) i)) touches;
     others = others_stay m.links links m.lists h.owner lru new ok.lists ok.sizes.lists own changes others_stay_linked;
-    loose = λ g none. loose_stay m.links links lru.owner g changes (owners g) none;
+    unlisted = λ g none. unlisted_stay m.links links lru.owner g changes (owners g) none;
   }
 
 -- all of it, of the machine as it was seen before

@@ -1,7 +1,8 @@
 -- How the two lists of a group are aged and renewed, and how they are read.
 use Rattle.std.specs.Prelude.{◌≡◌, ℕ, false, [], ◌∷◌, ◌++◌}
 use Rattle.lru_lists.specs.Lists.{SameOwners, Ages, entries_without, entry_of, marked}
-use Rattle.mem_machine.specs.Machines.{KnownMachine, OthersStay, LooseStay, lists_at, lists_of, inactive_in, active_in}
+use Rattle.mem_machine.specs.Machines.{KnownMachine, OthersStay, UnlistedStay, lists_at, lists_of, inactive_in}
+use Rattle.mem_machine.specs.Machines.{active_in}
 -- one of the two lists of the group, from the oldest unit to the newest
 pub use Rattle.mem_machine.specs.Machines.{entries_in}
 
@@ -13,7 +14,7 @@ pub record AgesGroup (group : ℕ) (before after : KnownMachine) : Type 0 where
   pub ages : Ages before.links (lists_at before.lists group) after.links (lists_at after.lists group)
   pub others : OthersStay group (lists_of before) (lists_of after)
   pub owners : SameOwners before.links after.links
-  pub loose : LooseStay before.links after.links
+  pub unlisted : UnlistedStay before.links after.links
 
 -- The unit moves, unmarked, to the newest end of the group's inactive list. Each frame is on a list of the same group
 -- as before and as dirty as before. Nothing else changed.
@@ -24,4 +25,4 @@ pub record RenewsUnit (group frame : ℕ) (before after : KnownMachine) : Type 0
   pub active : active_in after group ≡ active_in before group
   pub others : OthersStay group (lists_of before) (lists_of after)
   pub owners : SameOwners before.links after.links
-  pub loose : LooseStay before.links after.links
+  pub unlisted : UnlistedStay before.links after.links

@@ -123,8 +123,8 @@ OthersStay group before after = (other : ℕ) (list : LruList) → other < most_
     ≡ entries_of before.links (lists_at before.lists other) list
 
 -- each frame that is on no list keeps its link, mark and dirt included
-abbrev pub LooseStay : List Link → List Link → Type 0
-LooseStay before after =
+abbrev pub UnlistedStay : List Link → List Link → Type 0
+UnlistedStay before after =
     (frame : ℕ) → home_of before frame ≡ None → link_at after frame ≡ link_at before frame
 
 -- each group number has its two lists, and all of them agree with the links
