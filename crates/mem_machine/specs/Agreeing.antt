@@ -9,7 +9,7 @@ use Rattle.step_rules.specs.After.{Run}
 use Rattle.step_rules.specs.Peaks.{IsPeak}
 use Rattle.step_rules.specs.Events.{events_of as events_in, events_local_of as events_local_in}
 use Rattle.mem_machine.specs.Local.{VisitState, Makes}
-use Rattle.mem_machine.specs.Interleaving.{zone_of, Shows, IsMixed}
+use Rattle.mem_machine.specs.Interleaving.{zone_of, Shows, IsInterleaving}
 
 -- for each existing group, the ledger has the peak that the group reached in the run, and the counts of the events that
 -- the run noted
@@ -27,4 +27,4 @@ pub record AgreesWithRun (table : KnownTable) (run : Run) (ledger : Ledger) : Ty
 abbrev pub LedgersAgree : Type 0
 LedgersAgree = (table : KnownTable) (run steps mixed : Run) (before after : VisitState)
     → Shows table run before → AgreesWithRun table run before.machine.ledger → Makes table before steps after
-    → IsMixed table run before.cpu.number steps mixed → AgreesWithRun table (run ++ mixed) after.machine.ledger
+    → IsInterleaving table run before.cpu.number steps mixed → AgreesWithRun table (run ++ mixed) after.machine.ledger

@@ -18,7 +18,7 @@ Shows table run now = ShowsLocal (zone_of table) run now.cpu.number (local_at ta
 -- `mixed` may follow the run. Its steps of this CPU and of the zone's seat are `steps`, in this order. Each of those
 -- has the answer that the references and stocks of all seats decide at that place, and each other step is allowed at
 -- its place.
-pub record IsMixed (table : KnownTable) (run : Run) (cpu : ℕ) (steps mixed : Run) : Type 0 where
+pub record IsInterleaving (table : KnownTable) (run : Run) (cpu : ℕ) (steps mixed : Run) : Type 0 where
   pub own : own_steps cpu mixed ≡ steps
   pub follows : IsInterleaved (zone_of table) run cpu mixed
 
@@ -27,4 +27,4 @@ pub record IsMixed (table : KnownTable) (run : Run) (cpu : ℕ) (steps mixed : R
 abbrev pub CallsInterleave : Type 0
 CallsInterleave = (table : KnownTable) (run steps mixed : Run) (before after : VisitState)
     → after.cpu.number ≡ before.cpu.number → Shows table run before → Makes table before steps after
-    → IsMixed table run before.cpu.number steps mixed → Shows table (run ++ mixed) after
+    → IsInterleaving table run before.cpu.number steps mixed → Shows table (run ++ mixed) after
