@@ -78,4 +78,5 @@ with_run None notes group first frames = with_new_run notes group first frames
 -- the unit joins the last run if it can, and is a new run otherwise.
 abbrev pub unit_noted : KnownNotes → (group first frames : ℕ) → KnownNotes
 unit_noted notes group first frames =
-    if notes.notes_units then with_run (joined (last_noted notes) group first frames) notes group first frames else notes
+    if notes.notes_units then with_run (joined (last_noted notes) group first frames) notes group first frames
+    else notes
