@@ -42,7 +42,8 @@ past_line past steps after = record { run = past.run ++ steps; now = after }
 pub record HoldsPromise (table : KnownTable) (earlier : Run) (before : SystemState) (run : Run) (now : SystemState)
     : Type 0 where
   pub promise : Promise (zone_of table) run (shown_of now.locked.machine now.cpus)
-  pub tells : AgreesWithRun table earlier before.locked.machine.ledger → AgreesWithRun table run now.locked.machine.ledger
+  pub tells : AgreesWithRun table earlier before.locked.machine.ledger
+      → AgreesWithRun table run now.locked.machine.ledger
 
 -- The first line is served by these steps, which the watch took. If the run so far with these steps is legal, the
 -- promise holds after it, and the ledger keeps the peaks and event counts of the run. The other lines have their
