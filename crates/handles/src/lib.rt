@@ -7,8 +7,8 @@
 #![tactic(auto)]
 
 pub mod calls;
-pub mod hold;
 pub mod live;
+pub mod live_pointer;
 pub mod loose;
 pub mod raw;
 pub mod requests;

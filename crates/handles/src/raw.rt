@@ -9,8 +9,8 @@ ghost use Rattle.handles.specs.Owned.{frames_coded, known_coded, live_owns, mark
 ghost use Rattle.handles.specs.Serving.{IsFit, OnRaw, ServesRaw};
 
 use crate::calls::{Call, CallAnswer, Shown};
-use crate::hold::Hold;
 use crate::live::Live;
+use crate::live_pointer::LivePointer;
 use crate::requests::{Answer, Request};
 use crate::serving::{serve, serve_call, show_file};
 use control_files::file::File;
@@ -53,14 +53,14 @@ pub fn serve_raw(raw: Raw, request: Request) -> (Raw, Answer)
         result.0.frames result.0.stocks result.0.live result.1 }
 {
     let Raw { ptr, alloc } = raw;
-    let (hold, answer) = serve::<Brand>(
-        Hold {
+    let (pointer, answer) = serve::<Brand>(
+        LivePointer {
             ptr: ptr as *mut Live<Brand>,
             alloc,
         },
         request,
     );
-    let Hold { ptr, alloc } = hold;
+    let LivePointer { ptr, alloc } = pointer;
     (
         Raw {
             ptr: ptr as *mut u8,
@@ -78,15 +78,15 @@ pub fn call_raw(raw: Raw, cpu: u32, call: &Call<'_>) -> (Raw, CallAnswer)
         raw.frames raw.stocks raw.live result.0.frames result.0.stocks result.0.live }
 {
     let Raw { ptr, alloc } = raw;
-    let (hold, told) = serve_call::<Brand>(
-        Hold {
+    let (pointer, told) = serve_call::<Brand>(
+        LivePointer {
             ptr: ptr as *mut Live<Brand>,
             alloc,
         },
         cpu,
         call,
     );
-    let Hold { ptr, alloc } = hold;
+    let LivePointer { ptr, alloc } = pointer;
     (
         Raw {
             ptr: ptr as *mut u8,
@@ -103,15 +103,15 @@ pub fn show_raw(raw: Raw, group: GroupId, file: File) -> (Raw, Shown)
         raw.frames raw.stocks raw.live result.0.frames result.0.stocks result.0.live }
 {
     let Raw { ptr, alloc } = raw;
-    let (hold, shown) = show_file::<Brand>(
-        Hold {
+    let (pointer, shown) = show_file::<Brand>(
+        LivePointer {
             ptr: ptr as *mut Live<Brand>,
             alloc,
         },
         group,
         file,
     );
-    let Hold { ptr, alloc } = hold;
+    let LivePointer { ptr, alloc } = pointer;
     (
         Raw {
             ptr: ptr as *mut u8,

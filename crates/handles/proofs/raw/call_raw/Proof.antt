@@ -50,7 +50,7 @@ use Rattle.handles.specs.Serving.{OnLive}
 use Rattle.handles.specs.Known.{KnownLive}
 use Rattle.cpu_part.specs.declared.boot_name.BootName.{Ghosts}
 use Rattle.handles.specs.contracts.raw.Raw as Raw
-use Rattle.handles.specs.contracts.hold.Hold as Hold
+use Rattle.handles.specs.contracts.live_pointer.LivePointer as LivePointer
 use Rattle.handles.specs.contracts.calls.Call as Call
 use Rattle.handles.specs.contracts.calls.CallAnswer as CallAnswer
 use Rattle.handles.specs.contracts.serving.serve_call as S
@@ -100,8 +100,8 @@ module _ {M : Type 1} {𝓤 : Ura M} (𝓛 : Logic 𝓤) (at_mem : Memory → SP
       let p = d.ptr in let a = d.alloc in let b = r.ref_ptr.0 in let o = r.ref_ptr.1 in
       let F₀ = live_owns marker d.frames d.stocks a p d.live in
       let Lent = (type_at Asked z.0.0) in
-      let HoldR = Hold.the_row marker g in
-      let from : HoldR.Denot = record { ptr = p; alloc = a; live = d.live } in
+      let PointerR = LivePointer.the_row marker g in
+      let from : PointerR.Denot = record { ptr = p; alloc = a; live = d.live } in
       let tokens = ‵ (flft κ₀ q₀) ⊛ (‵ (flft κ₁ q₁) ⊛ ‵ ftrue) in
       qed 𝓛 ((tokens ⊛ ‵ (fsep (Raw.the_row.own_val d z.0.4.0) (fsep (u32.own_val n z.0.4.1.0) (fsep (Lent.own_val r z.0.4.1.1.0) ftrue)))) ∷ raw (fact 𝓤 (IsSome d.live)) ∷ []) ∵
       split ! $ move ! (2 ∷ []) $ heard ! (IsSome d.live) (λ some_live. move ! (1 ∷ []) $ fsplit ! $
@@ -118,8 +118,8 @@ module _ {M : Type 1} {𝓤 : Ura M} (𝓛 : Logic 𝓤) (at_mem : Memory → SP
       sets ! (of_opd ! (get_in ! (fld ! refl (stop !)) (sub ! 1 refl (whole !)))) refl fa $
       sets ! (of_opd ! (get ! refl)) refl (ptr_typed p) $
       sets ! (agg ! (and_then ! (get ! refl) (and_then ! (get ! refl) (no_more !)))) refl (word_typed p hv fa) $
-      lft_new ! tt (λ α. move ! (3 ∷ 4 ∷ []) $ parts_in (shape (Hold.the_type marker g)) ! hv p a F₀ $
-      -- [the hold; the new token; the call; the CPU; the tokens]
+      lft_new ! tt (λ α. move ! (3 ∷ 4 ∷ []) $ parts_in (shape (LivePointer.the_type marker g)) ! hv p a F₀ $
+      -- [the pointer; the new token; the call; the CPU; the tokens]
       nothing ! $ move ! (3 ∷ 0 ∷ []) $ fjoin ! $ move ! (3 ∷ 0 ∷ []) $ fjoin ! $ move ! (1 ∷ 0 ∷ []) $ fjoin ! $
       -- [the arguments; the new token; the tokens]
       move ! (2 ∷ []) $ split ! $ move ! (1 ∷ []) $ split ! $ move ! (4 ∷ 1 ∷ []) $ join ! $ move ! (1 ∷ 0 ∷ []) $ join ! $ move ! (1 ∷ 0 ∷ []) $ join ! $ join ! $
@@ -128,7 +128,7 @@ module _ {M : Type 1} {𝓤 : Ura M} (𝓛 : Logic 𝓤) (at_mem : Memory → SP
       let y : (Served g).Ghost = (((κ₀, (κ₁, (α ∷ [], tt))), (q₀, (q₁, (full_share, tt))), z.0.2, (from, (n, (r, tt))), (word p hv ∷ [], (vint w32 n ∷ [], (vptr b o ∷ [], tt)))), tt) in
       use1 𝓛 (raw ((Served g).pre y)) (id⊢ 𝓤 _) $
       calls_at ! (fm_of 𝓤 H 𝓛.laws 𝓣) (Served g) (kn g) y (and_then ! (get ! refl) (and_then ! (get ! refl) (and_then ! (get ! refl) (no_more !)))) (λ u.
-      use1 𝓛 (later (some (λ (t : HoldR.Denot × CallAnswer.the_row.Denot). ((‵ (flft κ₀ q₀) ⊛ (‵ (flft κ₁ q₁) ⊛ (‵ (flft (α ∷ []) full_share) ⊛ ‵ ftrue))) ⊛ ‵ ((Tuple (HoldR ∷ CallAnswer.the_row ∷ [])).own_val t (u ∷ []))) ⊛
+      use1 𝓛 (later (some (λ (t : PointerR.Denot × CallAnswer.the_row.Denot). ((‵ (flft κ₀ q₀) ⊛ (‵ (flft κ₁ q₁) ⊛ (‵ (flft (α ∷ []) full_share) ⊛ ‵ ftrue))) ⊛ ‵ ((Tuple (PointerR ∷ CallAnswer.the_row ∷ [])).own_val t (u ∷ []))) ⊛
       some (λ ended. ‵ (lasts (S.ended brand g none) (κ₀, (κ₁, (α ∷ [], tt))) (from, (n, (r, tt))) ended) ⊛ raw (fact 𝓤 (OnLive (λ live to. Calls g.frames g.stocks n r.now live to t.1) d.live t.0.live)))))) (id⊢ 𝓤 _) $
       await ! tt $ pick ! (λ t. split ! $ move ! (1 ∷ []) $ pick ! (λ ended. split ! $ drop ! $ heard ! (OnLive (λ live to. Calls g.frames g.stocks n r.now live to t.1) d.live t.0.live) (λ did. split ! $
       -- [the tokens; the result]
@@ -137,9 +137,9 @@ module _ {M : Type 1} {𝓤 : Ura M} (𝓛 : Logic 𝓤) (at_mem : Memory → SP
       let F₂ = live_owns marker g.frames g.stocks a' p' t.0.live in
       let made : Raw.the_row.Denot = record { ptr = p'; alloc = a'; frames = g.frames; stocks = g.stocks; live = t.0.live } in
       fpick ! (λ vss. fsplit ! $ feq_l ! (λ eu. fsplit ! $
-      parts_out (shape (Hold.the_type marker g)) ! p' a' vss.0 F₂ (λ hw e0 fw. move ! (2 ∷ []) $ fsplit ! $
+      parts_out (shape (LivePointer.the_type marker g)) ! p' a' vss.0 F₂ (λ hw e0 fw. move ! (2 ∷ []) $ fsplit ! $
       row_tells CallAnswer.the_row told_laws.the_row_laws ! t.1 vss.1.0 (λ tv e1 fv. move ! (1 ∷ []) $ drop ! $
-      -- [what is told; what the hold owns; the handle; the tokens]
+      -- [what is told; what the pointer owns; the handle; the tokens]
       let both_typed : T (has_ty (layout Raw.the_row) (word p' hw) && (has_ty (layout CallAnswer.the_row) tv && true)) × WT (vstruct (of_list (word p' hw ∷ tv ∷ []))) = (both (has_ty (layout Raw.the_row) (word p' hw)) (has_ty (layout CallAnswer.the_row) tv && true) (word_typed p' hw fw).0 (and_tt (has_ty (layout CallAnswer.the_row) tv) fv.0), ((word_typed p' hw fw).1, (fv.1, tt))) in
       lands_as ! (ap only (eu ∙ (λ j. vstruct (of_list (e0 j ++ (e1 j ++ []))) ∷ []))) refl both_typed $
       sets ! (of_opd ! (get_in ! (fld ! refl (stop !)) (sub ! 0 refl (whole !)))) refl (word_typed p' hw fw) $

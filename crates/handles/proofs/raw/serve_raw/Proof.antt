@@ -53,7 +53,7 @@ use Rattle.handles.specs.Known.{KnownLive}
 use Rattle.handles.specs.declared.requests.Request.TheVariants.{Start, Command, Keep, Recall, End}
 use Rattle.cpu_part.specs.declared.boot_name.BootName.{Ghosts}
 use Rattle.handles.specs.contracts.raw.Raw as Raw
-use Rattle.handles.specs.contracts.hold.Hold as Hold
+use Rattle.handles.specs.contracts.live_pointer.LivePointer as LivePointer
 use Rattle.handles.specs.contracts.requests.Request as Request
 use Rattle.handles.specs.contracts.requests.Answer as Answer
 use Rattle.handles.specs.contracts.serving.serve as S
@@ -130,8 +130,8 @@ module _ {M : Type 1} {𝓤 : Ura M} (𝓛 : Logic 𝓤) (at_mem : Memory → SP
       let p = d.ptr in let a = d.alloc in
       let F₀ = live_owns marker d.frames d.stocks a p d.live in
       let F₁ = live_owns marker g.frames g.stocks a p d.live in
-      let HoldR = Hold.the_row marker g in
-      let from : HoldR.Denot = record { ptr = p; alloc = a; live = d.live } in
+      let PointerR = LivePointer.the_row marker g in
+      let from : PointerR.Denot = record { ptr = p; alloc = a; live = d.live } in
       qed 𝓛 ((‵ ftrue ⊛ ‵ (fsep (Raw.the_row.own_val d z.0.4.0) (fsep (Request.the_row.own_val q z.0.4.1.0) ftrue))) ∷ raw (fact 𝓤 (IsFit d.live q)) ∷ []) ∵
       split ! $ drop ! $ move ! (1 ∷ []) $ heard ! (IsFit d.live q) (λ fit. fsplit ! $
       parts_out (shape Raw.the_type) ! p a z.0.4.0 F₀ (λ hv ws fa. move ! (2 ∷ []) $ fsplit ! $
@@ -147,24 +147,24 @@ module _ {M : Type 1} {𝓤 : Ura M} (𝓛 : Logic 𝓤) (at_mem : Memory → SP
       sets ! (agg ! (and_then ! (get ! refl) (and_then ! (get ! refl) (no_more !)))) refl (word_typed p hv fa) $
       sets ! (of_opd ! (get ! refl)) refl fq $
       lft_new ! tt (λ α. move ! (2 ∷ []) $ rewrite ! 0 (λ (f : Fml). ‵ f) (same a p d.frames d.stocks d.live q fit) refl $
-      move ! (0 ∷ 3 ∷ []) $ parts_in (shape (Hold.the_type marker g)) ! hv p a F₁ $
-      -- [the hold; the token; the request]
+      move ! (0 ∷ 3 ∷ []) $ parts_in (shape (LivePointer.the_type marker g)) ! hv p a F₁ $
+      -- [the pointer; the token; the request]
       nothing ! $ move ! (3 ∷ 0 ∷ []) $ fjoin ! $ move ! (1 ∷ 0 ∷ []) $ fjoin ! $ nothing ! $ move ! (2 ∷ 0 ∷ []) $ join ! $ join ! $
       use0 𝓛 (raw (fact 𝓤 (IsAsked g.frames g.stocks d.live q))) (fact_i 𝓤 (IsAsked g.frames g.stocks d.live q) (emp 𝓤) (fit, named d.frames d.stocks q)) $
       use0 𝓛 (raw (fact 𝓤 ((α ∷ []) ⊑ brand.lives))) (fact_i 𝓤 ((α ∷ []) ⊑ brand.lives) (emp 𝓤) (⊑_static (α ∷ []))) $ join ! $ move ! (1 ∷ 0 ∷ []) $ join ! $
       let y : (Served g).Ghost = (((α ∷ [], tt), (full_share, tt), tt, (from, (q, tt)), (word p hv ∷ [], (qv ∷ [], tt))), tt) in
       use1 𝓛 (raw ((Served g).pre y)) (id⊢ 𝓤 _) $
       calls_at ! (fm_of 𝓤 H 𝓛.laws 𝓣) (Served g) (kn g) y (and_then ! (get ! refl) (and_then ! (get ! refl) (no_more !))) (λ u.
-      use1 𝓛 (later (some (λ (r : HoldR.Denot × Answer.the_row.Denot). ((‵ (flft (α ∷ []) full_share) ⊛ ‵ ftrue) ⊛ ‵ ((Tuple (HoldR ∷ Answer.the_row ∷ [])).own_val r (u ∷ []))) ⊛
+      use1 𝓛 (later (some (λ (r : PointerR.Denot × Answer.the_row.Denot). ((‵ (flft (α ∷ []) full_share) ⊛ ‵ ftrue) ⊛ ‵ ((Tuple (PointerR ∷ Answer.the_row ∷ [])).own_val r (u ∷ []))) ⊛
       some (λ ended. ‵ (lasts (S.ended brand g none) (α ∷ [], tt) (from, (q, tt)) ended) ⊛ raw (fact 𝓤 (Serves g.frames g.stocks d.live q r.0.live r.1)))))) (id⊢ 𝓤 _) $
       await ! tt $ pick ! (λ r. split ! $ move ! (1 ∷ []) $ pick ! (λ ended. split ! $ drop ! $ heard ! (Serves g.frames g.stocks d.live q r.0.live r.1) (λ did. split ! $ drop ! $
       let p' = r.0.ptr in let a' = r.0.alloc in
       let F₂ = live_owns marker g.frames g.stocks a' p' r.0.live in
       let made : Raw.the_row.Denot = record { ptr = p'; alloc = a'; frames = g.frames; stocks = g.stocks; live = r.0.live } in
       fpick ! (λ vss. fsplit ! $ feq_l ! (λ eu. fsplit ! $
-      parts_out (shape (Hold.the_type marker g)) ! p' a' vss.0 F₂ (λ hw e0 fw. move ! (2 ∷ []) $ fsplit ! $
+      parts_out (shape (LivePointer.the_type marker g)) ! p' a' vss.0 F₂ (λ hw e0 fw. move ! (2 ∷ []) $ fsplit ! $
       row_tells Answer.the_row answer_laws.the_row_laws ! r.1 vss.1.0 (λ av e1 fv. move ! (1 ∷ []) $ drop ! $
-      -- [the answer; what the hold owns; the handle]
+      -- [the answer; what the pointer owns; the handle]
       let both_typed : T (has_ty (layout Raw.the_row) (word p' hw) && (has_ty (layout Answer.the_row) av && true)) × WT (vstruct (of_list (word p' hw ∷ av ∷ []))) = (both (has_ty (layout Raw.the_row) (word p' hw)) (has_ty (layout Answer.the_row) av && true) (word_typed p' hw fw).0 (and_tt (has_ty (layout Answer.the_row) av) fv.0), ((word_typed p' hw fw).1, (fv.1, tt))) in
       lands_as ! (ap only (eu ∙ (λ j. vstruct (of_list (e0 j ++ (e1 j ++ []))) ∷ []))) refl both_typed $
       sets ! (of_opd ! (get_in ! (fld ! refl (stop !)) (sub ! 0 refl (whole !)))) refl (word_typed p' hw fw) $

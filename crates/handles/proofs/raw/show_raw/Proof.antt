@@ -49,7 +49,7 @@ use Rattle.handles.specs.Serving.{OnLive}
 use Rattle.handles.specs.Known.{KnownLive}
 use Rattle.cpu_part.specs.declared.boot_name.BootName.{Ghosts}
 use Rattle.handles.specs.contracts.raw.Raw as Raw
-use Rattle.handles.specs.contracts.hold.Hold as Hold
+use Rattle.handles.specs.contracts.live_pointer.LivePointer as LivePointer
 use Rattle.group_tree.specs.contracts.group.GroupId as GroupId
 use Rattle.group_tree.proofs.group.GroupId.TheLaws as group_laws
 use Rattle.control_files.specs.contracts.file.File as File
@@ -115,8 +115,8 @@ module _ {M : Type 1} {𝓤 : Ura M} (𝓛 : Logic 𝓤) (at_mem : Memory → SP
       let d = z.0.3.0 in let n = z.0.3.1.0 in let i = z.0.3.1.1.0 in let g = name d in
       let p = d.ptr in let a = d.alloc in
       let F₀ = live_owns marker d.frames d.stocks a p d.live in
-      let HoldR = Hold.the_row marker g in
-      let from : HoldR.Denot = record { ptr = p; alloc = a; live = d.live } in
+      let PointerR = LivePointer.the_row marker g in
+      let from : PointerR.Denot = record { ptr = p; alloc = a; live = d.live } in
       qed 𝓛 ((‵ ftrue ⊛ ‵ (fsep (Raw.the_row.own_val d z.0.4.0) (fsep (GroupId.the_row.own_val n z.0.4.1.0) (fsep (File.the_row.own_val i z.0.4.1.1.0) ftrue)))) ∷ raw (fact 𝓤 (IsSomeAnd d.live (HasFile n i))) ∷ []) ∵
       split ! $ drop ! $ move ! (1 ∷ []) $ heard ! (IsSomeAnd d.live (HasFile n i)) (λ there. fsplit ! $
       parts_out (shape Raw.the_type) ! p a z.0.4.0 F₀ (λ hv ws fa. move ! (2 ∷ []) $ fsplit ! $
@@ -133,8 +133,8 @@ module _ {M : Type 1} {𝓤 : Ura M} (𝓛 : Logic 𝓤) (at_mem : Memory → SP
       sets ! (of_opd ! (get_in ! (fld ! refl (stop !)) (sub ! 1 refl (whole !)))) refl fa $
       sets ! (of_opd ! (get ! refl)) refl (ptr_typed p) $
       sets ! (agg ! (and_then ! (get ! refl) (and_then ! (get ! refl) (no_more !)))) refl (word_typed p hv fa) $
-      lft_new ! tt (λ α. move ! (3 ∷ 4 ∷ []) $ parts_in (shape (Hold.the_type marker g)) ! hv p a F₀ $
-      -- [the hold; the token; the file; the group]
+      lft_new ! tt (λ α. move ! (3 ∷ 4 ∷ []) $ parts_in (shape (LivePointer.the_type marker g)) ! hv p a F₀ $
+      -- [the pointer; the token; the file; the group]
       nothing ! $ move ! (3 ∷ 0 ∷ []) $ fjoin ! $ move ! (3 ∷ 0 ∷ []) $ fjoin ! $ move ! (1 ∷ 0 ∷ []) $ fjoin ! $
       nothing ! $ move ! (2 ∷ 0 ∷ []) $ join ! $ join ! $
       use0 𝓛 (raw (fact 𝓤 (IsSomeAnd d.live (HasFile n i)))) (fact_i 𝓤 (IsSomeAnd d.live (HasFile n i)) (emp 𝓤) there) $
@@ -142,16 +142,16 @@ module _ {M : Type 1} {𝓤 : Ura M} (𝓛 : Logic 𝓤) (at_mem : Memory → SP
       let y : (Served g).Ghost = (((α ∷ [], tt), (full_share, tt), tt, (from, (n, (i, tt))), (word p hv ∷ [], (nv ∷ [], (iv ∷ [], tt)))), tt) in
       use1 𝓛 (raw ((Served g).pre y)) (id⊢ 𝓤 _) $
       calls_at ! (fm_of 𝓤 H 𝓛.laws 𝓣) (Served g) (kn g) y (and_then ! (get ! refl) (and_then ! (get ! refl) (and_then ! (get ! refl) (no_more !)))) (λ u.
-      use1 𝓛 (later (some (λ (t : HoldR.Denot × Shown.the_row.Denot). ((‵ (flft (α ∷ []) full_share) ⊛ ‵ ftrue) ⊛ ‵ ((Tuple (HoldR ∷ Shown.the_row ∷ [])).own_val t (u ∷ []))) ⊛
+      use1 𝓛 (later (some (λ (t : PointerR.Denot × Shown.the_row.Denot). ((‵ (flft (α ∷ []) full_share) ⊛ ‵ ftrue) ⊛ ‵ ((Tuple (PointerR ∷ Shown.the_row ∷ [])).own_val t (u ∷ []))) ⊛
       some (λ ended. ‵ (lasts (S.ended brand g none) (α ∷ [], tt) (from, (n, (i, tt))) ended) ⊛ raw (fact 𝓤 (OnLive (λ live to. ShowsFile n i live to t.1) d.live t.0.live)))))) (id⊢ 𝓤 _) $
       await ! tt $ pick ! (λ t. split ! $ move ! (1 ∷ []) $ pick ! (λ ended. split ! $ drop ! $ heard ! (OnLive (λ live to. ShowsFile n i live to t.1) d.live t.0.live) (λ did. split ! $ drop ! $
       let p' = t.0.ptr in let a' = t.0.alloc in
       let F₂ = live_owns marker g.frames g.stocks a' p' t.0.live in
       let made : Raw.the_row.Denot = record { ptr = p'; alloc = a'; frames = g.frames; stocks = g.stocks; live = t.0.live } in
       fpick ! (λ vss. fsplit ! $ feq_l ! (λ eu. fsplit ! $
-      parts_out (shape (Hold.the_type marker g)) ! p' a' vss.0 F₂ (λ hw e0 fw. move ! (2 ∷ []) $ fsplit ! $
+      parts_out (shape (LivePointer.the_type marker g)) ! p' a' vss.0 F₂ (λ hw e0 fw. move ! (2 ∷ []) $ fsplit ! $
       row_tells Shown.the_row shown_laws.the_row_laws ! t.1 vss.1.0 (λ tv e1 fv. move ! (1 ∷ []) $ drop ! $
-      -- [what is shown; what the hold owns; the handle]
+      -- [what is shown; what the pointer owns; the handle]
       let both_typed : T (has_ty (layout Raw.the_row) (word p' hw) && (has_ty (layout Shown.the_row) tv && true)) × WT (vstruct (of_list (word p' hw ∷ tv ∷ []))) = (both (has_ty (layout Raw.the_row) (word p' hw)) (has_ty (layout Shown.the_row) tv && true) (word_typed p' hw fw).0 (and_tt (has_ty (layout Shown.the_row) tv) fv.0), ((word_typed p' hw fw).1, (fv.1, tt))) in
       lands_as ! (ap only (eu ∙ (λ j. vstruct (of_list (e0 j ++ (e1 j ++ []))) ∷ []))) refl both_typed $
       sets ! (of_opd ! (get_in ! (fld ! refl (stop !)) (sub ! 0 refl (whole !)))) refl (word_typed p' hw fw) $

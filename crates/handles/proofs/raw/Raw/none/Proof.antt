@@ -42,7 +42,7 @@ use Rattle.handles.specs.Owned.{live_owns}
 use Rattle.handles.specs.Known.{KnownLive}
 use Rattle.handles.specs.contracts.live.Live as Live
 use Rattle.handles.specs.contracts.loose.Loose as Loose
-use Rattle.handles.specs.contracts.hold.Hold as Hold
+use Rattle.handles.specs.contracts.live_pointer.LivePointer as LivePointer
 use Rattle.handles.specs.contracts.raw.Raw as Raw
 use Rattle.cpu_part.specs.Cpus.{no_table}
 use denote.Triple.Walked.{Goes-dropped}

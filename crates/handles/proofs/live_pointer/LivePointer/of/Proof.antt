@@ -42,12 +42,12 @@ use Rattle.handles.specs.Owned.{live_owns}
 use Rattle.handles.specs.Known.{KnownLive}
 use Rattle.handles.specs.contracts.live.Live as Live
 use Rattle.handles.specs.contracts.loose.Loose as Loose
-use Rattle.handles.specs.contracts.hold.Hold as Hold
+use Rattle.handles.specs.contracts.live_pointer.LivePointer as LivePointer
 use Rattle.handles.specs.contracts.raw.Raw as Raw
-use Rattle.handles.specs.contracts.hold.Hold.of as F
-use Rattle.handles.specs.contracts.hold.Hold.of.Key.{name as #self}
-use Rattle.handles.proofs.hold.Hold.of.Statement as stated
-use Rattle.handles.proofs.hold.Hold.of.Code as code
+use Rattle.handles.specs.contracts.live_pointer.LivePointer.of as F
+use Rattle.handles.specs.contracts.live_pointer.LivePointer.of.Key.{name as #self}
+use Rattle.handles.proofs.live_pointer.LivePointer.of.Statement as stated
+use Rattle.handles.proofs.live_pointer.LivePointer.of.Code as code
 
 module _ (N : RattleType) (g : Ghosts N.Denot) (d : Dict) where
   abbrev args : Args
@@ -63,7 +63,7 @@ module _ (N : RattleType) (g : Ghosts N.Denot) (d : Dict) where
   From = Loose.the_row (Live.the_row (param 0 N) g) Heap.the_row ghosts
 
   abbrev To : RattleType
-  To = Hold.the_row (param 0 N) g
+  To = LivePointer.the_row (param 0 N) g
 
   abbrev stayed : Stays ended.signature.params ended.kept
   stayed = (stay_dropped (plain (λ _. From)) no, tt)
@@ -91,7 +91,7 @@ module _ (N : RattleType) (g : Ghosts N.Denot) (d : Dict) where
         sets ! (of_opd ! (get_in ! (fld ! refl (stop !)) (sub ! 1 refl (whole !)))) refl fa $
         sets ! (agg ! (and_then ! (get ! refl) (and_then ! (get ! refl) (no_more !)))) refl (word_typed x.ptr hv fa) $
         returns ! (look_at ! 0 refl) $ free_all ! refl $
-        parts_in (shape (Hold.the_type (param 0 N) g)) ! hv x.ptr x.alloc F₀ $
+        parts_in (shape (LivePointer.the_type (param 0 N) g)) ! hv x.ptr x.alloc F₀ $
         suffices ! _ (ends_at 𝓛 ended stayed held z (word x.ptr hv) (record { ptr = x.ptr; alloc = x.alloc; live = Some x.value }) (rest (From.exit no) x, tt) (tt, tt)) $ says ! refl $
         nothing ! $ nothing ! $ fjoin ! $ join ! $ move ! (1 ∷ 0 ∷ []) $ join ! $ done !))))
 

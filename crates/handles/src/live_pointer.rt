@@ -13,33 +13,33 @@ use std::marker::Model;
 /// A pointer to the parts of a boot, or to nothing. It has the fields of `Raw`, under a name. If it is dropped, what it
 /// points to stays in memory.
 #[derive(Drop)]
-pub struct Hold<N: BootName> {
+pub struct LivePointer<N: BootName> {
     pub(crate) ptr: *mut Live<N>,
     pub(crate) alloc: Global,
     pub ghost live: { Option KnownLive } by { known_coded },
 }
 
-impl<N: BootName> Model for Hold<N> {
+impl<N: BootName> Model for LivePointer<N> {
     ghost also_owns = { λ h. live_owns N.row N.frames N.stocks h.alloc h.ptr h.live };
 }
 
-impl<N: BootName> Hold<N> {
+impl<N: BootName> LivePointer<N> {
     /// A pointer to nothing.
-    pub fn none(alloc: Global) -> Hold<N>
+    pub fn none(alloc: Global) -> LivePointer<N>
         ensures { result.live ≡ None }
     {
-        Hold {
+        LivePointer {
             ptr: std::ptr::null_mut(),
             alloc,
         }
     }
 
     /// A pointer to what is in this box.
-    pub fn of(loose: Loose<Live<N>, Global>) -> Hold<N>
+    pub fn of(loose: Loose<Live<N>, Global>) -> LivePointer<N>
         ensures { result.live ≡ Some loose.value }
     {
         let Loose { ptr, alloc } = loose;
-        Hold { ptr, alloc }
+        LivePointer { ptr, alloc }
     }
 
     /// The box with what it points to.
@@ -47,7 +47,7 @@ impl<N: BootName> Hold<N> {
         requires some { IsSome self.live }
         ensures { Some result.value ≡ self.live }
     {
-        let Hold { ptr, alloc } = self;
+        let LivePointer { ptr, alloc } = self;
         Loose { ptr, alloc }
     }
 }
