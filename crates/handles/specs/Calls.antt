@@ -24,8 +24,8 @@ use Rattle.handles.specs.declared.calls.Call.{Call}
 use Rattle.handles.specs.declared.calls.Call.TheVariants as call
 use Rattle.handles.specs.declared.calls.CallAnswer.{CallAnswer}
 use Rattle.handles.specs.declared.calls.CallAnswer.TheVariants as returned
-use Rattle.handles.specs.declared.calls.Shown.{Shown}
-use Rattle.handles.specs.declared.calls.Shown.TheVariants as shown
+use Rattle.handles.specs.declared.calls.FileText.{FileText}
+use Rattle.handles.specs.declared.calls.FileText.TheVariants as file_text
 
 -- the script's command that does this at a frame
 abbrev pub frame_command : FrameCall → ℕ → Command
@@ -115,11 +115,11 @@ abbrev pub HasFile : (group : ℕ) → File → KnownLive → Type 0
 HasFile group file live = HasItsGroups live.state.locked.machine.ledger (outcome.Text group file)
 
 -- what a file shows, as the reply to a read of it
-abbrev pub shown_reply : Shown → Reply
-shown_reply (shown.Text text) = reply.Text text
-shown_reply (shown.Refused fault) = reply.Refused fault
+abbrev pub file_reply : FileText → Reply
+file_reply (file_text.Text text) = reply.Text text
+file_reply (file_text.Refused fault) = reply.Refused fault
 
 -- this is the reply to a read of the file, and nothing is done
-pub record ShowsFile (group : ℕ) (file : File) (from to : KnownLive) (shown : Shown) : Type 0 where
-  pub reply_is : shown_reply shown ≡ reply_of from.state.locked.machine.ledger (outcome.Text group file)
+pub record ShowsFile (group : ℕ) (file : File) (from to : KnownLive) (shown : FileText) : Type 0 where
+  pub reply_is : file_reply shown ≡ reply_of from.state.locked.machine.ledger (outcome.Text group file)
   pub stays : to ≡ from

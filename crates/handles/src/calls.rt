@@ -75,7 +75,7 @@ pub enum CallAnswer {
 
 /// What a file of a group shows.
 #[derive(Clone, Copy, Debug, PartialEq, Eq)]
-pub enum Shown {
+pub enum FileText {
     /// Its text.
     Text(ArrayText),
     /// It can't be read, for this reason.

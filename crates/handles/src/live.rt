@@ -12,12 +12,12 @@ ghost use Rattle.script_replay.specs.Typed.{IsShort};
 ghost use Rattle.script_replay.specs.Works.{work_of};
 ghost use Rattle.load_run.specs.Answers.{IsAfterBoot};
 ghost use Rattle.load_run.specs.Ending.{EndsHeld};
-ghost use Rattle.handles.specs.Calls.{Calls, HasNoGroup, IsCpu, TellsCommand, shown_reply};
+ghost use Rattle.handles.specs.Calls.{Calls, HasNoGroup, IsCpu, TellsCommand, file_reply};
 ghost use Rattle.handles.specs.declared.calls.Call.TheVariants.{Alloc, AtFrame};
 ghost use Rattle.handles.specs.Commands.{AnswersScript, FailsScript, FailsText, ReplaysText, TakesKept};
 ghost use Rattle.handles.specs.Commands.{with_kept};
 
-use crate::calls::{Call, CallAnswer, FrameCall, Shown};
+use crate::calls::{Call, CallAnswer, FileText, FrameCall};
 use control_files::file::{File, file_text};
 use cpu_part::{BootName, Cpu, Tables};
 use group_charge::charges::Charges;
@@ -164,13 +164,13 @@ impl<N: BootName> Live<N> {
     }
 
     /// What a file of a group shows. The group exists, and isn't the root, which has no files.
-    pub fn show(&self, group: GroupId, file: File) -> Shown
+    pub fn show(&self, group: GroupId, file: File) -> FileText
         requires there { HasItsGroups self.now.state.locked.machine.ledger (Text group file) }
-        ensures { shown_reply result ≡ reply_of self.now.state.locked.machine.ledger (Text group file) }
+        ensures { file_reply result ≡ reply_of self.now.state.locked.machine.ledger (Text group file) }
     {
         match file_text(self.locked.charges(), group, file) {
-            Ok(text) => Shown::Text(text),
-            Err(fault) => Shown::Refused(fault),
+            Ok(text) => FileText::Text(text),
+            Err(fault) => FileText::Refused(fault),
         }
     }
 

@@ -8,7 +8,7 @@ ghost use Rattle.handles.specs.Known.{KnownLive};
 ghost use Rattle.handles.specs.Owned.{frames_coded, known_coded, live_owns, marker, stocks_coded};
 ghost use Rattle.handles.specs.Serving.{IsFit, OnRaw, ServesRaw};
 
-use crate::calls::{Call, CallAnswer, Shown};
+use crate::calls::{Call, CallAnswer, FileText};
 use crate::live::Live;
 use crate::live_pointer::LivePointer;
 use crate::requests::{Answer, Request};
@@ -97,7 +97,7 @@ pub fn call_raw(raw: Raw, cpu: u32, call: &Call<'_>) -> (Raw, CallAnswer)
 }
 
 /// Returns what a file of a group shows, as `show_file` does, under the name that it picks for the tables.
-pub fn show_raw(raw: Raw, group: GroupId, file: File) -> (Raw, Shown)
+pub fn show_raw(raw: Raw, group: GroupId, file: File) -> (Raw, FileText)
     requires there { IsSomeAnd raw.live (HasFile group file) }
     ensures shows { OnRaw (λ from to. ShowsFile group file from to result.1)
         raw.frames raw.stocks raw.live result.0.frames result.0.stocks result.0.live }

@@ -5,7 +5,7 @@ ghost use Rattle.handles.specs.Calls.{Calls, HasFile, ShowsFile};
 ghost use Rattle.handles.specs.Serving.{IsAsked, OnLive, Serves};
 ghost use Rattle.handles.specs.declared.requests.Request.TheVariants.{Command, End, Keep, Recall, Start};
 
-use crate::calls::{Call, CallAnswer, Shown};
+use crate::calls::{Call, CallAnswer, FileText};
 use crate::live::Live;
 use crate::live_pointer::LivePointer;
 use crate::loose::Loose;
@@ -56,7 +56,7 @@ pub fn show_file<N: BootName>(
     pointer: LivePointer<N>,
     group: GroupId,
     file: File,
-) -> (LivePointer<N>, Shown)
+) -> (LivePointer<N>, FileText)
     requires there { IsSomeAnd pointer.live (HasFile group file) }
     ensures shows { OnLive (λ from to. ShowsFile group file from to result.1) pointer.live result.0.live }
 {

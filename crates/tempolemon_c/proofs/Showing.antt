@@ -13,8 +13,8 @@ use Rattle.script_replay.specs.declared.answer_value.AnswerValue.{AnswerValue}
 use Rattle.script_replay.specs.declared.answer_value.AnswerValue.TheVariants.{Served}
 use Rattle.handles.specs.declared.calls.Call.{Call}
 use Rattle.handles.specs.declared.calls.CallAnswer.TheVariants as call
-use Rattle.handles.specs.declared.calls.Shown.{Shown}
-use Rattle.handles.specs.Calls.{Calls, ShowsFile, shown_reply}
+use Rattle.handles.specs.declared.calls.FileText.{FileText}
+use Rattle.handles.specs.Calls.{Calls, ShowsFile, file_reply}
 use Rattle.handles.specs.Known.{KnownLive}
 use Rattle.tempolemon_c.specs.declared.told.Told.{Told}
 use Rattle.tempolemon_c.specs.Calls.{CallsInto, HasGroupsBehind, PutsAnswer, TellsAnswer, TellsValue}
@@ -35,14 +35,14 @@ plain_told (Some boot) value status told buffer status_is told_is no_text = let 
   buffer = no_text ledger buffer;
 }
 
-module _ (group : ℕ) (file : File) (shown : Shown) (before after : Option LiveBoot)
+module _ (group : ℕ) (file : File) (shown : FileText) (before after : Option LiveBoot)
     (on : OnBoot (λ frames stocks from to. ShowsFile group file from to shown) before after) where
   -- nothing is done
   pub stays : after ≡ before
   stays = on.is ∙ (ap (λ (live : KnownLive). Some (live_boot on.frames on.stocks live)) on.done.stays ∙ sym on.was)
 
   -- what is told of what a file shows is that of the reply to a read of it
-  pub tells : (status : ℕ) (told : Told) (old new : List ℕ) → TellsAnswer (answer.Served (shown_reply shown)) status told old new
+  pub tells : (status : ℕ) (told : Told) (old new : List ℕ) → TellsAnswer (answer.Served (file_reply shown)) status told old new
       → IfSome before (TellsValue (Served (outcome.Text group file)) status told old new)
   tells status told old new told_so =
       subst (λ (b : Option LiveBoot). IfSome b (TellsValue (Served (outcome.Text group file)) status told old new))

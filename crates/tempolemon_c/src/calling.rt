@@ -13,7 +13,7 @@ use crate::told::{Told, tell};
 use crate::words::{NOTHING, REFUSED, TEXT};
 use control_files::file::File;
 use group_tree::group::GroupId;
-use handles::calls::{Call, CallAnswer, Shown};
+use handles::calls::{Call, CallAnswer, FileText};
 use mem_system::Outcome;
 use script_replay::AnswerValue;
 use std::alloc::Global;
@@ -100,7 +100,7 @@ fn tell_file(
         (TellsValue (Served (Text group file)) result told.new buffer.old buffer.new) }
 {
     match handle.show(alloc, group, file) {
-        Shown::Text(text) => {
+        FileText::Text(text) => {
             let text = text.as_bytes();
             let _fits = put_answers(text, buffer);
             *told = Told {
@@ -109,7 +109,7 @@ fn tell_file(
             };
             DONE
         }
-        Shown::Refused(fault) => {
+        FileText::Refused(fault) => {
             *told = Told {
                 number: 0,
                 word: REFUSED,

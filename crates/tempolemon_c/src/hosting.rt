@@ -12,7 +12,7 @@ use crate::handle::Handle;
 use crate::report::Report;
 use control_files::file::File;
 use group_tree::group::GroupId;
-use handles::calls::{Call, CallAnswer, Shown};
+use handles::calls::{Call, CallAnswer, FileText};
 use handles::raw::{Raw, call_raw, serve_raw, show_raw};
 use handles::requests::{Answer, Request};
 use mem_system::Boot;
@@ -69,7 +69,7 @@ impl Handle {
 
     /// What a file of a group shows. The group exists, and isn't the root, which has no files.
     #[tactic(auto, using(crate::proofs::Crossing::crossed, crate::proofs::Crossing::file_behind))]
-    pub(crate) fn show(&mut self, alloc: Global, group: GroupId, file: File) -> Shown
+    pub(crate) fn show(&mut self, alloc: Global, group: GroupId, file: File) -> FileText
         requires there { IsSomeAnd (behind self.old) (HasFileBehind group file) }
         ensures { OnBoot (λ frames stocks from to. ShowsFile group file from to result)
             (behind self.old) (behind self.new) }

@@ -55,11 +55,11 @@ use Rattle.group_tree.proofs.group.GroupId.TheLaws as group_laws
 use Rattle.control_files.specs.contracts.file.File as File
 use Rattle.control_files.specs.declared.file.File.TheVariants as file
 use Rattle.control_files.proofs.file.File.TheLaws as file_laws
-use Rattle.handles.specs.contracts.calls.Shown as Shown
+use Rattle.handles.specs.contracts.calls.FileText as FileText
 use Rattle.handles.specs.contracts.serving.show_file as S
 use Rattle.handles.proofs.serving.show_file.Symbol as serve_sym
 use Rattle.handles.proofs.serving.show_file.Met as serve_met
-use Rattle.handles.proofs.calls.Shown.TheLaws as shown_laws
+use Rattle.handles.proofs.calls.FileText.TheLaws as shown_laws
 use Rattle.handles.specs.contracts.raw.show_raw as F
 use Rattle.handles.specs.contracts.raw.show_raw.Key.{name as #self}
 use Rattle.handles.proofs.raw.show_raw.Statement as stated
@@ -142,7 +142,7 @@ module _ {M : Type 1} {𝓤 : Ura M} (𝓛 : Logic 𝓤) (at_mem : Memory → SP
       let y : (Served g).Ghost = (((α ∷ [], tt), (full_share, tt), tt, (from, (n, (i, tt))), (word p hv ∷ [], (nv ∷ [], (iv ∷ [], tt)))), tt) in
       use1 𝓛 (raw ((Served g).pre y)) (id⊢ 𝓤 _) $
       calls_at ! (fm_of 𝓤 H 𝓛.laws 𝓣) (Served g) (kn g) y (and_then ! (get ! refl) (and_then ! (get ! refl) (and_then ! (get ! refl) (no_more !)))) (λ u.
-      use1 𝓛 (later (some (λ (t : PointerR.Denot × Shown.the_row.Denot). ((‵ (flft (α ∷ []) full_share) ⊛ ‵ ftrue) ⊛ ‵ ((Tuple (PointerR ∷ Shown.the_row ∷ [])).own_val t (u ∷ []))) ⊛
+      use1 𝓛 (later (some (λ (t : PointerR.Denot × FileText.the_row.Denot). ((‵ (flft (α ∷ []) full_share) ⊛ ‵ ftrue) ⊛ ‵ ((Tuple (PointerR ∷ FileText.the_row ∷ [])).own_val t (u ∷ []))) ⊛
       some (λ ended. ‵ (lasts (S.ended brand g none) (α ∷ [], tt) (from, (n, (i, tt))) ended) ⊛ raw (fact 𝓤 (OnLive (λ live to. ShowsFile n i live to t.1) d.live t.0.live)))))) (id⊢ 𝓤 _) $
       await ! tt $ pick ! (λ t. split ! $ move ! (1 ∷ []) $ pick ! (λ ended. split ! $ drop ! $ heard ! (OnLive (λ live to. ShowsFile n i live to t.1) d.live t.0.live) (λ did. split ! $ drop ! $
       let p' = t.0.ptr in let a' = t.0.alloc in
@@ -150,9 +150,9 @@ module _ {M : Type 1} {𝓤 : Ura M} (𝓛 : Logic 𝓤) (at_mem : Memory → SP
       let made : Raw.the_row.Denot = record { ptr = p'; alloc = a'; frames = g.frames; stocks = g.stocks; live = t.0.live } in
       fpick ! (λ vss. fsplit ! $ feq_l ! (λ eu. fsplit ! $
       parts_out (shape (LivePointer.the_type marker g)) ! p' a' vss.0 F₂ (λ hw e0 fw. move ! (2 ∷ []) $ fsplit ! $
-      row_tells Shown.the_row shown_laws.the_row_laws ! t.1 vss.1.0 (λ tv e1 fv. move ! (1 ∷ []) $ drop ! $
+      row_tells FileText.the_row shown_laws.the_row_laws ! t.1 vss.1.0 (λ tv e1 fv. move ! (1 ∷ []) $ drop ! $
       -- [what is shown; what the pointer owns; the handle]
-      let both_typed : T (has_ty (layout Raw.the_row) (word p' hw) && (has_ty (layout Shown.the_row) tv && true)) × WT (vstruct (of_list (word p' hw ∷ tv ∷ []))) = (both (has_ty (layout Raw.the_row) (word p' hw)) (has_ty (layout Shown.the_row) tv && true) (word_typed p' hw fw).0 (and_tt (has_ty (layout Shown.the_row) tv) fv.0), ((word_typed p' hw fw).1, (fv.1, tt))) in
+      let both_typed : T (has_ty (layout Raw.the_row) (word p' hw) && (has_ty (layout FileText.the_row) tv && true)) × WT (vstruct (of_list (word p' hw ∷ tv ∷ []))) = (both (has_ty (layout Raw.the_row) (word p' hw)) (has_ty (layout FileText.the_row) tv && true) (word_typed p' hw fw).0 (and_tt (has_ty (layout FileText.the_row) tv) fv.0), ((word_typed p' hw fw).1, (fv.1, tt))) in
       lands_as ! (ap only (eu ∙ (λ j. vstruct (of_list (e0 j ++ (e1 j ++ []))) ∷ []))) refl both_typed $
       sets ! (of_opd ! (get_in ! (fld ! refl (stop !)) (sub ! 0 refl (whole !)))) refl (word_typed p' hw fw) $
       sets ! (of_opd ! (get_in ! (fld ! refl (stop !)) (sub ! 1 refl (whole !)))) refl fv $
@@ -167,7 +167,7 @@ module _ {M : Type 1} {𝓤 : Ura M} (𝓛 : Logic 𝓤) (at_mem : Memory → SP
       let out = vstruct (of_list (word p' hw ∷ tv ∷ [])) in
       suffices ! _ (ends_at 𝓛 F.ended stayed held z out (made, t.1) (tt, (tt, (rest (File.the_row.exit yes) i, tt))) (tt, (tt, (tt, tt)))) $ says ! (record { frames_are = refl; stocks_are = refl; on_live = did }) $
       nothing ! $ move ! (2 ∷ 0 ∷ []) $ fjoin ! $ move ! (1 ∷ 0 ∷ []) $ fjoin ! $ feq_i ! (List Val) (out ∷ []) (out ∷ []) refl $ fjoin ! $
-      fpack ! (Valss (Raw.the_row ∷ Shown.the_row ∷ [])) (λ vss. fsep (feq (List Val) (out ∷ []) (vstruct (of_list (vss.0 ++ (vss.1.0 ++ []))) ∷ [])) (owns (Raw.the_row ∷ Shown.the_row ∷ []) (made, (t.1, tt)) vss)) (word p' hw ∷ [], (tv ∷ [], tt)) $
+      fpack ! (Valss (Raw.the_row ∷ FileText.the_row ∷ [])) (λ vss. fsep (feq (List Val) (out ∷ []) (vstruct (of_list (vss.0 ++ (vss.1.0 ++ []))) ∷ [])) (owns (Raw.the_row ∷ FileText.the_row ∷ []) (made, (t.1, tt)) vss)) (word p' hw ∷ [], (tv ∷ [], tt)) $
       nothing ! $ nothing ! $ fjoin ! $ nothing ! $ fjoin ! $ nothing ! $ fjoin ! $ join ! $ nothing ! $ join ! $ done !))))))))))))))))))
 
 pub show_raw_spec : {M : Type 1} → stated.statement M
