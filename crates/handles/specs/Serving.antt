@@ -10,8 +10,8 @@ use Rattle.handles.specs.Known.{KnownLive}
 use Rattle.handles.specs.Commands.{AnswersScript, RefusesScript, RunsOut, TakesKept, with_kept}
 use Rattle.handles.specs.declared.requests.Request.{Request}
 use Rattle.handles.specs.declared.requests.Request.TheVariants.{Start, Command, Keep, Recall, End}
-use Rattle.handles.specs.declared.requests.Answer.{Answer}
-use Rattle.handles.specs.declared.requests.Answer.TheVariants as said
+use Rattle.handles.specs.declared.requests.RequestAnswer.{RequestAnswer}
+use Rattle.handles.specs.declared.requests.RequestAnswer.TheVariants as returned
 
 -- the frames' table after a request: a start brings its own, else it stays
 abbrev pub frames_of : KnownTable → Request → KnownTable
@@ -90,26 +90,27 @@ pub record Ends (frames : KnownTable) (stock_table : KnownStockTable) (before af
 -- What a request does under the name of these tables, and what is answered
 abbrev pub Serves : KnownTable → KnownStockTable
     → (before : Option KnownLive) (request : Request) (after : Option KnownLive)
-    (answer : Answer) → Type 0
-Serves frames stock_table before (Start alloc boot sizes) after said.Done = Starts frames stock_table sizes after
-Serves frames stock_table before (Start alloc boot sizes) after said.NoMemory = after ≡ None
-Serves frames stock_table before (Command alloc text is_explained) after (said.Text answers) =
+    (answer : RequestAnswer) → Type 0
+Serves frames stock_table before (Start alloc boot sizes) after returned.Done = Starts frames stock_table sizes after
+Serves frames stock_table before (Start alloc boot sizes) after returned.NoMemory = after ≡ None
+Serves frames stock_table before (Command alloc text is_explained) after (returned.Text answers) =
     OnLive (AnswersScript frames stock_table text.items is_explained answers.items) before after
-Serves frames stock_table before (Command alloc text is_explained) after (said.BadLine number) =
+Serves frames stock_table before (Command alloc text is_explained) after (returned.BadLine number) =
     OnLive (RefusesScript text.items number) before after
-Serves frames stock_table before (Command alloc text is_explained) after said.NoMemory =
+Serves frames stock_table before (Command alloc text is_explained) after returned.NoMemory =
     OnLive (RunsOut frames stock_table text.items is_explained) before after
-Serves frames stock_table before (Keep text) after said.Done =
+Serves frames stock_table before (Keep text) after returned.Done =
     OnLive (λ from to. to ≡ with_kept from text.items) before after
-Serves frames stock_table before (Recall alloc) after (said.Text text) =
+Serves frames stock_table before (Recall alloc) after (returned.Text text) =
     OnLive (λ from to. TakesKept from to text.items) before after
-Serves frames stock_table before (End alloc) after (said.Ended ended) = Ends frames stock_table before after ended
+Serves frames stock_table before (End alloc) after (returned.Ended ended) = Ends frames stock_table before after ended
 Serves frames stock_table before request after answer = ⊥
 
 -- what a request does, with the tables before and after it
 pub record ServesRaw (old_frames : KnownTable) (old_stock_table : KnownStockTable) (before : Option KnownLive)
     (request : Request)
-    (frames : KnownTable) (stock_table : KnownStockTable) (after : Option KnownLive) (answer : Answer) : Type 0 where
+    (frames : KnownTable) (stock_table : KnownStockTable) (after : Option KnownLive) (answer : RequestAnswer)
+    : Type 0 where
   pub frames_are : frames ≡ frames_of old_frames request
   pub stocks_are : stock_table ≡ stocks_of old_stock_table request
   pub serves : Serves frames stock_table before request after answer

@@ -11,7 +11,7 @@ ghost use Rattle.handles.specs.Serving.{IsFit, OnRaw, ServesRaw};
 use crate::calls::{Call, CallAnswer, FileText};
 use crate::live::Live;
 use crate::live_pointer::LivePointer;
-use crate::requests::{Answer, Request};
+use crate::requests::{Request, RequestAnswer};
 use crate::serving::{serve, serve_call, show_file};
 use control_files::file::File;
 use group_tree::group::GroupId;
@@ -47,7 +47,7 @@ impl Raw {
 }
 
 /// Serves a request, as `serve` does, under a name that it picks for the tables.
-pub fn serve_raw(raw: Raw, request: Request) -> (Raw, Answer)
+pub fn serve_raw(raw: Raw, request: Request) -> (Raw, RequestAnswer)
     requires fit { IsFit raw.live request }
     ensures serves { ServesRaw raw.frames raw.stocks raw.live request
         result.0.frames result.0.stocks result.0.live result.1 }

@@ -36,7 +36,7 @@ pub enum Request {
 
 /// What a live boot answers.
 #[derive(Drop)]
-pub enum Answer {
+pub enum RequestAnswer {
     /// The boot has started, or the answer is kept.
     Done,
     /// The answers of a script's lines, or the answer that was kept.

@@ -9,7 +9,7 @@ use crate::calls::{Call, CallAnswer, FileText};
 use crate::live::Live;
 use crate::live_pointer::LivePointer;
 use crate::loose::Loose;
-use crate::requests::{Answer, Request};
+use crate::requests::{Request, RequestAnswer};
 use control_files::file::File;
 use cpu_part::BootName;
 use group_tree::group::GroupId;
@@ -19,7 +19,10 @@ use std::alloc::Global;
 use zone_sizes::config::Config;
 
 /// Serves a request. A start needs a pointer to nothing, and all else one to the parts of a boot.
-pub fn serve<N: BootName>(pointer: LivePointer<N>, request: Request) -> (LivePointer<N>, Answer)
+pub fn serve<N: BootName>(
+    pointer: LivePointer<N>,
+    request: Request,
+) -> (LivePointer<N>, RequestAnswer)
     requires asked { IsAsked N.frames N.stocks pointer.live request }
     ensures serves { Serves N.frames N.stocks pointer.live request result.0.live result.1 }
 {
@@ -71,7 +74,7 @@ fn start<N: BootName>(
     alloc: Global,
     boot: Boot,
     sizes: Config,
-) -> (LivePointer<N>, Answer)
+) -> (LivePointer<N>, RequestAnswer)
     requires none { pointer.live ≡ None }
     requires frames { boot.frames ≡ N.frames }
     requires stocks { boot.stocks ≡ N.stocks }
@@ -79,11 +82,11 @@ fn start<N: BootName>(
     ensures serves { Serves N.frames N.stocks pointer.live (Start alloc boot sizes) result.0.live result.1 }
 {
     let Ok(live) = Live::<N>::start(alloc, boot, sizes) else {
-        return (pointer, Answer::NoMemory);
+        return (pointer, RequestAnswer::NoMemory);
     };
     match Box::new(alloc, live) {
-        Ok(live) => (LivePointer::of(Loose::of(live)), Answer::Done),
-        Err(_) => (pointer, Answer::NoMemory),
+        Ok(live) => (LivePointer::of(Loose::of(live)), RequestAnswer::Done),
+        Err(_) => (pointer, RequestAnswer::NoMemory),
     }
 }
 
@@ -93,7 +96,7 @@ fn command<N: BootName>(
     alloc: Global,
     text: Vec<u8>,
     is_explained: bool,
-) -> (LivePointer<N>, Answer)
+) -> (LivePointer<N>, RequestAnswer)
     requires some { IsSome pointer.live }
     ensures serves { Serves N.frames N.stocks pointer.live (Command alloc text is_explained) result.0.live result.1 }
 {
@@ -101,38 +104,38 @@ fn command<N: BootName>(
     let answered = live.command(alloc, &text, is_explained);
     let pointer = LivePointer::of(Loose::of(live));
     match answered {
-        Ok(answers) => (pointer, Answer::Text(answers)),
-        Err(ScriptFault::BadLine(number)) => (pointer, Answer::BadLine(number)),
-        Err(ScriptFault::NoMemory) => (pointer, Answer::NoMemory),
+        Ok(answers) => (pointer, RequestAnswer::Text(answers)),
+        Err(ScriptFault::BadLine(number)) => (pointer, RequestAnswer::BadLine(number)),
+        Err(ScriptFault::NoMemory) => (pointer, RequestAnswer::NoMemory),
     }
 }
 
 // Keeps an answer.
-fn keep<N: BootName>(pointer: LivePointer<N>, text: Vec<u8>) -> (LivePointer<N>, Answer)
+fn keep<N: BootName>(pointer: LivePointer<N>, text: Vec<u8>) -> (LivePointer<N>, RequestAnswer)
     requires some { IsSome pointer.live }
     ensures serves { Serves N.frames N.stocks pointer.live (Keep text) result.0.live result.1 }
 {
     let mut live = pointer.into_loose().into_box();
     live.keep(text);
-    (LivePointer::of(Loose::of(live)), Answer::Done)
+    (LivePointer::of(Loose::of(live)), RequestAnswer::Done)
 }
 
 // Returns the answer that is kept.
-fn recall<N: BootName>(pointer: LivePointer<N>, alloc: Global) -> (LivePointer<N>, Answer)
+fn recall<N: BootName>(pointer: LivePointer<N>, alloc: Global) -> (LivePointer<N>, RequestAnswer)
     requires some { IsSome pointer.live }
     ensures serves { Serves N.frames N.stocks pointer.live (Recall alloc) result.0.live result.1 }
 {
     let mut live = pointer.into_loose().into_box();
     let text = live.take_kept(alloc);
-    (LivePointer::of(Loose::of(live)), Answer::Text(text))
+    (LivePointer::of(Loose::of(live)), RequestAnswer::Text(text))
 }
 
 // Ends the boot.
-fn finish<N: BootName>(pointer: LivePointer<N>, alloc: Global) -> (LivePointer<N>, Answer)
+fn finish<N: BootName>(pointer: LivePointer<N>, alloc: Global) -> (LivePointer<N>, RequestAnswer)
     requires some { IsSome pointer.live }
     ensures serves { Serves N.frames N.stocks pointer.live (End alloc) result.0.live result.1 }
 {
     let live = Box::into_inner(pointer.into_loose().into_box());
     let ended = live.finish();
-    (LivePointer::none(alloc), Answer::Ended(ended))
+    (LivePointer::none(alloc), RequestAnswer::Ended(ended))
 }

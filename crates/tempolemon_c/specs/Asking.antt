@@ -2,7 +2,7 @@
 use Rattle.std.specs.Prelude.{Option, Some}
 use Rattle.handles.specs.declared.requests.Request.{Request}
 use Rattle.handles.specs.declared.requests.Request.TheVariants.{Start, Command, Keep, Recall, End}
-use Rattle.handles.specs.declared.requests.Answer.{Answer}
+use Rattle.handles.specs.declared.requests.RequestAnswer.{RequestAnswer}
 use Rattle.handles.specs.Serving.{Serves}
 use Rattle.tempolemon_c.specs.Handles.{LiveBoot, OnBoot}
 
@@ -15,6 +15,6 @@ IsAsk (Recall alloc) = Unit {0}
 IsAsk (End alloc) = ⊥
 
 -- the request was served with this answer
-abbrev pub ServesBoot : Request → (before after : Option LiveBoot) → Answer → Type 0
+abbrev pub ServesBoot : Request → (before after : Option LiveBoot) → RequestAnswer → Type 0
 ServesBoot request before after answer =
     OnBoot (λ frames stocks from to. Serves frames stocks (Some from) request (Some to) answer) before after

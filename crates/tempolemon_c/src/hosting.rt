@@ -14,7 +14,7 @@ use control_files::file::File;
 use group_tree::group::GroupId;
 use handles::calls::{Call, CallAnswer, FileText};
 use handles::raw::{Raw, call_raw, serve_raw, show_raw};
-use handles::requests::{Answer, Request};
+use handles::requests::{Request, RequestAnswer};
 use mem_system::Boot;
 use std::alloc::Global;
 use zone_sizes::config::Config;
@@ -38,12 +38,12 @@ impl Handle {
         let raw = std::mem::replace(&mut self.raw, Raw::none(alloc));
         let (raw, answer) = serve_raw(raw, Request::Start { alloc, boot, sizes });
         self.raw = raw;
-        self.is_live = matches!(answer, Answer::Done);
+        self.is_live = matches!(answer, RequestAnswer::Done);
         self.is_live
     }
 
     /// Serves a request that neither starts nor ends a boot.
-    pub(crate) fn ask(&mut self, alloc: Global, request: Request) -> Answer
+    pub(crate) fn ask(&mut self, alloc: Global, request: Request) -> RequestAnswer
         requires live { IsSome (behind self.old) }
         requires ask { IsAsk request }
         ensures { ServesBoot request (behind self.old) (behind self.new) result }
@@ -90,7 +90,7 @@ impl Handle {
         self.raw = raw;
         self.is_live = false;
         match answer {
-            Answer::Ended(ended) => Report::of(ended),
+            RequestAnswer::Ended(ended) => Report::of(ended),
             _ => unreachable!(),
         }
     }

@@ -15,7 +15,7 @@ use crate::handle::Handle;
 use crate::report::Report;
 use crate::sizes::Sizes;
 use crate::status::{BAD_CONFIG, BAD_LINE, DONE, IS_LIVE, NO_MEMORY, NOT_LIVE, SMALL_BUFFER};
-use handles::requests::{Answer, Request};
+use handles::requests::{Request, RequestAnswer};
 use mem_system::{BootFault, boot};
 use std::alloc::Global;
 
@@ -108,7 +108,7 @@ pub extern "C" fn tempolemon_command(
             is_explained,
         },
     ) {
-        Answer::Text(told) => {
+        RequestAnswer::Text(told) => {
             *written = told.len();
             if put_answers(&told, answers) {
                 return DONE;
@@ -116,11 +116,11 @@ pub extern "C" fn tempolemon_command(
             let _kept = handle.ask(alloc, Request::Keep { text: told });
             SMALL_BUFFER
         }
-        Answer::BadLine(number) => {
+        RequestAnswer::BadLine(number) => {
             *first_bad = number;
             BAD_LINE
         }
-        Answer::NoMemory => NO_MEMORY,
+        RequestAnswer::NoMemory => NO_MEMORY,
         _ => unreachable!(),
     }
 }
@@ -148,7 +148,7 @@ pub extern "C" fn tempolemon_answer(
         return NOT_LIVE;
     }
     match handle.ask(alloc, Request::Recall { alloc }) {
-        Answer::Text(told) => {
+        RequestAnswer::Text(told) => {
             *written = told.len();
             if put_answers(&told, answers) {
                 return DONE;

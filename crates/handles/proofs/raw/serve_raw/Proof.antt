@@ -55,12 +55,12 @@ use Rattle.cpu_part.specs.declared.boot_name.BootName.{Ghosts}
 use Rattle.handles.specs.contracts.raw.Raw as Raw
 use Rattle.handles.specs.contracts.live_pointer.LivePointer as LivePointer
 use Rattle.handles.specs.contracts.requests.Request as Request
-use Rattle.handles.specs.contracts.requests.Answer as Answer
+use Rattle.handles.specs.contracts.requests.RequestAnswer as RequestAnswer
 use Rattle.handles.specs.contracts.serving.serve as S
 use Rattle.handles.proofs.serving.serve.Symbol as serve_sym
 use Rattle.handles.proofs.serving.serve.Met as serve_met
 use Rattle.handles.proofs.requests.Request.TheLaws as request_laws
-use Rattle.handles.proofs.requests.Answer.TheLaws as answer_laws
+use Rattle.handles.proofs.requests.RequestAnswer.TheLaws as answer_laws
 use Rattle.handles.specs.contracts.raw.serve_raw as F
 use Rattle.handles.specs.contracts.raw.serve_raw.Key.{name as #self}
 use Rattle.handles.proofs.raw.serve_raw.Statement as stated
@@ -155,7 +155,7 @@ module _ {M : Type 1} {𝓤 : Ura M} (𝓛 : Logic 𝓤) (at_mem : Memory → SP
       let y : (Served g).Ghost = (((α ∷ [], tt), (full_share, tt), tt, (from, (q, tt)), (word p hv ∷ [], (qv ∷ [], tt))), tt) in
       use1 𝓛 (raw ((Served g).pre y)) (id⊢ 𝓤 _) $
       calls_at ! (fm_of 𝓤 H 𝓛.laws 𝓣) (Served g) (kn g) y (and_then ! (get ! refl) (and_then ! (get ! refl) (no_more !))) (λ u.
-      use1 𝓛 (later (some (λ (r : PointerR.Denot × Answer.the_row.Denot). ((‵ (flft (α ∷ []) full_share) ⊛ ‵ ftrue) ⊛ ‵ ((Tuple (PointerR ∷ Answer.the_row ∷ [])).own_val r (u ∷ []))) ⊛
+      use1 𝓛 (later (some (λ (r : PointerR.Denot × RequestAnswer.the_row.Denot). ((‵ (flft (α ∷ []) full_share) ⊛ ‵ ftrue) ⊛ ‵ ((Tuple (PointerR ∷ RequestAnswer.the_row ∷ [])).own_val r (u ∷ []))) ⊛
       some (λ ended. ‵ (lasts (S.ended brand g none) (α ∷ [], tt) (from, (q, tt)) ended) ⊛ raw (fact 𝓤 (Serves g.frames g.stocks d.live q r.0.live r.1)))))) (id⊢ 𝓤 _) $
       await ! tt $ pick ! (λ r. split ! $ move ! (1 ∷ []) $ pick ! (λ ended. split ! $ drop ! $ heard ! (Serves g.frames g.stocks d.live q r.0.live r.1) (λ did. split ! $ drop ! $
       let p' = r.0.ptr in let a' = r.0.alloc in
@@ -163,9 +163,9 @@ module _ {M : Type 1} {𝓤 : Ura M} (𝓛 : Logic 𝓤) (at_mem : Memory → SP
       let made : Raw.the_row.Denot = record { ptr = p'; alloc = a'; frames = g.frames; stocks = g.stocks; live = r.0.live } in
       fpick ! (λ vss. fsplit ! $ feq_l ! (λ eu. fsplit ! $
       parts_out (shape (LivePointer.the_type marker g)) ! p' a' vss.0 F₂ (λ hw e0 fw. move ! (2 ∷ []) $ fsplit ! $
-      row_tells Answer.the_row answer_laws.the_row_laws ! r.1 vss.1.0 (λ av e1 fv. move ! (1 ∷ []) $ drop ! $
+      row_tells RequestAnswer.the_row answer_laws.the_row_laws ! r.1 vss.1.0 (λ av e1 fv. move ! (1 ∷ []) $ drop ! $
       -- [the answer; what the pointer owns; the handle]
-      let both_typed : T (has_ty (layout Raw.the_row) (word p' hw) && (has_ty (layout Answer.the_row) av && true)) × WT (vstruct (of_list (word p' hw ∷ av ∷ []))) = (both (has_ty (layout Raw.the_row) (word p' hw)) (has_ty (layout Answer.the_row) av && true) (word_typed p' hw fw).0 (and_tt (has_ty (layout Answer.the_row) av) fv.0), ((word_typed p' hw fw).1, (fv.1, tt))) in
+      let both_typed : T (has_ty (layout Raw.the_row) (word p' hw) && (has_ty (layout RequestAnswer.the_row) av && true)) × WT (vstruct (of_list (word p' hw ∷ av ∷ []))) = (both (has_ty (layout Raw.the_row) (word p' hw)) (has_ty (layout RequestAnswer.the_row) av && true) (word_typed p' hw fw).0 (and_tt (has_ty (layout RequestAnswer.the_row) av) fv.0), ((word_typed p' hw fw).1, (fv.1, tt))) in
       lands_as ! (ap only (eu ∙ (λ j. vstruct (of_list (e0 j ++ (e1 j ++ []))) ∷ []))) refl both_typed $
       sets ! (of_opd ! (get_in ! (fld ! refl (stop !)) (sub ! 0 refl (whole !)))) refl (word_typed p' hw fw) $
       sets ! (of_opd ! (get_in ! (fld ! refl (stop !)) (sub ! 1 refl (whole !)))) refl fv $
@@ -181,7 +181,7 @@ module _ {M : Type 1} {𝓤 : Ura M} (𝓛 : Logic 𝓤) (at_mem : Memory → SP
       let tv = vstruct (of_list (word p' hw ∷ av ∷ [])) in
       suffices ! _ (ends_at 𝓛 F.ended stayed held z tv (made, r.1) (tt, (rest (Request.the_row.exit yes) q, tt)) (tt, (tt, tt))) $ says ! (record { frames_are = refl; stocks_are = refl; serves = did }) $
       nothing ! $ move ! (2 ∷ 0 ∷ []) $ fjoin ! $ move ! (1 ∷ 0 ∷ []) $ fjoin ! $ feq_i ! (List Val) (tv ∷ []) (tv ∷ []) refl $ fjoin ! $
-      fpack ! (Valss (Raw.the_row ∷ Answer.the_row ∷ [])) (λ vss. fsep (feq (List Val) (tv ∷ []) (vstruct (of_list (vss.0 ++ (vss.1.0 ++ []))) ∷ [])) (owns (Raw.the_row ∷ Answer.the_row ∷ []) (made, (r.1, tt)) vss)) (word p' hw ∷ [], (av ∷ [], tt)) $
+      fpack ! (Valss (Raw.the_row ∷ RequestAnswer.the_row ∷ [])) (λ vss. fsep (feq (List Val) (tv ∷ []) (vstruct (of_list (vss.0 ++ (vss.1.0 ++ []))) ∷ [])) (owns (Raw.the_row ∷ RequestAnswer.the_row ∷ []) (made, (r.1, tt)) vss)) (word p' hw ∷ [], (av ∷ [], tt)) $
       nothing ! $ nothing ! $ fjoin ! $ nothing ! $ fjoin ! $ join ! $ nothing ! $ join ! $ done !))))))))))))))))
 
 pub serve_raw_spec : {M : Type 1} → stated.statement M
