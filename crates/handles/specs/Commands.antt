@@ -35,16 +35,16 @@ FailsText terms sizes text before after NoMemory = (after ≡ before) ⊎ StopsT
 -- all but the state is as before
 pub record SameButState (before after : KnownLive) : Type 0 where
   pub sizes : after.sizes ≡ before.sizes
-  pub kept : after.kept ≡ before.kept
+  pub unread_answer : after.unread_answer ≡ before.unread_answer
 
 -- the boot with this text kept
-abbrev pub with_kept : KnownLive → List ℕ → KnownLive
-with_kept live text = record live { kept = text }
+abbrev pub with_unread_answer : KnownLive → List ℕ → KnownLive
+with_unread_answer live text = record live { unread_answer = text }
 
 -- the text that was kept was taken, and none is kept
-pub record TakesKept (before after : KnownLive) (text : List ℕ) : Type 0 where
-  pub text_is : text ≡ before.kept
-  pub after_is : after ≡ with_kept before []
+pub record TakesUnreadAnswer (before after : KnownLive) (text : List ℕ) : Type 0 where
+  pub text_is : text ≡ before.unread_answer
+  pub after_is : after ≡ with_unread_answer before []
 
 -- the text is a script, and its lines are replayed
 pub record AnswersScript (frames : KnownTable) (stock_table : KnownStockTable) (text : List ℕ) (is_explained : Bool)

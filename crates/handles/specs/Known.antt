@@ -7,4 +7,4 @@ use Rattle.script_replay.specs.Lines.{SystemState}
 pub record KnownLive : Type 0 where
   pub sizes : Config
   pub state : SystemState
-  pub kept : List ℕ
+  pub unread_answer : List ℕ

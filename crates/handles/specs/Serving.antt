@@ -7,7 +7,7 @@ use Rattle.load_run.specs.Answers.{IsAfterBoot}
 use Rattle.load_run.specs.Ending.{EndsHeld}
 use Rattle.load_run.specs.declared.boot_end.BootEnd.{BootEnd}
 use Rattle.handles.specs.Known.{KnownLive}
-use Rattle.handles.specs.Commands.{AnswersScript, RefusesScript, RunsOut, TakesKept, with_kept}
+use Rattle.handles.specs.Commands.{AnswersScript, RefusesScript, RunsOut, TakesUnreadAnswer, with_unread_answer}
 use Rattle.handles.specs.declared.requests.Request.{Request}
 use Rattle.handles.specs.declared.requests.Request.TheVariants.{Start, Command, Keep, Recall, End}
 use Rattle.handles.specs.declared.requests.RequestAnswer.{RequestAnswer}
@@ -77,7 +77,7 @@ pub record Starts (frames : KnownTable) (stock_table : KnownStockTable) (sizes :
   pub is : after ≡ Some live
   pub first : IsAfterBoot sizes frames stock_table live.state
   pub sizes_are : live.sizes ≡ sizes
-  pub none_kept : live.kept ≡ []
+  pub none_unread : live.unread_answer ≡ []
 
 -- the boot ended, with this report
 pub record Ends (frames : KnownTable) (stock_table : KnownStockTable) (before after : Option KnownLive)
@@ -100,9 +100,9 @@ Serves frames stock_table before (Command alloc text is_explained) after (return
 Serves frames stock_table before (Command alloc text is_explained) after returned.NoMemory =
     OnLive (RunsOut frames stock_table text.items is_explained) before after
 Serves frames stock_table before (Keep text) after returned.Done =
-    OnLive (λ from to. to ≡ with_kept from text.items) before after
+    OnLive (λ from to. to ≡ with_unread_answer from text.items) before after
 Serves frames stock_table before (Recall alloc) after (returned.Text text) =
-    OnLive (λ from to. TakesKept from to text.items) before after
+    OnLive (λ from to. TakesUnreadAnswer from to text.items) before after
 Serves frames stock_table before (End alloc) after (returned.Ended ended) = Ends frames stock_table before after ended
 Serves frames stock_table before request after answer = ⊥
 

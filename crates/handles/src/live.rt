@@ -14,8 +14,8 @@ ghost use Rattle.load_run.specs.Answers.{IsAfterBoot};
 ghost use Rattle.load_run.specs.Ending.{EndsHeld};
 ghost use Rattle.handles.specs.Calls.{Calls, HasNoGroup, IsCpu, TellsCommand, file_reply};
 ghost use Rattle.handles.specs.declared.calls.Call.TheVariants.{Alloc, AtFrame};
-ghost use Rattle.handles.specs.Commands.{AnswersScript, FailsScript, FailsText, ReplaysText, TakesKept};
-ghost use Rattle.handles.specs.Commands.{with_kept};
+ghost use Rattle.handles.specs.Commands.{AnswersScript, FailsScript, FailsText, ReplaysText, TakesUnreadAnswer};
+ghost use Rattle.handles.specs.Commands.{with_unread_answer};
 
 use crate::calls::{Call, CallAnswer, FileText, FrameCall};
 use control_files::file::{File, file_text};
@@ -39,7 +39,7 @@ pub struct Live<N: BootName> {
     tables: Tables<N>,
     cpus: Vec<Cpu<N>>,
     sizes: Config,
-    kept: Vec<u8>,
+    unread_answer: Vec<u8>,
 }
 
 impl<N: BootName> Model for Live<N> {
@@ -53,7 +53,7 @@ impl<N: BootName> Model for Live<N> {
     ghost view = { λ l. record {
       sizes = l.sizes;
       state = system_state l.locked l.cpus.items;
-      kept = l.kept.items;
+      unread_answer = l.unread_answer.items;
     } };
 
     ghost invariant = { λ l. (length l.cpus.items ≡ N.frames.cpus) × IsSizedAs l.sizes N.frames N.stocks };
@@ -68,7 +68,7 @@ impl<N: BootName> Live<N> {
         requires sizes { boot.sizes ≡ sizes }
         ensures first { IfOk result (λ live. IsAfterBoot sizes N.frames N.stocks live.state) }
         ensures sizes { IfOk result (λ live. live.sizes ≡ sizes) }
-        ensures kept { IfOk result (λ live. live.kept ≡ []) }
+        ensures unread_answer { IfOk result (λ live. live.unread_answer ≡ []) }
     {
         let (locked, tables, cpus) = boot.into_parts::<N>(alloc)?;
         Ok(Live {
@@ -76,7 +76,7 @@ impl<N: BootName> Live<N> {
             tables,
             cpus,
             sizes,
-            kept: Vec::new(alloc),
+            unread_answer: Vec::new(alloc),
         })
     }
 
@@ -175,17 +175,17 @@ impl<N: BootName> Live<N> {
     }
 
     /// Keeps this text in place of the one that was kept.
-    pub fn keep(&mut self, text: Vec<u8>)
-        ensures { self.new ≡ with_kept self.old text.items }
+    pub fn keep_answer(&mut self, text: Vec<u8>)
+        ensures { self.new ≡ with_unread_answer self.old text.items }
     {
-        self.kept = text;
+        self.unread_answer = text;
     }
 
     /// Returns the text that was kept, and keeps none.
-    pub fn take_kept(&mut self, alloc: Global) -> Vec<u8>
-        ensures { TakesKept self.old self.new result.items }
+    pub fn take_answer(&mut self, alloc: Global) -> Vec<u8>
+        ensures { TakesUnreadAnswer self.old self.new result.items }
     {
-        std::mem::replace(&mut self.kept, Vec::new(alloc))
+        std::mem::replace(&mut self.unread_answer, Vec::new(alloc))
     }
 
     /// Ends the boot. Pins that are still held are put first.
@@ -197,7 +197,7 @@ impl<N: BootName> Live<N> {
             tables,
             cpus,
             sizes: _,
-            kept: _,
+            unread_answer: _,
         } = self;
         end_boot(locked, tables, cpus)
     }

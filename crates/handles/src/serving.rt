@@ -116,7 +116,7 @@ fn keep<N: BootName>(pointer: LivePointer<N>, text: Vec<u8>) -> (LivePointer<N>,
     ensures serves { Serves N.frames N.stocks pointer.live (Keep text) result.0.live result.1 }
 {
     let mut live = pointer.into_loose().into_box();
-    live.keep(text);
+    live.keep_answer(text);
     (LivePointer::of(Loose::of(live)), RequestAnswer::Done)
 }
 
@@ -126,7 +126,7 @@ fn recall<N: BootName>(pointer: LivePointer<N>, alloc: Global) -> (LivePointer<N
     ensures serves { Serves N.frames N.stocks pointer.live (Recall alloc) result.0.live result.1 }
 {
     let mut live = pointer.into_loose().into_box();
-    let text = live.take_kept(alloc);
+    let text = live.take_answer(alloc);
     (LivePointer::of(Loose::of(live)), RequestAnswer::Text(text))
 }
 

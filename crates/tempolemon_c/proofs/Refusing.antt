@@ -5,7 +5,7 @@ use Rattle.std.proofs.lemmas.Option.{none-some}
 use Rattle.std.specs.Global.{Global}
 use Rattle.handles.specs.declared.calls.Call.{Call}
 use Rattle.handles.specs.Calls.{IsCpu, NamesNoFrame, RefusesCall}
-use Rattle.handles.specs.Commands.{with_kept}
+use Rattle.handles.specs.Commands.{with_unread_answer}
 use Rattle.handles.specs.Known.{KnownLive}
 use Rattle.tempolemon_c.specs.Calls.{CallsInto, RefusesHost}
 use Rattle.tempolemon_c.specs.Handles.{LiveBoot, OnBoot, live_boot}

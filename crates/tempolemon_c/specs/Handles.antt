@@ -8,7 +8,7 @@ use Rattle.load_run.specs.Answers.{IsAfterBoot}
 use Rattle.load_run.specs.Ending.{EndsHeld}
 use Rattle.load_run.specs.declared.boot_end.BootEnd.{BootEnd}
 use Rattle.handles.specs.Known.{KnownLive}
-use Rattle.handles.specs.Commands.{AnswersScript, RefusesScript, RunsOut, TakesKept, with_kept}
+use Rattle.handles.specs.Commands.{AnswersScript, RefusesScript, RunsOut, TakesUnreadAnswer, with_unread_answer}
 use Rattle.tempolemon_c.specs.declared.report.Report.{Report}
 
 -- a boot behind a handle: its tables, and what stands between the calls
@@ -56,7 +56,7 @@ pub record CommandsAndKeeps (text : List ℕ) (is_explained : Bool) (before afte
     (answers : List ℕ) : Type 0 where
   pub between : Option LiveBoot
   pub commands : Commands text is_explained before between answers
-  pub keeps : OnBoot (λ frames stocks from to. to ≡ with_kept from answers) between after
+  pub keeps : OnBoot (λ frames stocks from to. to ≡ with_unread_answer from answers) between after
 
 -- this is the first bad line of the text, and nothing is done
 abbrev pub RefusesCommand : (text : List ℕ) (number : ℕ) (before after : Option LiveBoot) → Type 0
@@ -70,11 +70,11 @@ CommandRunsOut text is_explained before after =
 
 -- the answer that was kept was taken, and none is kept
 abbrev pub TakesAnswer : (before after : Option LiveBoot) (answer : List ℕ) → Type 0
-TakesAnswer before after answer = OnBoot (λ frames stocks from to. TakesKept from to answer) before after
+TakesAnswer before after answer = OnBoot (λ frames stocks from to. TakesUnreadAnswer from to answer) before after
 
 -- this answer is kept
 abbrev pub KeepsAnswer : (boot : Option LiveBoot) (answer : List ℕ) → Type 0
-KeepsAnswer boot answer = OnBoot (λ frames stocks from to. from.kept ≡ answer) boot boot
+KeepsAnswer boot answer = OnBoot (λ frames stocks from to. from.unread_answer ≡ answer) boot boot
 
 -- what a host reads of the end of a boot, as the boot told it
 abbrev pub ended_of : Report → BootEnd
