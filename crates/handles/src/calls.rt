@@ -20,7 +20,7 @@ pub enum FrameCall {
     Dirty,
     /// The unit that it heads is noted as clean.
     Clean,
-    /// Its place is told.
+    /// Its place is reported.
     Owner,
 }
 

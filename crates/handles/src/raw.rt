@@ -78,7 +78,7 @@ pub fn call_raw(raw: Raw, cpu: u32, call: &Call<'_>) -> (Raw, CallAnswer)
         raw.frames raw.stocks raw.live result.0.frames result.0.stocks result.0.live }
 {
     let Raw { ptr, alloc } = raw;
-    let (pointer, told) = serve_call::<Brand>(
+    let (pointer, answer) = serve_call::<Brand>(
         LivePointer {
             ptr: ptr as *mut Live<Brand>,
             alloc,
@@ -92,7 +92,7 @@ pub fn call_raw(raw: Raw, cpu: u32, call: &Call<'_>) -> (Raw, CallAnswer)
             ptr: ptr as *mut u8,
             alloc,
         },
-        told,
+        answer,
     )
 }
 

@@ -50,8 +50,8 @@ pub fn serve_call<N: BootName>(
         pointer.live result.0.live }
 {
     let mut live = pointer.into_loose().into_box();
-    let told = live.call(cpu, call);
-    (LivePointer::of(Loose::of(live)), told)
+    let answer = live.call(cpu, call);
+    (LivePointer::of(Loose::of(live)), answer)
 }
 
 /// Returns what a file of a group shows, on the parts of a boot that has the group. The root has no files.

@@ -11,5 +11,5 @@ use handles::raw::Raw;
 pub struct Handle {
     pub(crate) raw: Raw,
     pub(crate) is_live: bool,
-    pub ghost told: { IsTrue is_live ↔ IsSome raw.live },
+    pub ghost has_boot: { IsTrue is_live ↔ IsSome raw.live },
 }

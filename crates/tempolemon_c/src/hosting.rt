@@ -62,9 +62,9 @@ impl Handle {
             (behind self.old) (behind self.new) }
     {
         let raw = std::mem::replace(&mut self.raw, Raw::none(alloc));
-        let (raw, told) = call_raw(raw, cpu, call);
+        let (raw, answer) = call_raw(raw, cpu, call);
         self.raw = raw;
-        told
+        answer
     }
 
     /// What a file of a group shows. The group exists, and isn't the root, which has no files.
