@@ -5,45 +5,45 @@ use Rattle.std.proofs.lemmas.Bool.{and_parts, eqb-true, eq-eqb, cond-true, cond-
 use Rattle.trace_lines.specs.declared.place.Place.{Place}
 use Rattle.trace_lines.specs.declared.place.Place.TheVariants.{Free}
 use Rattle.trace_lines.specs.declared.shown.Flags.{Flags}
-use Rattle.trace_lines.specs.declared.frames.FrameRun.{FrameRun}
+use Rattle.trace_lines.specs.declared.frames.FrameSpan.{FrameSpan}
 use Rattle.trace_lines.specs.Places.{is_same_place}
-use Rattle.trace_lines.specs.Changes.{FlagChange, are_same_flags, flag_changes, frame_runs, joined}
+use Rattle.trace_lines.specs.Changes.{FlagChange, are_same_flags, flag_changes, frame_spans, joined}
 use Rattle.trace_lines.specs.Rebuilding.{flags_after, no_flags, place_after}
 use Rattle.trace_lines.proofs.Same.{same_flags, same_place}
 
--- the runs begin at this frame or later, and none ends before it begins
-abbrev AreFrom : ℕ → List FrameRun → Type 0
+-- the spans begin at this frame or later, and none ends before it begins
+abbrev AreFrom : ℕ → List FrameSpan → Type 0
 AreFrom n [] = ⊤
-AreFrom n (run ∷ runs) = (n ≤ run.first) × (run.first ≤ run.last) × AreFrom n runs
+AreFrom n (span ∷ spans) = (n ≤ span.first) × (span.first ≤ span.last) × AreFrom n spans
 
-from_less : (m n : ℕ) (runs : List FrameRun) → m ≤ n → AreFrom n runs → AreFrom m runs
+from_less : (m n : ℕ) (spans : List FrameSpan) → m ≤ n → AreFrom n spans → AreFrom m spans
 from_less m n [] le all = tt
-from_less m n (run ∷ runs) le all = (omega (arith, all.0), all.1, from_less m n runs le all.2)
+from_less m n (span ∷ spans) le all = (omega (arith, all.0), all.1, from_less m n spans le all.2)
 
-joined_by : (b : Bool) (frame : ℕ) (p : Place) (run : FrameRun) (runs : List FrameRun) → AreFrom (frame + 1) (run ∷ runs)
-    → AreFrom frame (if b then record { first = frame; last = run.last; place = p } ∷ runs else record { first = frame; last = frame; place = p } ∷ run ∷ runs)
-joined_by true frame p run runs all =
+joined_by : (b : Bool) (frame : ℕ) (p : Place) (span : FrameSpan) (spans : List FrameSpan) → AreFrom (frame + 1) (span ∷ spans)
+    → AreFrom frame (if b then record { first = frame; last = span.last; place = p } ∷ spans else record { first = frame; last = frame; place = p } ∷ span ∷ spans)
+joined_by true frame p span spans all =
     let first = all.0 in
     let last = all.1 in
-    (omega arith, omega arith, from_less frame (frame + 1) runs (omega arith) all.2)
-joined_by false frame p run runs all =
-    (omega arith, omega arith, from_less frame (frame + 1) (run ∷ runs) (omega arith) all)
+    (omega arith, omega arith, from_less frame (frame + 1) spans (omega arith) all.2)
+joined_by false frame p span spans all =
+    (omega arith, omega arith, from_less frame (frame + 1) (span ∷ spans) (omega arith) all)
 
-joined_from : (frame : ℕ) (p : Place) (runs : List FrameRun) → AreFrom (frame + 1) runs → AreFrom frame (joined frame p runs)
+joined_from : (frame : ℕ) (p : Place) (spans : List FrameSpan) → AreFrom (frame + 1) spans → AreFrom frame (joined frame p spans)
 joined_from frame p [] all = (omega arith, omega arith, tt)
-joined_from frame p (run ∷ runs) all = joined_by (run.first == frame + 1 && is_same_place run.place p) frame p run runs all
+joined_from frame p (span ∷ spans) all = joined_by (span.first == frame + 1 && is_same_place span.place p) frame p span spans all
 
-runs_by : (b : Bool) (frame : ℕ) (p : Place) (runs : List FrameRun) → AreFrom (frame + 1) runs → AreFrom frame (if b then runs else joined frame p runs)
-runs_by true frame p runs all = from_less frame (frame + 1) runs (omega arith) all
-runs_by false frame p runs all = joined_from frame p runs all
+runs_by : (b : Bool) (frame : ℕ) (p : Place) (spans : List FrameSpan) → AreFrom (frame + 1) spans → AreFrom frame (if b then spans else joined frame p spans)
+runs_by true frame p spans all = from_less frame (frame + 1) spans (omega arith) all
+runs_by false frame p spans all = joined_from frame p spans all
 
-runs_from : (frame : ℕ) (before after : List Place) → AreFrom frame (frame_runs frame before after)
+runs_from : (frame : ℕ) (before after : List Place) → AreFrom frame (frame_spans frame before after)
 runs_from frame [] after = tt
 runs_from frame (o ∷ before) [] = tt
 runs_from frame (o ∷ before) (n ∷ after) =
-    runs_by (is_same_place o n) frame n (frame_runs (frame + 1) before after) (runs_from (frame + 1) before after)
+    runs_by (is_same_place o n) frame n (frame_spans (frame + 1) before after) (runs_from (frame + 1) before after)
 
--- a run that doesn't have the frame doesn't change it
+-- a span that doesn't have the frame doesn't change it
 outside : (first last k : ℕ) (p q : Place) → k < first → (if nat_le first k && nat_le k last then p else q) ≡ q
 outside first last k p q lt = cond-false (nat_le first k && nat_le k last) p q (grind arith)
 
@@ -53,27 +53,27 @@ outside_last first last k p q lt = cond-false (nat_le first k && nat_le k last) 
 inside : (first last k : ℕ) (p q : Place) → first ≤ k → k ≤ last → (if nat_le first k && nat_le k last then p else q) ≡ p
 inside first last k p q le lt = cond-true (nat_le first k && nat_le k last) p q (grind arith)
 
--- frames before all runs keep their place
-earlier : (n k : ℕ) (runs : List FrameRun) (old : Place) → AreFrom n runs → k < n → place_after runs k old ≡ old
+-- frames before all spans keep their place
+earlier : (n k : ℕ) (spans : List FrameSpan) (old : Place) → AreFrom n spans → k < n → place_after spans k old ≡ old
 earlier n k [] old all lt = refl
-earlier n k (run ∷ runs) old all lt =
+earlier n k (span ∷ spans) old all lt =
     let first = all.0 in
-    outside run.first run.last k run.place (place_after runs k old) (omega arith) ∙ earlier n k runs old all.2 lt
+    outside span.first span.last k span.place (place_after spans k old) (omega arith) ∙ earlier n k spans old all.2 lt
 
--- what a frame that was put before the runs becomes
-at_joined : (b : Bool) (frame : ℕ) (p : Place) (run : FrameRun) (runs : List FrameRun) (old : Place) → AreFrom (frame + 1) (run ∷ runs)
-    → place_after (if b then record { first = frame; last = run.last; place = p } ∷ runs else record { first = frame; last = frame; place = p } ∷ run ∷ runs) frame old ≡ p
-at_joined true frame p run runs old all =
+-- what a frame that was put before the spans becomes
+at_joined : (b : Bool) (frame : ℕ) (p : Place) (span : FrameSpan) (spans : List FrameSpan) (old : Place) → AreFrom (frame + 1) (span ∷ spans)
+    → place_after (if b then record { first = frame; last = span.last; place = p } ∷ spans else record { first = frame; last = frame; place = p } ∷ span ∷ spans) frame old ≡ p
+at_joined true frame p span spans old all =
     let first = all.0 in
     let last = all.1 in
-    inside frame run.last frame p (place_after runs frame old) (omega arith) (omega arith)
-at_joined false frame p run runs old all = inside frame frame frame p (place_after (run ∷ runs) frame old) (omega arith) (omega arith)
+    inside frame span.last frame p (place_after spans frame old) (omega arith) (omega arith)
+at_joined false frame p span spans old all = inside frame frame frame p (place_after (span ∷ spans) frame old) (omega arith) (omega arith)
 
-at_frame : (frame : ℕ) (p : Place) (runs : List FrameRun) (old : Place) → AreFrom (frame + 1) runs → place_after (joined frame p runs) frame old ≡ p
+at_frame : (frame : ℕ) (p : Place) (spans : List FrameSpan) (old : Place) → AreFrom (frame + 1) spans → place_after (joined frame p spans) frame old ≡ p
 at_frame frame p [] old all = inside frame frame frame p old (omega arith) (omega arith)
-at_frame frame p (run ∷ runs) old all = at_joined (run.first == frame + 1 && is_same_place run.place p) frame p run runs old all
+at_frame frame p (span ∷ spans) old all = at_joined (span.first == frame + 1 && is_same_place span.place p) frame p span spans old all
 
--- later frames become what they become by the runs
+-- later frames become what they become by the spans
 longer : (first last k : ℕ) (p q r : Place) → first ≤ k → p ≡ q → (first' : ℕ) → first' ≤ k
     → (if nat_le first k && nat_le k last then p else r) ≡ (if nat_le first' k && nat_le k last then q else r)
 longer first last k p q r le e first' le' =
@@ -82,49 +82,49 @@ longer first last k p q r le e first' le' =
     ap (λ (b : Bool). if b && nat_le k last then p else r) (one ∙ sym two)
     ∙ ap (λ (x : Place). if nat_le first' k && nat_le k last then x else r) e
 
-behind_joined : (b : Bool) (frame k : ℕ) (p : Place) (run : FrameRun) (runs : List FrameRun) (old : Place) → frame < k
-    → b ≡ (run.first == frame + 1 && is_same_place run.place p)
-    → place_after (if b then record { first = frame; last = run.last; place = p } ∷ runs else record { first = frame; last = frame; place = p } ∷ run ∷ runs) k old
-    ≡ place_after (run ∷ runs) k old
-behind_joined true frame k p run runs old lt e =
-    let parts = and_parts (run.first == frame + 1) (is_same_place run.place p) (sym e) in
-    let first : run.first ≡ frame + 1 = eqb-true run.first (frame + 1) parts.0 in
-    longer frame run.last k p run.place (place_after runs k old) (omega arith) (sym (same_place run.place p parts.1)) run.first (omega arith)
-behind_joined false frame k p run runs old lt e = outside_last frame frame k p (place_after (run ∷ runs) k old) (omega arith)
+behind_joined : (b : Bool) (frame k : ℕ) (p : Place) (span : FrameSpan) (spans : List FrameSpan) (old : Place) → frame < k
+    → b ≡ (span.first == frame + 1 && is_same_place span.place p)
+    → place_after (if b then record { first = frame; last = span.last; place = p } ∷ spans else record { first = frame; last = frame; place = p } ∷ span ∷ spans) k old
+    ≡ place_after (span ∷ spans) k old
+behind_joined true frame k p span spans old lt e =
+    let parts = and_parts (span.first == frame + 1) (is_same_place span.place p) (sym e) in
+    let first : span.first ≡ frame + 1 = eqb-true span.first (frame + 1) parts.0 in
+    longer frame span.last k p span.place (place_after spans k old) (omega arith) (sym (same_place span.place p parts.1)) span.first (omega arith)
+behind_joined false frame k p span spans old lt e = outside_last frame frame k p (place_after (span ∷ spans) k old) (omega arith)
 
-behind : (frame k : ℕ) (p : Place) (runs : List FrameRun) (old : Place) → frame < k → place_after (joined frame p runs) k old ≡ place_after runs k old
+behind : (frame k : ℕ) (p : Place) (spans : List FrameSpan) (old : Place) → frame < k → place_after (joined frame p spans) k old ≡ place_after spans k old
 behind frame k p [] old lt = outside_last frame frame k p old (omega arith)
-behind frame k p (run ∷ runs) old lt = behind_joined (run.first == frame + 1 && is_same_place run.place p) frame k p run runs old lt refl
+behind frame k p (span ∷ spans) old lt = behind_joined (span.first == frame + 1 && is_same_place span.place p) frame k p span spans old lt refl
 
 -- the first frame of those that are compared
-first_place : (b : Bool) (frame k : ℕ) (o n : Place) (runs : List FrameRun) → AreFrom (frame + 1) runs → b ≡ is_same_place o n → k ≡ frame
-    → place_after (if b then runs else joined frame n runs) k o ≡ n
-first_place true frame k o n runs all e is = earlier (frame + 1) k runs o all (omega arith) ∙ same_place o n (sym e)
-first_place false frame k o n runs all e is = ap (λ (m : ℕ). place_after (joined frame n runs) m o) is ∙ at_frame frame n runs o all
+first_place : (b : Bool) (frame k : ℕ) (o n : Place) (spans : List FrameSpan) → AreFrom (frame + 1) spans → b ≡ is_same_place o n → k ≡ frame
+    → place_after (if b then spans else joined frame n spans) k o ≡ n
+first_place true frame k o n spans all e is = earlier (frame + 1) k spans o all (omega arith) ∙ same_place o n (sym e)
+first_place false frame k o n spans all e is = ap (λ (m : ℕ). place_after (joined frame n spans) m o) is ∙ at_frame frame n spans o all
 
-later_place : (b : Bool) (frame k : ℕ) (n : Place) (runs : List FrameRun) (old : Place) → frame < k
-    → place_after (if b then runs else joined frame n runs) k old ≡ place_after runs k old
-later_place true frame k n runs old lt = refl
-later_place false frame k n runs old lt = behind frame k n runs old lt
+later_place : (b : Bool) (frame k : ℕ) (n : Place) (spans : List FrameSpan) (old : Place) → frame < k
+    → place_after (if b then spans else joined frame n spans) k old ≡ place_after spans k old
+later_place true frame k n spans old lt = refl
+later_place false frame k n spans old lt = behind frame k n spans old lt
 
 places_from : (frame i : ℕ) (before after : List Place) → length before ≡ length after
-    → place_after (frame_runs frame before after) (frame + i) (get_or before i Free) ≡ get_or after i Free
+    → place_after (frame_spans frame before after) (frame + i) (get_or before i Free) ≡ get_or after i Free
 places_from frame i [] [] same = refl
 places_from frame i [] (n ∷ after) same = absurd (omega arith)
 places_from frame i (o ∷ before) [] same = absurd (omega arith)
 places_from frame zero (o ∷ before) (n ∷ after) same =
-    first_place (is_same_place o n) frame (frame + 0) o n (frame_runs (frame + 1) before after) (runs_from (frame + 1) before after) refl (omega arith)
+    first_place (is_same_place o n) frame (frame + 0) o n (frame_spans (frame + 1) before after) (runs_from (frame + 1) before after) refl (omega arith)
 places_from frame (suc i) (o ∷ before) (n ∷ after) same =
     let e : frame + suc i ≡ frame + 1 + i = omega arith in
-    later_place (is_same_place o n) frame (frame + suc i) n (frame_runs (frame + 1) before after) (get_or before i Free) (omega arith)
-    ∙ ap (λ (k : ℕ). place_after (frame_runs (frame + 1) before after) k (get_or before i Free)) e
+    later_place (is_same_place o n) frame (frame + suc i) n (frame_spans (frame + 1) before after) (get_or before i Free) (omega arith)
+    ∙ ap (λ (k : ℕ). place_after (frame_spans (frame + 1) before after) k (get_or before i Free)) e
     ∙ places_from (frame + 1) i before after (omega arith)
 
 pub places_rebuilt : (frame : ℕ) (before after : List Place) → length before ≡ length after
-    → place_after (frame_runs 0 before after) frame (get_or before frame Free) ≡ get_or after frame Free
+    → place_after (frame_spans 0 before after) frame (get_or before frame Free) ≡ get_or after frame Free
 places_rebuilt frame before after same =
     let e : frame ≡ 0 + frame = omega arith in
-    ap (λ (k : ℕ). place_after (frame_runs 0 before after) k (get_or before frame Free)) e ∙ places_from 0 frame before after same
+    ap (λ (k : ℕ). place_after (frame_spans 0 before after) k (get_or before frame Free)) e ∙ places_from 0 frame before after same
 
 -- ---- flags
 

@@ -9,7 +9,7 @@ use Rattle.trace_lines.specs.declared.shown.Row.{Row}
 use Rattle.trace_lines.specs.declared.shown.Flags.{Flags}
 use Rattle.trace_lines.specs.declared.shown.ShownStock.{ShownStock}
 use Rattle.trace_lines.specs.declared.shown.Counts.{Counts}
-use Rattle.trace_lines.specs.declared.frames.FrameRun.{FrameRun}
+use Rattle.trace_lines.specs.declared.frames.FrameSpan.{FrameSpan}
 use Rattle.trace_lines.specs.declared.lists.ListName.{ListName}
 use Rattle.trace_lines.specs.declared.lists.ListName.TheVariants.{Listed, Fresh, Back, Inactive, Active}
 use Rattle.trace_lines.specs.Places.{is_same_place}
@@ -43,7 +43,7 @@ pub record StockChange : Type 0 where
 pub record Changes : Type 0 where
   pub gone : List ℕ
   pub made : List KnownGroup
-  pub frames : List FrameRun
+  pub frames : List FrameSpan
   pub lists : List ListChange
   pub flags : List FlagChange
   pub pins : List PinChange
@@ -110,21 +110,21 @@ numbers_of (group ∷ groups) = group.number ∷ numbers_of groups
 
 -- ---- frames
 
--- a frame at a place before these runs: it begins the first run if that has the same place and follows the frame
-abbrev pub joined : ℕ → Place → List FrameRun → List FrameRun
+-- a frame at a place before these spans: it begins the first span if that has the same place and follows the frame
+abbrev pub joined : ℕ → Place → List FrameSpan → List FrameSpan
 joined frame place [] = record { first = frame; last = frame; place = place } ∷ []
-joined frame place (run ∷ runs) =
-    if run.first == frame + 1 && is_same_place run.place place
-    then record { first = frame; last = run.last; place = place } ∷ runs
-    else record { first = frame; last = frame; place = place } ∷ run ∷ runs
+joined frame place (span ∷ spans) =
+    if span.first == frame + 1 && is_same_place span.place place
+    then record { first = frame; last = span.last; place = place } ∷ spans
+    else record { first = frame; last = frame; place = place } ∷ span ∷ spans
 
--- the longest runs of frames, from this one on, that have another place after than before
-abbrev pub frame_runs : ℕ → (before after : List Place) → List FrameRun
-frame_runs frame [] after = []
-frame_runs frame (old ∷ before) [] = []
-frame_runs frame (old ∷ before) (new ∷ after) =
-    if is_same_place old new then frame_runs (frame + 1) before after
-    else joined frame new (frame_runs (frame + 1) before after)
+-- the longest spans of frames, from this one on, that have another place after than before
+abbrev pub frame_spans : ℕ → (before after : List Place) → List FrameSpan
+frame_spans frame [] after = []
+frame_spans frame (old ∷ before) [] = []
+frame_spans frame (old ∷ before) (new ∷ after) =
+    if is_same_place old new then frame_spans (frame + 1) before after
+    else joined frame new (frame_spans (frame + 1) before after)
 
 -- whether the two have the same flags
 abbrev pub are_same_flags : Flags → Flags → Bool
@@ -279,7 +279,7 @@ abbrev pub changes : KnownShown → KnownShown → Changes
 changes before after = record {
   gone = numbers_of (groups_beyond after.groups before.groups);
   made = groups_beyond before.groups after.groups;
-  frames = frame_runs 0 before.places after.places;
+  frames = frame_spans 0 before.places after.places;
   lists = list_changes before after;
   flags = flag_changes 0 before.flags after.flags;
   pins = cpus_pin_changes 1 (length after.places) before.cpus after.cpus;

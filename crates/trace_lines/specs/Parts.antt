@@ -10,7 +10,7 @@ use Rattle.trace_lines.specs.declared.shown.Row.{Row}
 use Rattle.trace_lines.specs.declared.shown.Flags.{Flags}
 use Rattle.trace_lines.specs.declared.shown.Counts.{Counts}
 use Rattle.trace_lines.specs.declared.numbers.Span.{Span}
-use Rattle.trace_lines.specs.declared.frames.FrameRun.{FrameRun}
+use Rattle.trace_lines.specs.declared.frames.FrameSpan.{FrameSpan}
 use Rattle.trace_lines.specs.declared.lists.ListName.{ListName}
 use Rattle.trace_lines.specs.declared.lists.ListName.TheVariants.{Listed, Fresh, Back, Inactive, Active}
 use Rattle.trace_lines.specs.Shown.{KnownGroup}
@@ -40,20 +40,20 @@ abbrev pub flag_text : Bool → List ℕ
 flag_text true = codes "1"
 flag_text false = codes "0"
 
--- a run: a number alone, or the first and the last in brackets
+-- a span: a number alone, or the first and the last in brackets
 abbrev pub span_text : Span → List ℕ
 span_text span =
     if span.first == span.last then decimal span.first
     else codes "[" ++ decimal span.first ++ codes "," ++ decimal span.last ++ codes "]"
 
--- a number before these runs: it begins the first run if that goes on with the next number
+-- a number before these spans: it begins the first span if that goes on with the next number
 abbrev pub with_number : ℕ → List Span → List Span
 with_number number [] = record { first = number; last = number } ∷ []
 with_number number (span ∷ spans) =
     if span.first == number + 1 then record { first = number; last = span.last } ∷ spans
     else record { first = number; last = number } ∷ span ∷ spans
 
--- numbers in their order, as the fewest runs
+-- numbers in their order, as the fewest spans
 abbrev pub spans_of : List ℕ → List Span
 spans_of [] = []
 spans_of (number ∷ numbers) = with_number number (spans_of numbers)
@@ -72,10 +72,10 @@ place_text Free = codes "\"f\""
 place_text (Lent cpu) = codes "\"c" ++ decimal cpu ++ codes "\""
 place_text (Charged group order) = codes "\"g" ++ decimal group ++ codes "\"," ++ decimal order
 
--- a run of frames, and their place
-abbrev pub frame_run_text : FrameRun → List ℕ
-frame_run_text run =
-    codes "[" ++ decimal run.first ++ codes "," ++ decimal run.last ++ codes "," ++ place_text run.place ++ codes "]"
+-- a span of frames, and their place
+abbrev pub frame_span_text : FrameSpan → List ℕ
+frame_span_text span =
+    codes "[" ++ decimal span.first ++ codes "," ++ decimal span.last ++ codes "," ++ place_text span.place ++ codes "]"
 
 -- the name of a list: its kind, and the number of the CPU or the group
 abbrev pub name_text : ListName → List ℕ
@@ -162,7 +162,7 @@ unfoldable pub first_parts_text : Changes → List ℕ
 first_parts_text changes =
     part_text (codes "gone") decimal changes.gone
     ++ part_text (codes "made") made_text changes.made
-    ++ part_text (codes "frames") frame_run_text changes.frames
+    ++ part_text (codes "frames") frame_span_text changes.frames
     ++ part_text (codes "lists") list_change_text changes.lists
 
 -- the parts that tell of pins, stocks and rows

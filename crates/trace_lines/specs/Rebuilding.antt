@@ -9,7 +9,7 @@ use Rattle.trace_lines.specs.declared.shown.Row.{Row}
 use Rattle.trace_lines.specs.declared.shown.Flags.{Flags}
 use Rattle.trace_lines.specs.declared.shown.ShownStock.{ShownStock}
 use Rattle.trace_lines.specs.declared.shown.Counts.{Counts}
-use Rattle.trace_lines.specs.declared.frames.FrameRun.{FrameRun}
+use Rattle.trace_lines.specs.declared.frames.FrameSpan.{FrameSpan}
 use Rattle.trace_lines.specs.declared.lists.ListName.{ListName}
 use Rattle.trace_lines.specs.declared.lists.ListName.TheVariants.{Listed, Fresh, Back, Inactive, Active}
 use Rattle.trace_lines.specs.Shown.{KnownShown, KnownGroup, KnownCpu}
@@ -77,11 +77,11 @@ state_of shown = record {
 
 -- ---- how changes are applied
 
--- the place of a frame: that of the run which has it, else the old one
-abbrev pub place_after : List FrameRun → ℕ → Place → Place
+-- the place of a frame: that of the span which has it, else the old one
+abbrev pub place_after : List FrameSpan → ℕ → Place → Place
 place_after [] frame old = old
-place_after (run ∷ runs) frame old =
-    if nat_le run.first frame && nat_le frame run.last then run.place else place_after runs frame old
+place_after (span ∷ spans) frame old =
+    if nat_le span.first frame && nat_le frame span.last then span.place else place_after spans frame old
 
 -- the flags of a frame: those that changed, else the old ones
 abbrev pub flags_after : List FlagChange → ℕ → Flags → Flags

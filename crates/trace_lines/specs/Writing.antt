@@ -2,9 +2,9 @@
 use Rattle.std.specs.Prelude.{◌≡◌, ◌+◌, ◌≤◌, drop, length, ℕ, Bool, true, false, List, [], ◌∷◌, ◌++◌, codes}
 use Rattle.trace_lines.specs.Changes.{FlagChange, ListChange, PinChange, StockChange, came_of, left_of, pin_change}
 use Rattle.trace_lines.specs.Shown.{KnownGroup}
-use Rattle.trace_lines.specs.declared.frames.FrameRun.{FrameRun}
+use Rattle.trace_lines.specs.declared.frames.FrameSpan.{FrameSpan}
 use Rattle.std.specs.Fmt.{decimal}
-use Rattle.trace_lines.specs.Parts.{flag_change_text, frame_run_text, list_change_text, made_text, opening}
+use Rattle.trace_lines.specs.Parts.{flag_change_text, frame_span_text, list_change_text, made_text, opening}
 use Rattle.trace_lines.specs.Parts.{pin_change_text, row_text, stock_change_text}
 
 -- before the first item the part is opened, before each other one there is a comma
@@ -41,9 +41,9 @@ AddsGone before after old new items = Adds (codes "gone") decimal before after o
 abbrev pub AddsMade : (before after : Bool) (old new : List ℕ) → List KnownGroup → Type 0
 AddsMade before after old new items = Adds (codes "made") made_text before after old new items
 
--- runs of frames were added
-abbrev pub AddsFrames : (before after : Bool) (old new : List ℕ) → List FrameRun → Type 0
-AddsFrames before after old new items = Adds (codes "frames") frame_run_text before after old new items
+-- spans of frames were added
+abbrev pub AddsFrames : (before after : Bool) (old new : List ℕ) → List FrameSpan → Type 0
+AddsFrames before after old new items = Adds (codes "frames") frame_span_text before after old new items
 
 -- changes of lists were added
 abbrev pub AddsLists : (before after : Bool) (old new : List ℕ) → List ListChange → Type 0

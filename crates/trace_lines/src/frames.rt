@@ -2,8 +2,8 @@
 
 ghost use Rattle.std.specs.Prelude.{◌≡◌, ◌+◌, ◌<◌, ◌^◌, ◌++◌, IfOk, [], ◌∷◌, codes, reverse};
 ghost use Rattle.std.specs.String.{string_bytes};
-ghost use Rattle.trace_lines.specs.Changes.{frame_runs, joined};
-ghost use Rattle.trace_lines.specs.Parts.{frame_run_text, part_text, place_text};
+ghost use Rattle.trace_lines.specs.Changes.{frame_spans, joined};
+ghost use Rattle.trace_lines.specs.Parts.{frame_span_text, part_text, place_text};
 ghost use Rattle.trace_lines.specs.Writing.{AddsFrames};
 
 use crate::parts::{push_start, push_stop};
@@ -12,7 +12,7 @@ use std::alloc::{AllocError, Global};
 
 /// The frames from the first to the last are now at this place.
 #[derive(Clone, Copy, Debug, PartialEq, Eq)]
-pub struct FrameRun {
+pub struct FrameSpan {
     pub first: usize,
     pub last: usize,
     pub place: Place,
@@ -26,81 +26,89 @@ pub(crate) fn write_frames(
     text: &mut String,
 ) -> Result<(), AllocError>
     ensures { IfOk result (λ _. string_bytes text.new
-        ≡ string_bytes text.old ++ part_text (codes "frames") frame_run_text (frame_runs 0 before.now after.now)) }
+        ≡ string_bytes text.old ++ part_text (codes "frames") frame_span_text (frame_spans 0 before.now after.now)) }
 {
-    let runs = frame_runs(alloc, before, after)?;
-    write_frame_runs(&runs, text)
+    let spans = frame_spans(alloc, before, after)?;
+    write_frame_spans(&spans, text)
 }
 
-// The longest runs of frames that have another place after than before.
-fn frame_runs(alloc: Global, before: &[Place], after: &[Place]) -> Result<Vec<FrameRun>, AllocError>
-    ensures { IfOk result (λ runs. runs.items ≡ frame_runs 0 before.now after.now) }
+// The longest spans of frames that have another place after than before.
+fn frame_spans(
+    alloc: Global,
+    before: &[Place],
+    after: &[Place],
+) -> Result<Vec<FrameSpan>, AllocError>
+    ensures { IfOk result (λ spans. spans.items ≡ frame_spans 0 before.now after.now) }
 {
-    let mut runs = Vec::new(alloc);
+    let mut spans = Vec::new(alloc);
     let mut frame = before.len().min(after.len());
     while frame > 0 {
         frame -= 1;
         if !is_same_place(before[frame], after[frame]) {
-            push_frame(frame, after[frame], &mut runs)?;
+            push_frame(frame, after[frame], &mut spans)?;
         }
     }
-    runs.reverse();
-    Ok(runs)
+    spans.reverse();
+    Ok(spans)
 }
 
-// Puts a frame at a place before these runs, of which the last is the first in order.
-fn push_frame(frame: usize, place: Place, runs: &mut Vec<FrameRun>) -> Result<(), AllocError>
+// Puts a frame at a place before these spans, of which the last is the first in order.
+fn push_frame(frame: usize, place: Place, spans: &mut Vec<FrameSpan>) -> Result<(), AllocError>
     requires { frame + 1 < 2 ^ 64 }
-    ensures { IfOk result (λ _. reverse runs.new.items ≡ joined frame place (reverse runs.old.items)) }
+    ensures { IfOk result (λ _. reverse spans.new.items ≡ joined frame place (reverse spans.old.items)) }
 {
-    let alone = FrameRun {
+    let alone = FrameSpan {
         first: frame,
         last: frame,
         place,
     };
-    let Some(run) = runs.pop() else {
-        runs.push(alone)?;
+    let Some(span) = spans.pop() else {
+        spans.push(alone)?;
         return Ok(());
     };
-    if run.first == frame + 1 && is_same_place(run.place, place) {
-        runs.push(FrameRun {
+    if span.first == frame + 1 && is_same_place(span.place, place) {
+        spans.push(FrameSpan {
             first: frame,
-            last: run.last,
+            last: span.last,
             place,
         })?;
         return Ok(());
     }
-    runs.push(run)?;
-    runs.push(alone)?;
+    spans.push(span)?;
+    spans.push(alone)?;
     Ok(())
 }
 
-// Adds the part of these runs.
-fn write_frame_runs(runs: &[FrameRun], text: &mut String) -> Result<(), AllocError>
+// Adds the part of these spans.
+fn write_frame_spans(spans: &[FrameSpan], text: &mut String) -> Result<(), AllocError>
     ensures { IfOk result (λ _. string_bytes text.new
-        ≡ string_bytes text.old ++ part_text (codes "frames") frame_run_text runs.now) }
+        ≡ string_bytes text.old ++ part_text (codes "frames") frame_span_text spans.now) }
 {
     let mut is_first = true;
-    for run in runs {
-        add_frame_run(run, &mut is_first, text)?;
+    for span in spans {
+        add_frame_span(span, &mut is_first, text)?;
     }
     push_stop(is_first, text)
 }
 
-// Adds a run to the part.
-fn add_frame_run(run: &FrameRun, is_first: &mut bool, text: &mut String) -> Result<(), AllocError>
+// Adds a span to the part.
+fn add_frame_span(
+    span: &FrameSpan,
+    is_first: &mut bool,
+    text: &mut String,
+) -> Result<(), AllocError>
     ensures { IfOk result (λ _. AddsFrames is_first.old is_first.new (string_bytes text.old) (string_bytes text.new)
-        (run.now ∷ [])) }
+        (span.now ∷ [])) }
 {
     push_start("frames", is_first, text)?;
-    write_frame_run(run, text)
+    write_frame_span(span, text)
 }
 
-// Adds one run.
-fn write_frame_run(run: &FrameRun, text: &mut String) -> Result<(), AllocError>
-    ensures { IfOk result (λ _. string_bytes text.new ≡ string_bytes text.old ++ frame_run_text run.now) }
+// Adds one span.
+fn write_frame_span(span: &FrameSpan, text: &mut String) -> Result<(), AllocError>
+    ensures { IfOk result (λ _. string_bytes text.new ≡ string_bytes text.old ++ frame_span_text span.now) }
 {
-    let FrameRun { first, last, place } = *run;
+    let FrameSpan { first, last, place } = *span;
     write!(text, "[{first},{last},")?;
     write_place(place, text)?;
     text.push_str("]")

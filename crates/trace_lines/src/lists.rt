@@ -9,7 +9,7 @@ ghost use Rattle.trace_lines.specs.Changes.{left_of, list_change, list_changes};
 ghost use Rattle.trace_lines.specs.Parts.{list_change_text, name_text, part_text};
 ghost use Rattle.trace_lines.specs.Writing.{AddsLists, KeepsOne};
 
-use crate::numbers::write_runs;
+use crate::numbers::write_number_spans;
 use crate::parts::{push_start, push_stop};
 use crate::shown::{Shown, ShownCpu, ShownGroup};
 use std::alloc::{AllocError, Global};
@@ -268,9 +268,9 @@ fn write_change(
     text.push_str("[\"")?;
     write_name(name, text)?;
     text.push_str("\",")?;
-    write_runs(alloc, left, text)?;
+    write_number_spans(alloc, left, text)?;
     text.push_str(",")?;
-    write_runs(alloc, came, text)?;
+    write_number_spans(alloc, came, text)?;
     text.push_str("]")
 }
 

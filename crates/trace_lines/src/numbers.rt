@@ -1,4 +1,4 @@
-//! Numbers, and runs of them.
+//! Numbers, and spans of them.
 
 ghost use Rattle.std.specs.Prelude.{◌≡◌, ◌+◌, ◌==◌, ◌++◌, IfOk, codes, reverse};
 ghost use Rattle.std.specs.Fmt.{decimal};
@@ -40,8 +40,8 @@ pub(crate) fn flag_word(flag: bool) -> &'static str
     if flag { "1" } else { "0" }
 }
 
-// Adds numbers in their order, as runs.
-pub(crate) fn write_runs(
+// Adds numbers in their order, as spans.
+pub(crate) fn write_number_spans(
     alloc: Global,
     numbers: &[u32],
     text: &mut String,
@@ -54,7 +54,7 @@ pub(crate) fn write_runs(
     text.push_str("]")
 }
 
-// The fewest runs of these numbers, in their order.
+// The fewest spans of these numbers, in their order.
 fn spans_of(alloc: Global, numbers: &[u32]) -> Result<Vec<Span>, AllocError>
     ensures { IfOk result (λ spans. spans.items ≡ spans_of numbers.now) }
 {
@@ -68,7 +68,7 @@ fn spans_of(alloc: Global, numbers: &[u32]) -> Result<Vec<Span>, AllocError>
     Ok(spans)
 }
 
-// Puts a number before these runs, of which the last is the first in order.
+// Puts a number before these spans, of which the last is the first in order.
 fn push_number(number: u32, spans: &mut Vec<Span>) -> Result<(), AllocError>
     ensures { IfOk result (λ _. reverse spans.new.items ≡ with_number number (reverse spans.old.items)) }
 {
@@ -92,14 +92,14 @@ fn push_number(number: u32, spans: &mut Vec<Span>) -> Result<(), AllocError>
     Ok(())
 }
 
-// Whether the run goes on with the number after this one.
+// Whether the span goes on with the number after this one.
 fn follows(number: u32, span: Span) -> bool
     ensures { result ≡ (span.first == number + 1) }
 {
     u64::from(span.first) == u64::from(number) + 1
 }
 
-// Adds the runs, with a comma between each two.
+// Adds the spans, with a comma between each two.
 fn write_spans(spans: &[Span], text: &mut String) -> Result<(), AllocError>
     ensures { IfOk result (λ _. string_bytes text.new ≡ string_bytes text.old ++ commas span_text spans.now) }
 {
@@ -110,7 +110,7 @@ fn write_spans(spans: &[Span], text: &mut String) -> Result<(), AllocError>
     write_later_spans(rest, text)
 }
 
-// Adds the runs after the first.
+// Adds the spans after the first.
 fn write_later_spans(spans: &[Span], text: &mut String) -> Result<(), AllocError>
     ensures { IfOk result (λ _. string_bytes text.new
         ≡ string_bytes text.old ++ flat_map (λ span. codes "," ++ span_text span) spans.now) }
@@ -122,7 +122,7 @@ fn write_later_spans(spans: &[Span], text: &mut String) -> Result<(), AllocError
     Ok(())
 }
 
-// Adds one run.
+// Adds one span.
 fn write_span(span: &Span, text: &mut String) -> Result<(), AllocError>
     ensures { IfOk result (λ _. string_bytes text.new ≡ string_bytes text.old ++ span_text span.now) }
 {

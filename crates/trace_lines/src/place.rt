@@ -73,7 +73,7 @@ pub fn order_after(order: u32, frame: FrameRecord) -> u32
     }
 }
 
-/// The places of frames with these records. `AllocError` if memory runs out.
+/// The places of frames with these records. `AllocError` if memory spans out.
 pub fn places(alloc: Global, frames: &[FrameRecord]) -> Result<Vec<Place>, AllocError>
     ensures { IfOk result (λ places. places.items ≡ places_of frames.now) }
 {

@@ -1,6 +1,6 @@
 use Rattle.std.proofs.Common.{◌∙◌, ◌≤◌, arith, length, min, ap, reverse, sym}
 use Rattle.trace_lines.proofs.Steps.{frames_end}
-use Rattle.trace_lines.proofs.frames.frame_runs.Goals as goal
+use Rattle.trace_lines.proofs.frames.frame_spans.Goals as goal
 
 pub loop-frame-init : goal.loop-frame-init
 loop-frame-init c =
@@ -9,5 +9,5 @@ loop-frame-init c =
     record {
       before = omega (arith, e);
       after = omega (arith, e);
-      runs = ap reverse c.new-runs.ensures.items ∙ sym (frames_end c.min-frame.result c.min-frame.result c.args.before.now c.args.after.now le);
+      spans = ap reverse c.new-spans.ensures.items ∙ sym (frames_end c.min-frame.result c.min-frame.result c.args.before.now c.args.after.now le);
     }
