@@ -30,9 +30,9 @@ note_text (Kill group returned pages pinned left usage) =
 
 -- the texts of the notes, and a last one that tells how many frames were left out, if any
 abbrev pub note_texts : List Note → ℕ → List (List ℕ)
-note_texts [] more = if more == 0 then [] else numbers_note (codes "more") (more ∷ []) ∷ []
-note_texts (note ∷ notes) more = note_text note ∷ note_texts notes more
+note_texts [] left_out = if more == 0 then [] else numbers_note (codes "more") (left_out ∷ []) ∷ []
+note_texts (note ∷ notes) left_out = note_text note ∷ note_texts notes left_out
 
 -- the part that tells notes; it is there exactly if there is a note
 unfoldable pub notes_text : List Note → ℕ → List ℕ
-notes_text notes more = part_text (codes "notes") (λ note. note) (note_texts notes more)
+notes_text notes left_out = part_text (codes "notes") (λ note. note) (note_texts notes left_out)

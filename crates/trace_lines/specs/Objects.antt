@@ -79,8 +79,8 @@ line_text line command answer =
 -- The object of a line: the line itself, what it changed in the state before it, the notes with the frames that they
 -- leave out, and the counts.
 abbrev pub object_text : LineFacts → (command answer : List ℕ) → (before after : KnownShown) → List Note → ℕ → List ℕ
-object_text line command answer before after notes more =
-    line_text line command answer ++ changes_text (changes before after) ++ notes_text notes more
+object_text line command answer before after notes left_out =
+    line_text line command answer ++ changes_text (changes before after) ++ notes_text notes left_out
     ++ counts_part (changes before after).counts ++ codes "}\n"
 
 -- the front of the end

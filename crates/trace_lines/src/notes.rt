@@ -13,16 +13,20 @@ use group_tree::group::GroupId;
 use kill_notes::note::{Candidate, Note};
 use std::alloc::AllocError;
 
-// Adds the part that tells notes. `more` frames were left out of them.
+// Adds the part that tells notes. They leave out `left_out` frames.
 #[tactic(auto, unfolding(crate::specs::Notes::notes_text))]
-pub(crate) fn write_notes(notes: &[Note], more: u64, text: &mut String) -> Result<(), AllocError>
-    ensures { IfOk result (λ _. string_bytes text.new ≡ string_bytes text.old ++ notes_text notes.now more) }
+pub(crate) fn write_notes(
+    notes: &[Note],
+    left_out: u64,
+    text: &mut String,
+) -> Result<(), AllocError>
+    ensures { IfOk result (λ _. string_bytes text.new ≡ string_bytes text.old ++ notes_text notes.now left_out) }
 {
     let mut is_first = true;
     for note in notes {
         add_note(note, &mut is_first, text)?;
     }
-    add_more(more, &mut is_first, text)?;
+    add_left_out(left_out, &mut is_first, text)?;
     push_stop(is_first, text)
 }
 
@@ -36,15 +40,15 @@ fn add_note(note: &Note, is_first: &mut bool, text: &mut String) -> Result<(), A
 }
 
 // Adds how many frames were left out, if any.
-fn add_more(more: u64, is_first: &mut bool, text: &mut String) -> Result<(), AllocError>
+fn add_left_out(left_out: u64, is_first: &mut bool, text: &mut String) -> Result<(), AllocError>
     ensures { IfOk result (λ _. AddsNotes is_first.old is_first.new (string_bytes text.old) (string_bytes text.new)
-        (note_texts [] more)) }
+        (note_texts [] left_out)) }
 {
     if more == 0 {
         return Ok(());
     }
     push_start("notes", is_first, text)?;
-    write_numbers("more", &[more], text)
+    write_numbers("more", &[left_out], text)
 }
 
 // Adds one note.

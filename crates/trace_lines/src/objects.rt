@@ -138,7 +138,7 @@ fn push_keyed_string(key: &str, bytes: &[u8], text: &mut String) -> Result<(), A
 }
 
 /// Adds the object of a line: the line with its command and answer, what differs between what was shown `before` it and
-/// what is shown `after` it, its notes, of which `more` frames were left out, and the counts, if they changed. It fails
+/// what is shown `after` it, its notes, which leave out `left_out` frames, and the counts, if they changed. It fails
 /// only if memory spans out.
 pub fn write_object(
     alloc: Global,
@@ -148,7 +148,7 @@ pub fn write_object(
     before: &Shown,
     after: &Shown,
     notes: &[Note],
-    more: u64,
+    left_out: u64,
     text: &mut String,
 ) -> Result<(), AllocError>
     ensures { IfOk result (λ _. string_bytes text.new
@@ -156,7 +156,7 @@ pub fn write_object(
 {
     write_line(line, command, answer, text)?;
     write_changes(alloc, before, after, text)?;
-    write_notes(notes, more, text)?;
+    write_notes(notes, left_out, text)?;
     write_counts(before, after, text)?;
     text.push_str("}\n")
 }

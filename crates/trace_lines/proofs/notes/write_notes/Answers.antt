@@ -11,13 +11,13 @@ loop-note-init c = goes_start _ _ _ _ _ _ refl
 
 pub loop-note-preserved : goal.loop-note-preserved
 loop-note-preserved c = goes_on _ _ _ _ _ _ _ _ _ _ _ _ c.loop-note.invariant
-    (ap (λ (l : List Note). note_texts l c.args.more) (at_item _ _ _ c.loop-note-test.true c.note-item.is)) c.in_ok-add_note.ensures
+    (ap (λ (l : List Note). note_texts l c.args.left_out) (at_item _ _ _ c.loop-note-test.true c.note-item.is)) c.in_ok-add_note.ensures
 
 pub returns : goal.returns
 unfolding notes_text
 returns c = part_ok _ _ _ _ _ _ _ _
     (goes_end _ _ _ _ _ _ _ _
     (goes_on _ _ _ _ _ _ _ _ _ _ _ _ c.loop-note.invariant
-    (ap (λ (l : List Note). note_texts l c.args.more) (no_more c.args.notes.now _ c.loop-note-test.false) ∙ sym (append-nil _))
-    c.in_ok-add_more.ensures) refl)
+    (ap (λ (l : List Note). note_texts l c.args.left_out) (no_more c.args.notes.now _ c.loop-note-test.false) ∙ sym (append-nil _))
+    c.in_ok-add_left_out.ensures) refl)
     c.push_stop.ensures
