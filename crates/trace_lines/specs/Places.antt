@@ -2,8 +2,8 @@
 use Rattle.std.specs.Prelude.{ℕ, ◌==◌, ◌&&◌, Bool, true, false, List, [], ◌∷◌}
 use Rattle.trace_lines.specs.declared.place.Place.{Place}
 use Rattle.trace_lines.specs.declared.place.Place.TheVariants.{Free, Lent, Charged}
-use Rattle.trace_lines.specs.declared.place.FrameRecord.{FrameRecord}
-use Rattle.trace_lines.specs.declared.place.FrameRecord.TheVariants as recorded
+use Rattle.trace_lines.specs.declared.place.TracedFrame.{TracedFrame}
+use Rattle.trace_lines.specs.declared.place.TracedFrame.TheVariants as recorded
 
 -- whether the two places are the same
 abbrev pub is_same_place : Place → Place → Bool
@@ -18,24 +18,24 @@ is_same_place (Charged one one_order) (Lent other) = false
 is_same_place (Charged one one_order) (Charged other other_order) = one == other && one_order == other_order
 
 -- the place of a frame with this record; `order` is that of the last head before it
-abbrev pub place_in : ℕ → FrameRecord → Place
+abbrev pub place_in : ℕ → TracedFrame → Place
 place_in order recorded.Free = Free
 place_in order (recorded.Lent cpu) = Lent cpu
 place_in order (recorded.Head group own) = Charged group own
 place_in order (recorded.Tail group) = Charged group order
 
 -- the order of the last head up to this frame
-abbrev pub order_after : ℕ → FrameRecord → ℕ
+abbrev pub order_after : ℕ → TracedFrame → ℕ
 order_after order (recorded.Head group own) = own
 order_after order recorded.Free = order
 order_after order (recorded.Lent cpu) = order
 order_after order (recorded.Tail group) = order
 
 -- the places of frames with these records; `order` is that of the last head before them
-abbrev pub places_from : ℕ → List FrameRecord → List Place
+abbrev pub places_from : ℕ → List TracedFrame → List Place
 places_from order [] = []
 places_from order (frame ∷ frames) = place_in order frame ∷ places_from (order_after order frame) frames
 
 -- the places of all frames of a zone, which have these records
-abbrev pub places_of : List FrameRecord → List Place
+abbrev pub places_of : List TracedFrame → List Place
 places_of frames = places_from 0 frames

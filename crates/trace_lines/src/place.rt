@@ -19,7 +19,7 @@ pub enum Place {
 
 /// What a machine records of a frame: only the first frame of a unit has the unit's order.
 #[derive(Clone, Copy, Debug, PartialEq, Eq)]
-pub enum FrameRecord {
+pub enum TracedFrame {
     /// In the zone's free areas.
     Free,
     /// On the list of this CPU, 1 to 64.
@@ -52,29 +52,29 @@ pub(crate) fn is_same_place(one: Place, other: Place) -> bool
 }
 
 /// The place of a frame with this record, if `order` is the order of the last head before it.
-pub fn place_in(order: u32, frame: FrameRecord) -> Place
+pub fn place_in(order: u32, frame: TracedFrame) -> Place
     ensures { result ≡ place_in order frame }
 {
     match frame {
-        FrameRecord::Free => Place::Free,
-        FrameRecord::Lent { cpu } => Place::Lent { cpu },
-        FrameRecord::Head { group, order } => Place::Charged { group, order },
-        FrameRecord::Tail { group } => Place::Charged { group, order },
+        TracedFrame::Free => Place::Free,
+        TracedFrame::Lent { cpu } => Place::Lent { cpu },
+        TracedFrame::Head { group, order } => Place::Charged { group, order },
+        TracedFrame::Tail { group } => Place::Charged { group, order },
     }
 }
 
 /// The order of the last head up to a frame with this record, if `order` is that of the last head before it.
-pub fn order_after(order: u32, frame: FrameRecord) -> u32
+pub fn order_after(order: u32, frame: TracedFrame) -> u32
     ensures { result ≡ order_after order frame }
 {
     match frame {
-        FrameRecord::Head { order, .. } => order,
+        TracedFrame::Head { order, .. } => order,
         _ => order,
     }
 }
 
 /// The places of frames with these records. `AllocError` if memory spans out.
-pub fn places(alloc: Global, frames: &[FrameRecord]) -> Result<Vec<Place>, AllocError>
+pub fn places(alloc: Global, frames: &[TracedFrame]) -> Result<Vec<Place>, AllocError>
     ensures { IfOk result (λ places. places.items ≡ places_of frames.now) }
 {
     let mut places = Vec::with_capacity(alloc, frames.len())?;
