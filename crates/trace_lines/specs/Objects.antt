@@ -4,8 +4,8 @@ use Rattle.std.specs.Fmt.{decimal}
 use Rattle.kill_notes.specs.declared.note.Note.{Note}
 use Rattle.trace_lines.specs.declared.objects.Header.{Header}
 use Rattle.trace_lines.specs.declared.objects.LineFacts.{LineFacts}
-use Rattle.trace_lines.specs.declared.objects.Miss.{Miss}
-use Rattle.trace_lines.specs.declared.objects.Miss.TheVariants.{ListEmpty, FreshFull, NoStock, Drained, OtherGroup}
+use Rattle.trace_lines.specs.declared.objects.FastMiss.{FastMiss}
+use Rattle.trace_lines.specs.declared.objects.FastMiss.TheVariants.{ListEmpty, FreshFull, NoStock, Drained, OtherGroup}
 use Rattle.trace_lines.specs.declared.objects.End.{End}
 use Rattle.trace_lines.specs.Shown.{KnownShown}
 use Rattle.trace_lines.specs.Changes.{changes}
@@ -49,7 +49,7 @@ lock_word true = codes "true"
 lock_word false = codes "false"
 
 -- why no frame could be taken without the lock
-abbrev pub reason_text : Miss → List ℕ
+abbrev pub reason_text : FastMiss → List ℕ
 reason_text ListEmpty = codes "list-empty"
 reason_text FreshFull = codes "fresh-full"
 reason_text NoStock = codes "no-stock"
@@ -57,12 +57,12 @@ reason_text Drained = codes "drained"
 reason_text OtherGroup = codes "other-group"
 
 -- the part that tells why, if it is told
-unfoldable pub miss_text : Option Miss → List ℕ
+unfoldable pub miss_text : Option FastMiss → List ℕ
 miss_text None = []
 miss_text (Some miss) = codes ",\"miss\":\"" ++ reason_text miss ++ codes "\""
 
 -- whether the line took the lock, and why no frame could be taken without it
-unfoldable pub lock_text : Bool → Option Miss → List ℕ
+unfoldable pub lock_text : Bool → Option FastMiss → List ℕ
 lock_text took_lock miss = codes ",\"lock\":" ++ lock_word took_lock ++ miss_text miss
 
 -- a line's number
