@@ -7,7 +7,7 @@ use crate::streams::{
     reader_in_steps, row_holds, run_program, run_program_on, script_reader, writer_with_room,
 };
 use load_run::fault::ProgramFault;
-use load_run::fault_lines::tell_fault;
+use load_run::fault_lines::report_fault;
 use load_run::{LineFault, ScriptFault};
 use std::alloc::AllocError;
 use std::io::ErrorKind;
@@ -176,7 +176,7 @@ fn is_printed_as_displayed(
 ) {
     let displayed = format!(in rt.alloc(); "{fault}{end}").expect(rt, "memory");
     let mut faults = writer_with_room(rt, 1_000);
-    let status = tell_fault(fault, &mut faults);
+    let status = report_fault(fault, &mut faults);
     row_holds(rt, status == fault.status(), displayed.as_str());
     let is_printed = faults.text.as_slice() == displayed.as_bytes();
     row_holds(rt, is_printed, displayed.as_str());

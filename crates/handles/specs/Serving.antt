@@ -3,7 +3,7 @@ use Rattle.std.specs.Prelude.{◌≡◌, [], Option, None, Some}
 use Rattle.frame_word.specs.Seats.{KnownTable}
 use Rattle.stock_word.specs.Stock.{KnownStockTable}
 use Rattle.zone_sizes.specs.declared.config.Config.{Config}
-use Rattle.load_run.specs.Answers.{IsAfterBoot}
+use Rattle.load_run.specs.Answers.{IsNewBootState}
 use Rattle.load_run.specs.Ending.{EndsHeld}
 use Rattle.load_run.specs.declared.boot_end.BootEnd.{BootEnd}
 use Rattle.handles.specs.Known.{KnownLive}
@@ -75,7 +75,7 @@ pub record Starts (frames : KnownTable) (stock_table : KnownStockTable) (sizes :
     (after : Option KnownLive) : Type 0 where
   pub live : KnownLive
   pub is : after ≡ Some live
-  pub first : IsAfterBoot sizes frames stock_table live.state
+  pub first : IsNewBootState sizes frames stock_table live.state
   pub sizes_are : live.sizes ≡ sizes
   pub none_unread : live.unread_answer ≡ []
 

@@ -10,7 +10,7 @@ ghost use Rattle.script_replay.specs.Ranges.{CpuCommandInRange};
 ghost use Rattle.script_replay.specs.Terms.{terms};
 ghost use Rattle.script_replay.specs.Typed.{IsShort};
 ghost use Rattle.script_replay.specs.Works.{work_of};
-ghost use Rattle.load_run.specs.Answers.{IsAfterBoot};
+ghost use Rattle.load_run.specs.Answers.{IsNewBootState};
 ghost use Rattle.load_run.specs.Ending.{EndsHeld};
 ghost use Rattle.handles.specs.Calls.{Calls, HasNoGroup, IsCpu, TellsCommand, file_reply};
 ghost use Rattle.handles.specs.declared.calls.Call.TheVariants.{Alloc, AtFrame};
@@ -66,7 +66,7 @@ impl<N: BootName> Live<N> {
         requires frames { boot.frames ≡ N.frames }
         requires stocks { boot.stocks ≡ N.stocks }
         requires sizes { boot.sizes ≡ sizes }
-        ensures first { IfOk result (λ live. IsAfterBoot sizes N.frames N.stocks live.state) }
+        ensures first { IfOk result (λ live. IsNewBootState sizes N.frames N.stocks live.state) }
         ensures sizes { IfOk result (λ live. live.sizes ≡ sizes) }
         ensures unread_answer { IfOk result (λ live. live.unread_answer ≡ []) }
     {

@@ -13,7 +13,7 @@ use Rattle.script_replay.specs.Terms.{boot_tables, numbered_terms}
 use Rattle.script_threads.specs.Each.{AreAllAnswers, workers_from}
 use Rattle.script_threads.specs.Runs.{lines_before_go}
 use Rattle.load_run.specs.declared.boot_end.BootEnd.{BootEnd}
-use Rattle.load_run.specs.Answers.{IsAfterBoot}
+use Rattle.load_run.specs.Answers.{IsNewBootState}
 use Rattle.load_run.specs.Ending.{EndsAfter, end_text}
 use Rattle.load_run.specs.Answers.{AreThreadAnswers, IsQuietSystem}
 
@@ -39,7 +39,7 @@ later_there sizes t w n lines later sized is all =
 -- the early lines were served from the boot on, the later ones told by CPU, and the boot ended: these are the
 -- answers
 pub are_answers : (sizes : Config) (is_numbered is_audited : Bool) (t : KnownTable) (w : KnownStockTable) (lines first_lines other_lines : List Line)
-    (start at_go : SystemState) (early later text : List ℕ) (told : BootEnd) → IsAfterBoot sizes t w start
+    (start at_go : SystemState) (early later text : List ℕ) (told : BootEnd) → IsNewBootState sizes t w start
     → first_lines ≡ take (lines_before_go lines) lines → other_lines ≡ drop (lines_before_go lines) lines
     → ServesAll (numbered_terms t w false is_numbered) first_lines start at_go early → HasHistory (numbered_terms t w false is_numbered) first_lines (past [] start) at_go early
     → AreAllAnswers (boot_tables t w) (workers_from 1 at_go.cpus other_lines is_numbered) later

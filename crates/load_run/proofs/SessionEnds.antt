@@ -20,7 +20,7 @@ use Rattle.load_options.specs.declared.task.Options.{Options}
 use Rattle.load_run.specs.declared.fault.ProgramFault.{ProgramFault}
 use Rattle.load_run.specs.declared.fault.ProgramFault.TheVariants as kinds
 use Rattle.load_run.specs.declared.boot_end.BootEnd.{BootEnd}
-use Rattle.load_run.specs.Starting.{IsAfterBoot}
+use Rattle.load_run.specs.Starting.{IsNewBootState}
 use Rattle.load_run.specs.Causes.{written}
 use Rattle.load_run.specs.Ending.{EndsHeld, end_text}
 use Rattle.load_run.specs.Fault.{fault_text, status_of}
@@ -162,8 +162,8 @@ as_made t w server sizes is_explained state P same explained stands is =
 module _ (booted : Config) (options : Options) (is_explained : Bool) (t : KnownTable) (w : KnownStockTable) (locked : KnownLocked) (cpus : List KnownCpu)
     (same : booted ≡ options.sizes) (sized : IsSizedAs booted t w) (machine : IsFirst t w locked.machine) (sizes : locked.sizes ≡ booted)
     (first : cpus ≡ first_cpus t w 1 booted.cpus) where
-  stands : IsAfterBoot options.sizes t w (system_state locked cpus)
-  stands = subst (λ (c : Config). IsAfterBoot c t w (system_state locked cpus)) same
+  stands : IsNewBootState options.sizes t w (system_state locked cpus)
+  stands = subst (λ (c : Config). IsNewBootState c t w (system_state locked cpus)) same
       (record { sized = sized; machine = machine; sizes_are = sizes; cpus = first })
 
   -- it served a session, and ended

@@ -25,7 +25,7 @@ use Rattle.load_options.specs.declared.task.Task.TheVariants.{Replay, Steps, Run
 use Rattle.load_run.specs.Ending.{TellsEnd}
 use Rattle.load_run.specs.Logs.{AreLoggedSteps}
 -- what stands after a boot
-pub use Rattle.load_run.specs.Starting.{IsAfterBoot}
+pub use Rattle.load_run.specs.Starting.{IsNewBootState}
 use Rattle.load_run.specs.Refusals.{answered_status}
 
 -- what is read of an input: a byte more than a script may have, as far as there are so many
@@ -44,7 +44,7 @@ pub record AreReplayAnswers (sizes : Config) (form : Form) (is_audited : Bool) (
   pub end : SystemState
   pub answers : List ℕ
   pub ending : List ℕ
-  pub first : IsAfterBoot sizes frames stocks start
+  pub first : IsNewBootState sizes frames stocks start
   pub served : ServesAll (form_terms frames stocks form) lines start end answers
   pub history : HasHistory (form_terms frames stocks form) lines (past [] start) end answers
   pub told : AgreesWithRun frames [] start.locked.machine.ledger
@@ -68,7 +68,7 @@ pub record AreCheckedAnswers (sizes : Config) (form : Form) (is_audited : Bool) 
   pub run : StepRun
   pub answers : List ℕ
   pub ending : List ℕ
-  pub first : IsAfterBoot sizes frames stocks start
+  pub first : IsNewBootState sizes frames stocks start
   pub served : ServesAll (form_terms frames stocks form) lines start end answers
   pub history : KeepsHistory (form_terms frames stocks form) lines (past [] start) (past run end) answers
   pub ends : TellsEnd frames stocks is_audited end ending
@@ -98,7 +98,7 @@ pub record AreThreadAnswers (sizes : Config) (is_numbered is_audited : Bool) (li
   pub early : List ℕ
   pub later : List ℕ
   pub ending : List ℕ
-  pub first : IsAfterBoot sizes frames stocks start
+  pub first : IsNewBootState sizes frames stocks start
   pub served : ServesAll (numbered_terms frames stocks false is_numbered) (take (lines_before_go lines) lines) start
       at_go
       early

@@ -13,7 +13,7 @@ use Rattle.script_lines.specs.Script.{texts_of}
 use Rattle.script_replay.specs.Lines.{InOrder, ServesLine, SystemState}
 use Rattle.script_replay.specs.Terms.{Terms, terms}
 use Rattle.load_run.specs.Ending.{LeavesNothing}
-use Rattle.load_run.specs.Starting.{IsAfterBoot}
+use Rattle.load_run.specs.Starting.{IsNewBootState}
 
 -- a byte of a comment: one outside 32 to 126 is shown as `?`
 abbrev pub printed : ℕ → ℕ
@@ -78,7 +78,7 @@ pub record AreLoggedSteps (sizes : Config) (script : List ℕ) (lines : List Lin
   pub frames : KnownTable
   pub stocks : KnownStockTable
   pub start : SystemState
-  pub first : IsAfterBoot sizes frames stocks start
+  pub first : IsNewBootState sizes frames stocks start
   pub log : List ℕ
   pub logs : LogsAllAndEnd frames stocks (texts_of script) lines start log
   pub text_is : text ≡ zone_text sizes.frames sizes.cpus ++ 10 ∷ log

@@ -15,7 +15,7 @@ use Rattle.load_options.specs.declared.fault.LineFault.TheVariants as words
 use Rattle.load_options.specs.declared.task.Options.{Options}
 use Rattle.load_run.specs.declared.fault.ProgramFault.{ProgramFault}
 use Rattle.load_run.specs.declared.fault.ProgramFault.TheVariants as kinds
-use Rattle.load_run.specs.Starting.{IsAfterBoot}
+use Rattle.load_run.specs.Starting.{IsNewBootState}
 use Rattle.load_run.specs.Causes.{Written}
 use Rattle.load_run.specs.Ending.{TellsEnd}
 use Rattle.load_run.specs.Fault.{fault_text}
@@ -31,7 +31,7 @@ pub record EndsSession (options : Options) (is_explained : Bool) (input before m
   pub stocks : KnownStockTable
   pub start : SystemState
   pub end : SystemState
-  pub first : IsAfterBoot options.sizes frames stocks start
+  pub first : IsNewBootState options.sizes frames stocks start
   pub session : ServesSession (terms frames stocks is_explained) options.sizes input start end before middle
   pub history : HasHistory (terms frames stocks is_explained) (lines_of session.turns) (past [] start) end
       (answers_of session.turns)
@@ -66,7 +66,7 @@ pub record FailsOnBoot (options : Options) (is_explained : Bool) (input before a
   pub stocks : KnownStockTable
   pub start : SystemState
   pub end : SystemState
-  pub first : IsAfterBoot options.sizes frames stocks start
+  pub first : IsNewBootState options.sizes frames stocks start
   pub why : ServeFault
   pub same : IsSameFault why fault
   pub fails : FailsSession (terms frames stocks is_explained) options.sizes input start end before after why

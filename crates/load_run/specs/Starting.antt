@@ -8,7 +8,7 @@ use Rattle.mem_system.specs.Boots.{IsSizedAs, first_cpus}
 use Rattle.script_replay.specs.Lines.{SystemState}
 
 -- the state after a boot with these sizes, under these tables: a new machine, and CPUs that did nothing yet
-pub record IsAfterBoot (sizes : Config) (table : KnownTable) (stock_table : KnownStockTable)
+pub record IsNewBootState (sizes : Config) (table : KnownTable) (stock_table : KnownStockTable)
     (first : SystemState) : Type 0 where
   pub sized : IsSizedAs sizes table stock_table
   pub machine : IsFirst table stock_table first.locked.machine

@@ -11,7 +11,7 @@ ghost use Rattle.load_run.specs.Answers.{AreCheckedAnswers, checked_text};
 ghost use Rattle.load_run.specs.Ending.{EndsSeenAfter};
 
 use crate::boot_end::{BootEnd, CheckedSteps, end_seen_boot};
-use crate::running::tell_end;
+use crate::running::with_end;
 use cpu_part::{BootName, Cpu, Tables};
 use mem_system::{Boot, Locked};
 use script_lines::line::Line;
@@ -73,7 +73,7 @@ pub fn check_on_boot<N: BootName>(
     if !seen.is_legal {
         return Err(CheckFault::IllegalEnd);
     }
-    let told = tell_end(alloc, answers, end, is_audited)?;
+    let told = with_end(alloc, answers, end, is_audited)?;
     Ok(tell_steps(alloc, told, seen.steps)?)
 }
 

@@ -7,7 +7,7 @@ ghost use Rattle.load_run.specs.Causes.{written};
 ghost use Rattle.load_run.specs.Checks.{Checks, IsEndOf, IsVerdict, LeavesLine};
 
 use crate::fault::ProgramFault;
-use crate::fault_lines::tell_fault;
+use crate::fault_lines::report_fault;
 use crate::program::write_answers;
 use log_check::end::{LogEnd, LogFault};
 use log_check::{check_log, write_end};
@@ -32,8 +32,8 @@ pub fn drive_check<I: Read, O: Write, F: Write>(
 {
     match check_log(alloc, input) {
         Ok(end) => report_end(alloc, &end, output, faults),
-        Err(LogFault::Input) => tell_fault(&ProgramFault::Input, faults),
-        Err(LogFault::NoMemory) => tell_fault(&ProgramFault::NoMemory(AllocError), faults),
+        Err(LogFault::Input) => report_fault(&ProgramFault::Input, faults),
+        Err(LogFault::NoMemory) => report_fault(&ProgramFault::NoMemory(AllocError), faults),
     }
 }
 
@@ -47,7 +47,7 @@ fn report_end<O: Write, F: Write>(alloc: Global, end: &LogEnd, output: &mut O, f
     match end {
         LogEnd::Legal { .. } => report_verdict(alloc, end, 0, output, faults),
         LogEnd::NotLegal { .. } => report_verdict(alloc, end, 1, output, faults),
-        LogEnd::BadLine { line } => tell_fault(&ProgramFault::BadLogLine(*line), faults),
+        LogEnd::BadLine { line } => report_fault(&ProgramFault::BadLogLine(*line), faults),
     }
 }
 
@@ -66,7 +66,7 @@ fn report_verdict<O: Write, F: Write>(
 {
     match write_verdict(alloc, end, output) {
         Ok(()) => status,
-        Err(unwritten) => tell_fault(&unwritten, faults),
+        Err(unwritten) => report_fault(&unwritten, faults),
     }
 }
 

@@ -14,7 +14,7 @@ use std::io;
 use std::io::Write;
 
 /// Reports a fault in its words, as far as the writer takes them, and returns the status to end with.
-pub fn tell_fault<F: Write>(fault: &ProgramFault, faults: &mut F) -> u8
+pub fn report_fault<F: Write>(fault: &ProgramFault, faults: &mut F) -> u8
     ensures status { result ≡ status_of fault.now }
     ensures told { AppendsBeginning (F.contents faults.old) (F.contents faults.new) (fault_text fault.now) }
 {

@@ -8,7 +8,7 @@ ghost use Rattle.load_run.specs.Causes.{written};
 ghost use Rattle.load_run.specs.Lints.{IsClean, IsEarlyFault, IsReport, Lints, lint_status};
 
 use crate::fault::ProgramFault;
-use crate::fault_lines::tell_fault;
+use crate::fault_lines::report_fault;
 use crate::program::write_answers;
 use crate::reading::read_script;
 use script_lint::finding::Finding;
@@ -46,9 +46,9 @@ pub fn drive_lint<I: Read, O: Write, F: Write>(
     match report_of(alloc, sizes, input) {
         Ok(report) => match write_answers(report.text.as_bytes(), output) {
             Ok(()) => status_of(report.is_clean),
-            Err(unwritten) => tell_fault(&unwritten, faults),
+            Err(unwritten) => report_fault(&unwritten, faults),
         },
-        Err(fault) => tell_fault(&fault, faults),
+        Err(fault) => report_fault(&fault, faults),
     }
 }
 

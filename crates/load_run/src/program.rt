@@ -19,7 +19,7 @@ ghost use Rattle.load_run.specs.Writing.{AppendsBeginning};
 use crate::checked_running::{CheckFault, check_on_boot};
 use crate::checking::drive_check;
 use crate::fault::ProgramFault;
-use crate::fault_lines::tell_fault;
+use crate::fault_lines::report_fault;
 use crate::linting::drive_lint;
 use crate::logging::steps_on_boot;
 use crate::reading::read_script;
@@ -67,7 +67,7 @@ pub fn drive<R: Threads + Wait + Sync, S: AsStr, I: Read, O: Write, F: Write>(
 {
     match read_words(alloc, words) {
         Ok(options) => drive_task(rt, alloc, &options, input, output, faults),
-        Err(unread) => tell_fault(&unread, faults),
+        Err(unread) => report_fault(&unread, faults),
     }
 }
 
@@ -117,9 +117,9 @@ fn drive_script<R: Threads + Wait + Sync, I: Read, O: Write, F: Write>(
     match answers_to(rt, alloc, options, input) {
         Ok(answers) => match write_answers(&answers, output) {
             Ok(()) => answered_status(options.is_strict, options.is_numbered, &answers),
-            Err(unwritten) => tell_fault(&unwritten, faults),
+            Err(unwritten) => report_fault(&unwritten, faults),
         },
-        Err(fault) => tell_fault(&fault, faults),
+        Err(fault) => report_fault(&fault, faults),
     }
 }
 

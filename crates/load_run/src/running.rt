@@ -32,7 +32,7 @@ pub fn replay_on_boot<N: BootName>(
 {
     let (locked, tables, cpus) = boot.into_parts::<N>(alloc)?;
     let (answers, ended) = replay_and_end_boot(alloc, locked, tables, cpus, lines, form);
-    tell_end(alloc, answers?, ended, is_audited)
+    with_end(alloc, answers?, ended, is_audited)
 }
 
 // Replays the lines, and ends the boot, also if memory ran out for what they are answered.
@@ -55,7 +55,7 @@ fn replay_and_end_boot<N: BootName>(
 }
 
 /// The answers, and after them the report of the end if that is asked for. `AllocError` means that memory ran out.
-pub fn tell_end(
+pub fn with_end(
     alloc: Global,
     mut answers: Vec<u8>,
     ended: BootEnd,

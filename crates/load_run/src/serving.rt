@@ -12,9 +12,9 @@ ghost use Rattle.load_run.specs.Sessions.{IsSameFault};
 
 use crate::boot_end::{BootEnd, end_boot};
 use crate::fault::ProgramFault;
-use crate::fault_lines::tell_fault;
+use crate::fault_lines::report_fault;
 use crate::program::write_answers;
-use crate::running::tell_end;
+use crate::running::with_end;
 use cpu_part::BootName;
 use line_server::{ServeFault, Server};
 use load_options::task::Options;
@@ -42,7 +42,7 @@ pub fn drive_serve<I: Read, O: Write, F: Write>(
 {
     match serve_input(alloc, options, is_explained, input, output) {
         Ok(()) => 0,
-        Err(fault) => tell_fault(&fault, faults),
+        Err(fault) => report_fault(&fault, faults),
     }
 }
 
@@ -126,7 +126,7 @@ fn write_report<O: Write>(
     ensures begun { IfErr result (BeginsReport (O.contents output.old) (O.contents output.new)
         (end_text is_audited ended)) }
 {
-    match tell_end(alloc, Vec::new(alloc), ended, is_audited) {
+    match with_end(alloc, Vec::new(alloc), ended, is_audited) {
         Ok(text) => write_answers(&text, output),
         Err(error) => Err(ProgramFault::NoMemory(error)),
     }

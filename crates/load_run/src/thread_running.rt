@@ -9,7 +9,7 @@ ghost use Rattle.load_run.specs.Ending.{EndsAfter};
 ghost use Rattle.load_run.specs.Answers.{AreThreadAnswers, IsQuietSystem};
 
 use crate::boot_end::{BootEnd, end_boot};
-use crate::running::tell_end;
+use crate::running::with_end;
 use cpu_part::{BootName, Cpu, Tables};
 use mem_system::{Boot, Locked, NoGate, System};
 use script_lines::line::Line;
@@ -57,7 +57,7 @@ pub fn run_by_threads<N: BootName + Send + Sync, R: Threads + Wait + Sync>(
     );
     let mut answers = first?;
     answers.extend_from_slice(&told?)?;
-    tell_end(alloc, answers, ended, is_audited)
+    with_end(alloc, answers, ended, is_audited)
 }
 
 // Serves the later lines by a thread for each CPU, and ends the boot, also if memory ran out.

@@ -7,7 +7,7 @@ ghost use Rattle.load_run.specs.Checks.{LeavesLine};
 ghost use Rattle.load_run.specs.Versions.{TellsVersion, version_text};
 
 use crate::fault::ProgramFault;
-use crate::fault_lines::tell_fault;
+use crate::fault_lines::report_fault;
 use crate::program::write_answers;
 use load_options::command_line::VERSION;
 use std::alloc::Global;
@@ -22,7 +22,7 @@ pub fn drive_version<O: Write, F: Write>(alloc: Global, output: &mut O, faults: 
 {
     match write_version(alloc, output) {
         Ok(()) => 0,
-        Err(unwritten) => tell_fault(&unwritten, faults),
+        Err(unwritten) => report_fault(&unwritten, faults),
     }
 }
 

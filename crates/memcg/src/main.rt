@@ -3,7 +3,7 @@
 
 use load_options::command_line::words;
 use load_run::fault::ProgramFault;
-use load_run::fault_lines::tell_fault;
+use load_run::fault_lines::report_fault;
 use load_run::program::drive;
 use std::process::ExitCode;
 
@@ -22,7 +22,7 @@ fn main(rt: HostRuntime) -> ExitCode {
                 &mut faults,
             )
         }
-        Err(fault) => tell_fault(&ProgramFault::Words(fault), &mut faults),
+        Err(fault) => report_fault(&ProgramFault::Words(fault), &mut faults),
     };
     ExitCode::from(status)
 }

@@ -4,7 +4,7 @@ use Rattle.frame_word.specs.Seats.{KnownTable}
 use Rattle.stock_word.specs.Stock.{KnownStockTable}
 use Rattle.zone_sizes.specs.declared.config.Config.{Config}
 use Rattle.zone_sizes.specs.Config.{IsValidConfig}
-use Rattle.load_run.specs.Answers.{IsAfterBoot}
+use Rattle.load_run.specs.Answers.{IsNewBootState}
 use Rattle.load_run.specs.Ending.{EndsHeld}
 use Rattle.load_run.specs.declared.boot_end.BootEnd.{BootEnd}
 use Rattle.handles.specs.Known.{KnownLive}
@@ -31,7 +31,7 @@ pub record BootsNew (sizes : Config) (after : Option LiveBoot) : Type 0 where
   pub boot : LiveBoot
   pub is : after ≡ Some boot
   pub valid : IsValidConfig sizes
-  pub first : IsAfterBoot sizes boot.frames boot.stocks boot.live.state
+  pub first : IsNewBootState sizes boot.frames boot.stocks boot.live.state
   pub sizes_are : boot.live.sizes ≡ sizes
 
 -- a boot stands behind the handle before and after a call, and under its tables `does` leads from one to the other

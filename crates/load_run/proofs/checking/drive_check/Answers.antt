@@ -6,11 +6,11 @@ use Rattle.load_run.proofs.checking.drive_check.Goals as goal
 
 pub returns-in-Err-NoMemory : goal.returns-in-Err-NoMemory
 returns-in-Err-NoMemory g c = record {
-  checks = checks_fault _ _ _ _ (NoMemory alloc_error) _ tt c.tell_fault-in-Err-NoMemory.ensures.status
-      c.tell_fault-in-Err-NoMemory.ensures.told;
+  checks = checks_fault _ _ _ _ (NoMemory alloc_error) _ tt c.report_fault-in-Err-NoMemory.ensures.status
+      c.report_fault-in-Err-NoMemory.ensures.told;
 }
 
 pub returns-in-Err-Input : goal.returns-in-Err-Input
 returns-in-Err-Input g c = record {
-  checks = checks_fault _ _ _ _ Input _ tt c.tell_fault.ensures.status c.tell_fault.ensures.told;
+  checks = checks_fault _ _ _ _ Input _ tt c.report_fault.ensures.status c.report_fault.ensures.told;
 }

@@ -5,5 +5,5 @@ use Rattle.load_run.proofs.checking.report_verdict.Goals as goal
 pub returns-in-Err : goal.returns-in-Err
 returns-in-Err g c = record {
   checks = λ input is verdict. checks_unwritten input _ _ _ _ c.args.end.now c.in-Err.unwritten _ is c.in-Err.ensures.left
-      c.tell_fault.ensures.status c.tell_fault.ensures.told;
+      c.report_fault.ensures.status c.report_fault.ensures.told;
 }

@@ -13,10 +13,10 @@ pub returns-in-Ok : goal.returns-in-Ok
 returns-in-Ok g c = record {
   lints = lints_short _ _ _ _ _ _ (string_bytes c.in-Ok.report.text) _ c.in-Ok.report.is_clean _ _ c.in-Ok.ensures.report
       c.as_bytes.ensures.value c.write_answers.ensures.beginning
-      c.in-Err-write_answers.ensures.fault c.tell_fault.ensures.status c.tell_fault.ensures.told;
+      c.in-Err-write_answers.ensures.fault c.report_fault.ensures.status c.report_fault.ensures.told;
 }
 
 pub returns : goal.returns
 returns g c = record {
-  lints = lints_early _ _ _ _ _ c.in-Err.fault _ c.in-Err.ensures.fault c.tell_fault-in-Err.ensures.status c.tell_fault-in-Err.ensures.told;
+  lints = lints_early _ _ _ _ _ c.in-Err.fault _ c.in-Err.ensures.fault c.report_fault-in-Err.ensures.status c.report_fault-in-Err.ensures.told;
 }

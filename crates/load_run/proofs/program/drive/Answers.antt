@@ -9,5 +9,5 @@ returns-in-Ok g c = record {
 
 pub returns-in-Err : goal.returns-in-Err
 returns-in-Err g c = record {
-  drives = drives_words _ _ _ _ _ c.in-Err.unread _ c.in-Err.ensures.fault c.tell_fault.ensures.status c.tell_fault.ensures.told;
+  drives = drives_words _ _ _ _ _ c.in-Err.unread _ c.in-Err.ensures.fault c.report_fault.ensures.status c.report_fault.ensures.told;
 }

@@ -15,10 +15,10 @@ returns-in-Ok-write_answers g c = record {
 pub returns-in-Ok : goal.returns-in-Ok
 returns-in-Ok g c = record {
   drives = drives_short _ _ _ _ _ _ c.in-Ok.answers.items _ _ _ c.in-Ok.ensures.answered c.deref.ensures.value c.write_answers.ensures.beginning
-      c.in-Err-write_answers.ensures.fault c.tell_fault.ensures.status c.tell_fault.ensures.told;
+      c.in-Err-write_answers.ensures.fault c.report_fault.ensures.status c.report_fault.ensures.told;
 }
 
 pub returns : goal.returns
 returns g c = record {
-  drives = drives_badly _ _ _ _ _ c.in-Err.fault _ c.in-Err.ensures.cause c.tell_fault-in-Err.ensures.status c.tell_fault-in-Err.ensures.told;
+  drives = drives_badly _ _ _ _ _ c.in-Err.fault _ c.in-Err.ensures.cause c.report_fault-in-Err.ensures.status c.report_fault-in-Err.ensures.told;
 }

@@ -22,7 +22,7 @@ returns g c =
     let replays = at_ok _ _ _ c.in_ok-answers.was ended.so.replayed in
     let told = c.replay_and_end_boot-answers.result.1 in
     record {
-      answers = weakened c.tell_end.result _ _ (λ text is. record {
+      answers = weakened c.with_end.result _ _ (λ text is. record {
         frames = t;
         stocks = w;
         start = system_state c.in_ok-locked.locked c.in_ok-locked.cpus.items;
@@ -42,5 +42,5 @@ returns g c =
         told = a_boot_agrees t w c.in_ok-locked.locked.machine c.in_ok-locked.ensures.machine;
         ends = record { ended = told; ends = ended.ends; text_is = refl };
         text_is = is;
-      }) c.tell_end.ensures.told;
+      }) c.with_end.ensures.told;
     }

@@ -7,6 +7,6 @@ returns-in-Ok g c = record { drives = drives_served c.args.options.now c.args.is
 
 pub returns-in-Err : goal.returns-in-Err
 returns-in-Err g c = record {
-  drives = drives_stopped c.args.options.now c.args.is_explained _ _ _ _ _ c.in-Err.fault _ c.in-Err.ensures.stopped c.tell_fault.ensures.status
-      c.tell_fault.ensures.told;
+  drives = drives_stopped c.args.options.now c.args.is_explained _ _ _ _ _ c.in-Err.fault _ c.in-Err.ensures.stopped c.report_fault.ensures.status
+      c.report_fault.ensures.told;
 }

@@ -68,7 +68,7 @@ returns g c =
     let joined : c.extend_from_slice.new.self.items ≡ early ++ later =
     c.in_ok-extend_from_slice.ensures.items ∙ ap (λ (l : List ℕ). early ++ l) c.deref.ensures.value in
     record {
-      answers = weakened c.tell_end.result _ _ (λ text is.
+      answers = weakened c.with_end.result _ _ (λ text is.
           are_answers sizes c.args.is_numbered c.args.is_audited t w lines c.split_at.result.0.now c.split_at.result.1.now start at_go early later text.items ended (record {
             sized = sized;
             machine = c.in_ok-locked.ensures.machine;
@@ -76,5 +76,5 @@ returns g c =
             cpus = firsts;
           }) (c.split_at.ensures.front ∙ ap (λ (n : ℕ). take n lines) c.before_go.ensures)
           (c.split_at.ensures.back ∙ ap (λ (n : ℕ). drop n lines) c.before_go.ensures) replays.served history tells c.serve_and_end-told.ensures.ends
-          (is ∙ ap (λ (l : List ℕ). l ++ end_text c.args.is_audited ended) joined)) c.tell_end.ensures.told;
+          (is ∙ ap (λ (l : List ℕ). l ++ end_text c.args.is_audited ended) joined)) c.with_end.ensures.told;
     }
