@@ -44,7 +44,7 @@ fn add_left_out(left_out: u64, is_first: &mut bool, text: &mut String) -> Result
     ensures { IfOk result (λ _. AddsNotes is_first.old is_first.new (string_bytes text.old) (string_bytes text.new)
         (note_texts [] left_out)) }
 {
-    if more == 0 {
+    if left_out == 0 {
         return Ok(());
     }
     push_start("notes", is_first, text)?;
