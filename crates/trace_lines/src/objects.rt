@@ -151,8 +151,8 @@ pub fn write_object(
     left_out: u64,
     text: &mut String,
 ) -> Result<(), AllocError>
-    ensures { IfOk result (λ _. string_bytes text.new
-        ≡ string_bytes text.old ++ object_text line.now command.now answer.now before.now after.now notes.now left_out) }
+    ensures { IfOk result (λ _. string_bytes text.new ≡ string_bytes text.old
+        ++ object_text line.now command.now answer.now before.now after.now notes.now left_out) }
 {
     write_line(line, command, answer, text)?;
     write_changes(alloc, before, after, text)?;
