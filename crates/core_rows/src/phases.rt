@@ -146,7 +146,7 @@ pub fn is_head_in_hand(phase: Phase) -> bool
 fn is_stage_in_hand(stage: Stage) -> bool
     ensures { result ≡ is_stage_in_hand stage }
 {
-    matches!(stage, Stage::Collected | Stage::Bare | Stage::Ended)
+    matches!(stage, Stage::Collected | Stage::Bare | Stage::AwaitsReturn)
 }
 
 /// A unit at this stage may be returned, given whether its group is killed.
@@ -155,7 +155,7 @@ pub fn may_stage_return(is_killed: bool, stage: Stage) -> bool
 {
     match stage {
         Stage::Collected => is_killed,
-        Stage::Ended => true,
+        Stage::AwaitsReturn => true,
         _ => false,
     }
 }
@@ -216,7 +216,7 @@ fn stage_collected(stage: Stage) -> Stage
 {
     match stage {
         Stage::FreshPassing(_) => Stage::Collected,
-        Stage::BackPassing(_) => Stage::Ended,
+        Stage::BackPassing(_) => Stage::AwaitsReturn,
         _ => stage,
     }
 }

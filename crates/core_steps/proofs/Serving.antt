@@ -5,7 +5,7 @@ use Rattle.std.proofs.lemmas.Bool.{leb-true, ltb-true, or_cases, and_parts, eqb-
 use Rattle.step_rules.specs.declared.phase.Phase.{Phase}
 use Rattle.step_rules.specs.declared.step.Action.TheVariants.{Put, TakeIn, Credit, Consume}
 use Rattle.step_rules.specs.Phases.{ListFrame, FreshFrame, has_as, passes_out}
-use Rattle.step_rules.specs.declared.phase.Stage.TheVariants.{BackAt, Ended}
+use Rattle.step_rules.specs.declared.phase.Stage.TheVariants.{AwaitsReturn, BackAt}
 use Rattle.step_rules.specs.Phases.{at_stage}
 use Rattle.step_rules.specs.After.{with_part, with_phase, with_references, with_back, after_last}
 use Rattle.step_rules.specs.State.{with_at}
@@ -78,18 +78,18 @@ after_last_cpu s p f ne =
     let other : (p == 0) ≡ false = ne_eqb p 0 ne in
     λ i. record s {
       references = with_at s.references p (with_at (s.references p) f (s.references p f - 1));
-      phases = with_at s.phases f (at_stage (cond (sym other i) Ended (BackAt p)) (s.phases f));
+      phases = with_at s.phases f (at_stage (cond (sym other i) AwaitsReturn (BackAt p)) (s.phases f));
       parts = cond (sym other i) s.parts (with_at s.parts p (with_back (s.parts p) f));
     }
 
 -- the zone's last put: the frame is in its hand
 pub after_last_zone : (s : State) (p f : ℕ) → p ≡ 0 →
-    with_phase (with_references s p f (s.references p f - 1)) f (at_stage Ended (s.phases f)) ≡ after_last s p f
+    with_phase (with_references s p f (s.references p f - 1)) f (at_stage AwaitsReturn (s.phases f)) ≡ after_last s p f
 after_last_zone s p f e =
     let zone : (p == 0) ≡ true = eq-eqb p 0 e in
     λ i. record s {
       references = with_at s.references p (with_at (s.references p) f (s.references p f - 1));
-      phases = with_at s.phases f (at_stage (cond (sym zone i) Ended (BackAt p)) (s.phases f));
+      phases = with_at s.phases f (at_stage (cond (sym zone i) AwaitsReturn (BackAt p)) (s.phases f));
       parts = cond (sym zone i) s.parts (with_at s.parts p (with_back (s.parts p) f));
     }
 

@@ -62,7 +62,7 @@ pub(crate) fn put_last(rows: &mut Rows, seat: u32, frame: u32) -> Answer
     ensures made { Makes rows.old seat (Action.Put frame) result rows.new }
 {
     let count = rows.references(0, frame) - 1;
-    let phase = at_stage(Stage::Ended, rows.phase(frame));
+    let phase = at_stage(Stage::AwaitsReturn, rows.phase(frame));
     rows.set_references(0, frame, count);
     rows.set_phase(frame, phase);
     Answer::Last
@@ -96,7 +96,7 @@ pub(crate) fn freeze(rows: &mut Rows, seat: u32, frame: u32, count: u32) -> Answ
         return Answer::Missed;
     }
     let left = rows.references(0, frame) - count;
-    let phase = at_stage(Stage::Ended, rows.phase(frame));
+    let phase = at_stage(Stage::AwaitsReturn, rows.phase(frame));
     rows.set_references(0, frame, left);
     rows.set_phase(frame, phase);
     Answer::Done

@@ -19,7 +19,7 @@ use Rattle.cpu_part.specs.Cpus as parts
 use Rattle.cpu_part.specs.Cpus.{KnownCpu, IsTied}
 use Rattle.step_rules.specs.declared.phase.ChargedUnit.{ChargedUnit}
 use Rattle.step_rules.specs.declared.phase.Way.TheVariants.{OnList}
-use Rattle.step_rules.specs.declared.phase.Stage.TheVariants.{FreshAt, BackAt, Ended, Live}
+use Rattle.step_rules.specs.declared.phase.Stage.TheVariants.{FreshAt, BackAt, AwaitsReturn, Live}
 use Rattle.step_rules.specs.declared.phase.Phase.{Phase}
 use Rattle.step_rules.specs.declared.phase.Phase.TheVariants as phase
 use Rattle.step_rules.specs.declared.step.Action.TheVariants.{Get, Put, Consume, Credit}
@@ -246,7 +246,7 @@ module _ (t : KnownTable) (w : KnownStockTable) (run : Run) (m : KnownMachine) (
       let to : Phase = at_stage (stage_after_last q) ((local_of t m c).phases f) in
       elim (cases_eq x f) [
         | inl e ↦
-            let stage : stage_after_last q ≡ BackAt q = cond-false (q == 0) Ended (BackAt q) (ne_eqb q 0 some) in
+            let stage : stage_after_last q ≡ BackAt q = cond-false (q == 0) AwaitsReturn (BackAt q) (ne_eqb q 0 some) in
             let stands : 1 ≤ parts.times f d.back = let a = times_end f f c.back in let b = times_same f in omega arith in
             ap (λ (y : ℕ). phase_of d y (frame_state_at m.frame_states y)) e ∙ ap (phase_of d f) frame_state
             ∙ cond-true (nat_le 1 (parts.times f d.back)) _ _ (le-leb 1 (parts.times f d.back) stands)

@@ -17,7 +17,7 @@ use Rattle.cpu_part.specs.Cpus.{KnownCpu, IsTied}
 use Rattle.cpu_part.specs.Calls.{HandsBack}
 use Rattle.cpu_part.proofs.CallerLemmas.{handed_passes}
 use Rattle.step_rules.specs.declared.phase.ChargedUnit.{ChargedUnit}
-use Rattle.step_rules.specs.declared.phase.Stage.TheVariants.{BackAt, Ended}
+use Rattle.step_rules.specs.declared.phase.Stage.TheVariants.{AwaitsReturn, BackAt}
 use Rattle.step_rules.specs.declared.phase.Phase.TheVariants as phase
 use Rattle.step_rules.specs.State.{State, one_if}
 use Rattle.mem_machine.specs.declared.frame_state.FrameState.{FrameState}
@@ -131,7 +131,7 @@ module _ (t : KnownTable) (w : KnownStockTable) (m : KnownMachine) (c : KnownCpu
   pub returned_steps : IsLocalRun c.number s (return_steps c.number f) (local_of t returned d)
   returned_steps =
       let v = is_visited t w m c tied visit f was.inside in
-      let ph = phases_freed c d m.frame_states f (back_else c f rest front) new unit Ended frees in
+      let ph = phases_freed c d m.frame_states f (back_else c f rest front) new unit AwaitsReturn frees in
       let re = references_same m.frame_seat c d f c.number refl refl in
       let pa = parts_back m.stock_seat c f rest front at unit in
       return_run s c.number f unit _ v (own_part m c) (local_of t returned d) (back_phase c f (frame_state_at m.frame_states f) unit heads at.once)

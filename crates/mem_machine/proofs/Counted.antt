@@ -1,7 +1,7 @@
 -- The machine's counts follow lists of steps in which units end and are freed. Serves the `steps` clauses of
 -- `drain_list`, `settle`, `drop_zone_reference` and `evict`.
 use Rattle.std.proofs.Common.{◌≡◌, ℕ, Bool, false, cond, refl, sym, ap, ◌∙◌}
-use Rattle.step_rules.specs.declared.phase.Stage.TheVariants.{Ended}
+use Rattle.step_rules.specs.declared.phase.Stage.TheVariants.{AwaitsReturn}
 use Rattle.step_rules.specs.declared.phase.Phase.{Phase}
 use Rattle.step_rules.specs.declared.phase.Phase.TheVariants as phase
 use Rattle.step_rules.specs.declared.step.Action.TheVariants.{Put, Return}
@@ -42,7 +42,7 @@ module _ (s : State) (f : ℕ) (x : Phase) (is : s.phases f ≡ x) where
       cond (sym (ap (is_killed_return_phase s.killed) collected_at ∙ drop) i) (with_drop here) (one_more_return here)
 
 -- a unit that ended is no drop
-no_drop : (killed : ℕ → Bool) (x : Phase) → is_killed_return_phase killed (at_stage Ended x) ≡ false
+no_drop : (killed : ℕ → Bool) (x : Phase) → is_killed_return_phase killed (at_stage AwaitsReturn x) ≡ false
 no_drop killed phase.InZone = refl
 no_drop killed (phase.Lent q way) = refl
 no_drop killed (phase.Head unit stage) = refl
@@ -51,4 +51,4 @@ no_drop killed (phase.Tail g) = refl
 -- the return of a unit of which the zone had the last reference
 pub returned_ended : (s : State) (f : ℕ) (counts : Counts) → counts_after (after s 0 (Put f) Last) 0 (Return f) Done counts ≡ one_more_return counts
 returned_ended s f counts = ap (λ (b : Bool). cond b (with_drop counts) (one_more_return counts))
-    (ap (is_killed_return_phase s.killed) (at_same s.phases f (at_stage Ended (s.phases f))) ∙ no_drop s.killed (s.phases f))
+    (ap (is_killed_return_phase s.killed) (at_same s.phases f (at_stage AwaitsReturn (s.phases f))) ∙ no_drop s.killed (s.phases f))

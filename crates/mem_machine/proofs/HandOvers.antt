@@ -13,7 +13,8 @@ use Rattle.cpu_part.specs.Cpus.{KnownCpu, IsTied, times}
 use Rattle.cpu_part.proofs.CallerLemmas.{collected_is_still}
 use Rattle.cpu_part.proofs.Counts.{test, test_here, test_other, times_front}
 use Rattle.step_rules.specs.declared.phase.ChargedUnit.{ChargedUnit}
-use Rattle.step_rules.specs.declared.phase.Stage.TheVariants.{FreshAt, FreshPassing, Collected, Live, BackAt, BackPassing, Ended}
+use Rattle.step_rules.specs.declared.phase.Stage.TheVariants.{FreshAt, FreshPassing, Collected, Live, BackAt}
+use Rattle.step_rules.specs.declared.phase.Stage.TheVariants.{BackPassing, AwaitsReturn}
 use Rattle.step_rules.specs.declared.phase.Phase.{Phase}
 use Rattle.step_rules.specs.declared.phase.Phase.TheVariants as phase
 use Rattle.step_rules.specs.declared.step.Action.{Action}
@@ -293,7 +294,7 @@ module _ (s : State) (p f : ℕ) (unit : ChargedUnit) (part : Part) (visited : I
   handed_back = without_frame part (phase.Head unit (BackAt p)) p f
 
   abbrev pub ended_state : State
-  ended_state = seen s p f handed_back (phase.Head unit Ended) s.references
+  ended_state = seen s p f handed_back (phase.Head unit AwaitsReturn) s.references
 
   pub return_run : (b : State) → s.phases f ≡ phase.Head unit (BackAt p) → record ended_state { phases = without_unit ended_state.phases f } ≡ b
       → IsLocalRun p s (return_steps p f) b
@@ -308,7 +309,7 @@ module _ (s : State) (p f : ℕ) (unit : ChargedUnit) (part : Part) (visited : I
       let takes : after r1 0 (Collect f p) Done ≡ ended_state =
       λ i. record r1 { phases = at_again s.phases f (phase.Head unit (BackPassing p)) phases.collected i } in
       let may_return : is_legal ended_state 0 (Return f) ≡ true = and_from _ _ (and_from _ _ visited.acts visited.framed)
-      (ap (phases.may_return s.killed) (at_same s.phases f (phase.Head unit Ended))) in
+      (ap (phases.may_return s.killed) (at_same s.phases f (phase.Head unit AwaitsReturn))) in
       run_step p s r1 b p (PassBack f) Done (zone_makes (Collect f p) Done ∷ zone_makes (Return f) Done ∷ [])
       (cpu_step s p (PassBack f) Done refl may_hand_back tt) hands_back
       (run_step p r1 ended_state b 0 (Collect f p) Done (zone_makes (Return f) Done ∷ []) (zone_step r1 p (Collect f p) Done refl may_take tt) takes

@@ -21,7 +21,7 @@ use Rattle.lru_lists.specs.declared.lru.Lru.{Lru}
 use Rattle.lru_lists.specs.Lists.{AllLinked}
 use Rattle.cpu_part.specs.Cpus.{KnownCpu, times}
 use Rattle.step_rules.specs.declared.phase.ChargedUnit.{ChargedUnit}
-use Rattle.step_rules.specs.declared.phase.Stage.TheVariants.{Live, BackAt, Ended}
+use Rattle.step_rules.specs.declared.phase.Stage.TheVariants.{Live, BackAt, AwaitsReturn}
 use Rattle.step_rules.specs.declared.phase.Phase.{Phase}
 use Rattle.step_rules.specs.declared.phase.Phase.TheVariants as phase
 use Rattle.step_rules.specs.declared.step.Action.{Action}
@@ -236,14 +236,14 @@ module _ (t : KnownTable) (w : KnownStockTable) (m : KnownMachine) (ok : IsConsi
         abbrev pub ended : State
         ended = after (local_of t m c) 0 (Put f) answer.Last
 
-        ended_stage : (b : Bool) → at_stage Ended (cond b (phase.Head unit (BackAt c.number)) (phase.Head unit Live)) ≡ phase.Head unit Ended
+        ended_stage : (b : Bool) → at_stage AwaitsReturn (cond b (phase.Head unit (BackAt c.number)) (phase.Head unit Live)) ≡ phase.Head unit AwaitsReturn
         ended_stage true = refl
         ended_stage false = refl
 
-        head_ended : ended.phases f ≡ phase.Head unit Ended
+        head_ended : ended.phases f ≡ phase.Head unit AwaitsReturn
         head_ended =
-            at_same (local_of t m c).phases f (at_stage Ended (phase_of c f (frame_state_at m.frame_states f)))
-            ∙ ap (λ (x : FrameState). at_stage Ended (phase_of c f x)) heads ∙ ended_stage (nat_le 1 (times f c.back))
+            at_same (local_of t m c).phases f (at_stage AwaitsReturn (phase_of c f (frame_state_at m.frame_states f)))
+            ∙ ap (λ (x : FrameState). at_stage AwaitsReturn (phase_of c f x)) heads ∙ ended_stage (nat_le 1 (times f c.back))
 
         may_come_back : is_legal ended 0 (Return f) ≡ true
         may_come_back =
@@ -260,7 +260,7 @@ module _ (t : KnownTable) (w : KnownStockTable) (m : KnownMachine) (ok : IsConsi
               | inl w ↦ ap (λ (b : Bool). cond b phase.InZone (ended.phases x)) w.0
                   ∙ sym (ap (phase_of c x) (frees.records x ∙ ap (λ (b : Bool). cond b Free (frame_state_at m.frame_states x)) w.0))
               | inr out ↦ ap (λ (b : Bool). cond b phase.InZone (ended.phases x)) out.0
-                  ∙ at_other (local_of t m c).phases f (at_stage Ended (phase_of c f (frame_state_at m.frame_states f))) x
+                  ∙ at_other (local_of t m c).phases f (at_stage AwaitsReturn (phase_of c f (frame_state_at m.frame_states f))) x
                   (λ e. out.1 (omega (arith, e)) (omega (arith, e, some)))
                   ∙ sym (ap (phase_of c x) (frees.records x ∙ ap (λ (b : Bool). cond b Free (frame_state_at m.frame_states x)) out.0))
             ]

@@ -10,7 +10,7 @@ use Rattle.frame_word.specs.Seats.{KnownTable, KnownSeat, misses_of, seat_with}
 use Rattle.frame_word.proofs.Notes.{note_here, note_else}
 use Rattle.cpu_part.specs.Cpus.{KnownCpu, times}
 use Rattle.step_rules.specs.declared.phase.ChargedUnit.{ChargedUnit}
-use Rattle.step_rules.specs.declared.phase.Stage.TheVariants.{Live, BackAt, Ended}
+use Rattle.step_rules.specs.declared.phase.Stage.TheVariants.{Live, BackAt, AwaitsReturn}
 use Rattle.step_rules.specs.declared.phase.Phase.TheVariants as phase
 use Rattle.step_rules.specs.declared.step.Step.{Step}
 use Rattle.step_rules.specs.declared.step.Action.TheVariants.{Freeze}
@@ -87,15 +87,15 @@ moves_both t a b c some more one two first second = record {
 -- ---- one try
 
 -- the unit that the frozen frame heads
-frozen_unit : (b : Bool) (p : ℕ) (unit : ChargedUnit) → unit_of (at_stage Ended (cond b (phase.Head unit (BackAt p)) (phase.Head unit Live))) ≡ Some unit
+frozen_unit : (b : Bool) (p : ℕ) (unit : ChargedUnit) → unit_of (at_stage AwaitsReturn (cond b (phase.Head unit (BackAt p)) (phase.Head unit Live))) ≡ Some unit
 frozen_unit true p unit = refl
 frozen_unit false p unit = refl
 
 unit_frozen : (t : KnownTable) (m : KnownMachine) (f : ℕ) (unit : ChargedUnit) → frame_state_at m.frame_states f ≡ Head unit → (c : KnownCpu)
     → unit_of ((after (local_of t m c) 0 (Freeze f 1) Done).phases f) ≡ Some unit
 unit_frozen t m f unit heads c =
-    ap unit_of (at_same (local_of t m c).phases f (at_stage Ended (phase_of c f (frame_state_at m.frame_states f))))
-    ∙ ap (λ (x : FrameState). unit_of (at_stage Ended (phase_of c f x))) heads ∙ frozen_unit (nat_le 1 (times f c.back)) c.number unit
+    ap unit_of (at_same (local_of t m c).phases f (at_stage AwaitsReturn (phase_of c f (frame_state_at m.frame_states f))))
+    ∙ ap (λ (x : FrameState). unit_of (at_stage AwaitsReturn (phase_of c f x))) heads ∙ frozen_unit (nat_le 1 (times f c.back)) c.number unit
 
 missed_here : (f g : ℕ) → ◌≡◌ {A = ℕ} (missed_in g (zone_makes (Freeze f 1) Missed ∷ [])) (cond (f == g) 1 0)
 missed_here f g = omega arith

@@ -9,7 +9,7 @@ use Rattle.group_tree.specs.declared.group.Group.{Group}
 use Rattle.group_tree.specs.Groups.{has_group, in_subtree, initial_groups}
 use Rattle.step_rules.specs.declared.phase.ChargedUnit.{ChargedUnit}
 use Rattle.step_rules.specs.declared.phase.Way.TheVariants.{PassingOut, OnList}
-use Rattle.step_rules.specs.declared.phase.Stage.TheVariants.{FreshAt, Bare, Live, Ended}
+use Rattle.step_rules.specs.declared.phase.Stage.TheVariants.{FreshAt, Bare, Live, AwaitsReturn}
 use Rattle.step_rules.specs.declared.phase.Phase.{Phase}
 use Rattle.step_rules.specs.declared.phase.Phase.TheVariants.{InZone, Lent, Head, Tail}
 use Rattle.step_rules.specs.declared.step.Action.{Action}
@@ -241,7 +241,7 @@ module _ (groups : List Group) (m : ℕ) where
       by_seat true = refl
       by_seat false = prepaid_stays groups s.parts s.zone.cpus m seat (with_back (s.parts seat) f) refl
   moves_exactly s run seat (Freeze f n) Done sound h told legal ok counted =
-      let a = frames_stay groups s.phases s.zone.frames m f (at_stage Ended (s.phases f)) (same_keeper Ended (s.phases f)) in omega arith
+      let a = frames_stay groups s.phases s.zone.frames m f (at_stage AwaitsReturn (s.phases f)) (same_keeper AwaitsReturn (s.phases f)) in omega arith
   moves_exactly s run seat (Unfreeze f n) Done sound h told legal ok counted =
       let a = frames_stay groups s.phases s.zone.frames m f (at_stage Live (s.phases f)) (same_keeper Live (s.phases f)) in omega arith
   moves_exactly s run seat (PassOut f p) Done sound h told legal ok counted =

@@ -5,7 +5,8 @@ use Rattle.std.proofs.lemmas.Bool.{ne_eqb}
 use Rattle.zone_blocks.specs.declared.block.Block.{Block}
 use Rattle.step_rules.specs.declared.phase.ChargedUnit.{ChargedUnit}
 use Rattle.step_rules.specs.declared.phase.Way.TheVariants.{OnList, PassingBack}
-use Rattle.step_rules.specs.declared.phase.Stage.TheVariants.{FreshAt, FreshPassing, Collected, Bare, Live, BackAt, BackPassing, Ended}
+use Rattle.step_rules.specs.declared.phase.Stage.TheVariants.{FreshAt, FreshPassing, Collected, Bare, Live, BackAt}
+use Rattle.step_rules.specs.declared.phase.Stage.TheVariants.{BackPassing, AwaitsReturn}
 use Rattle.step_rules.specs.declared.phase.Phase.{Phase}
 use Rattle.step_rules.specs.declared.phase.Phase.TheVariants.{InZone, Lent, Head, Tail}
 use Rattle.step_rules.specs.Phases.{Kind, ListFrame, FreshFrame, BackFrame, is_free, has_as, passes_out, passes_back, is_head_in_hand, may_return}
@@ -98,10 +99,10 @@ at_phase p move x y e goes = subst (GoesOn p move) (sym e) goes
 pub woken_goes : (p : ℕ) (x : Phase) → InHand x → GoesOn p (at_stage Live) x
 woken_goes p x (WasCollected u e) = at_phase p (at_stage Live) x (Head u Collected) e (record { before = refl; after = refl })
 woken_goes p x (WasBare u e) = at_phase p (at_stage Live) x (Head u Bare) e (record { before = refl; after = refl })
-woken_goes p x (WasEnded u e) = at_phase p (at_stage Live) x (Head u Ended) e (record { before = refl; after = refl })
+woken_goes p x (WasEnded u e) = at_phase p (at_stage Live) x (Head u AwaitsReturn) e (record { before = refl; after = refl })
 
-pub ended_goes : (p : ℕ) (x : Phase) (u : ChargedUnit) → x ≡ Head u Live → GoesOn p (at_stage Ended) x
-ended_goes p x u e = at_phase p (at_stage Ended) x (Head u Live) e (record { before = refl; after = refl })
+pub ended_goes : (p : ℕ) (x : Phase) (u : ChargedUnit) → x ≡ Head u Live → GoesOn p (at_stage AwaitsReturn) x
+ended_goes p x u e = at_phase p (at_stage AwaitsReturn) x (Head u Live) e (record { before = refl; after = refl })
 
 pub backed_goes : (p : ℕ) (x : Phase) (u : ChargedUnit) → x ≡ Head u Live → GoesOn p (at_stage (BackAt p)) x
 backed_goes p x u e = at_phase p (at_stage (BackAt p)) x (Head u Live) e (record { before = refl; after = own_back u p })

@@ -8,7 +8,7 @@ use Rattle.zone_blocks.specs.declared.block.Block.{Block}
 use Rattle.step_rules.specs.declared.phase.ChargedUnit.{ChargedUnit}
 use Rattle.step_rules.specs.declared.phase.Way.TheVariants.{PassingOut, OnList}
 use Rattle.step_rules.specs.declared.phase.Stage.{Stage}
-use Rattle.step_rules.specs.declared.phase.Stage.TheVariants.{FreshAt, Bare, Live, Ended}
+use Rattle.step_rules.specs.declared.phase.Stage.TheVariants.{FreshAt, Bare, Live, AwaitsReturn}
 use Rattle.step_rules.specs.declared.phase.Phase.{Phase}
 use Rattle.step_rules.specs.declared.phase.Phase.TheVariants.{InZone, Lent, Head, Tail}
 use Rattle.step_rules.specs.declared.step.Action.{Action}
@@ -181,7 +181,7 @@ heads_made : (s : State) (x : ℕ) (seat : ℕ) (action : Action) (answer : Answ
     HaveHeads (after s seat action answer).phases
 heads_made s x seat action Illegal sound heads made = absurd (no_illegal s seat action made.answered)
 heads_made s x seat (Put f) Last sound heads made = heads_staged s.phases f (stage_after_last seat) heads
-heads_made s x seat (Freeze f n) Done sound heads made = heads_staged s.phases f Ended heads
+heads_made s x seat (Freeze f n) Done sound heads made = heads_staged s.phases f AwaitsReturn heads
 heads_made s x seat (Unfreeze f n) Done sound heads made = heads_staged s.phases f Live heads
 heads_made s x seat (PassOut f p) Done sound heads made =
     let legal = made.legal in

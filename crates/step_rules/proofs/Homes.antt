@@ -12,7 +12,7 @@ use Rattle.group_tree.proofs.CallerLemmas.{has_group-with_kept, has_group-limite
 use Rattle.step_rules.specs.declared.phase.Hold.{Hold}
 use Rattle.step_rules.specs.declared.phase.Hold.TheVariants.{Unheld, HeldBy, Visiting}
 use Rattle.step_rules.specs.declared.phase.Stage.{Stage}
-use Rattle.step_rules.specs.declared.phase.Stage.TheVariants.{FreshAt, Bare, Live, Ended}
+use Rattle.step_rules.specs.declared.phase.Stage.TheVariants.{FreshAt, Bare, Live, AwaitsReturn}
 use Rattle.step_rules.specs.declared.phase.Phase.{Phase}
 use Rattle.step_rules.specs.declared.phase.Phase.TheVariants.{InZone, Lent, Head, Tail}
 use Rattle.step_rules.specs.declared.step.Action.{Action}
@@ -317,7 +317,7 @@ homes_step s seat (Put f) Last sound h legal ok counted =
     let phase = homes_same h f (at_stage (stage_after_last seat) (s.phases f)) (same_keeper (stage_after_last seat) (s.phases f)) in
     homes_last phase seat (with_back (s.parts seat) f) (seat == 0)
     (homes_part phase seat (with_back (s.parts seat) f) (h.stocks seat) (h.beyond seat) (h.quiet seat))
-homes_step s seat (Freeze f n) Done sound h legal ok counted = homes_same h f _ (same_keeper Ended (s.phases f))
+homes_step s seat (Freeze f n) Done sound h legal ok counted = homes_same h f _ (same_keeper AwaitsReturn (s.phases f))
 homes_step s seat (Unfreeze f n) Done sound h legal ok counted = homes_same h f _ (same_keeper Live (s.phases f))
 homes_step s seat (PassOut f p) Done sound h legal ok counted = homes_phase h f _ refl
 homes_step s seat (TakeIn f) Done sound h legal ok counted = homes_part (homes_phase h f _ refl) seat _ (h.stocks seat) (h.beyond seat) (h.quiet seat)

@@ -4,7 +4,7 @@ use Rattle.std.proofs.Common.{◌≡◌, ℕ, ◌^◌, ◌==◌, Bool, true, fal
 use Rattle.std.proofs.lemmas.Bool.{or_right, or_cases}
 use Rattle.zone_blocks.specs.declared.block.Block.{Block}
 use Rattle.step_rules.specs.declared.phase.Stage.{Stage}
-use Rattle.step_rules.specs.declared.phase.Stage.TheVariants.{Bare, Live, Ended}
+use Rattle.step_rules.specs.declared.phase.Stage.TheVariants.{Bare, Live, AwaitsReturn}
 use Rattle.step_rules.specs.declared.phase.Phase.{Phase}
 use Rattle.step_rules.specs.declared.phase.Phase.TheVariants.{InZone, Lent, Head, Tail}
 use Rattle.step_rules.specs.declared.step.Step.{Step}
@@ -79,7 +79,7 @@ lent_made : (s : State) (seat : ℕ) (action : Action) (answer : Answer) → IsH
     AreLent s.zone (after s seat action answer).phases
 lent_made s seat action Illegal homed lent made = absurd (no_illegal s seat action made.answered)
 lent_made s seat (Put g) Last homed lent made = lent_same s.zone s.phases g _ lent (staged (stage_after_last seat) (s.phases g))
-lent_made s seat (Freeze g n) Done homed lent made = lent_same s.zone s.phases g _ lent (staged Ended (s.phases g))
+lent_made s seat (Freeze g n) Done homed lent made = lent_same s.zone s.phases g _ lent (staged AwaitsReturn (s.phases g))
 lent_made s seat (Unfreeze g n) Done homed lent made = lent_same s.zone s.phases g _ lent (staged Live (s.phases g))
 lent_made s seat (PassOut g p) Done homed lent made =
     let legal = made.legal in

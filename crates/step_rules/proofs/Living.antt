@@ -3,7 +3,8 @@ use Rattle.std.proofs.Common.{◌≡◌, ℕ, ◌+◌, ◌-◌, ◌^◌, ◌≤�
 use Rattle.std.specs.Prelude.{nat_le}
 use Rattle.std.proofs.lemmas.Bool.{cases_eq, false≢true, true≢false, and_parts, leb-true}
 use Rattle.zone_blocks.specs.declared.block.Block.{Block}
-use Rattle.step_rules.specs.declared.phase.Stage.TheVariants.{FreshAt, FreshPassing, Bare, Live, BackAt, BackPassing, Ended}
+use Rattle.step_rules.specs.declared.phase.Stage.TheVariants.{FreshAt, FreshPassing, Bare, Live, BackAt, BackPassing}
+use Rattle.step_rules.specs.declared.phase.Stage.TheVariants.{AwaitsReturn}
 use Rattle.step_rules.specs.declared.phase.Phase.{Phase}
 use Rattle.step_rules.specs.declared.phase.Phase.TheVariants.{InZone, Lent, Head, Tail}
 use Rattle.step_rules.specs.declared.step.Step.{Step}
@@ -74,14 +75,14 @@ got_live (Tail g) e = e
 last_dead : (seat : ℕ) (x : Phase) → is_live (at_stage (stage_after_last seat) x) ≡ false
 last_dead seat (Head u stage) = by_seat (seat == 0)
   where
-    by_seat : (b : Bool) → is_live (Head u (cond b Ended (BackAt seat))) ≡ false
+    by_seat : (b : Bool) → is_live (Head u (cond b AwaitsReturn (BackAt seat))) ≡ false
     by_seat true = refl
     by_seat false = refl
 last_dead seat InZone = refl
 last_dead seat (Lent p way) = refl
 last_dead seat (Tail g) = refl
 
-frozen_dead : (x : Phase) → is_live (at_stage Ended x) ≡ false
+frozen_dead : (x : Phase) → is_live (at_stage AwaitsReturn x) ≡ false
 frozen_dead (Head u stage) = refl
 frozen_dead InZone = refl
 frozen_dead (Lent p way) = refl
@@ -170,7 +171,7 @@ referred_made f s seat (Put g) Last sound holds made = λ live.
     let off = live_off s.phases g (at_stage (stage_after_last seat) (s.phases g)) f (last_dead seat (s.phases g)) live in
     as_many (live_references (after s seat (Put g) Last) f) (live_references s f) (sum_others s seat g (s.references seat g - 1) f off.0) (holds off.1)
 referred_made f s seat (Freeze g n) Done sound holds made = λ live.
-    let off = live_off s.phases g (at_stage Ended (s.phases g)) f (frozen_dead (s.phases g)) live in
+    let off = live_off s.phases g (at_stage AwaitsReturn (s.phases g)) f (frozen_dead (s.phases g)) live in
     as_many (live_references (after s seat (Freeze g n) Done) f) (live_references s f) (sum_others s 0 g (s.references 0 g - n) f off.0) (holds off.1)
 referred_made f s seat (Unfreeze g n) Done sound holds made = λ live.
     let tests = unfreeze_tests s seat g n made.legal in

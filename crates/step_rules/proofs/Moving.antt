@@ -10,7 +10,7 @@ use Rattle.group_tree.proofs.GroupLemmas.{CanMake, has_group-any}
 use Rattle.group_tree.proofs.CallerLemmas.{in_subtree-with, in_subtree-limited, in_subtree-flagged, in_subtree-without, in_subtree-with_new, in_subtree-above, in_subtree-below}
 use Rattle.zone_blocks.specs.declared.block.Block.{Block}
 use Rattle.step_rules.specs.declared.phase.Hold.{Hold}
-use Rattle.step_rules.specs.declared.phase.Stage.TheVariants.{FreshAt, Bare, Live, Ended}
+use Rattle.step_rules.specs.declared.phase.Stage.TheVariants.{FreshAt, Bare, Live, AwaitsReturn}
 use Rattle.step_rules.specs.declared.phase.Phase.{Phase}
 use Rattle.step_rules.specs.declared.phase.Phase.TheVariants.{InZone, Lent, Head, Tail}
 use Rattle.step_rules.specs.After.{is_within, unit_size, with_block, without_unit, with_more, with_back, without_frame, paid, credited}
@@ -316,7 +316,7 @@ usage_step s seat (Put f) Last sound h legal ok counted = λ m.
     by_seat m true = refl
     by_seat m false = prepaid_stays s.groups s.parts s.zone.cpus m seat (with_back (s.parts seat) f) refl
 usage_step s seat (Freeze f n) Done sound h legal ok counted = λ m.
-    let a = frames_stay s.groups s.phases s.zone.frames m f (at_stage Ended (s.phases f)) (same_keeper Ended (s.phases f)) in omega arith
+    let a = frames_stay s.groups s.phases s.zone.frames m f (at_stage AwaitsReturn (s.phases f)) (same_keeper AwaitsReturn (s.phases f)) in omega arith
 usage_step s seat (Unfreeze f n) Done sound h legal ok counted = λ m.
     let a = frames_stay s.groups s.phases s.zone.frames m f (at_stage Live (s.phases f)) (same_keeper Live (s.phases f)) in omega arith
 usage_step s seat (PassOut f p) Done sound h legal ok counted = λ m.

@@ -5,7 +5,7 @@ use Rattle.std.proofs.lemmas.Bool.{ne_eqb, false≢true, and_parts, leb-true, co
 use Rattle.step_rules.specs.declared.phase.Hold.{Hold}
 use Rattle.step_rules.specs.declared.phase.Hold.TheVariants.{Unheld, HeldBy, Visiting}
 use Rattle.step_rules.specs.declared.phase.Way.TheVariants.{OnList}
-use Rattle.step_rules.specs.declared.phase.Stage.TheVariants.{BackAt, Ended}
+use Rattle.step_rules.specs.declared.phase.Stage.TheVariants.{AwaitsReturn, BackAt}
 use Rattle.step_rules.specs.declared.phase.Phase.{Phase}
 use Rattle.step_rules.specs.declared.phase.Phase.TheVariants.{Lent}
 use Rattle.step_rules.specs.declared.step.Action.{Action}
@@ -61,7 +61,7 @@ covered_phase p phases f y same = λ i. λ m. at_each phases f y (λ n x. hide_p
 last_hidden : (s : State) (p q f : ℕ) → IsSound s → (q ≡ 0 → ⊥) → (q ≡ p → ⊥) → 1 ≤ s.references q f → hide p (after_last s q f) ≡ hide p s
 last_hidden s p q f sound ne other some =
     let is = live_is (s.phases f) (live_from_one s q f sound some) in
-    let stage : stage_after_last q ≡ BackAt q = cond-false (q == 0) Ended (BackAt q) (ne_eqb q 0 ne) in
+    let stage : stage_after_last q ≡ BackAt q = cond-false (q == 0) AwaitsReturn (BackAt q) (ne_eqb q 0 ne) in
     let same : hide_phase p (at_stage (stage_after_last q) (s.phases f)) ≡ hide_phase p (s.phases f) =
     (λ i. hide_phase p (at_stage (stage i) (is.1 i))) ∙ other_back is.0 p q other ∙ sym (ap (hide_phase p) is.1) in
     same_state s (covered_phase p s.phases f (at_stage (stage_after_last q) (s.phases f)) same)

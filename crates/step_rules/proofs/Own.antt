@@ -9,7 +9,7 @@ use Rattle.zone_blocks.specs.Areas.{IsFreeBlock}
 use Rattle.step_rules.specs.declared.phase.Hold.{Hold}
 use Rattle.step_rules.specs.declared.phase.Hold.TheVariants.{Visiting}
 use Rattle.step_rules.specs.declared.phase.Way.TheVariants.{PassingOut, OnList}
-use Rattle.step_rules.specs.declared.phase.Stage.TheVariants.{Live, BackAt, Ended}
+use Rattle.step_rules.specs.declared.phase.Stage.TheVariants.{Live, BackAt, AwaitsReturn}
 use Rattle.step_rules.specs.declared.phase.Phase.{Phase}
 use Rattle.step_rules.specs.declared.phase.Phase.TheVariants.{Lent}
 use Rattle.step_rules.specs.declared.step.Action.{Action}
@@ -226,10 +226,10 @@ last_seen s p seat f sound own some =
     let is = live_is (s.phases f) (live_from_one s seat f sound some) in
     elim (cases_eq seat 0) [
       | inl zone ↦ subst (λ (k : ℕ). hide p (after_last s k f) ≡ after_last (hide p s) k f) (sym zone)
-          (same_state s (gone_on p s.phases f (at_stage Ended) (ended_goes p (s.phases f) is.0 is.1)) (referred_seen s p 0 f (λ n. n - 1) (inl refl)) refl)
+          (same_state s (gone_on p s.phases f (at_stage AwaitsReturn) (ended_goes p (s.phases f) is.0 is.1)) (referred_seen s p 0 f (λ n. n - 1) (inl refl)) refl)
       | inr ne ↦
           let e : seat ≡ p = elim own [ inl z ↦ absurd (ne z) | inr e ↦ e ] in
-          let stage : stage_after_last seat ≡ BackAt p = cond-false (seat == 0) Ended (BackAt seat) (ne_eqb seat 0 ne) ∙ ap BackAt e in
+          let stage : stage_after_last seat ≡ BackAt p = cond-false (seat == 0) AwaitsReturn (BackAt seat) (ne_eqb seat 0 ne) ∙ ap BackAt e in
           let goes : GoesOn p (at_stage (stage_after_last seat)) (s.phases f) =
           subst (λ z. GoesOn p (at_stage z) (s.phases f)) (sym stage) (backed_goes p (s.phases f) is.0 is.1) in
           let parts : hide_parts p (cond (seat == 0) s.parts (with_at s.parts seat (with_back (s.parts seat) f)))
@@ -275,7 +275,7 @@ own_after s p seat (Freeze f n) Done sound own inside holds legal ok counted =
     let low : 1 ≤ n = leb-true 1 n one in
     let high : n ≤ s.references 0 f = leb-true n (s.references 0 f) some in
     let is = live_is (s.phases f) (live_from_one s 0 f sound (omega arith)) in
-    same_state s (gone_on p s.phases f (at_stage Ended) (ended_goes p (s.phases f) is.0 is.1)) (referred_seen s p 0 f (λ k. k - n) (inl refl)) refl
+    same_state s (gone_on p s.phases f (at_stage AwaitsReturn) (ended_goes p (s.phases f) is.0 is.1)) (referred_seen s p 0 f (λ k. k - n) (inl refl)) refl
 own_after s p seat (Unfreeze f n) Done sound own inside holds legal ok counted =
     let hand : is_head_in_hand (s.phases f) ≡ true = (unfreeze_tests s seat f n legal).2 in
     same_state s (gone_on p s.phases f (at_stage Live) (woken_goes p (s.phases f) (in_hand (s.phases f) hand)))

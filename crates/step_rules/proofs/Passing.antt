@@ -5,7 +5,8 @@ use Rattle.step_rules.specs.declared.phase.Hold.{Hold}
 use Rattle.step_rules.specs.declared.phase.Hold.TheVariants.{Visiting}
 use Rattle.step_rules.specs.declared.phase.ChargedUnit.{ChargedUnit}
 use Rattle.step_rules.specs.declared.phase.Way.TheVariants.{PassingOut, OnList, PassingBack}
-use Rattle.step_rules.specs.declared.phase.Stage.TheVariants.{FreshAt, FreshPassing, Collected, BackAt, BackPassing, Ended}
+use Rattle.step_rules.specs.declared.phase.Stage.TheVariants.{FreshAt, FreshPassing, Collected, BackAt, BackPassing}
+use Rattle.step_rules.specs.declared.phase.Stage.TheVariants.{AwaitsReturn}
 use Rattle.step_rules.specs.declared.phase.Phase.{Phase}
 use Rattle.step_rules.specs.declared.phase.Phase.TheVariants.{InZone, Lent, Head, Tail}
 use Rattle.step_rules.specs.Phases.{Kind, ListFrame, FreshFrame, BackFrame, is_live, is_free, has_as, unit_of, passed_back, collected, passes_out, passes_back}
@@ -150,8 +151,8 @@ sound_collected s f p sound below passes = got (came_back p (s.phases f) passes)
         (nobody_has_returning p) (λ u e. e) (λ g e. cc)
     got (FromFresh u was) = sound_got s f p (Head u (FreshPassing p)) (Head u Collected) sound below was refl refl (λ q. refl) (λ q. refl) tt
         (nobody_has_stage u Collected refl) (nobody_has_fresh_passing u p) (λ v e. e) (λ g e. cc)
-    got (FromBack u was) = sound_got s f p (Head u (BackPassing p)) (Head u Ended) sound below was refl refl (λ q. refl) (λ q. refl) tt
-        (nobody_has_stage u Ended refl) (nobody_has_back_passing u p) (λ v e. e) (λ g e. cc)
+    got (FromBack u was) = sound_got s f p (Head u (BackPassing p)) (Head u AwaitsReturn) sound below was refl refl (λ q. refl) (λ q. refl) tt
+        (nobody_has_stage u AwaitsReturn refl) (nobody_has_back_passing u p) (λ v e. e) (λ g e. cc)
 
 -- a frame of a list is on it
 pub front_listed : (s : State) (p : ℕ) → IsSound s → 1 ≤ length (s.parts p).list → has_as ListFrame p (s.phases (front_of (s.parts p).list)) ≡ true

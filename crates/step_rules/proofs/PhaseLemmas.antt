@@ -7,7 +7,8 @@ use Rattle.step_rules.specs.declared.phase.Hold.TheVariants.{Visiting}
 use Rattle.step_rules.specs.declared.phase.ChargedUnit.{ChargedUnit}
 use Rattle.step_rules.specs.declared.phase.Way.TheVariants.{PassingOut, OnList, PassingBack}
 use Rattle.step_rules.specs.declared.phase.Stage.{Stage}
-use Rattle.step_rules.specs.declared.phase.Stage.TheVariants.{FreshAt, FreshPassing, Collected, Bare, Live, BackAt, BackPassing, Ended}
+use Rattle.step_rules.specs.declared.phase.Stage.TheVariants.{FreshAt, FreshPassing, Collected, Bare, Live, BackAt}
+use Rattle.step_rules.specs.declared.phase.Stage.TheVariants.{BackPassing, AwaitsReturn}
 use Rattle.step_rules.specs.declared.phase.Phase.{Phase}
 use Rattle.step_rules.specs.declared.phase.Phase.TheVariants.{InZone, Lent, Head, Tail}
 use Rattle.step_rules.specs.declared.step.Answer.{Answer}
@@ -66,21 +67,21 @@ back_is p x e = absurd (false≢true e)
 pub data InHand (x : Phase) : Type 0 where
   WasCollected : (u : ChargedUnit) → x ≡ Head u Collected → InHand x
   WasBare : (u : ChargedUnit) → x ≡ Head u Bare → InHand x
-  WasEnded : (u : ChargedUnit) → x ≡ Head u Ended → InHand x
+  WasEnded : (u : ChargedUnit) → x ≡ Head u AwaitsReturn → InHand x
 
 pub in_hand : (x : Phase) → is_head_in_hand x ≡ true → InHand x
 in_hand (Head u Collected) e = WasCollected u refl
 in_hand (Head u Bare) e = WasBare u refl
-in_hand (Head u Ended) e = WasEnded u refl
+in_hand (Head u AwaitsReturn) e = WasEnded u refl
 in_hand x e = absurd (false≢true e)
 
 -- a unit that may come back is ended, or was collected fresh and its group is killed
 pub data Returns (killed : ℕ → Bool) (x : Phase) : Type 0 where
-  AsEnded : (u : ChargedUnit) → x ≡ Head u Ended → Returns killed x
+  AsEnded : (u : ChargedUnit) → x ≡ Head u AwaitsReturn → Returns killed x
   AsKilled : (u : ChargedUnit) → x ≡ Head u Collected → killed u.group ≡ true → Returns killed x
 
 pub returning_is : (killed : ℕ → Bool) (x : Phase) → may_return killed x ≡ true → Returns killed x
-returning_is killed (Head u Ended) e = AsEnded u refl
+returning_is killed (Head u AwaitsReturn) e = AsEnded u refl
 returning_is killed (Head u Collected) e = AsKilled u refl e
 returning_is killed x e = absurd (false≢true e)
 
@@ -101,7 +102,7 @@ only_back u p q kind ne = by_kind (λ k. has_as k q (Head u (BackAt p)) ≡ fals
 abbrev pub is_quiet_stage : Stage → Bool
 is_quiet_stage Collected = true
 is_quiet_stage Bare = true
-is_quiet_stage Ended = true
+is_quiet_stage AwaitsReturn = true
 is_quiet_stage _ = false
 
 abbrev pub is_quiet : Phase → Bool
@@ -113,7 +114,7 @@ is_quiet (Tail g) = true
 pub nobody_has_stage : (u : ChargedUnit) (stage : Stage) → is_quiet_stage stage ≡ true → (q : ℕ) (kind : Kind) → has_as kind q (Head u stage) ≡ false
 nobody_has_stage u Collected e q kind = by_kind (λ k. has_as k q (Head u Collected) ≡ false) refl refl refl kind
 nobody_has_stage u Bare e q kind = by_kind (λ k. has_as k q (Head u Bare) ≡ false) refl refl refl kind
-nobody_has_stage u Ended e q kind = by_kind (λ k. has_as k q (Head u Ended) ≡ false) refl refl refl kind
+nobody_has_stage u AwaitsReturn e q kind = by_kind (λ k. has_as k q (Head u AwaitsReturn) ≡ false) refl refl refl kind
 nobody_has_stage u stage e q kind = absurd (false≢true e)
 
 pub nobody_has : (x : Phase) → is_quiet x ≡ true → (q : ℕ) (kind : Kind) → has_as kind q x ≡ false

@@ -7,7 +7,7 @@ use Rattle.zone_blocks.specs.declared.block.Block.{Block}
 use Rattle.step_rules.specs.declared.phase.ChargedUnit.{ChargedUnit}
 use Rattle.step_rules.specs.declared.phase.Way.TheVariants.{PassingOut, OnList}
 use Rattle.step_rules.specs.declared.phase.Stage.{Stage}
-use Rattle.step_rules.specs.declared.phase.Stage.TheVariants.{Collected, Bare, Live, Ended}
+use Rattle.step_rules.specs.declared.phase.Stage.TheVariants.{Collected, Bare, Live, AwaitsReturn}
 use Rattle.step_rules.specs.declared.phase.Phase.{Phase}
 use Rattle.step_rules.specs.declared.phase.Phase.TheVariants.{InZone, Lent, Head, Tail}
 use Rattle.step_rules.specs.declared.step.FramePlace.{FramePlace}
@@ -143,7 +143,7 @@ returns_told s places f u stage sound told was =
 
 any_return_told : (s : State) (places : Places) (f : ℕ) → IsSound s → AreTold s.zone s.phases places → Returns s.killed (s.phases f) →
     AreTold s.zone (without_unit s.phases f) (returned places f (unit_of (s.phases f)))
-any_return_told s places f sound told (AsEnded u was) = returns_told s places f u Ended sound told was
+any_return_told s places f sound told (AsEnded u was) = returns_told s places f u AwaitsReturn sound told was
 any_return_told s places f sound told (AsKilled u was killed) = returns_told s places f u Collected sound told was
 
 placed_place : (g : ℕ) (b : Block) (x : ℕ) → place_in (placed_phase g b x) ≡ Charged g
@@ -191,7 +191,7 @@ places_made s places seat action Illegal sound told legal ok = places_unchanged 
 places_made s places seat (Put f) Last sound told legal ok =
     stays_told s.zone s.phases places f (at_stage (stage_after_last seat) (s.phases f)) told (staged (stage_after_last seat) (s.phases f))
 places_made s places seat (Freeze f n) Done sound told legal ok =
-    stays_told s.zone s.phases places f (at_stage Ended (s.phases f)) told (staged Ended (s.phases f))
+    stays_told s.zone s.phases places f (at_stage AwaitsReturn (s.phases f)) told (staged AwaitsReturn (s.phases f))
 places_made s places seat (Unfreeze f n) Done sound told legal ok =
     stays_told s.zone s.phases places f (at_stage Live (s.phases f)) told (staged Live (s.phases f))
 places_made s places seat (PassOut f p) Done sound told legal ok =

@@ -10,7 +10,7 @@ use Rattle.step_rules.specs.declared.phase.Hold.{Hold}
 use Rattle.step_rules.specs.declared.phase.Hold.TheVariants.{Visiting}
 use Rattle.step_rules.specs.declared.phase.ChargedUnit.{ChargedUnit}
 use Rattle.step_rules.specs.declared.phase.Stage.{Stage}
-use Rattle.step_rules.specs.declared.phase.Stage.TheVariants.{FreshAt, Collected, Bare, Ended}
+use Rattle.step_rules.specs.declared.phase.Stage.TheVariants.{FreshAt, Collected, Bare, AwaitsReturn}
 use Rattle.step_rules.specs.declared.phase.Phase.{Phase}
 use Rattle.step_rules.specs.declared.phase.Phase.TheVariants.{InZone, Lent, Head, Tail}
 use Rattle.step_rules.specs.Phases.{FreshFrame, is_live, is_free, has_as, unit_of, passes_out, passes_back}
@@ -27,7 +27,7 @@ quiet_rests : (x : Phase) → is_quiet x ≡ true → (q : ℕ) → (passes_out 
 quiet_rests InZone e q = (refl, refl)
 quiet_rests (Head u Collected) e q = (refl, refl)
 quiet_rests (Head u Bare) e q = (refl, refl)
-quiet_rests (Head u Ended) e q = (refl, refl)
+quiet_rests (Head u AwaitsReturn) e q = (refl, refl)
 quiet_rests (Tail g) e q = (refl, refl)
 quiet_rests x e q = absurd (false≢true e)
 
@@ -35,7 +35,7 @@ quiet_dead : (x : Phase) → is_quiet x ≡ true → is_live x ≡ false
 quiet_dead InZone e = refl
 quiet_dead (Head u Collected) e = refl
 quiet_dead (Head u Bare) e = refl
-quiet_dead (Head u Ended) e = refl
+quiet_dead (Head u AwaitsReturn) e = refl
 quiet_dead (Tail g) e = refl
 quiet_dead x e = absurd (false≢true e)
 
@@ -43,7 +43,7 @@ quiet_paid : (cpus : ℕ) (groups : ℕ → Option ℕ) (x : Phase) → is_quiet
 quiet_paid cpus groups InZone e = tt
 quiet_paid cpus groups (Head u Collected) e = tt
 quiet_paid cpus groups (Head u Bare) e = tt
-quiet_paid cpus groups (Head u Ended) e = tt
+quiet_paid cpus groups (Head u AwaitsReturn) e = tt
 quiet_paid cpus groups (Tail g) e = tt
 quiet_paid cpus groups x e = absurd (false≢true e)
 

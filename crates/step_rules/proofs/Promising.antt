@@ -31,7 +31,7 @@ use Rattle.step_rules.specs.After.{Run, state_of, IsLegalRun}
 use Rattle.step_rules.specs.Folds.{limit_given, was_killed, InHand}
 use Rattle.step_rules.specs.Units.{units_of}
 use Rattle.step_rules.specs.Places.{is_same_frame_place, place_in}
-use Rattle.step_rules.specs.Returns.{is_open, is_killed_return_phase, times_in, IsAllPlaced, ReturnsOnce}
+use Rattle.step_rules.specs.Returns.{phase_awaits_return, is_killed_return_phase, times_in, IsAllPlaced, ReturnsOnce}
 use Rattle.step_rules.specs.Charges.{charged_below}
 use Rattle.step_rules.specs.Keepers.{StockIsKept}
 use Rattle.step_rules.specs.Lent.{lent_to}
@@ -108,11 +108,11 @@ module _ (zone : Zone) (run : Run) (legal : IsLegalRun zone run) where
       omega arith
 
   -- a frame that no group keeps is in no use
-  unused : (f : ℕ) (x : Phase) → (state_of zone run).phases f ≡ x → keeper_of x ≡ None → is_live x ≡ false → is_open x ≡ false → IsUnused run f
+  unused : (f : ℕ) (x : Phase) → (state_of zone run).phases f ≡ x → keeper_of x ≡ None → is_live x ≡ false → phase_awaits_return x ≡ false → IsUnused run f
   unused f x was kept dead shut = (
     λ g in_it. none_some g (sym (ap keeper_of was ∙ kept) ∙ in_unit_kept f g in_it),
     no_reference f (ap is_live was ∙ dead),
-    (every_frame_returns_once zone run legal f).gone ∙ ap is_open was ∙ shut,
+    (every_frame_returns_once zone run legal f).awaited ∙ ap phase_awaits_return was ∙ shut,
   )
 
   unit_told : (f : ℕ) (u : ChargedUnit) {stage : Stage} → (state_of zone run).phases f ≡ Head u stage → is_some ((units_of run).unit f) ≡ true
@@ -288,9 +288,9 @@ returns_kept : (zone : Zone) (run : Run) → IsLegalRun zone run → (seat : ℕ
 returns_kept zone run legal seat (Get f) Held ok =
     let s = state_of zone run in
     let live = live_is (s.phases f) (live_from_references s f (sound_run zone run legal) (held_live (live_references s f) ok.counted)) in
-    (every_frame_returns_once zone run legal f).gone ∙ ap is_open live.1
-returns_kept zone run legal seat (Put f) Last ok = let back = every_frame_returns_once zone run legal f in back.gone ∙ back.none_open_at_put seat ok
-returns_kept zone run legal seat (Freeze f n) Done ok = let back = every_frame_returns_once zone run legal f in back.gone ∙ back.none_open_at_freeze seat n ok
+    (every_frame_returns_once zone run legal f).awaited ∙ ap phase_awaits_return live.1
+returns_kept zone run legal seat (Put f) Last ok = let back = every_frame_returns_once zone run legal f in back.awaited ∙ back.none_awaited_at_put seat ok
+returns_kept zone run legal seat (Freeze f n) Done ok = let back = every_frame_returns_once zone run legal f in back.awaited ∙ back.none_awaited_at_freeze seat n ok
 returns_kept zone run legal seat (Unfreeze f n) Done ok =
     let hand : is_head_in_hand ((state_of zone run).phases f) ≡ true = (unfreeze_tests (state_of zone run) seat f n ok.legal).2 in
     by_hand (in_hand ((state_of zone run).phases f) hand)
@@ -307,7 +307,7 @@ returns_kept zone run legal seat (Return f) Done ok =
     came_back : ReturnsOnce zone run f → is_legal (state_of zone run) seat (Return f) ≡ true →
         Returns (state_of zone run).killed ((state_of zone run).phases f) → ReturnsNoFrameTwice run seat (Return f) Done
     came_back back may (AsEnded u was) = (
-      inl (back.gone ∙ ap is_open was),
+      inl (back.awaited ∙ ap phase_awaits_return was),
       unit_told zone run legal f u was,
       no_reference zone run legal f (ap is_live was),
     )

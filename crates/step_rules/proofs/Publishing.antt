@@ -3,7 +3,8 @@ use Rattle.std.proofs.Common.{◌≡◌, ℕ, ◌==◌, ◌||◌, Bool, true, fa
 use Rattle.std.specs.Prelude.{nat_le}
 use Rattle.std.proofs.lemmas.Bool.{cases_eq, ne_eqb, false≢true, true≢false, leb-true, or_left}
 use Rattle.step_rules.specs.declared.phase.ChargedUnit.{ChargedUnit}
-use Rattle.step_rules.specs.declared.phase.Stage.TheVariants.{FreshAt, FreshPassing, Live, BackAt, BackPassing, Ended}
+use Rattle.step_rules.specs.declared.phase.Stage.TheVariants.{FreshAt, FreshPassing, Live, BackAt, BackPassing}
+use Rattle.step_rules.specs.declared.phase.Stage.TheVariants.{AwaitsReturn}
 use Rattle.step_rules.specs.declared.phase.Phase.{Phase}
 use Rattle.step_rules.specs.declared.phase.Phase.TheVariants.{InZone, Lent, Head, Tail}
 use Rattle.step_rules.specs.declared.step.Action.{Action}
@@ -16,7 +17,7 @@ use Rattle.step_rules.specs.Phases.{passed_back, collected, unit_of}
 use Rattle.step_rules.specs.State.{State, with_at, front_of}
 use Rattle.step_rules.specs.Legal.{IsMade}
 use Rattle.step_rules.specs.After.{after, state_of, unit_size, without_unit}
-use Rattle.step_rules.specs.Returns.{is_open}
+use Rattle.step_rules.specs.Returns.{phase_awaits_return}
 use Rattle.step_rules.specs.Kept.{published_after, AllPublishedIsKept}
 use Rattle.step_rules.proofs.LegalTests.{consume_tests, credit_tests, pass_out_tests, publish_tests, return_tests, take_in_tests}
 use Rattle.step_rules.proofs.Basics.{at_each}
@@ -30,7 +31,7 @@ use Rattle.step_rules.proofs.Telling.{told_run}
 
 -- the frame has references, or an end of it is open
 abbrev is_used : Phase → Bool
-is_used x = is_live x || is_open x
+is_used x = is_live x || phase_awaits_return x
 
 used_head : (x : Phase) → is_used x ≡ true → is_head x ≡ true
 used_head (Head u stage) e = refl
@@ -60,7 +61,7 @@ used_woken InZone e = e
 used_woken (Lent q way) e = e
 used_woken (Tail g) e = e
 
-used_frozen : (x : Phase) → is_used x ≡ true → is_used (at_stage Ended x) ≡ true
+used_frozen : (x : Phase) → is_used x ≡ true → is_used (at_stage AwaitsReturn x) ≡ true
 used_frozen (Head u stage) e = refl
 used_frozen InZone e = e
 used_frozen (Lent q way) e = e
@@ -69,7 +70,7 @@ used_frozen (Tail g) e = e
 used_last : (seat : ℕ) (x : Phase) → is_used x ≡ true → is_used (at_stage (stage_after_last seat) x) ≡ true
 used_last seat (Head u stage) e = by_seat (seat == 0)
   where
-    by_seat : (b : Bool) → is_used (Head u (cond b Ended (BackAt seat))) ≡ true
+    by_seat : (b : Bool) → is_used (Head u (cond b AwaitsReturn (BackAt seat))) ≡ true
     by_seat true = refl
     by_seat false = refl
 used_last seat InZone e = e
@@ -141,7 +142,7 @@ kept_made f s x seat (Publish g) Done sound kept made =
     let some : nat_le 1 (s.references 0 g) ≡ true = (publish_tests s seat g legal).3 in
     let live = live_from_one s 0 g sound (leb-true 1 (s.references 0 g) some) in
     elim (cases_eq f g) [
-      | inl same ↦ λ e. ap (λ (m : ℕ). is_used (s.phases m)) same ∙ or_left (is_live (s.phases g)) (is_open (s.phases g)) live
+      | inl same ↦ λ e. ap (λ (m : ℕ). is_used (s.phases m)) same ∙ or_left (is_live (s.phases g)) (phase_awaits_return (s.phases g)) live
       | inr ne ↦ λ e. kept (sym (ap (λ c. if c then true else x) (ne_eqb f g ne)) ∙ e)
     ]
 kept_made f s x seat (Return g) Done sound kept made =

@@ -3,7 +3,7 @@ use Rattle.std.proofs.Common.{◌≡◌, ℕ, ◌+◌, ◌-◌, ◌<◌, ◌≤�
 use Rattle.std.proofs.lemmas.Bool.{cases_eq, cases_lt, cases_Bool, ne_eqb, false≢true, true≢false}
 use Rattle.step_rules.specs.declared.phase.Hold.{Hold}
 use Rattle.step_rules.specs.declared.phase.ChargedUnit.{ChargedUnit}
-use Rattle.step_rules.specs.declared.phase.Stage.TheVariants.{Live, BackAt, Ended}
+use Rattle.step_rules.specs.declared.phase.Stage.TheVariants.{Live, BackAt, AwaitsReturn}
 use Rattle.step_rules.specs.declared.phase.Phase.{Phase}
 use Rattle.step_rules.specs.declared.phase.Phase.TheVariants.{Head, Tail}
 use Rattle.step_rules.specs.Phases.{Kind, is_live, has_as, unit_of, at_stage, is_head_in_hand}
@@ -98,7 +98,7 @@ none_left s seat f sound there all q =
 
 -- what holds of a frame without references that doesn't pass and wasn't paid
 pub bare_fits : (zone : Zone) (hold : Hold) (groups : ℕ → Option ℕ) (references : ℕ → ℕ) (f : ℕ) (u : ChargedUnit) → ((q : ℕ) → references q ≡ 0) →
-    f < zone.frames → FrameFits zone hold groups references f (Head u Ended)
+    f < zone.frames → FrameFits zone hold groups references f (Head u AwaitsReturn)
 bare_fits zone hold groups references f u none below = record {
   out = λ q e. absurd (false≢true e);
   returning = λ q e. absurd (false≢true e);
@@ -110,29 +110,29 @@ bare_fits zone hold groups references f u none below = record {
 
 -- the zone takes the last references off
 sound_ended : (s : State) (f : ℕ) → IsSound s → f < s.zone.frames → 1 ≤ s.references 0 f → live_references s f ≤ s.references 0 f →
-    IsSound (with_phase (with_references s 0 f 0) f (at_stage Ended (s.phases f)))
+    IsSound (with_phase (with_references s 0 f 0) f (at_stage AwaitsReturn (s.phases f)))
 sound_ended s f sound below some all =
     let is = live_is (s.phases f) (live_from_one s 0 f sound some) in
     let later = changed s.references 0 f 0 in
     let goal = λ (y : Phase). Sound s.zone s.hold (with_at s.phases f y) later s.parts in
-    subst goal (sym (ap (at_stage Ended) is.1)) (sound_phase s.zone s.hold s.phases s.references later s.parts f (Head is.0 Live)
-    (Head is.0 Ended) sound is.1 (record {
+    subst goal (sym (ap (at_stage AwaitsReturn) is.1)) (sound_phase s.zone s.hold s.phases s.references later s.parts f (Head is.0 Live)
+    (Head is.0 AwaitsReturn) sound is.1 (record {
       fits = bare_fits s.zone s.hold (groups_in s.parts) (λ q. later q f) f is.0 (none_left s 0 f sound (omega arith) all) below;
       others = λ m ne. changed_others s.references 0 f 0 m ne;
       group = refl;
-      lists = λ kind. Stays refl (nobody_has_stage is.0 Ended refl 0 kind ∙ sym (nobody_has_live is.0 0 kind));
-      elsewhere = λ q kind ne. nobody_has_stage is.0 Ended refl q kind ∙ sym (nobody_has_live is.0 q kind);
+      lists = λ kind. Stays refl (nobody_has_stage is.0 AwaitsReturn refl 0 kind ∙ sym (nobody_has_live is.0 0 kind));
+      elsewhere = λ q kind ne. nobody_has_stage is.0 AwaitsReturn refl q kind ∙ sym (nobody_has_live is.0 q kind);
       unit = λ u e. inr e;
       no_tail = λ g e. cc;
       booked = sound.booked 0;
     }))
 
 pub sound_frozen : (s : State) (f n : ℕ) → IsSound s → f < s.zone.frames → 1 ≤ n → n ≤ s.references 0 f → live_references s f ≡ n →
-    IsSound (with_phase (with_references s 0 f (s.references 0 f - n)) f (at_stage Ended (s.phases f)))
+    IsSound (with_phase (with_references s 0 f (s.references 0 f - n)) f (at_stage AwaitsReturn (s.phases f)))
 sound_frozen s f n sound below some holds all =
     let part = sum_part (s.zone.cpus + 1) (λ seat. s.references seat f) 0 (omega arith) in
     let none : 0 ≡ s.references 0 f - n = omega arith in
-    subst (λ (k : ℕ). IsSound (with_phase (with_references s 0 f k) f (at_stage Ended (s.phases f)))) none
+    subst (λ (k : ℕ). IsSound (with_phase (with_references s 0 f k) f (at_stage AwaitsReturn (s.phases f)))) none
     (sound_ended s f sound below (omega arith) (omega arith))
 
 -- the last put of a CPU
@@ -171,11 +171,11 @@ sound_last s seat f sound below some one =
     elim (cases_eq seat 0) [
       | inl zero_seat ↦ subst (λ (k : ℕ). IsSound (after_last s k f)) (sym zero_seat)
           (let e : s.references 0 f ≡ s.references seat f = ap (λ (k : ℕ). s.references k f) (sym zero_seat) in
-          subst (λ (k : ℕ). IsSound (with_phase (with_references s 0 f k) f (at_stage Ended (s.phases f))))
+          subst (λ (k : ℕ). IsSound (with_phase (with_references s 0 f k) f (at_stage AwaitsReturn (s.phases f))))
           (let z : 0 ≡ s.references 0 f - 1 = omega arith in z) (sound_ended s f sound below (omega arith) (omega arith)))
       | inr ne ↦
           let other : (seat == 0) ≡ false = ne_eqb seat 0 ne in
-          let goal = λ (b : Bool) (k : ℕ). Sound s.zone s.hold (with_at s.phases f (at_stage (cond b Ended (BackAt seat)) (s.phases f)))
+          let goal = λ (b : Bool) (k : ℕ). Sound s.zone s.hold (with_at s.phases f (at_stage (cond b AwaitsReturn (BackAt seat)) (s.phases f)))
           (changed s.references seat f k) (cond b s.parts (with_at s.parts seat (with_back (s.parts seat) f))) in
           subst (λ (b : Bool). goal b (s.references seat f - 1)) (sym other)
           (subst (goal false) none (sound_backed s seat f sound below there some (omega arith)))

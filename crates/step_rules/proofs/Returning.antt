@@ -9,7 +9,8 @@ use Rattle.zone_blocks.specs.declared.block.Block.{Block}
 use Rattle.step_rules.specs.declared.phase.ChargedUnit.{ChargedUnit}
 use Rattle.step_rules.specs.declared.phase.Way.TheVariants.{PassingOut, OnList}
 use Rattle.step_rules.specs.declared.phase.Stage.{Stage}
-use Rattle.step_rules.specs.declared.phase.Stage.TheVariants.{FreshAt, FreshPassing, Collected, Bare, Live, BackAt, BackPassing, Ended}
+use Rattle.step_rules.specs.declared.phase.Stage.TheVariants.{FreshAt, FreshPassing, Collected, Bare, Live, BackAt}
+use Rattle.step_rules.specs.declared.phase.Stage.TheVariants.{BackPassing, AwaitsReturn}
 use Rattle.step_rules.specs.declared.phase.Phase.{Phase}
 use Rattle.step_rules.specs.declared.phase.Phase.TheVariants.{InZone, Lent, Head, Tail}
 use Rattle.step_rules.specs.declared.step.Step.{Step}
@@ -25,7 +26,9 @@ use Rattle.step_rules.specs.Legal.{is_legal, IsAnswer, IsMade, Allows}
 use Rattle.step_rules.specs.After.{Run, after, state_of, IsLegalRun, is_within, placed_phase, with_block, unit_size, without_unit, consumed}
 use Rattle.step_rules.specs.Folds.{was_killed}
 use Rattle.step_rules.specs.Units.{units_of, fresh_group}
-use Rattle.step_rules.specs.Returns.{is_open, is_killed_return_stage, is_killed_return_phase, is_killed_return, is_killed_group, gone_after, is_gone, uses_ended, uses_closed, counted_with_state}
+use Rattle.step_rules.specs.Returns.{phase_awaits_return, is_killed_return_stage, is_killed_return_phase}
+use Rattle.step_rules.specs.Returns.{is_killed_return, is_killed_group, awaits_return_after, awaits_return, uses_ended}
+use Rattle.step_rules.specs.Returns.{uses_closed, counted_with_state}
 use Rattle.step_rules.specs.Returns.{counted_with_run, EveryFrameReturnsOnce}
 use Rattle.step_rules.proofs.LegalTests.{collect_tests, consume_tests, credit_tests, freeze_tests, pass_out_tests, put_tests}
 use Rattle.step_rules.proofs.LegalTests.{return_tests, take_in_tests, unfreeze_tests}
@@ -87,7 +90,7 @@ counted_so gain loss F boot each zone run legal =
 
 -- 1 where an end of the frame is open
 abbrev opens : Phase → ℕ
-opens x = one_if (is_open x)
+opens x = one_if (phase_awaits_return x)
 
 -- one frame changes its phase
 phase_changes : (phases : ℕ → Phase) (f m : ℕ) (y : Phase) (i o : ℕ) → opens (phases f) + i ≡ opens y + o →
@@ -120,7 +123,7 @@ undone phases f m y e = let a = phase_changes phases f m y 0 (opens (phases f)) 
 last_opens : (seat : ℕ) (u : ChargedUnit) → opens (at_stage (stage_after_last seat) (Head u Live)) ≡ 1
 last_opens seat u = by_seat (seat == 0)
   where
-    by_seat : (b : Bool) → opens (Head u (cond b Ended (BackAt seat))) ≡ 1
+    by_seat : (b : Bool) → opens (Head u (cond b AwaitsReturn (BackAt seat))) ≡ 1
     by_seat true = refl
     by_seat false = refl
 
@@ -189,7 +192,7 @@ any_unit_closes : (s : State) (f m : ℕ) → IsSound s → Returns s.killed (s.
 any_unit_closes s f m sound (AsEnded u was) =
     let a : opens (s.phases f) ≡ 1 = ap opens was in
     let b : killed_returns s f ≡ 0 = ap (λ (x : Phase). one_if (is_killed_return_phase s.killed x)) was in
-    unit_closes s f m u Ended sound was (omega arith)
+    unit_closes s f m u AwaitsReturn sound was (omega arith)
 any_unit_closes s f m sound (AsKilled u was killed) =
     let a : opens (s.phases f) ≡ 0 = ap opens was in
     let b : killed_returns s f ≡ 1 = ap (λ (x : Phase). one_if (is_killed_return_phase s.killed x)) was ∙ ap one_if killed in
@@ -218,7 +221,7 @@ ended_in f s seat action answer = 0
 abbrev pub closed_in : ℕ → State → ℕ → Action → Answer → ℕ
 closed_in f s seat (Return g) Done = if g == f then 1 else 0
 closed_in f s seat (Credit g) Back = if g == f then 1 else 0
-closed_in f s seat (Unfreeze g n) Done = if g == f then one_if (is_open (s.phases g)) else 0
+closed_in f s seat (Unfreeze g n) Done = if g == f then one_if (phase_awaits_return (s.phases g)) else 0
 closed_in f s seat action answer = 0
 
 -- an illegal step ends and closes nothing
@@ -241,7 +244,7 @@ uses_made m s seat (Freeze f n) Done sound legal ok =
     let low : 1 ≤ n = leb-true 1 n one in
     let high : n ≤ s.references 0 f = leb-true n (s.references 0 f) some in
     let is = live_is (s.phases f) (live_from_one s 0 f sound (omega arith)) in
-    opened s.phases f m (at_stage Ended (s.phases f)) (ap opens is.1) (ap (λ x. opens (at_stage Ended x)) is.1)
+    opened s.phases f m (at_stage AwaitsReturn (s.phases f)) (ap opens is.1) (ap (λ x. opens (at_stage AwaitsReturn x)) is.1)
 uses_made m s seat (Unfreeze f n) Done sound legal ok =
     let hand : is_head_in_hand (s.phases f) ≡ true = (unfreeze_tests s seat f n legal).2 in
     undone s.phases f m (at_stage Live (s.phases f)) (woken_opens (s.phases f) (in_hand (s.phases f) hand))
@@ -285,24 +288,24 @@ none_is true e = absurd (omega arith)
 none_is false e = refl
 
 -- no frame has an open end and is also a killed group's fresh frame
-apart_stage : (b : Bool) (stage : Stage) → one_if (is_open (Head (record { group = 0; order = 0 }) stage)) + one_if (is_killed_return_stage b stage) ≤ 1
+apart_stage : (b : Bool) (stage : Stage) → one_if (phase_awaits_return (Head (record { group = 0; order = 0 }) stage)) + one_if (is_killed_return_stage b stage) ≤ 1
 apart_stage true Collected = omega arith
 apart_stage false Collected = omega arith
 apart_stage b (BackAt p) = omega arith
 apart_stage b (BackPassing p) = omega arith
-apart_stage b Ended = omega arith
+apart_stage b AwaitsReturn = omega arith
 apart_stage b stage = omega arith
 
-apart : (killed : ℕ → Bool) (x : Phase) → one_if (is_open x) + one_if (is_killed_return_phase killed x) ≤ 1
+apart : (killed : ℕ → Bool) (x : Phase) → one_if (phase_awaits_return x) + one_if (is_killed_return_phase killed x) ≤ 1
 apart killed (Head u stage) = apart_stage (killed u.group) stage
 apart killed InZone = omega arith
 apart killed (Lent p way) = omega arith
 apart killed (Tail g) = omega arith
 
 abbrev IsGone : ℕ → State → Bool → Type 0
-IsGone f s x = x ≡ is_open (s.phases f)
+IsGone f s x = x ≡ phase_awaits_return (s.phases f)
 
-gone_still : (f : ℕ) (x : Bool) (seat : ℕ) (action : Action) → gone_after f x action Illegal ≡ x
+gone_still : (f : ℕ) (x : Bool) (seat : ℕ) (action : Action) → awaits_return_after f x action Illegal ≡ x
 gone_still f x seat Lock = refl
 gone_still f x seat action = refl
 
@@ -317,37 +320,37 @@ ends true = omega arith
 ends false = omega arith
 
 gone_made : (f : ℕ) (s : State) (x : Bool) (seat : ℕ) (action : Action) (answer : Answer) → IsSound s → IsGone f s x → IsMade s seat action answer →
-    IsGone f (after s seat action answer) (gone_after f x action answer)
+    IsGone f (after s seat action answer) (awaits_return_after f x action answer)
 gone_made f s x seat action Illegal sound holds made = absurd (no_illegal s seat action made.answered)
 gone_made f s x seat (Put g) Last sound holds made =
-    let later = is_open ((after s seat (Put g) Last).phases f) in
-    let e : one_if (is_open (s.phases f)) + cond (g == f) 1 0 ≡ one_if later + 0 = uses_made f s seat (Put g) Last sound made.legal made.answered in
+    let later = phase_awaits_return ((after s seat (Put g) Last).phases f) in
+    let e : one_if (phase_awaits_return (s.phases f)) + cond (g == f) 1 0 ≡ one_if later + 0 = uses_made f s seat (Put g) Last sound made.legal made.answered in
     ap (λ b. cond (g == f) true b) holds
-    ∙ changed (g == f) (is_open (s.phases f)) later 1 0 (let z = none_if (g == f) in omega arith) true
+    ∙ changed (g == f) (phase_awaits_return (s.phases f)) later 1 0 (let z = none_if (g == f) in omega arith) true
     (λ same. let a : ◌≡◌ {A = ℕ} (cond (g == f) 1 0) 1 = ap (λ b. cond b 1 0) same in let top = ends later in omega arith)
 gone_made f s x seat (Freeze g n) Done sound holds made =
-    let later = is_open ((after s seat (Freeze g n) Done).phases f) in
-    let e : one_if (is_open (s.phases f)) + cond (g == f) 1 0 ≡ one_if later + 0 = uses_made f s seat (Freeze g n) Done sound made.legal made.answered in
+    let later = phase_awaits_return ((after s seat (Freeze g n) Done).phases f) in
+    let e : one_if (phase_awaits_return (s.phases f)) + cond (g == f) 1 0 ≡ one_if later + 0 = uses_made f s seat (Freeze g n) Done sound made.legal made.answered in
     ap (λ b. cond (g == f) true b) holds
-    ∙ changed (g == f) (is_open (s.phases f)) later 1 0 (let z = none_if (g == f) in omega arith) true
+    ∙ changed (g == f) (phase_awaits_return (s.phases f)) later 1 0 (let z = none_if (g == f) in omega arith) true
     (λ same. let a : ◌≡◌ {A = ℕ} (cond (g == f) 1 0) 1 = ap (λ b. cond b 1 0) same in let top = ends later in omega arith)
 gone_made f s x seat (Unfreeze g n) Done sound holds made =
-    let later = is_open ((after s seat (Unfreeze g n) Done).phases f) in
-    let was : ℕ = one_if (is_open (s.phases g)) in
-    let e : one_if (is_open (s.phases f)) + 0 ≡ one_if later + cond (g == f) was 0 = uses_made f s seat (Unfreeze g n) Done sound made.legal made.answered in
+    let later = phase_awaits_return ((after s seat (Unfreeze g n) Done).phases f) in
+    let was : ℕ = one_if (phase_awaits_return (s.phases g)) in
+    let e : one_if (phase_awaits_return (s.phases f)) + 0 ≡ one_if later + cond (g == f) was 0 = uses_made f s seat (Unfreeze g n) Done sound made.legal made.answered in
     ap (λ b. cond (g == f) false b) holds
-    ∙ changed (g == f) (is_open (s.phases f)) later 0 was (let z = none_if (g == f) in omega arith) false
+    ∙ changed (g == f) (phase_awaits_return (s.phases f)) later 0 was (let z = none_if (g == f) in omega arith) false
     (λ same.
     let a : cond (g == f) was 0 ≡ was = ap (λ b. cond b was 0) same in
-    let b : was ≡ one_if (is_open (s.phases f)) = ap (λ (k : ℕ). one_if (is_open (s.phases k))) (eqb-true g f same) in
+    let b : was ≡ one_if (phase_awaits_return (s.phases f)) = ap (λ (k : ℕ). one_if (phase_awaits_return (s.phases k))) (eqb-true g f same) in
     omega arith)
 gone_made f s x seat (Return g) Done sound holds made =
-    let later = is_open ((after s seat (Return g) Done).phases f) in
+    let later = phase_awaits_return ((after s seat (Return g) Done).phases f) in
     let killed_return : ℕ = one_if (is_killed_return_phase s.killed (s.phases g)) in
-    let e : one_if (is_open (s.phases f)) + cond (g == f) killed_return 0 ≡ one_if later + cond (g == f) 1 0 =
+    let e : one_if (phase_awaits_return (s.phases f)) + cond (g == f) killed_return 0 ≡ one_if later + cond (g == f) 1 0 =
     uses_made f s seat (Return g) Done sound made.legal made.answered in
     ap (λ b. cond (g == f) false b) holds
-    ∙ changed (g == f) (is_open (s.phases f)) later killed_return 1 e false
+    ∙ changed (g == f) (phase_awaits_return (s.phases f)) later killed_return 1 e false
     (λ same.
     let a : cond (g == f) killed_return 0 ≡ killed_return = ap (λ b. cond b killed_return 0) same in
     let b : ◌≡◌ {A = ℕ} (cond (g == f) 1 0) 1 = ap (λ b. cond b 1 0) same in
@@ -355,18 +358,18 @@ gone_made f s x seat (Return g) Done sound holds made =
     let most = apart s.killed (s.phases f) in
     omega arith)
 gone_made f s x seat (Credit g) Back sound holds made =
-    let later = is_open ((after s seat (Credit g) Back).phases f) in
-    let e : one_if (is_open (s.phases f)) + cond (g == f) 1 0 ≡ one_if later + cond (g == f) 1 0 =
+    let later = phase_awaits_return ((after s seat (Credit g) Back).phases f) in
+    let e : one_if (phase_awaits_return (s.phases f)) + cond (g == f) 1 0 ≡ one_if later + cond (g == f) 1 0 =
     uses_made f s seat (Credit g) Back sound made.legal made.answered in
-    holds ∙ one_same (is_open (s.phases f)) later (omega arith)
+    holds ∙ one_same (phase_awaits_return (s.phases f)) later (omega arith)
 gone_made f s x seat Lock answer sound holds made = holds
 gone_made f s x seat action answer sound holds made =
     let e = uses_made f s seat action answer sound made.legal made.answered in
-    holds ∙ one_same (is_open (s.phases f)) (is_open ((after s seat action answer).phases f)) (omega arith)
+    holds ∙ one_same (phase_awaits_return (s.phases f)) (phase_awaits_return ((after s seat action answer).phases f)) (omega arith)
 
 -- what is gone by the run has an open end in the state
-pub gone_is_told : (zone : Zone) (run : Run) → IsLegalRun zone run → (f : ℕ) → is_gone run f ≡ is_open ((state_of zone run).phases f)
-gone_is_told zone run legal f = told_run (λ x seat action answer. gone_after f x action answer) (IsGone f) (gone_still f) (gone_made f) zone false refl run legal
+pub gone_is_told : (zone : Zone) (run : Run) → IsLegalRun zone run → (f : ℕ) → awaits_return run f ≡ phase_awaits_return ((state_of zone run).phases f)
+gone_is_told zone run legal f = told_run (λ x seat action answer. awaits_return_after f x action answer) (IsGone f) (gone_still f) (gone_made f) zone false refl run legal
 
 -- ---- counted along the run
 abbrev pub Along : Type 0
@@ -484,19 +487,19 @@ every_frame_returns_once zone run legal f =
     let sound = sound_run zone run legal in
     record {
       once = counted_so_along (uses_ended f) (uses_closed f) (λ t. opens (t.phases f)) zone refl (uses_allowed f zone) run legal;
-      gone = gone_is_told zone run legal f;
+      awaited = gone_is_told zone run legal f;
       killed_return = λ seat ok. killed_return_is_told zone run legal f (grind arith);
-      none_open_at_put = λ seat made.
+      none_awaited_at_put = λ seat made.
           let ok = made.legal in
           let some : nat_le 1 (s.references seat f) ≡ true = (put_tests s seat f ok).2 in
           let is = live_is (s.phases f) (live_from_one s seat f sound (leb-true 1 (s.references seat f) some)) in
-          ap is_open is.1;
-      none_open_at_freeze = λ seat n made.
+          ap phase_awaits_return is.1;
+      none_awaited_at_freeze = λ seat n made.
           let ok = made.legal in
           let one : nat_le 1 n ≡ true = (freeze_tests s seat f n ok).2 in
           let some : nat_le n (s.references 0 f) ≡ true = (freeze_tests s seat f n ok).3 in
           let low : 1 ≤ n = leb-true 1 n one in
           let high : n ≤ s.references 0 f = leb-true n (s.references 0 f) some in
           let is = live_is (s.phases f) (live_from_one s 0 f sound (omega arith)) in
-          ap is_open is.1;
+          ap phase_awaits_return is.1;
     }

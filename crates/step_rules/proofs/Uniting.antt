@@ -9,7 +9,7 @@ use Rattle.zone_blocks.specs.declared.block.Block.{Block}
 use Rattle.step_rules.specs.declared.phase.ChargedUnit.{ChargedUnit}
 use Rattle.step_rules.specs.declared.phase.Way.TheVariants.{PassingOut, OnList}
 use Rattle.step_rules.specs.declared.phase.Stage.{Stage}
-use Rattle.step_rules.specs.declared.phase.Stage.TheVariants.{FreshAt, Live, BackAt, Ended}
+use Rattle.step_rules.specs.declared.phase.Stage.TheVariants.{FreshAt, Live, BackAt, AwaitsReturn}
 use Rattle.step_rules.specs.declared.phase.Phase.{Phase}
 use Rattle.step_rules.specs.declared.phase.Phase.TheVariants.{Lent, Head}
 use Rattle.step_rules.specs.declared.step.Action.{Action}
@@ -58,7 +58,7 @@ off_it phases g y f ne = at_other phases g y f (λ e. ne (sym e))
 last_marks : (seat : ℕ) (u : ChargedUnit) → marks (at_stage (stage_after_last seat) (Head u Live)) ≡ marks (Head u Live)
 last_marks seat u = by_seat (seat == 0)
   where
-    by_seat : (b : Bool) → marks (Head u (cond b Ended (BackAt seat))) ≡ marks (Head u Live)
+    by_seat : (b : Bool) → marks (Head u (cond b AwaitsReturn (BackAt seat))) ≡ marks (Head u Live)
     by_seat true = refl
     by_seat false = refl
 
@@ -152,7 +152,7 @@ marks_made f front s x seat (Freeze g n) Done sound holds at made =
     let low : 1 ≤ n = leb-true 1 n one in
     let high : n ≤ s.references 0 g = leb-true n (s.references 0 g) some in
     let is = live_is (s.phases g) (live_from_one s 0 g sound (omega arith)) in
-    same_at s.phases g (at_stage Ended (s.phases g)) f x (ap (λ y. marks (at_stage Ended y)) is.1 ∙ sym (ap marks is.1)) holds
+    same_at s.phases g (at_stage AwaitsReturn (s.phases g)) f x (ap (λ y. marks (at_stage AwaitsReturn y)) is.1 ∙ sym (ap marks is.1)) holds
 marks_made f front s x seat (Unfreeze g n) Done sound holds at made =
     let legal = made.legal in
     let hand : is_head_in_hand (s.phases g) ≡ true = (unfreeze_tests s seat g n legal).2 in

@@ -6,7 +6,7 @@ use Rattle.group_tree.specs.Groups.{with_group, with_limit, with_oom_group, with
 use Rattle.step_rules.specs.declared.phase.ChargedUnit.{ChargedUnit}
 use Rattle.step_rules.specs.declared.phase.Hold.TheVariants.{Unheld, HeldBy, Visiting}
 use Rattle.step_rules.specs.declared.phase.Way.TheVariants.{PassingOut, OnList}
-use Rattle.step_rules.specs.declared.phase.Stage.TheVariants.{FreshAt, Bare, Live, Ended}
+use Rattle.step_rules.specs.declared.phase.Stage.TheVariants.{FreshAt, Bare, Live, AwaitsReturn}
 use Rattle.step_rules.specs.declared.phase.Phase.{Phase}
 use Rattle.step_rules.specs.declared.phase.Phase.TheVariants.{InZone, Lent, Head, Tail}
 use Rattle.step_rules.specs.declared.step.Step.{Step}
@@ -143,7 +143,7 @@ after s seat (Get f) Held = with_references s seat f (s.references seat f + 1)
 after s seat (Put f) (Left n) = with_references s seat f (s.references seat f - 1)
 after s seat (Put f) Last = after_last s seat f
 after s seat (Freeze f n) Done = with_phase (with_references s 0 f (s.references 0 f - n)) f
-    (at_stage Ended (s.phases f))
+    (at_stage AwaitsReturn (s.phases f))
 after s seat (Unfreeze f n) Done = with_phase (with_references s 0 f (s.references 0 f + n)) f
     (at_stage Live (s.phases f))
 after s seat (PassOut f cpu) Done = with_phase s f (Lent cpu PassingOut)

@@ -6,7 +6,7 @@ use Rattle.step_rules.specs.declared.phase.Way.TheVariants.{OnList}
 use Rattle.step_rules.specs.declared.phase.ChargedUnit.{ChargedUnit}
 use Rattle.step_rules.specs.declared.phase.Stage.{Stage}
 use Rattle.step_rules.specs.declared.phase.Stage.TheVariants.{FreshAt, FreshPassing, Collected, Bare, Live, BackAt}
-use Rattle.step_rules.specs.declared.phase.Stage.TheVariants.{BackPassing, Ended}
+use Rattle.step_rules.specs.declared.phase.Stage.TheVariants.{AwaitsReturn, BackPassing}
 use Rattle.step_rules.specs.declared.phase.Phase.{Phase}
 use Rattle.step_rules.specs.declared.phase.Phase.TheVariants.{InZone, Lent, Head, Tail}
 use Rattle.step_rules.specs.State.{State, Part, is_held_by, visits}
@@ -21,7 +21,7 @@ hide_stage cpu unit Collected = Head unit Collected
 hide_stage cpu unit Bare = Head unit Bare
 hide_stage cpu unit Live = Head unit Live
 hide_stage cpu unit (BackPassing other) = Head unit (BackPassing other)
-hide_stage cpu unit Ended = Head unit Ended
+hide_stage cpu unit AwaitsReturn = Head unit AwaitsReturn
 
 -- the phase of a frame as the CPU sees it
 abbrev pub hide_phase : ℕ → Phase → Phase

@@ -5,7 +5,7 @@ use Rattle.step_rules.specs.declared.phase.Way.{Way}
 use Rattle.step_rules.specs.declared.phase.Way.TheVariants.{PassingOut, OnList, PassingBack}
 use Rattle.step_rules.specs.declared.phase.Stage.{Stage}
 use Rattle.step_rules.specs.declared.phase.Stage.TheVariants.{FreshAt, FreshPassing, Collected, Bare, Live, BackAt}
-use Rattle.step_rules.specs.declared.phase.Stage.TheVariants.{BackPassing, Ended}
+use Rattle.step_rules.specs.declared.phase.Stage.TheVariants.{AwaitsReturn, BackPassing}
 use Rattle.step_rules.specs.declared.phase.Phase.{Phase}
 use Rattle.step_rules.specs.declared.phase.Phase.TheVariants.{InZone, Lent, Head, Tail}
 
@@ -106,7 +106,7 @@ is_passing _ = false
 abbrev pub is_stage_in_hand : Stage → Bool
 is_stage_in_hand Collected = true
 is_stage_in_hand Bare = true
-is_stage_in_hand Ended = true
+is_stage_in_hand AwaitsReturn = true
 is_stage_in_hand _ = false
 
 -- the frame heads a charged unit, and is in the zone's hand
@@ -116,7 +116,7 @@ is_head_in_hand _ = false
 
 -- the unit may be returned: its last reference was dropped, or it was collected fresh and its group is killed
 abbrev pub may_stage_return : Bool → Stage → Bool
-may_stage_return is_killed Ended = true
+may_stage_return is_killed AwaitsReturn = true
 may_stage_return is_killed Collected = is_killed
 may_stage_return is_killed _ = false
 
@@ -134,7 +134,7 @@ at_stage stage (Tail g) = Tail g
 
 -- the stage after a last put: the head is a CPU's back frame, or in the zone's hand
 abbrev pub stage_after_last : ℕ → Stage
-stage_after_last seat = if seat == 0 then Ended else BackAt seat
+stage_after_last seat = if seat == 0 then AwaitsReturn else BackAt seat
 
 -- the stage of a unit whose head is passed back
 abbrev pub stage_passed_back : Stage → Stage
@@ -145,7 +145,7 @@ stage_passed_back Collected = Collected
 stage_passed_back Bare = Bare
 stage_passed_back Live = Live
 stage_passed_back (BackPassing cpu) = BackPassing cpu
-stage_passed_back Ended = Ended
+stage_passed_back AwaitsReturn = AwaitsReturn
 
 -- the phase of a frame that is passed back
 abbrev pub passed_back : Phase → Phase
@@ -157,13 +157,13 @@ passed_back (Tail g) = Tail g
 -- the stage of a unit whose head is collected
 abbrev pub stage_collected : Stage → Stage
 stage_collected (FreshPassing cpu) = Collected
-stage_collected (BackPassing cpu) = Ended
+stage_collected (BackPassing cpu) = AwaitsReturn
 stage_collected (FreshAt cpu) = FreshAt cpu
 stage_collected Collected = Collected
 stage_collected Bare = Bare
 stage_collected Live = Live
 stage_collected (BackAt cpu) = BackAt cpu
-stage_collected Ended = Ended
+stage_collected AwaitsReturn = AwaitsReturn
 
 -- the phase of a frame that is collected: a frame of the list is free again
 abbrev pub collected : Phase → Phase

@@ -26,7 +26,7 @@ use Rattle.step_rules.specs.After.{Run, state_of, IsLegalRun}
 use Rattle.step_rules.specs.Folds.{limit_given, was_killed}
 use Rattle.step_rules.specs.Units.{units_of}
 use Rattle.step_rules.specs.Counts.{references_in, references_out, counted}
-use Rattle.step_rules.specs.Returns.{is_gone, is_killed_return, times_in}
+use Rattle.step_rules.specs.Returns.{awaits_return, is_killed_return, times_in}
 use Rattle.step_rules.specs.Charges.{groups_of, charged_below}
 
 -- ---- what is shown
@@ -108,7 +108,7 @@ HasNoReference run f = (seat : ℕ) → counted (references_in seat f) run ≡ c
 
 -- the frame is in no use: no unit has it, no seat refers to it, and no return of it is due after a last reference
 abbrev pub IsUnused : Run → ℕ → Type 0
-IsUnused run f = ((g : ℕ) → ¬ IsInUnit run g f) × HasNoReference run f × (is_gone run f ≡ false)
+IsUnused run f = ((g : ℕ) → ¬ IsInUnit run g f) × HasNoReference run f × (awaits_return run f ≡ false)
 
 -- A reference is given, or dropped as the last, only while no return of the frame is due. First references are put only
 -- on the head of a unit that has none. A frame is returned only without references and as the head of its unit: after
@@ -116,11 +116,11 @@ IsUnused run f = ((g : ℕ) → ¬ IsInUnit run g f) × HasNoReference run f × 
 -- references. A frame is paid for, from the front of the list, or placed only while it is in no use. A placed block has
 -- the order asked for.
 abbrev pub ReturnsNoFrameTwice : Run → ℕ → Action → Answer → Type 0
-ReturnsNoFrameTwice run seat (Get f) Held = is_gone run f ≡ false
-ReturnsNoFrameTwice run seat (Put f) Last = is_gone run f ≡ false
-ReturnsNoFrameTwice run seat (Freeze f n) Done = is_gone run f ≡ false
+ReturnsNoFrameTwice run seat (Get f) Held = awaits_return run f ≡ false
+ReturnsNoFrameTwice run seat (Put f) Last = awaits_return run f ≡ false
+ReturnsNoFrameTwice run seat (Freeze f n) Done = awaits_return run f ≡ false
 ReturnsNoFrameTwice run seat (Unfreeze f n) Done = (is_some ((units_of run).unit f) ≡ true) × HasNoReference run f
-ReturnsNoFrameTwice run seat (Return f) Done = ((is_gone run f ≡ true) ⊎ (is_killed_return run f ≡ true))
+ReturnsNoFrameTwice run seat (Return f) Done = ((awaits_return run f ≡ true) ⊎ (is_killed_return run f ≡ true))
     × (is_some ((units_of run).unit f) ≡ true) × HasNoReference run f
 ReturnsNoFrameTwice run seat (Credit f) Back = (times_in f ((units_of run).hands seat).fresh ≡ 1) × HasNoReference run f
 ReturnsNoFrameTwice run seat (Consume g) Took =

@@ -2,7 +2,7 @@
 use Rattle.std.specs.Prelude.{◌≡◌, ℕ, ◌+◌, ◌==◌, ◌++◌, Bool, true, false, Option, Some, None, List, [], ◌∷◌, fold}
 use Rattle.std.specs.Prelude.{filter, length, if◌then◌else◌}
 use Rattle.step_rules.specs.declared.phase.Stage.{Stage}
-use Rattle.step_rules.specs.declared.phase.Stage.TheVariants.{Collected, BackAt, BackPassing, Ended}
+use Rattle.step_rules.specs.declared.phase.Stage.TheVariants.{Collected, BackAt, BackPassing, AwaitsReturn}
 use Rattle.step_rules.specs.declared.phase.Phase.{Phase}
 use Rattle.step_rules.specs.declared.phase.Phase.TheVariants.{Head}
 use Rattle.step_rules.specs.declared.step.FramePlace.TheVariants.{Listed}
@@ -20,16 +20,16 @@ use Rattle.step_rules.specs.Units.{units_of}
 use Rattle.step_rules.specs.Places.{is_same_frame_place, place_in}
 
 -- the stage of a unit whose last reference was dropped and that wasn't returned since
-abbrev pub is_open_stage : Stage → Bool
-is_open_stage (BackAt cpu) = true
-is_open_stage (BackPassing cpu) = true
-is_open_stage Ended = true
-is_open_stage _ = false
+abbrev pub stage_awaits_return : Stage → Bool
+stage_awaits_return (BackAt cpu) = true
+stage_awaits_return (BackPassing cpu) = true
+stage_awaits_return AwaitsReturn = true
+stage_awaits_return _ = false
 
--- an end of the frame is open: its last reference was dropped, and it wasn't returned since
-abbrev pub is_open : Phase → Bool
-is_open (Head unit stage) = is_open_stage stage
-is_open _ = false
+-- the frame awaits its return: its last reference was dropped, and it wasn't returned since
+abbrev pub phase_awaits_return : Phase → Bool
+phase_awaits_return (Head unit stage) = stage_awaits_return stage
+phase_awaits_return _ = false
 
 -- the stage of a fresh frame that was collected, if its group is killed
 abbrev pub is_killed_return_stage : Bool → Stage → Bool
@@ -51,18 +51,18 @@ is_killed_group killed (Some g) = killed g
 abbrev pub is_killed_return : Run → ℕ → Bool
 is_killed_return run f = is_killed_group (was_killed run) ((units_of run).fresh_for f)
 
--- Whether the last reference of frame f is gone after one more step. A last put and a freeze of all references drop it.
--- It isn't gone any more once references are put on the frame again or the frame is returned.
-abbrev pub gone_after : ℕ → Bool → Action → Answer → Bool
-gone_after f old (Put g) Last = if g == f then true else old
-gone_after f old (Freeze g n) Done = if g == f then true else old
-gone_after f old (Unfreeze g n) Done = if g == f then false else old
-gone_after f old (Return g) Done = if g == f then false else old
-gone_after f old action answer = old
+-- Whether frame f awaits its return after one more step. It does from a last put or a freeze of all references on, until
+-- references are put on it again or it is returned.
+abbrev pub awaits_return_after : ℕ → Bool → Action → Answer → Bool
+awaits_return_after f old (Put g) Last = if g == f then true else old
+awaits_return_after f old (Freeze g n) Done = if g == f then true else old
+awaits_return_after f old (Unfreeze g n) Done = if g == f then false else old
+awaits_return_after f old (Return g) Done = if g == f then false else old
+awaits_return_after f old action answer = old
 
 -- the last reference of the frame was dropped, and the frame was neither returned nor unfrozen since
-abbrev pub is_gone : Run → ℕ → Bool
-is_gone run f = fold (λ old e. gone_after f old e.0.action e.1) false run
+abbrev pub awaits_return : Run → ℕ → Bool
+awaits_return run f = fold (λ old e. awaits_return_after f old e.0.action e.1) false run
 
 -- 1 if a step after this run ends a use of frame f: a last put, a freeze of all references, a credit, or the return
 -- of a killed group's fresh frame
@@ -77,7 +77,7 @@ uses_ended f run seat action answer = 0
 abbrev pub uses_closed : ℕ → Run → ℕ → Action → Answer → ℕ
 uses_closed f run seat (Return g) Done = if g == f then 1 else 0
 uses_closed f run seat (Credit g) Back = if g == f then 1 else 0
-uses_closed f run seat (Unfreeze g n) Done = if g == f then one_if (is_gone run g) else 0
+uses_closed f run seat (Unfreeze g n) Done = if g == f then one_if (awaits_return run g) else 0
 uses_closed f run seat action answer = 0
 
 -- the run so far and what was counted along it, after one more pair
@@ -96,19 +96,19 @@ with_count count t e = (after t.0 e.0.seat e.0.action e.1, t.1 + count t.0 e.0.s
 abbrev pub counted_with_state : (State → ℕ → Action → Answer → ℕ) → Zone → Run → ℕ
 counted_with_state count zone run = (fold (with_count count) (at_boot zone, 0) run).1
 
--- Each use of the frame that ended is closed by a return or a credit, or undone by an unfreeze, except one that is
--- open. No use ends while one is open, so a return that closes no open end is of a killed group's fresh frame.
--- Open ends and such returns are the same in the state as by the run.
+-- Each use of the frame that ended is closed by a return or a credit, or undone by an unfreeze, except one that awaits
+-- its return. No use ends while one awaits its return, so any other return is of a killed group's fresh frame. What
+-- awaits its return, and such returns, are the same in the state as by the run.
 pub record ReturnsOnce (zone : Zone) (run : Run) (f : ℕ) : Type 0 where
   pub once : counted_with_run (uses_ended f) run
-      ≡ one_if (is_open ((state_of zone run).phases f)) + counted_with_run (uses_closed f) run
-  pub gone : is_gone run f ≡ is_open ((state_of zone run).phases f)
+      ≡ one_if (phase_awaits_return ((state_of zone run).phases f)) + counted_with_run (uses_closed f) run
+  pub awaited : awaits_return run f ≡ phase_awaits_return ((state_of zone run).phases f)
   pub killed_return : (seat : ℕ) → is_legal (state_of zone run) seat (Return f) ≡ true
       → is_killed_return run f ≡ is_killed_return_phase (state_of zone run).killed ((state_of zone run).phases f)
-  pub none_open_at_put : (seat : ℕ) → IsMade (state_of zone run) seat (Put f) Last
-      → is_open ((state_of zone run).phases f) ≡ false
-  pub none_open_at_freeze : (seat n : ℕ) → IsMade (state_of zone run) seat (Freeze f n) Done
-      → is_open ((state_of zone run).phases f) ≡ false
+  pub none_awaited_at_put : (seat : ℕ) → IsMade (state_of zone run) seat (Put f) Last
+      → phase_awaits_return ((state_of zone run).phases f) ≡ false
+  pub none_awaited_at_freeze : (seat n : ℕ) → IsMade (state_of zone run) seat (Freeze f n) Done
+      → phase_awaits_return ((state_of zone run).phases f) ≡ false
 
 -- after every legal run each use of a frame that ended is closed, except one that is open
 abbrev pub EveryFrameReturnsOnce : Type 0

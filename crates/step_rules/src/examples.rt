@@ -12,7 +12,7 @@ ghost use Rattle.step_rules.specs.Cover.{hide};
 ghost use Rattle.step_rules.specs.Laws.{ShowsLocal};
 ghost use Rattle.step_rules.specs.Reaches.{IsLocalRun, own_steps, IsInterleaved};
 ghost use Rattle.step_rules.specs.Folds.{flag_given, was_killed};
-ghost use Rattle.step_rules.specs.Returns.{is_gone};
+ghost use Rattle.step_rules.specs.Returns.{awaits_return};
 ghost use Rattle.step_rules.specs.Kept.{is_published};
 ghost use Rattle.step_rules.specs.Lent.{lent_to};
 ghost use Rattle.step_rules.specs.declared.step.Action.TheVariants.{Get, Consume};
@@ -115,8 +115,8 @@ pub fn a_stock_pays_once()
 pub fn a_frame_is_lent_published_and_gone()
     ensures lent { lent_to ((state_of small_zone first_visit).phases 0) ≡ Some 1 }
     ensures published { (is_published (first_visit ++ hand_over) 0 ≡ true) × (is_published life_of_a_frame 0 ≡ false) }
-    ensures not_gone { is_gone (first_visit ++ hand_over) 0 ≡ false }
-    ensures gone { (is_gone (first_visit ++ hand_over ++ last_put) 0 ≡ true) × (is_gone life_of_a_frame 0 ≡ false) }
+    ensures not_awaited { awaits_return (first_visit ++ hand_over) 0 ≡ false }
+    ensures awaited { (awaits_return (first_visit ++ hand_over ++ last_put) 0 ≡ true) × (awaits_return life_of_a_frame 0 ≡ false) }
 {}
 
 /// The CPU that holds the lock and the zone's seat make local steps, with steps of others between them. The visit is

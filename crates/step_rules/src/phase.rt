@@ -52,7 +52,7 @@ pub enum Stage {
     /// Passed back by this CPU as a back frame, and not collected yet.
     BackPassing(u32),
     /// In the zone's hand, after its last reference was dropped.
-    Ended,
+    AwaitsReturn,
 }
 
 /// The phase of a frame.
