@@ -22,7 +22,7 @@ use Rattle.step_rules.specs.declared.step.Answer.TheVariants.{Done, Held, Left, 
 use Rattle.step_rules.specs.State.{Zone, State}
 use Rattle.step_rules.specs.Legal.{Allows, IsCounted, is_legal}
 use Rattle.step_rules.specs.After.{Run, after, state_of, IsLegalRun}
-use Rattle.step_rules.specs.Cover.{hide}
+use Rattle.step_rules.specs.Views.{seen_by}
 use Rattle.step_rules.specs.Laws.{ShowsLocal, pushed}
 use Rattle.step_rules.specs.Reaches.{IsLocalRun, is_own, own_steps, MayFollow, IsInterleaved}
 use Rattle.step_rules.specs.Peaks.{IsPeak}
@@ -93,7 +93,7 @@ own_all p a (e ∷ steps) b leads =
 -- each is answered as the whole counts
 module _ (zone : Zone) (p : ℕ) (start : State) (D : State → ℕ → Action → Answer → Type 0)
     (counts : (s : State) (seat : ℕ) (action : Action) (answer : Answer) → s.zone ≡ start.zone → Stays p start s → is_legal s seat action ≡ true →
-    D (hide p s) seat action answer → IsCounted s action answer) where
+    D (seen_by p s) seat action answer → IsCounted s action answer) where
   mixed_on : (run : Run) (a : State) (steps : Run) (b : State) → ShowsLocal zone run p a → Stays p start (state_of zone run)
       → ((r : Run) → (state_of zone r).zone ≡ start.zone) → IsLocalRun p a steps b → Along D a steps → IsInterleaved zone run p steps
   mixed_on run a [] b shows stays zoned leads decided k = tt
@@ -101,7 +101,7 @@ module _ (zone : Zone) (p : ℕ) (start : State) (D : State → ℕ → Action �
       let s = state_of zone run in
       let local = leads.0 in
       let legal : is_legal s e.0.seat e.0.action ≡ true = sym (legality_is_seen zone run p a shows e.0.seat e.0.action local.own).same ∙ local.legal in
-      let here : D (hide p s) e.0.seat e.0.action e.1 = subst (λ (l : State). D l e.0.seat e.0.action e.1) shows.sees (decided zero) in
+      let here : D (seen_by p s) e.0.seat e.0.action e.1 = subst (λ (l : State). D l e.0.seat e.0.action e.1) shows.sees (decided zero) in
       let counted = counts s e.0.seat e.0.action e.1 (zoned run) stays legal here in
       let later : Stays p start (state_of zone (pushed run e.0 e.1)) =
       subst (Stays p start) (sym (state_more zone run e.0 e.1))

@@ -7,14 +7,14 @@ use Rattle.stock_word.specs.Stock.{KnownStockTable, KnownStockSeat, account_of, 
 use Rattle.group_charge.specs.Charges.{Ledger}
 use Rattle.cpu_part.specs.Cpus.{KnownCpu, first_cpu}
 use Rattle.step_rules.specs.State.{at_boot, no_part}
-use Rattle.step_rules.specs.Cover.{hide_references}
+use Rattle.step_rules.specs.Views.{references_seen_by}
 use Rattle.mem_machine.specs.declared.frame_state.FrameState.{FrameState}
 use Rattle.mem_machine.specs.declared.frame_state.FrameState.TheVariants.{Free}
 use Rattle.mem_machine.specs.FrameStates.{frame_state_at}
 use Rattle.mem_machine.specs.Machines.{KnownMachine, IsFirst, is_killed}
 use Rattle.mem_machine.specs.Local.{local_of, hold_of, phase_of, part_of, part_with, references_of}
 use Rattle.mem_machine.specs.Interleaving.{zone_of}
-use Rattle.mem_history.specs.Whole.{seen_by, IsSeenAt}
+use Rattle.mem_history.specs.Whole.{seen_by_holder, IsSeenAt}
 use Rattle.mem_history.specs.Kept.{ABootIsShown, TheFirstHolderIsShown}
 use Rattle.mem_history.proofs.Wholes.{the_holder_is_shown}
 
@@ -46,13 +46,13 @@ module _ (t : KnownTable) (w : KnownStockTable) (m : KnownMachine) (first : IsFi
       ap (λ (n : ℕ). cond (q == 0) n (cond (q == p) 0 0)) (ap (λ (s : KnownSeat). holds s f) first.frame_seat ∙ unreferred t.frames f)
       ∙ ap (cond (q == 0) 0) (same_either (q == p) 0) ∙ same_either (q == 0) 0
 
-  hidden_first : (q f : ℕ) → hide_references p (λ seat x. 0) q f ≡ 0
+  hidden_first : (q f : ℕ) → references_seen_by p (λ seat x. 0) q f ≡ 0
   hidden_first q f = same_either _ 0
 
   part_first : (q : ℕ) → part_of m.stock_seat c q ≡ no_part
   part_first q = same_either (q == p) (part_with [] [] [] (account_of m.stock_seat.view q)) ∙ ap (λ (s : KnownStockSeat). part_with [] [] [] (account_of s.view q)) first.stock_seat
 
-  boot_seen : local_of t m c ≡ seen_by p (at_boot (zone_of t))
+  boot_seen : local_of t m c ≡ seen_by_holder p (at_boot (zone_of t))
   boot_seen = λ i. record {
     zone = zone_of t;
     hold = ap (λ (s : KnownSeat). hold_of s p) first.frame_seat i;

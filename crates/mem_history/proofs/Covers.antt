@@ -12,7 +12,7 @@ use Rattle.step_rules.specs.declared.phase.Phase.{Phase}
 use Rattle.step_rules.specs.declared.phase.Phase.TheVariants as phase
 use Rattle.step_rules.specs.Phases.{FreshFrame, BackFrame, has_as}
 use Rattle.step_rules.specs.State.{one_if}
-use Rattle.step_rules.specs.Cover.{hide_phase}
+use Rattle.step_rules.specs.Views.{phase_seen_by}
 use Rattle.step_rules.proofs.Lists.{times}
 use Rattle.step_rules.proofs.PhaseLemmas.{fresh_is, back_is}
 use Rattle.step_rules.proofs.CoverPhases.{seen_through, own_fresh, own_back}
@@ -30,7 +30,7 @@ cover (phase.Head unit (BackAt q)) = phase.Head unit Live
 cover (phase.Head unit stage) = phase.Head unit stage
 cover (phase.Tail g) = phase.Tail g
 
-pub cover_hidden : (p : ℕ) (y : Phase) → cover (hide_phase p y) ≡ cover y
+pub cover_hidden : (p : ℕ) (y : Phase) → cover (phase_seen_by p y) ≡ cover y
 cover_hidden p y = seen_through cover p (λ u q. refl) (λ u q. refl) y
 
 -- the record's phase to who has nothing of the frame
@@ -56,7 +56,7 @@ cover_shown c f (Tail g) = refl
 
 -- ---- what the CPU sees of a frame that is neither fresh nor back there
 
-pub hidden_plain : (q : ℕ) (y : Phase) → has_as FreshFrame q y ≡ false → has_as BackFrame q y ≡ false → hide_phase q y ≡ cover y
+pub hidden_plain : (q : ℕ) (y : Phase) → has_as FreshFrame q y ≡ false → has_as BackFrame q y ≡ false → phase_seen_by q y ≡ cover y
 hidden_plain q phase.InZone fresh back = refl
 hidden_plain q (phase.Lent r way) fresh back = refl
 hidden_plain q (phase.Tail g) fresh back = refl
@@ -122,7 +122,7 @@ same_times f (x ∷ xs) =
 -- what every CPU sees alike, with the fresh and back frames of this CPU, is what this CPU sees
 pub phase_seen : (c : KnownCpu) (q f : ℕ) (x : FrameState) (y : Phase) → c.number ≡ q → cover y ≡ plain x →
     parts.times f c.fresh ≡ one_if (has_as FreshFrame q y) → parts.times f c.back ≡ one_if (has_as BackFrame q y) →
-    ((u : ChargedUnit) → y ≡ phase.Head u (FreshAt q) → u ≡ fresh_unit c) → phase_of c f x ≡ hide_phase q y
+    ((u : ChargedUnit) → y ≡ phase.Head u (FreshAt q) → u ≡ fresh_unit c) → phase_of c f x ≡ phase_seen_by q y
 phase_seen c q f x y named same fresh back unit = elim (cases_Bool (has_as FreshFrame q y)) [
   | inl is_fresh ↦
       let was = fresh_is q y is_fresh in
@@ -130,14 +130,14 @@ phase_seen c q f x y named same fresh back unit = elim (cases_Bool (has_as Fresh
       let once : parts.times f c.fresh ≡ 1 = fresh ∙ ap one_if is_fresh in
       fresh_phase c f x (frame_state ∙ ap Lent (sym named)) once
       ∙ (λ i. phase.Head (sym (unit was.0 was.1) i) (FreshAt (named i)))
-      ∙ sym (own_fresh was.0 q) ∙ ap (hide_phase q) (sym was.1)
+      ∙ sym (own_fresh was.0 q) ∙ ap (phase_seen_by q) (sym was.1)
   | inr not_fresh ↦ elim (cases_Bool (has_as BackFrame q y)) [
     | inl is_back ↦
         let was = back_is q y is_back in
         let frame_state : x ≡ Head was.0 = head_plain x was.0 (sym (ap cover was.1) ∙ same) in
         let once : parts.times f c.back ≡ 1 = back ∙ ap one_if is_back in
         back_phase c f x was.0 frame_state once ∙ ap (λ (p : ℕ). phase.Head was.0 (BackAt p)) named ∙ sym (own_back was.0 q)
-        ∙ ap (hide_phase q) (sym was.1)
+        ∙ ap (phase_seen_by q) (sym was.1)
     | inr not_back ↦
         shown_plain c f x (fresh ∙ ap one_if not_fresh) (back ∙ ap one_if not_back) ∙ sym same ∙ sym (hidden_plain q y not_fresh not_back)
   ]

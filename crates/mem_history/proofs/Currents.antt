@@ -34,7 +34,7 @@ use Rattle.mem_machine.specs.Local.{local_of, number_or_0}
 use Rattle.mem_machine.specs.Interleaving.{zone_of}
 use Rattle.mem_machine.proofs.Records.{lent_frame_state}
 use Rattle.mem_machine.proofs.Usage.{IsBalanced, usage_is}
-use Rattle.mem_history.specs.Whole.{seen_by, ShowsAll}
+use Rattle.mem_history.specs.Whole.{seen_by_holder, ShowsAll}
 use Rattle.mem_history.specs.Kept.{IsTiedPart, CurrentIsKept}
 use Rattle.mem_history.proofs.Covers.{cover, plain, cover_hidden, cover_shown, lent_plain, same_times}
 use Rattle.mem_history.proofs.Others.{HasOwn, has_own, own_shown}
@@ -42,7 +42,7 @@ use Rattle.mem_history.proofs.Together.{there}
 use Rattle.mem_history.proofs.Wholes.{not_zone, whole_sound, locked, locked_is, takes}
 
 -- the record gives the phase to a CPU that has nothing of the frame
-pub frame_state_covers : (t : KnownTable) (m : KnownMachine) (c : KnownCpu) (s : State) → local_of t m c ≡ seen_by c.number s → (f : ℕ) →
+pub frame_state_covers : (t : KnownTable) (m : KnownMachine) (c : KnownCpu) (s : State) → local_of t m c ≡ seen_by_holder c.number s → (f : ℕ) →
     cover (s.phases f) ≡ plain (frame_state_at m.frame_states f)
 frame_state_covers t m c s sees f =
     sym (cover_hidden c.number (s.phases f)) ∙ sym (ap (λ (x : State). cover (x.phases f)) sees) ∙ cover_shown c f (frame_state_at m.frame_states f)
@@ -73,7 +73,7 @@ module _ (t : KnownTable) (w : KnownStockTable) (run : Run) (m : KnownMachine) (
   abbrev p : ℕ
   p = c.number
 
-  sees : local_of t m c ≡ seen_by p whole
+  sees : local_of t m c ≡ seen_by_holder p whole
   sees = (shows.each k c is_part).sees
 
   sound : IsSound whole

@@ -16,7 +16,7 @@ use Rattle.step_rules.specs.declared.step.Step.{Step}
 use Rattle.step_rules.specs.State.{Zone, State, is_cpu}
 use Rattle.step_rules.specs.Legal.{is_legal, IsAnswer, IsCounted, IsMade, Allows}
 use Rattle.step_rules.specs.After.{Run, after, state_of, IsLegalRun}
-use Rattle.step_rules.specs.Cover.{hide}
+use Rattle.step_rules.specs.Views.{seen_by}
 use Rattle.step_rules.specs.Laws.{ShowsLocal, pushed}
 use Rattle.step_rules.specs.Reaches.{IsLocalRun}
 use Rattle.step_rules.proofs.Runs.{allowed, state_more}
@@ -68,7 +68,7 @@ made_here s seat action answer allows legal = elim (allowed s seat action answer
 -- local steps of p that continue a run legally are each decided when they are made
 module _ (zone : Zone) (p : ℕ) (start : State) (D : State → ℕ → Action → Answer → Type 0)
     (decided : (s : State) (seat : ℕ) (action : Action) (answer : Answer) → s.zone ≡ start.zone → Stays p start s → (seat ≡ 0) ⊎ (seat ≡ p) →
-    IsMade s seat action answer → D (hide p s) seat action answer) where
+    IsMade s seat action answer → D (seen_by p s) seat action answer) where
   pub legal_along : (run : Run) (a : State) (steps : Run) (b : State) → ShowsLocal zone run p a × Stays p start (state_of zone run) →
       ((r : Run) → (state_of zone r).zone ≡ start.zone) → IsLocalRun p a steps b → IsLegalRun zone (run ++ steps) → Along D a steps
   legal_along run a [] b goes zoned leads legal k = tt
@@ -105,7 +105,7 @@ module _ (t : KnownTable) (run : Run) (m : KnownMachine) (cpus : List KnownCpu) 
 
   -- what the state counts, the parts decide together
   whole_decides : (s : State) → s.zone ≡ whole.zone → Stays c.number whole s → (seat : ℕ) (action : Action) (answer : Answer) →
-      (seat ≡ 0) ⊎ (seat ≡ c.number) → IsMade s seat action answer → IsDecided (seen_together cpus c.number (hide c.number s)) seat action answer
+      (seat ≡ 0) ⊎ (seat ≡ c.number) → IsMade s seat action answer → IsDecided (seen_together cpus c.number (seen_by c.number s)) seat action answer
   whole_decides s zoned stays seat action answer own made =
       decides cpus c.number whole s (shows.count ∙ ap (λ (z : Zone). z.cpus) (sym (zoned ∙ zone_of_run zone run)))
       (others_have t run m cpus k c shows is_part) stays seat action answer own made.legal made.answered made.counted

@@ -15,7 +15,7 @@ use Rattle.step_rules.specs.declared.step.Answer.TheVariants.{Held, Zero, Full, 
 use Rattle.step_rules.specs.State.{Zone, State, is_cpu, is_frame, is_unheld, may_zone_act}
 use Rattle.step_rules.specs.Legal.{is_legal, IsAnswer, IsCounted, IsMade}
 use Rattle.step_rules.specs.After.{Run, after, state_of}
-use Rattle.step_rules.specs.Cover.{hide}
+use Rattle.step_rules.specs.Views.{seen_by}
 use Rattle.step_rules.specs.Laws.{IsLocalStep, pushed}
 use Rattle.step_rules.proofs.Runs.{sound_run, state_more, legal_more}
 use Rattle.step_rules.proofs.Freeing.{zone_of_run}
@@ -111,7 +111,7 @@ fast_lines_follow t run cpus k before action answer after_visit_state shows serv
     (own_answer (state_of zone lock) p p action answer (sound_run zone lock took.legal) step.own
     (ap (λ (s : State). is_legal s p action) lock_is ∙ legal)
     (subst (λ (l : State). IsAnswer l p action answer) took.sees step.answered)) in
-    let seen_decided : IsDecided (seen_together cpus p (hide p (state_of zone lock))) p action answer =
+    let seen_decided : IsDecided (seen_together cpus p (seen_by p (state_of zone lock))) p action answer =
     subst (λ (l : State). IsDecided (seen_together cpus p l) p action answer) took.sees (serves.decided zero) in
     let counted : IsCounted held action answer =
     subst (λ (s : State). IsCounted s action answer) lock_is
@@ -131,8 +131,8 @@ fast_lines_follow t run cpus k before action answer after_visit_state shows serv
     let last_is : state_of zone (lock ++ cpu_makes p action answer ∷ []) ≡ record later { hold = HeldBy p } =
     state_more zone lock (record { seat = p; action = action }) answer
     ∙ ap (λ (s : State). after s p action answer) lock_is ∙ fast_after whole (HeldBy p) p action answer serves.fast in
-    let sees : local_of t n d ≡ hide d.number (record later { hold = HeldBy d.number }) =
-    goes.0.sees ∙ ap (hide p) last_is ∙ (λ i. hide (sym serves.number i) (record later { hold = HeldBy (sym serves.number i) })) in
+    let sees : local_of t n d ≡ seen_by d.number (record later { hold = HeldBy d.number }) =
+    goes.0.sees ∙ ap (seen_by p) last_is ∙ (λ i. seen_by (sym serves.number i) (record later { hold = HeldBy (sym serves.number i) })) in
     let stays_last = subst (Stays p whole) last_is goes.1 in
     let stays : Stays p whole later = record { references = stays_last.references; parts = stays_last.parts } in
     let kept : later.hold ≡ whole.hold = ap (λ (s : State). s.hold) (fast_after whole whole.hold p action answer serves.fast) in

@@ -14,7 +14,7 @@ use Rattle.step_rules.specs.declared.phase.Phase.{Phase}
 use Rattle.step_rules.specs.declared.phase.Phase.TheVariants as phase
 use Rattle.step_rules.specs.Phases.{FreshFrame, BackFrame, has_as}
 use Rattle.step_rules.specs.State.{State, Part, one_if}
-use Rattle.step_rules.specs.Cover.{hide, hide_phase, hide_part, hide_parts, hide_references}
+use Rattle.step_rules.specs.Views.{seen_by, phase_seen_by, other_part_seen, parts_seen_by, references_seen_by}
 use Rattle.step_rules.proofs.Lists.{times, one_if_true}
 use Rattle.step_rules.proofs.Sound.{IsSound, PhasePaid, groups_in}
 use Rattle.step_rules.proofs.PhaseLemmas.{fresh_is}
@@ -24,7 +24,7 @@ use Rattle.mem_machine.specs.FrameStates.{frame_state_at}
 use Rattle.mem_machine.specs.Machines.{KnownMachine}
 use Rattle.mem_machine.specs.Local.{local_of, phase_of, part_of, part_with, references_of, hold_of}
 use Rattle.mem_machine.proofs.Shown.{fresh_unit}
-use Rattle.mem_history.specs.Whole.{seen_by}
+use Rattle.mem_history.specs.Whole.{seen_by_holder}
 use Rattle.mem_history.proofs.Staying.{Owned, Stays}
 use Rattle.mem_history.proofs.Covers.{cover, cover_hidden, cover_shown, fresh_unit_is, same_times, phase_seen}
 
@@ -41,7 +41,7 @@ lists_with list fresh back a P e = (
 )
 
 -- what others see of a part is its account; with its own lists it is the part
-from_outside : (list fresh back : List ℕ) (a : Account) (P : Part) → part_with [] [] [] a ≡ hide_part P → P.list ≡ list → P.fresh ≡ fresh → P.back ≡ back →
+from_outside : (list fresh back : List ℕ) (a : Account) (P : Part) → part_with [] [] [] a ≡ other_part_seen P → P.list ≡ list → P.fresh ≡ fresh → P.back ≡ back →
     part_with list fresh back a ≡ P
 from_outside list fresh back a P e same_list same_fresh same_back =
     let outer : a.book - 0 - a.unabsorbed ≡ P.stock.pages + length P.fresh = ap (λ (x : Part). x.stock.pages) e in
@@ -63,7 +63,7 @@ from_outside list fresh back a P e same_list same_fresh same_back =
 
 -- the part, whose book has its fresh pages and those noted, as others see it
 from_inside : (list fresh back : List ℕ) (a : Account) (P : Part) → part_with list fresh back a ≡ P →
-    P.book ≡ P.stock.pages + length P.fresh + P.unreported + P.reported → part_with [] [] [] a ≡ hide_part P
+    P.book ≡ P.stock.pages + length P.fresh + P.unreported + P.reported → part_with [] [] [] a ≡ other_part_seen P
 from_inside list fresh back a P e booked =
     let inner : a.book - length fresh - a.unabsorbed ≡ P.stock.pages = ap (λ (x : Part). x.stock.pages) e in
     let long : length fresh ≡ length P.fresh = ap (λ (x : Part). length x.fresh) e in
@@ -109,7 +109,7 @@ pub record HasOwn (c : KnownCpu) (s : State) : Type 0 where
   pub back : (s.parts c.number).back ≡ c.back
   pub unit : (f : ℕ) (u : ChargedUnit) → s.phases f ≡ phase.Head u (FreshAt c.number) → u ≡ fresh_unit c
 
-pub has_own : (t : KnownTable) (m : KnownMachine) (c : KnownCpu) (s : State) → (c.number ≡ 0 → ⊥) → local_of t m c ≡ seen_by c.number s → HasOwn c s
+pub has_own : (t : KnownTable) (m : KnownMachine) (c : KnownCpu) (s : State) → (c.number ≡ 0 → ⊥) → local_of t m c ≡ seen_by_holder c.number s → HasOwn c s
 has_own t m c s ne sees =
     let q = c.number in
     let part : part_with c.list c.fresh c.back (account_of m.stock_seat.view q) ≡ s.parts q =
@@ -121,7 +121,7 @@ has_own t m c s ne sees =
       fresh = lists.1;
       back = lists.2;
       unit = λ f u is. fresh_unit_is c f (frame_state_at m.frame_states f) u q
-          (ap (λ (x : State). x.phases f) sees ∙ ap (hide_phase q) is ∙ own_fresh u q);
+          (ap (λ (x : State). x.phases f) sees ∙ ap (phase_seen_by q) is ∙ own_fresh u q);
     }
 
 -- after steps of another CPU, which leave its own
@@ -157,21 +157,21 @@ own_stays c p s later ne other sound sound_later stays own =
 
 module _ (t : KnownTable) (n : KnownMachine) (d c : KnownCpu) (s : State) (sound : IsSound s) (own : HasOwn c s) (ne : c.number ≡ 0 → ⊥)
     (other : c.number ≡ d.number → ⊥) (held : hold_of n.frame_seat c.number ≡ HeldBy c.number) (hold : Hold)
-    (sees : local_of t n d ≡ hide d.number (record s { hold = hold })) where
+    (sees : local_of t n d ≡ seen_by d.number (record s { hold = hold })) where
   abbrev q : ℕ
   q = c.number
 
   abbrev p : ℕ
   p = d.number
 
-  phases_seen : (f : ℕ) → phase_of c f (frame_state_at n.frame_states f) ≡ hide_phase q (s.phases f)
+  phases_seen : (f : ℕ) → phase_of c f (frame_state_at n.frame_states f) ≡ phase_seen_by q (s.phases f)
   phases_seen f = phase_seen c q f (frame_state_at n.frame_states f) (s.phases f) refl
       (sym (cover_hidden p (s.phases f)) ∙ sym (ap (λ (x : State). cover (x.phases f)) sees) ∙ cover_shown d f (frame_state_at n.frame_states f))
       (same_times f c.fresh ∙ ap (times f) (sym own.fresh) ∙ sound.lists q FreshFrame f)
       (same_times f c.back ∙ ap (times f) (sym own.back) ∙ sound.lists q BackFrame f)
       (λ u is. own.unit f u is)
 
-  references_seen : (a f : ℕ) → references_of n.frame_seat c a f ≡ hide_references q s.references a f
+  references_seen : (a f : ℕ) → references_of n.frame_seat c a f ≡ references_seen_by q s.references a f
   references_seen a f = elim (cases_eq a 0) [
     | inl zero_is ↦
         cond-true (a == 0) (holds n.frame_seat f) _ (eq-eqb a 0 zero_is)
@@ -186,7 +186,7 @@ module _ (t : KnownTable) (n : KnownMachine) (d c : KnownCpu) (s : State) (sound
     ]
   ]
 
-  parts_seen : (r : ℕ) → part_of n.stock_seat c r ≡ hide_parts q s.parts r
+  parts_seen : (r : ℕ) → part_of n.stock_seat c r ≡ parts_seen_by q s.parts r
   parts_seen r = elim (cases_eq r q) [
     | inl e ↦
         let ne_p : r ≡ p → ⊥ = λ z. other (sym e ∙ z) in
@@ -205,7 +205,7 @@ module _ (t : KnownTable) (n : KnownMachine) (d c : KnownCpu) (s : State) (sound
         ∙ sym (other_part q s.parts r far)
   ]
 
-  pub others_see : local_of t n c ≡ seen_by q s
+  pub others_see : local_of t n c ≡ seen_by_holder q s
   others_see = λ i. record {
     zone = ap (λ (x : State). x.zone) sees i;
     hold = held i;

@@ -23,7 +23,7 @@ use Rattle.step_rules.specs.State.{Zone, State, Part, Stock, one_if, is_cpu, fre
 use Rattle.step_rules.specs.After.{Run, state_of}
 use Rattle.step_rules.specs.Lent.{lent_to}
 use Rattle.step_rules.specs.Promise.{IsShown}
-use Rattle.step_rules.specs.Cover.{hide_part}
+use Rattle.step_rules.specs.Views.{other_part_seen}
 use Rattle.step_rules.proofs.Lists.{times}
 use Rattle.step_rules.proofs.Sound.{IsSound, PhasePaid, groups_in}
 use Rattle.step_rules.proofs.PhaseLemmas.{listed_is, fresh_is}
@@ -175,10 +175,10 @@ module _ (t : KnownTable) (w : KnownStockTable) (run : Run) (m : KnownMachine) (
   nobody_stock : (p : ℕ) → is_cpu zone p ≡ false → (p ≡ first.0.number → ⊥) → stock_by m cpus p ≡ (whole.parts p).stock
   nobody_stock p nobody far =
       let fresh : fresh_frames_by cpus p ≡ [] = fresh_is_by p ∙ nobody_fresh p nobody in
-      let e : part_with [] [] [] (account_of m.stock_seat.view p) ≡ hide_part (whole.parts p) =
+      let e : part_with [] [] [] (account_of m.stock_seat.view p) ≡ other_part_seen (whole.parts p) =
       sym (other_shown t m first.0 p far) ∙ ap (λ (x : State). x.parts p) (seen 0 first.0 first.1).sees ∙ other_part first.0.number whole.parts p far in
       let long : length (whole.parts p).fresh ≡ 0 = ap length (nobody_fresh p nobody) in
-      let pages : (hide_part (whole.parts p)).stock.pages ≡ (whole.parts p).stock.pages = omega arith in
+      let pages : (other_part_seen (whole.parts p)).stock.pages ≡ (whole.parts p).stock.pages = omega arith in
       ap (λ (l : List ℕ). (part_with [] l [] (account_of m.stock_seat.view p)).stock) fresh ∙ ap (λ (x : Part). x.stock) e
       ∙ (λ i. record ((whole.parts p).stock) { pages = pages i })
 

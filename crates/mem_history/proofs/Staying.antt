@@ -13,7 +13,7 @@ use Rattle.step_rules.specs.declared.step.Answer.TheVariants.{Done, Held, Left, 
 use Rattle.step_rules.specs.State.{Zone, State, Part, with_at, visits}
 use Rattle.step_rules.specs.Legal.{is_legal, IsCounted}
 use Rattle.step_rules.specs.After.{Run, after, state_of, filled, with_back}
-use Rattle.step_rules.specs.Cover.{hide, holds_lock}
+use Rattle.step_rules.specs.Views.{holds_lock, seen_by}
 use Rattle.step_rules.specs.Laws.{ShowsLocal, pushed}
 use Rattle.step_rules.specs.Reaches.{IsLocalRun}
 use Rattle.step_rules.proofs.Basics.{at_other, at_each}
@@ -125,7 +125,7 @@ Along D a steps = (k : ℕ) → IfSome (slice_get steps k) (λ e. D (fold next a
 -- local state decides it. They leave all others as they were.
 module _ (zone : Zone) (p : ℕ) (start : State) (D : State → ℕ → Action → Answer → Type 0)
     (counts : (s : State) (seat : ℕ) (action : Action) (answer : Answer) → s.zone ≡ start.zone → Stays p start s → is_legal s seat action ≡ true →
-    D (hide p s) seat action answer → IsCounted s action answer) where
+    D (seen_by p s) seat action answer → IsCounted s action answer) where
   abbrev GoesOn : Run → State → Type 0
   GoesOn run local = ShowsLocal zone run p local × Stays p start (state_of zone run)
 
@@ -137,7 +137,7 @@ module _ (zone : Zone) (p : ℕ) (start : State) (D : State → ℕ → Action �
       let shows = goes.0 in
       let local = leads.0 in
       let legal : is_legal s e.0.seat e.0.action ≡ true = sym (legality_is_seen zone run p a shows e.0.seat e.0.action local.own).same ∙ local.legal in
-      let here : D (hide p s) e.0.seat e.0.action e.1 = subst (λ (l : State). D l e.0.seat e.0.action e.1) shows.sees (decided zero) in
+      let here : D (seen_by p s) e.0.seat e.0.action e.1 = subst (λ (l : State). D l e.0.seat e.0.action e.1) shows.sees (decided zero) in
       let counted = counts s e.0.seat e.0.action e.1 (zoned run) goes.1 legal here in
       let stays : Stays p start (state_of zone (pushed run e.0 e.1)) =
       subst (Stays p start) (sym (state_more zone run e.0 e.1))

@@ -12,7 +12,7 @@ use Rattle.step_rules.specs.declared.step.Answer.{Answer}
 use Rattle.step_rules.specs.declared.step.Answer.TheVariants.{Done, Left, Last, Missed, Pages, Took, Empty, OtherGroup, Drained, Back}
 use Rattle.step_rules.specs.State.{State, Part, is_cpu, live_references}
 use Rattle.step_rules.specs.Legal.{is_legal, IsAnswer, IsCounted, get_answer}
-use Rattle.step_rules.specs.Cover.{hide, hide_part}
+use Rattle.step_rules.specs.Views.{other_part_seen, seen_by}
 use Rattle.step_rules.specs.Reaches.{is_own}
 use Rattle.step_rules.proofs.Sums.{sum_same}
 use Rattle.step_rules.proofs.SoundSteps.{cpu_range}
@@ -74,7 +74,7 @@ credit_answer x y q f answer same h = h
 module _ (cpus : List KnownCpu) (p : ℕ) (start s : State) (count : length cpus ≡ s.zone.cpus)
     (known : (k : ℕ) (d : KnownCpu) → slice_get cpus k ≡ Some d → HasPart start k d) (stays : Stays p start s) where
   abbrev together : State
-  together = seen_together cpus p (hide p s)
+  together = seen_together cpus p (seen_by p s)
 
   reference_is : (i f : ℕ) → i < s.zone.cpus + 1 → together.references i f ≡ s.references i f
   reference_is zero f inside = refl
@@ -105,7 +105,7 @@ module _ (cpus : List KnownCpu) (p : ℕ) (start s : State) (count : length cpus
         let fresh : fresh_by cpus (suc k) ≡ length (s.parts (suc k)).fresh =
         ap (λ o. option_map_or (λ (c : KnownCpu). length c.fresh) o 0) part.1
         ∙ sym (ap length (ap (λ (o : Owned). o.fresh) (stays.parts (suc k) (λ z. absurd (omega arith)) ne) ∙ (known k part.0 part.1).fresh)) in
-        let seen : (together.parts (suc k)).stock.pages ≡ (hide_part (s.parts (suc k))).stock.pages - fresh_by cpus (suc k) =
+        let seen : (together.parts (suc k)).stock.pages ≡ (other_part_seen (s.parts (suc k))).stock.pages - fresh_by cpus (suc k) =
         ap (λ (x : Part). x.stock.pages) (cond-false (suc k == p) _ _ (ne_eqb (suc k) p ne))
         ∙ ap (λ (x : Part). x.stock.pages - fresh_by cpus (suc k)) (other_part p s.parts (suc k) ne) in
         omega arith

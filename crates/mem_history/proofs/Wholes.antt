@@ -22,7 +22,7 @@ use Rattle.step_rules.specs.Phases.{is_passing}
 use Rattle.step_rules.specs.State.{Zone, State, is_cpu, is_held_by}
 use Rattle.step_rules.specs.Legal.{IsCounted, is_legal, no_page_pends, no_frame_passes}
 use Rattle.step_rules.specs.After.{Run, state_of, IsLegalRun}
-use Rattle.step_rules.specs.Cover.{hide, holds_lock}
+use Rattle.step_rules.specs.Views.{holds_lock, seen_by}
 use Rattle.step_rules.specs.Laws.{ShowsLocal, pushed}
 use Rattle.step_rules.specs.Seen.{IsFreeAfter}
 use Rattle.step_rules.proofs.PhaseLemmas.{equal_test}
@@ -134,7 +134,7 @@ module _ (t : KnownTable) (run : Run) (m : KnownMachine) (cpus : List KnownCpu) 
 
   -- what the parts decide together, the state counts
   pub decided_count : (s : State) → s.zone ≡ whole.zone → Stays c.number whole s → (seat : ℕ) → (action : Action) → (answer : Answer) →
-      is_legal s seat action ≡ true → IsDecided (seen_together cpus c.number (hide c.number s)) seat action answer → IsCounted s action answer
+      is_legal s seat action ≡ true → IsDecided (seen_together cpus c.number (seen_by c.number s)) seat action answer → IsCounted s action answer
   decided_count s zoned stays =
       let sized : length cpus ≡ s.zone.cpus = shows.count ∙ ap (λ (z : Zone). z.cpus) (sym (zoned ∙ zone_of_run zone run)) in
       counts cpus c.number whole s sized others_have stays
@@ -142,7 +142,7 @@ module _ (t : KnownTable) (run : Run) (m : KnownMachine) (cpus : List KnownCpu) 
   -- each other part sees what it would see
   pub others_follow : (n : KnownMachine) (d : KnownCpu) (later : Run) (s : State) (hold : Hold) → d.number ≡ c.number → IsLegalRun zone later →
       state_of zone later ≡ s → Stays c.number whole s →
-      ((j : ℕ) (e : KnownCpu) → slice_get cpus j ≡ Some e → hold_of n.frame_seat e.number ≡ HeldBy e.number) → local_of t n d ≡ hide d.number (record s { hold = hold }) →
+      ((j : ℕ) (e : KnownCpu) → slice_get cpus j ≡ Some e → hold_of n.frame_seat e.number ≡ HeldBy e.number) → local_of t n d ≡ seen_by d.number (record s { hold = hold }) →
       (j : ℕ) (e : KnownCpu) → slice_get (slice_set cpus k d) j ≡ Some e → (j ≡ k → ⊥) → IsSeenAt t n s j e
   others_follow n d later s hold named legal is stays held sees j e at ne =
       let in_list = set_else cpus k j d e ne at in
@@ -196,8 +196,8 @@ lines_follow t run cpus k before steps after shows serves =
     let done_is : state_of zone done ≡ record last { hold = Unheld } = state_more zone made (record { seat = p; action = Unlock }) Done in
     let held : last.hold ≡ HeldBy p =
     sym (ap (λ (x : State). x.hold) goes.0.sees) ∙ hold_shut n.frame_seat d.number (serves.shut d.number) ∙ ap HeldBy number in
-    let sees : local_of t n d ≡ hide d.number (record (record last { hold = Unheld }) { hold = HeldBy d.number }) =
-    goes.0.sees ∙ (λ i. hide (sym number i) (record last { hold = (held ∙ ap HeldBy (sym number)) i })) in
+    let sees : local_of t n d ≡ seen_by d.number (record (record last { hold = Unheld }) { hold = HeldBy d.number }) =
+    goes.0.sees ∙ (λ i. seen_by (sym number i) (record last { hold = (held ∙ ap HeldBy (sym number)) i })) in
     let stays : Stays p whole (record last { hold = Unheld }) = record { references = goes.1.references; parts = goes.1.parts } in
     let joined : done ≡ run ++ under_lock p steps =
     append_assoc (run ++ cpu_makes p Lock Done ∷ []) steps (cpu_makes p Unlock Done ∷ [])

@@ -13,7 +13,7 @@ use Rattle.step_rules.specs.declared.step.Answer.TheVariants.{Done}
 use Rattle.step_rules.specs.State.{State, is_unheld}
 use Rattle.step_rules.specs.Legal.{IsAnswer, IsCounted}
 use Rattle.step_rules.specs.After.{Run, after, state_of, IsLegalRun}
-use Rattle.step_rules.specs.Cover.{hide}
+use Rattle.step_rules.specs.Views.{seen_by}
 use Rattle.step_rules.specs.Reaches.{is_own}
 use Rattle.mem_machine.specs.Machines.{KnownMachine, VisitState, visit_state}
 use Rattle.mem_machine.specs.Local.{local_of, Makes}
@@ -21,15 +21,15 @@ use Rattle.mem_machine.specs.Interleaving.{zone_of, Shows}
 use Rattle.mem_machine.specs.Steps.{cpu_makes}
 
 -- what the CPU would see if it took the lock now, which is free
-abbrev pub seen_by : ℕ → State → State
-seen_by cpu state = hide cpu (record state { hold = HeldBy cpu })
+abbrev pub seen_by_holder : ℕ → State → State
+seen_by_holder cpu state = seen_by cpu (record state { hold = HeldBy cpu })
 
 -- the part at this index is that of the CPU with the next number; what the machine and this part show is what the CPU
 -- would see if it took the lock
 pub record IsSeenAt (table : KnownTable) (machine : KnownMachine) (state : State)
     (index : ℕ) (cpu : KnownCpu) : Type 0 where
   pub number : cpu.number ≡ suc index
-  pub sees : local_of table machine cpu ≡ seen_by cpu.number state
+  pub sees : local_of table machine cpu ≡ seen_by_holder cpu.number state
 
 -- The run shows the whole. It is legal and leaves the lock free. There is one part for each CPU. The machine and each
 -- part show what that part's CPU would see if it took the lock.

@@ -43,7 +43,7 @@ use Rattle.mem_machine.specs.Interleaving.{zone_of}
 use Rattle.mem_machine.specs.Steps.{cpu_makes}
 use Rattle.mem_machine.proofs.Records.{holds_same}
 use Rattle.mem_machine.specs.Agreeing.{AgreesWithRun}
-use Rattle.mem_history.specs.Whole.{ShowsAll, ServesAt, ServesFast, IsSeenAt, seen_by, under_lock, is_fast}
+use Rattle.mem_history.specs.Whole.{ShowsAll, ServesAt, ServesFast, IsSeenAt, seen_by_holder, under_lock, is_fast}
 use Rattle.mem_history.specs.Kept.{AreTied}
 use Rattle.mem_history.specs.Leading.{IsPart, put_answer}
 use Rattle.mem_history.proofs.Wholes.{set_here, set_else, lines_follow}
@@ -204,7 +204,7 @@ module _ (t : KnownTable) (w : KnownStockTable) (run : Run) (locked : KnownLocke
                     let was = shows.each k c is_part in
                     subst (λ (x : KnownCpu). IsSeenAt t m (state_of (zone_of t) run) j x) (sym is) (record {
                       number = unseen.number ∙ was.number ∙ ap suc (sym here);
-                      sees = unseen.same ∙ was.sees ∙ ap (λ (q : ℕ). seen_by q (state_of (zone_of t) run)) (sym unseen.number);
+                      sees = unseen.same ∙ was.sees ∙ ap (λ (q : ℕ). seen_by_holder q (state_of (zone_of t) run)) (sym unseen.number);
                     })
                 | inr ne ↦ shows.each j e (set_else cpus k j d e ne at)
               ];

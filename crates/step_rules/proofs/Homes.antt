@@ -26,7 +26,7 @@ use Rattle.step_rules.specs.State.{Zone, Part, State, with_at, one_if, is_cpu, i
 use Rattle.step_rules.specs.Usage.{is_below, frames_kept, stock_below, pages_prepaid, pages_pending, usage_of}
 use Rattle.step_rules.specs.Legal.{is_legal, IsAnswer, IsCounted, is_removable}
 use Rattle.step_rules.specs.After.{after, is_within, unit_size, with_more, with_back}
-use Rattle.step_rules.specs.Cover.{holds_lock}
+use Rattle.step_rules.specs.Views.{holds_lock}
 use Rattle.step_rules.proofs.LegalTests.{absorb_tests, credit_tests, fill_tests, grant_tests, lock_tests, make_tests}
 use Rattle.step_rules.proofs.LegalTests.{open_visit_tests, pass_back_tests, place_block_tests, removable_tests, remove_tests, report_tests}
 use Rattle.step_rules.proofs.LegalTests.{set_flag_tests, shut_visit_tests, ungrant_tests, unlock_tests}

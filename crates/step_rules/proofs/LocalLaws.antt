@@ -11,7 +11,7 @@ use Rattle.step_rules.specs.declared.step.Answer.TheVariants.{Illegal, Done}
 use Rattle.step_rules.specs.State.{State, is_held_by, visits}
 use Rattle.step_rules.specs.Legal.{is_legal, IsAnswer, IsMade, Allows}
 use Rattle.step_rules.specs.After.{after, state_of}
-use Rattle.step_rules.specs.Cover.{hide, holds_lock}
+use Rattle.step_rules.specs.Views.{holds_lock, seen_by}
 use Rattle.step_rules.specs.Laws.{is_of_lock, OwnStepIsLegal, OtherStepIsHidden}
 use Rattle.step_rules.proofs.LegalTests.{open_visit_tests, shut_visit_tests}
 use Rattle.step_rules.proofs.PhaseLemmas.{equal_test}
@@ -57,9 +57,9 @@ pub own_step_is_legal : OwnStepIsLegal
 own_step_is_legal zone run p local step answer shows is_step counted =
     let s = state_of zone run in
     let sound = sound_run zone run shows.legal in
-    let covered : is_legal (hide p s) step.seat step.action ≡ true = subst (λ (l : State). is_legal l step.seat step.action ≡ true) shows.sees is_step.legal in
+    let covered : is_legal (seen_by p s) step.seat step.action ≡ true = subst (λ (l : State). is_legal l step.seat step.action ≡ true) shows.sees is_step.legal in
     let legal : is_legal s step.seat step.action ≡ true = sym (own_legal s p step.seat step.action sound is_step.own is_step.inside shows.holds) ∙ covered in
-    let seen : IsAnswer (hide p s) step.seat step.action answer = subst (λ (l : State). IsAnswer l step.seat step.action answer) shows.sees is_step.answered in
+    let seen : IsAnswer (seen_by p s) step.seat step.action answer = subst (λ (l : State). IsAnswer l step.seat step.action answer) shows.sees is_step.answered in
     let answered = own_answer s p step.seat step.action answer sound is_step.own legal seen in
     let more = state_more zone run step answer in
     record {
@@ -69,7 +69,7 @@ own_step_is_legal zone run p local step answer shows is_step counted =
       sees =
           ap (λ (l : State). after l step.seat step.action answer) shows.sees
           ∙ sym (own_after s p step.seat step.action answer sound is_step.own is_step.inside shows.holds legal answered counted)
-          ∙ sym (ap (hide p) more);
+          ∙ sym (ap (seen_by p) more);
     }
 
 pub other_step_is_hidden : OtherStepIsHidden
@@ -77,9 +77,9 @@ other_step_is_hidden zone run p local step answer shows who ok =
     let s = state_of zone run in
     let sound = sound_run zone run shows.legal in
     let more = state_more zone run step answer in
-    let nothing : answer ≡ Illegal → hide p (after s step.seat step.action answer) ≡ hide p s =
-    λ illegal. ap (hide p) (ap (after s step.seat step.action) illegal ∙ after_illegal s step.seat step.action) in
-    let hidden : hide p (after s step.seat step.action answer) ≡ hide p s = elim (allowed s step.seat step.action answer ok) [
+    let nothing : answer ≡ Illegal → seen_by p (after s step.seat step.action answer) ≡ seen_by p s =
+    λ illegal. ap (seen_by p) (ap (after s step.seat step.action) illegal ∙ after_illegal s step.seat step.action) in
+    let hidden : seen_by p (after s step.seat step.action answer) ≡ seen_by p s = elim (allowed s step.seat step.action answer ok) [
       | inl illegal ↦ nothing illegal
       | inr made ↦ elim who [
         | inl other ↦ other_after s p step.seat step.action answer sound other.0 other.1 shows.holds made.legal made.answered
@@ -89,5 +89,5 @@ other_step_is_hidden zone run p local step answer shows who ok =
     record {
       legal = legal_more zone run step answer shows.legal ok;
       holds = ap (λ (t : State). holds_lock p t.hold) more ∙ ap (λ (t : State). holds_lock p t.hold) hidden ∙ shows.holds;
-      sees = shows.sees ∙ sym hidden ∙ sym (ap (hide p) more);
+      sees = shows.sees ∙ sym hidden ∙ sym (ap (seen_by p) more);
     }

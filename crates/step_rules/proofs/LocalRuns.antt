@@ -5,7 +5,7 @@ use Rattle.step_rules.specs.declared.step.Action.TheVariants.{Get, Consume}
 use Rattle.step_rules.specs.State.{State, at_boot, sum_to, all_to}
 use Rattle.step_rules.specs.Legal.{is_legal}
 use Rattle.step_rules.specs.After.{state_of, IsLegalRun}
-use Rattle.step_rules.specs.Cover.{hide}
+use Rattle.step_rules.specs.Views.{seen_by}
 use Rattle.step_rules.specs.Laws.{ShowsLocal}
 use Rattle.step_rules.specs.Reaches.{IsLocalRun, own_steps, IsInterleaved}
 use Rattle.step_rules.specs.Examples.{small_zone, lock_taken, vain_visit, with_pins, with_back_frames, with_fresh_frames}
@@ -14,7 +14,7 @@ use Rattle.step_rules.proofs.Interleaving.{local_runs_interleave}
 
 -- what CPU 1 sees with the lock
 abbrev seen : State
-seen = hide 1 (state_of small_zone lock_taken)
+seen = seen_by 1 (state_of small_zone lock_taken)
 
 taken_is_legal : IsLegalRun small_zone lock_taken
 taken_is_legal = legal_each (at_boot small_zone) lock_taken (record { legal = refl; answered = tt; counted = tt }, tt)

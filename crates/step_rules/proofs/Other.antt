@@ -18,7 +18,7 @@ use Rattle.step_rules.specs.Phases.{FreshFrame, has_as, passes_out, at_stage, st
 use Rattle.step_rules.specs.State.{State, with_at, one_if, is_unheld, is_held_by, visits, may_zone_act, front_of, without}
 use Rattle.step_rules.specs.Legal.{is_legal, IsAnswer}
 use Rattle.step_rules.specs.After.{after, after_last, paid, credited, with_back, consumed}
-use Rattle.step_rules.specs.Cover.{hide, hide_phase, hide_part, hide_parts, holds_lock}
+use Rattle.step_rules.specs.Views.{seen_by, phase_seen_by, other_part_seen, parts_seen_by, holds_lock}
 use Rattle.step_rules.proofs.LegalTests.{absorb_tests, collect_tests, consume_tests, credit_tests, drain_stock_tests, fill_tests}
 use Rattle.step_rules.proofs.LegalTests.{freeze_tests, grant_tests, kill_tests, lock_tests, make_tests, open_visit_tests}
 use Rattle.step_rules.proofs.LegalTests.{pass_back_tests, pass_out_tests, place_block_tests, put_tests, remove_tests, report_tests}
@@ -54,48 +54,48 @@ not_held p q (HeldBy r) ne holds held = ne (sym (equal_test r q held) ∙ is_it 
 not_held p q hold ne holds held = false≢true held
 
 -- a frame in a phase that looks the same under the cover leaves the phases there as they are
-covered_phase : (p : ℕ) (phases : ℕ → Phase) (f : ℕ) (y : Phase) → hide_phase p y ≡ hide_phase p (phases f) →
-    ◌≡◌ {A = ℕ → Phase} (λ m. hide_phase p (with_at phases f y m)) (λ m. hide_phase p (phases m))
-covered_phase p phases f y same = λ i. λ m. at_each phases f y (λ n x. hide_phase p x ≡ hide_phase p (phases n)) same (λ n ne. refl) m i
+covered_phase : (p : ℕ) (phases : ℕ → Phase) (f : ℕ) (y : Phase) → phase_seen_by p y ≡ phase_seen_by p (phases f) →
+    ◌≡◌ {A = ℕ → Phase} (λ m. phase_seen_by p (with_at phases f y m)) (λ m. phase_seen_by p (phases m))
+covered_phase p phases f y same = λ i. λ m. at_each phases f y (λ n x. phase_seen_by p x ≡ phase_seen_by p (phases n)) same (λ n ne. refl) m i
 
-last_hidden : (s : State) (p q f : ℕ) → IsSound s → (q ≡ 0 → ⊥) → (q ≡ p → ⊥) → 1 ≤ s.references q f → hide p (after_last s q f) ≡ hide p s
+last_hidden : (s : State) (p q f : ℕ) → IsSound s → (q ≡ 0 → ⊥) → (q ≡ p → ⊥) → 1 ≤ s.references q f → seen_by p (after_last s q f) ≡ seen_by p s
 last_hidden s p q f sound ne other some =
     let is = live_is (s.phases f) (live_from_one s q f sound some) in
     let stage : stage_after_last q ≡ BackAt q = cond-false (q == 0) AwaitsReturn (BackAt q) (ne_eqb q 0 ne) in
-    let same : hide_phase p (at_stage (stage_after_last q) (s.phases f)) ≡ hide_phase p (s.phases f) =
-    (λ i. hide_phase p (at_stage (stage i) (is.1 i))) ∙ other_back is.0 p q other ∙ sym (ap (hide_phase p) is.1) in
+    let same : phase_seen_by p (at_stage (stage_after_last q) (s.phases f)) ≡ phase_seen_by p (s.phases f) =
+    (λ i. phase_seen_by p (at_stage (stage i) (is.1 i))) ∙ other_back is.0 p q other ∙ sym (ap (phase_seen_by p) is.1) in
     same_state s (covered_phase p s.phases f (at_stage (stage_after_last q) (s.phases f)) same)
     (other_referred p s.references q f (s.references q f - 1) ne other)
-    (ap (hide_parts p) (cond-false (q == 0) s.parts (with_at s.parts q (with_back (s.parts q) f)) (ne_eqb q 0 ne))
+    (ap (parts_seen_by p) (cond-false (q == 0) s.parts (with_at s.parts q (with_back (s.parts q) f)) (ne_eqb q 0 ne))
     ∙ other_changed p s.parts q (with_back (s.parts q) f) other refl)
 
 consume_hidden : (s : State) (p q g : ℕ) → IsSound s → (q ≡ p → ⊥) → 1 ≤ length (s.parts q).list → 1 ≤ (s.parts q).stock.pages →
-    hide p (after s q (Consume g) Took) ≡ hide p s
+    seen_by p (after s q (Consume g) Took) ≡ seen_by p s
 consume_hidden s p q g sound other some pages =
     let f = front_of (s.parts q).list in
     let was = listed_is q (s.phases f) (front_listed s q sound some) in
     let longer = length_last f (s.parts q).fresh in
     let e : (s.parts q).stock.pages - 1 + length (paid (s.parts q)).fresh ≡ (s.parts q).stock.pages + length (s.parts q).fresh = omega arith in
-    let part : hide_part (paid (s.parts q)) ≡ hide_part (s.parts q) =
-    ap (λ (k : ℕ). record (hide_part (s.parts q)) { stock = record ((s.parts q).stock) { pages = k } }) e in
+    let part : other_part_seen (paid (s.parts q)) ≡ other_part_seen (s.parts q) =
+    ap (λ (k : ℕ). record (other_part_seen (s.parts q)) { stock = record ((s.parts q).stock) { pages = k } }) e in
     same_state s (covered_phase p s.phases f (consumed q g) (other_fresh (record { group = g; order = 0 }) p q other
-    ∙ sym (ap (hide_phase p) was))) refl (other_changed p s.parts q (paid (s.parts q)) other part)
+    ∙ sym (ap (phase_seen_by p) was))) refl (other_changed p s.parts q (paid (s.parts q)) other part)
 
-credit_hidden : (s : State) (p q f : ℕ) → IsSound s → (q ≡ p → ⊥) → has_as FreshFrame q (s.phases f) ≡ true → hide p (after s q (Credit f) Back) ≡ hide p s
+credit_hidden : (s : State) (p q f : ℕ) → IsSound s → (q ≡ p → ⊥) → has_as FreshFrame q (s.phases f) ≡ true → seen_by p (after s q (Credit f) Back) ≡ seen_by p s
 credit_hidden s p q f sound other has =
     let is = fresh_is q (s.phases f) has in
     let c : times f (s.parts q).fresh ≡ one_if (has_as FreshFrame q (s.phases f)) = sound.lists q FreshFrame f in
     let d : one_if (has_as FreshFrame q (s.phases f)) ≡ 1 = ap one_if has in
     let shorter = length_without f (s.parts q).fresh in
     let e : (s.parts q).stock.pages + 1 + length (without f (s.parts q).fresh) ≡ (s.parts q).stock.pages + length (s.parts q).fresh = omega arith in
-    let part : hide_part (credited (s.parts q) f) ≡ hide_part (s.parts q) =
-    ap (λ (k : ℕ). record (hide_part (s.parts q)) { stock = record ((s.parts q).stock) { pages = k } }) e in
-    same_state s (covered_phase p s.phases f (Lent q OnList) (sym (ap (hide_phase p) is.1 ∙ other_fresh is.0 p q other))) refl
+    let part : other_part_seen (credited (s.parts q) f) ≡ other_part_seen (s.parts q) =
+    ap (λ (k : ℕ). record (other_part_seen (s.parts q)) { stock = record ((s.parts q).stock) { pages = k } }) e in
+    same_state s (covered_phase p s.phases f (Lent q OnList) (sym (ap (phase_seen_by p) is.1 ∙ other_fresh is.0 p q other))) refl
     (other_changed p s.parts q (credited (s.parts q) f) other part)
 
 -- a legal step of another CPU leaves what p sees as it is
 pub other_after : (s : State) (p q : ℕ) (action : Action) (answer : Answer) → IsSound s → (q ≡ 0 → ⊥) → (q ≡ p → ⊥) → holds_lock p s.hold ≡ true →
-    is_legal s q action ≡ true → IsAnswer s q action answer → hide p (after s q action answer) ≡ hide p s
+    is_legal s q action ≡ true → IsAnswer s q action answer → seen_by p (after s q action answer) ≡ seen_by p s
 other_after s p q Lock Done sound ne other holds legal ok =
     let free : is_unheld s.hold ≡ true = (lock_tests s q legal).1 in
     absurd (not_unheld p s.hold holds free)

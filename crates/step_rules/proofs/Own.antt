@@ -28,7 +28,8 @@ use Rattle.group_tree.specs.Room.{PathHasRoom, IsLowestOver}
 use Rattle.step_rules.specs.Usage.{usage_of}
 use Rattle.step_rules.specs.Legal.{is_legal, IsAnswer, IsCounted, nothing_passes, rests, may_pass_back, may_fill}
 use Rattle.step_rules.specs.After.{after, after_last, with_phase, with_part, with_more, without_frame, paid, credited, filled, drained, with_back, consumed}
-use Rattle.step_rules.specs.Cover.{hide, hide_phase, hide_part, hide_parts, hide_references, holds_lock}
+use Rattle.step_rules.specs.Views.{seen_by, phase_seen_by, other_part_seen, parts_seen_by, references_seen_by}
+use Rattle.step_rules.specs.Views.{holds_lock}
 use Rattle.step_rules.specs.Laws.{is_of_lock}
 use Rattle.step_rules.proofs.LegalTests.{collect_tests, consume_tests, credit_tests, fill_tests, freeze_tests, pass_back_tests}
 use Rattle.step_rules.proofs.LegalTests.{put_tests, report_tests, return_tests, take_in_tests, unfreeze_tests}
@@ -84,21 +85,21 @@ at_cpu4 zone p seat b c d d' own same =
     regroup4 (is_cpu zone seat) b c d ∙ at_cpu zone p seat (b && c && d) (b && c && d') own (λ e. ap (λ x. b && c && x) (same e))
     ∙ sym (regroup4 (is_cpu zone seat) b c d')
 
-nothing_seen : (s : State) (p q : ℕ) → nothing_passes (hide p s) q ≡ nothing_passes s q
-nothing_seen s p q = all_same s.zone.frames (rests (hide p s) q) (rests s q) (λ f. λ i. not (out_seen p q (s.phases f) i) && not (back_seen p q (s.phases f) i))
+nothing_seen : (s : State) (p q : ℕ) → nothing_passes (seen_by p s) q ≡ nothing_passes s q
+nothing_seen s p q = all_same s.zone.frames (rests (seen_by p s) q) (rests s q) (λ f. λ i. not (out_seen p q (s.phases f) i) && not (back_seen p q (s.phases f) i))
 
-own_pins : (s : State) (p seat : ℕ) → IsOwn p seat → pins_of (hide p s) seat ≡ pins_of s seat
+own_pins : (s : State) (p seat : ℕ) → IsOwn p seat → pins_of (seen_by p s) seat ≡ pins_of s seat
 own_pins s p seat own = ap (sum_to s.zone.frames) (λ i. λ f. own_reference p s.references seat f own i)
 
 -- only the head of a live unit has references
 head_seen : (s : State) (p f : ℕ) → IsSound s → (a : Bool) →
-    (a && is_head (hide_phase p (s.phases f)) && nat_le 1 (s.references 0 f)) ≡ (a && is_head (s.phases f) && nat_le 1 (s.references 0 f))
+    (a && is_head (phase_seen_by p (s.phases f)) && nat_le 1 (s.references 0 f)) ≡ (a && is_head (s.phases f) && nat_le 1 (s.references 0 f))
 head_seen s p f sound a =
     elim (cases_Bool (nat_le 1 (s.references 0 f))) [
       | inl some ↦
           let is = live_is (s.phases f) (live_from_one s 0 f sound (leb-true 1 (s.references 0 f) some)) in
-          ap (λ (b : Bool). a && b && nat_le 1 (s.references 0 f)) (ap (λ x. is_head (hide_phase p x)) is.1 ∙ sym (ap is_head is.1))
-      | inr none ↦ rw none (both_false (a && is_head (hide_phase p (s.phases f))) (a && is_head (s.phases f)))
+          ap (λ (b : Bool). a && b && nat_le 1 (s.references 0 f)) (ap (λ x. is_head (phase_seen_by p x)) is.1 ∙ sym (ap is_head is.1))
+      | inr none ↦ rw none (both_false (a && is_head (phase_seen_by p (s.phases f))) (a && is_head (s.phases f)))
     ]
   where
     both_false : (x y : Bool) → (x && false) ≡ (y && false)
@@ -109,13 +110,13 @@ head_seen s p f sound a =
 
 -- a fill is legal where p is visited alone
 fill_seen : (s : State) (p q g n : ℕ) (a : Bool) → holds_lock p s.hold ≡ true →
-    (a && visits q s.hold && has_group s.groups g && may_fill (hide_parts p s.parts q) g && nat_le n (s.pending g))
+    (a && visits q s.hold && has_group s.groups g && may_fill (parts_seen_by p s.parts q) g && nat_le n (s.pending g))
     ≡ (a && visits q s.hold && has_group s.groups g && may_fill (s.parts q) g && nat_le n (s.pending g))
 fill_seen s p q g n a holds =
     elim (cases_Bool (visits q s.hold)) [
       | inl visit ↦ ap (λ (part : Part). a && visits q s.hold && has_group s.groups g && may_fill part g && nat_le n (s.pending g))
           (own_part p s.parts q (only_visit p q s.hold holds visit))
-      | inr other ↦ rw other (no_visit a (has_group s.groups g) (may_fill (hide_parts p s.parts q) g) (may_fill (s.parts q) g) (nat_le n (s.pending g)))
+      | inr other ↦ rw other (no_visit a (has_group s.groups g) (may_fill (parts_seen_by p s.parts q) g) (may_fill (s.parts q) g) (nat_le n (s.pending g)))
     ]
   where
     no_visit : (a b c d e : Bool) → (a && false && b && c && e) ≡ (a && false && b && d && e)
@@ -124,13 +125,13 @@ fill_seen s p q g n a holds =
 
 -- a step of p or the zone is legal under the cover exactly where it is
 pub own_legal : (s : State) (p seat : ℕ) (action : Action) → IsSound s → IsOwn p seat → is_of_lock action ≡ false → holds_lock p s.hold ≡ true →
-    is_legal (hide p s) seat action ≡ is_legal s seat action
+    is_legal (seen_by p s) seat action ≡ is_legal s seat action
 own_legal s p seat Lock sound own inside holds = absurd (true≢false inside)
 own_legal s p seat Unlock sound own inside holds = absurd (true≢false inside)
 own_legal s p seat (OpenVisit q) sound own inside holds = refl
 own_legal s p seat (ShutVisit q) sound own inside holds =
-    let a : (hide_parts p s.parts q).unreported ≡ (s.parts q).unreported = part_seen (λ part. part.unreported) (λ part. refl) p s.parts q in
-    let b : (hide_parts p s.parts q).reported ≡ (s.parts q).reported = part_seen (λ part. part.reported) (λ part. refl) p s.parts q in
+    let a : (parts_seen_by p s.parts q).unreported ≡ (s.parts q).unreported = part_seen (λ part. part.unreported) (λ part. refl) p s.parts q in
+    let b : (parts_seen_by p s.parts q).reported ≡ (s.parts q).reported = part_seen (λ part. part.reported) (λ part. refl) p s.parts q in
     (λ i. may_zone_act s.hold seat && visits q s.hold && nothing_seen s p q i && a i == 0 && b i == 0)
 own_legal s p seat (Get f) sound own inside holds =
     at_cpu3 s.zone p seat _ _ _ _ own (λ e. refl) (λ e. (λ i. nat_lt (own_pins s p seat own i + length (own_part p s.parts seat e i).back) 256))
@@ -144,8 +145,8 @@ own_legal s p seat (PassOut f q) sound own inside holds = (λ i. may_zone_act s.
 own_legal s p seat (TakeIn f) sound own inside holds = (λ i. is_cpu s.zone seat && is_frame s.zone f && out_seen p seat (s.phases f) i)
 own_legal s p seat (PassBack f) sound own inside holds =
     at_cpu4 s.zone p seat _ _ _ _ own (λ e.
-    let k : (kind : Kind) → has_as kind seat (hide_phase p (s.phases f)) ≡ has_as kind seat (s.phases f) =
-    λ kind. subst (λ (r : ℕ). has_as kind r (hide_phase p (s.phases f)) ≡ has_as kind r (s.phases f)) (sym e) (own_seen p kind (s.phases f)) in
+    let k : (kind : Kind) → has_as kind seat (phase_seen_by p (s.phases f)) ≡ has_as kind seat (s.phases f) =
+    λ kind. subst (λ (r : ℕ). has_as kind r (phase_seen_by p (s.phases f)) ≡ has_as kind r (s.phases f)) (sym e) (own_seen p kind (s.phases f)) in
     (λ i. k ListFrame i && front_of (own_part p s.parts seat e i).list == f || k FreshFrame i || k kinds.BackFrame i))
 own_legal s p seat (Collect f q) sound own inside holds =
     (λ i. may_zone_act s.hold seat && is_frame s.zone f && is_cpu s.zone q && back_seen p q (s.phases f) i)
@@ -153,7 +154,7 @@ own_legal s p seat (Consume g) sound own inside holds =
     at_cpu3 s.zone p seat _ _ _ _ own (λ e. ap (λ (part : Part). nat_le 1 (length part.list)) (own_part p s.parts seat e))
     (λ e. ap (λ (part : Part). nat_lt (length part.fresh) 32) (own_part p s.parts seat e))
 own_legal s p seat (Credit f) sound own inside holds =
-    at_cpu3 s.zone p seat _ _ _ _ own (λ e. refl) (λ e. subst (λ (r : ℕ). has_as FreshFrame r (hide_phase p (s.phases f)) ≡ has_as FreshFrame r (s.phases f))
+    at_cpu3 s.zone p seat _ _ _ _ own (λ e. refl) (λ e. subst (λ (r : ℕ). has_as FreshFrame r (phase_seen_by p (s.phases f)) ≡ has_as FreshFrame r (s.phases f))
     (sym e) (own_seen p FreshFrame (s.phases f)))
 own_legal s p seat (Report n) sound own inside holds =
     at_cpu3 s.zone p seat _ _ _ _ own (λ e. refl) (λ e. ap (λ (part : Part). nat_le n part.unreported) (own_part p s.parts seat e))
@@ -176,7 +177,7 @@ own_legal s p seat (Remove g) sound own inside holds =
 own_legal s p seat (Kill g) sound own inside holds = refl
 
 -- all usage at once
-usages_seen : (s : State) (p : ℕ) → IsSound s → usage_of (hide p s) ≡ usage_of s
+usages_seen : (s : State) (p : ℕ) → IsSound s → usage_of (seen_by p s) ≡ usage_of s
 usages_seen s p sound = λ i. λ g. usage_seen s p sound g i
 
 cpu_seat : (s : State) (p seat : ℕ) (rest : Bool) → IsOwn p seat → (is_cpu s.zone seat && rest) ≡ true → seat ≡ p
@@ -184,7 +185,7 @@ cpu_seat s p seat rest own legal = cpu_own s.zone p seat own (and_parts (is_cpu 
 
 -- an answer under the cover is one of the whole state
 pub own_answer : (s : State) (p seat : ℕ) (action : Action) (answer : Answer) → IsSound s → IsOwn p seat → is_legal s seat action ≡ true →
-    IsAnswer (hide p s) seat action answer → IsAnswer s seat action answer
+    IsAnswer (seen_by p s) seat action answer → IsAnswer s seat action answer
 own_answer s p seat (Consume g) Took sound own legal ok =
     let cpu : is_cpu s.zone seat ≡ true = (consume_tests s seat g legal).0 in
     subst (λ (part : Part). (part.stock.group ≡ Some g) × (part.stock.is_drained ≡ false) × (1 ≤ part.stock.pages))
@@ -216,50 +217,50 @@ own_answer s p seat action answer sound own legal ok = ok
 
 -- a reference more or less, or another phase with it
 referred_seen : (s : State) (p seat f : ℕ) (F : ℕ → ℕ) → IsOwn p seat →
-    hide_references p (changed s.references seat f (F (s.references seat f)))
-    ≡ changed (hide_references p s.references) seat f (F (hide_references p s.references seat f))
+    references_seen_by p (changed s.references seat f (F (s.references seat f)))
+    ≡ changed (references_seen_by p s.references) seat f (F (references_seen_by p s.references seat f))
 referred_seen s p seat f F own = own_referred p s.references seat f (F (s.references seat f)) own
-    ∙ ap (λ (n : ℕ). changed (hide_references p s.references) seat f (F n)) (sym (own_reference p s.references seat f own))
+    ∙ ap (λ (n : ℕ). changed (references_seen_by p s.references) seat f (F n)) (sym (own_reference p s.references seat f own))
 
-last_seen : (s : State) (p seat f : ℕ) → IsSound s → IsOwn p seat → 1 ≤ s.references seat f → hide p (after_last s seat f) ≡ after_last (hide p s) seat f
+last_seen : (s : State) (p seat f : ℕ) → IsSound s → IsOwn p seat → 1 ≤ s.references seat f → seen_by p (after_last s seat f) ≡ after_last (seen_by p s) seat f
 last_seen s p seat f sound own some =
     let is = live_is (s.phases f) (live_from_one s seat f sound some) in
     elim (cases_eq seat 0) [
-      | inl zone ↦ subst (λ (k : ℕ). hide p (after_last s k f) ≡ after_last (hide p s) k f) (sym zone)
+      | inl zone ↦ subst (λ (k : ℕ). seen_by p (after_last s k f) ≡ after_last (seen_by p s) k f) (sym zone)
           (same_state s (gone_on p s.phases f (at_stage AwaitsReturn) (ended_goes p (s.phases f) is.0 is.1)) (referred_seen s p 0 f (λ n. n - 1) (inl refl)) refl)
       | inr ne ↦
           let e : seat ≡ p = elim own [ inl z ↦ absurd (ne z) | inr e ↦ e ] in
           let stage : stage_after_last seat ≡ BackAt p = cond-false (seat == 0) AwaitsReturn (BackAt seat) (ne_eqb seat 0 ne) ∙ ap BackAt e in
           let goes : GoesOn p (at_stage (stage_after_last seat)) (s.phases f) =
           subst (λ z. GoesOn p (at_stage z) (s.phases f)) (sym stage) (backed_goes p (s.phases f) is.0 is.1) in
-          let parts : hide_parts p (cond (seat == 0) s.parts (with_at s.parts seat (with_back (s.parts seat) f)))
-          ≡ cond (seat == 0) (hide_parts p s.parts) (with_at (hide_parts p s.parts) seat (with_back (hide_parts p s.parts seat) f)) =
-          ap (hide_parts p) (cond-false (seat == 0) s.parts (with_at s.parts seat (with_back (s.parts seat) f)) (ne_eqb seat 0 ne))
+          let parts : parts_seen_by p (cond (seat == 0) s.parts (with_at s.parts seat (with_back (s.parts seat) f)))
+          ≡ cond (seat == 0) (parts_seen_by p s.parts) (with_at (parts_seen_by p s.parts) seat (with_back (parts_seen_by p s.parts seat) f)) =
+          ap (parts_seen_by p) (cond-false (seat == 0) s.parts (with_at s.parts seat (with_back (s.parts seat) f)) (ne_eqb seat 0 ne))
           ∙ own_changed p s.parts seat (λ part. with_back part f) e
-          ∙ sym (cond-false (seat == 0) (hide_parts p s.parts) (with_at (hide_parts p s.parts) seat (with_back (hide_parts p s.parts seat) f))
+          ∙ sym (cond-false (seat == 0) (parts_seen_by p s.parts) (with_at (parts_seen_by p s.parts) seat (with_back (parts_seen_by p s.parts seat) f))
           (ne_eqb seat 0 ne)) in
           same_state s (gone_on p s.phases f (at_stage (stage_after_last seat)) goes) (referred_seen s p seat f (λ n. n - 1) own) parts
     ]
 
 -- a frame is passed back under the cover as it is
 sent_seen : (s : State) (p seat f : ℕ) → seat ≡ p → GoesOn p passed_back (s.phases f) →
-    hide p (with_part (with_phase s f (passed_back (s.phases f))) seat (without_frame (s.parts seat) (s.phases f) seat f))
-    ≡ after (hide p s) seat (PassBack f) Done
+    seen_by p (with_part (with_phase s f (passed_back (s.phases f))) seat (without_frame (s.parts seat) (s.phases f) seat f))
+    ≡ after (seen_by p s) seat (PassBack f) Done
 sent_seen s p seat f e goes =
     same_state s (gone_on p s.phases f passed_back goes) refl
     (own_changed p s.parts seat (λ part. without_frame part (s.phases f) seat f) e
-    ∙ ap (λ (x : Phase). with_at (hide_parts p s.parts) seat (without_frame (hide_parts p s.parts seat) x seat f)) (sym goes.before))
+    ∙ ap (λ (x : Phase). with_at (parts_seen_by p s.parts) seat (without_frame (parts_seen_by p s.parts seat) x seat f)) (sym goes.before))
 
-drained_seen : (part : Part) (n : ℕ) → n ≡ part.stock.pages → hide_part (drained part n) ≡ drained (hide_part part) n
+drained_seen : (part : Part) (n : ℕ) → n ≡ part.stock.pages → other_part_seen (drained part n) ≡ drained (other_part_seen part) n
 drained_seen part n is =
     let e : part.stock.pages - n + length part.fresh ≡ part.stock.pages + length part.fresh - n = omega arith in
-    ap (λ (k : ℕ). record (hide_part (drained part n)) { stock = record ((drained part n).stock) { pages = k } }) e
+    ap (λ (k : ℕ). record (other_part_seen (drained part n)) { stock = record ((drained part n).stock) { pages = k } }) e
 
 -- what a step of p or the zone changes is the same under the cover
 pub own_after : (s : State) (p seat : ℕ) (action : Action) (answer : Answer) → IsSound s → IsOwn p seat → is_of_lock action ≡ false →
     holds_lock p s.hold ≡ true →
-    is_legal s seat action ≡ true → IsAnswer s seat action answer → IsCounted s action answer → hide p (after s seat action answer)
-    ≡ after (hide p s) seat action answer
+    is_legal s seat action ≡ true → IsAnswer s seat action answer → IsCounted s action answer → seen_by p (after s seat action answer)
+    ≡ after (seen_by p s) seat action answer
 own_after s p seat Lock Done sound own inside holds legal ok counted = refl
 own_after s p seat Unlock Done sound own inside holds legal ok counted = refl
 own_after s p seat (OpenVisit q) Done sound own inside holds legal ok counted = refl
@@ -281,10 +282,10 @@ own_after s p seat (Unfreeze f n) Done sound own inside holds legal ok counted =
     same_state s (gone_on p s.phases f (at_stage Live) (woken_goes p (s.phases f) (in_hand (s.phases f) hand)))
     (referred_seen s p 0 f (λ k. k + n) (inl refl)) refl
 own_after s p seat (PassOut f q) Done sound own inside holds legal ok counted =
-    same_state s (at_through (hide_phase p) s.phases f (Lent q PassingOut)) refl refl
+    same_state s (at_through (phase_seen_by p) s.phases f (Lent q PassingOut)) refl refl
 own_after s p seat (TakeIn f) Done sound own inside holds legal ok counted =
     let cpu : is_cpu s.zone seat ≡ true = (take_in_tests s seat f legal).0 in
-    same_state s (at_through (hide_phase p) s.phases f (Lent seat OnList)) refl
+    same_state s (at_through (phase_seen_by p) s.phases f (Lent seat OnList)) refl
     (own_changed p s.parts seat (λ part. record part { list = with_last part.list f }) (cpu_own s.zone p seat own cpu))
 own_after s p seat (PassBack f) Done sound own inside holds legal ok counted =
     let cpu : is_cpu s.zone seat ≡ true = (pass_back_tests s seat f legal).0 in
@@ -306,16 +307,16 @@ own_after s p seat (Collect f q) Done sound own inside holds legal ok counted =
 own_after s p seat (Consume g) Took sound own inside holds legal ok counted =
     let cpu : is_cpu s.zone seat ≡ true = (consume_tests s seat g legal).0 in
     let e : seat ≡ p = cpu_own s.zone p seat own cpu in
-    let front : front_of (s.parts seat).list ≡ front_of (hide_parts p s.parts seat).list =
+    let front : front_of (s.parts seat).list ≡ front_of (parts_seen_by p s.parts seat).list =
     ap (λ (part : Part). front_of part.list) (sym (own_part p s.parts seat e)) in
-    let fresh : hide_phase p (consumed seat g) ≡ consumed seat g = cond-true (seat == p) (consumed seat g) (Lent seat OnList) (eq-eqb seat p e) in
+    let fresh : phase_seen_by p (consumed seat g) ≡ consumed seat g = cond-true (seat == p) (consumed seat g) (Lent seat OnList) (eq-eqb seat p e) in
     same_state s
-    (at_through (hide_phase p) s.phases (front_of (s.parts seat).list) (consumed seat g)
-    ∙ (λ i. with_at (λ m. hide_phase p (s.phases m)) (front i) (fresh i)))
+    (at_through (phase_seen_by p) s.phases (front_of (s.parts seat).list) (consumed seat g)
+    ∙ (λ i. with_at (λ m. phase_seen_by p (s.phases m)) (front i) (fresh i)))
     refl (own_changed p s.parts seat paid e)
 own_after s p seat (Credit f) Back sound own inside holds legal ok counted =
     let cpu : is_cpu s.zone seat ≡ true = (credit_tests s seat f legal).0 in
-    same_state s (at_through (hide_phase p) s.phases f (Lent seat OnList)) refl
+    same_state s (at_through (phase_seen_by p) s.phases f (Lent seat OnList)) refl
     (own_changed p s.parts seat (λ part. credited part f) (cpu_own s.zone p seat own cpu))
 own_after s p seat (Report n) Done sound own inside holds legal ok counted =
     let cpu : is_cpu s.zone seat ≡ true = (report_tests s seat n legal).0 in
@@ -328,11 +329,11 @@ own_after s p seat (Fill q g n) Done sound own inside holds legal ok counted =
     same_state (record s { pending = with_at s.pending g (s.pending g - n) }) refl refl
     (own_changed p s.parts q (λ part. filled part g n) (only_visit p q s.hold holds visit))
 own_after s p seat (DrainStock q) (Pages n) sound own inside holds legal ok counted =
-    let group : (s.parts q).stock.group ≡ (hide_parts p s.parts q).stock.group = sym (part_seen (λ part. part.stock.group) (λ part. refl) p s.parts q) in
+    let group : (s.parts q).stock.group ≡ (parts_seen_by p s.parts q).stock.group = sym (part_seen (λ part. part.stock.group) (λ part. refl) p s.parts q) in
     same_state (record s { pending = with_more s.pending (s.parts q).stock.group n }) refl refl
     (any_changed p s.parts q (λ part. drained part n) (drained_seen (s.parts q) n counted))
-    ∙ ap (λ (o : Option ℕ). record (hide p s) {
-      parts = with_at (hide_parts p s.parts) q (drained (hide_parts p s.parts q) n);
+    ∙ ap (λ (o : Option ℕ). record (seen_by p s) {
+      parts = with_at (parts_seen_by p s.parts) q (drained (parts_seen_by p s.parts q) n);
       pending = with_more s.pending o n;
     }) group
 own_after s p seat (Grant g n) Granted sound own inside holds legal ok counted = refl

@@ -10,7 +10,7 @@ use Rattle.step_rules.specs.Phases.{is_passing}
 use Rattle.step_rules.specs.State.{Part, State, is_unheld, is_cpu, is_held_by, visits}
 use Rattle.step_rules.specs.Legal.{is_legal, no_page_pends, no_frame_passes}
 use Rattle.step_rules.specs.After.{state_of}
-use Rattle.step_rules.specs.Cover.{hide, hide_phase, hide_part, hide_parts, holds_lock}
+use Rattle.step_rules.specs.Views.{seen_by, phase_seen_by, other_part_seen, parts_seen_by, holds_lock}
 use Rattle.step_rules.specs.Seen.{AllLegalityIsSeen, LockIsPassedOn, SeesAll, AllIsSeen}
 use Rattle.step_rules.proofs.Sums.{all_same}
 use Rattle.step_rules.proofs.Sound.{IsSound}
@@ -23,15 +23,15 @@ use Rattle.step_rules.proofs.Homes.{IsHomed}
 use Rattle.step_rules.proofs.Keeping.{homed_run}
 
 -- a frame passes under the cover exactly where it does
-passing_seen : (p : ℕ) (x : Phase) → is_passing (hide_phase p x) ≡ is_passing x
+passing_seen : (p : ℕ) (x : Phase) → is_passing (phase_seen_by p x) ≡ is_passing x
 passing_seen p x = seen_through is_passing p (λ u q. refl) (λ u q. refl) x
 
-still_seen : (s : State) (p : ℕ) → no_frame_passes (hide p s) ≡ no_frame_passes s
-still_seen s p = all_same s.zone.frames (λ f. not (is_passing (hide_phase p (s.phases f)))) (λ f. not (is_passing (s.phases f)))
+still_seen : (s : State) (p : ℕ) → no_frame_passes (seen_by p s) ≡ no_frame_passes s
+still_seen s p = all_same s.zone.frames (λ f. not (is_passing (phase_seen_by p (s.phases f)))) (λ f. not (is_passing (s.phases f)))
     (λ f. ap not (passing_seen p (s.phases f)))
 
 any_legal : (s : State) (p seat : ℕ) (action : Action) → IsSound s → (seat ≡ 0) ⊎ (seat ≡ p) → holds_lock p s.hold ≡ true →
-    is_legal (hide p s) seat action ≡ is_legal s seat action
+    is_legal (seen_by p s) seat action ≡ is_legal s seat action
 any_legal s p seat Lock sound own holds = refl
 any_legal s p seat Unlock sound own holds = ap (λ b. is_cpu s.zone seat && is_held_by seat s.hold && no_page_pends s && b) (still_seen s p)
 any_legal s p seat action sound own holds = own_legal s p seat action sound own refl holds
@@ -54,7 +54,7 @@ the_lock_is_passed_on = record {
       record {
         legal = legal_more zone run (record { seat = p; action = Lock }) Done legal (record { legal = may; answered = tt; counted = tt });
         holds = ap (λ (t : State). holds_lock p t.hold) more ∙ or_left _ _ (eq-eqb p p refl);
-        sees = sym (ap (hide p) more);
+        sees = sym (ap (seen_by p) more);
       };
   given_back = λ zone run p local shows may.
       let here = (legality_is_seen zone run p local shows p Unlock (inr refl)).same in
@@ -66,7 +66,7 @@ the_lock_is_passed_on = record {
 
 -- of another CPU p sees the book, and as its stock the same
 covered_stock : (s : State) (p q : ℕ) → IsSound s → IsHomed s → holds_lock p s.hold ≡ true → (q ≡ p → ⊥) →
-    (hide_parts p s.parts q).stock.pages ≡ (s.parts q).book
+    (parts_seen_by p s.parts q).stock.pages ≡ (s.parts q).book
 covered_stock s p q sound homed holds ne =
     let off : visits q s.hold ≡ false = elim (cases_Bool (visits q s.hold)) [
       | inl visit ↦ absurd (ne (only_visit p q s.hold holds visit))
@@ -74,9 +74,9 @@ covered_stock s p q sound homed holds ne =
     ] in
     let told = homed.quiet q off in
     let booked = sound.booked q in
-    ap (λ (part : Part). part.stock.pages) (cond-false (q == p) (s.parts q) (hide_part (s.parts q)) (ne_eqb q p ne)) ∙ (omega arith)
+    ap (λ (part : Part). part.stock.pages) (cond-false (q == p) (s.parts q) (other_part_seen (s.parts q)) (ne_eqb q p ne)) ∙ (omega arith)
 
-seen_state : (s : State) (p : ℕ) → IsSound s → IsHomed s → holds_lock p s.hold ≡ true → SeesAll s (hide p s) p
+seen_state : (s : State) (p : ℕ) → IsSound s → IsHomed s → holds_lock p s.hold ≡ true → SeesAll s (seen_by p s) p
 seen_state s p sound homed holds = record {
   zone = refl;
   groups = refl;

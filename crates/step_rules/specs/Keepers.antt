@@ -6,7 +6,7 @@ use Rattle.step_rules.specs.Phases.{keeper_of}
 use Rattle.step_rules.specs.State.{Zone, State, is_cpu, visits}
 use Rattle.step_rules.specs.Legal.{no_page_pends}
 use Rattle.step_rules.specs.After.{Run, state_of, IsLegalRun}
-use Rattle.step_rules.specs.Cover.{holds_lock}
+use Rattle.step_rules.specs.Views.{holds_lock}
 
 -- The group of a CPU's stock exists if the stock has a page, or if the book has pages beyond those unreported and
 -- reported. A stock that was never filled has no page and no book, and isn't drained. A drained stock has no page.

@@ -8,14 +8,14 @@ use Rattle.step_rules.specs.declared.step.Answer.TheVariants.{Illegal}
 use Rattle.step_rules.specs.State.{Zone, State}
 use Rattle.step_rules.specs.Legal.{is_legal, IsAnswer, IsCounted, Allows}
 use Rattle.step_rules.specs.After.{Run, after, state_of, IsLegalRun}
-use Rattle.step_rules.specs.Cover.{hide, holds_lock}
+use Rattle.step_rules.specs.Views.{holds_lock, seen_by}
 
 -- the run shows the CPU this local state: the run is legal, the CPU holds the lock after it, and this is what it sees
 -- then
 pub record ShowsLocal (zone : Zone) (run : Run) (cpu : ℕ) (local : State) : Type 0 where
   pub legal : IsLegalRun zone run
   pub holds : holds_lock cpu (state_of zone run).hold ≡ true
-  pub sees : local ≡ hide cpu (state_of zone run)
+  pub sees : local ≡ seen_by cpu (state_of zone run)
 
 -- the step takes or releases the lock
 abbrev pub is_of_lock : Action → Bool

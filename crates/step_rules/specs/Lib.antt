@@ -3,7 +3,7 @@ pub mod State
 pub mod Usage
 pub mod Legal
 pub mod After
-pub mod Cover
+pub mod Views
 pub mod Laws
 pub mod Counts
 pub mod Places

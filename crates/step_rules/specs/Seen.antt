@@ -8,7 +8,7 @@ use Rattle.step_rules.specs.State.{Zone, State, is_unheld, free_in}
 use Rattle.step_rules.specs.Usage.{usage_of}
 use Rattle.step_rules.specs.Legal.{is_legal, Allows}
 use Rattle.step_rules.specs.After.{Run, state_of, IsLegalRun}
-use Rattle.step_rules.specs.Cover.{hide}
+use Rattle.step_rules.specs.Views.{seen_by}
 use Rattle.step_rules.specs.Laws.{ShowsLocal, pushed}
 
 -- a step is legal in what a CPU sees exactly if it is legal, by the same table
@@ -33,7 +33,7 @@ pub record IsFreeAfter (zone : Zone) (run : Run) : Type 0 where
 pub record LockIsPassedOn : Type 0 where
   pub taken : (zone : Zone) (run : Run) (cpu : ℕ) → IsLegalRun zone run → is_legal (state_of zone run) cpu Lock ≡ true
       → ShowsLocal zone (pushed run (record { seat = cpu; action = Lock }) Done) cpu
-      (hide cpu (record (state_of zone run) { hold = HeldBy cpu }))
+      (seen_by cpu (record (state_of zone run) { hold = HeldBy cpu }))
   pub given_back : (zone : Zone) (run : Run) (cpu : ℕ) (local : State) → ShowsLocal zone run cpu local
       → is_legal local cpu Unlock ≡ true
       → IsFreeAfter zone (pushed run (record { seat = cpu; action = Unlock }) Done)

@@ -8,7 +8,7 @@ ghost use Rattle.step_rules.specs.Examples.{group_comes_and_goes, killed_group_e
 ghost use Rattle.step_rules.specs.Examples.{group_dies_whole, stock_without_a_page, first_visit, hand_over, last_put};
 ghost use Rattle.step_rules.specs.Examples.{lock_taken, vain_visit, with_pins, with_back_frames, with_fresh_frames};
 ghost use Rattle.step_rules.specs.Legal.{is_legal};
-ghost use Rattle.step_rules.specs.Cover.{hide};
+ghost use Rattle.step_rules.specs.Views.{seen_by};
 ghost use Rattle.step_rules.specs.Laws.{ShowsLocal};
 ghost use Rattle.step_rules.specs.Reaches.{IsLocalRun, own_steps, IsInterleaved};
 ghost use Rattle.step_rules.specs.Folds.{flag_given, was_killed};
@@ -122,11 +122,11 @@ pub fn a_frame_is_lent_published_and_gone()
 /// The CPU that holds the lock and the zone's seat make local steps, with steps of others between them. The visit is
 /// shown to that CPU as if it and the zone had been alone.
 pub fn a_visit_is_local()
-    ensures before { ShowsLocal small_zone lock_taken 1 (hide 1 (state_of small_zone lock_taken)) }
-    ensures local { IsLocalRun 1 (hide 1 (state_of small_zone lock_taken)) (own_steps 1 vain_visit)
-        (hide 1 (state_of small_zone lock_taken)) }
+    ensures before { ShowsLocal small_zone lock_taken 1 (seen_by 1 (state_of small_zone lock_taken)) }
+    ensures local { IsLocalRun 1 (seen_by 1 (state_of small_zone lock_taken)) (own_steps 1 vain_visit)
+        (seen_by 1 (state_of small_zone lock_taken)) }
     ensures between { IsInterleaved small_zone lock_taken 1 vain_visit }
-    ensures after { ShowsLocal small_zone (lock_taken ++ vain_visit) 1 (hide 1 (state_of small_zone lock_taken)) }
+    ensures after { ShowsLocal small_zone (lock_taken ++ vain_visit) 1 (seen_by 1 (state_of small_zone lock_taken)) }
 {}
 
 /// A CPU gets a reference only if its pins and back frames are below 256. It pays for a frame only if fewer than 32 are

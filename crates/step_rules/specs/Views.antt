@@ -13,26 +13,26 @@ use Rattle.step_rules.specs.State.{State, Part, is_held_by, visits}
 
 -- the head of a unit as the CPU sees it: another CPU's fresh frame is on that CPU's list, and another CPU's back frame
 -- has references
-abbrev pub hide_stage : ℕ → ChargedUnit → Stage → Phase
-hide_stage cpu unit (FreshAt other) = if other == cpu then Head unit (FreshAt other) else Lent other OnList
-hide_stage cpu unit (BackAt other) = if other == cpu then Head unit (BackAt other) else Head unit Live
-hide_stage cpu unit (FreshPassing other) = Head unit (FreshPassing other)
-hide_stage cpu unit Collected = Head unit Collected
-hide_stage cpu unit Bare = Head unit Bare
-hide_stage cpu unit Live = Head unit Live
-hide_stage cpu unit (BackPassing other) = Head unit (BackPassing other)
-hide_stage cpu unit AwaitsReturn = Head unit AwaitsReturn
+abbrev pub stage_seen_by : ℕ → ChargedUnit → Stage → Phase
+stage_seen_by cpu unit (FreshAt other) = if other == cpu then Head unit (FreshAt other) else Lent other OnList
+stage_seen_by cpu unit (BackAt other) = if other == cpu then Head unit (BackAt other) else Head unit Live
+stage_seen_by cpu unit (FreshPassing other) = Head unit (FreshPassing other)
+stage_seen_by cpu unit Collected = Head unit Collected
+stage_seen_by cpu unit Bare = Head unit Bare
+stage_seen_by cpu unit Live = Head unit Live
+stage_seen_by cpu unit (BackPassing other) = Head unit (BackPassing other)
+stage_seen_by cpu unit AwaitsReturn = Head unit AwaitsReturn
 
 -- the phase of a frame as the CPU sees it
-abbrev pub hide_phase : ℕ → Phase → Phase
-hide_phase cpu (Head unit stage) = hide_stage cpu unit stage
-hide_phase cpu InZone = InZone
-hide_phase cpu (Lent other way) = Lent other way
-hide_phase cpu (Tail g) = Tail g
+abbrev pub phase_seen_by : ℕ → Phase → Phase
+phase_seen_by cpu (Head unit stage) = stage_seen_by cpu unit stage
+phase_seen_by cpu InZone = InZone
+phase_seen_by cpu (Lent other way) = Lent other way
+phase_seen_by cpu (Tail g) = Tail g
 
 -- another CPU's part as a CPU sees it: no lists, and the pages of the fresh frames in the stock
-abbrev pub hide_part : Part → Part
-hide_part part = record part {
+abbrev pub other_part_seen : Part → Part
+other_part_seen part = record part {
   list = [];
   fresh = [];
   back = [];
@@ -40,19 +40,19 @@ hide_part part = record part {
 }
 
 -- the parts as the CPU sees them: its own as it is
-abbrev pub hide_parts : ℕ → (ℕ → Part) → ℕ → Part
-hide_parts cpu parts other = if other == cpu then parts other else hide_part (parts other)
+abbrev pub parts_seen_by : ℕ → (ℕ → Part) → ℕ → Part
+parts_seen_by cpu parts other = if other == cpu then parts other else other_part_seen (parts other)
 
 -- the references as the CPU sees them: its own and the zone's
-abbrev pub hide_references : ℕ → (ℕ → ℕ → ℕ) → ℕ → ℕ → ℕ
-hide_references cpu references seat f = if seat == 0 || seat == cpu then references seat f else 0
+abbrev pub references_seen_by : ℕ → (ℕ → ℕ → ℕ) → ℕ → ℕ → ℕ
+references_seen_by cpu references seat f = if seat == 0 || seat == cpu then references seat f else 0
 
 -- the state as the CPU sees it
-abbrev pub hide : ℕ → State → State
-hide cpu s = record s {
-  phases = λ f. hide_phase cpu (s.phases f);
-  references = hide_references cpu s.references;
-  parts = hide_parts cpu s.parts;
+abbrev pub seen_by : ℕ → State → State
+seen_by cpu s = record s {
+  phases = λ f. phase_seen_by cpu (s.phases f);
+  references = references_seen_by cpu s.references;
+  parts = parts_seen_by cpu s.parts;
 }
 
 -- the CPU holds the lock
