@@ -1,4 +1,4 @@
--- A frame has references exactly where it is live. Serves `live_are_referred`.
+-- A frame has references exactly where it is live. Serves `live_are_referenced`.
 use Rattle.std.proofs.Common.{◌≡◌, ℕ, ◌+◌, ◌-◌, ◌^◌, ◌≤◌, ◌&&◌, ◌==◌, Bool, true, false, refl, sym, ◌∙◌, ap, subst, arith, inl, inr, cond}
 use Rattle.std.specs.Prelude.{nat_le}
 use Rattle.std.proofs.lemmas.Bool.{cases_eq, false≢true, true≢false, and_parts, leb-true}
@@ -17,7 +17,7 @@ use Rattle.step_rules.specs.Phases.{is_live, at_stage, stage_after_last, passed_
 use Rattle.step_rules.specs.State.{State, at_boot, with_at, sum_to, is_cpu, live_references}
 use Rattle.step_rules.specs.Legal.{Allows, IsMade, get_answer}
 use Rattle.step_rules.specs.After.{after, placed_phase, with_block, unit_size, without_unit}
-use Rattle.step_rules.specs.Live.{AllLiveAreReferred}
+use Rattle.step_rules.specs.Live.{AllLiveAreReferenced}
 use Rattle.step_rules.proofs.LegalTests.{get_tests, put_tests, unfreeze_tests}
 use Rattle.step_rules.proofs.Basics.{at_same, at_other, at_each}
 use Rattle.step_rules.proofs.Sums.{sum_same, sum_none, sum_change}
@@ -205,8 +205,8 @@ referred_allowed f s seat action answer sound holds ok =
       | inr made ↦ referred_made f s seat action answer sound holds made
     ]
 
-pub live_are_referred : AllLiveAreReferred
-live_are_referred zone run legal f =
+pub live_are_referenced : AllLiveAreReferenced
+live_are_referenced zone run legal f =
     let sound = sound_run zone run legal in
     let kept = kept_along (λ (x : ℕ) (e : Step × Answer). x) (λ s x. IsReferred f s)
     (λ s x e sound holds ok. referred_allowed f s e.0.seat e.0.action e.1 sound holds ok) (at_boot zone) 0 run (sound_boot zone)

@@ -52,7 +52,7 @@ use Rattle.step_rules.proofs.Returning.{every_frame_returns_once}
 use Rattle.step_rules.proofs.Telling.{groups_follow_the_run, parts_follow_the_run}
 use Rattle.step_rules.proofs.Keeping.{keepers_are_there}
 use Rattle.step_rules.proofs.Counting.{references_are_counted}
-use Rattle.step_rules.proofs.Living.{live_are_referred}
+use Rattle.step_rules.proofs.Living.{live_are_referenced}
 use Rattle.step_rules.proofs.LentTo.{frames_are_lent}
 use Rattle.step_rules.proofs.Booking.{parts_are_booked}
 use Rattle.step_rules.proofs.Uniting.{units_follow_the_run}
@@ -104,7 +104,7 @@ module _ (zone : Zone) (run : Run) (legal : IsLegalRun zone run) where
   no_reference : (f : ℕ) → is_live ((state_of zone run).phases f) ≡ false → HasNoReference run f
   no_reference f dead = λ seat.
       let told = references_are_counted zone run legal seat f in
-      let none = (live_are_referred zone run legal f).none dead seat in
+      let none = (live_are_referenced zone run legal f).none dead seat in
       omega arith
 
   -- a frame that no group keeps is in no use

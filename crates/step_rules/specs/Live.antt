@@ -5,10 +5,10 @@ use Rattle.step_rules.specs.State.{Zone, State, live_references}
 use Rattle.step_rules.specs.After.{Run, state_of, IsLegalRun}
 
 -- a frame that isn't live has no reference of any seat, and a live one has 1 to 255 in all
-pub record LiveIsReferred (s : State) (f : ℕ) : Type 0 where
+pub record LiveIsReferenced (s : State) (f : ℕ) : Type 0 where
   pub none : is_live (s.phases f) ≡ false → (seat : ℕ) → s.references seat f ≡ 0
   pub some : is_live (s.phases f) ≡ true → (1 ≤ live_references s f) × (live_references s f ≤ 255)
 
 -- after every legal run a frame that isn't live has no reference, and a live one has 1 to 255
-abbrev pub AllLiveAreReferred : Type 0
-AllLiveAreReferred = (zone : Zone) (run : Run) → IsLegalRun zone run → (f : ℕ) → LiveIsReferred (state_of zone run) f
+abbrev pub AllLiveAreReferenced : Type 0
+AllLiveAreReferenced = (zone : Zone) (run : Run) → IsLegalRun zone run → (f : ℕ) → LiveIsReferenced (state_of zone run) f

@@ -7,7 +7,7 @@ ghost use Rattle.step_rules.specs.Reaches.{LocalRunsInterleave, LocalRunsCompose
 ghost use Rattle.step_rules.specs.Places.{EveryFrameHasOnePlace};
 ghost use Rattle.step_rules.specs.Returns.{EveryFrameReturnsOnce, NothingPendsWhileTheLockIsFree};
 ghost use Rattle.step_rules.specs.Units.{AllUnitsFollowRun};
-ghost use Rattle.step_rules.specs.Live.{AllLiveAreReferred};
+ghost use Rattle.step_rules.specs.Live.{AllLiveAreReferenced};
 ghost use Rattle.step_rules.specs.Booked.{AllPartsAreBooked};
 ghost use Rattle.step_rules.specs.Lent.{FramesAreLentToCpus, FramesPassInVisits, BeginningsAreLegal};
 ghost use Rattle.step_rules.specs.Keepers.{AllKeepersAreThere};
@@ -203,8 +203,8 @@ pub fn units_follow_the_run()
 {}
 
 /// After every legal run a frame that isn't live has no reference, and a live one has 1 to 255.
-pub fn live_are_referred()
-    ensures { AllLiveAreReferred }
+pub fn live_are_referenced()
+    ensures { AllLiveAreReferenced }
 {}
 
 /// After every legal run each fresh or back frame of a CPU is in its list of those once. There are at most 32 fresh
