@@ -10,8 +10,8 @@ ghost use Rattle.core_rows.specs.Shown.{state_in};
 ghost use Rattle.core_rows.specs.Rooms.{FitsZone};
 
 use crate::seat::{
-    SeatRow, absorb_pages, credit, drain_stock, fill_stock, keep_back, list_frame, pay_front,
-    report_pages, set_count, unlist_frame,
+    SeatRow, absorb_pages, credit, drain_stock, fill_stock, list_frame, pay_front, push_back_frame,
+    report_pages, set_references, unlist_frame,
 };
 use group_tree::group::GroupId;
 use group_tree::tree::Tree;
@@ -293,7 +293,7 @@ impl Rows {
         ensures state { state_in self.new ≡ with_references (state_in self.old) seat frame count }
         ensures fits { FitsZone self.new }
     {
-        set_count(&mut self.seats[seat as usize], frame, count);
+        set_references(&mut self.seats[seat as usize], frame, count);
     }
 
     /// Puts a frame at the end of a CPU's list.
@@ -347,7 +347,7 @@ impl Rows {
     }
 
     /// Puts a frame at the end of a CPU's back frames.
-    pub fn keep_back(&mut self, cpu: u32, frame: u32)
+    pub fn push_back_frame(&mut self, cpu: u32, frame: u32)
         requires fits { FitsZone self.old }
         requires cpu { cpu ≤ self.old.cpus }
         requires room { length ((state_in self.old).parts cpu).back < 256 }
@@ -355,7 +355,7 @@ impl Rows {
             ≡ with_part (state_in self.old) cpu (with_back ((state_in self.old).parts cpu) frame) }
         ensures fits { FitsZone self.new }
     {
-        keep_back(&mut self.seats[cpu as usize], frame);
+        push_back_frame(&mut self.seats[cpu as usize], frame);
     }
 
     /// Reports this many of a CPU's unreported pages.

@@ -51,7 +51,7 @@ fn remove_frame(frames: &mut Vec<u32>, frame: u32)
 }
 
 /// Sets the references of the seat on a frame.
-pub(crate) fn set_count(seat: &mut SeatRow, frame: u32, count: u32)
+pub(crate) fn set_references(seat: &mut SeatRow, frame: u32, count: u32)
     requires there { frame < vec_len seat.old.references }
     ensures part { part_in seat.new ≡ part_in seat.old }
     ensures references { seat.new.references.items ≡ slice_set seat.old.references.items frame count }
@@ -111,7 +111,7 @@ pub(crate) fn credit(seat: &mut SeatRow, frame: u32)
 }
 
 /// Puts a frame at the end of the back frames.
-pub(crate) fn keep_back(seat: &mut SeatRow, frame: u32)
+pub(crate) fn push_back_frame(seat: &mut SeatRow, frame: u32)
     requires room { length seat.old.back.items < vec_capacity seat.old.back }
     ensures part { part_in seat.new ≡ with_back (part_in seat.old) frame }
     ensures kept { KeepsRoom seat.old seat.new }

@@ -81,7 +81,7 @@ pub(crate) fn put_last_at(rows: &mut Rows, seat: u32, frame: u32) -> Answer
     let phase = at_stage(Stage::BackAt(seat), rows.phase(frame));
     rows.set_references(seat, frame, count);
     rows.set_phase(frame, phase);
-    rows.keep_back(seat, frame);
+    rows.push_back_frame(seat, frame);
     Answer::Last
 }
 

@@ -24,7 +24,7 @@ use Rattle.core_rows.proofs.Bounding.{IsBounded, bounded_step}
 use Rattle.mem_core.specs.Shown.{CoreState, Shows, AccountsMatchRun, state_shown}
 use Rattle.mem_core.specs.Accounts.{Account, account_after, account_of, AccountsFollow}
 use Rattle.mem_core.proofs.Accounting.{tell_more}
-use Rattle.mem_core.specs.Promise.{PlacesFirst}
+use Rattle.mem_core.specs.Promise.{PlacesFrontIn}
 use Rattle.zone_blocks.proofs.Unique.{unique_blocks}
 
 pub sound_after : (s : State) (seat : ℕ) (action : Action) (answer : Answer) → IsSound s → Allows s seat action answer → IsSound (after s seat action answer)
@@ -83,7 +83,7 @@ shown_more s t run step answer shows ok zone steps state follow =
 
 -- the placed block is the one that any list of the maximal free blocks gives
 pub first_from : (s : State) (areas : List Block) (action : Action) (answer : Answer)
-    → AreMaximalBlocks (free_in s.zone s.phases) areas → PlacesFront areas action answer → PlacesFirst s action answer
+    → AreMaximalBlocks (free_in s.zone s.phases) areas → PlacesFront areas action answer → PlacesFrontIn s action answer
 first_from s own (PlaceBlock g k) (Placed b) maximal front =
     λ areas other. subst (λ (l : List Block). IsFrontOfSmallest l k b) (unique_blocks (free_in s.zone s.phases) own areas maximal other) front
 first_from s own action answer maximal front = tt

@@ -8,7 +8,7 @@ use Rattle.step_rules.specs.State.{Zone, State}
 use Rattle.step_rules.specs.After.{Run, state_of}
 use Rattle.step_rules.specs.Laws.{pushed}
 use Rattle.mem_core.specs.Shown.{CoreState, Shows, state_shown, HasMaximalAreas}
-use Rattle.mem_core.specs.Promise.{PlacesFirst, AlwaysPlacesFirst}
+use Rattle.mem_core.specs.Promise.{PlacesFrontIn, AlwaysPlacesFirst}
 use Rattle.mem_core.proofs.Pushing.{each_step_push}
 
 zip-push : (steps : List Step) (answers : List Answer) (step : Step) (answer : Answer) → length steps ≡ length answers
@@ -36,14 +36,14 @@ pub PlaysOn-start : (zone : Zone) (s : CoreState) → s.zone ≡ zone → Shows 
 PlaysOn-start zone s same shows areas = record { sizes = same; shows = shows; areas = areas; first = λ k. tt }
 
 pub PlaysOn-step : (zone : Zone) (s t : CoreState) (run : Run) (step : Step) (answer : Answer) → PlaysOn zone s run
-    → PlacesFirst (state_shown s) step.action answer → t.zone ≡ s.zone → Shows t (pushed run step answer)
+    → PlacesFrontIn (state_shown s) step.action answer → t.zone ≡ s.zone → Shows t (pushed run step answer)
     → HasMaximalAreas t → PlaysOn zone t (pushed run step answer)
 PlaysOn-step zone s t run step answer so_far smallest same shows areas = record {
   sizes = same ∙ so_far.sizes;
   shows = shows;
   areas = areas;
-  first = each_step_push (λ before x a. PlacesFirst (state_of zone before) x.action a) run step answer so_far.first
-      (subst (λ (x : State). PlacesFirst x step.action answer) (so_far.shows.state ∙ ap (λ z. state_of z run) so_far.sizes) smallest);
+  first = each_step_push (λ before x a. PlacesFrontIn (state_of zone before) x.action a) run step answer so_far.first
+      (subst (λ (x : State). PlacesFrontIn x step.action answer) (so_far.shows.state ∙ ap (λ z. state_of z run) so_far.sizes) smallest);
 }
 
 length-zip : {X Y : Type 0} (xs : List X) (ys : List Y) → length xs ≡ length ys → length (zip xs ys) ≡ length ys

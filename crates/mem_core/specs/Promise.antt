@@ -35,12 +35,12 @@ AlwaysKeepsPromise zone run = (k : ℕ) → is_unheld (state_of zone (take k run
 
 -- a placed block begins at the first frame of the smallest maximal free block of its order or above (Knuth: the least
 -- sufficient order is split)
-abbrev pub PlacesFirst : State → Action → Answer → Type 0
-PlacesFirst s (PlaceBlock g k) (Placed b) = (areas : List Block) → AreMaximalBlocks (free_in s.zone s.phases) areas
+abbrev pub PlacesFrontIn : State → Action → Answer → Type 0
+PlacesFrontIn s (PlaceBlock g k) (Placed b) = (areas : List Block) → AreMaximalBlocks (free_in s.zone s.phases) areas
     → IsFrontOfSmallest areas k b
-PlacesFirst s action answer = Unit {0}
+PlacesFrontIn s action answer = Unit {0}
 
 -- each step of the run that places a block places that one
 abbrev pub AlwaysPlacesFirst : Zone → Run → Type 0
 AlwaysPlacesFirst zone run = (k : ℕ)
-    → IfSome (slice_get run k) (λ e. PlacesFirst (state_of zone (take k run)) e.0.action e.1)
+    → IfSome (slice_get run k) (λ e. PlacesFrontIn (state_of zone (take k run)) e.0.action e.1)

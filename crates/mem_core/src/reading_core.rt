@@ -7,7 +7,7 @@ ghost use Rattle.step_rules.specs.Legal.{Allows};
 ghost use Rattle.step_rules.specs.Peaks.{UsageMoves};
 ghost use Rattle.step_rules.specs.After.{Run, after};
 ghost use Rattle.mem_core.specs.Shown.{CoreState, Shows, state_shown, zone_of, HasMaximalAreas};
-ghost use Rattle.mem_core.specs.Promise.{PlacesFirst, KeepsPromise};
+ghost use Rattle.mem_core.specs.Promise.{PlacesFrontIn, KeepsPromise};
 ghost use Rattle.zone_sizes.specs.Config.{IsValidConfig};
 
 mod readers;
@@ -78,7 +78,7 @@ impl Core {
         ensures steps { self.new.steps ≡ self.old.steps + 1 }
         ensures shows { (run : Run) → Shows self.old run → Shows self.new (run ++ (step, result) ∷ []) }
         ensures promise { (run : Run) → Shows self.old run → KeepsPromise self.new (run ++ (step, result) ∷ []) }
-        ensures first { PlacesFirst (state_shown self.old) step.action result }
+        ensures first { PlacesFrontIn (state_shown self.old) step.action result }
         ensures zone { self.new.zone ≡ self.old.zone }
         ensures areas { HasMaximalAreas self.new }
         ensures illegal { result ≡ Illegal → self.new ≡ record self.old { steps = self.old.steps + 1 } }

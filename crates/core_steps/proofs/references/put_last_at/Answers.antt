@@ -10,8 +10,8 @@ use Rattle.step_rules.specs.After.{with_back}
 use Rattle.core_steps.proofs.Serving.{after_last_cpu}
 use Rattle.core_steps.proofs.references.put_last_at.Goals as goal
 
-pub keep_back-requires-clause-room : goal.keep_back-requires-clause-room
-keep_back-requires-clause-room c =
+pub push_back_frame-requires-clause-room : goal.push_back_frame-requires-clause-room
+push_back_frame-requires-clause-room c =
     subst (λ (t : State). length (t.parts c.args.seat).back < 256) (sym c.set_phase.ensures.state)
     (subst (λ (t : State). length (t.parts c.args.seat).back < 256) (sym c.set_references.ensures.state)
     (put_room (state_in c.args.rows.now) c.args.seat c.args.frame c.requires.bounded c.requires.cpu c.requires.legal))
@@ -31,7 +31,7 @@ returns c =
       made = record {
         answered = tt;
         counted = c.requires.last;
-        state = c.keep_back.ensures.state ∙ ap (λ (t : State). with_part t p (with_back (t.parts p) f)) second ∙ after_last_cpu s p f c.requires.cpu;
-        fits = c.keep_back.ensures.fits;
+        state = c.push_back_frame.ensures.state ∙ ap (λ (t : State). with_part t p (with_back (t.parts p) f)) second ∙ after_last_cpu s p f c.requires.cpu;
+        fits = c.push_back_frame.ensures.fits;
       };
     }

@@ -16,7 +16,7 @@ use Rattle.core_rows.proofs.Bounding.{IsBounded}
 use Rattle.mem_core.specs.declared.reading_core.Core.TheInside.{Inside}
 use Rattle.mem_core.specs.Shown.{CoreState, state_shown}
 use Rattle.mem_core.specs.Inside.{core_state, IsWhole}
-use Rattle.mem_core.specs.Promise.{PlacesFirst}
+use Rattle.mem_core.specs.Promise.{PlacesFrontIn}
 use Rattle.mem_core.specs.Accounts.{Account, AccountsFollow}
 use Rattle.mem_core.proofs.Linking.{shown_is, ready}
 use Rattle.mem_core.proofs.Advancing.{sound_after, usage_after, widened, bounded_after, follow_illegal, shown_more, first_from}
@@ -105,7 +105,7 @@ pub returns-clause-first : goal.returns-clause-first
 returns-clause-first c =
     let link : state_shown c.args.self.now ≡ rows.state_in c.self.inside.rows = ap state_shown (sym c.self.view_is) ∙ shown_is c.self.inside in
     let s = rows.state_in c.self.inside.rows in
-    subst (λ (x : State). PlacesFirst x c.args.step.action c.serve-answer.result) (sym link)
+    subst (λ (x : State). PlacesFrontIn x c.args.step.action c.serve-answer.result) (sym link)
     (first_from s c.self.inside.areas.blocks c.args.step.action c.serve-answer.result c.self.invariant.areas c.serve-answer.ensures.front)
 
 pub returns-clause-shows : goal.returns-clause-shows
