@@ -51,8 +51,8 @@ is_killed_group killed (Some g) = killed g
 abbrev pub is_killed_return : Run → ℕ → Bool
 is_killed_return run f = is_killed_group (was_killed run) ((units_of run).fresh_for f)
 
--- Whether frame f awaits its return after one more step. It does from a last put or a freeze of all references on, until
--- references are put on it again or it is returned.
+-- Whether frame f awaits its return after one more step. It does from a last put or a freeze of all references on,
+-- until references are put on it again or it is returned.
 abbrev pub awaits_return_after : ℕ → Bool → Action → Answer → Bool
 awaits_return_after f old (Put g) Last = if g == f then true else old
 awaits_return_after f old (Freeze g n) Done = if g == f then true else old

@@ -116,7 +116,8 @@ pub fn a_frame_is_lent_published_and_gone()
     ensures lent { lent_to ((state_of small_zone first_visit).phases 0) ≡ Some 1 }
     ensures published { (is_published (first_visit ++ hand_over) 0 ≡ true) × (is_published life_of_a_frame 0 ≡ false) }
     ensures not_awaited { awaits_return (first_visit ++ hand_over) 0 ≡ false }
-    ensures awaited { (awaits_return (first_visit ++ hand_over ++ last_put) 0 ≡ true) × (awaits_return life_of_a_frame 0 ≡ false) }
+    ensures awaited { (awaits_return (first_visit ++ hand_over ++ last_put) 0 ≡ true)
+        × (awaits_return life_of_a_frame 0 ≡ false) }
 {}
 
 /// The CPU that holds the lock and the zone's seat make local steps, with steps of others between them. The visit is
