@@ -11,4 +11,5 @@ pub record LiveIsReferenced (s : State) (f : ℕ) : Type 0 where
 
 -- after every legal run a frame that isn't live has no reference, and a live one has 1 to 255
 abbrev pub AllLiveAreReferenced : Type 0
-AllLiveAreReferenced = (zone : Zone) (run : Run) → IsLegalRun zone run → (f : ℕ) → LiveIsReferenced (state_of zone run) f
+AllLiveAreReferenced = (zone : Zone) (run : Run) → IsLegalRun zone run
+    → (f : ℕ) → LiveIsReferenced (state_of zone run) f
