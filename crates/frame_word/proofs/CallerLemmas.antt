@@ -5,7 +5,7 @@ use Rattle.frame_word.specs.declared.view.FrameNote.{FrameNote}
 use Rattle.frame_word.specs.declared.answers.Get.{Get}
 use Rattle.frame_word.specs.declared.answers.Get.TheVariants.{Held}
 use Rattle.frame_word.specs.Views.{note_of, looked, held}
-use Rattle.frame_word.specs.Seats.{KnownSeat, holds, seat_with, GetAnswers}
+use Rattle.frame_word.specs.Seats.{KnownSeat, seat_references, seat_with, GetAnswers}
 pub use Rattle.frame_word.proofs.Notes.{put_here, put_else, note_here, note_else, changed_twice}
 
 -- the note of the frame, and of another
@@ -15,6 +15,6 @@ note_after s t f change is = ap (λ r. note_of r.view f) is ∙ note_here s.view
 pub note_elsewhere : (s t : KnownSeat) (f g : ℕ) (change : FrameNote → FrameNote) → t ≡ seat_with s f change → g ≢ f → note_of t.view g ≡ note_of s.view g
 note_elsewhere s t f g change is other = ap (λ r. note_of r.view g) is ∙ note_else s.view f g change other
 
-pub held_one_more : (s t : KnownSeat) (f : ℕ) (a : Get) → GetAnswers s f a t → a ≡ Held → holds t f ≡ holds s f + 1
+pub held_one_more : (s t : KnownSeat) (f : ℕ) (a : Get) → GetAnswers s f a t → a ≡ Held → seat_references t f ≡ seat_references s f + 1
 held_one_more s t f a answer is = let h = subst (λ b. GetAnswers s f b t) is answer in ap (λ k. k.references) (note_after s t f
     (λ (k : FrameNote). held (looked h.0 k)) h.3)

@@ -1,4 +1,4 @@
--- Serves `cut` and `pair`. Seats are split and joined: the rule goes on.
+-- Serves `split_others` and `join_raw`. Seats are split and joined: the rule goes on.
 use Rattle.std.proofs.Common.{◌≡◌, ℕ, List, [], ◌∷◌, ◌++◌, refl, ap, ◌∙◌}
 use mathlib.Core.Option.{some}
 use Rattle.atomic_table.specs.Table.{Splits, Joins}

@@ -34,8 +34,8 @@ abbrev pub number_of : KnownSeat → ℕ
 number_of s = s.view.number
 
 -- the references that the seat has on the frame
-abbrev pub holds : KnownSeat → ℕ → ℕ
-holds s f = (note_of s.view f).references
+abbrev pub seat_references : KnownSeat → ℕ → ℕ
+seat_references s f = (note_of s.view f).references
 
 -- how many freezes of the frame by the seat found another number than they asked for
 abbrev pub misses_of : KnownSeat → ℕ → ℕ
@@ -94,7 +94,7 @@ LentIsBorrowed t zone cpu = (f : ℕ) → f < t.frames
 -- them owns it, it is lent to no CPU.
 abbrev pub HandsAreApart : KnownTable → KnownSeat → KnownSeat → Type 0
 HandsAreApart t zone cpu = (f : ℕ) → f < t.frames → (in_hands (note_of zone.view f) + in_hands (note_of cpu.view f) ≤ 1)
-    × (1 ≤ in_hands (note_of zone.view f) + in_hands (note_of cpu.view f) → holds zone f + holds cpu f ≡ 0)
+    × (1 ≤ in_hands (note_of zone.view f) + in_hands (note_of cpu.view f) → seat_references zone f + seat_references cpu f ≡ 0)
     × (1 ≤ (note_of zone.view f).own + (note_of cpu.view f).own → IsLentToNone zone f)
 
 -- the seat is the zone's, at this table
@@ -127,13 +127,13 @@ GetAnswers s f Full t = t ≡ seat_with s f (looked most_references)
 -- What a put answers, and the seat after it. Left: n references are left, those of the seat among them. Last: the seat
 -- had one, none is left, and the seat owns the frame.
 abbrev pub PutAnswers : KnownSeat → ℕ → Put → KnownSeat → Type 0
-PutAnswers s f (Left n) t = (1 ≤ n) × (n < most_references) × (t ≡ seat_with s f (let_go n)) × (holds s f ≤ n + 1)
-PutAnswers s f Last t = (t ≡ seat_with s f let_go_last) × (holds s f ≡ 1)
+PutAnswers s f (Left n) t = (1 ≤ n) × (n < most_references) × (t ≡ seat_with s f (let_go n)) × (seat_references s f ≤ n + 1)
+PutAnswers s f Last t = (t ≡ seat_with s f let_go_last) × (seat_references s f ≡ 1)
 
 -- What a freeze of n references answers, and the seat after it. True: all references were these n, they are dropped,
 -- and the seat owns the frame. False: the word was another number; the note counts a miss and has that word.
 abbrev pub FreezeAnswers : KnownSeat → ℕ → ℕ → Bool → KnownSeat → Type 0
-FreezeAnswers s f n true t = (holds s f ≡ n) × (t ≡ seat_with s f (frozen n))
+FreezeAnswers s f n true t = (seat_references s f ≡ n) × (t ≡ seat_with s f (frozen n))
 FreezeAnswers s f n false t = (word : ℕ) × (word ≢ n) × (t ≡ seat_with s f (missed word))
 
 -- the view of the zone's seat at first: it owns every frame

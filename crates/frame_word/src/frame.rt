@@ -34,8 +34,8 @@ impl Frame {
         self.number
     }
 
-    /// The place of the frame's word in the table: the frame's number.
-    pub(crate) fn word(self) -> usize
+    /// The index of the frame's word in the table: the frame's number.
+    pub(crate) fn word_index(self) -> usize
         ensures { result ≡ self }
     {
         let Frame { number } = self;

@@ -2,9 +2,9 @@
 //! it learns from it. One line here names the rule between any two steps: `holds` of `TableRule` for `Counting`, the
 //! rule of the type that `Board` wraps.
 //!
-//! The table and the seats' places are private to this file. It has one function for each kind of atomic step, whose
+//! The table and the raw seats are private to this file. It has one function for each kind of atomic step, whose
 //! contract is the kind. `get`, `put` and `freeze` are made of the first four. No other file can make a step of a kind
-//! of its own. `cut` and `pair` split and join views and change none; `start` and `end` make and end a table.
+//! of its own. `split_others` and `join_raw` split and join views and change none; `start` and `end` make and end a table.
 ghost use Rattle.std.specs.Prelude.{◌≡◌, ◌⊎◌, ◌<◌, ◌≤◌, ◌+◌, ◌++◌, [], ◌∷◌, length, IfOk};
 ghost use Rattle.std.specs.Mem.Slots.{slots_items, slots_len, IsFull};
 ghost use Rattle.frame_word.specs.ReferenceRule.{most_references, visit_index, ReferenceRule};
@@ -12,7 +12,8 @@ ghost use Rattle.frame_word.specs.Views.{note_of, unfrozen, passed_out_to, took_
 ghost use Rattle.frame_word.specs.Kinds.{first_views, first_alone, but_first, rule_of, EndsWith, by_one, by_two, looks};
 ghost use Rattle.frame_word.specs.Kinds.{adds, puts, freezes, unfreezes, passes_out, takes_in, passes_back, collects};
 ghost use Rattle.frame_word.specs.Kinds.{visits};
-ghost use Rattle.frame_word.specs.Seats.{number_of, holds, IsInOwnHand, IsInHand, IsBorrowed, HasNothingOf, IsLent};
+ghost use Rattle.frame_word.specs.Seats.{number_of, seat_references, IsInOwnHand, IsInHand, IsBorrowed, HasNothingOf};
+ghost use Rattle.frame_word.specs.Seats.{IsLent};
 ghost use Rattle.frame_word.specs.Seats.{IsLentToNone, IsOpen, IsShut, Passes, NothingPasses, LentIsBorrowed};
 ghost use Rattle.frame_word.specs.Seats.{HandsAreApart, IsZoneSeat, IsCpuSeat, seat_with, seat_with_visit};
 
@@ -119,18 +120,18 @@ impl Play<(), [FrameView; 0]> for Visit {
 }
 
 /// Splits off all of a seat's views except the first.
-pub(crate) struct Cut;
+pub(crate) struct Others;
 
-impl Split<[FrameView; 0]> for Cut {
+impl Split<[FrameView; 0]> for Others {
     ghost left = { first_alone };
 
     ghost right = { but_first };
 }
 
 /// Puts another seat's views behind a seat's own.
-pub(crate) struct Pair;
+pub(crate) struct Both;
 
-impl Join<[FrameView; 0]> for Pair {
+impl Join<[FrameView; 0]> for Both {
     ghost both = { λ v w. v ++ w };
 
     ghost spent = { [] };
@@ -148,51 +149,51 @@ impl Board {
         ensures counts { IfOk result (λ t. (t.0.table.shared.table_id.words ≡ length words.now)
             × (t.0.table.shared.table_id.slots ≡ 0)) }
         ensures key { IfOk result (λ t. t.0.table.shared.key ≡ sizes.now) }
-        ensures place { IfOk result (λ t. (t.1.seat.table_id ≡ t.0.table.shared.table_id)
+        ensures raw { IfOk result (λ t. (t.1.seat.table_id ≡ t.0.table.shared.table_id)
             × (t.1.seat.me ≡ (first_views sizes.now.frames sizes.now.cpus, []))) }
     {
         let (table, seat) = Table::of_words(alloc, words, sizes)?;
         Ok((Board { table }, RawSeat { seat }))
     }
 
-    /// The place keeps its first view. The new place gets the others.
-    pub(crate) fn cut(&self, place: &mut RawSeat) -> RawSeat
-        requires { (place.old.seat.table_id ≡ self.now.table.shared.table_id)
+    /// The seat keeps its first view. The new seat gets the others.
+    pub(crate) fn split_others(&self, raw: &mut RawSeat) -> RawSeat
+        requires { (raw.old.seat.table_id ≡ self.now.table.shared.table_id)
             × (0 < self.now.table.shared.table_id.words) }
-        ensures table { (place.new.seat.table_id ≡ place.old.seat.table_id)
-            × (result.seat.table_id ≡ place.old.seat.table_id) }
-        ensures views { (place.new.seat.me ≡ (first_alone place.old.seat.me.0, place.old.seat.me.1))
-            × (result.seat.me ≡ (but_first place.old.seat.me.0, [])) }
+        ensures table { (raw.new.seat.table_id ≡ raw.old.seat.table_id)
+            × (result.seat.table_id ≡ raw.old.seat.table_id) }
+        ensures views { (raw.new.seat.me ≡ (first_alone raw.old.seat.me.0, raw.old.seat.me.1))
+            × (result.seat.me ≡ (but_first raw.old.seat.me.0, [])) }
     {
         RawSeat {
-            seat: self.table.shared.split_seat::<Cut>(&mut place.seat),
+            seat: self.table.shared.split_seat::<Others>(&mut raw.seat),
         }
     }
 
-    /// The other place's views follow the place's own.
-    pub(crate) fn pair(&self, place: &mut RawSeat, other: RawSeat)
-        requires table { (place.old.seat.table_id ≡ self.now.table.shared.table_id)
+    /// The other seat's views follow the seat's own.
+    pub(crate) fn join_raw(&self, raw: &mut RawSeat, other: RawSeat)
+        requires table { (raw.old.seat.table_id ≡ self.now.table.shared.table_id)
             × (0 < self.now.table.shared.table_id.words) }
         requires other { (other.seat.table_id ≡ self.now.table.shared.table_id) × (other.seat.me.1 ≡ []) }
-        ensures table { place.new.seat.table_id ≡ place.old.seat.table_id }
-        ensures views { place.new.seat.me ≡ (place.old.seat.me.0 ++ other.seat.me.0, place.old.seat.me.1) }
+        ensures table { raw.new.seat.table_id ≡ raw.old.seat.table_id }
+        ensures views { raw.new.seat.me ≡ (raw.old.seat.me.0 ++ other.seat.me.0, raw.old.seat.me.1) }
     {
         let RawSeat { seat } = other;
-        self.table.shared.join_seat::<Pair>(&mut place.seat, seat);
+        self.table.shared.join_seat::<Both>(&mut raw.seat, seat);
     }
 
-    /// Ends the table. The rule holds of its words, and the place is one of its seats.
-    pub(crate) fn end(self, place: RawSeat) -> Closed<(), Global>
-        requires { place.seat.table_id ≡ self.table.shared.table_id }
+    /// Ends the table. The rule holds of its words, and `raw` is one of its seats.
+    pub(crate) fn end(self, raw: RawSeat) -> Closed<(), Global>
+        requires { raw.seat.table_id ≡ self.table.shared.table_id }
         ensures counts { (slots_len result.words ≡ self.table.shared.table_id.words)
             × (slots_len result.slots ≡ self.table.shared.table_id.slots) }
         ensures full { IsFull result.words }
         ensures rule { let key = self.table.shared.key in
-            EndsWith key.frames key.cpus place.seat.id place.seat.me.0 (slots_items result.words)
+            EndsWith key.frames key.cpus raw.seat.id raw.seat.me.0 (slots_items result.words)
             (slots_items result.slots) }
     {
         let Board { table } = self;
-        let RawSeat { seat } = place;
+        let RawSeat { seat } = raw;
         table.close_with(seat)
     }
 }
@@ -207,7 +208,7 @@ impl FrameWords {
         ensures kind { looks seat.old.view frame 0 result seat.new.view }
     {
         let shared = &self.board.table.shared;
-        shared.load::<Look>(&mut seat.place.seat, frame.word())
+        shared.load::<Look>(&mut seat.raw.seat, frame.word_index())
     }
 
     /// The exchange of a get, from the word that its load saw to one more. It returns the word that it found.
@@ -220,33 +221,33 @@ impl FrameWords {
         ensures kind { adds seat.old.view frame seen result seat.new.view }
     {
         let shared = &self.board.table.shared;
-        let word = frame.word();
-        shared.compare_exchange::<Add>(&mut seat.place.seat, word, seen, seen + 1)
+        let word = frame.word_index();
+        shared.compare_exchange::<Add>(&mut seat.raw.seat, word, seen, seen + 1)
     }
 
     /// Takes one reference of the seat off the word. It returns the word that it found.
     pub(crate) fn put_one(&self, seat: &mut FrameSeat, frame: Frame) -> u64
         requires table { seat.old.table ≡ self.now.table }
         requires frame { frame < self.now.frames }
-        requires held { 1 ≤ holds seat.old frame }
+        requires held { 1 ≤ seat_references seat.old frame }
         ensures table { seat.new.table ≡ seat.old.table }
         ensures kind { puts seat.old.view frame 1 result seat.new.view }
     {
         let shared = &self.board.table.shared;
-        shared.fetch_sub::<PutOne>(&mut seat.place.seat, frame.word(), 1)
+        shared.fetch_sub::<PutOne>(&mut seat.raw.seat, frame.word_index(), 1)
     }
 
     /// Exchanges `count` for 0. It returns the word that it found.
     pub(crate) fn freeze_at(&self, seat: &mut FrameSeat, frame: Frame, count: u64) -> u64
         requires table { seat.old.table ≡ self.now.table }
         requires frame { frame < self.now.frames }
-        requires held { (1 ≤ count) × (count ≤ holds seat.old frame) }
+        requires held { (1 ≤ count) × (count ≤ seat_references seat.old frame) }
         ensures table { seat.new.table ≡ seat.old.table }
         ensures kind { freezes seat.old.view frame count result seat.new.view }
     {
         let shared = &self.board.table.shared;
-        let word = frame.word();
-        shared.compare_exchange::<Freeze>(&mut seat.place.seat, word, count, 0)
+        let word = frame.word_index();
+        shared.compare_exchange::<Freeze>(&mut seat.raw.seat, word, count, 0)
     }
 
     /// Puts a frame that the seat owns into use, with `count` references, 1 to 255, all of this seat. There were none
@@ -257,12 +258,12 @@ impl FrameWords {
         requires hand { IsInOwnHand seat.old frame }
         requires count { (1 ≤ count) × (count ≤ most_references) }
         ensures seat { seat.new ≡ seat_with seat.old frame (unfrozen count) }
-        ensures no_reference { holds seat.old frame ≡ 0 }
+        ensures no_reference { seat_references seat.old frame ≡ 0 }
         ensures one_hand { IsInHand seat.old frame }
         ensures not_lent { number_of seat.old ≡ 0 → IsLentToNone seat.old frame }
     {
         let shared = &self.board.table.shared;
-        shared.store::<Unfreeze>(&mut seat.place.seat, frame.word(), count);
+        shared.store::<Unfreeze>(&mut seat.raw.seat, frame.word_index(), count);
     }
 }
 
@@ -277,13 +278,13 @@ impl FrameWords {
         requires open { IsOpen zone.old cpu }
         requires hand { IsInOwnHand zone.old frame }
         ensures zone { zone.new ≡ seat_with zone.old frame (passed_out_to cpu) }
-        ensures no_reference { holds zone.old frame ≡ 0 }
+        ensures no_reference { seat_references zone.old frame ≡ 0 }
         ensures one_hand { IsInHand zone.old frame }
         ensures not_lent { IsLentToNone zone.old frame }
     {
         let shared = &self.board.table.shared;
         let mark = MARK_BASE + u64::from(cpu);
-        shared.store::<PassOut>(&mut zone.place.seat, frame.word(), mark);
+        shared.store::<PassOut>(&mut zone.raw.seat, frame.word_index(), mark);
     }
 
     /// Takes a frame that is in transit to this CPU, and lent to it, into the CPU's hand as borrowed. Neither seat had
@@ -299,10 +300,10 @@ impl FrameWords {
         ensures nothing { HasNothingOf zone.old frame × HasNothingOf cpu.old frame }
     {
         let shared = &self.board.table.shared;
-        let word = frame.word();
-        join(&self.board, &mut zone.place, &mut cpu.place);
-        shared.store::<TakeIn>(&mut zone.place.seat, word, 0);
-        part(&self.board, &mut zone.place, &mut cpu.place);
+        let word = frame.word_index();
+        join(&self.board, &mut zone.raw, &mut cpu.raw);
+        shared.store::<TakeIn>(&mut zone.raw.seat, word, 0);
+        part(&self.board, &mut zone.raw, &mut cpu.raw);
     }
 
     /// Passes a frame of this CPU's hand, its own or borrowed, back to the zone. The CPU's visit is open. The zone's
@@ -317,16 +318,16 @@ impl FrameWords {
         ensures cpu { cpu.new ≡ seat_with cpu.old frame gave_back }
         ensures zone { zone.new ≡ zone.old }
         ensures nothing { HasNothingOf zone.old frame }
-        ensures no_reference { holds cpu.old frame ≡ 0 }
+        ensures no_reference { seat_references cpu.old frame ≡ 0 }
         ensures own { IsInOwnHand cpu.old frame → IsLentToNone zone.old frame }
         ensures borrowed { IsBorrowed cpu.old frame → IsLent zone.old frame (number_of cpu.old) }
     {
         let shared = &self.board.table.shared;
-        let word = frame.word();
+        let word = frame.word_index();
         let mark = MARK_BASE + u64::from(cpu.number);
-        join(&self.board, &mut zone.place, &mut cpu.place);
-        shared.store::<PassBack>(&mut zone.place.seat, word, mark);
-        part(&self.board, &mut zone.place, &mut cpu.place);
+        join(&self.board, &mut zone.raw, &mut cpu.raw);
+        shared.store::<PassBack>(&mut zone.raw.seat, word, mark);
+        part(&self.board, &mut zone.raw, &mut cpu.raw);
     }
 
     /// Takes a frame that is in transit from this CPU into the zone's hand. It is lent to no CPU any more. Neither seat
@@ -342,17 +343,17 @@ impl FrameWords {
         ensures lent { IsLentToNone zone.old frame ⊎ IsLent zone.old frame (number_of cpu.old) }
     {
         let shared = &self.board.table.shared;
-        let word = frame.word();
-        join(&self.board, &mut zone.place, &mut cpu.place);
-        shared.store::<Collect>(&mut zone.place.seat, word, 0);
-        part(&self.board, &mut zone.place, &mut cpu.place);
+        let word = frame.word_index();
+        join(&self.board, &mut zone.raw, &mut cpu.raw);
+        shared.store::<Collect>(&mut zone.raw.seat, word, 0);
+        part(&self.board, &mut zone.raw, &mut cpu.raw);
     }
 }
 
 // The visits of the CPUs: frames are handed over only inside an open one.
 impl FrameWords {
-    // The place of a CPU's visit word.
-    fn visit_word(&self, cpu: u32) -> usize
+    // The raw of a CPU's visit word.
+    fn visit_word_index(&self, cpu: u32) -> usize
         requires { 1 ≤ cpu }
         ensures { result ≡ visit_index self.now.frames cpu }
     {
@@ -372,10 +373,10 @@ impl FrameWords {
         ensures hands_apart { HandsAreApart self.now zone.new cpu.new }
     {
         let shared = &self.board.table.shared;
-        let word = self.visit_word(cpu.number);
-        join(&self.board, &mut zone.place, &mut cpu.place);
-        shared.store::<Visit>(&mut zone.place.seat, word, 1);
-        part(&self.board, &mut zone.place, &mut cpu.place);
+        let word = self.visit_word_index(cpu.number);
+        join(&self.board, &mut zone.raw, &mut cpu.raw);
+        shared.store::<Visit>(&mut zone.raw.seat, word, 1);
+        part(&self.board, &mut zone.raw, &mut cpu.raw);
     }
 
     /// Shuts the visit of this CPU, which is open, and has no frame in transit any more. What is lent to the CPU is
@@ -392,9 +393,9 @@ impl FrameWords {
         ensures hands_apart { HandsAreApart self.now zone.new cpu.new }
     {
         let shared = &self.board.table.shared;
-        let word = self.visit_word(cpu.number);
-        join(&self.board, &mut zone.place, &mut cpu.place);
-        shared.store::<Visit>(&mut zone.place.seat, word, 0);
-        part(&self.board, &mut zone.place, &mut cpu.place);
+        let word = self.visit_word_index(cpu.number);
+        join(&self.board, &mut zone.raw, &mut cpu.raw);
+        shared.store::<Visit>(&mut zone.raw.seat, word, 0);
+        part(&self.board, &mut zone.raw, &mut cpu.raw);
     }
 }

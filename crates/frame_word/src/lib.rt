@@ -11,7 +11,7 @@
 #![tactic(auto)]
 
 mod answers;
-mod closing;
+mod closed;
 mod frame;
 mod kinds;
 pub mod laws;
@@ -22,7 +22,7 @@ mod view;
 mod words;
 
 pub use answers::{Get, Put};
-pub use closing::FinalWords;
+pub use closed::ClosedWords;
 pub use frame::Frame;
 pub use kinds::{MARK_BASE, MOST_REFERENCES};
 pub use seat::FrameSeat;

@@ -5,7 +5,7 @@ ghost use Rattle.frame_word.specs.Kinds.{first_alone, but_first};
 use crate::kinds::{Board, RawSeat};
 use std::mem;
 
-/// The first place takes in the second's view, and an empty place is left in the second meanwhile.
+/// The first seat takes in the second's view, and an empty one is left in the second's stead meanwhile.
 pub(crate) fn join(board: &Board, zone: &mut RawSeat, cpu: &mut RawSeat)
     requires table { (zone.old.seat.table_id ≡ board.now.table.shared.table_id)
         × (cpu.old.seat.table_id ≡ board.now.table.shared.table_id)
@@ -16,12 +16,12 @@ pub(crate) fn join(board: &Board, zone: &mut RawSeat, cpu: &mut RawSeat)
         × (cpu.new.seat.table_id ≡ cpu.old.seat.table_id) }
     ensures views { zone.new.seat.me ≡ (zone.old.seat.me.0 ++ cpu.old.seat.me.0, []) }
 {
-    let spare = board.cut(zone);
-    let place = mem::replace(cpu, spare);
-    board.pair(zone, place);
+    let spare = board.split_others(zone);
+    let raw = mem::replace(cpu, spare);
+    board.join_raw(zone, raw);
 }
 
-/// The second place gets its view back.
+/// The second seat gets its view back.
 pub(crate) fn part(board: &Board, zone: &mut RawSeat, cpu: &mut RawSeat)
     requires table { (zone.old.seat.table_id ≡ board.now.table.shared.table_id)
         × (0 < board.now.table.shared.table_id.words) }
@@ -31,5 +31,5 @@ pub(crate) fn part(board: &Board, zone: &mut RawSeat, cpu: &mut RawSeat)
     ensures zone { zone.new.seat.me ≡ (first_alone zone.old.seat.me.0, []) }
     ensures cpu { cpu.new.seat.me ≡ (but_first zone.old.seat.me.0, []) }
 {
-    *cpu = board.cut(zone);
+    *cpu = board.split_others(zone);
 }

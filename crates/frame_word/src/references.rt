@@ -4,7 +4,7 @@ ghost use Rattle.std.specs.Prelude.{◌≡◌, ◌≢◌, ◌+◌, ◌<◌, ◌�
 ghost use Rattle.frame_word.specs.declared.answers.Get.TheVariants.{Held, Zero};
 ghost use Rattle.frame_word.specs.ReferenceRule.{most_references};
 ghost use Rattle.frame_word.specs.Views.{looked};
-ghost use Rattle.frame_word.specs.Seats.{holds, seat_with, IsInNoHand, GetAnswers, PutAnswers, FreezeAnswers};
+ghost use Rattle.frame_word.specs.Seats.{seat_references, seat_with, IsInNoHand, GetAnswers, PutAnswers, FreezeAnswers};
 
 use crate::answers::{Get, Put};
 use crate::frame::Frame;
@@ -20,8 +20,8 @@ impl FrameWords {
         requires table { seat.old.table ≡ self.now.table }
         requires frame { frame < self.now.frames }
         ensures answer { GetAnswers seat.old frame result seat.new }
-        ensures held { result ≡ Held → holds seat.new frame ≡ holds seat.old frame + 1 }
-        ensures never_zero { 1 ≤ holds seat.old frame → result ≢ Zero }
+        ensures held { result ≡ Held → seat_references seat.new frame ≡ seat_references seat.old frame + 1 }
+        ensures never_zero { 1 ≤ seat_references seat.old frame → result ≢ Zero }
         ensures in_no_hand { result ≢ Zero → IsInNoHand seat.old frame }
     {
         let seen = self.look(seat, frame);
@@ -43,7 +43,7 @@ impl FrameWords {
     pub fn put(&self, seat: &mut FrameSeat, frame: Frame) -> Put
         requires table { seat.old.table ≡ self.now.table }
         requires frame { frame < self.now.frames }
-        requires held { 1 ≤ holds seat.old frame }
+        requires held { 1 ≤ seat_references seat.old frame }
         ensures answer { PutAnswers seat.old frame result seat.new }
         ensures in_no_hand { IsInNoHand seat.old frame }
     {
@@ -61,7 +61,7 @@ impl FrameWords {
     pub fn freeze(&self, seat: &mut FrameSeat, frame: Frame, count: u64) -> bool
         requires table { seat.old.table ≡ self.now.table }
         requires frame { frame < self.now.frames }
-        requires held { (1 ≤ count) × (count ≤ holds seat.old frame) }
+        requires held { (1 ≤ count) × (count ≤ seat_references seat.old frame) }
         ensures answer { FreezeAnswers seat.old frame count result seat.new }
         ensures in_no_hand { IsInNoHand seat.old frame }
     {
@@ -73,8 +73,8 @@ impl FrameWords {
     pub fn references(&self, seat: &mut FrameSeat, frame: Frame) -> u64
         requires table { seat.old.table ≡ self.now.table }
         requires frame { frame < self.now.frames }
-        requires held { 1 ≤ holds seat.old frame }
-        ensures own { holds seat.old frame ≤ result }
+        requires held { 1 ≤ seat_references seat.old frame }
+        ensures own { seat_references seat.old frame ≤ result }
         ensures most { result ≤ most_references }
         ensures seat { seat.new ≡ seat_with seat.old frame (looked result) }
     {

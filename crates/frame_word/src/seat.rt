@@ -6,7 +6,7 @@ use std::marker::Model;
 /// it knows is for contracts.
 #[derive(Drop)]
 pub struct FrameSeat {
-    pub(crate) place: RawSeat,
+    pub(crate) raw: RawSeat,
     pub(crate) number: u32,
 }
 
@@ -18,9 +18,9 @@ impl Model for FrameSeat {
     ghost use Rattle.frame_word.specs.Kinds.{first_of};
     ghost use Rattle.frame_word.specs.Sitting.{SitsAlone};
 
-    ghost view = { λ s. record { table = s.place.seat.table_id; view = first_of s.place.seat.me.0 } };
+    ghost view = { λ s. record { table = s.raw.seat.table_id; view = first_of s.raw.seat.me.0 } };
 
-    ghost invariant = { λ s. SitsAlone s.place.seat s.number };
+    ghost invariant = { λ s. SitsAlone s.raw.seat s.number };
 }
 
 impl FrameSeat {

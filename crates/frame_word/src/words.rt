@@ -48,10 +48,10 @@ impl FrameWords {
     {
         let words = vec![in alloc; 0; frames as usize + cpus as usize]?;
         let sizes = Sizes { frames, cpus };
-        let (board, mut place) = Board::start(alloc, words.as_slice(), &sizes)?;
-        let rest = board.cut(&mut place);
+        let (board, mut raw) = Board::start(alloc, words.as_slice(), &sizes)?;
+        let rest = board.split_others(&mut raw);
         let seats = deal(alloc, &board, rest, cpus)?;
-        let zone = FrameSeat { place, number: 0 };
+        let zone = FrameSeat { raw, number: 0 };
         let words = FrameWords {
             board,
             frames,
@@ -100,12 +100,9 @@ fn deal(
 {
     let mut seats = Vec::with_capacity(alloc, cpus as usize)?;
     for i in 0..cpus {
-        let next = board.cut(&mut rest);
-        let place = mem::replace(&mut rest, next);
-        seats.push(FrameSeat {
-            place,
-            number: i + 1,
-        })?;
+        let next = board.split_others(&mut rest);
+        let raw = mem::replace(&mut rest, next);
+        seats.push(FrameSeat { raw, number: i + 1 })?;
     }
     Ok(seats)
 }

@@ -2,7 +2,7 @@
 -- and `the_first_holder_is_shown`.
 use Rattle.std.proofs.Common.{◌≡◌, ℕ, ◌==◌, Bool, true, false, cond, List, [], refl, sym, ◌∙◌, ap, subst, zero, suc, get_or, replicate}
 use Rattle.frame_word.specs.Views.{blank}
-use Rattle.frame_word.specs.Seats.{KnownTable, KnownSeat, holds, first_cpu_view}
+use Rattle.frame_word.specs.Seats.{KnownTable, KnownSeat, seat_references, first_cpu_view}
 use Rattle.stock_word.specs.Stock.{KnownStockTable, KnownStockSeat, account_of, first_cpu_stock}
 use Rattle.group_charge.specs.Charges.{Ledger}
 use Rattle.cpu_part.specs.Cpus.{KnownCpu, first_cpu}
@@ -43,7 +43,7 @@ module _ (t : KnownTable) (w : KnownStockTable) (m : KnownMachine) (first : IsFi
 
   references_first : (q f : ℕ) → references_of m.frame_seat c q f ≡ 0
   references_first q f =
-      ap (λ (n : ℕ). cond (q == 0) n (cond (q == p) 0 0)) (ap (λ (s : KnownSeat). holds s f) first.frame_seat ∙ unreferred t.frames f)
+      ap (λ (n : ℕ). cond (q == 0) n (cond (q == p) 0 0)) (ap (λ (s : KnownSeat). seat_references s f) first.frame_seat ∙ unreferred t.frames f)
       ∙ ap (cond (q == 0) 0) (same_either (q == p) 0) ∙ same_either (q == 0) 0
 
   hidden_first : (q f : ℕ) → references_seen_by p (λ seat x. 0) q f ≡ 0

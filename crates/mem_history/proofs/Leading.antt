@@ -8,7 +8,7 @@ use Rattle.frame_word.specs.declared.answers.Put.{Put as Putted}
 use Rattle.frame_word.specs.declared.answers.Put.TheVariants as put
 use Rattle.frame_word.specs.Views.{note_of, looked, let_go, let_go_last}
 use Rattle.frame_word.specs.Views as views
-use Rattle.frame_word.specs.Seats.{KnownTable, KnownSeat, holds, seat_with}
+use Rattle.frame_word.specs.Seats.{KnownTable, KnownSeat, seat_references, seat_with}
 use Rattle.frame_word.proofs.Notes.{note_here, note_else}
 use Rattle.stock_word.specs.declared.view.Stock.{Stock}
 use Rattle.stock_word.specs.Stock.{KnownStockTable, KnownStockSeat, account_of}
@@ -97,17 +97,17 @@ module _ (t : KnownTable) (m : KnownMachine) (c d : KnownCpu) (named : d.number 
         own_references t m d q x (λ z. not_zero (sym e ∙ z)) (e ∙ sym named)
         ∙ (elim (cases_eq x f) [
           | inl at ↦
-              ap (λ (s : KnownSeat). holds s x) is ∙ ap (λ (y : ℕ). holds (seat_with c.frame_seat f change) y) at
+              ap (λ (s : KnownSeat). seat_references s x) is ∙ ap (λ (y : ℕ). seat_references (seat_with c.frame_seat f change) y) at
               ∙ ap (λ (k : FrameNote). k.references) (note_here c.frame_seat.view f change) ∙ to
               ∙ sym (at_same (references_of m.frame_seat c p) f n) ∙ sym (ap (with_at (references_of m.frame_seat c p) f n) at)
           | inr off ↦
-              ap (λ (s : KnownSeat). holds s x) is ∙ ap (λ (k : FrameNote). k.references) (note_else c.frame_seat.view f x change off)
+              ap (λ (s : KnownSeat). seat_references s x) is ∙ ap (λ (k : FrameNote). k.references) (note_else c.frame_seat.view f x change off)
               ∙ sym (own_references t m c p x not_zero refl) ∙ sym (at_other (references_of m.frame_seat c p) f n x off)
         ])
         ∙ sym (ap (λ (r : ℕ → ℕ). r x) (at_same (references_of m.frame_seat c) p (with_at (references_of m.frame_seat c p) f n)))
         ∙ sym (ap (λ (k : ℕ). with_at (references_of m.frame_seat c) p (with_at (references_of m.frame_seat c p) f n) k x) e)
     | inr ne ↦
-        ap (cond (q == 0) (holds m.frame_seat x)) (cond-false (q == d.number) _ _ (ne_eqb q d.number (λ z. ne (z ∙ named)))
+        ap (cond (q == 0) (seat_references m.frame_seat x)) (cond-false (q == d.number) _ _ (ne_eqb q d.number (λ z. ne (z ∙ named)))
         ∙ sym (cond-false (q == p) _ _ (ne_eqb q p ne)))
         ∙ sym (ap (λ (r : ℕ → ℕ). r x) (at_other (references_of m.frame_seat c) p (with_at (references_of m.frame_seat c p) f n) q ne))
   ]
@@ -157,7 +157,7 @@ module _ (t : KnownTable) (w : KnownStockTable) (run : Run) (m : KnownMachine) (
       lent_plain (frame_state_at m.frame_states f) q (sym (ap cover was.1) ∙ covers_at f)
 
   -- a pinned frame heads a unit
-  pinned_head : (f : ℕ) → 1 ≤ holds c.frame_seat f → (u : ChargedUnit) × (frame_state_at m.frame_states f ≡ Head u)
+  pinned_head : (f : ℕ) → 1 ≤ seat_references c.frame_seat f → (u : ChargedUnit) × (frame_state_at m.frame_states f ≡ Head u)
   pinned_head f pinned = elim (cases_Bool (is_live (whole.phases f))) [
     | inl live ↦
         let was = live_is (whole.phases f) live in
@@ -211,7 +211,7 @@ module _ (t : KnownTable) (w : KnownStockTable) (run : Run) (m : KnownMachine) (
 
   -- ---- put
 
-  pin_put : (f : ℕ) → 1 ≤ parts.times f c.pins → 1 ≤ holds c.frame_seat f
+  pin_put : (f : ℕ) → 1 ≤ parts.times f c.pins → 1 ≤ seat_references c.frame_seat f
   pin_put f pinned = let same = (is.tied.noted f).references_are in omega arith
 
   put_legal : (f : ℕ) → 1 ≤ parts.times f c.pins → is_legal (local_of t m c) q (Put f) ≡ true

@@ -2,7 +2,7 @@
 -- `lines_follow`, `fast_lines_follow`.
 use Rattle.std.proofs.Common.{◌≡◌, ℕ, ◌+◌, ◌-◌, ◌==◌, ◌||◌, Some, List, [], length, refl, sym, ◌∙◌, ap, subst, arith, inl, inr, eq-eqb}
 use Rattle.std.proofs.lemmas.Bool.{cases_eq, ne_eqb, cond-true, cond-false, or_from}
-use Rattle.frame_word.specs.Seats.{KnownTable, holds}
+use Rattle.frame_word.specs.Seats.{KnownTable, seat_references}
 use Rattle.stock_word.specs.declared.view.Account.{Account}
 use Rattle.stock_word.specs.Stock.{account_of}
 use Rattle.cpu_part.specs.Cpus.{KnownCpu}
@@ -96,14 +96,14 @@ pub other_shown : (t : KnownTable) (m : KnownMachine) (c : KnownCpu) (q : ℕ) �
 other_shown t m c q ne = cond-false (q == c.number) _ _ (ne_eqb q c.number ne)
 
 pub own_references : (t : KnownTable) (m : KnownMachine) (c : KnownCpu) (q f : ℕ) → (q ≡ 0 → ⊥) → q ≡ c.number →
-    (local_of t m c).references q f ≡ holds c.frame_seat f
+    (local_of t m c).references q f ≡ seat_references c.frame_seat f
 own_references t m c q f ne e =
     cond-false (q == 0) _ _ (ne_eqb q 0 ne) ∙ cond-true (q == c.number) _ _ (eq-eqb q c.number e)
 
 -- ---- what a CPU that sees a state has of it
 
 pub record HasOwn (c : KnownCpu) (s : State) : Type 0 where
-  pub references : (f : ℕ) → s.references c.number f ≡ holds c.frame_seat f
+  pub references : (f : ℕ) → s.references c.number f ≡ seat_references c.frame_seat f
   pub list : (s.parts c.number).list ≡ c.list
   pub fresh : (s.parts c.number).fresh ≡ c.fresh
   pub back : (s.parts c.number).back ≡ c.back
@@ -174,8 +174,8 @@ module _ (t : KnownTable) (n : KnownMachine) (d c : KnownCpu) (s : State) (sound
   references_seen : (a f : ℕ) → references_of n.frame_seat c a f ≡ references_seen_by q s.references a f
   references_seen a f = elim (cases_eq a 0) [
     | inl zero_is ↦
-        cond-true (a == 0) (holds n.frame_seat f) _ (eq-eqb a 0 zero_is)
-        ∙ sym (cond-true (a == 0) (holds n.frame_seat f) _ (eq-eqb a 0 zero_is)) ∙ ap (λ (x : State). x.references a f) sees
+        cond-true (a == 0) (seat_references n.frame_seat f) _ (eq-eqb a 0 zero_is)
+        ∙ sym (cond-true (a == 0) (seat_references n.frame_seat f) _ (eq-eqb a 0 zero_is)) ∙ ap (λ (x : State). x.references a f) sees
         ∙ own_reference p s.references a f (inl zero_is) ∙ sym (own_reference q s.references a f (inl zero_is))
     | inr some ↦ elim (cases_eq a q) [
       | inl e ↦ own_references t n c a f some e ∙ sym (own.references f) ∙ ap (λ (k : ℕ). s.references k f) (sym e)

@@ -4,7 +4,7 @@ use Rattle.std.proofs.Common.{◌≡◌, ℕ, ◌+◌, ◌-◌, ◌<◌, ◌≤�
 use Rattle.std.specs.List.{slice_get}
 use Rattle.std.specs.Option.{option_map_or}
 use Rattle.std.proofs.lemmas.Bool.{cases_eq, ne_eqb, eq-eqb, cond-true, cond-false, or_right, or_from}
-use Rattle.frame_word.specs.Seats.{holds}
+use Rattle.frame_word.specs.Seats.{seat_references}
 use Rattle.cpu_part.specs.Cpus.{KnownCpu}
 use Rattle.step_rules.specs.declared.step.Action.{Action}
 use Rattle.step_rules.specs.declared.step.Action.TheVariants.{Get, Put, Freeze, DrainStock, Consume, Credit}
@@ -28,7 +28,7 @@ there (x ∷ xs) (suc k) h = there xs k (omega arith)
 
 -- a part has what the state has of its CPU
 pub record HasPart (s : State) (k : ℕ) (d : KnownCpu) : Type 0 where
-  pub references : (f : ℕ) → s.references (suc k) f ≡ holds d.frame_seat f
+  pub references : (f : ℕ) → s.references (suc k) f ≡ seat_references d.frame_seat f
   pub fresh : (s.parts (suc k)).fresh ≡ d.fresh
 
 decided_counted : (s : State) (seat : ℕ) (action : Action) (answer : Answer) → IsDecided s seat action answer → IsCounted s action answer
@@ -86,7 +86,7 @@ module _ (cpus : List KnownCpu) (p : ℕ) (start s : State) (count : length cpus
         let part = there cpus k (omega arith) in
         cond-false (is_own p (suc k)) _ (references_by cpus (suc k) f)
         (or_from (suc k == 0) (suc k == p) (ne_eqb (suc k) 0 (λ z. absurd (omega arith))) (ne_eqb (suc k) p ne))
-        ∙ ap (λ o. option_map_or (λ (c : KnownCpu). holds c.frame_seat f) o 0) part.1
+        ∙ ap (λ o. option_map_or (λ (c : KnownCpu). seat_references c.frame_seat f) o 0) part.1
         ∙ sym ((known k part.0 part.1).references f) ∙ sym (stays.references (suc k) (λ z. absurd (omega arith)) ne f)
   ]
 

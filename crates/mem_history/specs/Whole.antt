@@ -3,7 +3,7 @@ use Rattle.std.specs.Prelude.{◌≡◌, ℕ, ◌-◌, ◌==◌, zero, suc, Bool
 use Rattle.std.specs.Prelude.{length, take, slice_get, slice_set, IfSome}
 use Rattle.std.specs.Prelude.{fold, if◌then◌else◌}
 use Rattle.std.specs.Option.{option_map_or}
-use Rattle.frame_word.specs.Seats.{KnownTable, IsShut, holds}
+use Rattle.frame_word.specs.Seats.{KnownTable, IsShut, seat_references}
 use Rattle.cpu_part.specs.Cpus.{KnownCpu}
 use Rattle.step_rules.specs.declared.phase.Hold.TheVariants.{HeldBy}
 use Rattle.step_rules.specs.declared.step.Action.{Action}
@@ -52,7 +52,7 @@ TheHolderIsShown = (table : KnownTable) (run : Run) (machine : KnownMachine) (cp
 -- the references of the CPU of this number on the frame, by its part; CPUs count from 1, so number 0 has none
 abbrev pub references_by : List KnownCpu → ℕ → ℕ → ℕ
 references_by cpus zero frame = 0
-references_by cpus (suc index) frame = option_map_or (λ cpu. holds cpu.frame_seat frame) (slice_get cpus index) 0
+references_by cpus (suc index) frame = option_map_or (λ cpu. seat_references cpu.frame_seat frame) (slice_get cpus index) 0
 
 -- how many fresh frames the CPU of this number has, by its part
 abbrev pub fresh_by : List KnownCpu → ℕ → ℕ

@@ -7,7 +7,7 @@ use Rattle.zone_blocks.specs.declared.block.Block.{Block}
 use Rattle.zone_blocks.specs.Areas.{AreMaximalBlocks}
 use Rattle.frame_word.specs.declared.view.FrameNote.{FrameNote}
 use Rattle.frame_word.specs.Views.{note_of, frozen, missed}
-use Rattle.frame_word.specs.Seats.{KnownTable, KnownSeat, seat_with, holds, FreezeAnswers}
+use Rattle.frame_word.specs.Seats.{KnownTable, KnownSeat, seat_with, seat_references, FreezeAnswers}
 use Rattle.stock_word.specs.Stock.{KnownStockTable}
 use Rattle.zone_buddy.specs.Zone.{GivesFrames}
 use Rattle.group_charge.specs.Charges.{Ledger, UsageRises, with_uncharge}
@@ -43,13 +43,13 @@ frozen_in_hand : TakesInHand (frozen 1)
 frozen_in_hand = record { own = λ k. refl; lent = λ k. refl; references = λ k. refl; passed_out = λ k. refl; collected = λ k. refl }
 
 -- a freeze is legal if the zone has the one reference that it asks for
-may_freeze : (t : KnownTable) (m : KnownMachine) (f : ℕ) → f < t.frames → holds m.frame_seat f ≡ 1 → (c : KnownCpu) → is_legal (local_of t m c) 0 (Freeze f 1) ≡ true
+may_freeze : (t : KnownTable) (m : KnownMachine) (f : ℕ) → f < t.frames → seat_references m.frame_seat f ≡ 1 → (c : KnownCpu) → is_legal (local_of t m c) 0 (Freeze f 1) ≡ true
 may_freeze t m f inside held c =
-    and_from _ _ (and_from _ _ (and_from _ _ (zone_may_act m.frame_seat c.number) (lt-ltb f t.frames inside)) refl) (le-leb 1 (holds m.frame_seat f) (omega (arith, held)))
+    and_from _ _ (and_from _ _ (and_from _ _ (zone_may_act m.frame_seat c.number) (lt-ltb f t.frames inside)) refl) (le-leb 1 (seat_references m.frame_seat f) (omega (arith, held)))
 
 -- the zone has a reference on a kept unit
 pub kept_held : (t : KnownTable) (w : KnownStockTable) (m now : KnownMachine) → m ≡ now → IsConsistent t w m → (f : ℕ) → f < t.frames → home_of now.links f ≢ None
-    → holds m.frame_seat f ≡ 1
+    → seat_references m.frame_seat f ≡ 1
 kept_held t w m now same ok f inside kept = held_once t w m ok f inside (subst (λ (x : KnownMachine). home_of x.links f ≢ None) (sym same) kept)
 
 -- ---- a miss
@@ -57,7 +57,7 @@ kept_held t w m now same ok f inside kept = held_once t w m ok f inside (subst (
 -- the references stay
 references_stay : (seat : KnownSeat) (c : KnownCpu) (f word q x : ℕ) → references_of seat c q x ≡ references_of (seat_with seat f (missed word)) c q x
 references_stay seat c f word q x =
-    ap (λ (n : ℕ). cond (q == 0) n (cond (q == c.number) (holds c.frame_seat x) 0)) (sym (note_keeps seat f (missed word) (λ k. k.references) (λ k. refl) x))
+    ap (λ (n : ℕ). cond (q == 0) n (cond (q == c.number) (seat_references c.frame_seat x) 0)) (sym (note_keeps seat f (missed word) (λ k. k.references) (λ k. refl) x))
 
 pub record AllMissed (t : KnownTable) (w : KnownStockTable) (now : KnownMachine) (f : ℕ) (n : KnownMachine) : Type 0 where
   pub consistent : IsConsistent t w n

@@ -10,7 +10,8 @@ use Rattle.zone_blocks.specs.Areas.{IsFree, AreMaximalBlocks, HasNoneFrom, IsFro
 use Rattle.zone_buddy.specs.Zone.{TakesFrames}
 use Rattle.frame_word.specs.declared.view.FrameNote.{FrameNote}
 use Rattle.frame_word.specs.Views.{note_of, in_hands, passed_out_to, took_in}
-use Rattle.frame_word.specs.Seats.{KnownTable, KnownSeat, number_of, holds, seat_with, IsInOwnHand, IsLent, IsBorrowed, Passes, NothingPasses}
+use Rattle.frame_word.specs.Seats.{KnownTable, KnownSeat, number_of, seat_references, seat_with, IsInOwnHand, IsLent}
+use Rattle.frame_word.specs.Seats.{IsBorrowed, Passes, NothingPasses}
 use Rattle.frame_word.proofs.Notes.{note_here, note_else}
 use Rattle.stock_word.specs.Stock.{KnownStockTable, KnownStockSeat, account_of}
 use Rattle.cpu_part.specs.Cpus.{KnownCpu, IsTied, times}
@@ -51,9 +52,9 @@ parts_changed stock c l r b new is q = elim (cases_eq q c.number) [
 ]
 
 -- references that stay
-pub references_stay : (zone zone' seat seat' : KnownSeat) (p : ℕ) → ((x : ℕ) → holds zone' x ≡ holds zone x) → ((x : ℕ)
-    → holds seat' x ≡ holds seat x) → (q x : ℕ)
-    → cond (q == 0) (holds zone' x) (cond (q == p) (holds seat' x) 0) ≡ cond (q == 0) (holds zone x) (cond (q == p) (holds seat x) 0)
+pub references_stay : (zone zone' seat seat' : KnownSeat) (p : ℕ) → ((x : ℕ) → seat_references zone' x ≡ seat_references zone x) → ((x : ℕ)
+    → seat_references seat' x ≡ seat_references seat x) → (q x : ℕ)
+    → cond (q == 0) (seat_references zone' x) (cond (q == p) (seat_references seat' x) 0) ≡ cond (q == 0) (seat_references zone x) (cond (q == p) (seat_references seat x) 0)
 references_stay zone zone' seat seat' p a b q x = λ i. cond (q == 0) (a x i) (cond (q == p) (b x i) 0)
 
 and_no : (b : Bool) → (b && false) ≡ false

@@ -1,7 +1,7 @@
 -- The zone's seat looks at words, and nothing else changes. Serves `pins_on`, and the crates above.
 use Rattle.std.proofs.Common.{◌≡◌, ℕ, ◌+◌, ◌<◌, ◌==◌, cond, List, [], ◌∷◌, refl, sym, ap, ◌∙◌, subst}
 use Rattle.frame_word.specs.Views.{note_of, looked}
-use Rattle.frame_word.specs.Seats.{KnownTable, KnownSeat, seat_with, holds}
+use Rattle.frame_word.specs.Seats.{KnownTable, KnownSeat, seat_with, seat_references}
 use Rattle.stock_word.specs.declared.view.Stock.{Stock}
 use Rattle.stock_word.specs.declared.view.Stock.TheVariants.{NoGroup, HeldBy, DrainedOf}
 use Rattle.stock_word.specs.Stock.{KnownStockTable, group_of, is_held, pages_of}
@@ -19,7 +19,7 @@ use Rattle.mem_machine.proofs.Followed.{makes_stay}
 -- the references stay
 references_stay : (seat : KnownSeat) (c : KnownCpu) (f word q x : ℕ) → references_of (seat_with seat f (looked word)) c q x ≡ references_of seat c q x
 references_stay seat c f word q x =
-    ap (λ (n : ℕ). cond (q == 0) n (cond (q == c.number) (holds c.frame_seat x) 0)) (note_keeps seat f (looked word) (λ k. k.references) (λ k. refl) x)
+    ap (λ (n : ℕ). cond (q == 0) n (cond (q == c.number) (seat_references c.frame_seat x) 0)) (note_keeps seat f (looked word) (λ k. k.references) (λ k. refl) x)
 
 -- each CPU sees the same
 pub look_unseen : (t : KnownTable) (m : KnownMachine) (f pins : ℕ) (c : KnownCpu) → local_of t (with_look_at m f pins) c ≡ local_of t m c

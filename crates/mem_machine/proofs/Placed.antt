@@ -5,7 +5,7 @@ use Rattle.std.proofs.lemmas.Bool.{and_from, le-leb, lt-ltb, cases_eq, eq-eqb, n
 use Rattle.std.proofs.lemmas.Nat.{pow_pos}
 use Rattle.zone_blocks.specs.declared.block.Block.{Block}
 use Rattle.zone_blocks.specs.Areas.{IsFreeBlock}
-use Rattle.frame_word.specs.Seats.{KnownTable, holds}
+use Rattle.frame_word.specs.Seats.{KnownTable, seat_references}
 use Rattle.group_tree.specs.Groups.{has_group}
 use Rattle.group_tree.specs.Room as room
 use Rattle.group_charge.specs.Charges.{current_of, AreCharges, SamePeaks, SameEvents, with_charge}
@@ -36,7 +36,7 @@ use Rattle.mem_machine.proofs.Followed.{LeadsAs}
 -- the second machine has the block, with one reference of the zone on its head, and all else that is seen is the same
 pub record IsPlaced (m : KnownMachine) (c : KnownCpu) (g : ℕ) (b : Block) (n : KnownMachine) : Type 0 where
   pub frame_states : (f : ℕ) → frame_state_at n.frame_states f ≡ placed_frame_state m.frame_states g b f
-  pub references : (f : ℕ) → holds n.frame_seat f ≡ with_at (holds m.frame_seat) b.at (holds m.frame_seat b.at + 1) f
+  pub references : (f : ℕ) → seat_references n.frame_seat f ≡ with_at (seat_references m.frame_seat) b.at (seat_references m.frame_seat b.at + 1) f
   pub hold : hold_of n.frame_seat c.number ≡ hold_of m.frame_seat c.number
   pub groups : n.ledger.groups ≡ m.ledger.groups
   pub killed : n.killed ≡ m.killed
@@ -75,7 +75,7 @@ module _ (t : KnownTable) (m : KnownMachine) (c : KnownCpu) (g : ℕ) (b : Block
   head_live : kept.phases b.at ≡ phase.Head unit Live
   head_live = at_same placed.phases b.at (at_stage Live (placed.phases b.at)) ∙ ap (at_stage Live) head_bare
 
-  head_held : kept.references 0 b.at ≡ holds m.frame_seat b.at + 1
+  head_held : kept.references 0 b.at ≡ seat_references m.frame_seat b.at + 1
   head_held =
       ap (λ (r : ℕ → ℕ). r b.at) (at_same s.references 0 (with_at (s.references 0) b.at (s.references 0 b.at + 1)))
       ∙ at_same (s.references 0) b.at (s.references 0 b.at + 1)
@@ -125,8 +125,8 @@ module _ (t : KnownTable) (m : KnownMachine) (c : KnownCpu) (g : ℕ) (b : Block
           ∙ sym (ap (λ (r : ℕ → ℕ). r f) (at_same s.references 0 (with_at (s.references 0) b.at (s.references 0 b.at + 1))))
           ∙ sym (ap (λ (p : ℕ). kept.references p f) e)
       | inr ne ↦
-          ap (λ (x : Bool). cond x (holds n.frame_seat f) (cond (q == c.number) (holds c.frame_seat f) 0)) (ne_eqb q 0 ne)
-          ∙ sym (ap (λ (x : Bool). cond x (holds m.frame_seat f) (cond (q == c.number) (holds c.frame_seat f) 0)) (ne_eqb q 0 ne))
+          ap (λ (x : Bool). cond x (seat_references n.frame_seat f) (cond (q == c.number) (seat_references c.frame_seat f) 0)) (ne_eqb q 0 ne)
+          ∙ sym (ap (λ (x : Bool). cond x (seat_references m.frame_seat f) (cond (q == c.number) (seat_references c.frame_seat f) 0)) (ne_eqb q 0 ne))
           ∙ sym (ap (λ (r : ℕ → ℕ). r f) (at_other s.references 0 (with_at (s.references 0) b.at (s.references 0 b.at + 1)) q ne))
     ]
 

@@ -12,7 +12,7 @@ use Rattle.zone_blocks.specs.Areas.{IsFree}
 use Rattle.zone_buddy.specs.Zone.{TakesFrames}
 use Rattle.frame_word.specs.declared.view.FrameNote.{FrameNote}
 use Rattle.frame_word.specs.Views.{note_of}
-use Rattle.frame_word.specs.Seats.{KnownSeat, seat_with, holds}
+use Rattle.frame_word.specs.Seats.{KnownSeat, seat_with, seat_references}
 use Rattle.frame_word.proofs.Notes.{note_here, note_else}
 use Rattle.step_rules.specs.declared.phase.ChargedUnit.{ChargedUnit}
 use Rattle.step_rules.specs.State.{sum_to, one_if}
@@ -132,9 +132,9 @@ frame_states_changed cpus seat links frame_states f change x frames inside fits 
 ]
 
 pub holds_same : (s : KnownSeat) (f : ℕ) (change : FrameNote → FrameNote) → ((k : FrameNote) → (change k).references ≡ k.references)
-    → (g : ℕ) → holds (seat_with s f change) g ≡ holds s g
+    → (g : ℕ) → seat_references (seat_with s f change) g ≡ seat_references s g
 holds_same s f change same g = elim (cases_eq g f) [
-  | inl e ↦ subst (λ (h : ℕ). holds (seat_with s f change) h ≡ holds s h) (sym e)
+  | inl e ↦ subst (λ (h : ℕ). seat_references (seat_with s f change) h ≡ seat_references s h) (sym e)
       (ap (λ (k : FrameNote). k.references) (note_here s.view f change) ∙ same (note_of s.view f))
   | inr ne ↦ ap (λ (k : FrameNote). k.references) (note_else s.view f g change ne)
 ]

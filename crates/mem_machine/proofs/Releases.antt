@@ -10,7 +10,7 @@ use Rattle.zone_blocks.specs.declared.block.Block.{Block}
 use Rattle.zone_blocks.specs.Areas.{AreMaximalBlocks}
 use Rattle.frame_word.specs.declared.view.FrameNote.{FrameNote}
 use Rattle.frame_word.specs.Views.{note_of, let_go, let_go_last}
-use Rattle.frame_word.specs.Seats.{KnownTable, KnownSeat, number_of, seat_with, holds, IsBorrowed}
+use Rattle.frame_word.specs.Seats.{KnownTable, KnownSeat, number_of, seat_with, seat_references, IsBorrowed}
 use Rattle.frame_word.proofs.Notes.{note_here, note_else}
 use Rattle.stock_word.specs.Stock.{KnownStockTable}
 use Rattle.zone_buddy.specs.Zone.{GivesFrames}
@@ -85,21 +85,21 @@ visit_stays t m n c f change seat lent out back visit = record {
 
 -- one reference of the zone less on the frame
 references_less : (seat : KnownSeat) (c : KnownCpu) (f : ℕ) (change : FrameNote → FrameNote) → ((k : FrameNote) → (change k).references ≡ k.references - 1)
-    → (q x : ℕ) → with_at (references_of seat c) 0 (with_at (references_of seat c 0) f (holds seat f - 1)) q x ≡ references_of (seat_with seat f change) c q x
+    → (q x : ℕ) → with_at (references_of seat c) 0 (with_at (references_of seat c 0) f (seat_references seat f - 1)) q x ≡ references_of (seat_with seat f change) c q x
 references_less seat c f change less q x = elim (cases_eq q 0) [
-  | inl e ↦ subst (λ (j : ℕ). with_at (references_of seat c) 0 (with_at (references_of seat c 0) f (holds seat f - 1)) j x
+  | inl e ↦ subst (λ (j : ℕ). with_at (references_of seat c) 0 (with_at (references_of seat c 0) f (seat_references seat f - 1)) j x
       ≡ references_of (seat_with seat f change) c j x) (sym e)
       (elim (cases_eq x f) [
-        | inl s ↦ subst (λ (j : ℕ). with_at (holds seat) f (holds seat f - 1) j ≡ holds (seat_with seat f change) j) (sym s)
-            (at_same (holds seat) f (holds seat f - 1)
+        | inl s ↦ subst (λ (j : ℕ). with_at (seat_references seat) f (seat_references seat f - 1) j ≡ seat_references (seat_with seat f change) j) (sym s)
+            (at_same (seat_references seat) f (seat_references seat f - 1)
             ∙ sym (ap (λ (k : FrameNote). k.references) (note_here seat.view f change) ∙ less (note_of seat.view f)))
-        | inr ne ↦ at_other (holds seat) f (holds seat f - 1) x ne ∙ sym (ap (λ (k : FrameNote). k.references) (note_else seat.view f x change ne))
+        | inr ne ↦ at_other (seat_references seat) f (seat_references seat f - 1) x ne ∙ sym (ap (λ (k : FrameNote). k.references) (note_else seat.view f x change ne))
       ])
   | inr ne ↦
       let u : (q == 0) ≡ false = ne_eqb q 0 ne in
-      ap (λ (r : ℕ → ℕ). r x) (at_other (references_of seat c) 0 (with_at (references_of seat c 0) f (holds seat f - 1)) q ne)
-      ∙ ap (λ (b : Bool). cond b (holds seat x) (cond (q == c.number) (holds c.frame_seat x) 0)) u
-      ∙ sym (ap (λ (b : Bool). cond b (holds (seat_with seat f change) x) (cond (q == c.number) (holds c.frame_seat x) 0)) u)
+      ap (λ (r : ℕ → ℕ). r x) (at_other (references_of seat c) 0 (with_at (references_of seat c 0) f (seat_references seat f - 1)) q ne)
+      ∙ ap (λ (b : Bool). cond b (seat_references seat x) (cond (q == c.number) (seat_references c.frame_seat x) 0)) u
+      ∙ sym (ap (λ (b : Bool). cond b (seat_references (seat_with seat f change) x) (cond (q == c.number) (seat_references c.frame_seat x) 0)) u)
 ]
 
 -- ---- what brings a frame into the zone's hand
@@ -115,9 +115,9 @@ pub record TakesInHand (change : FrameNote → FrameNote) : Type 0 where
 last_in_hand : TakesInHand let_go_last
 last_in_hand = record { own = λ k. refl; lent = λ k. refl; references = λ k. refl; passed_out = λ k. refl; collected = λ k. refl }
 
-may_put_one : (t : KnownTable) (m : KnownMachine) (f : ℕ) → f < t.frames → holds m.frame_seat f ≡ 1 → (c : KnownCpu) → is_legal (local_of t m c) 0 (Put f) ≡ true
+may_put_one : (t : KnownTable) (m : KnownMachine) (f : ℕ) → f < t.frames → seat_references m.frame_seat f ≡ 1 → (c : KnownCpu) → is_legal (local_of t m c) 0 (Put f) ≡ true
 may_put_one t m f inside held c =
-    and_from _ _ (and_from _ _ (zone_may_act m.frame_seat c.number) (lt-ltb f t.frames inside)) (le-leb 1 (holds m.frame_seat f) (omega (arith, held)))
+    and_from _ _ (and_from _ _ (zone_may_act m.frame_seat c.number) (lt-ltb f t.frames inside)) (le-leb 1 (seat_references m.frame_seat f) (omega (arith, held)))
 
 -- ---- the unit
 
@@ -150,8 +150,8 @@ module _ (t : KnownTable) (w : KnownStockTable) (m : KnownMachine) (ok : IsConsi
   pub kept_head : (unit : ChargedUnit) × (frame_state_at m.frame_states f ≡ Head unit)
   kept_head = kept_group (home_of m.links f) (frame_state_at m.frame_states f) (ok.frame_states f inside).kept kept
 
-  pub held_once : holds m.frame_seat f ≡ 1
-  held_once = kept_once (home_of m.links f) (holds m.frame_seat f) (ok.frame_states f inside).references kept
+  pub held_once : seat_references m.frame_seat f ≡ 1
+  held_once = kept_once (home_of m.links f) (seat_references m.frame_seat f) (ok.frame_states f inside).references kept
 
   module _ (links : List Link) (lists : List Lru) (leaves : LeavesList f (lists_of m) (group_lists links lists)) (stand : AllLinked links lists)
       (linked : length links ≡ t.frames) (listed : length lists ≡ 64) where
@@ -161,7 +161,7 @@ module _ (t : KnownTable) (w : KnownStockTable) (m : KnownMachine) (ok : IsConsi
     no_home : (x : FrameState) → IfSome (home_of links f) (λ h. (h.owner < 64) × (head_group_of x ≡ Some h.owner))
     no_home x = subst (λ (k : Option Home). IfSome k (λ h. (h.owner < 64) × (head_group_of x ≡ Some h.owner))) (sym homeless) tt
 
-    no_reference : holds m.frame_seat f - 1 ≡ one_if (is_some (home_of links f))
+    no_reference : seat_references m.frame_seat f - 1 ≡ one_if (is_some (home_of links f))
     no_reference =
         let a = held_once in
         let b : one_if (is_some (home_of links f)) ≡ 0 = ap (λ (k : Option Home). one_if (is_some k)) homeless in
@@ -333,7 +333,7 @@ pub back_all : (t : KnownTable) (w : KnownStockTable) (m now : KnownMachine) →
     → AllLinked links lists → length links ≡ length m.links → length lists ≡ 64
     → (change : FrameNote → FrameNote) → TakesInHand change → (seat : KnownSeat) → seat ≡ seat_with m.frame_seat f change
     → (action : Action) (answered : Answer)
-    → ((c : KnownCpu) → holds m.frame_seat f ≡ 1 → IsLocalStep (local_of t m c) c.number 0 action answered) → is_still action answered ≡ true
+    → ((c : KnownCpu) → seat_references m.frame_seat f ≡ 1 → IsLocalStep (local_of t m c) c.number 0 action answered) → is_still action answered ≡ true
     → ((c : KnownCpu) → after (local_of t m c) 0 action answered ≡ after (local_of t m c) 0 (Put f) answer.Last)
     → (one : Counts) → ((c : KnownCpu) → counts_after (local_of t m c) 0 action answered m.counts ≡ one)
     → (unit : ChargedUnit) → frame_state_at m.frame_states i ≡ Head unit

@@ -7,7 +7,7 @@ use Rattle.std.proofs.lemmas.Nat.{pow_pos}
 use Rattle.std.proofs.lemmas.List.{get_or-set_same, get_or-set_other}
 use Rattle.frame_word.specs.declared.view.FrameNote.{FrameNote}
 use Rattle.frame_word.specs.Views.{gave_back, collected_from, unfrozen}
-use Rattle.frame_word.specs.Seats.{KnownTable, KnownSeat, holds, seat_with}
+use Rattle.frame_word.specs.Seats.{KnownTable, KnownSeat, seat_references, seat_with}
 use Rattle.frame_word.proofs.Notes.{note_here, note_else}
 use Rattle.stock_word.specs.declared.view.Account.{Account}
 use Rattle.stock_word.specs.Stock.{KnownStockTable, KnownStockSeat, account_of}
@@ -210,15 +210,15 @@ module _ (seat : KnownSeat) (c d : KnownCpu) (f p : ℕ) (cpu : d.frame_seat ≡
   abbrev used : FrameNote → FrameNote
   used k = unfrozen 1 (collected_from p k)
 
-  held_here : (x : ℕ) → holds (seat_with seat f used) x ≡ with_at (holds seat) f (holds seat f + 1) x
+  held_here : (x : ℕ) → seat_references (seat_with seat f used) x ≡ with_at (seat_references seat) f (seat_references seat f + 1) x
   held_here x = elim (cases_eq x f) [
-    | inl e ↦ subst (λ (y : ℕ). holds (seat_with seat f used) y ≡ with_at (holds seat) f (holds seat f + 1) y) (sym e)
-        (ap (λ (k : FrameNote). k.references) (note_here seat.view f used) ∙ sym (at_same (holds seat) f (holds seat f + 1)))
-    | inr ne ↦ ap (λ (k : FrameNote). k.references) (note_else seat.view f x used ne) ∙ sym (at_other (holds seat) f (holds seat f + 1) x ne)
+    | inl e ↦ subst (λ (y : ℕ). seat_references (seat_with seat f used) y ≡ with_at (seat_references seat) f (seat_references seat f + 1) y) (sym e)
+        (ap (λ (k : FrameNote). k.references) (note_here seat.view f used) ∙ sym (at_same (seat_references seat) f (seat_references seat f + 1)))
+    | inr ne ↦ ap (λ (k : FrameNote). k.references) (note_else seat.view f x used ne) ∙ sym (at_other (seat_references seat) f (seat_references seat f + 1) x ne)
   ]
 
-  own_same : (x : ℕ) → holds d.frame_seat x ≡ holds c.frame_seat x
-  own_same x = ap (λ (s : KnownSeat). holds s x) cpu ∙ holds_same c.frame_seat f gave_back (λ k. refl) x
+  own_same : (x : ℕ) → seat_references d.frame_seat x ≡ seat_references c.frame_seat x
+  own_same x = ap (λ (s : KnownSeat). seat_references s x) cpu ∙ holds_same c.frame_seat f gave_back (λ k. refl) x
 
   -- the zone has one reference more
   pub references_used : (q x : ℕ) → references_of (seat_with seat f used) d q x
@@ -229,9 +229,9 @@ module _ (seat : KnownSeat) (c d : KnownCpu) (f p : ℕ) (cpu : d.frame_seat ≡
         ∙ sym (ap (λ (r : ℕ → ℕ). r x) (at_same (references_of seat c) 0 (with_at (references_of seat c 0) f (references_of seat c 0 f + 1))))
         ∙ sym (ap (λ (k : ℕ). with_at (references_of seat c) 0 (with_at (references_of seat c 0) f (references_of seat c 0 f + 1)) k x) e)
     | inr ne ↦
-        ap (λ (b : Bool). cond b (holds (seat_with seat f used) x) (cond (q == d.number) (holds d.frame_seat x) 0)) (ne_eqb q 0 ne)
+        ap (λ (b : Bool). cond b (seat_references (seat_with seat f used) x) (cond (q == d.number) (seat_references d.frame_seat x) 0)) (ne_eqb q 0 ne)
         ∙ (λ i. cond (q == number i) (own_same x i) 0)
-        ∙ sym (ap (λ (b : Bool). cond b (holds seat x) (cond (q == c.number) (holds c.frame_seat x) 0)) (ne_eqb q 0 ne))
+        ∙ sym (ap (λ (b : Bool). cond b (seat_references seat x) (cond (q == c.number) (seat_references c.frame_seat x) 0)) (ne_eqb q 0 ne))
         ∙ sym (ap (λ (r : ℕ → ℕ). r x) (at_other (references_of seat c) 0 (with_at (references_of seat c 0) f (references_of seat c 0 f + 1)) q ne))
   ]
 

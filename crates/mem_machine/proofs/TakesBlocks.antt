@@ -14,7 +14,8 @@ use Rattle.zone_buddy.specs.Zone.{TakesFrames, block_at}
 use Rattle.zone_buddy.proofs.Halves.{lower_half}
 use Rattle.frame_word.specs.declared.view.FrameNote.{FrameNote}
 use Rattle.frame_word.specs.Views.{note_of, unfrozen}
-use Rattle.frame_word.specs.Seats.{KnownTable, KnownSeat, seat_with, holds, IsInOwnHand, NothingPasses, LentIsBorrowed}
+use Rattle.frame_word.specs.Seats.{KnownTable, KnownSeat, seat_with, seat_references, IsInOwnHand, NothingPasses}
+use Rattle.frame_word.specs.Seats.{LentIsBorrowed}
 use Rattle.frame_word.proofs.Notes.{note_here, note_else}
 use Rattle.stock_word.specs.Stock.{KnownStockTable}
 use Rattle.group_tree.specs.Groups.{has_group}
@@ -150,11 +151,11 @@ unfrozen_visits t m n c f is visit =
       lent = subst (λ (s : KnownSeat). LentIsBorrowed t s c.frame_seat) (sym is) borrowed;
     }
 
-one_more_reference : (s : KnownSeat) (f x : ℕ) → holds (seat_with s f (unfrozen 1)) x ≡ with_at (holds s) f (holds s f + 1) x
+one_more_reference : (s : KnownSeat) (f x : ℕ) → seat_references (seat_with s f (unfrozen 1)) x ≡ with_at (seat_references s) f (seat_references s f + 1) x
 one_more_reference s f x = elim (cases_eq x f) [
-  | inl e ↦ subst (λ (y : ℕ). holds (seat_with s f (unfrozen 1)) y ≡ with_at (holds s) f (holds s f + 1) y) (sym e)
-      (ap (λ (k : FrameNote). k.references) (note_here s.view f (unfrozen 1)) ∙ sym (at_same (holds s) f (holds s f + 1)))
-  | inr ne ↦ ap (λ (k : FrameNote). k.references) (note_else s.view f x (unfrozen 1) ne) ∙ sym (at_other (holds s) f (holds s f + 1) x ne)
+  | inl e ↦ subst (λ (y : ℕ). seat_references (seat_with s f (unfrozen 1)) y ≡ with_at (seat_references s) f (seat_references s f + 1) y) (sym e)
+      (ap (λ (k : FrameNote). k.references) (note_here s.view f (unfrozen 1)) ∙ sym (at_same (seat_references s) f (seat_references s f + 1)))
+  | inr ne ↦ ap (λ (k : FrameNote). k.references) (note_else s.view f x (unfrozen 1) ne) ∙ sym (at_other (seat_references s) f (seat_references s f + 1) x ne)
 ]
 
 -- the frame that the zone finds free is in its hand
@@ -200,7 +201,7 @@ taken_machine m g b blocks frame_states links lists = record {
 taken_here : (t : KnownTable) (w : KnownStockTable) (m : KnownMachine) (c : KnownCpu) → IsConsistent t w m → AreCharges m.ledger → (g : ℕ) → g < 64 → (b : Block)
     → MayTake t m c g → PathHasRoom m.ledger.groups (current_of m.ledger) g (2 ^ b.order) → PagesRise m.ledger (with_charge m.ledger g (2 ^ b.order)) g (2 ^ b.order)
     → (before free : List Bool) (blocks : List Block) → before ≡ free_of m.frame_states → IsFrontOfSmallest m.blocks b.order b → TakesFrames before b free
-    → AreMaximalBlocks free blocks → (frame_states : List FrameState) → PlacesUnit g b m.frame_states frame_states → holds m.frame_seat b.at ≡ 0
+    → AreMaximalBlocks free blocks → (frame_states : List FrameState) → PlacesUnit g b m.frame_states frame_states → seat_references m.frame_seat b.at ≡ 0
     → (links : List Link) (lists : List Lru) → AllJoin m.links m.lists g b.at links lists
     → AllTaken t w m c g b.order b.at (taken_machine m g b blocks frame_states links lists) c free
 taken_here t w m c ok facts g fits b may room rise before free blocks was front takes areas frame_states placed unreferred links lists joined =
@@ -254,7 +255,7 @@ pub taken_all : (t : KnownTable) (w : KnownStockTable) (m now : KnownMachine) �
     → (k pages : ℕ) → pages ≡ 2 ^ k → MayTake t now c g → PathHasRoom m.ledger.groups (current_of m.ledger) g pages → (ledger : Ledger) → ledger ≡ with_charge m.ledger g pages
     → PagesRise m.ledger ledger g pages → (before free : List Bool) (b : Block) (blocks : List Block) → before ≡ free_of m.frame_states
     → IsFrontOfSmallest m.blocks k b → TakesFrames before b free → AreMaximalBlocks free blocks → (frame_states : List FrameState) → PlacesUnit g b m.frame_states frame_states
-    → (f u : ℕ) → f ≡ b.at → u ≡ f → holds m.frame_seat f ≡ 0 → (seat : KnownSeat) → seat ≡ seat_with m.frame_seat f (unfrozen 1)
+    → (f u : ℕ) → f ≡ b.at → u ≡ f → seat_references m.frame_seat f ≡ 0 → (seat : KnownSeat) → seat ≡ seat_with m.frame_seat f (unfrozen 1)
     → (links : List Link) (lists : List Lru) → AllJoin m.links m.lists g u links lists
     → AllTaken t w now c g k f (record m { blocks = blocks; frame_states = frame_states; ledger = ledger; links = links; lists = lists; frame_seat = seat }) d free
 taken_all t w m now same c d stays ok facts g fits k pages size may room ledger charged rise before free b blocks was front takes areas frame_states placed f u at unit
@@ -268,7 +269,7 @@ taken_all t w m now same c d stays ok facts g fits k pages size may room ledger 
     let rise_here : PagesRise m.ledger (with_charge m.ledger g (2 ^ b.order)) g (2 ^ b.order) =
     subst (λ (x : Ledger × ℕ). PagesRise m.ledger x.0 g x.1) (λ j. (ledger_is j, so_many j)) rise in
     let front_here : IsFrontOfSmallest m.blocks b.order b = subst (λ (x : ℕ). IsFrontOfSmallest m.blocks x b) order front in
-    let unreferred_here : holds m.frame_seat b.at ≡ 0 = subst (λ (x : ℕ). holds m.frame_seat x ≡ 0) at unreferred in
+    let unreferred_here : seat_references m.frame_seat b.at ≡ 0 = subst (λ (x : ℕ). seat_references m.frame_seat x ≡ 0) at unreferred in
     let joined_here : AllJoin m.links m.lists g b.at links lists = subst (λ (x : ℕ). AllJoin m.links m.lists g x links lists) (unit ∙ at) joined in
     let seat_here : seat ≡ seat_with m.frame_seat b.at (unfrozen 1) = seat_is ∙ ap (λ (x : ℕ). seat_with m.frame_seat x (unfrozen 1)) at in
     subst (λ (x : KnownMachine × KnownMachine × KnownCpu × ℕ × ℕ). AllTaken t w x.0 c g x.3 x.4 x.1 x.2 free)

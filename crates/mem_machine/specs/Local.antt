@@ -1,7 +1,7 @@
 -- The local state: what the CPU that holds the lock sees of the machine and its own part, in the words of the rules.
 use Rattle.std.specs.Prelude.{◌≡◌, ℕ, ◌-◌, ◌==◌, ◌&&◌, nat_le, not, Option, Some, None, is_some}
 use Rattle.std.specs.Prelude.{List, [], length, slice_index, if◌then◌else◌}
-use Rattle.frame_word.specs.Seats.{KnownTable, KnownSeat, holds}
+use Rattle.frame_word.specs.Seats.{KnownTable, KnownSeat, seat_references}
 use Rattle.stock_word.specs.declared.view.Account.{Account}
 use Rattle.stock_word.specs.Stock.{KnownStockSeat, account_of}
 use Rattle.stock_word.specs.Stock as stocks
@@ -75,7 +75,7 @@ part_of stock cpu other =
 -- the references of a seat on the frame, as `cpu` sees them: those of the zone (seat 0) and its own
 abbrev pub references_of : KnownSeat → KnownCpu → ℕ → ℕ → ℕ
 references_of zone_seat cpu seat frame =
-    if seat == 0 then holds zone_seat frame else (if seat == cpu.number then holds cpu.frame_seat frame else 0)
+    if seat == 0 then seat_references zone_seat frame else (if seat == cpu.number then seat_references cpu.frame_seat frame else 0)
 
 -- the CPU of this number holds the lock, and is visited if its visit is open
 abbrev pub hold_of : KnownSeat → ℕ → Hold

@@ -11,7 +11,7 @@ use Rattle.frame_word.specs.declared.answers.Get.TheVariants.{Held, Zero, Raced,
 use Rattle.frame_word.specs.declared.answers.Put.{Put as Putted}
 use Rattle.frame_word.specs.declared.answers.Put.TheVariants as put
 use Rattle.frame_word.specs.Views.{looked, raced}
-use Rattle.frame_word.specs.Seats.{KnownTable, KnownSeat, holds, seat_with}
+use Rattle.frame_word.specs.Seats.{KnownTable, KnownSeat, seat_references, seat_with}
 use Rattle.stock_word.specs.declared.view.Stock.{Stock}
 use Rattle.stock_word.specs.declared.view.Stock.TheVariants as stock_is
 use Rattle.stock_word.specs.Stock.{KnownStockTable, KnownStockSeat, drained_of, group_of}
@@ -108,8 +108,8 @@ module _ (t : KnownTable) (m : KnownMachine) (c : KnownCpu) where
   unseen_seat d seat f change is changed keeps = subst (IsUnseen t m c) (sym is) (record {
     number = refl;
     same = λ i. record (local_of t m c) {
-      references = λ q x. cond (q == 0) (holds m.frame_seat x) (cond (q == c.number)
-          ((ap (λ (s : KnownSeat). holds s x) changed ∙ holds_same c.frame_seat f change keeps x) i) 0);
+      references = λ q x. cond (q == 0) (seat_references m.frame_seat x) (cond (q == c.number)
+          ((ap (λ (s : KnownSeat). seat_references s x) changed ∙ holds_same c.frame_seat f change keeps x) i) 0);
     };
   })
 

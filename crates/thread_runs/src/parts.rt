@@ -1,7 +1,7 @@
 //! Worked rows on CPU parts: the answers when their calls meet, which no clause gives.
 ghost use Rattle.std.specs.Prelude.{◌≡◌, ◌≢◌, ◌+◌, ◌<◌, ◌≤◌, ℕ, [], length};
 ghost use Rattle.frame_word.specs.Seats.{IsInOwnHand, IsOpen, IsShut, IsZoneSeat, NothingPasses};
-ghost use Rattle.frame_word.specs.Seats.{first_cpu_view, first_zone_view, holds};
+ghost use Rattle.frame_word.specs.Seats.{first_cpu_view, first_zone_view, seat_references};
 ghost use Rattle.stock_word.specs.Stock.{IsZoneStock, first_zone_stock, first_cpu_stock};
 
 use crate::rows::same;
@@ -312,7 +312,7 @@ fn two_in_use<N: BootName>(
 ) -> (Frame, Frame)
     requires zone { IsZoneSeat N.frames zone.old × (zone.old.view ≡ first_zone_view 8) × (N.frames.frames ≡ 8) }
     ensures zone { IsZoneSeat N.frames zone.new × IsShut zone.new 1 }
-    ensures held { 1 ≤ holds zone.new result.0 }
+    ensures held { 1 ≤ seat_references zone.new result.0 }
     ensures frames { (result.0 < N.frames.frames) × (result.1 < N.frames.frames) }
 {
     let one = frame_of(rt, tables, 1);
@@ -330,7 +330,7 @@ fn keeps_back<N: BootName>(
     cpu: &mut Cpu<N>,
     frame: Frame,
 )
-    requires frame { (frame < N.frames.frames) × (1 ≤ holds zone.old frame) }
+    requires frame { (frame < N.frames.frames) × (1 ≤ seat_references zone.old frame) }
     requires zone { IsZoneSeat N.frames zone.old × IsShut zone.old 1 }
     ensures zone { IsZoneSeat N.frames zone.new × IsShut zone.new 1 }
 {

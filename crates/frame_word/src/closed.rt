@@ -12,13 +12,13 @@ use std::alloc::Global;
 use std::marker::Model;
 
 /// The words at the end, when no seat is left to change them.
-pub struct FinalWords {
+pub struct ClosedWords {
     closed: Closed<(), Global>,
     frames: u32,
     cpus: u32,
 }
 
-impl Model for FinalWords {
+impl Model for ClosedWords {
     ghost use Rattle.std.specs.Prelude.{◌≡◌, ◌+◌};
     ghost use Rattle.std.specs.Mem.Slots.{slots_items, slots_len, IsFull};
     ghost use Rattle.frame_word.specs.Seats.{KnownWords};
@@ -31,9 +31,9 @@ impl Model for FinalWords {
         × (slots_len w.closed.slots ≡ 0) };
 }
 
-impl Drop for FinalWords {
+impl Drop for ClosedWords {
     fn drop(self) {
-        let FinalWords {
+        let ClosedWords {
             closed,
             frames: _,
             cpus: _,
@@ -42,13 +42,13 @@ impl Drop for FinalWords {
     }
 }
 
-impl FinalWords {
+impl ClosedWords {
     /// The word of a frame.
     pub fn word(&self, frame: Frame) -> u64
         requires { frame < self.now.frames }
         ensures { result ≡ slice_index self.now.words frame }
     {
-        self.closed.word(frame.word())
+        self.closed.word(frame.word_index())
     }
 
     /// The visit word of a CPU.
@@ -63,7 +63,7 @@ impl FinalWords {
 impl FrameWords {
     /// Ends the table with all its seats, those of the CPUs in any order. The reference rule holds of the final words
     /// and these seats' views.
-    pub fn close(self, zone: FrameSeat, cpus: Vec<FrameSeat>) -> FinalWords
+    pub fn close(self, zone: FrameSeat, cpus: Vec<FrameSeat>) -> ClosedWords
         requires zone { zone.table ≡ self.table }
         requires cpus { AreSeatsAt self.table cpus.items }
         requires count { length cpus.items ≡ self.cpus }
@@ -75,13 +75,10 @@ impl FrameWords {
             frames,
             cpus: count,
         } = self;
-        let FrameSeat {
-            mut place,
-            number: _,
-        } = zone;
-        gather(&board, &mut place, cpus);
-        FinalWords {
-            closed: board.end(place),
+        let FrameSeat { mut raw, number: _ } = zone;
+        gather(&board, &mut raw, cpus);
+        ClosedWords {
+            closed: board.end(raw),
             frames,
             cpus: count,
         }
@@ -97,7 +94,7 @@ fn gather(board: &Board, all: &mut RawSeat, seats: Vec<FrameSeat>)
     ensures views { all.new.seat.me ≡ (all.old.seat.me.0 ++ map view_of seats.items, all.old.seat.me.1) }
 {
     for seat in seats {
-        let FrameSeat { place, number: _ } = seat;
-        board.pair(all, place);
+        let FrameSeat { raw, number: _ } = seat;
+        board.join_raw(all, raw);
     }
 }

@@ -1,7 +1,7 @@
 use Rattle.std.proofs.Common.{◌∙◌, get_or}
 use Rattle.std.specs.Slots.{slots_items}
 use Rattle.frame_word.proofs.Notes.{read_at}
-use Rattle.frame_word.proofs.closing.FinalWords.word.Goals as goal
+use Rattle.frame_word.proofs.closed.ClosedWords.word.Goals as goal
 
 pub returns : goal.returns
 returns c = read_at (slots_items c.self.inside.closed.words) c.word.result c.word-2.result c.word-2.ensures

@@ -1,10 +1,10 @@
 use Rattle.std.proofs.Common.{◌≡◌, [], ◌∷◌, ◌++◌, map, length, List, sym, ap, ◌∙◌, subst, append_assoc, append-nil, arith, refl}
 use Rattle.std.specs.Vec.Iter.{into_iter_items}
 use Rattle.frame_word.specs.Seats.{KnownSeat, view_of, AreSeatsAt}
-use Rattle.frame_word.proofs.closing.gather.Goals as goal
+use Rattle.frame_word.proofs.closed.gather.Goals as goal
 
-pub pair-requires : goal.pair-requires
-pair-requires c =
+pub join_raw-requires : goal.join_raw-requires
+join_raw-requires c =
     let at = c.loop-seat in
     let steps : into_iter_items at.seat-iterator ≡ c.in-Some.seat ∷ into_iter_items c.next.new.self = c.in-Some.ensures.steps.0 in
     let left = subst (AreSeatsAt c.args.board.now.table.shared.table_id) steps at.invariant.left in record {
@@ -19,7 +19,7 @@ loop-seat-preserved c =
     let left = subst (AreSeatsAt c.args.board.now.table.shared.table_id) steps at.invariant.left in
     let more = map view_of (into_iter_items c.next.new.self) in
     let own = ap (λ m. m.0) c.seat.invariant.alone ∙ ap (λ (s : KnownSeat). s.view ∷ []) c.seat.view_is in
-    let joined = c.pair.ensures in record {
+    let joined = c.join_raw.ensures in record {
       seated = joined.table ∙ at.invariant.seated;
       left = left.1;
       counted = (let was = at.invariant.counted in let gone = c.in-Some.ensures.steps.1 in let short = ap length steps in omega arith);

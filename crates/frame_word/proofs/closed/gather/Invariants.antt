@@ -1,7 +1,7 @@
 use Rattle.std.proofs.Common.{◌≡◌, ◌++◌, map, length}
 use Rattle.std.specs.Vec.Iter.{into_iter_items, into_iter_len}
 use Rattle.frame_word.specs.Seats.{view_of, AreSeatsAt}
-use Rattle.frame_word.proofs.closing.gather.Given as goal
+use Rattle.frame_word.proofs.closed.gather.Given as goal
 
 abbrev pub invariant-loop-seat : goal.invariant-loop-seat
 invariant-loop-seat l = record {
