@@ -1,7 +1,7 @@
 //! Prepaid pages: a pair of `consume` and `credit` on a stock's word, and rounds of `alloc_fast` and `drop_fresh`.
 //! The rounds are those of CPUs, each in its own thread, with or without visits between them.
 ghost use Rattle.std.specs.Prelude.{◌≡◌, ◌<◌};
-ghost use Rattle.stock_word.specs.Stock.{IsCpuStock};
+ghost use Rattle.stock_word.specs.Stock.{IsCpuView};
 
 use crate::costs::{Pace, Row, Subject, tell_rows};
 use crate::system::{alloc, settle};
@@ -22,7 +22,7 @@ struct Payer {
     words: StockWords,
     seat: StockSeat,
     ghost seated: { seat.table ≡ words.table },
-    ghost cpu: { IsCpuStock words seat.view },
+    ghost cpu: { IsCpuView words seat.view },
 }
 
 impl Payer {

@@ -1,7 +1,7 @@
 //! A machine of the greatest size, 1,048,576 frames and 64 CPUs. The last CPU is lent frames and returns them.
 ghost use Rattle.std.specs.Prelude.{◌≡◌, ◌≤◌};
 ghost use Rattle.frame_word.specs.Seats.{IsShut, first_zone_view, first_cpu_view};
-ghost use Rattle.stock_word.specs.Stock.{first_zone_stock, first_cpu_stock};
+ghost use Rattle.stock_word.specs.Stock.{first_zone_stock_view, first_cpu_stock_view};
 
 use crate::life::holds;
 use crate::seats::{CpuSeats, close_cpu, new_cpu};
@@ -23,9 +23,9 @@ struct LargeParts<const F: u32> {
     last: CpuSeats,
     ghost sizes: { (frames.frames ≡ F) × (frames.cpus ≡ 64) × (stocks.cpus ≡ 64) },
     ghost zone_is: { (zone.table ≡ frames.table) × (zone.view ≡ first_zone_view F) },
-    ghost machine_is: { (machine.table ≡ stocks.table) × (machine.view ≡ first_zone_stock) },
+    ghost machine_is: { (machine.table ≡ stocks.table) × (machine.view ≡ first_zone_stock_view) },
     ghost last_is: { (last.frames.table ≡ frames.table) × (last.frames.view ≡ first_cpu_view 64) },
-    ghost last_pays: { (last.stock.table ≡ stocks.table) × (last.stock.view ≡ first_cpu_stock 64) },
+    ghost last_pays: { (last.stock.table ≡ stocks.table) × (last.stock.view ≡ first_cpu_stock_view 64) },
 }
 
 // The parts of a new boot.

@@ -67,7 +67,7 @@ impl<N: BootName> Model for Cpu<N> {
 
 impl<N: BootName> Cpu<N> {
     ghost use Rattle.frame_word.specs.Seats.{number_of, first_cpu_view, IsCpuSeat};
-    ghost use Rattle.stock_word.specs.Stock.{IsCpuStock};
+    ghost use Rattle.stock_word.specs.Stock.{IsCpuView};
     ghost use Rattle.cpu_part.specs.Cpus.{first_cpu, IsIdle};
 
     /// The part of the CPU that has these seats and did nothing yet. All room that its calls need is reserved.
@@ -79,7 +79,7 @@ impl<N: BootName> Cpu<N> {
     ) -> Result<Cpu<N>, AllocError>
         requires frame_seat { IsCpuSeat N.frames frame_seat
             × (frame_seat.view ≡ first_cpu_view (number_of frame_seat)) }
-        requires stock_seat { (stock_seat.table ≡ N.stocks.table) × IsCpuStock N.stocks stock_seat.view
+        requires stock_seat { (stock_seat.table ≡ N.stocks.table) × IsCpuView N.stocks stock_seat.view
             × (stock_seat.view.fresh ≡ 0) }
         requires same { stock_seat.view.number ≡ number_of frame_seat }
         ensures { IfOk result (λ c. c ≡ first_cpu frame_seat stock_seat) }

@@ -1,7 +1,7 @@
 //! What a CPU prepays and pays inside a visit, together with the zone's seat at the stocks.
 ghost use Rattle.std.specs.Prelude.{◌≡◌, ◌+◌, ◌-◌, ◌<◌, ◌≤◌, ◌⊎◌, [], Some, false, length};
-ghost use Rattle.stock_word.specs.Stock.{IsZoneStock, account_of, stocked, pages_of, group_of, is_held, drained_of};
-ghost use Rattle.stock_word.specs.Kinds.{filling, after_fill, with_steps};
+ghost use Rattle.stock_word.specs.Stock.{IsZoneView, account_of, stocked, pages_of, group_of, is_held, drained_of};
+ghost use Rattle.stock_word.specs.Kinds.{zone_after_fill, after_fill, with_steps};
 ghost use Rattle.stock_word.specs.Calls.{with_view};
 ghost use Rattle.cpu_part.specs.Calls.{TakesFront};
 ghost use Rattle.cpu_part.specs.Cpus.{most_fresh};
@@ -16,14 +16,14 @@ impl<N: BootName> Cpu<N> {
     /// Fills the CPU's stock with `pages` pages (1 to 65,535) of group `group` (0 to 63). The stock was never filled,
     /// or was drained after its last fill. There is no fresh frame, and no reported page that isn't absorbed.
     pub fn fill(&mut self, tables: &Tables<N>, zone_stock: &mut StockSeat, group: u32, pages: u32)
-        requires zone_stock { (zone_stock.old.table ≡ N.stocks.table) × IsZoneStock zone_stock.old.view }
+        requires zone_stock { (zone_stock.old.table ≡ N.stocks.table) × IsZoneView zone_stock.old.view }
         requires group { group < 64 }
         requires pages { (0 < pages) × (pages < 65536) }
         requires drained { (account_of zone_stock.old.view self.old.number).filled ≡ false }
         requires settled { (self.old.fresh ≡ []) × ((account_of zone_stock.old.view self.old.number).unabsorbed ≡ 0) }
         ensures nothing_booked { (account_of zone_stock.old.view self.old.number).book ≡ 0 }
         ensures zone_stock { zone_stock.new
-            ≡ with_view zone_stock.old (filling zone_stock.old.view self.old.number group pages) }
+            ≡ with_view zone_stock.old (zone_after_fill zone_stock.old.view self.old.number group pages) }
         ensures cpu { self.new ≡ record self.old {
           stock_seat = with_view self.old.stock_seat
               (after_fill self.old.stock_seat.view group pages);
@@ -37,7 +37,7 @@ impl<N: BootName> Cpu<N> {
     /// The CPU's stock, by its word and so by the book. This is one look, which counts at the zone's seat and
     /// changes nothing else. The book is the pages in the stock, the fresh ones and the reported ones.
     pub fn look(&mut self, tables: &Tables<N>, zone_stock: &mut StockSeat) -> Stock
-        requires zone_stock { (zone_stock.old.table ≡ N.stocks.table) × IsZoneStock zone_stock.old.view }
+        requires zone_stock { (zone_stock.old.table ≡ N.stocks.table) × IsZoneView zone_stock.old.view }
         ensures balanced { (account_of zone_stock.old.view self.old.number).book
             ≡ pages_of result + self.old.stock_seat.view.fresh
             + (account_of zone_stock.old.view self.old.number).unabsorbed }
@@ -59,7 +59,7 @@ impl<N: BootName> Cpu<N> {
         zone_stock: &mut StockSeat,
         group: u32,
     ) -> Frame
-        requires zone_stock { (zone_stock.old.table ≡ N.stocks.table) × IsZoneStock zone_stock.old.view }
+        requires zone_stock { (zone_stock.old.table ≡ N.stocks.table) × IsZoneView zone_stock.old.view }
         requires group { (account_of zone_stock.old.view self.old.number).group ≡ Some group }
         requires page { 0 < stocked zone_stock.old.view self.old.stock_seat.view }
         requires front { 1 ≤ length self.old.list }

@@ -3,8 +3,8 @@ ghost use Rattle.std.specs.Prelude.{◌≡◌, ◌+◌, ◌<◌, ◌≤◌, ◌�
 ghost use Rattle.frame_word.specs.Views.{took_in, collected_from};
 ghost use Rattle.frame_word.specs.Seats.{HandsAreApart, HasNothingOf, IsLent, IsLentToNone, IsInNoHand, IsOpen, IsShut};
 ghost use Rattle.frame_word.specs.Seats.{IsZoneSeat, LentIsBorrowed, NothingPasses, Passes, seat_with, seat_with_visit};
-ghost use Rattle.stock_word.specs.Stock.{IsZoneStock, IsCpuStock, account_for, account_of, group_of};
-ghost use Rattle.stock_word.specs.Kinds.{noting, after_report};
+ghost use Rattle.stock_word.specs.Stock.{IsZoneView, IsCpuView, account_for, account_of, group_of};
+ghost use Rattle.stock_word.specs.Kinds.{zone_after_report, after_report};
 ghost use Rattle.stock_word.specs.Calls.{with_view};
 ghost use Rattle.cpu_part.specs.Calls.{HandsFront, HandsFresh, HandsBack};
 ghost use Rattle.cpu_part.specs.Cpus.{most_listed};
@@ -86,7 +86,7 @@ impl<N: BootName> Cpu<N> {
         zone_stock: &mut StockSeat,
     ) -> Option<Frame>
         requires zone { IsZoneSeat N.frames zone.old }
-        requires zone_stock { (zone_stock.old.table ≡ N.stocks.table) × IsZoneStock zone_stock.old.view }
+        requires zone_stock { (zone_stock.old.table ≡ N.stocks.table) × IsZoneView zone_stock.old.view }
         requires open { IsOpen zone.old self.old.number }
         ensures answer { MatchOption result ((self.old.fresh ≡ []) × (self.new ≡ self.old))
             (λ f. HandsFresh f self.old self.new) }
@@ -94,7 +94,7 @@ impl<N: BootName> Cpu<N> {
         ensures zone { zone.new ≡ zone.old }
         ensures borrowed { IfSome result (λ f. HasNothingOf zone.old f × IsLent zone.old f self.old.number) }
         ensures zone_stock { MatchOption result (zone_stock.new ≡ zone_stock.old)
-            (λ f. zone_stock.new ≡ with_view zone_stock.old (noting zone_stock.old.view self.old.number 1)) }
+            (λ f. zone_stock.new ≡ with_view zone_stock.old (zone_after_report zone_stock.old.view self.old.number 1)) }
         ensures booked { IfSome result (λ f. self.old.stock_seat.view.fresh
             + (account_of zone_stock.old.view self.old.number).unabsorbed
             ≤ (account_of zone_stock.old.view self.old.number).book) }
@@ -156,14 +156,14 @@ fn report_passed(
 )
     requires passed { IsInNoHand _seat.now _frame }
     requires tables { (zone_stock.old.table ≡ stocks.now.table) × (stock.old.table ≡ stocks.now.table) }
-    requires zone_stock { IsZoneStock zone_stock.old.view }
-    requires cpu { IsCpuStock stocks.now stock.old.view }
+    requires zone_stock { IsZoneView zone_stock.old.view }
+    requires cpu { IsCpuView stocks.now stock.old.view }
     requires fresh { 1 ≤ stock.old.view.fresh }
     ensures booked { stock.old.view.fresh + (account_for zone_stock.old.view stock.old.view).unabsorbed
         ≤ (account_for zone_stock.old.view stock.old.view).book }
     ensures group { group_of stock.old.view.last ≡ (account_for zone_stock.old.view stock.old.view).group }
     ensures zone_stock { zone_stock.new
-        ≡ with_view zone_stock.old (noting zone_stock.old.view stock.old.view.number 1) }
+        ≡ with_view zone_stock.old (zone_after_report zone_stock.old.view stock.old.view.number 1) }
     ensures cpu { stock.new ≡ with_view stock.old (after_report stock.old.view 1) }
 {
     stocks.report(zone_stock, stock, 1);

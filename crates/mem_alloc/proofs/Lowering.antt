@@ -15,7 +15,7 @@ use Rattle.group_charge.proofs.SumLemmas.{share}
 use Rattle.stock_word.specs.declared.view.Account.{Account}
 use Rattle.stock_word.specs.declared.view.StockView.{StockView}
 use Rattle.stock_word.specs.Stock.{KnownStockSeat, account_of}
-use Rattle.stock_word.specs.Kinds.{draining, with_steps}
+use Rattle.stock_word.specs.Kinds.{with_steps, zone_after_drain}
 use Rattle.stock_word.specs.Calls.{with_view, after_look}
 use Rattle.cpu_part.specs.Cpus.{KnownCpu}
 use Rattle.step_rules.specs.State.{sum_to}
@@ -69,9 +69,9 @@ lowers_both t m x n a b = record {
   emptied = λ p is. b.emptied p (a.emptied p is);
 }
 
-emptied_at : (view : StockView) (q k p : ℕ) → (account_of view p).filled ≡ false → (account_of (draining view q k) p).filled ≡ false
+emptied_at : (view : StockView) (q k p : ℕ) → (account_of view p).filled ≡ false → (account_of (zone_after_drain view q k) p).filled ≡ false
 emptied_at view q k p is = elim (cases_eq p q) [
-  | inl e ↦ ap (λ (j : ℕ). (account_of (draining view q k) j).filled) e ∙ ap (λ (a : Account). a.filled) (drained_at view q k)
+  | inl e ↦ ap (λ (j : ℕ). (account_of (zone_after_drain view q k) j).filled) e ∙ ap (λ (a : Account). a.filled) (drained_at view q k)
   | inr ne ↦ ap (λ (a : Account). a.filled) (drained_else view q k p ne) ∙ is
 ]
 

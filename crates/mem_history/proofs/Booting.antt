@@ -3,7 +3,7 @@
 use Rattle.std.proofs.Common.{◌≡◌, ℕ, ◌==◌, Bool, true, false, cond, List, [], refl, sym, ◌∙◌, ap, subst, zero, suc, get_or, replicate}
 use Rattle.frame_word.specs.Views.{blank}
 use Rattle.frame_word.specs.Seats.{KnownTable, KnownSeat, seat_references, first_cpu_view}
-use Rattle.stock_word.specs.Stock.{KnownStockTable, KnownStockSeat, account_of, first_cpu_stock}
+use Rattle.stock_word.specs.Stock.{KnownStockTable, KnownStockSeat, account_of, first_cpu_stock_view}
 use Rattle.group_charge.specs.Charges.{Ledger}
 use Rattle.cpu_part.specs.Cpus.{KnownCpu, first_cpu}
 use Rattle.step_rules.specs.State.{at_boot, no_part}
@@ -39,7 +39,7 @@ module _ (t : KnownTable) (w : KnownStockTable) (m : KnownMachine) (first : IsFi
   p = suc k
 
   abbrev c : KnownCpu
-  c = first_cpu (record { table = t.table; view = first_cpu_view p }) (record { table = w.table; view = first_cpu_stock p })
+  c = first_cpu (record { table = t.table; view = first_cpu_view p }) (record { table = w.table; view = first_cpu_stock_view p })
 
   references_first : (q f : ℕ) → references_of m.frame_seat c q f ≡ 0
   references_first q f =

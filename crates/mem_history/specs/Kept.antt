@@ -3,7 +3,7 @@ use Rattle.std.specs.Prelude.{◌≡◌, ℕ, ◌+◌, ◌≤◌, nat_le, zero, 
 use Rattle.std.specs.Prelude.{length, slice_get, if◌then◌else◌}
 use Rattle.std.specs.Option.{option_map_or}
 use Rattle.frame_word.specs.Seats.{KnownTable, first_cpu_view}
-use Rattle.stock_word.specs.Stock.{KnownStockTable, account_of, first_cpu_stock, group_of}
+use Rattle.stock_word.specs.Stock.{KnownStockTable, account_of, first_cpu_stock_view, group_of}
 use Rattle.group_charge.specs.Charges.{AreCharges, current_of}
 use Rattle.cpu_part.specs.Cpus.{KnownCpu, IsTied, first_cpu, times}
 use Rattle.step_rules.specs.declared.step.Action.TheVariants.{Lock}
@@ -30,7 +30,7 @@ pub record IsNewBoot (table : KnownTable) (stock_table : KnownStockTable) (first
   pub count : length cpus ≡ table.cpus
   pub each : (index : ℕ) (cpu : KnownCpu) → slice_get cpus index ≡ Some cpu
       → cpu ≡ first_cpu (record { table = table.table; view = first_cpu_view (suc index) })
-      (record { table = stock_table.table; view = first_cpu_stock (suc index) })
+      (record { table = stock_table.table; view = first_cpu_stock_view (suc index) })
 
 -- the run without steps shows a new boot
 abbrev pub ABootIsShown : Type 0

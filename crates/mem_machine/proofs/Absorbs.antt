@@ -8,7 +8,7 @@ use Rattle.stock_word.specs.declared.view.Stock.{Stock}
 use Rattle.stock_word.specs.declared.view.Stock.TheVariants.{NoGroup, HeldBy, DrainedOf}
 use Rattle.stock_word.specs.declared.view.StockView.{StockView}
 use Rattle.stock_word.specs.Stock.{KnownStockSeat, account_of, group_of, HasWord}
-use Rattle.stock_word.specs.Kinds.{noting, absorbing}
+use Rattle.stock_word.specs.Kinds.{zone_after_report, zone_after_absorb}
 use Rattle.stock_word.proofs.CallerLemmas.{account_of-with_account, account_of-with_account_other}
 use Rattle.step_rules.specs.State.{sum_to, with_at}
 use Rattle.step_rules.proofs.Basics.{at_same, at_other, at_each}
@@ -30,19 +30,19 @@ module _ (view : StockView) (p : ℕ) where
   absorbed_account = let a = account_of view p in record a { book = a.book - (a.unabsorbed + 1); unabsorbed = 0 }
 
   abbrev after : StockView
-  after = absorbing (noting view p 1) p
+  after = zone_after_absorb (zone_after_report view p 1) p
 
-  noted_at : account_of (noting view p 1) p ≡ (let a = account_of view p in record a { unabsorbed = a.unabsorbed + 1 })
+  noted_at : account_of (zone_after_report view p 1) p ≡ (let a = account_of view p in record a { unabsorbed = a.unabsorbed + 1 })
   noted_at = account_of-with_account view p (let a = account_of view p in record a { unabsorbed = a.unabsorbed + 1 })
 
   pub absorbed_at : account_of after p ≡ absorbed_account
   absorbed_at =
-      account_of-with_account (noting view p 1) p (let a = account_of (noting view p 1) p in record a { book = a.book - a.unabsorbed; unabsorbed = 0 })
+      account_of-with_account (zone_after_report view p 1) p (let a = account_of (zone_after_report view p 1) p in record a { book = a.book - a.unabsorbed; unabsorbed = 0 })
       ∙ ap (λ (a : Account). record a { book = a.book - a.unabsorbed; unabsorbed = 0 }) noted_at
 
   pub absorbed_else : (q : ℕ) → (q ≡ p → ⊥) → account_of after q ≡ account_of view q
   absorbed_else q ne =
-      account_of-with_account_other (noting view p 1) p q (let a = account_of (noting view p 1) p in record a { book = a.book - a.unabsorbed; unabsorbed = 0 }) ne
+      account_of-with_account_other (zone_after_report view p 1) p q (let a = account_of (zone_after_report view p 1) p in record a { book = a.book - a.unabsorbed; unabsorbed = 0 }) ne
       ∙ account_of-with_account_other view p q (let a = account_of view p in record a { unabsorbed = a.unabsorbed + 1 }) ne
 
   -- a test of the accounts after it

@@ -7,8 +7,8 @@ use Rattle.std.proofs.lemmas.List.{get_or-set_same, get_or-set_other, length-set
 use Rattle.frame_word.specs.Seats.{KnownTable}
 use Rattle.stock_word.specs.declared.view.Account.{Account}
 use Rattle.stock_word.specs.declared.view.StockView.{StockView}
-use Rattle.stock_word.specs.Stock.{KnownStockTable, KnownStockSeat, account_of, with_account, first_zone_stock}
-use Rattle.stock_word.specs.Kinds.{absorbing, draining, filling, noting, with_steps}
+use Rattle.stock_word.specs.Stock.{KnownStockTable, KnownStockSeat, account_of, with_account, first_zone_stock_view}
+use Rattle.stock_word.specs.Kinds.{with_steps, zone_after_absorb, zone_after_drain, zone_after_fill, zone_after_report}
 use Rattle.stock_word.specs.Calls.{after_look, with_view}
 use Rattle.stock_word.proofs.CallerLemmas.{account_of-with_account, account_of-with_account_other}
 use Rattle.step_rules.specs.State.{sum_to, with_at}
@@ -102,7 +102,7 @@ counted_more t w stock new sums g k x are seat inside more is =
 -- a drain takes its pages from the books of the stock's group
 pub drained_books : (t : KnownTable) (stock : KnownStockSeat) (q g k : ℕ) → q ≤ t.cpus → (account_of stock.view q).group ≡ Some g
     → k ≤ (account_of stock.view q).book → (h : ℕ)
-    → pages_booked t stock h ≡ pages_booked t (with_view stock (draining stock.view q k)) h + cond (h == g) k 0
+    → pages_booked t stock h ≡ pages_booked t (with_view stock (zone_after_drain stock.view q k)) h + cond (h == g) k 0
 drained_books t stock q g k inside group enough h =
     let a = account_of stock.view q in
     let move = books_move t stock q (record a { book = a.book - k; filled = false }) inside h in
@@ -111,7 +111,7 @@ drained_books t stock q g k inside group enough h =
 
 -- a stock that is of no group counts as drained of no page
 pub looked_books : (t : KnownTable) (stock : KnownStockSeat) (q : ℕ) → q ≤ t.cpus → (h : ℕ)
-    → pages_booked t (with_view stock (draining stock.view q 0)) h ≡ pages_booked t stock h
+    → pages_booked t (with_view stock (zone_after_drain stock.view q 0)) h ≡ pages_booked t stock h
 looked_books t stock q inside h =
     let a = account_of stock.view q in
     let none : a.book - 0 ≡ a.book = omega arith in
@@ -121,7 +121,7 @@ looked_books t stock q inside h =
 
 -- a fill adds its pages to the books of its group
 pub filled_books : (t : KnownTable) (stock : KnownStockSeat) (q g k : ℕ) → q ≤ t.cpus → (account_of stock.view q).book ≡ 0 → (h : ℕ)
-    → pages_booked t (with_view stock (filling stock.view q g k)) h ≡ pages_booked t stock h + cond (h == g) k 0
+    → pages_booked t (with_view stock (zone_after_fill stock.view q g k)) h ≡ pages_booked t stock h + cond (h == g) k 0
 filled_books t stock q g k inside empty h =
     let a = account_of stock.view q in
     let move = books_move t stock q (record a { book = a.book + k; group = Some g; filled = true }) inside h in
@@ -132,7 +132,7 @@ filled_books t stock q g k inside empty h =
 
 -- a page that is noted is in the book still
 pub noted_books : (t : KnownTable) (stock : KnownStockSeat) (p n : ℕ) → p ≤ t.cpus → (h : ℕ)
-    → pages_booked t (with_view stock (noting stock.view p n)) h ≡ pages_booked t stock h
+    → pages_booked t (with_view stock (zone_after_report stock.view p n)) h ≡ pages_booked t stock h
 noted_books t stock p n inside h =
     let a = account_of stock.view p in
     let move = books_move t stock p (record a { unabsorbed = a.unabsorbed + n }) inside h in
@@ -141,7 +141,7 @@ noted_books t stock p n inside h =
 -- the pages that are taken in come off the books of the stock's group
 pub absorbed_books : (t : KnownTable) (stock : KnownStockSeat) (p g : ℕ) → p ≤ t.cpus → (account_of stock.view p).group ≡ Some g
     → (account_of stock.view p).unabsorbed ≤ (account_of stock.view p).book → (h : ℕ)
-    → pages_booked t stock h ≡ pages_booked t (with_view stock (absorbing stock.view p)) h + cond (h == g) (account_of stock.view p).unabsorbed 0
+    → pages_booked t stock h ≡ pages_booked t (with_view stock (zone_after_absorb stock.view p)) h + cond (h == g) (account_of stock.view p).unabsorbed 0
 absorbed_books t stock p g inside group enough h =
     let a = account_of stock.view p in
     let move = books_move t stock p (record a { book = a.book - a.unabsorbed; unabsorbed = 0 }) inside h in
@@ -150,7 +150,7 @@ absorbed_books t stock p g inside group enough h =
 
 -- ---- the calls
 
-pub first_counted : (t : KnownTable) (w : KnownStockTable) (m : KnownStockSeat) (sums : List ℕ) → w.cpus ≡ t.cpus → m.table ≡ w.table → m.view ≡ first_zone_stock → sums ≡ replicate 64 0
+pub first_counted : (t : KnownTable) (w : KnownStockTable) (m : KnownStockSeat) (sums : List ℕ) → w.cpus ≡ t.cpus → m.table ≡ w.table → m.view ≡ first_zone_stock_view → sums ≡ replicate 64 0
     → AreBooked t w m sums
 first_counted t w m sums cpus table first zeros = record {
   table = table;
@@ -178,7 +178,7 @@ module _ (t : KnownTable) (w : KnownStockTable) (m : KnownStockSeat) (sums : Lis
   after_look_only n is = counted_same t w m n sums are (same_seat m n _ refl is) (λ h. ap (λ (x : KnownStockSeat). pages_booked t x h) is)
 
   -- a page is noted
-  pub after_note : (p n : ℕ) → p ≤ t.cpus → (x : KnownStockSeat) → x ≡ with_view m (noting m.view p n) → AreBooked t w x sums
+  pub after_note : (p n : ℕ) → p ≤ t.cpus → (x : KnownStockSeat) → x ≡ with_view m (zone_after_report m.view p n) → AreBooked t w x sums
   after_note p n inside x is = counted_same t w m x sums are (same_seat m x _ refl is) (λ h. ap (λ (y : KnownStockSeat). pages_booked t y h) is ∙ noted_books t m p n inside h)
 
   module _ (q g k : ℕ) (inside : q ≤ t.cpus) (fits : g < 64) (group : (account_of m.view q).group ≡ Some g) (r : ℕ)
@@ -188,7 +188,7 @@ module _ (t : KnownTable) (w : KnownStockTable) (m : KnownStockSeat) (sums : Lis
     within_count enough = let a = booked_within t m q g inside group in let b = are.each g fits in omega (arith, a, b, read, enough)
 
     -- this many pages are drained, by any number of steps
-    pub after_drain : k ≤ (account_of m.view q).book → (s : ℕ) (n : KnownStockSeat) → n ≡ with_view m (with_steps s (draining m.view q k))
+    pub after_drain : k ≤ (account_of m.view q).book → (s : ℕ) (n : KnownStockSeat) → n ≡ with_view m (with_steps s (zone_after_drain m.view q k))
         → AreBooked t w n (slice_set sums g (r - k))
     after_drain enough s n is =
         let small = within_count enough in
@@ -199,7 +199,7 @@ module _ (t : KnownTable) (w : KnownStockTable) (m : KnownStockSeat) (sums : Lis
 
     -- what was noted is taken in
     pub after_absorb : k ≡ (account_of m.view q).unabsorbed → k ≤ (account_of m.view q).book → (n : KnownStockSeat)
-        → n ≡ with_view m (with_steps 1 (absorbing m.view q)) → AreBooked t w n (slice_set sums g (r - k))
+        → n ≡ with_view m (with_steps 1 (zone_after_absorb m.view q)) → AreBooked t w n (slice_set sums g (r - k))
     after_absorb all enough n is =
         let small = within_count enough in
         let b = are.each g fits in
@@ -211,7 +211,7 @@ module _ (t : KnownTable) (w : KnownStockTable) (m : KnownStockSeat) (sums : Lis
 
   -- an empty stock is filled
   pub after_fill : (q g k : ℕ) → q ≤ t.cpus → g < 64 → (account_of m.view q).book ≡ 0 → (r : ℕ) → r ≡ get_or sums g 0
-      → (n : KnownStockSeat) → n ≡ with_view m (filling m.view q g k) → AreBooked t w n (slice_set sums g (r + k))
+      → (n : KnownStockSeat) → n ≡ with_view m (zone_after_fill m.view q g k) → AreBooked t w n (slice_set sums g (r + k))
   after_fill q g k inside fits empty r read n is =
       let b = are.each g fits in
       counted_more t w m n sums g k (r + k) are (same_seat m n _ refl is) fits
@@ -219,7 +219,7 @@ module _ (t : KnownTable) (w : KnownStockTable) (m : KnownStockSeat) (sums : Lis
       (omega (arith, b, read))
 
 -- the group of the stock stays when a page is noted
-pub noted_group : (m n : KnownStockSeat) (p k : ℕ) → n ≡ with_view m (noting m.view p k) → (account_of n.view p).group ≡ (account_of m.view p).group
+pub noted_group : (m n : KnownStockSeat) (p k : ℕ) → n ≡ with_view m (zone_after_report m.view p k) → (account_of n.view p).group ≡ (account_of m.view p).group
 noted_group m n p k is =
     ap (λ (x : KnownStockSeat). (account_of x.view p).group) is
     ∙ ap (λ (a : Account). a.group) (account_of-with_account m.view p (let a = account_of m.view p in record a { unabsorbed = a.unabsorbed + k }))

@@ -9,8 +9,8 @@ use Rattle.std.proofs.lemmas.Option.{none-some}
 use Rattle.frame_word.specs.Seats.{KnownTable}
 use Rattle.stock_word.specs.declared.view.Account.{Account}
 use Rattle.stock_word.specs.declared.view.StockView.{StockView}
-use Rattle.stock_word.specs.Stock.{KnownStockTable, KnownStockSeat, IsZoneStock, account_of}
-use Rattle.stock_word.specs.Kinds.{draining, with_steps}
+use Rattle.stock_word.specs.Stock.{KnownStockTable, KnownStockSeat, IsZoneView, account_of}
+use Rattle.stock_word.specs.Kinds.{with_steps, zone_after_drain}
 use Rattle.stock_word.specs.Calls.{with_view}
 use Rattle.stock_word.proofs.CallerLemmas.{account_of-with_account, account_of-with_account_other}
 use Rattle.group_tree.specs.Groups.{has_group}
@@ -79,17 +79,17 @@ module _ (view : StockView) (q n : ℕ) where
   abbrev pub drained_account : Account
   drained_account = let a = account_of view q in record a { book = a.book - n; filled = false }
 
-  pub drained_at : account_of (draining view q n) q ≡ drained_account
+  pub drained_at : account_of (zone_after_drain view q n) q ≡ drained_account
   drained_at = account_of-with_account view q drained_account
 
-  pub drained_else : (p : ℕ) → (p ≡ q → ⊥) → account_of (draining view q n) p ≡ account_of view p
+  pub drained_else : (p : ℕ) → (p ≡ q → ⊥) → account_of (zone_after_drain view q n) p ≡ account_of view p
   drained_else p ne = account_of-with_account_other view q p drained_account ne
 
   -- a test of the accounts after it
-  pub drained_read : {X : Type 0} (h : Account → X) → (p : ℕ) → h (account_of (draining view q n) p)
+  pub drained_read : {X : Type 0} (h : Account → X) → (p : ℕ) → h (account_of (zone_after_drain view q n) p)
       ≡ with_at (λ k. h (account_of view k)) q (h drained_account) p
   drained_read h p = elim (cases_eq p q) [
-    | inl e ↦ subst (λ (k : ℕ). h (account_of (draining view q n) k) ≡ with_at (λ j. h (account_of view j)) q (h drained_account) k) (sym e)
+    | inl e ↦ subst (λ (k : ℕ). h (account_of (zone_after_drain view q n) k) ≡ with_at (λ j. h (account_of view j)) q (h drained_account) k) (sym e)
         (ap h drained_at ∙ sym (at_same (λ k. h (account_of view k)) q (h drained_account)))
     | inr ne ↦ ap h (drained_else p ne) ∙ sym (at_other (λ k. h (account_of view k)) q (h drained_account) p ne)
   ]
@@ -139,7 +139,7 @@ booked_within t stock q g inside group =
 
 -- other charges and another seat of the stocks
 pub stocks_consistent : (t : KnownTable) (w : KnownStockTable) (m : KnownMachine) (l : Ledger) (stock : KnownStockSeat)
-    → IsConsistent t w m → stock.table ≡ m.stock_seat.table → IsZoneStock stock.view
+    → IsConsistent t w m → stock.table ≡ m.stock_seat.table → IsZoneView stock.view
     → ((p : ℕ) → (account_of stock.view p).unabsorbed ≡ 0) → ((p : ℕ) → (account_of stock.view p).book < 65536)
     → ((g : ℕ) → pages_of l g ≡ frames_charged m.frame_states g + pages_booked t stock g)
     → IsConsistent t w (record m { ledger = l; stock_seat = stock })
@@ -159,7 +159,7 @@ stocks_consistent t w m l stock ok table machine noted bounded charged = record 
 module _ (t : KnownTable) (w : KnownStockTable) (m : KnownMachine) (ok : IsConsistent t w m) (s q k : ℕ) (inside : q ≤ t.cpus) (enough : k
     ≤ (account_of m.stock_seat.view q).book) where
   abbrev pub emptied : KnownStockSeat
-  emptied = with_view m.stock_seat (with_steps s (draining m.stock_seat.view q k))
+  emptied = with_view m.stock_seat (with_steps s (zone_after_drain m.stock_seat.view q k))
 
   books_change : (h : ℕ) → pages_booked t emptied h + booked h (account_of m.stock_seat.view q)
       ≡ pages_booked t m.stock_seat h + booked h (drained_account m.stock_seat.view q k)
@@ -234,15 +234,15 @@ module _ (stock : KnownStockSeat) (c : KnownCpu) (q n : ℕ) where
   shown_drained p a = (λ i. cond (p == c.number) (part_drained c.list c.fresh c.back a n i) (part_drained [] [] [] a n i))
       ∙ sym (cond-ap (λ (x : Part). drained x n) (p == c.number) (part_with c.list c.fresh c.back a) (part_with [] [] [] a))
 
-  part_drained_at : (p : ℕ) → part_of (with_view stock (draining stock.view q n)) c p ≡ with_at (part_of stock c) q (drained (part_of stock c q) n) p
+  part_drained_at : (p : ℕ) → part_of (with_view stock (zone_after_drain stock.view q n)) c p ≡ with_at (part_of stock c) q (drained (part_of stock c q) n) p
   part_drained_at p = elim (cases_eq p q) [
-    | inl e ↦ subst (λ (k : ℕ). part_of (with_view stock (draining stock.view q n)) c k ≡ with_at (part_of stock c) q (drained (part_of stock c q) n) k) (sym e)
+    | inl e ↦ subst (λ (k : ℕ). part_of (with_view stock (zone_after_drain stock.view q n)) c k ≡ with_at (part_of stock c) q (drained (part_of stock c q) n) k) (sym e)
         (ap (shown q) (drained_at stock.view q n) ∙ shown_drained q (account_of stock.view q)
         ∙ sym (at_same (part_of stock c) q (drained (part_of stock c q) n)))
     | inr ne ↦ ap (shown p) (drained_else stock.view q n p ne) ∙ sym (at_other (part_of stock c) q (drained (part_of stock c q) n) p ne)
   ]
 
-  pub parts_drained : part_of (with_view stock (draining stock.view q n)) c ≡ with_at (part_of stock c) q (drained (part_of stock c q) n)
+  pub parts_drained : part_of (with_view stock (zone_after_drain stock.view q n)) c ≡ with_at (part_of stock c) q (drained (part_of stock c q) n)
   parts_drained = λ i. λ p. part_drained_at p i
 
   pub part_group : (part_of stock c q).stock.group ≡ (account_of stock.view q).group
@@ -301,7 +301,7 @@ drain_follows s l (Some g) q (suc k) = follows_still s l (drain_steps q (Some g)
     (uncharge_peaks l g (suc k)) (uncharge_events l g (suc k))
 
 pub drain_runs : (t : KnownTable) (m n : KnownMachine) (steps q k : ℕ)
-    → n ≡ record m { ledger = uncharged m.ledger (stock_group m q) k; stock_seat = with_view m.stock_seat (with_steps steps (draining m.stock_seat.view q k)) }
+    → n ≡ record m { ledger = uncharged m.ledger (stock_group m q) k; stock_seat = with_view m.stock_seat (with_steps steps (zone_after_drain m.stock_seat.view q k)) }
     → 1 ≤ q → q ≤ t.cpus → ((g : ℕ) → stock_group m q ≡ Some g → 1 ≤ k → has_group m.ledger.groups g ≡ true) → (c : KnownCpu)
     → LeadsAs t c.number (visit_state m c) (drain_steps q (stock_group m q) k) (visit_state n c)
 drain_runs t m n steps q k is some inside there c =
@@ -334,14 +334,14 @@ pub record Drained (t : KnownTable) (w : KnownStockTable) (m now : KnownMachine)
 
 drained_here : (t : KnownTable) (w : KnownStockTable) (m : KnownMachine) (steps q k : ℕ) → IsConsistent t w m → (1 ≤ k → AreCharges m.ledger) → 1 ≤ q → q ≤ t.cpus
     → k ≤ (account_of m.stock_seat.view q).book → ((account_of m.stock_seat.view q).filled ≡ false → k ≡ 0) → (stock_group m q ≡ None → k ≡ 0)
-    → Drained t w m m steps q k (uncharged m.ledger (stock_group m q) k) (with_view m.stock_seat (with_steps steps (draining m.stock_seat.view q k)))
+    → Drained t w m m steps q k (uncharged m.ledger (stock_group m q) k) (with_view m.stock_seat (with_steps steps (zone_after_drain m.stock_seat.view q k)))
 drained_here t w m steps q k ok facts some inside enough before none = record {
   consistent = drain_consistent t w m ok steps q k inside enough none;
   drains = record { machine = refl; booked = enough; drained_before = before };
   steps = drain_runs t m (record m {
     ledger = uncharged m.ledger (stock_group m q) k;
     stock_seat =
-        with_view m.stock_seat (with_steps steps (draining m.stock_seat.view q k));
+        with_view m.stock_seat (with_steps steps (zone_after_drain m.stock_seat.view q k));
   }) steps q k refl some inside
       (λ g of one. (drained_there t w m ok steps q k inside enough g (facts one) of one).0);
 }
@@ -349,7 +349,7 @@ drained_here t w m steps q k ok facts some inside enough before none = record {
 pub drained_all : (t : KnownTable) (w : KnownStockTable) (m now : KnownMachine) (steps q k : ℕ) → m ≡ now → IsConsistent t w m
     → (1 ≤ k → AreCharges m.ledger) → 1 ≤ q → q ≤ t.cpus
     → k ≤ (account_of m.stock_seat.view q).book → ((account_of m.stock_seat.view q).filled ≡ false → k ≡ 0) → (o : Option ℕ) → stock_group now q ≡ o → (o ≡ None → k ≡ 0)
-    → (l : Ledger) (stock : KnownStockSeat) → l ≡ uncharged m.ledger o k → stock ≡ with_view m.stock_seat (with_steps steps (draining m.stock_seat.view q k))
+    → (l : Ledger) (stock : KnownStockSeat) → l ≡ uncharged m.ledger o k → stock ≡ with_view m.stock_seat (with_steps steps (zone_after_drain m.stock_seat.view q k))
     → Drained t w m now steps q k l stock
 drained_all t w m now steps q k same ok facts some inside enough before o of none l stock off emptied =
     let group : stock_group m q ≡ o = ap (λ (x : KnownMachine). stock_group x q) same ∙ of in
@@ -374,7 +374,7 @@ drained_within t w m now same ok facts q k inside enough g of some id is =
 
 -- a stock of no group: the look for its group drained nothing
 pub never_drained : (t : KnownTable) (w : KnownStockTable) (m now : KnownMachine) → m ≡ now → IsConsistent t w m → (q : ℕ) → 1 ≤ q → q ≤ t.cpus
-    → None ≡ stock_group m q → (stock : KnownStockSeat) → stock ≡ with_view m.stock_seat (with_steps 1 (draining m.stock_seat.view q 0))
+    → None ≡ stock_group m q → (stock : KnownStockSeat) → stock ≡ with_view m.stock_seat (with_steps 1 (zone_after_drain m.stock_seat.view q 0))
     → Drained t w m now 1 q 0 m.ledger stock
 never_drained t w m now same ok q some inside none stock emptied =
     drained_all t w m now 1 q 0 same ok (λ one. absurd (omega (arith, one))) some inside (omega arith) (λ e. refl) None
@@ -404,7 +404,7 @@ after_look m n q k g of drains = record {
     ledger = uncharged m.ledger (stock_group m q) k;
     stock_seat = record {
       table = m.stock_seat.table;
-      view = record (draining m.stock_seat.view q k) { steps = counted i };
+      view = record (zone_after_drain m.stock_seat.view q k) { steps = counted i };
     };
     watch = n.watch;
   });

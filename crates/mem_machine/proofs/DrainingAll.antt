@@ -12,7 +12,7 @@ use Rattle.stock_word.specs.declared.view.Account.{Account}
 use Rattle.stock_word.specs.declared.view.StockView.{StockView}
 use Rattle.stock_word.specs.Stock.{KnownStockSeat, account_of}
 use Rattle.stock_word.specs.Calls.{with_view, after_look}
-use Rattle.stock_word.specs.Kinds.{draining, with_steps}
+use Rattle.stock_word.specs.Kinds.{with_steps, zone_after_drain}
 use Rattle.group_tree.specs.declared.group.Group.{Group}
 use Rattle.group_tree.specs.Groups.{has_group, in_subtree}
 use Rattle.group_tree.proofs.CallerLemmas.{in_subtree-below}
@@ -102,21 +102,21 @@ module _ (t : KnownTable) (m : KnownMachine) (q : ℕ) (none : stock_group m q �
   abbrev shown : ℕ → Account → Part
   shown p a = cond (p == c.number) (part_with c.list c.fresh c.back a) (part_with [] [] [] a)
 
-  shown_here : shown q (account_of (draining m.stock_seat.view q 0) q) ≡ shown q (account_of m.stock_seat.view q)
+  shown_here : shown q (account_of (zone_after_drain m.stock_seat.view q 0) q) ≡ shown q (account_of m.stock_seat.view q)
   shown_here =
       let a = account_of m.stock_seat.view q in
       ap (shown q) (drained_at m.stock_seat.view q 0)
       ∙ (λ i. cond (q == c.number) (part_none c.list c.fresh c.back a none i) (part_none [] [] [] a none i))
 
-  shown_same : (p : ℕ) → shown p (account_of (draining m.stock_seat.view q 0) p) ≡ shown p (account_of m.stock_seat.view p)
+  shown_same : (p : ℕ) → shown p (account_of (zone_after_drain m.stock_seat.view q 0) p) ≡ shown p (account_of m.stock_seat.view p)
   shown_same p = elim (cases_eq p q) [
-    | inl e ↦ subst (λ (k : ℕ). shown k (account_of (draining m.stock_seat.view q 0) k) ≡ shown k (account_of m.stock_seat.view k)) (sym e) shown_here
+    | inl e ↦ subst (λ (k : ℕ). shown k (account_of (zone_after_drain m.stock_seat.view q 0) k) ≡ shown k (account_of m.stock_seat.view k)) (sym e) shown_here
     | inr ne ↦ ap (shown p) (drained_else m.stock_seat.view q 0 p ne)
   ]
 
   -- the look at a stock of no group changes nothing that is seen
-  pub looked_none : MakesAs t c.number (visit_state m c) [] (visit_state (record m { stock_seat = with_view m.stock_seat (with_steps 1 (draining m.stock_seat.view q 0)) }) c)
-  looked_none = makes_stay t m (record m { stock_seat = with_view m.stock_seat (with_steps 1 (draining m.stock_seat.view q 0)) }) c c
+  pub looked_none : MakesAs t c.number (visit_state m c) [] (visit_state (record m { stock_seat = with_view m.stock_seat (with_steps 1 (zone_after_drain m.stock_seat.view q 0)) }) c)
+  looked_none = makes_stay t m (record m { stock_seat = with_view m.stock_seat (with_steps 1 (zone_after_drain m.stock_seat.view q 0)) }) c c
       (λ i. record (local_of t m c) { parts = λ p. sym (shown_same p) i }) refl refl refl
 
 -- the stock of a group that the test chooses, of the machine as it was seen before the look
@@ -149,10 +149,10 @@ looked_other t m now same test q h of other stock is =
 
 -- the stock of no group
 pub looked_never : (t : KnownTable) (m now : KnownMachine) → m ≡ now → (test : List Group → Option ℕ → Bool) (q : ℕ) → None ≡ stock_group m q
-    → test m.ledger.groups None ≡ false → (stock : KnownStockSeat) → stock ≡ with_view m.stock_seat (with_steps 1 (draining m.stock_seat.view q 0))
+    → test m.ledger.groups None ≡ false → (stock : KnownStockSeat) → stock ≡ with_view m.stock_seat (with_steps 1 (zone_after_drain m.stock_seat.view q 0))
     → DrainsBySteps t (DrainsIf test q) 0 now (record m { stock_seat = stock })
 looked_never t m now same test q of none_chosen stock is =
-    let n : KnownMachine = record m { stock_seat = with_view m.stock_seat (with_steps 1 (draining m.stock_seat.view q 0)) } in
+    let n : KnownMachine = record m { stock_seat = with_view m.stock_seat (with_steps 1 (zone_after_drain m.stock_seat.view q 0)) } in
     let seen : n ≡ record m { stock_seat = with_view m.stock_seat (with_steps 1 (after_look m.stock_seat.view q (stock_group m q))) } =
     λ i. record m { stock_seat = with_view m.stock_seat (with_steps 1 (after_look m.stock_seat.view q (of i))) } in
     subst (λ (x : KnownMachine × KnownMachine). DrainsBySteps t (DrainsIf test q) 0 x.0 x.1) (λ i. (same i, record m { stock_seat = sym is i }))

@@ -7,7 +7,7 @@ use Rattle.zone_blocks.specs.Areas.{AreMaximalBlocks}
 use Rattle.frame_word.specs.declared.view.FrameNote.{FrameNote}
 use Rattle.frame_word.specs.Views.{note_of, blank}
 use Rattle.frame_word.specs.Seats.{KnownTable, KnownSeat, number_of, first_zone_view}
-use Rattle.stock_word.specs.Stock.{KnownStockTable, KnownStockSeat, account_of, first_zone_stock}
+use Rattle.stock_word.specs.Stock.{KnownStockTable, KnownStockSeat, account_of, first_zone_stock_view}
 use Rattle.group_charge.specs.Charges.{Ledger, initial_ledger, pages_of, account_at}
 use Rattle.kill_notes.specs.Notes.{no_notes}
 use Rattle.lru_lists.specs.declared.record.Link.{Link}
@@ -161,7 +161,7 @@ starts t w m free frames first sized links empty all areas cpus =
 
 pub first_is : (t : KnownTable) (w : KnownStockTable) (m : KnownMachine) (frames : ℕ) → frames ≡ t.frames → m.frame_states ≡ replicate frames Free
     → m.ledger ≡ initial_ledger → AreNowhere m.links → m.frame_seat ≡ record { table = t.table; view = first_zone_view t.frames }
-    → m.stock_seat ≡ record { table = w.table; view = first_zone_stock } → m.killed ≡ replicate 64 false → m.counts ≡ no_counts
+    → m.stock_seat ≡ record { table = w.table; view = first_zone_stock_view } → m.killed ≡ replicate 64 false → m.counts ≡ no_counts
     → m.notes ≡ no_notes → IsFirst t w m
 first_is t w m frames sized frame_states ledger nowhere seat stock killed counts notes = record {
   frame_states = frame_states ∙ ap (λ (n : ℕ). replicate n Free) sized;

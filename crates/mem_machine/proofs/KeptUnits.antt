@@ -13,7 +13,7 @@ use Rattle.frame_word.specs.declared.view.FrameNote.{FrameNote}
 use Rattle.frame_word.specs.Views.{note_of}
 use Rattle.frame_word.specs.Seats.{KnownTable, KnownSeat, seat_with}
 use Rattle.frame_word.proofs.Notes.{note_here, note_else}
-use Rattle.stock_word.specs.Stock.{KnownStockTable, KnownStockSeat, IsZoneStock, account_of}
+use Rattle.stock_word.specs.Stock.{KnownStockTable, KnownStockSeat, IsZoneView, account_of}
 use Rattle.group_charge.specs.Charges.{Ledger, pages_of}
 use Rattle.lru_lists.specs.declared.record.Link.{Link}
 use Rattle.lru_lists.specs.declared.record.Home.{Home}
@@ -127,7 +127,7 @@ pub record JoinsCharges (t : KnownTable) (w : KnownStockTable) (m : KnownMachine
     (stock : KnownStockSeat) : Type 0 where
   pub areas : AreMaximalBlocks (free_of frame_states) blocks
   pub table : stock.table ≡ w.table
-  pub stocks : IsZoneStock stock.view
+  pub stocks : IsZoneView stock.view
   pub absorbed : (p : ℕ) → (account_of stock.view p).unabsorbed ≡ 0
   pub bounded : (p : ℕ) → (account_of stock.view p).book < 65536
   pub charged : (h : ℕ) → pages_of ledger h ≡ frames_charged m.frame_states h + cond (h == g) pages 0 + pages_booked t stock h

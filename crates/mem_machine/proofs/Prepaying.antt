@@ -10,7 +10,7 @@ use Rattle.stock_word.specs.declared.view.StockView.{StockView}
 use Rattle.stock_word.specs.declared.view.Stock.{Stock}
 use Rattle.stock_word.specs.declared.view.Stock.TheVariants.{NoGroup, HeldBy, DrainedOf}
 use Rattle.stock_word.specs.Stock.{KnownStockTable, KnownStockSeat, account_of, pages_of, is_held}
-use Rattle.stock_word.specs.Kinds.{filling, after_fill}
+use Rattle.stock_word.specs.Kinds.{zone_after_fill, after_fill}
 use Rattle.stock_word.specs.Calls.{with_view}
 use Rattle.stock_word.proofs.CallerLemmas.{account_of-with_account, account_of-with_account_other}
 use Rattle.group_tree.specs.declared.group.Group.{Group}
@@ -52,16 +52,16 @@ module _ (view : StockView) (q g n : ℕ) where
   abbrev pub filled_account : Account
   filled_account = let a = account_of view q in record a { book = a.book + n; group = Some g; filled = true }
 
-  pub filled_at : account_of (filling view q g n) q ≡ filled_account
+  pub filled_at : account_of (zone_after_fill view q g n) q ≡ filled_account
   filled_at = account_of-with_account view q filled_account
 
-  pub filled_else : (p : ℕ) → (p ≡ q → ⊥) → account_of (filling view q g n) p ≡ account_of view p
+  pub filled_else : (p : ℕ) → (p ≡ q → ⊥) → account_of (zone_after_fill view q g n) p ≡ account_of view p
   filled_else p ne = account_of-with_account_other view q p filled_account ne
 
-  pub filled_read : {X : Type 0} (h : Account → X) → (p : ℕ) → h (account_of (filling view q g n) p)
+  pub filled_read : {X : Type 0} (h : Account → X) → (p : ℕ) → h (account_of (zone_after_fill view q g n) p)
       ≡ with_at (λ k. h (account_of view k)) q (h filled_account) p
   filled_read h p = elim (cases_eq p q) [
-    | inl e ↦ subst (λ (k : ℕ). h (account_of (filling view q g n) k) ≡ with_at (λ j. h (account_of view j)) q (h filled_account) k) (sym e)
+    | inl e ↦ subst (λ (k : ℕ). h (account_of (zone_after_fill view q g n) k) ≡ with_at (λ j. h (account_of view j)) q (h filled_account) k) (sym e)
         (ap h filled_at ∙ sym (at_same (λ k. h (account_of view k)) q (h filled_account)))
     | inr ne ↦ ap h (filled_else p ne) ∙ sym (at_other (λ k. h (account_of view k)) q (h filled_account) p ne)
   ]
@@ -86,9 +86,9 @@ booked_more h g k a empty =
 
 pub fill_consistent : (t : KnownTable) (w : KnownStockTable) (m : KnownMachine) (q g k : ℕ) (l : Ledger) → IsConsistent t w m
     → q ≤ t.cpus → (account_of m.stock_seat.view q).book ≡ 0 → k < 65536
-    → PagesRise m.ledger l g k → IsConsistent t w (record m { ledger = l; stock_seat = with_view m.stock_seat (filling m.stock_seat.view q g k) })
+    → PagesRise m.ledger l g k → IsConsistent t w (record m { ledger = l; stock_seat = with_view m.stock_seat (zone_after_fill m.stock_seat.view q g k) })
 fill_consistent t w m q g k l ok inside empty small rise =
-    let stock : KnownStockSeat = with_view m.stock_seat (filling m.stock_seat.view q g k) in
+    let stock : KnownStockSeat = with_view m.stock_seat (zone_after_fill m.stock_seat.view q g k) in
     let a = account_of m.stock_seat.view q in
     stocks_consistent t w m l stock ok refl ok.seats.stocks
     (λ p. filled_read m.stock_seat.view q g k (λ (x : Account). x.unabsorbed) p
@@ -130,7 +130,7 @@ part_filled l f b a g n none noted empty =
 module _ (stock : KnownStockSeat) (c : KnownCpu) (g n : ℕ) (none : length c.fresh ≡ 0) (noted : (account_of stock.view c.number).unabsorbed ≡ 0)
     (empty : (account_of stock.view c.number).book ≡ 0) where
   abbrev after_it : KnownStockSeat
-  after_it = with_view stock (filling stock.view c.number g n)
+  after_it = with_view stock (zone_after_fill stock.view c.number g n)
 
   abbrev shown : ℕ → Account → Part
   shown p a = cond (p == c.number) (part_with c.list c.fresh c.back a) (part_with [] [] [] a)
@@ -165,7 +165,7 @@ pub fill_runs : (t : KnownTable) (w : KnownStockTable) (m : KnownMachine) (c : K
     → LeadsAs t c.number (visit_state m c) (fill_steps c.number g k) (visit_state (record m {
       ledger = with_charge m.ledger g k;
       stock_seat =
-          with_view m.stock_seat (filling m.stock_seat.view c.number g k);
+          with_view m.stock_seat (zone_after_fill m.stock_seat.view c.number g k);
     }) (record c { stock_seat = with_view c.stock_seat (after_fill c.stock_seat.view g k) }))
 fill_runs t w m c g k ok facts tied visit none there alive empty has =
     let usage : (h : ℕ) → local.usage_of (local_of t m c) h ≡ current_of m.ledger h = usage_is t w m c ok facts visit.lent tied (balanced_alone m c none) in
@@ -211,7 +211,7 @@ filled_here : (t : KnownTable) (w : KnownStockTable) (m : KnownMachine) (c : Kno
     → AreCharges m.ledger → IsTied t w c → Visits t (visit_state m c) → c.fresh ≡ [] → k < 65536
     → has_group m.ledger.groups g ≡ true → is_killed m.killed g ≡ false → (account_of m.stock_seat.view c.number).book ≡ 0
     → room.PathHasRoom m.ledger.groups (current_of m.ledger) g k
-    → Filled t w m m g k c (with_charge m.ledger g k) (with_view m.stock_seat (filling m.stock_seat.view c.number g k)) (record c {
+    → Filled t w m m g k c (with_charge m.ledger g k) (with_view m.stock_seat (zone_after_fill m.stock_seat.view c.number g k)) (record c {
       stock_seat =
           with_view c.stock_seat (after_fill c.stock_seat.view g k);
     })
@@ -226,12 +226,12 @@ pub filled_all : (t : KnownTable) (w : KnownStockTable) (m now : KnownMachine) (
     → IsConsistent t w m → AreCharges m.ledger → IsTied t w c → Visits t (visit_state now c)
     → c.fresh ≡ [] → k < 65536 → has_group now.ledger.groups g ≡ true → is_killed now.killed g ≡ false → (account_of m.stock_seat.view c.number).book ≡ 0
     → room.PathHasRoom m.ledger.groups (current_of m.ledger) g k → (l : Ledger) (stock : KnownStockSeat) (d : KnownCpu) (h : ℕ) → h ≡ g → l ≡ with_charge m.ledger g k
-    → stock ≡ with_view m.stock_seat (filling m.stock_seat.view c.number h k) → d
+    → stock ≡ with_view m.stock_seat (zone_after_fill m.stock_seat.view c.number h k) → d
     ≡ record c { stock_seat = with_view c.stock_seat (after_fill c.stock_seat.view h k) } → Filled t w m now g k c l stock d
 filled_all t w m now c g k same ok facts tied visit none small there alive empty has l stock d h named charged filled seen =
     let here = filled_here t w m c g k ok facts tied (subst (λ (x : KnownMachine). Visits t (visit_state x c)) (sym same) visit) none small
     (ap (λ (x : KnownMachine). has_group x.ledger.groups g) same ∙ there) (ap (λ (x : KnownMachine). is_killed x.killed g) same ∙ alive) empty has in
-    let stock_is = filled ∙ ap (λ (n : ℕ). with_view m.stock_seat (filling m.stock_seat.view c.number n k)) named in
+    let stock_is = filled ∙ ap (λ (n : ℕ). with_view m.stock_seat (zone_after_fill m.stock_seat.view c.number n k)) named in
     let cpu_is = seen ∙ ap (λ (n : ℕ). record c { stock_seat = with_view c.stock_seat (after_fill c.stock_seat.view n k) }) named in
     subst (λ (x : KnownMachine × Ledger × KnownStockSeat × KnownCpu). Filled t w m x.0 g k c x.1 x.2 x.3) (λ i. (
       same i,

@@ -2,7 +2,7 @@
 use Rattle.std.specs.Prelude.{◌≡◌, ℕ, ◌<◌, List, length}
 use Rattle.std.specs.List.{slice_index_or}
 use Rattle.frame_word.specs.Seats.{KnownTable}
-use Rattle.stock_word.specs.Stock.{KnownStockTable, KnownStockSeat, IsZoneStock}
+use Rattle.stock_word.specs.Stock.{KnownStockTable, KnownStockSeat, IsZoneView}
 use Rattle.group_tree.specs.Bounds.{most_groups}
 use Rattle.mem_machine.specs.Machines.{pages_booked}
 
@@ -11,7 +11,7 @@ use Rattle.mem_machine.specs.Machines.{pages_booked}
 pub record AreBooked (frame_table : KnownTable) (stock_table : KnownStockTable) (stock : KnownStockSeat)
     (sums : List ℕ) : Type 0 where
   pub table : stock.table ≡ stock_table.table
-  pub zone : IsZoneStock stock.view
+  pub zone : IsZoneView stock.view
   pub cpus : stock_table.cpus ≡ frame_table.cpus
   pub size : length sums ≡ most_groups
   pub each : (group : ℕ) → group < most_groups → slice_index_or sums group 0 ≡ pages_booked frame_table stock group

@@ -9,7 +9,7 @@ use Rattle.frame_word.specs.Views.{note_of}
 use Rattle.frame_word.specs.Seats.{KnownTable, KnownSeat, IsZoneSeat, IsOpen, NothingPasses, LentIsBorrowed}
 use Rattle.frame_word.specs.Seats.{first_zone_view}
 use Rattle.stock_word.specs.declared.view.Account.{Account}
-use Rattle.stock_word.specs.Stock.{KnownStockTable, KnownStockSeat, IsZoneStock, account_of, first_zone_stock}
+use Rattle.stock_word.specs.Stock.{KnownStockTable, KnownStockSeat, IsZoneView, account_of, first_zone_stock_view}
 use Rattle.group_charge.specs.Charges.{Ledger, pages_of, current_of, initial_ledger, with_new_group}
 use Rattle.group_tree.specs.Bounds.{most_groups}
 use Rattle.group_tree.specs.Groups.{IsLeastFreeNumber}
@@ -173,7 +173,7 @@ pub record AreZoneSeats (frame_table : KnownTable) (stock_table : KnownStockTabl
     (stock : KnownStockSeat) : Type 0 where
   pub frames : IsZoneSeat frame_table seat
   pub table : stock.table ≡ stock_table.table
-  pub stocks : IsZoneStock stock.view
+  pub stocks : IsZoneView stock.view
 
 -- The machine is consistent. Its sizes are those of the tables, and its seats are the zone's. The free areas are the
 -- maximal blocks of the free frames. Each frame's record agrees with the zone's seat and the lists. The charged frames
@@ -273,7 +273,7 @@ pub record IsFirst (table : KnownTable) (stock_table : KnownStockTable) (machine
   pub ledger : machine.ledger ≡ initial_ledger
   pub nowhere : AreNowhere machine.links
   pub frame_seat : machine.frame_seat ≡ record { table = table.table; view = first_zone_view table.frames }
-  pub stock_seat : machine.stock_seat ≡ record { table = stock_table.table; view = first_zone_stock }
+  pub stock_seat : machine.stock_seat ≡ record { table = stock_table.table; view = first_zone_stock_view }
   pub killed : machine.killed ≡ replicate most_groups false
   pub counts : machine.counts ≡ no_counts
   pub notes : machine.notes ≡ no_notes

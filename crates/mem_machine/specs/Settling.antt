@@ -8,7 +8,7 @@ use Rattle.frame_word.specs.Seats.{KnownTable, KnownSeat, seat_with}
 use Rattle.frame_word.specs.Seats.{IsZoneSeat, IsOpen, NothingPasses, HasNothingOf, IsLent}
 use Rattle.stock_word.specs.declared.view.Account.{Account}
 use Rattle.stock_word.specs.Stock.{KnownStockSeat, account_of, group_of}
-use Rattle.stock_word.specs.Kinds.{after_report, noting, absorbing, with_steps}
+use Rattle.stock_word.specs.Kinds.{after_report, zone_after_report, zone_after_absorb, with_steps}
 use Rattle.stock_word.specs.Calls.{with_view}
 use Rattle.group_charge.specs.Charges.{with_uncharge}
 use Rattle.cpu_part.specs.Cpus.{KnownCpu}
@@ -28,7 +28,7 @@ use Rattle.mem_machine.specs.Freeing.{FreesFrames}
 
 -- the zone's seat at the stocks, after it absorbed in one step a page that the CPU reported
 abbrev pub with_page_absorbed : KnownStockSeat → ℕ → KnownStockSeat
-with_page_absorbed seat cpu = with_view seat (with_steps 1 (absorbing (noting seat.view cpu 1) cpu))
+with_page_absorbed seat cpu = with_view seat (with_steps 1 (zone_after_absorb (zone_after_report seat.view cpu 1) cpu))
 
 -- at least one of the pages booked in the account isn't reported yet
 abbrev pub HasUnreportedPage : Account → Type 0

@@ -3,7 +3,7 @@ use Rattle.std.specs.Prelude.{◌≡◌, ℕ, zero, suc, ◌-◌, ◌≤◌, ◌
 use Rattle.std.specs.Prelude.{Option, Some, None, List, [], ◌∷◌, ◌++◌, length}
 use Rattle.frame_word.specs.Seats.{KnownTable}
 use Rattle.stock_word.specs.Stock.{account_of}
-use Rattle.stock_word.specs.Kinds.{draining, filling, after_fill, with_steps}
+use Rattle.stock_word.specs.Kinds.{zone_after_drain, zone_after_fill, after_fill, with_steps}
 use Rattle.stock_word.specs.Calls.{with_view, after_look}
 use Rattle.group_tree.specs.Room.{PathHasRoom}
 use Rattle.group_charge.specs.declared.charges.Over.{Over}
@@ -57,7 +57,7 @@ pub record DrainsBy (steps cpu pages : ℕ) (before after : KnownMachine) : Type
   pub machine : after ≡ record before {
     ledger = uncharged before.ledger (stock_group before cpu) pages;
     stock_seat =
-        with_view before.stock_seat (with_steps steps (draining before.stock_seat.view cpu pages));
+        with_view before.stock_seat (with_steps steps (zone_after_drain before.stock_seat.view cpu pages));
     watch = after.watch;
   }
   pub booked : pages ≤ (account_of before.stock_seat.view cpu).book
@@ -169,7 +169,7 @@ pub record Fills (group pages : ℕ) (before after : VisitState) : Type 0 where
   pub machine : after.machine ≡ record before.machine {
     ledger = with_charge before.machine.ledger group pages;
     stock_seat = with_view before.machine.stock_seat
-        (filling before.machine.stock_seat.view before.cpu.number group pages);
+        (zone_after_fill before.machine.stock_seat.view before.cpu.number group pages);
     watch = after.machine.watch;
   }
   pub cpu : after.cpu ≡ record before.cpu {

@@ -4,9 +4,9 @@ ghost use Rattle.std.specs.Prelude.{◌≡◌, ◌≢◌, ◌+◌, ◌-◌, ◌^
 ghost use Rattle.std.specs.Prelude.{Some};
 ghost use Rattle.frame_word.specs.Views.{collected_from};
 ghost use Rattle.frame_word.specs.Seats.{seat_with};
-ghost use Rattle.stock_word.specs.Stock.{account_of, drained_of, first_zone_stock, group_of, is_held, pages_of};
+ghost use Rattle.stock_word.specs.Stock.{account_of, drained_of, first_zone_stock_view, group_of, is_held, pages_of};
 ghost use Rattle.stock_word.specs.Stock.{stocked};
-ghost use Rattle.stock_word.specs.Kinds.{after_fill, draining, filling, with_steps};
+ghost use Rattle.stock_word.specs.Kinds.{after_fill, with_steps, zone_after_drain, zone_after_fill};
 ghost use Rattle.stock_word.specs.Calls.{after_look, with_view};
 ghost use Rattle.cpu_part.specs.Calls.{CanTake, HandsFresh, TakesFront};
 ghost use Rattle.mem_machine.specs.Machines.{IsCpuOf, pages_booked};
@@ -43,7 +43,7 @@ impl<N: BootName> Model for BookedSeat<N> {
 impl<N: BootName> BookedSeat<N> {
     /// The seat of a new boot, with nothing booked. It is the zone's at the boot's table.
     pub(crate) fn new(seat: StockSeat) -> BookedSeat<N>
-        requires first { seat.view ≡ first_zone_stock }
+        requires first { seat.view ≡ first_zone_stock_view }
         requires table { seat.table ≡ N.stocks.table }
         requires cpus { N.stocks.cpus ≡ N.frames.cpus }
         ensures { result ≡ seat }
@@ -88,7 +88,7 @@ impl<N: BootName> BookedSeat<N> {
     pub(crate) fn drain(&mut self, tables: &Tables<N>, cpu: u32, group: GroupId) -> u32
         requires cpu { IsCpuOf N.frames cpu }
         requires group { (account_of self.old.view cpu).group ≡ Some group }
-        ensures seat { self.new ≡ with_view self.old (with_steps 2 (draining self.old.view cpu result)) }
+        ensures seat { self.new ≡ with_view self.old (with_steps 2 (zone_after_drain self.old.view cpu result)) }
         ensures booked { result ≤ (account_of self.old.view cpu).book }
         ensures drained_before { (account_of self.old.view cpu).filled ≡ false → result ≡ 0 }
     {
@@ -106,7 +106,7 @@ impl<N: BootName> BookedSeat<N> {
         requires none_fresh { cpu.old.fresh ≡ [] }
         requires absorbed { (account_of self.old.view cpu.old.number).unabsorbed ≡ 0 }
         ensures nothing_booked { (account_of self.old.view cpu.old.number).book ≡ 0 }
-        ensures seat { self.new ≡ with_view self.old (filling self.old.view cpu.old.number group pages) }
+        ensures seat { self.new ≡ with_view self.old (zone_after_fill self.old.view cpu.old.number group pages) }
         ensures cpu { cpu.new ≡ record cpu.old {
           stock_seat = with_view cpu.old.stock_seat (after_fill cpu.old.stock_seat.view group pages);
         } }

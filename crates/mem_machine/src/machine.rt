@@ -3,7 +3,7 @@
 ghost use Rattle.std.specs.Prelude.{◌≡◌, IfOk};
 ghost use Rattle.frame_word.specs.Seats.{first_zone_view};
 ghost use Rattle.step_watch.specs.Watched.{watch_off};
-ghost use Rattle.stock_word.specs.Stock.{first_zone_stock};
+ghost use Rattle.stock_word.specs.Stock.{first_zone_stock_view};
 ghost use Rattle.mem_machine.specs.Machines.{IsConsistent, IsFirst};
 
 use crate::booked_seat::BookedSeat;
@@ -77,7 +77,7 @@ impl<N: BootName> Machine<N> {
         stock_seat: StockSeat,
     ) -> Result<Machine<N>, AllocError>
         requires frame_seat { frame_seat ≡ record { table = N.frames.table; view = first_zone_view N.frames.frames } }
-        requires stock_seat { stock_seat ≡ record { table = N.stocks.table; view = first_zone_stock } }
+        requires stock_seat { stock_seat ≡ record { table = N.stocks.table; view = first_zone_stock_view } }
         requires cpus { N.stocks.cpus ≡ N.frames.cpus }
         ensures first { IfOk result (λ machine. IsFirst N.frames N.stocks machine) }
         ensures off { IfOk result (λ machine. machine.watch ≡ watch_off) }

@@ -2,7 +2,7 @@
 use Rattle.std.proofs.Common.{◌≡◌, ℕ, zero, suc, ◌+◌, ◌-◌, ◌<◌, ◌≤◌, List, [], ◌∷◌, ◌++◌, All, length, get_or, refl, sym, ap, ◌∙◌, subst, arith}
 use Rattle.atomic_table.specs.Seated.{TableId}
 use Rattle.frame_word.specs.Seats.{KnownTable, KnownSeat, number_of, IsCpuSeat, first_cpu_view, first_cpu_seats}
-use Rattle.stock_word.specs.Stock.{KnownStockTable, KnownStockSeat, IsCpuStock, first_cpu_stock, first_seats}
+use Rattle.stock_word.specs.Stock.{KnownStockTable, KnownStockSeat, IsCpuView, first_cpu_stock_view, first_seats}
 use Rattle.cpu_part.specs.Cpus.{KnownCpu, IsIdle}
 use Rattle.mem_system.specs.Boots.{part_at_first, first_cpus}
 
@@ -12,7 +12,7 @@ pub frame_seats_left : (id : TableId) (i n : ℕ) → i < n
 frame_seats_left id i n lt = ap (first_cpu_seats id (i + 1)) (let e : n - i ≡ suc (n - (i + 1)) = omega arith in e)
 
 pub stock_seats_left : (id : TableId) (i n : ℕ) → i < n
-    → first_seats id (i + 1) (n - i) ≡ record { table = id; view = first_cpu_stock (i + 1) } ∷ first_seats id ((i + 1) + 1) (n - (i + 1))
+    → first_seats id (i + 1) (n - i) ≡ record { table = id; view = first_cpu_stock_view (i + 1) } ∷ first_seats id ((i + 1) + 1) (n - (i + 1))
 stock_seats_left id i n lt = ap (first_seats id (i + 1)) (let e : n - i ≡ suc (n - (i + 1)) = omega arith in e)
 
 -- what `remove(0)` returned is the front
@@ -24,9 +24,9 @@ pub frame_seat_first : (t : KnownTable) (s : KnownSeat) (p : ℕ) → s ≡ reco
     → IsCpuSeat t s × (s.view ≡ first_cpu_view (number_of s))
 frame_seat_first t s p is low high = subst (λ (x : KnownSeat). IsCpuSeat t x × (x.view ≡ first_cpu_view (number_of x))) (sym is) ((refl, low, high), refl)
 
-pub stock_seat_first : (w : KnownStockTable) (s : KnownStockSeat) (p : ℕ) → s ≡ record { table = w.table; view = first_cpu_stock p } → 1 ≤ p → p ≤ w.cpus
-    → (s.table ≡ w.table) × IsCpuStock w s.view × (s.view.fresh ≡ 0)
-stock_seat_first w s p is low high = subst (λ (x : KnownStockSeat). (x.table ≡ w.table) × IsCpuStock w x.view × (x.view.fresh ≡ 0)) (sym is) (refl, (low, high), refl)
+pub stock_seat_first : (w : KnownStockTable) (s : KnownStockSeat) (p : ℕ) → s ≡ record { table = w.table; view = first_cpu_stock_view p } → 1 ≤ p → p ≤ w.cpus
+    → (s.table ≡ w.table) × IsCpuView w s.view × (s.view.fresh ≡ 0)
+stock_seat_first w s p is low high = subst (λ (x : KnownStockSeat). (x.table ≡ w.table) × IsCpuView w x.view × (x.view.fresh ≡ 0)) (sym is) (refl, (low, high), refl)
 
 module _ (t : KnownTable) (w : KnownStockTable) where
   cpus_more : (p n : ℕ) → first_cpus t w p (suc n) ≡ first_cpus t w p n ++ part_at_first t w (p + n) ∷ []

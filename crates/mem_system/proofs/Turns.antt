@@ -6,7 +6,7 @@ use Rattle.std.proofs.lemmas.Bool.{cases_lt, cases_eq}
 use Rattle.frame_word.specs.Seats.{KnownTable}
 use Rattle.stock_word.specs.declared.view.Account.{Account}
 use Rattle.stock_word.specs.Stock.{KnownStockSeat, account_at, account_of}
-use Rattle.stock_word.specs.Kinds.{draining}
+use Rattle.stock_word.specs.Kinds.{zone_after_drain}
 use Rattle.cpu_part.specs.Cpus.{KnownCpu}
 use Rattle.mem_machine.specs.declared.frame_state.FrameState.{FrameState}
 use Rattle.mem_machine.specs.declared.frame_state.FrameState.TheVariants.{Free, Lent}
@@ -112,14 +112,14 @@ emptied_alone m entered x y n c1 c2 frames p q k opened takes drains shut =
     let taken = taken_alone frames entered c1 x c2 takes in
     let frame_states : n.frame_states ≡ x.frame_states = ap (λ (z : KnownMachine). z.frame_states) shut ∙ ap (λ (z : KnownMachine). z.frame_states) drains.machine in
     let first : entered.frame_states ≡ m.frame_states = ap (λ (z : KnownMachine). z.frame_states) opened in
-    let accounts : n.stock_seat.view.accounts ≡ (draining m.stock_seat.view q k).accounts =
+    let accounts : n.stock_seat.view.accounts ≡ (zone_after_drain m.stock_seat.view q k).accounts =
     ap (λ (z : KnownMachine). z.stock_seat.view.accounts) shut ∙ ap (λ (z : KnownMachine). z.stock_seat.view.accounts) drains.machine
-    ∙ ap (λ (z : KnownStockSeat). (draining z.view q k).accounts) (taken.stock_seat ∙ ap (λ (z : KnownMachine). z.stock_seat) opened) in
+    ∙ ap (λ (z : KnownStockSeat). (zone_after_drain z.view q k).accounts) (taken.stock_seat ∙ ap (λ (z : KnownMachine). z.stock_seat) opened) in
     record {
       none_lent = λ r none f is. none f (sym (ap (λ (l : List FrameState). frame_state_at l f) first)
           ∙ taken.lent f r (sym (ap (λ (l : List FrameState). frame_state_at l f) frame_states) ∙ is));
       drained = λ r was. ap (λ (l : List Account). (account_at l r).filled) accounts ∙ elim (cases_eq r q) [
-        | inl e ↦ ap (λ (j : ℕ). (account_of (draining m.stock_seat.view q k) j).filled) e ∙ ap (λ (a : Account). a.filled) (drained_at m.stock_seat.view q k)
+        | inl e ↦ ap (λ (j : ℕ). (account_of (zone_after_drain m.stock_seat.view q k) j).filled) e ∙ ap (λ (a : Account). a.filled) (drained_at m.stock_seat.view q k)
         | inr ne ↦ ap (λ (a : Account). a.filled) (drained_else m.stock_seat.view q k r ne) ∙ was
       ];
     }

@@ -3,7 +3,7 @@ use Rattle.std.proofs.Common.{◌≡◌, ◌≢◌, ℕ, zero, suc, false, List,
 use Rattle.stock_word.specs.declared.view.Account.{Account}
 use Rattle.stock_word.specs.declared.view.StockView.{StockView}
 use Rattle.stock_word.specs.Stock.{account_at, with_account_at, account_of, with_account, IsSettled}
-use Rattle.stock_word.specs.Kinds.{after_report, noting, draining, absorbing, with_steps}
+use Rattle.stock_word.specs.Kinds.{after_report, zone_after_report, zone_after_drain, zone_after_absorb, with_steps}
 
 place_set : (accounts : List Account) (p : ℕ) (a : Account) → account_at (with_account_at accounts p a) p ≡ a
 place_set [] zero a = refl
@@ -29,13 +29,13 @@ pub account_of-with_account_other : (m : StockView) (p q : ℕ) (a : Account) �
 account_of-with_account_other m p q a ne = place_else m.accounts p q a ne
 
 -- after a drain, a report of all fresh pages and an absorb the stock may be filled
-pub settled_after : (m0 m1 m2 m3 v v' : StockView) (n k i j : ℕ) → v.number ≡ 1 → v.fresh ≡ k → m1 ≡ with_steps i (draining m0 1 n)
-    → m2 ≡ noting m1 v.number k → m3 ≡ with_steps j (absorbing m2 1) → v' ≡ after_report v k → IsSettled m3 v'
+pub settled_after : (m0 m1 m2 m3 v v' : StockView) (n k i j : ℕ) → v.number ≡ 1 → v.fresh ≡ k → m1 ≡ with_steps i (zone_after_drain m0 1 n)
+    → m2 ≡ zone_after_report m1 v.number k → m3 ≡ with_steps j (zone_after_absorb m2 1) → v' ≡ after_report v k → IsSettled m3 v'
 settled_after m0 m1 m2 m3 v v' n k i j one fresh drained noted absorbed reported =
     let named : v'.number ≡ 1 = ap (λ (u : StockView). u.number) reported ∙ one in
     let a1 : (account_of m1 1).filled ≡ false = ap (λ (u : StockView). (account_of u 1).filled) drained
     ∙ ap (λ (a : Account). a.filled) (account_of-with_account m0 1 _) in
-    let a2 : (account_of m2 1).filled ≡ false = ap (λ (u : StockView). (account_of u 1).filled) (noted ∙ ap (λ (p : ℕ). noting m1 p k) one)
+    let a2 : (account_of m2 1).filled ≡ false = ap (λ (u : StockView). (account_of u 1).filled) (noted ∙ ap (λ (p : ℕ). zone_after_report m1 p k) one)
     ∙ ap (λ (a : Account). a.filled) (account_of-with_account m1 1 _) ∙ a1 in
     let a3 = ap (λ (u : StockView). account_of u 1) absorbed ∙ account_of-with_account m2 1 _ in (
       ap (λ (p : ℕ). (account_of m3 p).filled) named ∙ ap (λ (a : Account). a.filled) a3 ∙ a2,

@@ -4,7 +4,8 @@ use Rattle.std.proofs.lemmas.List.{append-nil}
 use Rattle.atomic_table.specs.Seated.{TableId}
 use Rattle.stock_word.specs.declared.view.StockView.{StockView}
 use Rattle.stock_word.specs.Kinds.{IsAlone}
-use Rattle.stock_word.specs.Stock.{KnownStockSeat, first_zone_stock, first_cpu_stock, first_cpu_stocks, first_seats, first_of, view_in, AreOf}
+use Rattle.stock_word.specs.Stock.{KnownStockSeat, first_zone_stock_view, first_cpu_stock_view, first_cpu_stock_views}
+use Rattle.stock_word.specs.Stock.{first_seats, first_of, view_in, AreOf}
 use Rattle.stock_word.specs.Stock.{without_second, second_alone}
 
 -- one more of a count that is left
@@ -14,20 +15,20 @@ one_more cpus p h = omega arith
 pub none_more : (cpus p : ℕ) → cpus + 1 ≤ p → cpus + 1 - p ≡ 0
 none_more cpus p h = omega arith
 
-pub next_views : (views : List StockView) (p n k : ℕ) → views ≡ first_zone_stock ∷ first_cpu_stocks p n → n ≡ suc k
-    → views ≡ first_zone_stock ∷ first_cpu_stock p ∷ first_cpu_stocks (p + 1) k
-next_views views p n k is more = is ∙ (λ i. first_zone_stock ∷ first_cpu_stocks p (more i))
+pub next_views : (views : List StockView) (p n k : ℕ) → views ≡ first_zone_stock_view ∷ first_cpu_stock_views p n → n ≡ suc k
+    → views ≡ first_zone_stock_view ∷ first_cpu_stock_view p ∷ first_cpu_stock_views (p + 1) k
+next_views views p n k is more = is ∙ (λ i. first_zone_stock_view ∷ first_cpu_stock_views p (more i))
 
-pub last_views : (views : List StockView) (p n : ℕ) → views ≡ first_zone_stock ∷ first_cpu_stocks p n → n ≡ 0 → views ≡ first_zone_stock ∷ []
-last_views views p n is more = is ∙ (λ i. first_zone_stock ∷ first_cpu_stocks p (more i))
+pub last_views : (views : List StockView) (p n : ℕ) → views ≡ first_zone_stock_view ∷ first_cpu_stock_views p n → n ≡ 0 → views ≡ first_zone_stock_view ∷ []
+last_views views p n is more = is ∙ (λ i. first_zone_stock_view ∷ first_cpu_stock_views p (more i))
 
 -- what is split off, and what stays
-pub split_off : (views off : List StockView) (p k : ℕ) → views ≡ first_zone_stock ∷ first_cpu_stock p ∷ first_cpu_stocks (p + 1) k → off ≡ second_alone views
-    → off ≡ first_cpu_stock p ∷ []
+pub split_off : (views off : List StockView) (p k : ℕ) → views ≡ first_zone_stock_view ∷ first_cpu_stock_view p ∷ first_cpu_stock_views (p + 1) k → off ≡ second_alone views
+    → off ≡ first_cpu_stock_view p ∷ []
 split_off views off p k is cut = cut ∙ ap second_alone is
 
-pub split_rest : (views rest : List StockView) (p k : ℕ) → views ≡ first_zone_stock ∷ first_cpu_stock p ∷ first_cpu_stocks (p + 1) k → rest ≡ without_second views
-    → rest ≡ first_zone_stock ∷ first_cpu_stocks (p + 1) k
+pub split_rest : (views rest : List StockView) (p k : ℕ) → views ≡ first_zone_stock_view ∷ first_cpu_stock_view p ∷ first_cpu_stock_views (p + 1) k → rest ≡ without_second views
+    → rest ≡ first_zone_stock_view ∷ first_cpu_stock_views (p + 1) k
 split_rest views rest p k is cut = cut ∙ ap without_second is
 
 pub one_view_is : (views : List StockView) (v : StockView) → views ≡ v ∷ [] → IsAlone views
@@ -38,7 +39,7 @@ first_is views v is = ap first_of is
 
 -- the seat of p stands behind those before it
 pub next_seats : (table : TableId) (p n k : ℕ) (seats seats' all : List KnownStockSeat) (seat : KnownStockSeat)
-    → seats ++ first_seats table p n ≡ all → n ≡ suc k → seat ≡ record { table = table; view = first_cpu_stock p }
+    → seats ++ first_seats table p n ≡ all → n ≡ suc k → seat ≡ record { table = table; view = first_cpu_stock_view p }
     → seats' ≡ seats ++ seat ∷ []
     → seats' ++ first_seats table (p + 1) k ≡ all
 next_seats table p n k seats seats' all seat is more same pushed =
@@ -54,9 +55,9 @@ last_seats table p n seats all is more = sym (append-nil seats) ∙ ap (λ c. se
 pub all_left : (cpus : ℕ) → cpus ≡ cpus + 1 - 1
 all_left cpus = omega arith
 
-pub first_views : (views : List StockView) (cpus : ℕ) → views ≡ first_zone_stock ∷ first_cpu_stocks 1 cpus
-    → views ≡ first_zone_stock ∷ first_cpu_stocks 1 (cpus + 1 - 1)
-first_views views cpus is = is ∙ (λ i. first_zone_stock ∷ first_cpu_stocks 1 (all_left cpus i))
+pub first_views : (views : List StockView) (cpus : ℕ) → views ≡ first_zone_stock_view ∷ first_cpu_stock_views 1 cpus
+    → views ≡ first_zone_stock_view ∷ first_cpu_stock_views 1 (cpus + 1 - 1)
+first_views views cpus is = is ∙ (λ i. first_zone_stock_view ∷ first_cpu_stock_views 1 (all_left cpus i))
 
 pub no_seats : (table : TableId) (cpus : ℕ) (seats : List KnownStockSeat) → seats ≡ [] → seats ++ first_seats table 1 (cpus + 1 - 1) ≡ first_seats table 1 cpus
 no_seats table cpus seats is = (λ i. is i ++ first_seats table 1 (sym (all_left cpus) i))

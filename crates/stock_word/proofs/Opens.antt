@@ -8,27 +8,27 @@ use lib.ListN.{get_elem?}
 use Rattle.seat_sums.specs.Totals.{sum_over}
 use Rattle.stock_word.specs.declared.view.Stock.TheVariants.{NoGroup}
 use Rattle.stock_word.specs.declared.view.StockView.{StockView}
-use Rattle.stock_word.specs.Stock.{no_account, first_zone_stock, first_cpu_stock, first_cpu_stocks}
+use Rattle.stock_word.specs.Stock.{no_account, first_zone_stock_view, first_cpu_stock_view, first_cpu_stock_views}
 use Rattle.stock_word.specs.StockRule.{stock_index, report_index, at_seat, IsStock, StockRule}
 use Rattle.stock_word.proofs.Only.{at_mine, at_other}
 
-none_in : (q p n : ℕ) (f : StockView → ℕ) → q < p → sum_over (at_seat q f) (first_cpu_stocks p n) ≡ 0
+none_in : (q p n : ℕ) (f : StockView → ℕ) → q < p → sum_over (at_seat q f) (first_cpu_stock_views p n) ≡ 0
 none_in q p zero f below = refl
 none_in q p (suc n) f below =
-    let a = at_other q f (first_cpu_stock p) (λ e. omega (arith, e)) in
+    let a = at_other q f (first_cpu_stock_view p) (λ e. omega (arith, e)) in
     let b = none_in q (p + 1) n f (omega arith) in omega arith
 
-one_in : (q p n : ℕ) (f : StockView → ℕ) → p ≤ q → q < p + n → sum_over (at_seat q f) (first_cpu_stocks p n) ≡ f (first_cpu_stock q)
+one_in : (q p n : ℕ) (f : StockView → ℕ) → p ≤ q → q < p + n → sum_over (at_seat q f) (first_cpu_stock_views p n) ≡ f (first_cpu_stock_view q)
 one_in q p zero f low high = absurd (omega arith)
 one_in q p (suc n) f low high = dite (ℕ_discrete p q)
-    (λ e. let a = at_mine q f (first_cpu_stock p) e in let b = none_in q (p + 1) n f (omega arith) in let c = ap (λ k. f (first_cpu_stock k)) e in omega arith)
-    (λ ne. let a = at_other q f (first_cpu_stock p) ne in let b = one_in q (p + 1) n f (omega (arith, ne)) (omega arith) in omega arith)
+    (λ e. let a = at_mine q f (first_cpu_stock_view p) e in let b = none_in q (p + 1) n f (omega arith) in let c = ap (λ k. f (first_cpu_stock_view k)) e in omega arith)
+    (λ ne. let a = at_other q f (first_cpu_stock_view p) ne in let b = one_in q (p + 1) n f (omega (arith, ne)) (omega arith) in omega arith)
 
-count_in : (p n : ℕ) → sum_over (λ (v : StockView). 1) (first_cpu_stocks p n) ≡ n
+count_in : (p n : ℕ) → sum_over (λ (v : StockView). 1) (first_cpu_stock_views p n) ≡ n
 count_in p zero = refl
 count_in p (suc n) = let rest = count_in (p + 1) n in omega arith
 
-no_stock : (p : ℕ) → IsStock 0 0 no_account (first_cpu_stock p)
+no_stock : (p : ℕ) → IsStock 0 0 no_account (first_cpu_stock_view p)
 no_stock p = record {
   stock = NoGroup;
   encoded = refl;
@@ -52,23 +52,23 @@ long : (n : ℕ) → length (replicate n zero) ≡ n
 long zero = refl
 long (suc n) = ap suc (long n)
 
-pub opens_at : (cpus : ℕ) → StockRule cpus (replicate (16 * (cpus + 1)) 0) ((first_zone_stock ∷ first_cpu_stocks 1 cpus) ∷ [])
+pub opens_at : (cpus : ℕ) → StockRule cpus (replicate (16 * (cpus + 1)) 0) ((first_zone_stock_view ∷ first_cpu_stock_views 1 cpus) ∷ [])
 opens_at cpus = record {
   rows = long (16 * (cpus + 1));
-  zone = first_zone_stock;
-  only = (λ f. let a = at_mine 0 f first_zone_stock refl in let b = none_in 0 1 cpus f (omega arith) in omega arith);
+  zone = first_zone_stock_view;
+  only = (λ f. let a = at_mine 0 f first_zone_stock_view refl in let b = none_in 0 1 cpus f (omega arith) in omega arith);
   no_more = (let c = count_in 1 cpus in omega arith);
   each = (λ p low high. record {
-    view = first_cpu_stock p;
-    only = (λ f. let a = at_other p f first_zone_stock (λ e. omega (arith, e)) in let b = one_in p 1 cpus f low (omega arith) in omega arith);
-    stock = subst (λ x. IsStock x (slice_index (replicate (16 * (cpus + 1)) 0) (report_index p)) no_account (first_cpu_stock p))
+    view = first_cpu_stock_view p;
+    only = (λ f. let a = at_other p f first_zone_stock_view (λ e. omega (arith, e)) in let b = one_in p 1 cpus f low (omega arith) in omega arith);
+    stock = subst (λ x. IsStock x (slice_index (replicate (16 * (cpus + 1)) 0) (report_index p)) no_account (first_cpu_stock_view p))
         (sym (zeros (16 * (cpus + 1)) (stock_index p)))
-        (subst (λ y. IsStock 0 y no_account (first_cpu_stock p)) (sym (zeros (16 * (cpus + 1)) (report_index p))) (no_stock p));
+        (subst (λ y. IsStock 0 y no_account (first_cpu_stock_view p)) (sym (zeros (16 * (cpus + 1)) (report_index p))) (no_stock p));
   });
 }
 
-pub opens : (cpus : ℕ) (words : List ℕ) → words ≡ replicate (16 * (cpus + 1)) 0 → StockRule cpus words ((first_zone_stock ∷ first_cpu_stocks 1 cpus) ∷ [])
-opens cpus words is = subst (λ (w : List ℕ). StockRule cpus w ((first_zone_stock ∷ first_cpu_stocks 1 cpus) ∷ [])) (sym is) (opens_at cpus)
+pub opens : (cpus : ℕ) (words : List ℕ) → words ≡ replicate (16 * (cpus + 1)) 0 → StockRule cpus words ((first_zone_stock_view ∷ first_cpu_stock_views 1 cpus) ∷ [])
+opens cpus words is = subst (λ (w : List ℕ). StockRule cpus w ((first_zone_stock_view ∷ first_cpu_stock_views 1 cpus) ∷ [])) (sym is) (opens_at cpus)
 
 pub index_is : (words : List ℕ) (k n : ℕ) → get_elem? words k ≡ some n → slice_index words k ≡ n
 index_is [] k n e = absurd (some-ne-none n (sym e))

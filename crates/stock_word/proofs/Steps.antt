@@ -14,9 +14,13 @@ use Rattle.stock_word.specs.declared.view.Account.{Account}
 use Rattle.stock_word.specs.declared.view.StockView.{StockView}
 use Rattle.stock_word.specs.Stock.{word_of, pages_of, group_of, account_of, with_account, first_of, without_second, second_alone}
 use Rattle.stock_word.specs.StockRule.{stock_index, report_index, IsStock, StockRule}
-use Rattle.stock_word.specs.Kinds.{after_took, after_back, after_drained, after_report, noting, filling, after_fill, draining, absorbing, with_steps}
-use Rattle.stock_word.specs.Kinds.{Drains, DrainsNone, LooksAt, Absorbs, Fills, Alone, Joined, consuming, crediting, looking, draining_step}
-use Rattle.stock_word.specs.Kinds.{absorbing_step, reporting_step, consuming_held, filling_step, seeing_stock}
+use Rattle.stock_word.specs.Kinds.{after_took, after_back, after_drained, after_report, zone_after_report}
+use Rattle.stock_word.specs.Kinds.{zone_after_fill}
+use Rattle.stock_word.specs.Kinds.{after_fill}
+use Rattle.stock_word.specs.Kinds.{zone_after_drain, zone_after_absorb, with_steps}
+use Rattle.stock_word.specs.Kinds.{Drains, DrainsNone, LooksAt, Absorbs, Fills, Alone, Joined, consuming_step}
+use Rattle.stock_word.specs.Kinds.{crediting_step, looking_step, draining_step}
+use Rattle.stock_word.specs.Kinds.{absorbing_step, reporting_step, consuming_held_step, filling_step, seeing_stock_step}
 use Rattle.stock_word.proofs.Stocks.{left_of, took, back, now_drained, sees_drained, last_group, reported, held_by_books, nothing_booked}
 use Rattle.stock_word.proofs.Stocks.{filled, drained, drained_none, of_some_group, absorbed}
 use Rattle.stock_word.proofs.CallerLemmas.{account_of-with_account, account_of-with_account_other}
@@ -72,14 +76,14 @@ module _ {S : Type 0} (cpus slots id : ℕ) where
 
     consume_allowed_at : (g n : ℕ) → v.last ≡ HeldBy g (n + 1)
         → Allows holds slots id (v ∷ [], []) (stock_index v.number) (λ x. either (eqb x (word_of (HeldBy g (n + 1)))) (word_of (HeldBy g n)) x)
-        (Alone consuming (step slots (stock_index v.number) (word_of (HeldBy g (n + 1))) (word_of (HeldBy g n)) none) (v ∷ [], []))
+        (Alone consuming_step (step slots (stock_index v.number) (word_of (HeldBy g (n + 1))) (word_of (HeldBy g n)) none) (v ∷ [], []))
     consume_allowed_at g n last s rule homes at fits =
         let old = word_of (HeldBy g (n + 1)) in
         let new = word_of (HeldBy g n) in
         let index = stock_index v.number in
         let found = slice_index s.words index in
         let stock = cpu_stock cpus s.words s.views rule s.words id v at low high in
-        let then = Alone consuming (step slots index old new none) (v ∷ [], []) in
+        let then = Alone consuming_step (step slots index old new none) (v ∷ [], []) in
         exchanged found old new (Owes s (v ∷ [], []) index then)
         (λ hit. cpu_owes s rule at then new (after_took v g n)
         (cpu_keeps cpus s.words s.views rule (set s.words index new) id v at low high new _
@@ -121,14 +125,14 @@ module _ {S : Type 0} (cpus slots id : ℕ) where
 
     credit_allowed_at : (g n : ℕ) → v.last ≡ HeldBy g n → 0 < v.fresh
         → Allows holds slots id (v ∷ [], []) (stock_index v.number) (λ x. either (eqb x (word_of (HeldBy g n))) (word_of (HeldBy g (n + 1))) x)
-        (Alone crediting (step slots (stock_index v.number) (word_of (HeldBy g n)) (word_of (HeldBy g (n + 1))) none) (v ∷ [], []))
+        (Alone crediting_step (step slots (stock_index v.number) (word_of (HeldBy g n)) (word_of (HeldBy g (n + 1))) none) (v ∷ [], []))
     credit_allowed_at g n last fresh s rule homes at fits =
         let old = word_of (HeldBy g n) in
         let new = word_of (HeldBy g (n + 1)) in
         let index = stock_index v.number in
         let found = slice_index s.words index in
         let stock = cpu_stock cpus s.words s.views rule s.words id v at low high in
-        let then = Alone crediting (step slots index old new none) (v ∷ [], []) in
+        let then = Alone crediting_step (step slots index old new none) (v ∷ [], []) in
         exchanged found old new (Owes s (v ∷ [], []) index then)
         (λ hit.
         let after = back _ _ _ v g n stock fresh last hit in
@@ -220,22 +224,22 @@ module _ {S : Type 0} (cpus slots id : ℕ) where
 
   module _ (m : StockView) (zeroth : m.number ≡ 0) (p : ℕ) (low : 0 < p) (high : p ≤ cpus) where
     -- the look of a drain
-    looking_allowed_at : Allows holds slots id (m ∷ [], []) (stock_index p) (λ x. x) (Alone looking (step slots (stock_index p) 0 0 none) (m ∷ [], []))
+    looking_allowed_at : Allows holds slots id (m ∷ [], []) (stock_index p) (λ x. x) (Alone looking_step (step slots (stock_index p) 0 0 none) (m ∷ [], []))
     looking_allowed_at s rule homes at fits =
         let index = stock_index p in
         let found = slice_index s.words index in
         let view = (rule.each p low high).view in
         let stock = zone_stock cpus s.words s.views rule s.words id m at zeroth p low high in
-        let then = Alone looking (step slots index 0 0 none) (m ∷ [], []) in
+        let then = Alone looking_step (step slots index 0 0 none) (m ∷ [], []) in
         dite (ℕ_discrete found 0)
         (λ zero_word.
         let none_filled = drained_none _ _ (account_of m p) view stock zero_word in
         let a = account_of m p in
         stock_owes m zeroth p low high s rule at found (record a { book = a.book - 0; filled = false }) then none_filled.1 (
-          with_steps 1 (draining m p 0),
+          with_steps 1 (zone_after_drain m p 0),
           refl,
           (λ q is. (
-            (λ _. subst (λ (n : ℕ). DrainsNone n index found found m (with_steps 1 (draining m p 0))) (same_stock_index p q is)
+            (λ _. subst (λ (n : ℕ). DrainsNone n index found found m (with_steps 1 (zone_after_drain m p 0))) (same_stock_index p q is)
                 (record { at_stock = refl; word_before = zero_word; word_after = zero_word; never_filled = none_filled.0; zone_after = refl })),
             (λ ne. absurd (ne zero_word)),
           )),
@@ -280,10 +284,10 @@ module _ {S : Type 0} (cpus slots id : ℕ) where
               a.book - pages_of stock.stock;
           filled = false;
         }) then (drained _ _ a view g stock group) (
-          with_steps 1 (draining m p (pages_of stock.stock)),
+          with_steps 1 (zone_after_drain m p (pages_of stock.stock)),
           refl,
           (λ q k is of.
-              subst (λ (y : ℕ × ℕ). Drains y.0 y.1 index found (word_of (DrainedOf g)) m (with_steps 1 (draining m p (pages_of stock.stock))))
+              subst (λ (y : ℕ × ℕ). Drains y.0 y.1 index found (word_of (DrainedOf g)) m (with_steps 1 (zone_after_drain m p (pages_of stock.stock))))
               (λ i. (same_stock_index p q is i, same_some g k (sym booked ∙ ap (λ (n : ℕ). (account_of m n).group) (same_stock_index p q is) ∙ of) i))
               (record {
                 stock = stock.stock;
@@ -312,10 +316,10 @@ module _ {S : Type 0} (cpus slots id : ℕ) where
         let then = Alone absorbing_step (step slots index 0 0 none) (m ∷ [], []) in
         let a = account_of m p in
         report_owes m zeroth p low high s rule at 0 (record a { book = a.book - a.unabsorbed; unabsorbed = 0 }) then (absorbed _ _ a view stock) (
-          with_steps 1 (absorbing m p),
+          with_steps 1 (zone_after_absorb m p),
           refl,
           (λ q is.
-              subst (λ (n : ℕ). Absorbs n index found 0 m (with_steps 1 (absorbing m p))) (same_report_index p q is)
+              subst (λ (n : ℕ). Absorbs n index found 0 m (with_steps 1 (zone_after_absorb m p))) (same_report_index p q is)
               (record {
                 at_report = refl;
                 word_before = stock.reported;
@@ -374,7 +378,7 @@ module _ {S : Type 0} (cpus slots id : ℕ) where
         let sum : (found + n) % 2 ^ 64 ≡ found + n = small_mod (found + n) (omega (arith, stock.balanced, stock.bounded, fresh)) in
         subst (λ (x : ℕ). Owes s (m ∷ v ∷ [], []) index then x) (sym sum)
         (joined_report_owes s rule at (found + n) (record a { unabsorbed = a.unabsorbed + n }) (after_report v n) then refl (reported _ _ a v n stock fresh) (
-          noting m v.number n,
+          zone_after_report m v.number n,
           after_report v n,
           refl,
           record {
@@ -389,7 +393,7 @@ module _ {S : Type 0} (cpus slots id : ℕ) where
 
     -- the look
     seeing_allowed_at : Allows holds slots id (m ∷ v ∷ [], []) (stock_index v.number) (λ x. x)
-        (Joined seeing_stock (step slots (stock_index v.number) 0 0 none) (m ∷ v ∷ [], []))
+        (Joined seeing_stock_step (step slots (stock_index v.number) 0 0 none) (m ∷ v ∷ [], []))
     seeing_allowed_at s rule homes at fits =
         let index = stock_index v.number in
         let found = slice_index s.words index in
@@ -437,11 +441,11 @@ module _ {S : Type 0} (cpus slots id : ℕ) where
               true;
         }) (after_fill v g n) (λ x. Joined filling_step (step slots index new 0 none) (m ∷ v ∷ [], []) new) refl
         (filled _ _ a v g n stock group few off fresh noted) (
-          filling m v.number g n,
+          zone_after_fill m v.number g n,
           after_fill v g n,
           refl,
           (λ k j fit is.
-              subst (λ (y : ℕ × ℕ). Fills y.0 y.1 index new m v (filling m v.number g n) (after_fill v g n))
+              subst (λ (y : ℕ × ℕ). Fills y.0 y.1 index new m v (zone_after_fill m v.number g n) (after_fill v g n))
               (λ i. (same_held_group g n k j few fit is i, same_held_pages g n k j few fit is i))
               (record {
                 at_stock = refl;
@@ -456,12 +460,12 @@ module _ {S : Type 0} (cpus slots id : ℕ) where
     -- the subtraction of a consume that always takes
     consuming_held_allowed_at : (g : ℕ) → (account_of m v.number).group ≡ Some g → v.fresh + (account_of m v.number).unabsorbed < (account_of m v.number).book
         → Allows holds slots id (m ∷ v ∷ [], []) (stock_index v.number) (λ x. (x + (2 ^ 64 - 1)) % 2 ^ 64)
-        (Joined consuming_held (step slots (stock_index v.number) 1 0 none) (m ∷ v ∷ [], []))
+        (Joined consuming_held_step (step slots (stock_index v.number) 1 0 none) (m ∷ v ∷ [], []))
     consuming_held_allowed_at g booked more s rule homes at fits =
         let index = stock_index v.number in
         let found = slice_index s.words index in
         let stock = joined_stock cpus s.words s.views rule s.words id m v at zeroth low high in
-        let then = Joined consuming_held (step slots index 1 0 none) (m ∷ v ∷ [], []) in
+        let then = Joined consuming_held_step (step slots index 1 0 none) (m ∷ v ∷ [], []) in
         let a = account_of m v.number in
         let n = left_of a v - 1 in
         let books = held_by_books _ _ a v g stock booked more in
@@ -506,13 +510,13 @@ pub consume_allowed : {S : Type 0} (cpus slots id : ℕ) (me : Me S (List StockV
     → (first_of me.0).last ≡ HeldBy g (n + 1)
     → (index old new : ℕ) → index ≡ stock_index (first_of me.0).number → old ≡ word_of (HeldBy g (n + 1)) → new ≡ word_of (HeldBy g n)
     → Allows (λ (s : State S (List StockView)). StockRule cpus s.words s.views) slots id me index (λ x. either (eqb x old) new x)
-    (Alone consuming (step slots index old new none) me)
+    (Alone consuming_step (step slots index old new none) me)
 consume_allowed {S} cpus slots id me g n is low high last index old new at_index at_old at_new =
     subst (λ (z : Me S (List StockView)). Allows (λ (s : State S (List StockView)). StockRule cpus s.words s.views) slots id z
-    index (λ x. either (eqb x old) new x) (Alone consuming (step slots index old new none) z)) (sym is)
+    index (λ x. either (eqb x old) new x) (Alone consuming_step (step slots index old new none) z)) (sym is)
     (subst (λ (y : ℕ × ℕ × ℕ). Allows (λ (s : State S (List StockView)). StockRule cpus s.words s.views) slots id
     (first_of me.0 ∷ [], []) y.0 (λ x. either (eqb x y.1) y.2 x)
-    (Alone consuming (step slots y.0 y.1 y.2 none) (first_of me.0 ∷ [], []))) (λ i. (sym at_index i, sym at_old i, sym at_new i))
+    (Alone consuming_step (step slots y.0 y.1 y.2 none) (first_of me.0 ∷ [], []))) (λ i. (sym at_index i, sym at_old i, sym at_new i))
     (consume_allowed_at cpus slots id (first_of me.0) low high g n last))
 
 pub credit_allowed : {S : Type 0} (cpus slots id : ℕ) (me : Me S (List StockView)) (g n : ℕ)
@@ -520,26 +524,26 @@ pub credit_allowed : {S : Type 0} (cpus slots id : ℕ) (me : Me S (List StockVi
     → (first_of me.0).last ≡ HeldBy g n → 0 < (first_of me.0).fresh
     → (index old new : ℕ) → index ≡ stock_index (first_of me.0).number → old ≡ word_of (HeldBy g n) → new ≡ word_of (HeldBy g (n + 1))
     → Allows (λ (s : State S (List StockView)). StockRule cpus s.words s.views) slots id me index (λ x. either (eqb x old) new x)
-    (Alone crediting (step slots index old new none) me)
+    (Alone crediting_step (step slots index old new none) me)
 credit_allowed {S} cpus slots id me g n is low high last fresh index old new at_index at_old at_new =
     subst (λ (z : Me S (List StockView)). Allows (λ (s : State S (List StockView)). StockRule cpus s.words s.views) slots id z
-    index (λ x. either (eqb x old) new x) (Alone crediting (step slots index old new none) z)) (sym is)
+    index (λ x. either (eqb x old) new x) (Alone crediting_step (step slots index old new none) z)) (sym is)
     (subst (λ (y : ℕ × ℕ × ℕ). Allows (λ (s : State S (List StockView)). StockRule cpus s.words s.views) slots id
     (first_of me.0 ∷ [], []) y.0 (λ x. either (eqb x y.1) y.2 x)
-    (Alone crediting (step slots y.0 y.1 y.2 none) (first_of me.0 ∷ [], []))) (λ i. (sym at_index i, sym at_old i, sym at_new i))
+    (Alone crediting_step (step slots y.0 y.1 y.2 none) (first_of me.0 ∷ [], []))) (λ i. (sym at_index i, sym at_old i, sym at_new i))
     (credit_allowed_at cpus slots id (first_of me.0) low high g n last fresh))
 
 pub looking_allowed : {S : Type 0} (cpus slots id : ℕ) (me : Me S (List StockView)) (p : ℕ)
     → me ≡ (first_of me.0 ∷ [], []) → (first_of me.0).number ≡ 0 → 0 < p → p ≤ cpus → (index : ℕ)
     → index ≡ stock_index p
-    → Allows (λ (s : State S (List StockView)). StockRule cpus s.words s.views) slots id me index (λ x. x) (Alone looking (step slots index 0 0 none) me)
+    → Allows (λ (s : State S (List StockView)). StockRule cpus s.words s.views) slots id me index (λ x. x) (Alone looking_step (step slots index 0 0 none) me)
 looking_allowed {S} cpus slots id me p is zeroth low high index at_index =
     subst (λ (z : Me S (List StockView)). Allows (λ (s : State S (List StockView)). StockRule cpus s.words s.views) slots id z
-    index (λ x. x) (Alone looking (step slots index 0 0 none) z)) (sym is)
+    index (λ x. x) (Alone looking_step (step slots index 0 0 none) z)) (sym is)
     (subst (λ (y : ℕ). Allows (λ (s : State S (List StockView)). StockRule cpus s.words s.views) slots id (
       first_of me.0 ∷ [],
       [],
-    ) y (λ x. x) (Alone looking (step slots y 0 0 none) (first_of me.0 ∷ [], []))) (sym at_index)
+    ) y (λ x. x) (Alone looking_step (step slots y 0 0 none) (first_of me.0 ∷ [], []))) (sym at_index)
     (looking_allowed_at cpus slots id (first_of me.0) zeroth p low high))
 
 pub draining_allowed : {S : Type 0} (cpus slots id : ℕ) (me : Me S (List StockView)) (p g : ℕ)
@@ -601,12 +605,12 @@ filling_allowed {S} cpus slots id me m v g n is zeroth low high group few off fr
 
 pub seeing_allowed : {S : Type 0} (cpus slots id : ℕ) (me : Me S (List StockView)) (m v : StockView) → me ≡ (m ∷ v ∷ [], []) → m.number ≡ 0
     → 0 < v.number → v.number ≤ cpus → (index : ℕ) → index ≡ stock_index v.number
-    → Allows (λ (s : State S (List StockView)). StockRule cpus s.words s.views) slots id me index (λ x. x) (Joined seeing_stock (step slots index 0 0 none) me)
+    → Allows (λ (s : State S (List StockView)). StockRule cpus s.words s.views) slots id me index (λ x. x) (Joined seeing_stock_step (step slots index 0 0 none) me)
 seeing_allowed {S} cpus slots id me m v is zeroth low high index at_index =
     subst (λ (z : Me S (List StockView)). Allows (λ (s : State S (List StockView)). StockRule cpus s.words s.views) slots id z index (λ x. x)
-    (Joined seeing_stock (step slots index 0 0 none) z)) (sym is)
+    (Joined seeing_stock_step (step slots index 0 0 none) z)) (sym is)
     (subst (λ (y : ℕ). Allows (λ (s : State S (List StockView)). StockRule cpus s.words s.views) slots id (m ∷ v ∷ [], []) y (λ x. x)
-    (Joined seeing_stock (step slots y 0 0 none) (m ∷ v ∷ [], []))) (sym at_index)
+    (Joined seeing_stock_step (step slots y 0 0 none) (m ∷ v ∷ [], []))) (sym at_index)
     (seeing_allowed_at cpus slots id m v zeroth low high))
 
 pub consuming_held_allowed : {S : Type 0} (cpus slots id : ℕ) (me : Me S (List StockView)) (m v : StockView) (g : ℕ)
@@ -614,14 +618,14 @@ pub consuming_held_allowed : {S : Type 0} (cpus slots id : ℕ) (me : Me S (List
     → (account_of m v.number).group ≡ Some g → v.fresh + (account_of m v.number).unabsorbed < (account_of m v.number).book
     → (index : ℕ) → index ≡ stock_index v.number
     → Allows (λ (s : State S (List StockView)). StockRule cpus s.words s.views) slots id me index
-    (λ x. (x + (2 ^ 64 - 1)) % 2 ^ 64) (Joined consuming_held (step slots index 1 0 none) me)
+    (λ x. (x + (2 ^ 64 - 1)) % 2 ^ 64) (Joined consuming_held_step (step slots index 1 0 none) me)
 consuming_held_allowed {S} cpus slots id me m v g is zeroth low high group more index at_index =
     subst (λ (z : Me S (List StockView)). Allows (λ (s : State S (List StockView)). StockRule cpus s.words s.views) slots id z
-    index (λ x. (x + (2 ^ 64 - 1)) % 2 ^ 64) (Joined consuming_held (step slots index 1 0 none) z)) (sym is)
+    index (λ x. (x + (2 ^ 64 - 1)) % 2 ^ 64) (Joined consuming_held_step (step slots index 1 0 none) z)) (sym is)
     (subst (λ (y : ℕ). Allows (λ (s : State S (List StockView)). StockRule cpus s.words s.views) slots id (
       m ∷ v ∷ [],
       [],
-    ) y (λ x. (x + (2 ^ 64 - 1)) % 2 ^ 64) (Joined consuming_held (step slots y 1 0 none) (m ∷ v ∷ [], []))) (sym at_index)
+    ) y (λ x. (x + (2 ^ 64 - 1)) % 2 ^ 64) (Joined consuming_held_step (step slots y 1 0 none) (m ∷ v ∷ [], []))) (sym at_index)
     (consuming_held_allowed_at cpus slots id m v zeroth low high g group more))
 
 -- ---- splits and joins

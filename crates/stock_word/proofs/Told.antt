@@ -6,7 +6,7 @@ use Rattle.stock_word.specs.declared.view.Stock.{Stock}
 use Rattle.stock_word.specs.declared.view.Stock.TheVariants.{NoGroup, HeldBy, DrainedOf}
 use Rattle.stock_word.specs.declared.view.StockView.{StockView}
 use Rattle.stock_word.specs.Stock.{KnownStockSeat, KnownRawSeat, word_of, HasWord, pages_of, is_held, group_of, account_of, first_of}
-use Rattle.stock_word.specs.Kinds.{Drains, DrainsNone, LooksAt, with_steps, draining}
+use Rattle.stock_word.specs.Kinds.{Drains, DrainsNone, LooksAt, with_steps, zone_after_drain}
 use Rattle.stock_word.specs.Calls.{with_view, after_look, steps_of_drain}
 
 -- the seat that the caller has afterwards
@@ -55,11 +55,11 @@ found_group p index found g m w r told decodes group =
 
 -- a look and a swap are the two steps of the drain of a stock that was filled
 pub looked_and_drained : (m : StockView) (p g n : ℕ) → (account_of m p).group ≡ Some g
-    → with_steps 1 (draining (with_steps 1 m) p n) ≡ with_steps (steps_of_drain (account_of m p).group) (draining m p n)
+    → with_steps 1 (zone_after_drain (with_steps 1 m) p n) ≡ with_steps (steps_of_drain (account_of m p).group) (zone_after_drain m p n)
 looked_and_drained m p g n group =
     let two : steps_of_drain (account_of m p).group ≡ 2 = ap steps_of_drain group in
     let count : m.steps + 1 + 1 ≡ m.steps + steps_of_drain (account_of m p).group = omega (arith, two) in
-    ap (λ (k : ℕ). record (draining m p n) { steps = k }) count
+    ap (λ (k : ℕ). record (zone_after_drain m p n) { steps = k }) count
 
 -- the swap took the pages of the stock that it found
 pub drained_booked : (before : StockView) (p g index found new pages : ℕ) (m w : StockView) → m ≡ before

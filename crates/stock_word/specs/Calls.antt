@@ -7,7 +7,7 @@ use Rattle.stock_word.specs.declared.words.Consume.TheVariants.{Took, Empty, Oth
 use Rattle.stock_word.specs.declared.words.Credit.{Credit}
 use Rattle.stock_word.specs.declared.words.Credit.TheVariants as credit
 use Rattle.stock_word.specs.Stock.{KnownStockSeat, group_of, is_held, drained_of}
-use Rattle.stock_word.specs.Kinds.{after_took, after_back, draining}
+use Rattle.stock_word.specs.Kinds.{after_took, after_back, zone_after_drain}
 
 -- the seat with another view
 abbrev pub with_view : KnownStockSeat → StockView → KnownStockSeat
@@ -41,5 +41,5 @@ steps_of_drain (Some g) = 2
 -- What the zone's seat knows after it looked which group this CPU's stock is of, without counting that step. A stock of
 -- no group counts as drained of no page.
 abbrev pub after_look : StockView → ℕ → Option ℕ → StockView
-after_look z cpu None = draining z cpu 0
+after_look z cpu None = zone_after_drain z cpu 0
 after_look z cpu (Some g) = z

@@ -36,12 +36,12 @@ abbrev pub after_report : StockView → ℕ → StockView
 after_report v n = record v { fresh = v.fresh - n; steps = v.steps + 1 }
 
 -- the zone's view with n more pages noted as reported by the CPU
-abbrev pub noting : StockView → ℕ → ℕ → StockView
-noting z cpu n = let a = account_of z cpu in with_account z cpu (record a { unabsorbed = a.unabsorbed + n })
+abbrev pub zone_after_report : StockView → ℕ → ℕ → StockView
+zone_after_report z cpu n = let a = account_of z cpu in with_account z cpu (record a { unabsorbed = a.unabsorbed + n })
 
 -- the zone's view after the CPU's stock was filled for g with n pages
-abbrev pub filling : StockView → ℕ → ℕ → ℕ → StockView
-filling z cpu g n = let a = account_of z cpu in with_account z cpu
+abbrev pub zone_after_fill : StockView → ℕ → ℕ → ℕ → StockView
+zone_after_fill z cpu g n = let a = account_of z cpu in with_account z cpu
     (record a { book = a.book + n; group = Some g; filled = true })
 
 -- the CPU's view after a fill: the stock that it saw last is held by g with n pages
@@ -49,12 +49,12 @@ abbrev pub after_fill : StockView → ℕ → ℕ → StockView
 after_fill v g n = record v { last = HeldBy g n; steps = v.steps + 1 }
 
 -- the zone's view after n pages were drained from the CPU's stock, steps not counted
-abbrev pub draining : StockView → ℕ → ℕ → StockView
-draining z cpu n = let a = account_of z cpu in with_account z cpu (record a { book = a.book - n; filled = false })
+abbrev pub zone_after_drain : StockView → ℕ → ℕ → StockView
+zone_after_drain z cpu n = let a = account_of z cpu in with_account z cpu (record a { book = a.book - n; filled = false })
 
 -- the zone's view after the CPU's report was absorbed, steps not counted
-abbrev pub absorbing : StockView → ℕ → StockView
-absorbing z cpu = let a = account_of z cpu in with_account z cpu
+abbrev pub zone_after_absorb : StockView → ℕ → StockView
+zone_after_absorb z cpu = let a = account_of z cpu in with_account z cpu
     (record a { book = a.book - a.unabsorbed; unabsorbed = 0 })
 
 -- ---- the table of kinds
@@ -95,7 +95,7 @@ pub record Reports (n index before after : ℕ) (z v z' v' : StockView) : Type 0
   pub word_after : after ≡ before + n
   pub of_group : group_of v.last ≡ (account_of z v.number).group
   pub enough : v.fresh + (account_of z v.number).unabsorbed ≤ (account_of z v.number).book
-  pub zone_after : z' ≡ noting z v.number n
+  pub zone_after : z' ≡ zone_after_report z v.number n
   pub view_after : v' ≡ after_report v n
 
 -- a consume that always takes, by the joined seats: the stock has exactly the booked pages that are neither fresh nor
@@ -112,7 +112,7 @@ pub record Fills (group pages index after : ℕ) (z v z' v' : StockView) : Type 
   pub at_stock : index ≡ stock_index v.number
   pub word_after : after ≡ word_of (HeldBy group pages)
   pub book_before : (account_of z v.number).book ≡ 0
-  pub zone_after : z' ≡ filling z v.number group pages
+  pub zone_after : z' ≡ zone_after_fill z v.number group pages
   pub view_after : v' ≡ after_fill v group pages
 
 -- drain, by the zone's seat: the CPU's stock word, held by g with n pages or drained of g, becomes drained of g; the
@@ -126,7 +126,7 @@ pub record Drains (cpu group index before after : ℕ) (z z' : StockView) : Type
   pub word_after : after ≡ word_of (DrainedOf group)
   pub enough : pages_of stock ≤ (account_of z cpu).book
   pub was_held : is_held stock ≡ (account_of z cpu).filled
-  pub zone_after : z' ≡ with_steps 1 (draining z cpu (pages_of stock))
+  pub zone_after : z' ≡ with_steps 1 (zone_after_drain z cpu (pages_of stock))
 
 -- the drain of a stock that was never filled, by the zone's seat: the CPU's stock word is 0 and is unchanged
 pub record DrainsNone (cpu index before after : ℕ) (z z' : StockView) : Type 0 where
@@ -134,7 +134,7 @@ pub record DrainsNone (cpu index before after : ℕ) (z z' : StockView) : Type 0
   pub word_before : before ≡ 0
   pub word_after : after ≡ 0
   pub never_filled : (account_of z cpu).group ≡ None
-  pub zone_after : z' ≡ with_steps 1 (draining z cpu 0)
+  pub zone_after : z' ≡ with_steps 1 (zone_after_drain z cpu 0)
 
 -- the look of a drain, by the zone's seat: the CPU's stock word is of the group of the last fill, and is unchanged
 pub record LooksAt (cpu index before after : ℕ) (z z' : StockView) : Type 0 where
@@ -170,7 +170,7 @@ pub record Absorbs (cpu index before after : ℕ) (z z' : StockView) : Type 0 wh
   pub word_after : after ≡ 0
   pub enough : (account_of z cpu).unabsorbed ≤ (account_of z cpu).book
   pub bounded : (account_of z cpu).book < 65536
-  pub zone_after : z' ≡ with_steps 1 (absorbing z cpu)
+  pub zone_after : z' ≡ with_steps 1 (zone_after_absorb z cpu)
 
 -- ---- the views of a raw seat, and the end
 
@@ -201,18 +201,18 @@ Joined kind s me found next = (z : StockView) × (v : StockView) × (next ≡ (z
     × kind s found (first_of me.0) (second_of me.0) z v
 
 -- the exchange of a consume: it took a page, or found the stock drained
-abbrev pub consuming : {S : Type 0} → Step S → ℕ → StockView → StockView → Type 0
-consuming s found v w = (found ≡ s.first → Consumes s.word found s.second v w)
+abbrev pub consuming_step : {S : Type 0} → Step S → ℕ → StockView → StockView → Type 0
+consuming_step s found v w = (found ≡ s.first → Consumes s.word found s.second v w)
     × (found ≢ s.first → SeesDrained s.word found found v w)
 
 -- the exchange of a credit: it put the page back, or found the stock drained
-abbrev pub crediting : {S : Type 0} → Step S → ℕ → StockView → StockView → Type 0
-crediting s found v w = (found ≡ s.first → Credits s.word found s.second v w)
+abbrev pub crediting_step : {S : Type 0} → Step S → ℕ → StockView → StockView → Type 0
+crediting_step s found v w = (found ≡ s.first → Credits s.word found s.second v w)
     × (found ≢ s.first → SeesDrained s.word found found v w)
 
 -- the look of a drain: it drained nothing, or saw which group to drain
-abbrev pub looking : {S : Type 0} → Step S → ℕ → StockView → StockView → Type 0
-looking s found z z' = (cpu : ℕ) → s.word ≡ stock_index cpu
+abbrev pub looking_step : {S : Type 0} → Step S → ℕ → StockView → StockView → Type 0
+looking_step s found z z' = (cpu : ℕ) → s.word ≡ stock_index cpu
     → (found ≡ 0 → DrainsNone cpu s.word found found z z') × (found ≢ 0 → LooksAt cpu s.word found found z z')
 
 -- the swap of a drain
@@ -229,12 +229,12 @@ abbrev pub reporting_step : {S : Type 0} → Step S → ℕ → StockView → St
 reporting_step s found z v z' v' = Reports s.first s.word found (found + s.first) z v z' v'
 
 -- the look of the joined seats
-abbrev pub seeing_stock : {S : Type 0} → Step S → ℕ → StockView → StockView → StockView → StockView → Type 0
-seeing_stock s found z v z' v' = SeesStock s.word found found z v z' v'
+abbrev pub seeing_stock_step : {S : Type 0} → Step S → ℕ → StockView → StockView → StockView → StockView → Type 0
+seeing_stock_step s found z v z' v' = SeesStock s.word found found z v z' v'
 
 -- the subtraction of a consume that always takes
-abbrev pub consuming_held : {S : Type 0} → Step S → ℕ → StockView → StockView → StockView → StockView → Type 0
-consuming_held s found z v z' v' = ConsumesHeld s.word found (found - s.first) z v z' v'
+abbrev pub consuming_held_step : {S : Type 0} → Step S → ℕ → StockView → StockView → StockView → StockView → Type 0
+consuming_held_step s found z v z' v' = ConsumesHeld s.word found (found - s.first) z v z' v'
 
 -- the store of a fill
 abbrev pub filling_step : {S : Type 0} → Step S → ℕ → StockView → StockView → StockView → StockView → Type 0

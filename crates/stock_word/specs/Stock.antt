@@ -84,12 +84,12 @@ abbrev pub with_account : StockView → ℕ → Account → StockView
 with_account zone cpu account = record zone { accounts = with_account_at zone.accounts cpu account }
 
 -- what the zone's seat knows at first
-abbrev pub first_zone_stock : StockView
-first_zone_stock = record { number = 0; fresh = 0; last = NoGroup; accounts = []; steps = 0 }
+abbrev pub first_zone_stock_view : StockView
+first_zone_stock_view = record { number = 0; fresh = 0; last = NoGroup; accounts = []; steps = 0 }
 
 -- what the seat of the CPU knows at first
-abbrev pub first_cpu_stock : ℕ → StockView
-first_cpu_stock cpu = record { number = cpu; fresh = 0; last = NoGroup; accounts = []; steps = 0 }
+abbrev pub first_cpu_stock_view : ℕ → StockView
+first_cpu_stock_view cpu = record { number = cpu; fresh = 0; last = NoGroup; accounts = []; steps = 0 }
 
 -- a table as contracts see it: which one it is, and how many CPUs it has
 pub record KnownStockTable : Type 0 where
@@ -109,14 +109,14 @@ second_alone (v ∷ []) = []
 second_alone (v ∷ w ∷ views) = w ∷ []
 
 -- the CPUs' views at first: `count` of them, from this number on
-abbrev pub first_cpu_stocks : ℕ → ℕ → List StockView
-first_cpu_stocks cpu zero = []
-first_cpu_stocks cpu (suc count) = first_cpu_stock cpu ∷ first_cpu_stocks (cpu + 1) count
+abbrev pub first_cpu_stock_views : ℕ → ℕ → List StockView
+first_cpu_stock_views cpu zero = []
+first_cpu_stock_views cpu (suc count) = first_cpu_stock_view cpu ∷ first_cpu_stock_views (cpu + 1) count
 
 -- the CPUs' seats at first: `count` of them, from this number on
 abbrev pub first_seats : TableId → ℕ → ℕ → List KnownStockSeat
 first_seats table cpu zero = []
-first_seats table cpu (suc count) = record { table = table; view = first_cpu_stock cpu }
+first_seats table cpu (suc count) = record { table = table; view = first_cpu_stock_view cpu }
     ∷ first_seats table (cpu + 1) count
 
 -- the seats are all of this table
@@ -126,7 +126,7 @@ AreOf table (seat ∷ seats) = (seat.table ≡ table) × AreOf table seats
 
 -- the view of the seat at index k of a list
 abbrev pub view_in : List KnownStockSeat → ℕ → StockView
-view_in [] k = first_zone_stock
+view_in [] k = first_zone_stock_view
 view_in (seat ∷ seats) zero = seat.view
 view_in (seat ∷ seats) (suc k) = view_in seats k
 
@@ -137,12 +137,12 @@ views_of (seat ∷ seats) = seat.view ∷ views_of seats
 
 -- the first of a seat's views; if there is none, what the zone's seat knows at first
 abbrev pub first_of : List StockView → StockView
-first_of [] = first_zone_stock
+first_of [] = first_zone_stock_view
 first_of (v ∷ views) = v
 
 -- the second view of joined seats; if there is none, what the zone's seat knows at first
 abbrev pub second_of : List StockView → StockView
-second_of [] = first_zone_stock
+second_of [] = first_zone_stock_view
 second_of (v ∷ views) = first_of views
 
 -- the zone's account of the CPU that has this view
@@ -163,12 +163,12 @@ pub record IsKept (views : List StockView) (number : ℕ) (last : Stock) : Type 
   pub none_fresh : last ≡ NoGroup → (first_of views).fresh ≡ 0
 
 -- the view is that of a seat of one of these CPUs
-abbrev pub IsCpuStock : KnownStockTable → StockView → Type 0
-IsCpuStock words view = (0 < view.number) × (view.number ≤ words.cpus)
+abbrev pub IsCpuView : KnownStockTable → StockView → Type 0
+IsCpuView words view = (0 < view.number) × (view.number ≤ words.cpus)
 
 -- the view is that of the zone's seat, whose number is 0
-abbrev pub IsZoneStock : StockView → Type 0
-IsZoneStock view = view.number ≡ 0
+abbrev pub IsZoneView : StockView → Type 0
+IsZoneView view = view.number ≡ 0
 
 -- a view of a seat of this number that has seen nothing yet
 abbrev pub StartsAs : ℕ → StockView → Type 0

@@ -1,7 +1,7 @@
 //! The end of a stock table.
 ghost use Rattle.std.specs.Prelude.{◌≡◌, ◌+◌, ◌-◌, ◌*◌, ◌<◌, ◌≤◌, ℕ, [], ◌∷◌, length, slice_index};
 ghost use Rattle.stock_word.specs.Kinds.{IsAlone};
-ghost use Rattle.stock_word.specs.Stock.{IsZoneStock, IsCpuStock, AreOf, first_of, Gathers, view_in, word_of, HasWord};
+ghost use Rattle.stock_word.specs.Stock.{IsZoneView, IsCpuView, AreOf, first_of, Gathers, view_in, word_of, HasWord};
 ghost use Rattle.stock_word.specs.declared.view.Stock.{Stock as AStock};
 ghost use Rattle.stock_word.specs.StockRule.{IsStockOf, stock_index as index_of_stock, report_index as index_of_report};
 
@@ -51,10 +51,10 @@ impl StockWords {
     /// has one of them. Its words agree with the zone's account of it and with that seat, so no page was lost or
     /// made.
     pub fn close(self, zone: StockSeat, seats: Vec<StockSeat>) -> ClosedWords
-        requires zone { (zone.table ≡ self.table) × IsZoneStock zone.view }
+        requires zone { (zone.table ≡ self.table) × IsZoneView zone.view }
         requires cpus { AreOf self.table seats.items × (length seats.items ≡ self.cpus) }
         ensures length { length result ≡ 16 * (self.cpus + 1) }
-        ensures numbers { (k : ℕ) → k < length seats.items → IsCpuStock self (view_in seats.items k) }
+        ensures numbers { (k : ℕ) → k < length seats.items → IsCpuView self (view_in seats.items k) }
         ensures each { (cpu : ℕ) → 0 < cpu → cpu ≤ self.cpus
             → (k : ℕ) × (k < length seats.items) × ((view_in seats.items k).number ≡ cpu) }
         ensures stocks { (k : ℕ) → k < length seats.items

@@ -10,13 +10,14 @@
 ghost use Rattle.std.specs.Prelude.{◌≡◌, ◌≢◌, ◌*◌, ◌+◌, ◌-◌, ◌<◌, ◌≤◌, false, [], ◌∷◌, ◌++◌, Some, IfOk};
 ghost use Rattle.std.specs.Mem.Slots.{slots_items, slots_len, IsFull};
 ghost use Rattle.stock_word.specs.declared.view.Stock.TheVariants.{HeldBy, DrainedOf};
-ghost use Rattle.stock_word.specs.Stock.{KnownStockTable, KnownRawSeat, IsSized, HasWord, word_of, IsCpuStock};
-ghost use Rattle.stock_word.specs.Stock.{IsZoneStock, account_of, account_for, stocked, IsSettled, first_of, second_of};
-ghost use Rattle.stock_word.specs.Stock.{first_zone_stock, first_cpu_stocks, without_second, second_alone};
+ghost use Rattle.stock_word.specs.Stock.{KnownStockTable, KnownRawSeat, IsSized, HasWord, word_of, IsCpuView};
+ghost use Rattle.stock_word.specs.Stock.{IsZoneView, account_of, account_for, stocked, IsSettled, first_of, second_of};
+ghost use Rattle.stock_word.specs.Stock.{first_zone_stock_view, first_cpu_stock_views, without_second, second_alone};
 ghost use Rattle.stock_word.specs.Kinds.{IsAlone, IsPair, Ends, Consumes, Credits, SeesDrained, Reports, ConsumesHeld};
 ghost use Rattle.stock_word.specs.Kinds.{Fills, SeesStock, DrainsNone, LooksAt, Drains, Absorbs, Alone, Joined};
-ghost use Rattle.stock_word.specs.Kinds.{consuming, crediting, looking, draining_step, absorbing_step, reporting_step};
-ghost use Rattle.stock_word.specs.Kinds.{consuming_held, filling_step, seeing_stock};
+ghost use Rattle.stock_word.specs.Kinds.{consuming_step, crediting_step, looking_step, draining_step, absorbing_step};
+ghost use Rattle.stock_word.specs.Kinds.{reporting_step};
+ghost use Rattle.stock_word.specs.Kinds.{consuming_held_step, filling_step, seeing_stock_step};
 ghost use Rattle.stock_word.specs.StockRule as rule;
 ghost use Rattle.stock_word.specs.StockRule.{stock_index as index_of_stock, report_index as index_of_report};
 
@@ -35,7 +36,7 @@ pub struct StockRule;
 impl TableRule<(), Views, u32> for StockRule {
     ghost holds = { λ cpus s. rule.StockRule cpus s.words s.views };
 
-    ghost first = { λ cpus. first_zone_stock ∷ first_cpu_stocks 1 cpus };
+    ghost first = { λ cpus. first_zone_stock_view ∷ first_cpu_stock_views 1 cpus };
 }
 
 /// The stock words and report words of all CPUs, which are numbered from 1. A contract sees which table it is and the
@@ -87,19 +88,19 @@ pub(crate) fn report_index(cpu: u32) -> usize
 struct Consuming;
 
 impl Play<(), Views> for Consuming {
-    ghost then = { Alone consuming };
+    ghost then = { Alone consuming_step };
 }
 
 struct Crediting;
 
 impl Play<(), Views> for Crediting {
-    ghost then = { Alone crediting };
+    ghost then = { Alone crediting_step };
 }
 
 struct Looking;
 
 impl Play<(), Views> for Looking {
-    ghost then = { Alone looking };
+    ghost then = { Alone looking_step };
 }
 
 struct Draining;
@@ -123,7 +124,7 @@ impl Play<(), Views> for Reporting {
 struct ConsumingHeld;
 
 impl Play<(), Views> for ConsumingHeld {
-    ghost then = { Joined consuming_held };
+    ghost then = { Joined consuming_held_step };
 }
 
 struct Filling;
@@ -135,7 +136,7 @@ impl Play<(), Views> for Filling {
 struct SeeingStock;
 
 impl Play<(), Views> for SeeingStock {
-    ghost then = { Joined seeing_stock };
+    ghost then = { Joined seeing_stock_step };
 }
 
 // An empty seat beside a seat that keeps its views.
@@ -183,7 +184,7 @@ impl StockWords {
         requires table { raw.old.table ≡ self.now.table }
         requires alone { IsAlone raw.old.views }
         requires number { cpu ≡ (first_of raw.old.views).number }
-        requires cpu { IsCpuStock self.now (first_of raw.old.views) }
+        requires cpu { IsCpuView self.now (first_of raw.old.views) }
         requires last { (first_of raw.old.views).last ≡ HeldBy group pages }
         requires page { 0 < pages }
         requires has_word { HasWord (HeldBy group pages) }
@@ -211,7 +212,7 @@ impl StockWords {
         requires table { raw.old.table ≡ self.now.table }
         requires alone { IsAlone raw.old.views }
         requires number { cpu ≡ (first_of raw.old.views).number }
-        requires cpu { IsCpuStock self.now (first_of raw.old.views) }
+        requires cpu { IsCpuView self.now (first_of raw.old.views) }
         requires last { (first_of raw.old.views).last ≡ HeldBy group pages }
         requires fresh { 0 < (first_of raw.old.views).fresh }
         requires has_word { HasWord (HeldBy group pages) }
@@ -242,7 +243,7 @@ impl StockWords {
     pub(crate) fn step_look(&self, raw: &mut RawSeat, cpu: u32) -> u64
         requires table { raw.old.table ≡ self.now.table }
         requires alone { IsAlone raw.old.views }
-        requires zone { IsZoneStock (first_of raw.old.views) }
+        requires zone { IsZoneView (first_of raw.old.views) }
         requires cpu { (0 < cpu) × (cpu ≤ self.now.cpus) }
         ensures table { raw.new.table ≡ raw.old.table }
         ensures alone { IsAlone raw.new.views }
@@ -259,7 +260,7 @@ impl StockWords {
     pub(crate) fn step_drain(&self, raw: &mut RawSeat, cpu: u32, group: u32) -> u64
         requires table { raw.old.table ≡ self.now.table }
         requires alone { IsAlone raw.old.views }
-        requires zone { IsZoneStock (first_of raw.old.views) }
+        requires zone { IsZoneView (first_of raw.old.views) }
         requires cpu { (0 < cpu) × (cpu ≤ self.now.cpus) }
         requires group { (account_of (first_of raw.old.views) cpu).group ≡ Some group }
         requires fits { group < 64 }
@@ -279,7 +280,7 @@ impl StockWords {
     pub(crate) fn step_absorb(&self, raw: &mut RawSeat, cpu: u32) -> u64
         requires table { raw.old.table ≡ self.now.table }
         requires alone { IsAlone raw.old.views }
-        requires zone { IsZoneStock (first_of raw.old.views) }
+        requires zone { IsZoneView (first_of raw.old.views) }
         requires cpu { (0 < cpu) × (cpu ≤ self.now.cpus) }
         ensures table { raw.new.table ≡ raw.old.table }
         ensures alone { IsAlone raw.new.views }
@@ -298,8 +299,8 @@ impl StockWords {
         requires table { raw.old.table ≡ self.now.table }
         requires pair { IsPair raw.old.views }
         requires number { cpu ≡ (second_of raw.old.views).number }
-        requires zone { IsZoneStock (first_of raw.old.views) }
-        requires cpu { IsCpuStock self.now (second_of raw.old.views) }
+        requires zone { IsZoneView (first_of raw.old.views) }
+        requires cpu { IsCpuView self.now (second_of raw.old.views) }
         requires fresh { pages ≤ (second_of raw.old.views).fresh }
         ensures table { raw.new.table ≡ raw.old.table }
         ensures pair { IsPair raw.new.views }
@@ -318,8 +319,8 @@ impl StockWords {
         requires table { raw.old.table ≡ self.now.table }
         requires pair { IsPair raw.old.views }
         requires number { cpu ≡ (second_of raw.old.views).number }
-        requires zone { IsZoneStock (first_of raw.old.views) }
-        requires cpu { IsCpuStock self.now (second_of raw.old.views) }
+        requires zone { IsZoneView (first_of raw.old.views) }
+        requires cpu { IsCpuView self.now (second_of raw.old.views) }
         requires group { (account_for (first_of raw.old.views) (second_of raw.old.views)).group ≡ Some group }
         requires page { 0 < stocked (first_of raw.old.views) (second_of raw.old.views) }
         ensures table { raw.new.table ≡ raw.old.table }
@@ -339,8 +340,8 @@ impl StockWords {
         requires table { raw.old.table ≡ self.now.table }
         requires pair { IsPair raw.old.views }
         requires number { cpu ≡ (second_of raw.old.views).number }
-        requires zone { IsZoneStock (first_of raw.old.views) }
-        requires cpu { IsCpuStock self.now (second_of raw.old.views) }
+        requires zone { IsZoneView (first_of raw.old.views) }
+        requires cpu { IsCpuView self.now (second_of raw.old.views) }
         requires has_word { HasWord (HeldBy group pages) }
         requires settled { IsSettled (first_of raw.old.views) (second_of raw.old.views) }
         ensures table { raw.new.table ≡ raw.old.table }
@@ -361,8 +362,8 @@ impl StockWords {
         requires table { raw.old.table ≡ self.now.table }
         requires pair { IsPair raw.old.views }
         requires number { cpu ≡ (second_of raw.old.views).number }
-        requires zone { IsZoneStock (first_of raw.old.views) }
-        requires cpu { IsCpuStock self.now (second_of raw.old.views) }
+        requires zone { IsZoneView (first_of raw.old.views) }
+        requires cpu { IsCpuView self.now (second_of raw.old.views) }
         ensures table { raw.new.table ≡ raw.old.table }
         ensures pair { IsPair raw.new.views }
         ensures kind { SeesStock (index_of_stock cpu) result result
@@ -374,15 +375,15 @@ impl StockWords {
     }
 }
 
-// ---- begin and end, split and join: no word and no view changes, only which seat has it
+// ---- start and end, split and join: no word and no view changes, only which seat has it
 
 impl StockWords {
     /// A table of zeros for the CPUs 1 to `cpus`, and one seat that has all views.
-    pub(crate) fn begin(alloc: Global, cpus: u32) -> Result<(StockWords, RawSeat), AllocError>
+    pub(crate) fn start(alloc: Global, cpus: u32) -> Result<(StockWords, RawSeat), AllocError>
         requires { (1 ≤ cpus) × (cpus ≤ 64) }
         ensures cpus { IfOk result (λ r. r.0.cpus ≡ cpus) }
         ensures all { IfOk result (λ r. r.1
-            ≡ record { table = r.0.table; views = first_zone_stock ∷ first_cpu_stocks 1 cpus }) }
+            ≡ record { table = r.0.table; views = first_zone_stock_view ∷ first_cpu_stock_views 1 cpus }) }
     {
         let words = vec![in alloc; 0u64; 16 * (cpus as usize + 1)]?;
         let (table, seat) = Table::of_words(alloc, words.as_slice(), &cpus)?;

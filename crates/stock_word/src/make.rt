@@ -1,7 +1,9 @@
 //! A new stock table.
 ghost use Rattle.std.specs.Prelude.{◌≡◌, ◌+◌, ◌<◌, ◌≤◌, ℕ, [], ◌∷◌, length, IfOk, OnOk};
 ghost use Rattle.stock_word.specs.Kinds.{IsAlone};
-ghost use Rattle.stock_word.specs.Stock.{first_zone_stock, first_cpu_stock, first_cpu_stocks, first_seats, first_of};
+ghost use Rattle.stock_word.specs.Stock.{first_zone_stock_view, first_cpu_stock_view, first_cpu_stock_views};
+ghost use Rattle.stock_word.specs.Stock.{first_seats};
+ghost use Rattle.stock_word.specs.Stock.{first_of};
 ghost use Rattle.stock_word.specs.Stock.{view_in, AreOf, StartsAs};
 
 use crate::kinds::{RawSeat, StockWords};
@@ -31,13 +33,13 @@ impl StockWords {
     ) -> Result<(StockWords, StockSeat, Vec<StockSeat>), AllocError>
         requires { (1 ≤ cpus) × (cpus ≤ 64) }
         ensures cpus { IfOk result (λ r. r.0.cpus ≡ cpus) }
-        ensures zone { IfOk result (λ r. r.1 ≡ record { table = r.0.table; view = first_zone_stock }) }
+        ensures zone { IfOk result (λ r. r.1 ≡ record { table = r.0.table; view = first_zone_stock_view }) }
         ensures seats { IfOk result (λ r. r.2.items ≡ first_seats r.0.table 1 cpus) }
         ensures count { IfOk result (λ r. length r.2.items ≡ cpus) }
         ensures tables { IfOk result (λ r. AreOf r.0.table r.2.items) }
         ensures numbers { IfOk result (λ r. (k : ℕ) → k < cpus → (view_in r.2.items k).number ≡ k + 1) }
     {
-        let (words, mut raw) = StockWords::begin(alloc, cpus)?;
+        let (words, mut raw) = StockWords::start(alloc, cpus)?;
         let seats = words.deal(alloc, &mut raw, cpus)?;
         Ok((words, seated(raw, 0), seats))
     }
@@ -50,9 +52,9 @@ impl StockWords {
         cpus: u32,
     ) -> Result<Vec<StockSeat>, AllocError>
         requires table { (raw.old.table ≡ self.now.table) × (cpus ≤ 64) }
-        requires views { raw.old.views ≡ first_zone_stock ∷ first_cpu_stocks 1 cpus }
+        requires views { raw.old.views ≡ first_zone_stock_view ∷ first_cpu_stock_views 1 cpus }
         ensures table { raw.new.table ≡ self.now.table }
-        ensures zone { OnOk result (raw.new.views ≡ first_zone_stock ∷ []) }
+        ensures zone { OnOk result (raw.new.views ≡ first_zone_stock_view ∷ []) }
         ensures cpus { IfOk result (λ seats. seats.items ≡ first_seats self.now.table 1 cpus) }
     {
         let mut seats = Vec::new(alloc);

@@ -1,6 +1,6 @@
 //! The calls that a CPU makes alone.
 ghost use Rattle.std.specs.Prelude.{◌≡◌, ◌<◌};
-ghost use Rattle.stock_word.specs.Stock.{IsCpuStock};
+ghost use Rattle.stock_word.specs.Stock.{IsCpuView};
 ghost use Rattle.stock_word.specs.Calls.{Consumed, Credited};
 
 use crate::kinds::StockWords;
@@ -35,7 +35,7 @@ impl StockWords {
     /// that fails is `Drained`.
     pub fn consume(&self, seat: &mut StockSeat, group: u32) -> Consume
         requires table { seat.old.table ≡ self.now.table }
-        requires cpu { IsCpuStock self.now seat.old.view }
+        requires cpu { IsCpuView self.now seat.old.view }
         requires group { group < 64 }
         ensures answer { Consumed group result seat.old.view seat.new.view }
         ensures table { seat.new.table ≡ seat.old.table }
@@ -66,7 +66,7 @@ impl StockWords {
     /// stock is drained. A fresh page is of the group of the stock that the CPU saw last.
     pub fn credit(&self, seat: &mut StockSeat) -> Credit
         requires table { seat.old.table ≡ self.now.table }
-        requires cpu { IsCpuStock self.now seat.old.view }
+        requires cpu { IsCpuView self.now seat.old.view }
         requires fresh { 0 < seat.old.view.fresh }
         ensures answer { Credited result seat.old.view seat.new.view }
         ensures table { seat.new.table ≡ seat.old.table }

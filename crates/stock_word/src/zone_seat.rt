@@ -1,9 +1,10 @@
 //! The calls of the zone's seat, alone or joined with a CPU's. Whoever has that seat holds the zone's lock.
 ghost use Rattle.std.specs.Prelude.{◌≡◌, ◌+◌, ◌-◌, ◌<◌, ◌≤◌, ◌⊎◌, [], ◌∷◌, false, Some, IfSome};
-ghost use Rattle.stock_word.specs.Stock.{IsCpuStock, IsZoneStock, account_of, account_for, stocked, first_of};
+ghost use Rattle.stock_word.specs.Stock.{IsCpuView, IsZoneView, account_of, account_for, stocked, first_of};
 ghost use Rattle.stock_word.specs.Stock.{second_of, HasWord, pages_of, group_of, is_held, drained_of};
-ghost use Rattle.stock_word.specs.Kinds.{IsAlone, IsPair, after_took, after_report, noting, filling, after_fill};
-ghost use Rattle.stock_word.specs.Kinds.{draining, absorbing, with_steps};
+ghost use Rattle.stock_word.specs.Kinds.{IsAlone, IsPair, after_took, after_report, zone_after_report, zone_after_fill};
+ghost use Rattle.stock_word.specs.Kinds.{after_fill};
+ghost use Rattle.stock_word.specs.Kinds.{zone_after_drain, zone_after_absorb, with_steps};
 ghost use Rattle.stock_word.specs.Calls.{with_view, after_look, steps_of_drain};
 
 use crate::kinds::{RawSeat, StockWords};
@@ -38,13 +39,13 @@ impl StockWords {
     /// Puts `pages` fresh pages of the CPU into its report word, from which an `absorb` takes them.
     pub fn report(&self, zone: &mut StockSeat, seat: &mut StockSeat, pages: u32)
         requires tables { (zone.old.table ≡ self.now.table) × (seat.old.table ≡ self.now.table) }
-        requires zone { IsZoneStock zone.old.view }
-        requires cpu { IsCpuStock self.now seat.old.view }
+        requires zone { IsZoneView zone.old.view }
+        requires cpu { IsCpuView self.now seat.old.view }
         requires fresh { pages ≤ seat.old.view.fresh }
         ensures booked { seat.old.view.fresh + (account_for zone.old.view seat.old.view).unabsorbed
             ≤ (account_for zone.old.view seat.old.view).book }
         ensures group { group_of seat.old.view.last ≡ (account_for zone.old.view seat.old.view).group }
-        ensures zone { zone.new ≡ with_view zone.old (noting zone.old.view seat.old.view.number pages) }
+        ensures zone { zone.new ≡ with_view zone.old (zone_after_report zone.old.view seat.old.view.number pages) }
         ensures cpu { seat.new ≡ with_view seat.old (after_report seat.old.view pages) }
     {
         self.join(&mut zone.raw, &mut seat.raw);
@@ -56,8 +57,8 @@ impl StockWords {
     /// and changes nothing else. The book is the pages in the stock, the fresh ones and the reported ones.
     pub fn look(&self, zone: &mut StockSeat, seat: &mut StockSeat) -> Stock
         requires tables { (zone.old.table ≡ self.now.table) × (seat.old.table ≡ self.now.table) }
-        requires zone { IsZoneStock zone.old.view }
-        requires cpu { IsCpuStock self.now seat.old.view }
+        requires zone { IsZoneView zone.old.view }
+        requires cpu { IsCpuView self.now seat.old.view }
         ensures has_word { HasWord result }
         ensures balanced { (account_for zone.old.view seat.old.view).book
             ≡ pages_of result + seat.old.view.fresh + (account_for zone.old.view seat.old.view).unabsorbed }
@@ -78,8 +79,8 @@ impl StockWords {
     /// neither fresh nor reported.
     pub fn consume_held(&self, zone: &mut StockSeat, seat: &mut StockSeat, group: u32)
         requires tables { (zone.old.table ≡ self.now.table) × (seat.old.table ≡ self.now.table) }
-        requires zone { IsZoneStock zone.old.view }
-        requires cpu { IsCpuStock self.now seat.old.view }
+        requires zone { IsZoneView zone.old.view }
+        requires cpu { IsCpuView self.now seat.old.view }
         requires group { (account_for zone.old.view seat.old.view).group ≡ Some group }
         requires page { 0 < stocked zone.old.view seat.old.view }
         ensures zone { zone.new ≡ zone.old }
@@ -96,14 +97,14 @@ impl StockWords {
     /// drained after its last fill. The CPU has no fresh page and no reported page that isn't absorbed.
     pub fn fill(&self, zone: &mut StockSeat, seat: &mut StockSeat, group: u32, pages: u32)
         requires tables { (zone.old.table ≡ self.now.table) × (seat.old.table ≡ self.now.table) }
-        requires zone { IsZoneStock zone.old.view }
-        requires cpu { IsCpuStock self.now seat.old.view }
+        requires zone { IsZoneView zone.old.view }
+        requires cpu { IsCpuView self.now seat.old.view }
         requires group { group < 64 }
         requires pages { (0 < pages) × (pages < 65536) }
         requires drained { (account_for zone.old.view seat.old.view).filled ≡ false }
         requires settled { (seat.old.view.fresh ≡ 0) × ((account_for zone.old.view seat.old.view).unabsorbed ≡ 0) }
         ensures nothing_booked { (account_for zone.old.view seat.old.view).book ≡ 0 }
-        ensures zone { zone.new ≡ with_view zone.old (filling zone.old.view seat.old.view.number group pages) }
+        ensures zone { zone.new ≡ with_view zone.old (zone_after_fill zone.old.view seat.old.view.number group pages) }
         ensures cpu { seat.new ≡ with_view seat.old (after_fill seat.old.view group pages) }
     {
         self.join(&mut zone.raw, &mut seat.raw);
@@ -116,10 +117,10 @@ impl StockWords {
     /// already. The stock is drained from then on, until a fill. The CPU's own calls may go on meanwhile.
     pub fn drain(&self, zone: &mut StockSeat, cpu: u32) -> u32
         requires table { zone.old.table ≡ self.now.table }
-        requires zone { IsZoneStock zone.old.view }
+        requires zone { IsZoneView zone.old.view }
         requires cpu { (0 < cpu) × (cpu ≤ self.now.cpus) }
         ensures zone { zone.new ≡ with_view zone.old
-            (with_steps (steps_of_drain (account_of zone.old.view cpu).group) (draining zone.old.view cpu result)) }
+            (with_steps (steps_of_drain (account_of zone.old.view cpu).group) (zone_after_drain zone.old.view cpu result)) }
         ensures booked { result ≤ (account_of zone.old.view cpu).book }
         ensures drained_before { (account_of zone.old.view cpu).filled ≡ false → result ≡ 0 }
     {
@@ -137,7 +138,7 @@ impl StockWords {
     /// was never filled counts as drained of no page from then on.
     pub fn group(&self, zone: &mut StockSeat, cpu: u32) -> Option<u32>
         requires table { zone.old.table ≡ self.now.table }
-        requires zone { IsZoneStock zone.old.view }
+        requires zone { IsZoneView zone.old.view }
         requires cpu { (0 < cpu) × (cpu ≤ self.now.cpus) }
         ensures group { result ≡ (account_of zone.old.view cpu).group }
         ensures fits { IfSome result (λ g. g < 64) }
@@ -151,12 +152,12 @@ impl StockWords {
     /// longer booked to its stock.
     pub fn absorb(&self, zone: &mut StockSeat, cpu: u32) -> u32
         requires table { zone.old.table ≡ self.now.table }
-        requires zone { IsZoneStock zone.old.view }
+        requires zone { IsZoneView zone.old.view }
         requires cpu { (0 < cpu) × (cpu ≤ self.now.cpus) }
         ensures reported { result ≡ (account_of zone.old.view cpu).unabsorbed }
         ensures booked { result ≤ (account_of zone.old.view cpu).book }
         ensures bounded { (account_of zone.old.view cpu).book < 65536 }
-        ensures zone { zone.new ≡ with_view zone.old (with_steps 1 (absorbing zone.old.view cpu)) }
+        ensures zone { zone.new ≡ with_view zone.old (with_steps 1 (zone_after_absorb zone.old.view cpu)) }
     {
         self.step_absorb(&mut zone.raw, cpu) as u32
     }

@@ -2,7 +2,7 @@
 ghost use Rattle.std.specs.Prelude.{◌≡◌, ◌≢◌, ◌+◌, ◌<◌, ◌≤◌, ℕ, [], length};
 ghost use Rattle.frame_word.specs.Seats.{IsInOwnHand, IsOpen, IsShut, IsZoneSeat, NothingPasses};
 ghost use Rattle.frame_word.specs.Seats.{first_cpu_view, first_zone_view, seat_references};
-ghost use Rattle.stock_word.specs.Stock.{IsZoneStock, first_zone_stock, first_cpu_stock};
+ghost use Rattle.stock_word.specs.Stock.{IsZoneView, first_zone_stock_view, first_cpu_stock_view};
 
 use crate::rows::same;
 use cpu_part::{BootName, Cpu, Dropped, Fast, Tables};
@@ -25,11 +25,11 @@ pub(crate) struct WordParts<const F: u32> {
     pub payers: (StockSeat, StockSeat),
     pub ghost sizes: { (frames.frames ≡ F) × (frames.cpus ≡ 2) × (stocks.cpus ≡ 2) },
     pub ghost zone_is: { (zone.table ≡ frames.table) × (zone.view ≡ first_zone_view F) },
-    pub ghost machine_is: { (machine.table ≡ stocks.table) × (machine.view ≡ first_zone_stock) },
+    pub ghost machine_is: { (machine.table ≡ stocks.table) × (machine.view ≡ first_zone_stock_view) },
     pub ghost first_is: { (seats.0.table ≡ frames.table) × (seats.0.view ≡ first_cpu_view 1) },
     pub ghost second_is: { (seats.1.table ≡ frames.table) × (seats.1.view ≡ first_cpu_view 2) },
-    pub ghost first_pays: { (payers.0.table ≡ stocks.table) × (payers.0.view ≡ first_cpu_stock 1) },
-    pub ghost second_pays: { (payers.1.table ≡ stocks.table) × (payers.1.view ≡ first_cpu_stock 2) },
+    pub ghost first_pays: { (payers.0.table ≡ stocks.table) × (payers.0.view ≡ first_cpu_stock_view 1) },
+    pub ghost second_pays: { (payers.1.table ≡ stocks.table) × (payers.1.view ≡ first_cpu_stock_view 2) },
 }
 
 pub(crate) fn make_word_parts<const F: u32>(rt: &impl Abort, alloc: Global) -> WordParts<F>
@@ -59,7 +59,7 @@ pub(crate) fn set_up<N: BootName, const F: u32>(
     requires { (parts.frames ≡ N.frames) × (parts.stocks ≡ N.stocks) }
     ensures sizes { (N.frames.frames ≡ F) × (N.frames.cpus ≡ 2) × (N.stocks.cpus ≡ 2) }
     ensures zone { (result.1.table ≡ N.frames.table) × (result.1.view ≡ first_zone_view F) }
-    ensures machine { (result.2.table ≡ N.stocks.table) × (result.2.view ≡ first_zone_stock) }
+    ensures machine { (result.2.table ≡ N.stocks.table) × (result.2.view ≡ first_zone_stock_view) }
     ensures first { (result.3.number ≡ 1) × (result.3.list ≡ []) × (result.3.fresh ≡ []) }
     ensures second { (result.4.number ≡ 2) × (result.4.list ≡ []) × (result.4.fresh ≡ []) }
 {
@@ -165,9 +165,9 @@ fn take_fresh<N: BootName>(
     cpu: &mut Cpu<N>,
 ) -> Option<Frame>
     requires zone { IsZoneSeat N.frames zone.old × IsOpen zone.old cpu.old.number }
-    requires machine { (machine.old.table ≡ N.stocks.table) × IsZoneStock machine.old.view }
+    requires machine { (machine.old.table ≡ N.stocks.table) × IsZoneView machine.old.view }
     requires still { NothingPasses N.frames zone.old cpu.old.frame_seat }
-    ensures machine { (machine.new.table ≡ N.stocks.table) × IsZoneStock machine.new.view }
+    ensures machine { (machine.new.table ≡ N.stocks.table) × IsZoneView machine.new.view }
 {
     let frame = cpu.hand_fresh(tables, zone, machine)?;
     cpu.collect(tables, zone, frame);
@@ -194,8 +194,8 @@ fn drains_stock<N: BootName>(
     machine: &mut StockSeat,
     pages: u32,
 )
-    requires { (machine.old.table ≡ N.stocks.table) × IsZoneStock machine.old.view × (1 ≤ N.stocks.cpus) }
-    ensures { (machine.new.table ≡ N.stocks.table) × IsZoneStock machine.new.view }
+    requires { (machine.old.table ≡ N.stocks.table) × IsZoneView machine.old.view × (1 ≤ N.stocks.cpus) }
+    ensures { (machine.new.table ≡ N.stocks.table) × IsZoneView machine.new.view }
 {
     same(rt, tables.stocks.drain(machine, 1), pages);
 }
@@ -418,10 +418,10 @@ fn begins<N: BootName>(
     cpu: &mut Cpu<N>,
 ) -> Frame
     requires zone { IsZoneSeat N.frames zone.old × (zone.old.view ≡ first_zone_view 8) × (N.frames.frames ≡ 8) }
-    requires machine { (machine.old.table ≡ N.stocks.table) × (machine.old.view ≡ first_zone_stock) }
+    requires machine { (machine.old.table ≡ N.stocks.table) × (machine.old.view ≡ first_zone_stock_view) }
     requires cpu { (cpu.old.number ≡ 1) × (cpu.old.list ≡ []) × (cpu.old.fresh ≡ []) }
     ensures zone { IsZoneSeat N.frames zone.new × IsShut zone.new 1 }
-    ensures machine { (machine.new.table ≡ N.stocks.table) × IsZoneStock machine.new.view }
+    ensures machine { (machine.new.table ≡ N.stocks.table) × IsZoneView machine.new.view }
     ensures frame { result < 8 }
 {
     let used = frame_of(rt, tables, 5);

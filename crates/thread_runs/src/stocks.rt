@@ -1,8 +1,8 @@
 //! Worked rows on a stock's word, and its drain while the CPU pays from it.
 ghost use Rattle.std.specs.Prelude.{◌≡◌, ◌≤◌, ◌+◌, false, length};
-ghost use Rattle.stock_word.specs.Stock.{IsCpuStock, IsZoneStock, IsSettled, account_of, first_zone_stock};
-ghost use Rattle.stock_word.specs.Stock.{first_cpu_stock};
-ghost use Rattle.stock_word.specs.Kinds.{draining, with_steps};
+ghost use Rattle.stock_word.specs.Stock.{IsCpuView, IsZoneView, IsSettled, account_of, first_zone_stock_view};
+ghost use Rattle.stock_word.specs.Stock.{first_cpu_stock_view};
+ghost use Rattle.stock_word.specs.Kinds.{with_steps, zone_after_drain};
 ghost use Rattle.stock_word.specs.Calls.{steps_of_drain};
 
 use crate::rows::same;
@@ -18,7 +18,7 @@ fn drained_beside_a_page(
     seat: &mut StockSeat,
 )
     requires tables { (zone.old.table ≡ words.now.table) × (seat.old.table ≡ words.now.table) }
-    requires views { (zone.old.view ≡ first_zone_stock) × (seat.old.view ≡ first_cpu_stock 1)
+    requires views { (zone.old.view ≡ first_zone_stock_view) × (seat.old.view ≡ first_cpu_stock_view 1)
         × (words.now.cpus ≡ 1) }
 {
     words.fill(zone, seat, 1, 4);
@@ -41,7 +41,7 @@ fn drained_with_a_fresh_page(rt: HostRuntime) {
 // The stock has two pages: the third consume finds it empty.
 fn takes_all_pages(rt: &impl Abort, words: &StockWords, zone: &mut StockSeat, seat: &mut StockSeat)
     requires tables { (zone.old.table ≡ words.now.table) × (seat.old.table ≡ words.now.table) }
-    requires views { (zone.old.view ≡ first_zone_stock) × (seat.old.view ≡ first_cpu_stock 2)
+    requires views { (zone.old.view ≡ first_zone_stock_view) × (seat.old.view ≡ first_cpu_stock_view 2)
         × (words.now.cpus ≡ 2) }
 {
     words.fill(zone, seat, 63, 2);
@@ -61,7 +61,7 @@ fn a_stock_runs_empty(rt: HostRuntime) {
 // fresh.
 fn pay_and_credit(words: &StockWords, seat: &mut StockSeat) -> u32
     requires table { seat.old.table ≡ words.now.table }
-    requires cpu { IsCpuStock words.now seat.old.view }
+    requires cpu { IsCpuView words.now seat.old.view }
     requires settled { seat.old.view.fresh ≡ 0 }
     ensures table { seat.new.table ≡ seat.old.table }
     ensures number { seat.new.view.number ≡ seat.old.view.number }
@@ -95,27 +95,27 @@ fn fill_and_drain<R: Threads + Sync>(
     mut seat: StockSeat,
 ) -> (StockSeat, StockSeat, u32)
     requires tables { (zone.table ≡ words.now.table) × (seat.table ≡ words.now.table) }
-    requires numbers { IsZoneStock zone.view × (seat.view.number ≡ 1) × (1 ≤ words.now.cpus) }
+    requires numbers { IsZoneView zone.view × (seat.view.number ≡ 1) × (1 ≤ words.now.cpus) }
     requires settled { IsSettled zone.view seat.view }
     ensures tables { (result.0.table ≡ words.now.table) × (result.1.table ≡ words.now.table) }
-    ensures numbers { IsZoneStock result.0.view × (result.1.view.number ≡ 1) }
+    ensures numbers { IsZoneView result.0.view × (result.1.view.number ≡ 1) }
     ensures settled { IsSettled result.0.view result.1.view }
 {
     words.fill(&mut zone, &mut seat, 1, 50);
     let (drained, worked) = join(
         rt,
         move || -> (u32, StockSeat)
-            requires { (zone.table ≡ words.now.table) × IsZoneStock zone.view × (1 ≤ words.now.cpus) }
+            requires { (zone.table ≡ words.now.table) × IsZoneView zone.view × (1 ≤ words.now.cpus) }
             ensures { (result.1.table ≡ words.entry.now.table)
                 × (result.1.view ≡ with_steps (steps_of_drain (account_of zone.view 1).group)
-                (draining zone.view 1 result.0))
+                (zone_after_drain zone.view 1 result.0))
                 × (result.0 ≤ (account_of zone.view 1).book) }
         {
             let mut own = zone;
             (words.drain(&mut own, 1), own)
         },
         move || -> (u32, StockSeat)
-            requires { (seat.table ≡ words.now.table) × IsCpuStock words.now seat.view × (seat.view.fresh ≡ 0) }
+            requires { (seat.table ≡ words.now.table) × IsCpuView words.now seat.view × (seat.view.fresh ≡ 0) }
             ensures { (result.1.table ≡ words.entry.now.table)
                 × (result.1.view.number ≡ seat.view.number)
                 × (result.1.view.fresh ≡ result.0) }

@@ -1,6 +1,6 @@
 use Rattle.std.proofs.Common.{◌≡◌, ℕ, Option, Some, refl, sym, ap, ◌∙◌}
 use Rattle.stock_word.specs.Stock.{KnownStockSeat, account_of}
-use Rattle.stock_word.specs.Kinds.{draining, with_steps}
+use Rattle.stock_word.specs.Kinds.{with_steps, zone_after_drain}
 use Rattle.stock_word.specs.Calls.{steps_of_drain, with_view}
 use Rattle.mem_machine.proofs.Booking.{after_drain, within_count}
 use Rattle.mem_machine.proofs.booked_seat.BookedSeat.drain.Goals as goal
@@ -26,5 +26,5 @@ returns-clause-seat g c =
     let group : (account_of c.self.inside.seat.view c.args.cpu).group ≡ Some c.args.group =
     ap (λ (x : KnownStockSeat). (account_of x.view c.args.cpu).group) c.self.view_is ∙ c.requires.group in
     c.drain-pages.ensures.zone
-    ∙ ap (λ (o : Option ℕ). with_view c.self.inside.seat (with_steps (steps_of_drain o) (draining c.self.inside.seat.view c.args.cpu c.drain-pages.result))) group
-    ∙ ap (λ (x : KnownStockSeat). with_view x (with_steps 2 (draining x.view c.args.cpu c.drain-pages.result))) c.self.view_is
+    ∙ ap (λ (o : Option ℕ). with_view c.self.inside.seat (with_steps (steps_of_drain o) (zone_after_drain c.self.inside.seat.view c.args.cpu c.drain-pages.result))) group
+    ∙ ap (λ (x : KnownStockSeat). with_view x (with_steps 2 (zone_after_drain x.view c.args.cpu c.drain-pages.result))) c.self.view_is

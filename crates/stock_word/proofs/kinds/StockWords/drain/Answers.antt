@@ -1,7 +1,7 @@
 use Rattle.std.proofs.Common.{sym, ap, ◌∙◌}
 use Rattle.stock_word.specs.declared.view.StockView.{StockView}
 use Rattle.stock_word.specs.Stock.{KnownStockSeat, pages_of, account_of}
-use Rattle.stock_word.specs.Kinds.{draining, with_steps}
+use Rattle.stock_word.specs.Kinds.{with_steps, zone_after_drain}
 use Rattle.stock_word.proofs.Told.{either_group, found_group, seat_after, drained_booked, drained_before, looked_and_drained}
 use Rattle.stock_word.proofs.kinds.StockWords.drain.Goals as goal
 
@@ -24,7 +24,7 @@ returns-in-HeldBy-clause-zone c =
     let table = c.step_drain-found.ensures.table ∙ c.step_look-seen.ensures.table ∙ ap (λ (s : KnownStockSeat). s.table) c.zone.view_is in
     let group = ap (λ (v : StockView). (account_of v c.args.cpu).group) (sym view) ∙ seen.0 in
     seat_after c.step_drain-found.new.raw c.args.zone.now _ table
-    (kind.zone_after ∙ (λ i. with_steps 1 (draining ((seen.1 ∙ ap (with_steps 1) view) i) c.args.cpu (sym pages i)))
+    (kind.zone_after ∙ (λ i. with_steps 1 (zone_after_drain ((seen.1 ∙ ap (with_steps 1) view) i) c.args.cpu (sym pages i)))
     ∙ looked_and_drained c.args.zone.now.view c.args.cpu _ c.pages.result group)
 
 pub returns-in-HeldBy-clause-booked : goal.returns-in-HeldBy-clause-booked
