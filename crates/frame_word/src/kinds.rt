@@ -4,7 +4,8 @@
 //!
 //! The table and the raw seats are private to this file. It has one function for each kind of atomic step, whose
 //! contract is the kind. `get`, `put` and `freeze` are made of the first four. No other file can make a step of a kind
-//! of its own. `split_others` and `join_raw` split and join views and change none; `start` and `end` make and end a table.
+//! of its own. `split_others` and `join_raw` split and join views and change none; `start` and `end` make and end a
+//! table.
 ghost use Rattle.std.specs.Prelude.{◌≡◌, ◌⊎◌, ◌<◌, ◌≤◌, ◌+◌, ◌++◌, [], ◌∷◌, length, IfOk};
 ghost use Rattle.std.specs.Mem.Slots.{slots_items, slots_len, IsFull};
 ghost use Rattle.frame_word.specs.ReferenceRule.{most_references, visit_index, ReferenceRule};

@@ -5,7 +5,7 @@ use Rattle.frame_word.proofs.Alone.{adds_as}
 use Rattle.frame_word.proofs.words.FrameWords.add.Goals as goal
 
 pub compare_exchange-requires : goal.compare_exchange-requires
-compare_exchange-requires c = let frames = ap (λ t. t.frames) c.self.view_is in let word = c.word-word.ensures in (
+compare_exchange-requires c = let frames = ap (λ t. t.frames) c.self.view_is in let word = c.word_index-word.ensures in (
   ap (λ s. s.table) c.seat.view_is ∙ c.requires.table ∙ sym (ap (λ t. t.table) c.self.view_is),
   omega arith,
   adds_as _ _ c.seat.invariant.alone _ _ _ _ _ (omega arith) c.args.seen c.requires.room.0 c.requires.room.1

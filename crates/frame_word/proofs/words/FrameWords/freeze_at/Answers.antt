@@ -4,7 +4,7 @@ use Rattle.frame_word.proofs.Alone.{freezes_as}
 use Rattle.frame_word.proofs.words.FrameWords.freeze_at.Goals as goal
 
 pub compare_exchange-requires : goal.compare_exchange-requires
-compare_exchange-requires c = let frames = ap (λ t. t.frames) c.self.view_is in let word = c.word-word.ensures in (
+compare_exchange-requires c = let frames = ap (λ t. t.frames) c.self.view_is in let word = c.word_index-word.ensures in (
   ap (λ s. s.table) c.seat.view_is ∙ c.requires.table ∙ sym (ap (λ t. t.table) c.self.view_is),
   omega arith,
   freezes_as _ _ c.seat.invariant.alone _ _ _ _ _ (omega arith) c.args.count c.requires.held.0

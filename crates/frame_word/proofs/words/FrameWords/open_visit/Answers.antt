@@ -11,7 +11,7 @@ store-requires c =
     let cpu = c.cpu.view_is in
     let number = ap number_of cpu in
     let numbered = c.cpu.invariant.numbered in
-    let at_word = c.visit_word-word.ensures in
+    let at_word = c.visit_word_index-word.ensures in
     let both = c.join.ensures.views ∙ (λ i. ((c.zone.invariant.alone i).0 ++ (c.cpu.invariant.alone i).0, [])) in (
       c.join.ensures.table.0 ∙ (ap (λ s. s.table) zone ∙ c.requires.zone.0 ∙ sym (ap (λ t. t.table) c.self.view_is)),
       omega arith,

@@ -7,7 +7,7 @@ pub store-requires : goal.store-requires
 store-requires c =
     let frames = ap (λ t. t.frames) c.self.view_is in
     let cpus = ap (λ t. t.cpus) c.self.view_is in
-    let word = c.word.ensures in
+    let word = c.word_index.ensures in
     let from = c.from-mark.ensures in (
       ap (λ s. s.table) c.zone.view_is ∙ c.requires.zone.0 ∙ sym (ap (λ t. t.table) c.self.view_is),
       omega arith,

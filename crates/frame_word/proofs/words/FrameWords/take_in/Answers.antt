@@ -10,7 +10,7 @@ store-requires c =
     let zone = c.zone.view_is in
     let cpu = c.cpu.view_is in
     let number = ap number_of cpu in
-    let word = c.word-word.ensures in
+    let word = c.word_index-word.ensures in
     let both = c.join.ensures.views ∙ (λ i. ((c.zone.invariant.alone i).0 ++ (c.cpu.invariant.alone i).0, [])) in (
       c.join.ensures.table.0 ∙ (ap (λ s. s.table) zone ∙ c.requires.zone.0 ∙ sym (ap (λ t. t.table) c.self.view_is)),
       omega arith,

@@ -4,7 +4,7 @@ use Rattle.frame_word.proofs.Alone.{unfreezes_as}
 use Rattle.frame_word.proofs.words.FrameWords.unfreeze.Goals as goal
 
 pub store-requires : goal.store-requires
-store-requires c = let frames = ap (λ t. t.frames) c.self.view_is in let word = c.word.ensures in (
+store-requires c = let frames = ap (λ t. t.frames) c.self.view_is in let word = c.word_index.ensures in (
   ap (λ s. s.table) c.seat.view_is ∙ c.requires.table ∙ sym (ap (λ t. t.table) c.self.view_is),
   omega arith,
   unfreezes_as _ _ c.seat.invariant.alone _ _ _ _ _ (omega arith) c.args.count c.requires.count.0 c.requires.count.1
