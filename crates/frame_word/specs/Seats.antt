@@ -94,7 +94,8 @@ LentIsBorrowed t zone cpu = (f : ℕ) → f < t.frames
 -- them owns it, it is lent to no CPU.
 abbrev pub HandsAreApart : KnownTable → KnownSeat → KnownSeat → Type 0
 HandsAreApart t zone cpu = (f : ℕ) → f < t.frames → (in_hands (note_of zone.view f) + in_hands (note_of cpu.view f) ≤ 1)
-    × (1 ≤ in_hands (note_of zone.view f) + in_hands (note_of cpu.view f) → seat_references zone f + seat_references cpu f ≡ 0)
+    × (1 ≤ in_hands (note_of zone.view f) + in_hands (note_of cpu.view f)
+        → seat_references zone f + seat_references cpu f ≡ 0)
     × (1 ≤ (note_of zone.view f).own + (note_of cpu.view f).own → IsLentToNone zone f)
 
 -- the seat is the zone's, at this table
@@ -127,7 +128,8 @@ GetAnswers s f Full t = t ≡ seat_with s f (looked most_references)
 -- What a put answers, and the seat after it. Left: n references are left, those of the seat among them. Last: the seat
 -- had one, none is left, and the seat owns the frame.
 abbrev pub PutAnswers : KnownSeat → ℕ → Put → KnownSeat → Type 0
-PutAnswers s f (Left n) t = (1 ≤ n) × (n < most_references) × (t ≡ seat_with s f (let_go n)) × (seat_references s f ≤ n + 1)
+PutAnswers s f (Left n) t =
+    (1 ≤ n) × (n < most_references) × (t ≡ seat_with s f (let_go n)) × (seat_references s f ≤ n + 1)
 PutAnswers s f Last t = (t ≡ seat_with s f let_go_last) × (seat_references s f ≡ 1)
 
 -- What a freeze of n references answers, and the seat after it. True: all references were these n, they are dropped,

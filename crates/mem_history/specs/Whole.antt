@@ -52,7 +52,8 @@ TheHolderIsShown = (table : KnownTable) (run : Run) (machine : KnownMachine) (cp
 -- the references of the CPU of this number on the frame, by its part; CPUs count from 1, so number 0 has none
 abbrev pub references_by : List KnownCpu → ℕ → ℕ → ℕ
 references_by cpus zero frame = 0
-references_by cpus (suc index) frame = option_map_or (λ cpu. seat_references cpu.frame_seat frame) (slice_get cpus index) 0
+references_by cpus (suc index) frame =
+    option_map_or (λ cpu. seat_references cpu.frame_seat frame) (slice_get cpus index) 0
 
 -- how many fresh frames the CPU of this number has, by its part
 abbrev pub fresh_by : List KnownCpu → ℕ → ℕ

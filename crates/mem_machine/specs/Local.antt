@@ -75,7 +75,8 @@ part_of stock cpu other =
 -- the references of a seat on the frame, as `cpu` sees them: those of the zone (seat 0) and its own
 abbrev pub references_of : KnownSeat → KnownCpu → ℕ → ℕ → ℕ
 references_of zone_seat cpu seat frame =
-    if seat == 0 then seat_references zone_seat frame else (if seat == cpu.number then seat_references cpu.frame_seat frame else 0)
+    if seat == 0 then seat_references zone_seat frame
+    else (if seat == cpu.number then seat_references cpu.frame_seat frame else 0)
 
 -- the CPU of this number holds the lock, and is visited if its visit is open
 abbrev pub hold_of : KnownSeat → ℕ → Hold
