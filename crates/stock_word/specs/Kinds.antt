@@ -50,7 +50,8 @@ after_fill v g n = record v { last = HeldBy g n; steps = v.steps + 1 }
 
 -- the zone's view after n pages were drained from the CPU's stock, steps not counted
 abbrev pub zone_after_drain : StockView → ℕ → ℕ → StockView
-zone_after_drain z cpu n = let a = account_of z cpu in with_account z cpu (record a { book = a.book - n; filled = false })
+zone_after_drain z cpu n = let a = account_of z cpu in with_account z cpu
+    (record a { book = a.book - n; filled = false })
 
 -- the zone's view after the CPU's report was absorbed, steps not counted
 abbrev pub zone_after_absorb : StockView → ℕ → StockView

@@ -120,7 +120,8 @@ impl StockWords {
         requires zone { IsZoneView zone.old.view }
         requires cpu { (0 < cpu) × (cpu ≤ self.now.cpus) }
         ensures zone { zone.new ≡ with_view zone.old
-            (with_steps (steps_of_drain (account_of zone.old.view cpu).group) (zone_after_drain zone.old.view cpu result)) }
+            (with_steps (steps_of_drain (account_of zone.old.view cpu).group)
+            (zone_after_drain zone.old.view cpu result)) }
         ensures booked { result ≤ (account_of zone.old.view cpu).book }
         ensures drained_before { (account_of zone.old.view cpu).filled ≡ false → result ≡ 0 }
     {
