@@ -95,7 +95,7 @@ LentIsBorrowed t zone cpu = (f : ℕ) → f < t.frames
 abbrev pub HandsAreApart : KnownTable → KnownSeat → KnownSeat → Type 0
 HandsAreApart t zone cpu = (f : ℕ) → f < t.frames → (in_hands (note_of zone.view f) + in_hands (note_of cpu.view f) ≤ 1)
     × (1 ≤ in_hands (note_of zone.view f) + in_hands (note_of cpu.view f)
-        → seat_references zone f + seat_references cpu f ≡ 0)
+    → seat_references zone f + seat_references cpu f ≡ 0)
     × (1 ≤ (note_of zone.view f).own + (note_of cpu.view f).own → IsLentToNone zone f)
 
 -- the seat is the zone's, at this table
