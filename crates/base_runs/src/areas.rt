@@ -2,7 +2,8 @@
 
 ghost use Rattle.std.specs.Prelude.{◌≡◌};
 
-use crate::walks::{order_of, walks_blocks, zone_tells};
+use crate::calls::expect_true;
+use crate::walks::{order_of, walks_blocks};
 use std::process::Abort;
 use zone_blocks::areas::FreeAreas;
 use zone_blocks::block::Block;
@@ -15,20 +16,20 @@ fn areas_of_eleven_frames(rt: HostRuntime) {
     let mut areas = empty_areas(&rt, 11);
     areas.set_all_free();
     let order = order_of(&rt, 1);
-    zone_tells(&rt, areas.first(order) == Some(Block { at: 8, order }));
+    expect_true(&rt, areas.first(order) == Some(Block { at: 8, order }));
     if areas.contains(Block { at: 8, order }) {
         areas.remove(Block { at: 8, order });
     }
-    zone_tells(&rt, !areas.contains(Block { at: 8, order }));
+    expect_true(&rt, !areas.contains(Block { at: 8, order }));
     let rest = block_at(&rt, 0, 3);
-    zone_tells(&rt, areas.smallest_from(order) == Some(rest));
+    expect_true(&rt, areas.smallest_from(order) == Some(rest));
 }
 
 #[test]
 fn orders_end_at_ten(rt: HostRuntime) {
     let greatest = order_of(&rt, 10);
-    zone_tells(&rt, greatest.exponent() == 10 && greatest.frames() == 1024);
-    zone_tells(&rt, Order::of(11).is_none());
+    expect_true(&rt, greatest.exponent() == 10 && greatest.frames() == 1024);
+    expect_true(&rt, Order::of(11).is_none());
 }
 
 // The empty areas of a zone of this many frames.
@@ -86,16 +87,16 @@ fn play_row(rt: &impl Abort, areas: &mut FreeAreas, row: AreaRow) {
         AreaRow::PutBlock(at, exponent) => put_block(rt, areas, block_at(rt, at, exponent)),
         AreaRow::TakeBlock(at, exponent) => take_block(rt, areas, block_at(rt, at, exponent)),
         AreaRow::PairBit(exponent, bit) => {
-            zone_tells(rt, areas.pair_bit(block_at(rt, 0, exponent)) == bit);
+            expect_true(rt, areas.pair_bit(block_at(rt, 0, exponent)) == bit);
         }
         AreaRow::FirstBlock(exponent, at) => {
             let first = areas.first(order_of(rt, exponent));
-            zone_tells(rt, first == Some(block_at(rt, at, exponent)));
+            expect_true(rt, first == Some(block_at(rt, at, exponent)));
         }
         AreaRow::NoBlockFrom(exponent) => {
             let order = order_of(rt, exponent);
-            zone_tells(rt, areas.first(order).is_none());
-            zone_tells(rt, areas.smallest_from(order).is_none());
+            expect_true(rt, areas.first(order).is_none());
+            expect_true(rt, areas.smallest_from(order).is_none());
         }
     }
 }

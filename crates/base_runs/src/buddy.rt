@@ -1,7 +1,8 @@
 //! The buddy system: the example in its README, a worked run, and random calls compared with the definition of
 //! maximal blocks.
 
-use crate::walks::{order_of, walks_blocks, zone_tells};
+use crate::calls::expect_true;
+use crate::walks::{order_of, walks_blocks};
 use rand_core::{Rng, SeedableRng};
 use rand_pcg::Pcg32;
 use std::process::Abort;
@@ -15,12 +16,12 @@ use zone_buddy::buddy::Buddy;
 fn a_block_is_taken_and_given_back(rt: HostRuntime) {
     let mut zone = zone_of(&rt, 16);
     let order = order_of(&rt, 2);
-    zone_tells(&rt, zone.take(order) == Some(Block { at: 0, order }));
+    expect_true(&rt, zone.take(order) == Some(Block { at: 0, order }));
     if zone.is_in_use(Block { at: 0, order }) {
         zone.give(Block { at: 0, order });
     }
     for block in zone.blocks() {
-        zone_tells(&rt, block.order.frames() == 16);
+        expect_true(&rt, block.order.frames() == 16);
     }
 }
 

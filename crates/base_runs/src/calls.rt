@@ -8,9 +8,9 @@ use group_tree::group::GroupId;
 use group_tree::tree::Tree;
 use std::process::Abort;
 
-/// It is true, or the test fails. A call is cheaper to prove than the macro in its place.
-pub fn expect_true(rt: &impl Abort, is: bool) {
-    assert!(rt; is);
+/// The condition holds, or the test fails. A call is cheaper to prove than the macro in its place.
+pub fn expect_true(rt: &impl Abort, condition: bool) {
+    assert!(rt; condition);
 }
 
 /// The group exists, or the test fails.

@@ -1,6 +1,6 @@
 //! A set of a million numbers, asked for the nearest lower member.
 
-use crate::walks::zone_tells;
+use crate::calls::expect_true;
 use bit_levels::levels::BitLevels;
 use std::process::Abort;
 
@@ -18,7 +18,7 @@ fn put(set: &mut BitLevels, number: usize, value: bool) {
 // The greatest member below the number must be this one.
 fn tells_last_below(rt: &impl Abort, set: &BitLevels, number: usize, member: Option<usize>) {
     assert!(rt; number <= set.len());
-    zone_tells(rt, set.last_below(number) == member);
+    expect_true(rt, set.last_below(number) == member);
 }
 
 // Asks for the members below some numbers, in a set of three.

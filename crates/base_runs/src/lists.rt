@@ -3,7 +3,7 @@
 ghost use Rattle.std.specs.Prelude.{◌≡◌, ◌<◌, length};
 ghost use Rattle.lru_lists.specs.Lists.{AreLinked};
 
-use crate::walks::zone_tells;
+use crate::calls::expect_true;
 use lru_lists::laws;
 use lru_lists::links::Links;
 use lru_lists::lru::{Lru, Touched};
@@ -17,9 +17,9 @@ fn a_second_touch_moves_a_unit(rt: HostRuntime) {
     lru.add(&mut links, 3);
     touches_unit_3(&rt, &mut lru, &mut links, Touched::Marked);
     touches_unit_3(&rt, &mut lru, &mut links, Touched::Active);
-    zone_tells(&rt, lru.list_of(&links, 3) == Some(LruList::Active));
+    expect_true(&rt, lru.list_of(&links, 3) == Some(LruList::Active));
     lru.age(&mut links);
-    zone_tells(&rt, lru.list_of(&links, 3) == Some(LruList::Inactive));
+    expect_true(&rt, lru.list_of(&links, 3) == Some(LruList::Inactive));
 }
 
 // Touches unit 3, which must be on a list. The touch must give this answer.
@@ -29,7 +29,7 @@ fn touches_unit_3(rt: &impl Abort, lru: &mut Lru, links: &mut Links, answer: Tou
     ensures frames { length links.new ≡ length links.old }
 {
     assert!(rt; lru.list_of(links, 3).is_some());
-    zone_tells(rt, lru.touch(links, 3) == answer);
+    expect_true(rt, lru.touch(links, 3) == answer);
 }
 
 #[test]

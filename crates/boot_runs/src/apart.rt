@@ -2,7 +2,7 @@
 //! a pin.
 ghost use Rattle.std.specs.Prelude.{◌≡◌, ◌<◌, length};
 
-use crate::life::{SIZES, answers, ends, holds};
+use crate::life::{SIZES, answers, ends, expect_true};
 use cpu_part::{BootName, Cpu};
 use frame_word::{Frame, Get};
 use group_tree::group::GroupId;
@@ -38,9 +38,9 @@ fn sees<N: BootName, R: Wait + Abort>(
 
 // Both see the same.
 fn are_same(rt: &impl Abort, one: &Seen, other: &Seen) {
-    holds(rt, one.frames.as_slice() == other.frames.as_slice());
-    holds(rt, one.blocks.as_slice() == other.blocks.as_slice());
-    holds(rt, one.group == other.group);
+    expect_true(rt, one.frames.as_slice() == other.frames.as_slice());
+    expect_true(rt, one.blocks.as_slice() == other.blocks.as_slice());
+    expect_true(rt, one.group == other.group);
 }
 
 fn first_frame<N: BootName>(rt: &impl Abort, system: &System<N>) -> Frame
@@ -65,7 +65,7 @@ fn charges_and_pins<N: BootName, R: Wait + Abort>(rt: &R, system: &System<N>, cp
     );
     answers(rt, system, cpu, &Cmd::Settle, &Reply::Done);
     let got = cpu.get(system.tables(), frame);
-    holds(rt, got == Ok(Get::Held));
+    expect_true(rt, got == Ok(Get::Held));
 }
 
 fn unpins<N: BootName, R: Abort>(rt: &R, system: &System<N>, cpus: &mut [Cpu<N>]) {
@@ -87,7 +87,7 @@ fn is_held<N: BootName>(
     match system.shutdown(cpus) {
         Ok(_audit) => panic!(rt; "a pin remains"),
         Err(held) => {
-            holds(rt, held.pins == 1);
+            expect_true(rt, held.pins == 1);
             let Held {
                 system,
                 cpus,
@@ -114,7 +114,7 @@ fn goes_on<N: BootName, R: Wait + Abort>(rt: &R, alloc: Global, boot: Boot)
     let last = sees(rt, alloc, &system, &mut cpus);
     are_same(rt, &first, &last);
     unpins(rt, &system, &mut cpus);
-    holds(rt, ends(rt, system, cpus).charged == 1);
+    expect_true(rt, ends(rt, system, cpus).charged == 1);
 }
 
 #[test]

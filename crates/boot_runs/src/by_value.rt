@@ -2,7 +2,7 @@
 
 ghost use Rattle.std.specs.Prelude.{◌≡◌};
 
-use crate::life::{SIZES, holds, nothing_was_charged};
+use crate::life::{SIZES, expect_true, nothing_was_charged};
 use cpu_part::BootName;
 use group_tree::fault::Fault;
 use group_tree::group::GroupId;
@@ -17,16 +17,16 @@ fn lives<N: BootName, R: Abort>(rt: &R, alloc: Global, boot: Boot)
 {
     let (mut locked, tables, mut cpus) = boot.into_parts::<N>(alloc).expect(rt, "memory");
     let path: &[u8] = b"/a";
-    holds(rt, locked.find(path).is_none());
+    expect_true(rt, locked.find(path).is_none());
     if let Some(cpu) = cpus.first_mut() {
         let made = serve(&mut locked, &tables, cpu, &Cmd::Mkdir { path });
-        holds(rt, GroupId::of(1).map(Reply::Group) == Some(made));
+        expect_true(rt, GroupId::of(1).map(Reply::Group) == Some(made));
         let again = serve(&mut locked, &tables, cpu, &Cmd::Mkdir { path });
-        holds(rt, again == Reply::Refused(Fault::Exists));
+        expect_true(rt, again == Reply::Refused(Fault::Exists));
     }
-    holds(rt, locked.find(path) == GroupId::of(1));
+    expect_true(rt, locked.find(path) == GroupId::of(1));
     match end(locked, tables, cpus) {
-        Ok(audit) => holds(rt, audit == nothing_was_charged()),
+        Ok(audit) => expect_true(rt, audit == nothing_was_charged()),
         Err(_pinned) => panic!(rt; "pins remain"),
     }
 }

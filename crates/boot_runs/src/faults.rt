@@ -3,8 +3,8 @@
 ghost use Rattle.std.specs.Prelude.{◌≤◌, length};
 
 use crate::streams::{
-    AnswerWriter, PLAIN, ProgramRun, ScriptReader, broken_reader, is_refused, program_holds,
-    reader_in_steps, row_holds, run_program, run_program_on, script_reader, writer_with_room,
+    AnswerWriter, PLAIN, ProgramRun, ScriptReader, broken_reader, expect_row, expect_true,
+    is_refused, reader_in_steps, run_program, run_program_on, script_reader, writer_with_room,
 };
 use load_run::fault::ProgramFault;
 use load_run::fault_lines::report_fault;
@@ -31,7 +31,7 @@ fn ends_well_where_nothing_fails(rt: HostRuntime) {
     for bytes_at_once in 1..=80 {
         let script = reader_in_steps(GOOD_SCRIPT.as_bytes(), bytes_at_once);
         let ended = run_program(&rt, &PLAIN, script, 10_000);
-        program_holds(&rt, script_is_answered(&ended));
+        expect_true(&rt, script_is_answered(&ended));
     }
 }
 
@@ -54,12 +54,12 @@ fn failed_reads(
     for good in 0..100 {
         let ended = run_program(rt, &PLAIN, reader_that_fails(good, read_fault), 10_000);
         if ended.status == 0 {
-            row_holds(rt, script_is_answered(&ended), told);
+            expect_row(rt, script_is_answered(&ended), told);
             return good;
         }
-        row_holds(rt, ended.status == 1, told);
-        row_holds(rt, ended.output.is_empty(), told);
-        row_holds(rt, ended.faults.as_slice() == told.as_bytes(), told);
+        expect_row(rt, ended.status == 1, told);
+        expect_row(rt, ended.output.is_empty(), told);
+        expect_row(rt, ended.faults.as_slice() == told.as_bytes(), told);
     }
     100
 }
@@ -69,9 +69,9 @@ fn failed_reads(
 #[test]
 fn tells_that_the_input_failed(rt: HostRuntime) {
     let failed = failed_reads(&rt, ErrorKind::ConnectionReset);
-    program_holds(&rt, 10 < failed && failed < 100);
-    program_holds(&rt, failed_reads(&rt, ErrorKind::OutOfMemory) == failed);
-    program_holds(&rt, failed_reads(&rt, ErrorKind::UnexpectedEof) == failed);
+    expect_true(&rt, 10 < failed && failed < 100);
+    expect_true(&rt, failed_reads(&rt, ErrorKind::OutOfMemory) == failed);
+    expect_true(&rt, failed_reads(&rt, ErrorKind::UnexpectedEof) == failed);
 }
 
 #[test]
@@ -79,7 +79,7 @@ fn reads_on_after_an_interrupt(rt: HostRuntime) {
     for good in 0..20 {
         let script = reader_that_fails(good, ErrorKind::Interrupted);
         let ended = run_program(&rt, &PLAIN, script, 10_000);
-        program_holds(&rt, script_is_answered(&ended));
+        expect_true(&rt, script_is_answered(&ended));
     }
 }
 
@@ -113,7 +113,7 @@ fn answers_are_cut_at(
     let mut writer = writer_with_room(rt, room);
     writer.bytes_at_once = bytes_at_once;
     let ended = run_to(rt, writer);
-    program_holds(rt, answers_are_cut_short(&ended, &answers[..room]));
+    expect_true(rt, answers_are_cut_short(&ended, &answers[..room]));
 }
 
 // If the writer has room for all answers, all are written, although the first three writes are interrupted.
@@ -125,7 +125,7 @@ fn answers_are_written(
     writer.bytes_at_once = bytes_at_once;
     writer.interrupts = 3;
     let ended = run_to(rt, writer);
-    program_holds(rt, script_is_answered(&ended));
+    expect_true(rt, script_is_answered(&ended));
 }
 
 // The writer takes nothing at its first write, although it would at the next.
@@ -133,7 +133,7 @@ fn answers_are_written(
 fn a_writer_that_takes_nothing_is_a_failed_output(rt: HostRuntime) {
     let mut writer = writer_with_room(&rt, GOOD_ANSWERS.len());
     writer.is_idle = true;
-    program_holds(&rt, answers_are_cut_short(&run_to(&rt, writer), &[]));
+    expect_true(&rt, answers_are_cut_short(&run_to(&rt, writer), &[]));
 }
 
 #[test]
@@ -147,7 +147,7 @@ fn tells_that_the_output_failed(rt: HostRuntime) {
     }
     let mut unflushed = writer_with_room(&rt, 100);
     unflushed.flushes = false;
-    program_holds(&rt, answers_are_cut_short(&run_to(&rt, unflushed), answers));
+    expect_true(&rt, answers_are_cut_short(&run_to(&rt, unflushed), answers));
 }
 
 // If there is room only for this part of the fault, the run ends with the same status.
@@ -156,8 +156,8 @@ fn ends_as_it_would(rt: &(impl AllocGlobal + Threads + Wait + Abort + Sync), tol
     let output = writer_with_room(rt, 100);
     let faults = writer_with_room(rt, told.len());
     let ended = run_program_on(rt, &PLAIN, &mut script, output, faults);
-    program_holds(rt, ended.status == 2);
-    program_holds(rt, ended.faults.as_slice() == told);
+    expect_true(rt, ended.status == 2);
+    expect_true(rt, ended.faults.as_slice() == told);
 }
 
 #[test]
@@ -177,9 +177,9 @@ fn is_printed_as_displayed(
     let displayed = format!(in rt.alloc(); "{fault}{end}").expect(rt, "memory");
     let mut faults = writer_with_room(rt, 1_000);
     let status = report_fault(fault, &mut faults);
-    row_holds(rt, status == fault.status(), displayed.as_str());
+    expect_row(rt, status == fault.status(), displayed.as_str());
     let is_printed = faults.text.as_slice() == displayed.as_bytes();
-    row_holds(rt, is_printed, displayed.as_str());
+    expect_row(rt, is_printed, displayed.as_str());
 }
 
 #[test]

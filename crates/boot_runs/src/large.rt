@@ -3,7 +3,7 @@ ghost use Rattle.std.specs.Prelude.{◌≡◌, ◌≤◌};
 ghost use Rattle.frame_word.specs.Seats.{IsShut, first_zone_view, first_cpu_view};
 ghost use Rattle.stock_word.specs.Stock.{first_zone_stock_view, first_cpu_stock_view};
 
-use crate::life::holds;
+use crate::life::expect_true;
 use crate::seats::{CpuSeats, close_cpu, new_cpu};
 use cpu_part::{BootName, Cpu, Tables};
 use frame_word::{FrameSeat, FrameWords};
@@ -60,13 +60,13 @@ fn lends_and_takes_back<N: BootName>(
     machine.open(tables, cpu);
     assert!(rt; frames <= 64 && cpu.list_len() == 0 && cpu.fresh_len() == 0);
     let refilled = machine.refill(tables, cpu, frames);
-    holds(rt, refilled == frames);
+    expect_true(rt, refilled == frames);
     let listed = cpu.list_len();
-    holds(rt, listed == frames as usize);
+    expect_true(rt, listed == frames as usize);
     let first = machine.drain_list(tables, cpu, 3);
-    holds(rt, first == 3);
+    expect_true(rt, first == 3);
     let rest = machine.drain_list(tables, cpu, frames);
-    holds(rt, rest == frames.saturating_sub(3));
+    expect_true(rt, rest == frames.saturating_sub(3));
     machine.shut(tables, cpu);
 }
 
@@ -84,7 +84,7 @@ fn lends<const F: u32, N: BootName>(rt: &impl Abort, alloc: Global, parts: Large
     let tables = Tables::<N>::new(frames, stocks);
     let mut cpu = new_cpu::<N>(rt, alloc, last);
     let mut machine = Machine::<N>::new(alloc, &tables, zone, machine).expect(rt, "memory");
-    holds(rt, cpu.number() == 64);
+    expect_true(rt, cpu.number() == 64);
     lends_and_takes_back(rt, &tables, &mut machine, &mut cpu, 64);
     close_cpu(rt, cpu);
     let _ = machine.into_seats();

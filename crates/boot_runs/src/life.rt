@@ -38,9 +38,9 @@ impl Gate for Counter {
     fn after(&self, _cpu: u32, _line: usize) {}
 }
 
-/// It holds, or the test fails. A call is cheaper to prove than the macro in its place.
-pub fn holds(rt: &impl Abort, is: bool) {
-    assert!(rt; is);
+/// The condition holds, or the test fails. A call is cheaper to prove than the macro in its place.
+pub fn expect_true(rt: &impl Abort, condition: bool) {
+    assert!(rt; condition);
 }
 
 // The reply to the CPU in a visit. This function drops the clauses of `System::visit`, so a caller that needs only
@@ -62,7 +62,7 @@ pub fn answers<N: BootName, R: Wait + Abort>(
     requires { IsOfZone N.frames cmd.now }
 {
     let told = visit(rt, system, cpu, cmd);
-    holds(rt, told == *reply);
+    expect_true(rt, told == *reply);
 }
 
 // The limit of `/a` reads as this text.
@@ -75,7 +75,7 @@ fn reads_limit<N: BootName, R: Wait + Abort>(
     let path: &[u8] = b"/a";
     let file: &[u8] = b"memory.max";
     match visit(rt, system, cpu, &Cmd::Read { path, file }) {
-        Reply::Text(found) => holds(rt, found.as_bytes() == text),
+        Reply::Text(found) => expect_true(rt, found.as_bytes() == text),
         _ => panic!(rt; "no text"),
     }
 }
@@ -86,9 +86,9 @@ fn makes_and_reads<N: BootName, R: Wait + Abort>(rt: &R, system: &System<N>, cpu
     let file: &[u8] = b"memory.max";
     let value: &[u8] = b"8K";
     let group = GroupId::of(1).expect(rt, "a group");
-    holds(rt, system.find(rt, path).is_none());
+    expect_true(rt, system.find(rt, path).is_none());
     answers(rt, system, cpu, &Cmd::Mkdir { path }, &Reply::Group(group));
-    holds(rt, system.find(rt, path) == Some(group));
+    expect_true(rt, system.find(rt, path) == Some(group));
     reads_limit(rt, system, cpu, b"max\n");
     let write = Cmd::Write { path, file, value };
     answers(rt, system, cpu, &write, &Reply::Done);
@@ -103,19 +103,19 @@ fn tells<N: BootName, R: Wait + Abort>(
     cpu: &mut Cpu<N>,
 ) {
     let shown = system.show(rt, alloc, cpu).expect(rt, "memory");
-    holds(
+    expect_true(
         rt,
         shown.as_slice() == b"0-15 free\ncurrent /a 0\n".as_slice(),
     );
     let blocks = system.blocks(rt, alloc, cpu).expect(rt, "memory");
-    holds(rt, blocks.as_slice() == b"4:0\n".as_slice());
+    expect_true(rt, blocks.as_slice() == b"4:0\n".as_slice());
 }
 
 // CPU 2 finds the group and removes it.
 fn takes_out<N: BootName, R: Wait + Abort>(rt: &R, system: &System<N>, cpu: &mut Cpu<N>) {
     let path: &[u8] = b"/a";
     let no_group = Reply::Refused(Fault::NoGroup);
-    holds(rt, system.find(rt, path) == GroupId::of(1));
+    expect_true(rt, system.find(rt, path) == GroupId::of(1));
     answers(rt, system, cpu, &Cmd::Rmdir { path }, &Reply::Done);
     answers(rt, system, cpu, &Cmd::Rmdir { path }, &no_group);
 }
@@ -147,10 +147,10 @@ fn passes_the_gate<N: BootName, R: Wait + Abort>(rt: &R, system: &System<N>, cpu
     let gate = Counter {
         inside: AtomicU32::new(0),
     };
-    holds(rt, settles_by(rt, system, cpu, &gate) == Reply::Done);
-    holds(rt, gate.inside.load(Ordering::SeqCst) == 2);
+    expect_true(rt, settles_by(rt, system, cpu, &gate) == Reply::Done);
+    expect_true(rt, gate.inside.load(Ordering::SeqCst) == 2);
     is_answered_in_place(rt, system, cpu, &gate);
-    holds(rt, gate.inside.load(Ordering::SeqCst) == 4);
+    expect_true(rt, gate.inside.load(Ordering::SeqCst) == 4);
 }
 
 // The reply to the CPU replaces an older one.
@@ -162,7 +162,7 @@ fn is_answered_in_place<N: BootName, R: Wait + Abort>(
 ) {
     let mut reply = Reply::Free;
     rmdir_into(rt, system, cpu, gate, &mut reply);
-    holds(rt, reply == Reply::Refused(Fault::NoGroup));
+    expect_true(rt, reply == Reply::Refused(Fault::NoGroup));
 }
 
 /// Shuts the system down, in which no CPU has a pin.
@@ -193,11 +193,11 @@ fn lives<N: BootName, R: Wait + Abort>(rt: &R, alloc: Global, boot: Boot)
     requires { (boot.frames ≡ N.frames) × (boot.stocks ≡ N.stocks) }
 {
     let (system, mut cpus) = boot.start::<N>(alloc).expect(rt, "memory");
-    holds(rt, cpus.len() == 2);
+    expect_true(rt, cpus.len() == 2);
     let root: &[u8] = b"/";
-    holds(rt, system.find(rt, root) == Some(GroupId::root()));
+    expect_true(rt, system.find(rt, root) == Some(GroupId::root()));
     visits(rt, alloc, &system, &mut cpus);
-    holds(rt, ends(rt, system, cpus) == nothing_was_charged());
+    expect_true(rt, ends(rt, system, cpus) == nothing_was_charged());
 }
 
 // What each of the two CPUs does.
@@ -227,5 +227,5 @@ fn a_group_is_made_and_read(rt: HostRuntime) {
 #[test]
 fn bad_sizes_are_refused(rt: HostRuntime) {
     let sizes = Config { cpus: 65, ..SIZES };
-    holds(&rt, boot(rt.alloc(), sizes).is_err());
+    expect_true(&rt, boot(rt.alloc(), sizes).is_err());
 }

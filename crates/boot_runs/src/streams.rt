@@ -186,17 +186,17 @@ pub fn is_refused(
     begin: &str,
 ) {
     let ended = run_program(rt, &words_of(rt, words), script, 10_000);
-    row_holds(rt, ended.status == status, words);
-    row_holds(rt, ended.output.is_empty(), words);
-    row_holds(rt, ended.faults.starts_with(begin.as_bytes()), words);
+    expect_row(rt, ended.status == status, words);
+    expect_row(rt, ended.output.is_empty(), words);
+    expect_row(rt, ended.faults.starts_with(begin.as_bytes()), words);
 }
 
-/// It holds, or the test fails. A call is cheaper to prove than the macro in its place.
-pub fn program_holds(rt: &impl Abort, is: bool) {
-    assert!(rt; is);
+/// The condition holds, or the test fails. A call is cheaper to prove than the macro in its place.
+pub fn expect_true(rt: &impl Abort, condition: bool) {
+    assert!(rt; condition);
 }
 
-/// It holds of the row with this name, or the test fails with the name. To format a text would make the check dearer.
-pub fn row_holds(rt: &impl Abort, is: bool, name: &str) {
-    is.then_some(()).expect(rt, name);
+/// The condition holds of the row with this name, or the test fails with the name. To format a text would make the check dearer.
+pub fn expect_row(rt: &impl Abort, condition: bool, name: &str) {
+    condition.then_some(()).expect(rt, name);
 }

@@ -1,6 +1,6 @@
 //! Words of the command line that `options` accepts. `tests/compare-help` has others.
 
-use crate::streams::{row_holds, words_of};
+use crate::streams::{expect_row, words_of};
 use load_run::{Options, Task, options};
 use zone_sizes::config::Config;
 
@@ -115,6 +115,6 @@ fn asks_for_what_the_words_say(rt: HostRuntime) {
             is_strict,
         };
         let asked = options(rt.alloc(), &words_of(&rt, words)).expect(&rt, words);
-        row_holds(&rt, asked == wanted, words);
+        expect_row(&rt, asked == wanted, words);
     }
 }

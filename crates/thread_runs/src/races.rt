@@ -2,7 +2,7 @@
 //! drained and the units of `/a` are tried. Meanwhile CPU 2 makes 500 rounds of its own.
 
 use crate::gates::BothThreads;
-use crate::systems::{TWO_PROCESSORS, ThreadAnswers, add, events_text, holds, run_script};
+use crate::systems::{TWO_PROCESSORS, ThreadAnswers, add, events_text, expect_true, run_script};
 use std::process::Abort;
 use std::str;
 use std::sync::Wait;
@@ -60,7 +60,7 @@ fn race<R: AllocGlobal + Threads + Wait + Abort + Sync>(
     let gate = BothThreads::new();
     let script = race_script(rt, first, four_rounds);
     let raced = run_script(rt, TWO_PROCESSORS, script.as_str(), last, &gate);
-    holds(rt, !gate.thread_was_late());
+    expect_true(rt, !gate.thread_was_late());
     raced.expect(rt, "a race")
 }
 
@@ -80,12 +80,12 @@ fn answers_with(rt: &impl Abort, raced: &ThreadAnswers, begin: &str) -> usize {
 
 // All allocations of CPU 1 were refused, the last lines were answered like this, and all frames are free again.
 fn is_refused_and_free(rt: &impl Abort, raced: &ThreadAnswers, last: &str) {
-    holds(
+    expect_true(
         rt,
         answers_with(rt, raced, "refused 15 OverLimit /a") == 500,
     );
-    holds(rt, raced.after_threads.as_slice() == last.as_bytes());
-    holds(rt, raced.audit.free == 16 && raced.audit.charged == 0);
+    expect_true(rt, raced.after_threads.as_slice() == last.as_bytes());
+    expect_true(rt, raced.audit.free == 16 && raced.audit.charged == 0);
 }
 
 #[test]
@@ -94,10 +94,10 @@ fn a_stock_is_consumed_while_it_is_drained(rt: HostRuntime) {
     let raced = race(&rt, first, FOUR_TAKES, "1 read /a memory.events\n");
     let events = events_text(&rt, [500, 0, 0, 0]);
     is_refused_and_free(&rt, &raced, events.as_str());
-    holds(&rt, answers_with(&rt, &raced, "refused") == 500);
-    holds(&rt, answers_with(&rt, &raced, "frame ") == 500);
-    holds(&rt, raced.audit.freezes == 0 && raced.audit.returns == 500);
-    holds(
+    expect_true(&rt, answers_with(&rt, &raced, "refused") == 500);
+    expect_true(&rt, answers_with(&rt, &raced, "frame ") == 500);
+    expect_true(&rt, raced.audit.freezes == 0 && raced.audit.returns == 500);
+    expect_true(
         &rt,
         raced.audit.last_puts.saturating_add(raced.audit.drops) == 500,
     );
@@ -116,9 +116,9 @@ fn a_unit_is_referred_to_while_it_is_reclaimed(rt: HostRuntime) {
     add(&rt, &mut answers, &[place, events.as_str()]);
     is_refused_and_free(&rt, &raced, answers.as_str());
     let held = answers_with(&rt, &raced, "held");
-    holds(&rt, answers_with(&rt, &raced, "left 1") == held);
+    expect_true(&rt, answers_with(&rt, &raced, "left 1") == held);
     let unheld = answers_with(&rt, &raced, "refused 21 NotPinned");
-    holds(&rt, held.wrapping_add(unheld) == 500);
-    holds(&rt, raced.audit.freezes == 1 && raced.audit.returns == 1);
-    holds(&rt, raced.audit.last_puts == 0 && raced.audit.drops == 0);
+    expect_true(&rt, held.wrapping_add(unheld) == 500);
+    expect_true(&rt, raced.audit.freezes == 1 && raced.audit.returns == 1);
+    expect_true(&rt, raced.audit.last_puts == 0 && raced.audit.drops == 0);
 }

@@ -2,7 +2,7 @@
 
 use crate::gates::GateCall::{After, Before, Inside};
 use crate::gates::{GateCall, HeldVisit, LineTurns, NotedCalls};
-use crate::systems::{TWO_PROCESSORS, add, events_text, holds, run_script, threads_tell};
+use crate::systems::{TWO_PROCESSORS, add, events_text, expect_answers, expect_true, run_script};
 use mem_system::Audit;
 
 // CPU 1 is inside the visit of its line while CPU 2 is answered all of its lines.
@@ -22,9 +22,9 @@ fn a_cpu_goes_on_while_another_is_inside(rt: HostRuntime) {
     let gate = HeldVisit::until(3);
     let told = run_script(&rt, TWO_PROCESSORS, BESIDE_A_VISIT, "1 release 0\n", &gate);
     let told = told.expect(&rt, "a run");
-    holds(&rt, !gate.thread_was_late());
+    expect_true(&rt, !gate.thread_was_late());
     let answers = "group 1\nframe 0\nsettled\ncpu 1\nsettled\ncpu 2\nheld\nleft 1\nframe 1\n";
-    threads_tell(&rt, &told, answers, "returned\n");
+    expect_answers(&rt, &told, answers, "returned\n");
     let audit = Audit {
         frames: 16,
         free: 15,
@@ -34,7 +34,7 @@ fn a_cpu_goes_on_while_another_is_inside(rt: HostRuntime) {
         drops: 0,
         returns: 1,
     };
-    holds(&rt, told.audit == audit);
+    expect_true(&rt, told.audit == audit);
 }
 
 // CPU 1 is inside the visit of its release, which isn't served yet, while CPU 2 is answered its line.
@@ -53,9 +53,9 @@ fn a_command_is_served_after_the_gate_was_inside(rt: HostRuntime) {
     let last = "2 put 0\n2 settle\n1 owner 0\n";
     let told = run_script(&rt, TWO_PROCESSORS, BESIDE_A_RELEASE, last, &gate);
     let told = told.expect(&rt, "a run");
-    holds(&rt, !gate.thread_was_late());
+    expect_true(&rt, !gate.thread_was_late());
     let answers = "group 1\nframe 0\nsettled\ncpu 1\nleft 1\ncpu 2\nheld\n";
-    threads_tell(&rt, &told, answers, "last\nsettled\nfree\n");
+    expect_answers(&rt, &told, answers, "last\nsettled\nfree\n");
 }
 
 // Lines 5 to 8 of CPU 1 and 9 to 17 of CPU 2, some of which need no visit.
@@ -124,8 +124,8 @@ const CALLS_BY_SECOND: [GateCall; 24] = [
 fn a_gate_is_called_around_each_line_and_inside_each_visit(rt: HostRuntime) {
     let gate = NotedCalls::new(rt.alloc()).expect(&rt, "memory");
     let told = run_script(&rt, TWO_PROCESSORS, VISITED_AND_NOT, "", &gate);
-    holds(&rt, told.is_some());
-    holds(&rt, gate.are(&CALLS_BY_FIRST, &CALLS_BY_SECOND));
+    expect_true(&rt, told.is_some());
+    expect_true(&rt, gate.are(&CALLS_BY_FIRST, &CALLS_BY_SECOND));
 }
 
 // CPU 1 kills the group of a frame while CPU 2 has a reference on the frame.
@@ -151,11 +151,11 @@ fn a_pin_of_another_thread_outlives_a_kill(rt: HostRuntime) {
     let gate = LineTurns::of([12, 8, 13, 9, 10, 14, 11]);
     let told = run_script(&rt, TWO_PROCESSORS, KILL_BESIDE_A_PIN, "1 blocks\n", &gate);
     let told = told.expect(&rt, "a run");
-    holds(&rt, !gate.thread_was_late());
+    expect_true(&rt, !gate.thread_was_late());
     let first = "group 1\ngroup 2\nok\nframe 0\nsettled\ncpu 1\nrefused 18 Killed\n4096\n";
     let events = events_text(&rt, [1, 1, 1, 0]);
     let last = "0\ncpu 2\nheld\nlast\nsettled\n";
     let mut answers = String::new(rt.alloc());
     add(&rt, &mut answers, &[first, events.as_str(), last]);
-    threads_tell(&rt, &told, answers.as_str(), "0:0 2:4 3:8\n");
+    expect_answers(&rt, &told, answers.as_str(), "0:0 2:4 3:8\n");
 }

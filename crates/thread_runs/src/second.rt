@@ -1,7 +1,7 @@
 //! If a run by threads fails because memory or a thread is refused, the next run is complete all the same.
 
 use crate::gates::CountedLines;
-use crate::systems::{TWO_PROCESSORS, ThreadAnswers, holds, run_script, threads_tell};
+use crate::systems::{TWO_PROCESSORS, ThreadAnswers, expect_answers, expect_true, run_script};
 use std::process::Abort;
 use std::sync::Wait;
 use std::test::Fail;
@@ -39,8 +39,8 @@ fn a_second_run_is_whole_where_the_first_was_refused(rt: HostRuntime) -> Result<
 // The run is that of the whole script.
 fn is_whole(rt: &impl Abort, told: &ThreadAnswers) {
     let answers = "group 1\nframe 0\nsettled\ncpu 1\nheld\nleft 1\ncpu 2\nsettled\n16384\n";
-    threads_tell(rt, told, answers, "/a\n");
-    holds(rt, told.pins_left == [0; 4]);
-    holds(rt, told.audit.frames == 16);
-    holds(rt, told.audit.free == 15 && told.audit.charged == 1);
+    expect_answers(rt, told, answers, "/a\n");
+    expect_true(rt, told.pins_left == [0; 4]);
+    expect_true(rt, told.audit.frames == 16);
+    expect_true(rt, told.audit.free == 15 && told.audit.charged == 1);
 }

@@ -2,7 +2,7 @@
 
 ghost use Rattle.std.specs.Prelude.{◌≡◌, ◌<◌, length};
 
-use crate::systems::{add, holds, run_script};
+use crate::systems::{add, expect_true, run_script};
 use mem_system::NoGate;
 use rand_core::{Rng, SeedableRng};
 use rand_pcg::Pcg32;
@@ -262,13 +262,13 @@ fn blocks_agree_with_owners(rt: &(impl Abort + AllocGlobal), blocks: &str, owner
     }
     let mut maximal = String::new(rt.alloc());
     add_maximal_blocks(rt, owners, &mut maximal);
-    holds(rt, told.as_str() == maximal.as_str());
+    expect_true(rt, told.as_str() == maximal.as_str());
 }
 
 // Each frame on which references remain is kept.
 fn pins_agree_with_owners(rt: &impl Abort, owners: &[&str], pins: &PinsLeft) {
     for (owner, left) in owners.iter().zip(pins.on_frames.iter()) {
-        holds(rt, *left == 0 || owner.starts_with('/'));
+        expect_true(rt, *left == 0 || owner.starts_with('/'));
     }
 }
 
@@ -294,7 +294,7 @@ fn bytes_kept_below(owners: &[&str], path: &str) -> u64 {
 // The printed usage is what is kept, or the group no longer exists and keeps nothing.
 fn usage_agrees_with_frames(rt: &impl Abort, kept: u64, current: &str) {
     let is_gone = current == "refused 6 NoGroup" && kept == 0;
-    holds(rt, current.parse::<u64>() == Ok(kept) || is_gone);
+    expect_true(rt, current.parse::<u64>() == Ok(kept) || is_gone);
 }
 
 // The answers after the storm agree with each other, and with the references that remain.
@@ -339,10 +339,10 @@ fn what_threads_leave_adds_up(rt: HostRuntime) {
     );
     let told = told.expect(&rt, "a run");
     let pins = pins_after(&rt, script.as_str(), &told.by_threads);
-    holds(&rt, told.pins_left == pins.of_cpus);
+    expect_true(&rt, told.pins_left == pins.of_cpus);
     the_storm_adds_up(&rt, &told.after_threads, &pins);
-    holds(&rt, told.audit.frames == FRAMES);
-    holds(
+    expect_true(&rt, told.audit.frames == FRAMES);
+    expect_true(
         &rt,
         told.audit.free.wrapping_add(told.audit.charged) == FRAMES,
     );

@@ -110,9 +110,9 @@ pub fn run_script<R: AllocGlobal + Threads + Wait + Abort + Sync, G: Gate + Sync
     live_by_threads::<Brand, _, _>(rt, alloc, boot, &lines, &last, gate).ok()
 }
 
-/// It holds, or the test fails. A call is cheaper to prove than the macro in its place.
-pub fn holds(rt: &impl Abort, is: bool) {
-    assert!(rt; is);
+/// The condition holds, or the test fails. A call is cheaper to prove than the macro in its place.
+pub fn expect_true(rt: &impl Abort, condition: bool) {
+    assert!(rt; condition);
 }
 
 /// Appends the parts to the text. It panics if memory runs out, so a caller has no error to pass on.
@@ -132,9 +132,14 @@ pub fn events_text(rt: &(impl Abort + AllocGlobal), counts: [u32; 4]) -> String 
 }
 
 /// The lines in threads got the first answers, and the lines after them the second ones.
-pub fn threads_tell(rt: &impl Abort, told: &ThreadAnswers, by_threads: &str, after_threads: &str) {
-    holds(rt, told.by_threads.as_slice() == by_threads.as_bytes());
-    holds(
+pub fn expect_answers(
+    rt: &impl Abort,
+    told: &ThreadAnswers,
+    by_threads: &str,
+    after_threads: &str,
+) {
+    expect_true(rt, told.by_threads.as_slice() == by_threads.as_bytes());
+    expect_true(
         rt,
         told.after_threads.as_slice() == after_threads.as_bytes(),
     );
