@@ -19,11 +19,11 @@ struct LargeParts<const F: u32> {
     frames: FrameWords,
     stocks: StockWords,
     zone: FrameSeat,
-    machine: StockSeat,
+    zone_stock: StockSeat,
     last: CpuSeats,
     ghost sizes: { (frames.frames ≡ F) × (frames.cpus ≡ 64) × (stocks.cpus ≡ 64) },
     ghost zone_is: { (zone.table ≡ frames.table) × (zone.view ≡ first_zone_view F) },
-    ghost machine_is: { (machine.table ≡ stocks.table) × (machine.view ≡ first_zone_stock_view) },
+    ghost zone_stock_is: { (zone_stock.table ≡ stocks.table) × (zone_stock.view ≡ first_zone_stock_view) },
     ghost last_is: { (last.frames.table ≡ frames.table) × (last.frames.view ≡ first_cpu_view 64) },
     ghost last_pays: { (last.stock.table ≡ stocks.table) × (last.stock.view ≡ first_cpu_stock_view 64) },
 }
@@ -33,16 +33,16 @@ fn make_large_parts<const F: u32>(rt: &impl Abort, alloc: Global) -> LargeParts<
     requires { 1 ≤ F }
 {
     let (frames, zone, mut seats) = FrameWords::new(alloc, F, 64).expect(rt, "memory");
-    let (stocks, machine, mut payers) = StockWords::new(alloc, 64).expect(rt, "memory");
+    let (stocks, zone_stock, mut cpu_stocks) = StockWords::new(alloc, 64).expect(rt, "memory");
     let last = CpuSeats {
         frames: seats.pop().expect(rt, "a seat"),
-        stock: payers.pop().expect(rt, "a stock seat"),
+        stock: cpu_stocks.pop().expect(rt, "a stock seat"),
     };
     LargeParts {
         frames,
         stocks,
         zone,
-        machine,
+        zone_stock,
         last,
     }
 }
@@ -78,7 +78,7 @@ fn lends<const F: u32, N: BootName>(rt: &impl Abort, alloc: Global, parts: Large
         frames,
         stocks,
         zone,
-        machine,
+        zone_stock,
         last,
     } = parts;
     let tables = Tables::<N>::new(frames, stocks);

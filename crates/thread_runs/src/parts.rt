@@ -20,33 +20,33 @@ pub(crate) struct WordParts<const F: u32> {
     pub frames: FrameWords,
     pub stocks: StockWords,
     pub zone: FrameSeat,
-    pub machine: StockSeat,
+    pub zone_stock: StockSeat,
     pub seats: (FrameSeat, FrameSeat),
-    pub payers: (StockSeat, StockSeat),
+    pub cpu_stocks: (StockSeat, StockSeat),
     pub ghost sizes: { (frames.frames ≡ F) × (frames.cpus ≡ 2) × (stocks.cpus ≡ 2) },
     pub ghost zone_is: { (zone.table ≡ frames.table) × (zone.view ≡ first_zone_view F) },
-    pub ghost machine_is: { (machine.table ≡ stocks.table) × (machine.view ≡ first_zone_stock_view) },
+    pub ghost zone_stock_is: { (zone_stock.table ≡ stocks.table) × (zone_stock.view ≡ first_zone_stock_view) },
     pub ghost first_is: { (seats.0.table ≡ frames.table) × (seats.0.view ≡ first_cpu_view 1) },
     pub ghost second_is: { (seats.1.table ≡ frames.table) × (seats.1.view ≡ first_cpu_view 2) },
-    pub ghost first_pays: { (payers.0.table ≡ stocks.table) × (payers.0.view ≡ first_cpu_stock_view 1) },
-    pub ghost second_pays: { (payers.1.table ≡ stocks.table) × (payers.1.view ≡ first_cpu_stock_view 2) },
+    pub ghost first_pays: { (cpu_stocks.0.table ≡ stocks.table) × (cpu_stocks.0.view ≡ first_cpu_stock_view 1) },
+    pub ghost second_pays: { (cpu_stocks.1.table ≡ stocks.table) × (cpu_stocks.1.view ≡ first_cpu_stock_view 2) },
 }
 
 pub(crate) fn make_word_parts<const F: u32>(rt: &impl Abort, alloc: Global) -> WordParts<F>
     requires { 1 ≤ F }
 {
     let (frames, zone, mut seats) = FrameWords::new(alloc, F, 2).expect(rt, "memory");
-    let (stocks, machine, mut payers) = StockWords::new(alloc, 2).expect(rt, "memory");
+    let (stocks, zone_stock, mut cpu_stocks) = StockWords::new(alloc, 2).expect(rt, "memory");
     let second = seats.pop().expect(rt, "the second seat");
     let first = seats.pop().expect(rt, "the first seat");
-    let payer = payers.pop().expect(rt, "the second stock seat");
+    let payer = cpu_stocks.pop().expect(rt, "the second stock seat");
     WordParts {
         frames,
         stocks,
         zone,
-        machine,
+        zone_stock,
         seats: (first, second),
-        payers: (payers.pop().expect(rt, "the first stock seat"), payer),
+        cpu_stocks: (cpu_stocks.pop().expect(rt, "the first stock seat"), payer),
     }
 }
 
@@ -59,7 +59,7 @@ pub(crate) fn set_up<N: BootName, const F: u32>(
     requires { (parts.frames ≡ N.frames) × (parts.stocks ≡ N.stocks) }
     ensures sizes { (N.frames.frames ≡ F) × (N.frames.cpus ≡ 2) × (N.stocks.cpus ≡ 2) }
     ensures zone { (result.1.table ≡ N.frames.table) × (result.1.view ≡ first_zone_view F) }
-    ensures machine { (result.2.table ≡ N.stocks.table) × (result.2.view ≡ first_zone_stock_view) }
+    ensures zone_stock { (result.2.table ≡ N.stocks.table) × (result.2.view ≡ first_zone_stock_view) }
     ensures first { (result.3.number ≡ 1) × (result.3.list ≡ []) × (result.3.fresh ≡ []) }
     ensures second { (result.4.number ≡ 2) × (result.4.list ≡ []) × (result.4.fresh ≡ []) }
 {
@@ -67,16 +67,16 @@ pub(crate) fn set_up<N: BootName, const F: u32>(
         frames,
         stocks,
         zone,
-        machine,
+        zone_stock,
         seats,
-        payers,
+        cpu_stocks,
     } = parts;
-    let first = Cpu::<N>::new(alloc, seats.0, payers.0).expect(rt, "memory");
-    let second = Cpu::<N>::new(alloc, seats.1, payers.1).expect(rt, "memory");
+    let first = Cpu::<N>::new(alloc, seats.0, cpu_stocks.0).expect(rt, "memory");
+    let second = Cpu::<N>::new(alloc, seats.1, cpu_stocks.1).expect(rt, "memory");
     (
         Tables::<N>::new(frames, stocks),
         zone,
-        machine,
+        zone_stock,
         first,
         second,
     )
@@ -161,15 +161,15 @@ fn frame_3_goes_to_cpu_2_and_back(rt: HostRuntime) {
 fn take_fresh<N: BootName>(
     tables: &Tables<N>,
     zone: &mut FrameSeat,
-    machine: &mut StockSeat,
+    zone_stock: &mut StockSeat,
     cpu: &mut Cpu<N>,
 ) -> Option<Frame>
     requires zone { IsZoneSeat N.frames zone.old × IsOpen zone.old cpu.old.number }
-    requires machine { (machine.old.table ≡ N.stocks.table) × IsZoneView machine.old.view }
+    requires zone_stock { (zone_stock.old.table ≡ N.stocks.table) × IsZoneView zone_stock.old.view }
     requires still { NothingPasses N.frames zone.old cpu.old.frame_seat }
-    ensures machine { (machine.new.table ≡ N.stocks.table) × IsZoneView machine.new.view }
+    ensures zone_stock { (zone_stock.new.table ≡ N.stocks.table) × IsZoneView zone_stock.new.view }
 {
-    let frame = cpu.hand_fresh(tables, zone, machine)?;
+    let frame = cpu.hand_fresh(tables, zone, zone_stock)?;
     cpu.collect(tables, zone, frame);
     Some(frame)
 }
@@ -191,13 +191,13 @@ fn pays_fast<N: BootName>(
 fn drains_stock<N: BootName>(
     rt: &impl Abort,
     tables: &Tables<N>,
-    machine: &mut StockSeat,
+    zone_stock: &mut StockSeat,
     pages: u32,
 )
-    requires { (machine.old.table ≡ N.stocks.table) × IsZoneView machine.old.view × (1 ≤ N.stocks.cpus) }
-    ensures { (machine.new.table ≡ N.stocks.table) × IsZoneView machine.new.view }
+    requires { (zone_stock.old.table ≡ N.stocks.table) × IsZoneView zone_stock.old.view × (1 ≤ N.stocks.cpus) }
+    ensures { (zone_stock.new.table ≡ N.stocks.table) × IsZoneView zone_stock.new.view }
 {
-    same(rt, tables.stocks.drain(machine, 1), pages);
+    same(rt, tables.stocks.drain(zone_stock, 1), pages);
 }
 
 // The drop of a fresh frame gives this answer.
@@ -216,9 +216,9 @@ fn drops_fresh<N: BootName>(
 fn pays<N: BootName>(rt: &impl Abort, alloc: Global, parts: WordParts<8>)
     requires { (parts.frames ≡ N.frames) × (parts.stocks ≡ N.stocks) }
 {
-    let (tables, mut zone, mut machine, mut cpu, second) = set_up::<N, 8>(rt, alloc, parts);
+    let (tables, mut zone, mut zone_stock, mut cpu, second) = set_up::<N, 8>(rt, alloc, parts);
     let paid = frame_of(rt, &tables, 0);
-    cpu.fill(&tables, &mut machine, 1, 4);
+    cpu.fill(&tables, &mut zone_stock, 1, 4);
     give_some(
         rt,
         &tables,
@@ -232,7 +232,7 @@ fn pays<N: BootName>(rt: &impl Abort, alloc: Global, parts: WordParts<8>)
     );
     pays_fast(rt, &tables, &mut cpu, 1, Fast::Got(paid));
     pays_fast(rt, &tables, &mut cpu, 2, Fast::OtherGroup);
-    drains_stock(rt, &tables, &mut machine, 3);
+    drains_stock(rt, &tables, &mut zone_stock, 3);
     pays_fast(rt, &tables, &mut cpu, 1, Fast::Drained);
     drops_fresh(rt, &tables, &mut cpu, paid, Dropped::NeedVisit);
     same(rt, cpu.drops(), 0);
@@ -240,10 +240,10 @@ fn pays<N: BootName>(rt: &impl Abort, alloc: Global, parts: WordParts<8>)
     give_back(&tables, &mut zone, &mut cpu);
     same(
         rt,
-        take_fresh(&tables, &mut zone, &mut machine, &mut cpu),
+        take_fresh(&tables, &mut zone, &mut zone_stock, &mut cpu),
         Some(paid),
     );
-    same(rt, tables.stocks.absorb(&mut machine, 1), 1);
+    same(rt, tables.stocks.absorb(&mut zone_stock, 1), 1);
     give_up(rt, tables, cpu, second);
 }
 
@@ -414,18 +414,18 @@ fn begins<N: BootName>(
     rt: &impl Abort,
     tables: &Tables<N>,
     zone: &mut FrameSeat,
-    machine: &mut StockSeat,
+    zone_stock: &mut StockSeat,
     cpu: &mut Cpu<N>,
 ) -> Frame
     requires zone { IsZoneSeat N.frames zone.old × (zone.old.view ≡ first_zone_view 8) × (N.frames.frames ≡ 8) }
-    requires machine { (machine.old.table ≡ N.stocks.table) × (machine.old.view ≡ first_zone_stock_view) }
+    requires zone_stock { (zone_stock.old.table ≡ N.stocks.table) × (zone_stock.old.view ≡ first_zone_stock_view) }
     requires cpu { (cpu.old.number ≡ 1) × (cpu.old.list ≡ []) × (cpu.old.fresh ≡ []) }
     ensures zone { IsZoneSeat N.frames zone.new × IsShut zone.new 1 }
-    ensures machine { (machine.new.table ≡ N.stocks.table) × IsZoneView machine.new.view }
+    ensures zone_stock { (zone_stock.new.table ≡ N.stocks.table) × IsZoneView zone_stock.new.view }
     ensures frame { result < 8 }
 {
     let used = frame_of(rt, tables, 5);
-    cpu.fill(tables, machine, 1, 4);
+    cpu.fill(tables, zone_stock, 1, 4);
     give_some(
         rt,
         tables,
@@ -449,8 +449,10 @@ fn works_beside<N: BootName + Send + Sync, R: Threads + Abort + Sync>(
 )
     requires { (parts.frames ≡ N.frames) × (parts.stocks ≡ N.stocks) }
 {
-    let (tables, mut zone, mut machine, mut first, mut second) = set_up::<N, 8>(rt, alloc, parts);
-    let used = begins(rt, &tables, &mut zone, &mut machine, &mut first);
+    let (tables, mut zone, mut zone_stock, mut first, mut second) = set_up::<N, 8>(
+        rt, alloc, parts,
+    );
+    let used = begins(rt, &tables, &mut zone, &mut zone_stock, &mut first);
     let (listed, is_last) = pay_beside_pins(rt, &tables, &mut first, &mut second, used);
     same(rt, listed, 1000);
     same(rt, is_last, false);
@@ -458,7 +460,7 @@ fn works_beside<N: BootName + Send + Sync, R: Threads + Abort + Sync>(
     same(rt, first.number(), 1);
     same(rt, first.list_len(), 1);
     same(rt, second.pins(), 0);
-    drains_stock(rt, &tables, &mut machine, 4);
+    drains_stock(rt, &tables, &mut zone_stock, 4);
     give_back(&tables, &mut zone, &mut first);
     give_up(rt, tables, first, second);
 }

@@ -2,7 +2,7 @@
 //! drained and the units of `/a` are tried. Meanwhile CPU 2 makes 500 rounds of its own.
 
 use crate::gates::BothThreads;
-use crate::systems::{TWO_PROCESSORS, ThreadAnswers, add, events_text, expect_true, run_script};
+use crate::systems::{TWO_CPUS, ThreadAnswers, add, events_text, expect_true, run_script};
 use std::process::Abort;
 use std::str;
 use std::sync::Wait;
@@ -59,7 +59,7 @@ fn race<R: AllocGlobal + Threads + Wait + Abort + Sync>(
 ) -> ThreadAnswers {
     let gate = BothThreads::new();
     let script = race_script(rt, first, four_rounds);
-    let raced = run_script(rt, TWO_PROCESSORS, script.as_str(), last, &gate);
+    let raced = run_script(rt, TWO_CPUS, script.as_str(), last, &gate);
     expect_true(rt, !gate.thread_was_late());
     raced.expect(rt, "a race")
 }

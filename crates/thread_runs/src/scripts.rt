@@ -2,7 +2,7 @@
 
 use crate::gates::GateCall::{After, Before, Inside};
 use crate::gates::{GateCall, HeldVisit, LineTurns, NotedCalls};
-use crate::systems::{TWO_PROCESSORS, add, events_text, expect_answers, expect_true, run_script};
+use crate::systems::{TWO_CPUS, add, events_text, expect_answers, expect_true, run_script};
 use mem_system::Audit;
 
 // CPU 1 is inside the visit of its line while CPU 2 is answered all of its lines.
@@ -20,7 +20,7 @@ go
 #[test]
 fn a_cpu_goes_on_while_another_is_inside(rt: HostRuntime) {
     let gate = HeldVisit::until(3);
-    let told = run_script(&rt, TWO_PROCESSORS, BESIDE_A_VISIT, "1 release 0\n", &gate);
+    let told = run_script(&rt, TWO_CPUS, BESIDE_A_VISIT, "1 release 0\n", &gate);
     let told = told.expect(&rt, "a run");
     expect_true(&rt, !gate.thread_was_late());
     let answers = "group 1\nframe 0\nsettled\ncpu 1\nsettled\ncpu 2\nheld\nleft 1\nframe 1\n";
@@ -51,7 +51,7 @@ go
 fn a_command_is_served_after_the_gate_was_inside(rt: HostRuntime) {
     let gate = HeldVisit::until(1);
     let last = "2 put 0\n2 settle\n1 owner 0\n";
-    let told = run_script(&rt, TWO_PROCESSORS, BESIDE_A_RELEASE, last, &gate);
+    let told = run_script(&rt, TWO_CPUS, BESIDE_A_RELEASE, last, &gate);
     let told = told.expect(&rt, "a run");
     expect_true(&rt, !gate.thread_was_late());
     let answers = "group 1\nframe 0\nsettled\ncpu 1\nleft 1\ncpu 2\nheld\n";
@@ -123,7 +123,7 @@ const CALLS_BY_SECOND: [GateCall; 24] = [
 #[test]
 fn a_gate_is_called_around_each_line_and_inside_each_visit(rt: HostRuntime) {
     let gate = NotedCalls::new(rt.alloc()).expect(&rt, "memory");
-    let told = run_script(&rt, TWO_PROCESSORS, VISITED_AND_NOT, "", &gate);
+    let told = run_script(&rt, TWO_CPUS, VISITED_AND_NOT, "", &gate);
     expect_true(&rt, told.is_some());
     expect_true(&rt, gate.are(&CALLS_BY_FIRST, &CALLS_BY_SECOND));
 }
@@ -149,7 +149,7 @@ go
 #[test]
 fn a_pin_of_another_thread_outlives_a_kill(rt: HostRuntime) {
     let gate = LineTurns::of([12, 8, 13, 9, 10, 14, 11]);
-    let told = run_script(&rt, TWO_PROCESSORS, KILL_BESIDE_A_PIN, "1 blocks\n", &gate);
+    let told = run_script(&rt, TWO_CPUS, KILL_BESIDE_A_PIN, "1 blocks\n", &gate);
     let told = told.expect(&rt, "a run");
     expect_true(&rt, !gate.thread_was_late());
     let first = "group 1\ngroup 2\nok\nframe 0\nsettled\ncpu 1\nrefused 18 Killed\n4096\n";

@@ -1,7 +1,7 @@
 //! If a run by threads fails because memory or a thread is refused, the next run is complete all the same.
 
 use crate::gates::CountedLines;
-use crate::systems::{TWO_PROCESSORS, ThreadAnswers, expect_answers, expect_true, run_script};
+use crate::systems::{TWO_CPUS, ThreadAnswers, expect_answers, expect_true, run_script};
 use std::process::Abort;
 use std::sync::Wait;
 use std::test::Fail;
@@ -16,7 +16,7 @@ fn life_of_threads(
     rt: &(impl AllocGlobal + Threads + Wait + Abort + Sync),
     gate: &CountedLines,
 ) -> Option<ThreadAnswers> {
-    run_script(rt, TWO_PROCESSORS, SCRIPT, "1 owner 0\n", gate)
+    run_script(rt, TWO_CPUS, SCRIPT, "1 owner 0\n", gate)
 }
 
 // `tests/refuse-memory` runs this with each allocation and each thread start refused in turn, until the first run

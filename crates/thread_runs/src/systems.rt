@@ -16,7 +16,7 @@ use std::thread::Threads;
 use zone_sizes::config::Config;
 
 /// 16 frames and two CPUs.
-pub const TWO_PROCESSORS: Config = Config {
+pub const TWO_CPUS: Config = Config {
     frames: 16,
     cpus: 2,
     batch: 4,
