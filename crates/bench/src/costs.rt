@@ -81,14 +81,14 @@ impl Row {
     }
 
     /// Prints the row.
-    pub fn tell(&self, rt: &impl Print, pace: Pace) -> Result<()> {
-        tell(rt, pace, self.name, self.cost())?;
+    pub fn print_cost(&self, rt: &impl Print, pace: Pace) -> Result<()> {
+        print_cost(rt, pace, self.name, self.cost())?;
         Ok(())
     }
 }
 
 /// Prints the cost of a row's part, in nanoseconds and in units.
-pub fn tell(rt: &impl Print, pace: Pace, name: &str, cost: f64) -> io::Result<()> {
+pub fn print_cost(rt: &impl Print, pace: Pace, name: &str, cost: f64) -> io::Result<()> {
     match pace {
         Pace::Quick => println!(rt; "{name}"),
         Pace::Timed { unit } => {
@@ -99,7 +99,7 @@ pub fn tell(rt: &impl Print, pace: Pace, name: &str, cost: f64) -> io::Result<()
 }
 
 /// Measures rows in this many rounds, and prints them. A round runs all rows, one after the other.
-pub fn tell_rows<R: Print + Clock, S: Subject<R>>(
+pub fn print_rows<R: Print + Clock, S: Subject<R>>(
     rt: &R,
     pace: Pace,
     rounds: u32,
@@ -112,7 +112,7 @@ pub fn tell_rows<R: Print + Clock, S: Subject<R>>(
         }
     }
     for row in rows.iter() {
-        row.tell(rt, pace)?;
+        row.print_cost(rt, pace)?;
     }
     Ok(())
 }

@@ -10,7 +10,7 @@ mod system;
 mod tables;
 
 use crate::costs::Pace;
-use crate::tables::{TABLES, table_named, tell_table};
+use crate::tables::{TABLES, print_table, table_named};
 use anyhow::Result;
 use std::alloc::Global;
 use std::env;
@@ -23,27 +23,27 @@ fn main(rt: HostRuntime) -> Result<()> {
     if words.is_empty() {
         run_all(&rt)
     } else {
-        tell_named(&rt, &words)
+        print_named(&rt, &words)
     }
 }
 
 // Runs the rows of all tables, and prints their names.
 fn run_all<R: Threads + Wait + Print + Clock + Alloc<A = Global> + Sync>(rt: &R) -> Result<()> {
     for (_, table) in TABLES {
-        tell_table(rt, table, Pace::Quick)?;
+        print_table(rt, table, Pace::Quick)?;
     }
     Ok(())
 }
 
 // Measures the tables with these names.
-fn tell_named<R: Threads + Wait + Print + Clock + Alloc<A = Global> + Sync>(
+fn print_named<R: Threads + Wait + Print + Clock + Alloc<A = Global> + Sync>(
     rt: &R,
     words: &[String],
 ) -> Result<()> {
     let unit = references::measure_unit(rt)?;
     for word in words {
         match table_named(word.as_str()) {
-            Some(table) => tell_table(rt, table, Pace::Timed { unit })?,
+            Some(table) => print_table(rt, table, Pace::Timed { unit })?,
             None => println!(rt; "{word}: no table; there are prepaid and system")?,
         }
     }

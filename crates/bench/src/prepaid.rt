@@ -3,7 +3,7 @@
 ghost use Rattle.std.specs.Prelude.{◌≡◌, ◌<◌};
 ghost use Rattle.stock_word.specs.Stock.{IsCpuView};
 
-use crate::costs::{Pace, Row, Subject, tell_rows};
+use crate::costs::{Pace, Row, Subject, print_rows};
 use crate::system::{alloc, settle};
 use anyhow::{Context, Result, ensure};
 use cpu_part::{BootName, Cpu, Fast, Tables};
@@ -42,10 +42,10 @@ impl<R> Subject<R> for Payer {
 }
 
 /// Measures a pair on the word of a stock.
-pub fn tell_words<R: Print + Clock + Alloc<A = Global>>(rt: &R, pace: Pace) -> Result<()> {
+pub fn print_words<R: Print + Clock + Alloc<A = Global>>(rt: &R, pace: Pace) -> Result<()> {
     let mut payer = Payer::new(rt.alloc())?;
     let row = Row::new("consume and credit", 0, 1_000_000, 1);
-    tell_rows(rt, pace, 10, &mut [row], &mut payer)
+    print_rows(rt, pace, 10, &mut [row], &mut payer)
 }
 
 // Rounds that take the front of the list and drop it: `count` of them. If `visit_every` isn't 0, one round in so many
@@ -120,7 +120,7 @@ fn time_rounds<N: BootName + Send + Sync, R: Threads + Wait + Clock + Sync>(
 }
 
 // Measures the rounds of these CPUs.
-fn tell_rounds<N: BootName + Send + Sync, R: Threads + Wait + Print + Clock + Sync>(
+fn print_rounds<N: BootName + Send + Sync, R: Threads + Wait + Print + Clock + Sync>(
     rt: &R,
     pace: Pace,
     system: &System<N>,
@@ -133,7 +133,7 @@ fn tell_rounds<N: BootName + Send + Sync, R: Threads + Wait + Print + Clock + Sy
     for _ in 0..pace.choose(10, 1) {
         row.note(time_rounds(rt, system, cpus, group, count, rounds.visit_every)?);
     }
-    row.tell(rt, pace)
+    row.print_cost(rt, pace)
 }
 
 // Gives each CPU frames on its list and prepaid pages of the group of depth 1.
@@ -146,7 +146,7 @@ fn supply<N: BootName, R: Wait>(rt: &R, system: &System<N>, cpus: &mut [Cpu<N>])
 }
 
 // Measures these rounds by one, two and four CPUs.
-fn tell_sides<N: BootName + Send + Sync, R: Threads + Wait + Print + Clock + Sync>(
+fn print_sides<N: BootName + Send + Sync, R: Threads + Wait + Print + Clock + Sync>(
     rt: &R,
     pace: Pace,
     system: &System<N>,
@@ -156,14 +156,14 @@ fn tell_sides<N: BootName + Send + Sync, R: Threads + Wait + Print + Clock + Syn
 ) -> Result<()> {
     for threads in [1, 2, 4] {
         let part = cpus.get_mut(..threads).context("too few CPUs")?;
-        tell_rounds(rt, pace, system, part, group, rounds)?;
+        print_rounds(rt, pace, system, part, group, rounds)?;
         println!(rt; "  threads: {threads}")?;
     }
     Ok(())
 }
 
 /// Measures the rounds of one, two and four CPUs. Each has a frame on its list, and a page of the group in its stock.
-pub fn tell_threads<N: BootName + Send + Sync, R: Threads + Wait + Print + Clock + Sync>(
+pub fn print_threads<N: BootName + Send + Sync, R: Threads + Wait + Print + Clock + Sync>(
     rt: &R,
     pace: Pace,
     system: &System<N>,
@@ -172,7 +172,7 @@ pub fn tell_threads<N: BootName + Send + Sync, R: Threads + Wait + Print + Clock
 ) -> Result<()> {
     supply(rt, system, cpus)?;
     for rounds in ROUNDS {
-        tell_sides(rt, pace, system, cpus, group, rounds)?;
+        print_sides(rt, pace, system, cpus, group, rounds)?;
     }
     for cpu in cpus.iter() {
         let drops = u64::from(pace.choose(21_000_000, 6));

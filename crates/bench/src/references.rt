@@ -45,6 +45,6 @@ pub fn measure_unit<R: Print + Clock + Alloc<A = Global>>(rt: &R) -> Result<f64>
         row.run(rt, pace, &mut held)?;
     }
     let unit = row.cost();
-    row.tell(rt, Pace::Timed { unit })?;
+    row.print_cost(rt, Pace::Timed { unit })?;
     Ok(unit)
 }

@@ -2,8 +2,8 @@
 ghost use Rattle.std.specs.Prelude.{◌≡◌, length};
 ghost use Rattle.mem_system.specs.Commands.{IsOfZone};
 
-use crate::costs::{Pace, Row, Subject, tell_rows};
-use crate::prepaid::tell_threads;
+use crate::costs::{Pace, Row, Subject, print_rows};
+use crate::prepaid::print_threads;
 use crate::tables::Table;
 use anyhow::{Context, Result, bail};
 use cpu_part::{BootName, Cpu};
@@ -221,7 +221,7 @@ impl<'a, N: BootName, R: Wait> Subject<R> for Visits<'a, N> {
 }
 
 // Measures commands of one CPU.
-fn tell_visits<N: BootName, R: Wait + Print + Clock>(
+fn print_visits<N: BootName, R: Wait + Print + Clock>(
     rt: &R,
     pace: Pace,
     system: &System<N>,
@@ -240,11 +240,11 @@ fn tell_visits<N: BootName, R: Wait + Print + Clock>(
         cpu,
         together,
     };
-    tell_rows(rt, pace, 10, &mut rows, &mut visits)
+    print_rows(rt, pace, 10, &mut rows, &mut visits)
 }
 
 // Measures the rows of the table.
-fn tell_on<N: BootName + Send + Sync, R: Threads + Wait + Print + Clock + Sync>(
+fn print_on<N: BootName + Send + Sync, R: Threads + Wait + Print + Clock + Sync>(
     rt: &R,
     pace: Pace,
     table: Table,
@@ -254,8 +254,8 @@ fn tell_on<N: BootName + Send + Sync, R: Threads + Wait + Print + Clock + Sync>(
     let cpu = cpus.first_mut().context("no CPU")?;
     let group = make_all(rt, system, cpu)?;
     match table {
-        Table::Prepaid => tell_threads(rt, pace, system, cpus, group),
-        Table::System => tell_visits(rt, pace, system, cpu),
+        Table::Prepaid => print_threads(rt, pace, system, cpus, group),
+        Table::System => print_visits(rt, pace, system, cpu),
     }
 }
 
@@ -291,13 +291,13 @@ fn live<N: BootName + Send + Sync, R: Threads + Wait + Print + Clock + Alloc<A =
     requires { (boot.frames ≡ N.frames) × (boot.stocks ≡ N.stocks) }
 {
     let (system, mut cpus) = boot.start::<N>(rt.alloc())?;
-    let told = tell_on(rt, pace, table, &system, &mut cpus);
+    let told = print_on(rt, pace, table, &system, &mut cpus);
     end(rt, system, cpus);
     told
 }
 
 /// Measures the rows of the table that need a system.
-pub fn tell_system<R: Threads + Wait + Print + Clock + Alloc<A = Global> + Sync>(
+pub fn print_system<R: Threads + Wait + Print + Clock + Alloc<A = Global> + Sync>(
     rt: &R,
     pace: Pace,
     table: Table,

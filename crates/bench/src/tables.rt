@@ -1,8 +1,8 @@
 //! The tables of rows that can be measured.
 
 use crate::costs::Pace;
-use crate::prepaid::tell_words;
-use crate::system::tell_system;
+use crate::prepaid::print_words;
+use crate::system::print_system;
 use anyhow::Result;
 use std::alloc::Global;
 use std::sync::Wait;
@@ -32,16 +32,16 @@ pub fn table_named(name: &str) -> Option<Table> {
 }
 
 /// Measures a table.
-pub fn tell_table<R: Threads + Wait + Print + Clock + Alloc<A = Global> + Sync>(
+pub fn print_table<R: Threads + Wait + Print + Clock + Alloc<A = Global> + Sync>(
     rt: &R,
     table: Table,
     pace: Pace,
 ) -> Result<()> {
     match table {
         Table::Prepaid => {
-            tell_words(rt, pace)?;
-            tell_system(rt, pace, table)
+            print_words(rt, pace)?;
+            print_system(rt, pace, table)
         }
-        Table::System => tell_system(rt, pace, table),
+        Table::System => print_system(rt, pace, table),
     }
 }
