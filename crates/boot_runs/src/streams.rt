@@ -196,7 +196,8 @@ pub fn expect_true(rt: &impl Abort, condition: bool) {
     assert!(rt; condition);
 }
 
-/// The condition holds of the row with this name, or the test fails with the name. To format a text would make the check dearer.
+/// The condition holds of the row with this name, or the test fails with the name. To format a text would make the
+/// check dearer.
 pub fn expect_row(rt: &impl Abort, condition: bool, name: &str) {
     condition.then_some(()).expect(rt, name);
 }
