@@ -83,7 +83,7 @@ fn lends<const F: u32, N: BootName>(rt: &impl Abort, alloc: Global, parts: Large
     } = parts;
     let tables = Tables::<N>::new(frames, stocks);
     let mut cpu = new_cpu::<N>(rt, alloc, last);
-    let mut machine = Machine::<N>::new(alloc, &tables, zone, machine).expect(rt, "memory");
+    let mut machine = Machine::<N>::new(alloc, &tables, zone, zone_stock).expect(rt, "memory");
     expect_true(rt, cpu.number() == 64);
     lends_and_takes_back(rt, &tables, &mut machine, &mut cpu, 64);
     close_cpu(rt, cpu);
