@@ -11,7 +11,7 @@ use Rattle.group_tree.proofs.GroupLemmas.{CanMake}
 use Rattle.group_tree.proofs.Walks.{passed_all}
 use Rattle.group_charge.specs.Charges.{Account, AreCharges, Ledger, current_of, initial_ledger, pages_of, with_charge, with_group_limit}
 use Rattle.group_charge.specs.Charges.{with_group_removed, with_noted, with_new_group, with_oom_flag, with_uncharge}
-use Rattle.group_charge.specs.Kept.{AreKept, AreUsages, UsagesPassed, ledger_of, usage_by}
+use Rattle.group_charge.specs.Kept.{AreSoundCharges, AreUsages, UsagesPassed, ledger_of, usage_by}
 use Rattle.group_charge.proofs.SumLemmas.{usage-le-total}
 use Rattle.group_charge.proofs.UsageLemmas.{usage-absent, usage-flagged, usage-limited, usage-new, usage-new_other, usage-noted}
 use Rattle.group_charge.proofs.ChargeLemmas.{all_known, charge_rises, uncharge_falls}
@@ -110,7 +110,7 @@ stored_removed l usages g facts there empty are = record { size = are.size; sums
 -- ---- all that is kept
 -- what is kept for a ledger that is in order
 pub kept_as : (groups : List Group) (accounts : List Account) (usages : List ℕ) (l : Ledger) → ledger_of groups accounts ≡ l → AreCharges l →
-    length accounts ≡ 64 → AreUsages l usages → AreKept groups accounts usages
+    length accounts ≡ 64 → AreUsages l usages → AreSoundCharges groups accounts usages
 kept_as groups accounts usages l e facts size are = record {
   charges = subst AreCharges (sym e) facts;
   size = size;

@@ -33,7 +33,7 @@ pub record AreUsages (l : Ledger) (usages : List ℕ) : Type 0 where
   pub sums : (g : ℕ) → usage_by usages g ≡ current_of l g
 
 -- what holds of all that is kept: of accounts and usages
-pub record AreKept (groups : List Group) (accounts : List Account) (usages : List ℕ) : Type 0 where
+pub record AreSoundCharges (groups : List Group) (accounts : List Account) (usages : List ℕ) : Type 0 where
   pub charges : AreCharges (ledger_of groups accounts)
   pub size : length accounts ≡ most_groups
   pub usages_are : AreUsages (ledger_of groups accounts) usages

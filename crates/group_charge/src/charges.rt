@@ -43,13 +43,13 @@ pub struct Charges {
 
 impl Model for Charges {
     ghost use Rattle.group_charge.specs.Charges.{Ledger};
-    ghost use Rattle.group_charge.specs.Kept.{AreKept, ledger_of};
+    ghost use Rattle.group_charge.specs.Kept.{AreSoundCharges, ledger_of};
 
     ghost Value = { Ledger };
 
     ghost view = { λ c. ledger_of c.tree c.accounts };
 
-    ghost invariant = { λ c. AreKept c.tree c.accounts c.usages };
+    ghost invariant = { λ c. AreSoundCharges c.tree c.accounts c.usages };
 }
 
 impl Charges {

@@ -59,11 +59,11 @@ impl<N: BootName> Model for Machine<N> {
 
     ghost Value = { KnownMachine };
 
-    ghost use Rattle.mem_machine.specs.Kept.{machine_of, AreKept};
+    ghost use Rattle.mem_machine.specs.Kept.{machine_of, IsSoundMachine};
 
     ghost view = { machine_of };
 
-    ghost invariant = { λ fields. AreKept N.frames N.stocks fields };
+    ghost invariant = { λ fields. IsSoundMachine N.frames N.stocks fields };
 }
 
 impl<N: BootName> Machine<N> {

@@ -33,11 +33,11 @@ impl<N: BootName> Model for Locked<N> {
 
     ghost Value = { KnownLocked };
 
-    ghost use Rattle.mem_system.specs.Kept.{locked_of, IsKept};
+    ghost use Rattle.mem_system.specs.Kept.{locked_of, IsSoundInside};
 
     ghost view = { locked_of };
 
-    ghost invariant = { λ fields. IsKept N.frames N.stocks fields };
+    ghost invariant = { λ fields. IsSoundInside N.frames N.stocks fields };
 }
 
 impl<N: BootName> Locked<N> {

@@ -155,7 +155,7 @@ stocked zone view = (account_for zone view).book - view.fresh - (account_for zon
 
 -- What a seat stores beside its raw seat: the number and the last stock of its one view. A CPU that never saw
 -- a stock has no fresh page.
-pub record IsKept (views : List StockView) (number : ℕ) (last : Stock) : Type 0 where
+pub record IsSoundSeat (views : List StockView) (number : ℕ) (last : Stock) : Type 0 where
   pub one_view : views ≡ first_of views ∷ []
   pub same_number : number ≡ (first_of views).number
   pub same_last : last ≡ (first_of views).last

@@ -20,11 +20,11 @@ impl Model for StockSeat {
 
     ghost Value = { KnownStockSeat };
 
-    ghost use Rattle.stock_word.specs.Stock.{first_of, IsKept};
+    ghost use Rattle.stock_word.specs.Stock.{first_of, IsSoundSeat};
 
     ghost view = { λ s. record { table = s.raw.table; view = first_of s.raw.views } };
 
-    ghost invariant = { λ s. IsKept s.raw.views s.number s.last };
+    ghost invariant = { λ s. IsSoundSeat s.raw.views s.number s.last };
 }
 
 impl StockSeat {

@@ -8,13 +8,13 @@ use Rattle.zone_blocks.specs.Block.{IsBlock, Covers}
 use Rattle.zone_blocks.specs.Areas.{FreeBlocks, Inserts}
 use Rattle.zone_blocks.proofs.Filling.{same_block}
 use Rattle.zone_blocks.proofs.Nested.{start_is}
-use Rattle.zone_buddy.specs.Zone.{block_at, set_of, AreKept, TakesFrames}
+use Rattle.zone_buddy.specs.Zone.{block_at, set_of, AreSoundAreas, TakesFrames}
 use Rattle.zone_buddy.proofs.Halves.{Halving, AreHalves, halve_at}
 
 -- ---- the look for the block that has a frame
 
 -- of an order only the block that begins at the frame less its remainder can have the frame
-starts_at : (a : FreeBlocks) (b : Block) (frame size order : ℕ) → AreKept a → Contains a.blocks b → Covers b frame → b.order ≡ order → size ≡ 2 ^ order
+starts_at : (a : FreeBlocks) (b : Block) (frame size order : ℕ) → AreSoundAreas a → Contains a.blocks b → Covers b frame → b.order ≡ order → size ≡ 2 ^ order
     → b ≡ block_at (frame - frame % size) order
 starts_at a b frame size order kept there c o s =
     let block = (kept.maximal.each b there).is_free.block in
@@ -23,7 +23,7 @@ starts_at a b frame size order kept there c o s =
     let e = start_is b.at (2 ^ b.order) frame (pow_pos b.order) block.aligned c.from c.before in
     same_block b (block_at (frame - frame % size) order) (e ∙ ap start (ap power o ∙ sym s)) o
 
-pub none_of_more : (a : FreeBlocks) (frame e order size : ℕ) → AreKept a → order ≡ e → size ≡ 2 ^ order
+pub none_of_more : (a : FreeBlocks) (frame e order size : ℕ) → AreSoundAreas a → order ≡ e → size ≡ 2 ^ order
     → ¬ Contains a.blocks (block_at (frame - frame % size) order) → ((b : Block) → Contains a.blocks b → Covers b frame → b.order < e → ⊥)
     → (b : Block) → Contains a.blocks b → Covers b frame → b.order < e + 1 → ⊥
 none_of_more a frame e order size kept o s not below b there c l =

@@ -10,7 +10,7 @@ use Rattle.zone_blocks.specs.Block.{IsBlock, Covers, enclosing}
 use Rattle.zone_blocks.specs.Areas.{IsFree, IsFreeBlock, AreMaximalBlocks, FreeBlocks, Inserts, Removes, Overlaps}
 use Rattle.zone_blocks.proofs.Nested.{same_maximal}
 use Rattle.zone_blocks.proofs.Unique.{in_maximal}
-use Rattle.zone_buddy.specs.Zone.{set_of, covers, TakesFrames, GivesFrames, AreKept, IsInUse}
+use Rattle.zone_buddy.specs.Zone.{set_of, covers, TakesFrames, GivesFrames, AreSoundAreas, IsInUse}
 use Rattle.zone_buddy.proofs.Sets.{removed_maximal, added_maximal}
 
 pub length-set_of : (a : FreeBlocks) → length (set_of a) ≡ a.frames
@@ -67,8 +67,8 @@ takes_frames old new c kept there removes same =
       );
     }
 
-pub kept_less : (old new : FreeBlocks) (c : Block) → AreKept old → Contains old.blocks c
-    → Removes old.blocks c new.blocks → new.frames ≡ old.frames → AreKept new
+pub kept_less : (old new : FreeBlocks) (c : Block) → AreSoundAreas old → Contains old.blocks c
+    → Removes old.blocks c new.blocks → new.frames ≡ old.frames → AreSoundAreas new
 kept_less old new c kept there removes same = record {
   maximal = removed_maximal (set_of old) (set_of new) old.blocks new.blocks c kept.maximal there removes
       (takes_frames old new c kept.maximal there removes same);
@@ -97,8 +97,8 @@ gives_frames old new u inserts block in_use same = record {
   );
 }
 
-pub kept_more : (old new : FreeBlocks) (u : Block) → AreKept old → Inserts old.blocks u new.blocks → IsBlock old.frames u
-    → ((f : ℕ) → Covers u f → ¬ IsFree (set_of old) f) → new.frames ≡ old.frames → (IsFreeBlock (set_of new) (enclosing u) → ⊥) → AreKept new
+pub kept_more : (old new : FreeBlocks) (u : Block) → AreSoundAreas old → Inserts old.blocks u new.blocks → IsBlock old.frames u
+    → ((f : ℕ) → Covers u f → ¬ IsFree (set_of old) f) → new.frames ≡ old.frames → (IsFreeBlock (set_of new) (enclosing u) → ⊥) → AreSoundAreas new
 kept_more old new u kept inserts block in_use same alone = record {
   maximal = added_maximal (set_of old) (set_of new) old.blocks new.blocks u kept.maximal inserts
       (gives_frames old new u inserts block in_use same) (rw (length-set_of new, same) block) alone;

@@ -8,7 +8,7 @@ use Rattle.zone_blocks.specs.Block.{IsBlock, Covers, enclosing, buddy}
 use Rattle.zone_blocks.specs.Areas.{IsFree, FreeBlocks, Overlaps, Inserts}
 use Rattle.zone_blocks.proofs.Filling.{same_block}
 use Rattle.zone_blocks.proofs.Nested.{covers_start, start_is}
-use Rattle.zone_buddy.specs.Zone.{block_at, set_of, AreKept, TakesFrames, GivesFrames}
+use Rattle.zone_buddy.specs.Zone.{block_at, set_of, AreSoundAreas, TakesFrames, GivesFrames}
 use Rattle.zone_buddy.proofs.Sets.{decide_covers}
 use Rattle.zone_buddy.proofs.Frames.{gives_frames, kept_more, apart_from_use}
 
@@ -108,7 +108,7 @@ lower_first n at e h =
 
 -- what is known while a block is halved: the areas are kept, and the block of order k at `at` is in use
 pub record Halving (areas : FreeBlocks) (at k : ℕ) : Type 0 where
-  pub kept : AreKept areas
+  pub kept : AreSoundAreas areas
   pub block : IsBlock areas.frames (block_at at k)
   pub in_use : (f : ℕ) → Covers (block_at at k) f → ¬ IsFree (set_of areas) f
 

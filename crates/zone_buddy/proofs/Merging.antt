@@ -9,7 +9,7 @@ use Rattle.zone_blocks.specs.Block.{IsBlock, Covers, enclosing, HasPairBit, budd
 use Rattle.zone_blocks.specs.Areas.{IsFree, IsFreeBlock, FreeBlocks, Inserts, Removes, IsOneOfPair}
 use Rattle.zone_blocks.proofs.Filling.{same_block}
 use Rattle.zone_blocks.proofs.Nested.{covers_start, start_aligned, start_is}
-use Rattle.zone_buddy.specs.Zone.{block_at, set_of, AreKept, GivesFrames, HasNoBuddy, TakesBuddy}
+use Rattle.zone_buddy.specs.Zone.{block_at, set_of, AreSoundAreas, GivesFrames, HasNoBuddy, TakesBuddy}
 use Rattle.zone_buddy.proofs.Sets.{decide_covers, subset}
 use Rattle.zone_buddy.proofs.Frames.{length-set_of, takes_frames, gives_frames, kept_less, kept_more}
 use Rattle.zone_buddy.proofs.Halves.{double, next_aligned, Halving, HasBuddyAt, has_buddy}
@@ -187,7 +187,7 @@ alone old new m x hx h none given same g =
 
 pub last_kept : (old new : FreeBlocks) (m : Block) → Halving old m.at m.order
     → (m.order ≡ 10) ⊎ (¬ Contains old.blocks (buddy m)) → Inserts old.blocks m new.blocks
-    → new.frames ≡ old.frames → AreKept new
+    → new.frames ≡ old.frames → AreSoundAreas new
 last_kept old new m h none inserts same =
     let given = gives_frames old new m inserts h.block h.in_use same in
     kept_more old new m h.kept inserts h.block h.in_use same (λ g. elim none [
@@ -231,7 +231,7 @@ pub not_there : (a : FreeBlocks) (m : Block) → Halving a m.at m.order → Cont
 not_there a m h q = h.in_use m.at (covers_start m) ((h.kept.maximal.each m q).is_free.all_free m.at (covers_start m))
 
 -- without a bit there is no buddy to merge with
-pub no_bit : (a : FreeBlocks) (m : Block) → AreKept a → IsBlock a.frames m → ¬ HasPairBit a.frames m → HasNoBuddy a m a
+pub no_bit : (a : FreeBlocks) (m : Block) → AreSoundAreas a → IsBlock a.frames m → ¬ HasPairBit a.frames m → HasNoBuddy a m a
 no_bit a m kept block none = record {
   same = refl;
   none = let order = block.order in elim (cases_lt m.order 10) [

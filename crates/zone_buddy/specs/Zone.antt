@@ -45,7 +45,7 @@ abbrev pub zone_of : FreeBlocks → Zone
 zone_of areas = record { free = set_of areas; blocks = areas.blocks }
 
 -- the areas are the maximal free blocks of their frames, and each frame number has 32 bits
-pub record AreKept (areas : FreeBlocks) : Type 0 where
+pub record AreSoundAreas (areas : FreeBlocks) : Type 0 where
   pub maximal : AreMaximalBlocks (set_of areas) areas.blocks
   pub small : areas.frames < 2 ^ 32
 

@@ -23,13 +23,13 @@ pub struct Buddy {
 }
 
 impl Model for Buddy {
-    ghost use Rattle.zone_buddy.specs.Zone.{Zone, zone_of, AreKept};
+    ghost use Rattle.zone_buddy.specs.Zone.{Zone, zone_of, AreSoundAreas};
 
     ghost Value = { Zone };
 
     ghost view = { λ b. zone_of b.areas };
 
-    ghost invariant = { λ b. AreKept b.areas };
+    ghost invariant = { λ b. AreSoundAreas b.areas };
 }
 
 impl Buddy {

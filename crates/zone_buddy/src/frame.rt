@@ -4,7 +4,7 @@ ghost use Rattle.std.specs.Prelude.{◌≡◌, ℕ, List, Bool, MatchOption};
 ghost use Rattle.std.specs.List.{Contains};
 ghost use Rattle.zone_blocks.specs.Block.{IsBlock, Covers};
 ghost use Rattle.zone_blocks.specs.Areas.{IsFree};
-ghost use Rattle.zone_buddy.specs.Zone.{block_at, set_of, AreKept, HasNoBlockWith, TakesFrames};
+ghost use Rattle.zone_buddy.specs.Zone.{block_at, set_of, AreSoundAreas, HasNoBlockWith, TakesFrames};
 
 use zone_blocks::areas::FreeAreas;
 use zone_blocks::block::Block;
@@ -12,7 +12,7 @@ use zone_blocks::order::Order;
 
 /// The free block that has this frame, by one look for each order.
 pub fn block_with(areas: &FreeAreas, frame: u32) -> Option<Block>
-    requires { AreKept areas.now }
+    requires { AreSoundAreas areas.now }
     ensures { MatchOption result (HasNoBlockWith areas.now.blocks frame)
         (λ block. Contains areas.now.blocks block × Covers block frame) }
 {
@@ -29,11 +29,11 @@ pub fn block_with(areas: &FreeAreas, frame: u32) -> Option<Block>
 /// Halves a block that is in use down to one frame. Each time the half without the frame goes into the areas, so that
 /// only the frame stays in use.
 pub fn free_other_halves(areas: &mut FreeAreas, block: &Block, frame: u32)
-    requires kept { AreKept areas.old }
+    requires kept { AreSoundAreas areas.old }
     requires block { IsBlock areas.old.frames block.now }
     requires in_use { (f : ℕ) → Covers block.now f → ¬ IsFree (set_of areas.old) f }
     requires frame { Covers block.now frame }
-    ensures kept { AreKept areas.new }
+    ensures kept { AreSoundAreas areas.new }
     ensures frames { areas.new.frames ≡ areas.old.frames }
     ensures in_use { (free : List Bool) → TakesFrames free block.now (set_of areas.old)
         → TakesFrames free (block_at frame 0) (set_of areas.new) }

@@ -4,7 +4,7 @@ ghost use Rattle.std.specs.Prelude.{◌≡◌, ◌≤◌, ◌<◌, ◌^◌, ℕ,
 ghost use Rattle.std.specs.List.{Contains};
 ghost use Rattle.zone_blocks.specs.Block.{IsBlock, Covers};
 ghost use Rattle.zone_blocks.specs.Areas.{IsFree};
-ghost use Rattle.zone_buddy.specs.Zone.{set_of, AreKept, GivesFrames, TakesBuddy, HasNoBuddy};
+ghost use Rattle.zone_buddy.specs.Zone.{set_of, AreSoundAreas, GivesFrames, TakesBuddy, HasNoBuddy};
 
 use zone_blocks::areas::FreeAreas;
 use zone_blocks::block::Block;
@@ -13,7 +13,7 @@ use zone_blocks::order::Order;
 /// If the bit of the pair says that a block's buddy is free, removes the buddy, which makes the bit 0, and returns the
 /// block of both. None, and nothing changed, exactly if the pair has no bit or it is 0.
 fn take_buddy(areas: &mut FreeAreas, block: &Block) -> Option<Block>
-    requires kept { AreKept areas.old }
+    requires kept { AreSoundAreas areas.old }
     requires block { IsBlock areas.old.frames block.now }
     requires alone { ¬ Contains areas.old.blocks block.now }
     ensures { MatchOption result (HasNoBuddy areas.old block.now areas.new) (TakesBuddy areas.old block.now areas.new) }
@@ -31,10 +31,10 @@ fn take_buddy(areas: &mut FreeAreas, block: &Block) -> Option<Block>
 
 /// Inserts a block that is in use into the areas, merged with its buddy as long as that is free.
 pub fn insert_merged(areas: &mut FreeAreas, block: Block)
-    requires kept { AreKept areas.old }
+    requires kept { AreSoundAreas areas.old }
     requires block { IsBlock areas.old.frames block }
     requires in_use { (f : ℕ) → Covers block f → ¬ IsFree (set_of areas.old) f }
-    ensures kept { AreKept areas.new }
+    ensures kept { AreSoundAreas areas.new }
     ensures frames { areas.new.frames ≡ areas.old.frames }
     ensures free { GivesFrames (set_of areas.old) block (set_of areas.new) }
 {
