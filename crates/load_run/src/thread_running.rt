@@ -77,7 +77,7 @@ fn serve_and_end<N: BootName + Send + Sync, R: Threads + Wait + Sync>(
         AreAllAnswers (boot_tables N.frames N.stocks) (workers_from 1 cpus.items lines.now is_numbered) text.items) }
     ensures ends { EndsAfter N.frames N.stocks (IsQuietSystem N.frames N.stocks) result.1 }
 {
-    locked.see_quiet(); // Called for its contract: there are fewer than 2^31 CPUs, as `run_each` requires.
+    locked.prove_quiet(); // Called for its contract: there are fewer than 2^31 CPUs, as `run_each` requires.
     let system = System::of(locked, tables);
     let told = serve_later(
         rt,

@@ -163,7 +163,7 @@ pub fn alloc_block<N: BootName>(
         return Err(AllocFault::RequesterKilled);
     }
     let _pages = order.frames(); // Called for its contract.
-    machine.see_room();
+    machine.prove_room();
     match charge_block(machine, tables, cpu, group, order) {
         Ok(head) => Ok(head),
         Err(AllocFault::NoFrames) => take_after_drain(machine, tables, cpu, group, order),

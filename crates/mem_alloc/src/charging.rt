@@ -79,7 +79,7 @@ fn charge_frame<N: BootName>(
         (visit_state machine.old cpu.old) (visit_state machine.new cpu.new) }
     ensures visit { Visits N.frames (visit_state machine.new cpu.new) }
 {
-    machine.see_room();
+    machine.prove_room();
     let Err(_batch) = machine.fill_stock(tables, cpu, group, sizes.stock) else {
         return Ok(());
     };

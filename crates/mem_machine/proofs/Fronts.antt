@@ -1,5 +1,5 @@
 -- What the own stock holds, the room for more pages, and the front of a list that is paid for. Serves `own_stock`,
--- `see_room` and `take_front`.
+-- `prove_room` and `take_front`.
 use Rattle.std.proofs.Common.{◌≡◌, ℕ, ◌+◌, ◌-◌, ◌*◌, ◌<◌, ◌≤◌, ◌==◌, Bool, true, false, List, [], ◌∷◌, ◌++◌, length, zero, suc}
 use Rattle.std.proofs.Common.{refl, sym, ap, ◌∙◌, subst, inl, inr, arith, cond, length-append}
 use Rattle.std.specs.Prelude.{◌&&◌, is_some, not, nat_le, nat_lt}

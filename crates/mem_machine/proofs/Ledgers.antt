@@ -1,5 +1,5 @@
 -- The usage of a group by the ledger, as the frames that are charged in its subtree and the books of the stocks of it.
--- Serves `take_block`, `remove` and `see_room`.
+-- Serves `take_block`, `remove` and `prove_room`.
 use Rattle.std.proofs.Common.{◌≡◌, ◌≢◌, ℕ, ◌+◌, ◌<◌, ◌≤◌, ◌==◌, Bool, true, false, cond, Option, Some, None, List, [], ◌∷◌, length}
 use Rattle.std.proofs.Common.{get_or, All, AllPairs, refl, sym, ap, ◌∙◌, arith, inl, inr, suc}
 use Rattle.std.specs.Prelude.{◌⊎◌}

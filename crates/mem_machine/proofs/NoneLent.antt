@@ -1,4 +1,4 @@
--- What is lent when the machine ends, and how many frames are free and charged. Serves `see_none_lent`, and the end of
+-- What is lent when the machine ends, and how many frames are free and charged. Serves `prove_none_lent`, and the end of
 -- a system.
 use Rattle.std.proofs.Common.{◌≡◌, ℕ, ◌+◌, ◌<◌, ◌≤◌, Option, Some, None, List, [], ◌∷◌, length, refl, sym, ap, ◌∙◌, subst, inl, inr, arith, zero, suc}
 use Rattle.std.specs.Prelude.{is_some, IfSome}

@@ -45,7 +45,7 @@ impl<N: BootName> Machine<N> {
     /// use: its head, which is returned, has one reference of the zone and is at the newest end of the group's inactive
     /// list. If a limit has no room, the error names the lowest such group, and nothing is charged. If no block is
     /// free, the pages are uncharged again, so only the peaks may be higher. At most 2^32 - 1 pages can be charged in
-    /// all; `see_room` shows that there is room. The CPU has been settled: it has no fresh and no back frame.
+    /// all; `prove_room` shows that there is room. The CPU has been settled: it has no fresh and no back frame.
     pub fn take_block(
         &mut self,
         tables: &Tables<N>,

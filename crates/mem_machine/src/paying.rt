@@ -27,7 +27,7 @@ impl<N: BootName> Machine<N> {
 
     /// Shows that 65,535 more pages can be charged in a zone of this size: all frames and all stocks together are far
     /// below 2^32 pages. It does nothing.
-    pub fn see_room(&self)
+    pub fn prove_room(&self)
         requires size { IsOfSize N.frames }
         ensures room { (pages : ℕ) → pages < 65536 → HasRoomFor self.now pages }
     {

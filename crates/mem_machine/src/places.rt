@@ -25,7 +25,7 @@ impl<N: BootName> Machine<N> {
     }
 
     /// Shows that no frame is lent to a CPU that has no listed and no fresh frame. It does nothing.
-    pub fn see_none_lent(&self, cpu: &Cpu<N>)
+    pub fn prove_none_lent(&self, cpu: &Cpu<N>)
         requires lent { LentIsBorrowed N.frames self.now.frame_seat cpu.now.frame_seat }
         requires none_listed { cpu.now.list ≡ [] }
         requires none_fresh { cpu.now.fresh ≡ [] }

@@ -153,7 +153,7 @@ impl<N: BootName> Machine<N> {
     /// Charges `pages` pages (1 to 65,535) to a group that isn't killed, and fills the visited CPU's stock with them.
     /// That stock is drained, or was never filled. If a limit has no room, the error names the lowest such group, and
     /// nothing changed except what the watch saw. The CPU has no fresh frame. At most 2^32 - 1 pages can be charged in
-    /// all; `see_room` shows that there is room.
+    /// all; `prove_room` shows that there is room.
     pub fn fill_stock(
         &mut self,
         tables: &Tables<N>,
@@ -192,7 +192,7 @@ impl<N: BootName> Machine<N> {
     /// Tries once to prepay `pages` pages (1 to 65,535) of a group that isn't killed. The caller's own stock is drained
     /// of all its pages first, and a look confirms that. Then the pages are charged to the group and fill the stock. If
     /// a limit has no room, the error names the lowest such group, and nothing is charged. The CPU has no fresh frame.
-    /// At most 2^32 - 1 pages can be charged in all; `see_room` shows that there is room.
+    /// At most 2^32 - 1 pages can be charged in all; `prove_room` shows that there is room.
     pub fn prepay(
         &mut self,
         tables: &Tables<N>,

@@ -40,7 +40,7 @@ fn empty_cpu<N: BootName>(machine: &mut Machine<N>, tables: &Tables<N>, cpu: &mu
     machine.drain_list(tables, cpu, listed);
     machine.drain_stock(tables, cpu.number());
     machine.shut(tables, cpu);
-    machine.see_none_lent(cpu);
+    machine.prove_none_lent(cpu);
 }
 
 // Settles the CPU in a visit under the lock.

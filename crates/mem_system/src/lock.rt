@@ -43,7 +43,7 @@ impl<N: BootName> Model for Locked<N> {
 impl<N: BootName> Locked<N> {
     /// Shows what always holds behind the lock. No visit is open, the sizes are in their ranges and are those of the
     /// tables, the machine is consistent, and the groups make up a tree. It does nothing.
-    pub fn see_quiet(&self)
+    pub fn prove_quiet(&self)
         ensures quiet { IsQuiet N.frames N.stocks self.now }
         ensures consistent { IsConsistent N.frames N.stocks self.now.machine }
         ensures charges { AreCharges self.now.machine.ledger }

@@ -77,10 +77,10 @@ impl<N: BootName> System<N> {
     {
         let mut guard = self.locked.lock(rt);
         let locked = &mut *guard;
-        locked.see_quiet();
+        locked.prove_quiet();
         settle(locked, &self.tables, cpu);
         let told = write_own_stock(locked, &self.tables, cpu, text);
-        locked.see_quiet();
+        locked.prove_quiet();
         told
     }
 
@@ -103,10 +103,10 @@ impl<N: BootName> System<N> {
     {
         let mut guard = self.locked.lock(rt);
         let locked = &mut *guard;
-        locked.see_quiet();
+        locked.prove_quiet();
         settle(locked, &self.tables, cpu);
         let told = write_units_at(locked, &self.tables, path, text);
-        locked.see_quiet();
+        locked.prove_quiet();
         told
     }
 }

@@ -54,7 +54,7 @@ impl<N: BootName> System<N> {
     {
         let System { locked, tables } = self;
         let locked = locked.into_inner();
-        locked.see_quiet();
+        locked.prove_quiet();
         (locked, tables)
     }
 
@@ -73,7 +73,7 @@ impl<N: BootName> System<N> {
     {
         let guard = self.locked.lock(rt);
         let locked = &*guard;
-        locked.see_quiet();
+        locked.prove_quiet();
         locked.find(path)
     }
 
@@ -129,8 +129,8 @@ impl<N: BootName> System<N> {
         let mut guard = self.locked.lock(rt);
         gate.inside(cpu.number());
         let locked = &mut *guard;
-        locked.see_quiet();
+        locked.prove_quiet();
         serve_into(locked, &self.tables, cpu, cmd, reply);
-        locked.see_quiet();
+        locked.prove_quiet();
     }
 }

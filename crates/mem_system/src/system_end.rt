@@ -35,7 +35,7 @@ impl<N: BootName> System<N> {
     {
         let System { locked, tables } = self;
         let locked = locked.into_inner();
-        locked.see_quiet();
+        locked.prove_quiet();
         match end(locked, tables, cpus) {
             Ok(audit) => Ok(audit),
             Err(pinned) => Err(Held::of(pinned)),

@@ -102,9 +102,9 @@ impl<N: BootName> System<N> {
     {
         let mut guard = self.locked.lock(rt);
         let locked = &mut *guard;
-        locked.see_quiet();
+        locked.prove_quiet();
         settle(locked, &self.tables, cpu);
-        locked.see_quiet();
+        locked.prove_quiet();
         write_show(&locked.machine, text)
     }
 
@@ -122,9 +122,9 @@ impl<N: BootName> System<N> {
     {
         let mut guard = self.locked.lock(rt);
         let locked = &mut *guard;
-        locked.see_quiet();
+        locked.prove_quiet();
         settle(locked, &self.tables, cpu);
-        locked.see_quiet();
+        locked.prove_quiet();
         write_blocks(&locked.machine, text)
     }
 }

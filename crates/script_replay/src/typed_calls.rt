@@ -13,7 +13,7 @@ ghost use Rattle.script_replay.specs.Works.{work_of};
 
 use crate::answer_value::AnswerValue;
 use crate::typed_answers::serve_typed_work;
-use crate::value_replay::see_invariants;
+use crate::value_replay::prove_invariants;
 use crate::work::work_of;
 use cpu_part::{BootName, Cpu, Tables};
 use mem_system::Locked;
@@ -60,6 +60,6 @@ fn serve_typed_part<N: BootName>(
     let answer = serve_typed_work(locked, tables, cpu, &work);
     let _cpu_number = cpu.number(); // Called for its contract: `tied`.
     let _last = cpu.last_stock(); // Called for its contract: `none_fresh`.
-    see_invariants(locked);
+    prove_invariants(locked);
     answer
 }

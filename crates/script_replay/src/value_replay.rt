@@ -162,7 +162,7 @@ pub fn serve_line<N: BootName>(
 {
     match line {
         Line::Go => {
-            see_invariants(locked);
+            prove_invariants(locked);
             Ok(())
         }
         Line::At { cpu, command, .. } => {
@@ -199,14 +199,14 @@ fn serve_part<N: BootName>(
     let served = serve_and_write(locked, tables, cpu, command, is_explained, answers);
     let _cpu_number = cpu.number(); // Called for its contract: `tied`.
     let _last = cpu.last_stock(); // Called for its contract: `none_fresh`.
-    see_invariants(locked);
+    prove_invariants(locked);
     served
 }
 
 // Shows what always holds behind the lock. It does nothing.
-pub(crate) fn see_invariants<N: BootName>(locked: &Locked<N>)
+pub(crate) fn prove_invariants<N: BootName>(locked: &Locked<N>)
     ensures { HoldsInvariants N.frames N.stocks locked.now }
 {
-    locked.see_quiet();
+    locked.prove_quiet();
     let _tree = locked.charges().tree(); // Called for its contract: the charges are those of a tree.
 }

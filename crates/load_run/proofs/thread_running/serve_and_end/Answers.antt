@@ -13,8 +13,8 @@ use Rattle.load_run.proofs.thread_running.serve_and_end.Goals as goal
 pub serve_later-told-requires-clause-count : goal.serve_later-told-requires-clause-count
 serve_later-told-requires-clause-count g c =
     let long : length c.deref_mut.result.now ≡ g.N.BootName.frames.cpus = ap length c.deref_mut.ensures.value ∙ c.requires.count in
-    let sized = c.see_quiet.ensures.quiet.sized.cpus in
-    let most = c.see_quiet.ensures.quiet.valid.cpus_high in
+    let sized = c.prove_quiet.ensures.quiet.sized.cpus in
+    let most = c.prove_quiet.ensures.quiet.valid.cpus_high in
     omega (arith, long, sized, most)
 
 pub serve_later-told-requires-clause-lines : goal.serve_later-told-requires-clause-lines

@@ -10,7 +10,7 @@ charge_block-requires-clause-may_charge g c =
     record {
       there = c.requires.there;
       alive = sym c.is_killed.ensures ∙ c.if-is_killed.false;
-      fits = c.see_room.ensures.room (2 ^ c.args.order) (omega (arith, few, is));
+      fits = c.prove_room.ensures.room (2 ^ c.args.order) (omega (arith, few, is));
     }
 
 pub returns-in-Err-NoFrames-clause-allocates : goal.returns-in-Err-NoFrames-clause-allocates

@@ -7,7 +7,7 @@ use Rattle.mem_alloc.proofs.charging.charge_frame.Goals as goal
 pub fill_stock-requires-clause-charges : goal.fill_stock-requires-clause-charges
 fill_stock-requires-clause-charges g c =
     let high = c.requires.sizes.stock_high in
-    record { there = search rules; alive = search rules; fits = c.see_room.ensures.room c.args.sizes.stock (omega (arith, high)) }
+    record { there = search rules; alive = search rules; fits = c.prove_room.ensures.room c.args.sizes.stock (omega (arith, high)) }
 
 pub returns-in_default-clause-charges : goal.returns-in_default-clause-charges
 returns-in_default-clause-charges g c =
@@ -16,7 +16,7 @@ returns-in_default-clause-charges g c =
 pub fill_one-requires-clause-may_charge : goal.fill_one-requires-clause-may_charge
 fill_one-requires-clause-may_charge g c =
     subst (λ (y : KnownMachine). MayCharge y c.args.group 1) (sym c.in-Err.ensures.unchanged.machine)
-    (record { there = c.requires.there; alive = c.requires.alive; fits = c.see_room.ensures.room 1 (omega arith) })
+    (record { there = c.requires.there; alive = c.requires.alive; fits = c.prove_room.ensures.room 1 (omega arith) })
 
 pub returns-clause-charges : goal.returns-clause-charges
 returns-clause-charges g c =

@@ -8,15 +8,15 @@ use Rattle.mem_system.proofs.Visiting.{all_shut}
 use Rattle.mem_system.proofs.Turns.{whole_list, taken_alone, emptied_alone, emptied_drained, emptied}
 use Rattle.mem_system.proofs.last_visits.empty_cpu.Goals as goal
 
-pub see_none_lent-requires-clause-none_listed : goal.see_none_lent-requires-clause-none_listed
-see_none_lent-requires-clause-none_listed g c =
+pub prove_none_lent-requires-clause-none_listed : goal.prove_none_lent-requires-clause-none_listed
+prove_none_lent-requires-clause-none_listed g c =
     let done = c.drain_list.ensures in
     let whole = whole_list _ _ c.open.new.cpu.list c.drain_list.new.cpu.list done.listed c.list_len-listed.ensures.count done.fewer_only_at_the_end
     (cut_off _ _ _ _ _ done.takes).split in
     ap (λ (y : KnownCpu). y.list) c.shut.ensures.cpu ∙ whole.none_left
 
-pub see_none_lent-requires-clause-none_fresh : goal.see_none_lent-requires-clause-none_fresh
-see_none_lent-requires-clause-none_fresh g c =
+pub prove_none_lent-requires-clause-none_fresh : goal.prove_none_lent-requires-clause-none_fresh
+prove_none_lent-requires-clause-none_fresh g c =
     ap (λ (y : KnownCpu). y.fresh) c.shut.ensures.cpu ∙ (cut_off _ _ _ _ _ c.drain_list.ensures.takes).fresh
     ∙ ap (λ (y : KnownCpu). y.fresh) c.open.ensures.cpu ∙ c.requires.settled.none_fresh
 
@@ -56,7 +56,7 @@ returns-clause-spent g c =
         ap (λ (y : KnownCpu). y.back) same ∙ cut.back ∙ ap (λ (y : KnownCpu). y.back) was ∙ c.requires.settled.none_back,
         ap (λ (y : KnownCpu). y.pins) same ∙ (taken_alone _ _ _ _ _ done.takes).pins ∙ ap (λ (y : KnownCpu). y.pins) was ∙ c.requires.settled.no_pin,
       );
-      none_lent = c.see_none_lent.ensures;
+      none_lent = c.prove_none_lent.ensures;
       drained = ap (λ (q : ℕ). (account_of c.shut.new.self.stock_seat.view q).filled) (ap (λ (y : KnownCpu). y.number) same ∙ sym c.number.ensures.number)
           ∙ emptied_drained _ _ _ _ _ _ c.drain_stock.ensures.drains c.shut.ensures.machine;
     }

@@ -6,15 +6,15 @@ returns-clause-told g c = record {
   found = c.deref_mut-locked.result.now;
   left = c.settle.new.locked;
   sound_before = record {
-    quiet = c.see_quiet.ensures.quiet;
-    consistent = c.see_quiet.ensures.consistent;
-    charges = c.see_quiet.ensures.charges;
+    quiet = c.prove_quiet.ensures.quiet;
+    consistent = c.prove_quiet.ensures.consistent;
+    charges = c.prove_quiet.ensures.charges;
   };
   settles = c.settle.ensures.served;
   sound_after = record {
-    quiet = c.see_quiet-2.ensures.quiet;
-    consistent = c.see_quiet-2.ensures.consistent;
-    charges = c.see_quiet-2.ensures.charges;
+    quiet = c.prove_quiet-2.ensures.quiet;
+    consistent = c.prove_quiet-2.ensures.consistent;
+    charges = c.prove_quiet-2.ensures.charges;
   };
   told = search rules;
 }

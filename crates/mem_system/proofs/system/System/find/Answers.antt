@@ -4,9 +4,9 @@ pub returns : goal.returns
 returns g c = record {
   locked = c.deref-locked.result.now;
   sound = record {
-    quiet = c.see_quiet.ensures.quiet;
-    consistent = c.see_quiet.ensures.consistent;
-    charges = c.see_quiet.ensures.charges;
+    quiet = c.prove_quiet.ensures.quiet;
+    consistent = c.prove_quiet.ensures.consistent;
+    charges = c.prove_quiet.ensures.charges;
   };
   so = c.find.ensures.found;
 }

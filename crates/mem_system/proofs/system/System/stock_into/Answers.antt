@@ -17,16 +17,16 @@ returns-clause-told g c =
       settled = settled;
       left = line.new.locked;
       sound_before = record {
-        quiet = c.see_quiet.ensures.quiet;
-        consistent = c.see_quiet.ensures.consistent;
-        charges = c.see_quiet.ensures.charges;
+        quiet = c.prove_quiet.ensures.quiet;
+        consistent = c.prove_quiet.ensures.consistent;
+        charges = c.prove_quiet.ensures.charges;
       };
       settles = subst (λ (x : KnownCpu). SettlesCaller g.N.BootName.frames (locked_state found c.args.cpu.now) (locked_state settled x))
           (sym line.ensures.cpu) c.settle.ensures.served;
       sound_after = record {
-        quiet = c.see_quiet-2.ensures.quiet;
-        consistent = c.see_quiet-2.ensures.consistent;
-        charges = c.see_quiet-2.ensures.charges;
+        quiet = c.prove_quiet-2.ensures.quiet;
+        consistent = c.prove_quiet-2.ensures.consistent;
+        charges = c.prove_quiet-2.ensures.charges;
       };
       told = (
         subst (λ (x : KnownCpu). IfOk line.result (λ _. string_bytes line.new.text ≡ string_bytes c.args.text.now

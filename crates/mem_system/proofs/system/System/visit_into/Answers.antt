@@ -6,15 +6,15 @@ returns g c = record {
     found = c.deref_mut-locked.result.now;
     left = c.serve_into.new.locked;
     sound_before = record {
-      quiet = c.see_quiet.ensures.quiet;
-      consistent = c.see_quiet.ensures.consistent;
-      charges = c.see_quiet.ensures.charges;
+      quiet = c.prove_quiet.ensures.quiet;
+      consistent = c.prove_quiet.ensures.consistent;
+      charges = c.prove_quiet.ensures.charges;
     };
     served = c.serve_into.ensures.served;
     sound_after = record {
-      quiet = c.see_quiet-2.ensures.quiet;
-      consistent = c.see_quiet-2.ensures.consistent;
-      charges = c.see_quiet-2.ensures.charges;
+      quiet = c.prove_quiet-2.ensures.quiet;
+      consistent = c.prove_quiet-2.ensures.consistent;
+      charges = c.prove_quiet-2.ensures.charges;
     };
     lent = c.serve_into.ensures.ends.lent;
   };

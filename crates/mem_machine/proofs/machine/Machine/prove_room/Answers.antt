@@ -1,5 +1,5 @@
 use Rattle.mem_machine.proofs.Fronts.{room_for}
-use Rattle.mem_machine.proofs.machine.Machine.see_room.Goals as goal
+use Rattle.mem_machine.proofs.machine.Machine.prove_room.Goals as goal
 
 pub returns : goal.returns
 returns g c = record {

@@ -1,7 +1,7 @@
 use Rattle.std.proofs.Common.{subst}
 use Rattle.mem_machine.specs.Machines.{KnownMachine, IsConsistent}
 use Rattle.mem_machine.proofs.NoneLent.{none_lent}
-use Rattle.mem_machine.proofs.machine.Machine.see_none_lent.Goals as goal
+use Rattle.mem_machine.proofs.machine.Machine.prove_none_lent.Goals as goal
 
 pub returns : goal.returns
 returns g c =
