@@ -8,7 +8,7 @@ use crate::streams::{
 };
 use load_run::fault::ProgramFault;
 use load_run::fault_lines::report_fault;
-use load_run::{LineFault, ScriptFault};
+use load_run::{ScriptFault, WordsFault};
 use std::alloc::AllocError;
 use std::io::ErrorKind;
 use std::process::Abort;
@@ -185,10 +185,10 @@ fn is_printed_as_displayed(
 #[test]
 fn each_fault_is_printed_as_it_is_displayed(rt: HostRuntime) {
     let text = String::from_str(rt.alloc(), "error: a text with its line feed\n");
-    let words = LineFault::BadWords(text.expect(&rt, "memory"));
+    let words = WordsFault::BadWords(text.expect(&rt, "memory"));
     is_printed_as_displayed(&rt, &ProgramFault::Words(words), "");
     for fault in [
-        ProgramFault::Words(LineFault::NoMemory(AllocError)),
+        ProgramFault::Words(WordsFault::NoMemory(AllocError)),
         ProgramFault::Script(ScriptFault::BadLine(65_537)),
         ProgramFault::Script(ScriptFault::NoMemory),
         ProgramFault::BadConfig,

@@ -23,8 +23,8 @@ use Rattle.clap.proofs.WalkLemmas.{one_text-rows}
 use Rattle.clap.proofs.ValueTestLemmas.{Accepts-accepts, accepts-Accepts}
 use Rattle.load_options.specs.declared.task.Options.{Options}
 use Rattle.load_options.specs.declared.task.Task.TheVariants.{Version}
-use Rattle.load_options.specs.declared.fault.LineFault.{LineFault}
-use Rattle.load_options.specs.declared.fault.LineFault.TheVariants.{BadWords, NoMemory}
+use Rattle.load_options.specs.declared.fault.WordsFault.{WordsFault}
+use Rattle.load_options.specs.declared.fault.WordsFault.TheVariants.{BadWords, NoMemory}
 use Rattle.load_options.specs.Fault.{IsNoMemory}
 use Rattle.load_options.specs.Words.{TellsOptions, if_none, number_in, number_kept, asks_version, bare_options, options_of, options_under, parsed_options, program, size_in}
 
@@ -141,17 +141,17 @@ asked_nothing words kind other among =
     go (k ∷ rest) some = refl
 
 -- a fault is what such words are answered
-pub answers_fault : (asked : Option Options) (fault : LineFault) → asked ≡ None → TellsOptions asked (Err fault)
+pub answers_fault : (asked : Option Options) (fault : WordsFault) → asked ≡ None → TellsOptions asked (Err fault)
 answers_fault asked (BadWords text) none = none
 answers_fault asked (NoMemory e) none = tt
 
 -- that memory ran out is an answer to all words
-pub answers_memory : (asked : Option Options) (fault : LineFault) → IsNoMemory fault → TellsOptions asked (Err fault)
+pub answers_memory : (asked : Option Options) (fault : WordsFault) → IsNoMemory fault → TellsOptions asked (Err fault)
 answers_memory asked (BadWords text) memory = absurd memory
 answers_memory asked (NoMemory e) memory = tt
 
 -- options that are answered are those that were asked for
-pub asked_ok : (asked : Option Options) (r : Result Options LineFault) → TellsOptions asked r → IfOk r (λ o. asked ≡ Some o)
+pub asked_ok : (asked : Option Options) (r : Result Options WordsFault) → TellsOptions asked r → IfOk r (λ o. asked ≡ Some o)
 asked_ok asked (Ok o) is = is
 asked_ok asked (Err fault) is = tt
 

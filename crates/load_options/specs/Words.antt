@@ -15,8 +15,8 @@ use Rattle.zone_sizes.specs.Config.{most_batch, most_cpus, most_frames, most_hig
 use Rattle.load_options.specs.declared.task.Options.{Options}
 use Rattle.load_options.specs.declared.task.Task.{Task}
 use Rattle.load_options.specs.declared.task.Task.TheVariants.{Replay, Steps, Run, Check, Lint, Serve, Version}
-use Rattle.load_options.specs.declared.fault.LineFault.{LineFault}
-use Rattle.load_options.specs.declared.fault.LineFault.TheVariants.{BadWords, NoMemory}
+use Rattle.load_options.specs.declared.fault.WordsFault.{WordsFault}
+use Rattle.load_options.specs.declared.fault.WordsFault.TheVariants.{BadWords, NoMemory}
 
 -- an option whose value is a whole number from 1 to `most`, with a default
 abbrev pub size_rule : List ℕ → ℕ → List ℕ → Rule
@@ -201,7 +201,7 @@ unfoldable pub options_of : List (List ℕ) → Option Options
 options_of words = if asks_version words then Some (bare_options Version) else parsed_options words
 
 -- the answer to the words: the options that they ask for; a fault, if they ask for none; or that memory ran out
-abbrev pub TellsOptions : Option Options → Result Options LineFault → Type 0
+abbrev pub TellsOptions : Option Options → Result Options WordsFault → Type 0
 TellsOptions asked (Ok options) = asked ≡ Some options
 TellsOptions asked (Err (BadWords text)) = asked ≡ None
 TellsOptions asked (Err (NoMemory e)) = ⊤

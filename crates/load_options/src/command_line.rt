@@ -10,7 +10,7 @@ ghost use Rattle.load_options.specs.Words.{TellsOptions, asks_version, bare_prog
 ghost use Rattle.load_options.specs.Words.{flag_rule, options_of, program, replay_shape, serve_shape, size_rule};
 ghost use Rattle.load_options.specs.Words.{sized_shape};
 
-use crate::fault::LineFault;
+use crate::fault::WordsFault;
 use crate::task::{
     MOST_BATCH, MOST_CPUS, MOST_FRAMES, MOST_HIGH, MOST_STOCK, Options, VERSION_OPTIONS,
     read_options,
@@ -70,15 +70,15 @@ const STEPS_ALONE: &str =
 
 /// The words of the command line after the program's name. A word that isn't UTF-8 is a fault of the words. It has no
 /// contract: no clause can name the words with which a process was started.
-pub fn words<R: Env + AllocGlobal>(rt: &R) -> Result<Vec<String>, LineFault> {
+pub fn words<R: Env + AllocGlobal>(rt: &R) -> Result<Vec<String>, WordsFault> {
     match env::args(rt) {
         Ok(words) => Ok(words.skip(1).collect(rt.alloc())?),
         Err(error) if error.kind() == io::ErrorKind::OutOfMemory => {
-            Err(LineFault::NoMemory(AllocError))
+            Err(WordsFault::NoMemory(AllocError))
         }
         Err(_) => {
             let text = "error: a word of the command line is not valid UTF-8\n";
-            Err(LineFault::BadWords(String::from_str(rt.alloc(), text)?))
+            Err(WordsFault::BadWords(String::from_str(rt.alloc(), text)?))
         }
     }
 }
@@ -91,14 +91,14 @@ pub fn words<R: Env + AllocGlobal>(rt: &R) -> Result<Vec<String>, LineFault> {
 ///
 /// A size is a whole number in its own range: 1 to 1,048,576 frames, 1 to 64 CPUs, batch 1 to 64, high 1 to 256,
 /// stock 1 to 64. `Config::is_valid` requires more: high is at least batch. The defaults are 16, 2, 4, 8 and 4.
-pub fn options<S: AsStr>(alloc: Global, words: &[S]) -> Result<Options, LineFault>
+pub fn options<S: AsStr>(alloc: Global, words: &[S]) -> Result<Options, WordsFault>
     ensures asked { TellsOptions (options_of (map S.text words.now)) result }
     ensures in_range { IfOk result (λ o. HasSizesInRange o.sizes) }
 {
     if is_version(words) {
         return Ok(VERSION_OPTIONS);
     }
-    let mut command = memcg(alloc).map_err(LineFault::NoMemory)?;
+    let mut command = memcg(alloc).map_err(WordsFault::NoMemory)?;
     let found = match command.try_get_matches_from_mut(words) {
         Ok(found) => found,
         Err(error) => return Err(fault_of(alloc, &error)),
@@ -110,7 +110,7 @@ pub fn options<S: AsStr>(alloc: Global, words: &[S]) -> Result<Options, LineFaul
         None => {
             let error = command
                 .error(ErrorKind::ArgumentConflict, STEPS_ALONE)
-                .map_err(LineFault::NoMemory)?;
+                .map_err(WordsFault::NoMemory)?;
             Err(fault_of(alloc, &error))
         }
     }
@@ -127,14 +127,14 @@ fn is_version<S: AsStr>(words: &[S]) -> bool
 }
 
 // The fault for an error of clap: its text, or that memory ran out.
-fn fault_of(alloc: Global, error: &Error) -> LineFault
+fn fault_of(alloc: Global, error: &Error) -> WordsFault
     ensures { kind_of error.now ≡ ErrorKind.OutOfMemory → IsNoMemory result }
 {
     match error.kind() {
-        ErrorKind::OutOfMemory => LineFault::NoMemory(AllocError),
+        ErrorKind::OutOfMemory => WordsFault::NoMemory(AllocError),
         _ => match format!(in alloc; "{error}") {
-            Ok(text) => LineFault::BadWords(text),
-            Err(error) => LineFault::NoMemory(error),
+            Ok(text) => WordsFault::BadWords(text),
+            Err(error) => WordsFault::NoMemory(error),
         },
     }
 }

@@ -5,7 +5,7 @@ use thiserror::Error;
 
 /// Why the words of a command line are refused.
 #[derive(Debug, Drop, Error)]
-pub enum LineFault {
+pub enum WordsFault {
     /// The words aren't those of the program, or ask for help. Holds the text for the user, each line with its line
     /// feed.
     #[error("{0}")]

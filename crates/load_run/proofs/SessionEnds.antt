@@ -15,7 +15,7 @@ use Rattle.line_server.specs.Known.{KnownServer, terms_of}
 use Rattle.line_server.specs.Sessions.{FailsSession, ServesSession}
 use Rattle.line_server.specs.declared.fault.ServeFault.{ServeFault}
 use Rattle.line_server.specs.declared.fault.ServeFault.TheVariants as serve
-use Rattle.load_options.specs.declared.fault.LineFault.TheVariants as words
+use Rattle.load_options.specs.declared.fault.WordsFault.TheVariants as words
 use Rattle.load_options.specs.declared.task.Options.{Options}
 use Rattle.load_run.specs.declared.fault.ProgramFault.{ProgramFault}
 use Rattle.load_run.specs.declared.fault.ProgramFault.TheVariants as kinds

@@ -9,7 +9,7 @@ use Rattle.log_check.specs.declared.end.LogEnd.{LogEnd}
 use Rattle.log_check.specs.declared.end.LogEnd.TheVariants.{BadLine, Legal, NotLegal}
 use Rattle.log_check.specs.Ends.{IsEnd, IsLegalLog, says_legal}
 use Rattle.log_check.specs.Texts.{end_text}
-use Rattle.load_options.specs.declared.fault.LineFault.TheVariants as words
+use Rattle.load_options.specs.declared.fault.WordsFault.TheVariants as words
 use Rattle.load_options.specs.declared.task.Options.{Options}
 use Rattle.load_options.specs.declared.task.Task.{Task}
 use Rattle.load_options.specs.declared.task.Task.TheVariants.{Check, Lint, Replay, Run, Serve, Steps, Version}

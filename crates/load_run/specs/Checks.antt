@@ -7,7 +7,7 @@ use Rattle.log_check.specs.declared.end.LogEnd.{LogEnd}
 use Rattle.log_check.specs.declared.end.LogEnd.TheVariants.{BadLine, Legal, NotLegal}
 use Rattle.log_check.specs.Ends.{BreaksRules, IsEnd, IsLegalLog, KeepsPromise, says_legal}
 use Rattle.log_check.specs.Texts.{end_text}
-use Rattle.load_options.specs.declared.fault.LineFault.TheVariants as words
+use Rattle.load_options.specs.declared.fault.WordsFault.TheVariants as words
 use Rattle.load_run.specs.declared.fault.ProgramFault.{ProgramFault}
 use Rattle.load_run.specs.declared.fault.ProgramFault.TheVariants.{Words, BadLogLine, Input, Output, NoMemory}
 use Rattle.load_run.specs.Causes.{Written}

@@ -6,7 +6,7 @@ use Rattle.zone_sizes.specs.declared.config.Config.{Config}
 use Rattle.script_lint.specs.Findings.{IsLinted}
 use Rattle.script_lint.specs.Texts.{finding_text, sizes_text}
 use Rattle.script_lint.specs.declared.finding.Finding.{Finding}
-use Rattle.load_options.specs.declared.fault.LineFault.TheVariants as words
+use Rattle.load_options.specs.declared.fault.WordsFault.TheVariants as words
 use Rattle.load_run.specs.declared.fault.ProgramFault.{ProgramFault}
 use Rattle.load_run.specs.declared.fault.ProgramFault.TheVariants.{Words, Input, Output, NoMemory}
 use Rattle.load_run.specs.Answers.{bytes_read}

@@ -11,7 +11,7 @@ use Rattle.script_replay.specs.Terms.{terms}
 use Rattle.line_server.specs.declared.fault.ServeFault.{ServeFault}
 use Rattle.line_server.specs.declared.fault.ServeFault.TheVariants as serve
 use Rattle.line_server.specs.Sessions.{FailsSession, ServesSession, answers_of, lines_of}
-use Rattle.load_options.specs.declared.fault.LineFault.TheVariants as words
+use Rattle.load_options.specs.declared.fault.WordsFault.TheVariants as words
 use Rattle.load_options.specs.declared.task.Options.{Options}
 use Rattle.load_run.specs.declared.fault.ProgramFault.{ProgramFault}
 use Rattle.load_run.specs.declared.fault.ProgramFault.TheVariants as kinds

@@ -2,7 +2,7 @@
 
 ghost use Rattle.std.specs.Prelude.{◌≡◌};
 
-use load_options::fault::LineFault;
+use load_options::fault::WordsFault;
 use script_lines::fault::ScriptFault;
 use std::alloc::AllocError;
 use thiserror::Error;
@@ -12,7 +12,7 @@ use thiserror::Error;
 pub enum ProgramFault {
     /// The words of the command line ask for nothing.
     #[error("{0}")]
-    Words(LineFault),
+    Words(WordsFault),
     /// The script gives no lines.
     #[error("{0}")]
     Script(ScriptFault),
@@ -47,11 +47,11 @@ impl ProgramFault {
         ensures status { result ≡ status_of self.now }
     {
         match self {
-            ProgramFault::Words(LineFault::BadWords(_))
+            ProgramFault::Words(WordsFault::BadWords(_))
             | ProgramFault::Script(ScriptFault::BadLine(_))
             | ProgramFault::BadLogLine(_)
             | ProgramFault::BadConfig => 2,
-            ProgramFault::Words(LineFault::NoMemory(_))
+            ProgramFault::Words(WordsFault::NoMemory(_))
             | ProgramFault::Script(ScriptFault::NoMemory)
             | ProgramFault::IllegalStep(_)
             | ProgramFault::IllegalEnd

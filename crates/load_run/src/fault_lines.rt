@@ -8,7 +8,7 @@ ghost use Rattle.load_run.specs.Writing.{AppendsBeginning};
 use crate::fault::ProgramFault;
 use crate::writing::write_whole;
 use itoa::Buffer;
-use load_options::fault::LineFault;
+use load_options::fault::WordsFault;
 use script_lines::fault::ScriptFault;
 use std::io;
 use std::io::Write;
@@ -29,7 +29,7 @@ fn write_fault<F: Write>(fault: &ProgramFault, faults: &mut F) -> io::Result<()>
     ensures beginning { AppendsBeginning (F.contents faults.old) (F.contents faults.new) (fault_text fault.now) }
 {
     match fault {
-        ProgramFault::Words(LineFault::BadWords(text)) => write_whole(text.as_bytes(), faults),
+        ProgramFault::Words(WordsFault::BadWords(text)) => write_whole(text.as_bytes(), faults),
         ProgramFault::Script(ScriptFault::BadLine(number)) => {
             write_numbered("bad line ", *number as u64, "\n", faults)
         }
@@ -41,7 +41,7 @@ fn write_fault<F: Write>(fault: &ProgramFault, faults: &mut F) -> io::Result<()>
         ProgramFault::BadConfig => write_whole("refused 14 BadConfig\n".as_bytes(), faults),
         ProgramFault::Input => write_whole("input failed\n".as_bytes(), faults),
         ProgramFault::Output => write_whole("output failed\n".as_bytes(), faults),
-        ProgramFault::Words(LineFault::NoMemory(_))
+        ProgramFault::Words(WordsFault::NoMemory(_))
         | ProgramFault::Script(ScriptFault::NoMemory)
         | ProgramFault::NoMemory(_) => write_whole("no memory\n".as_bytes(), faults),
     }

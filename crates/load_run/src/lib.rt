@@ -23,7 +23,7 @@ pub mod versions;
 pub mod writing;
 
 pub use load_options::command_line::options;
-pub use load_options::fault::LineFault;
+pub use load_options::fault::WordsFault;
 pub use load_options::task::{Options, Task};
 pub use script_lines::fault::ScriptFault;
 pub use script_lines::line::Line;
