@@ -10,7 +10,7 @@ ghost use Rattle.control_files.specs.declared.file.File.{File};
 ghost use Rattle.control_files.specs.Limit.{ReadsAmount};
 
 use crate::outcome::Outcome;
-use crate::usage::lower_above;
+use crate::usage::keep_to_limit;
 use control_files::file::{File, file_named};
 use control_files::flag::read_flag;
 use control_files::limit::{Limit, read_amount, read_limit};
@@ -60,7 +60,7 @@ fn set_limit<N: BootName>(
 {
     machine.set_max(group, limit);
     if let Some(limit) = limit {
-        lower_above(machine, tables, group, limit);
+        keep_to_limit(machine, tables, group, limit);
     }
 }
 

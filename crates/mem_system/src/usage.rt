@@ -28,7 +28,7 @@ pub(crate) fn lower_usage<N: BootName>(
 
 // If the group's usage is above its limit, notes that and lowers the usage as `lower_usage` does. If that isn't enough,
 // kills until the usage is within the limit or no victim is left.
-pub(crate) fn lower_above<N: BootName>(
+pub(crate) fn keep_to_limit<N: BootName>(
     machine: &mut Machine<N>,
     tables: &Tables<N>,
     group: GroupId,

@@ -6,26 +6,26 @@ use Rattle.mem_system.proofs.Found.{has_group-limited}
 use Rattle.mem_system.proofs.Keeping.{visit_keeps, visit_both, above_visit, limited_to, limited_none}
 use Rattle.mem_system.proofs.files.set_limit.Goals as goal
 
-pub lower_above-requires : goal.lower_above-requires
-lower_above-requires g c =
+pub keep_to_limit-requires : goal.keep_to_limit-requires
+keep_to_limit-requires g c =
     ap (λ (k : KnownMachine). has_group k.ledger.groups c.args.group) c.set_max.ensures.machine
     ∙ has_group-limited c.args.machine.now.ledger.groups c.args.group c.args.group c.args.limit ∙ c.requires.there
 
 pub returns-in-Some-clause-sets : goal.returns-in-Some-clause-sets
 returns-in-Some-clause-sets g c =
     limited_to g.N.BootName.frames c.args.group c.in-Some.limit c.args.limit c.args.machine.now
-    c.set_max.new.self c.lower_above.new.machine
-    c.in-Some.is c.set_max.ensures.machine c.set_max.ensures.steps c.lower_above.ensures
+    c.set_max.new.self c.keep_to_limit.new.machine
+    c.in-Some.is c.set_max.ensures.machine c.set_max.ensures.steps c.keep_to_limit.ensures
 
 pub returns-in-Some-clause-stays : goal.returns-in-Some-clause-stays
 returns-in-Some-clause-stays g c =
     let t = g.N.BootName.frames in
     let m = c.args.machine.now in
     let x = c.set_max.new.self in
-    let n = c.lower_above.new.machine in
+    let n = c.keep_to_limit.new.machine in
     λ (y : KnownCpu) v.
     let first = visit_keeps t m x y (ap (λ (k : KnownMachine). k.frame_seat) c.set_max.ensures.machine) v in
-    visit_both t m x n y first (above_visit t c.args.group c.in-Some.limit x n y c.lower_above.ensures first.visit)
+    visit_both t m x n y first (above_visit t c.args.group c.in-Some.limit x n y c.keep_to_limit.ensures first.visit)
 
 pub returns-in_default-clause-sets : goal.returns-in_default-clause-sets
 returns-in_default-clause-sets g c =

@@ -3,7 +3,7 @@ use Rattle.group_tree.specs.declared.group.Group.{Group}
 use Rattle.group_tree.specs.Groups.{has_group}
 use Rattle.mem_machine.specs.Machines.{KnownMachine}
 use Rattle.mem_system.proofs.Keeping.{lowered_above, lowered_groups, lowered_none}
-use Rattle.mem_system.proofs.usage.lower_above.Goals as goal
+use Rattle.mem_system.proofs.usage.keep_to_limit.Goals as goal
 
 pub kill_for-requires : goal.kill_for-requires
 kill_for-requires g c =
