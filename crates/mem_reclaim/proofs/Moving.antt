@@ -28,7 +28,8 @@ use Rattle.mem_machine.specs.Local.{IsLocalRun, MakesForAny, local_of, phase_of,
 use Rattle.mem_machine.specs.Evicting.{MissesUnit, EvictsUnit, Evicts, evict_steps}
 use Rattle.mem_machine.specs.Steps.{zone_makes}
 use Rattle.mem_machine.specs.declared.counts.Counts.{Counts}
-use Rattle.mem_reclaim.specs.Moves.{FreesPages, Rises, all_missed_in, pages_back, pages_returned, returned_in, is_miss, missed_in, is_kill, has_kill}
+use Rattle.mem_reclaim.specs.Moves.{FreesPages, Rises, all_missed_in, pages_freed_by, pages_returned, returned_in}
+use Rattle.mem_reclaim.specs.Moves.{is_miss, missed_in, is_kill, has_kill}
 use Rattle.mem_reclaim.proofs.Rising.{missed_both, returned_both, rises_both, rises_none, rises_one}
 use Rattle.mem_machine.proofs.Followed.{makes_both, makes_none}
 
@@ -41,7 +42,7 @@ pages_both p [] two a b run = ap (λ (s : State). pages_returned s two) run ∙ 
     none n = omega arith
 pages_both p (e ∷ rest) two a b run =
     let later = pages_both p rest two (after a e.0.seat e.0.action e.1) b run.1 in
-    let x : ℕ = pages_back a e.0.action e.1 in
+    let x : ℕ = pages_freed_by a e.0.action e.1 in
     let y : ℕ = pages_returned (after a e.0.seat e.0.action e.1) rest in
     let z : ℕ = pages_returned b two in
     ap (λ (n : ℕ). x + n) later ∙ (let e : x + (y + z) ≡ x + y + z = omega arith in e)

@@ -16,15 +16,15 @@ use Rattle.mem_machine.specs.Local.{MakesForAny, local_of}
 use Rattle.mem_reclaim.specs.Wanted.{Reclaiming, progress}
 
 -- how many pages this step frees: those of the unit that it returns to the zone
-abbrev pub pages_back : State → Action → Answer → ℕ
-pages_back state (Return frame) Done = unit_size (unit_of (state.phases frame))
-pages_back state action answer = 0
+abbrev pub pages_freed_by : State → Action → Answer → ℕ
+pages_freed_by state (Return frame) Done = unit_size (unit_of (state.phases frame))
+pages_freed_by state action answer = 0
 
 -- how many pages these steps free, from this state on
 abbrev pub pages_returned : State → Run → ℕ
 pages_returned state [] = 0
 pages_returned state (e ∷ rest) =
-    pages_back state e.0.action e.1 + pages_returned (after state e.0.seat e.0.action e.1) rest
+    pages_freed_by state e.0.action e.1 + pages_returned (after state e.0.seat e.0.action e.1) rest
 
 -- the step is a freeze of the frame that missed
 abbrev pub is_miss : ℕ → Action → Answer → Bool
