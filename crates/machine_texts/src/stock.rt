@@ -27,13 +27,13 @@ pub fn write_stock<N: BootName>(
 {
     let number = cpu.number();
     write!(text, "cpu {number} stock ")?;
-    write_own_stock(tree, stock, text)?;
+    write_stock_state(tree, stock, text)?;
     write_counts(cpu, text)?;
     text.push_str("\n")
 }
 
 // The stock alone.
-fn write_own_stock(tree: &Tree, stock: Stock, text: &mut String) -> Result<(), AllocError>
+fn write_stock_state(tree: &Tree, stock: Stock, text: &mut String) -> Result<(), AllocError>
     ensures { IfOk result (λ _. string_bytes text.new ≡ string_bytes text.old ++ stock_text tree.now stock) }
 {
     match stock {
