@@ -93,7 +93,7 @@ impl Links {
         self.records[frame as usize] = Packed::NOWHERE;
     }
 
-    pub(crate) fn mark(&mut self, unit: u32, is_marked: bool)
+    pub(crate) fn set_marked(&mut self, unit: u32, is_marked: bool)
         requires { unit < length self.old }
         ensures { self.new ≡ slice_set self.old unit (record (link_at self.old unit) { is_marked = is_marked }) }
     {
@@ -101,7 +101,7 @@ impl Links {
     }
 
     // Sets whether a unit is dirty.
-    pub(crate) fn dirty(&mut self, unit: u32, is_dirty: bool)
+    pub(crate) fn set_dirty(&mut self, unit: u32, is_dirty: bool)
         requires { unit < length self.old }
         ensures { self.new ≡ slice_set self.old unit (record (link_at self.old unit) { is_dirty = is_dirty }) }
     {

@@ -223,7 +223,7 @@ impl Lru {
         ensures owners { SameOwners links.old links.new }
     {
         if self.is_marked_by_touch(links, unit) {
-            links.mark(unit, true);
+            links.set_marked(unit, true);
             Touched::Marked
         } else {
             self.move_to(links, LruList::Active, unit);
@@ -258,7 +258,7 @@ impl Lru {
             ≡ changed_at unit (dirtied is_dirty) (entries_of links.old self.now list) }
         ensures others { ChangesOwn links.old links.new self.now.owner }
     {
-        links.dirty(unit, is_dirty);
+        links.set_dirty(unit, is_dirty);
     }
 
     fn entry(links: &Links, unit: Option<u32>) -> Option<Entry>

@@ -7,7 +7,7 @@ use Rattle.lru_lists.proofs.lru.Lru.touch.Goals as goal
 
 pub returns-then-is_marked_by_touch-clause-linked : goal.returns-then-is_marked_by_touch-clause-linked
 returns-then-is_marked_by_touch-clause-linked c =
-    rw c.mark.ensures (remarked_stands c.args.links.now c.args.self.now c.args.unit
+    rw c.set_marked.ensures (remarked_stands c.args.links.now c.args.self.now c.args.unit
     (record (link_at c.args.links.now c.args.unit) { is_marked = true }) c.requires.linked (refl, refl, refl))
 
 pub returns-then-is_marked_by_touch-clause-touches : goal.returns-then-is_marked_by_touch-clause-touches
@@ -19,7 +19,7 @@ returns-then-is_marked_by_touch-clause-touches c =
     let each = remarked_entries c.args.links.now c.args.self.now c.args.unit (record (link_at c.args.links.now c.args.unit) { is_marked = true })
     (marked true) c.requires.linked
     (refl, refl, refl) c.requires.frame refl in
-    rw c.mark.ensures (
+    rw c.set_marked.ensures (
       m.0,
       m.1,
       each Inactive,
@@ -37,4 +37,4 @@ returns-else-is_marked_by_touch-clause-touches c =
     )
 
 pub returns-then-is_marked_by_touch-clause-owners : goal.returns-then-is_marked_by_touch-clause-owners
-returns-then-is_marked_by_touch-clause-owners c = rw c.mark.ensures (marked_owners c.args.links.now c.args.unit true)
+returns-then-is_marked_by_touch-clause-owners c = rw c.set_marked.ensures (marked_owners c.args.links.now c.args.unit true)

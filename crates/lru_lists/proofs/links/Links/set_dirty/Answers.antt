@@ -1,7 +1,7 @@
 use Rattle.std.proofs.Common.{refl}
 use Rattle.lru_lists.specs.declared.record.Link.{Link}
 use Rattle.lru_lists.proofs.Packing.{changed}
-use Rattle.lru_lists.proofs.links.Links.dirty.Goals as goal
+use Rattle.lru_lists.proofs.links.Links.set_dirty.Goals as goal
 
 pub returns : goal.returns
 returns c =
