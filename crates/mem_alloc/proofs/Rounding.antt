@@ -1,5 +1,5 @@
 -- Rounds of reclaim with one more try each, as far as they were made, and what they keep. Serves `refill_in_rounds`,
--- `take_in_rounds`, and those who call them.
+-- `note_and_reclaim_until_taken`, and those who call them.
 use Rattle.std.proofs.Common.{◌≡◌, ◌≢◌, ℕ, zero, suc, ◌+◌, ◌-◌, ◌<◌, ◌≤◌, [], ◌++◌, refl, sym, ap, ◌∙◌, subst, inl, inr, arith}
 use Rattle.std.proofs.lemmas.List.{append_assoc, append-nil}
 use Rattle.frame_word.specs.Seats.{KnownTable}

@@ -52,7 +52,7 @@ fn charge_block<N: BootName>(
 
 // Reclaims as many pages as the block has from all groups, in rounds, and tries to take the block after each. A round
 // that reclaims nothing is the last.
-fn make_take_rounds<N: BootName>(
+fn reclaim_until_taken<N: BootName>(
     machine: &mut Machine<N>,
     tables: &Tables<N>,
     cpu: &mut Cpu<N>,
@@ -82,7 +82,7 @@ fn make_take_rounds<N: BootName>(
 }
 
 // No block is free: notes that, and reclaims in rounds, until the block is taken.
-fn take_in_rounds<N: BootName>(
+fn note_and_reclaim_until_taken<N: BootName>(
     machine: &mut Machine<N>,
     tables: &Tables<N>,
     cpu: &mut Cpu<N>,
@@ -101,7 +101,7 @@ fn take_in_rounds<N: BootName>(
     machine.note(Note::Zone {
         order: order.exponent(),
     });
-    make_take_rounds(machine, tables, cpu, group, order)
+    reclaim_until_taken(machine, tables, cpu, group, order)
 }
 
 // Returns the CPU's list to the zone, and then takes the block, for which every limit has room. If still no block is
@@ -126,7 +126,7 @@ fn take_after_drain<N: BootName>(
     machine.drain_list(tables, cpu, listed);
     match machine.take_block(tables, cpu, group, order) {
         Ok(head) => Ok(head),
-        Err(TakeFault::NoBlock) => take_in_rounds(machine, tables, cpu, group, order),
+        Err(TakeFault::NoBlock) => note_and_reclaim_until_taken(machine, tables, cpu, group, order),
         Err(TakeFault::Over(_)) => unreachable!(),
     }
 }

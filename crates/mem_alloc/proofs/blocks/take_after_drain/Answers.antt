@@ -57,8 +57,8 @@ returns-in-Ok-clause-list g c =
     c.list_len-listed.ensures.count
     c.drain_list.ensures.at_most c.drain_list.ensures.takes c.drain_list.ensures.fewer_only_at_the_end c.in-Ok.ensures.cpu c.drain_list.ensures.steps
 
-pub take_in_rounds-requires-clause-room : goal.take_in_rounds-requires-clause-room
-take_in_rounds-requires-clause-room g c =
+pub note_and_reclaim_until_taken-requires-clause-room : goal.note_and_reclaim_until_taken-requires-clause-room
+note_and_reclaim_until_taken-requires-clause-room g c =
     let none = is_none _ _ c.args.group c.args.order c.in-Err-NoBlock.field-0 c.in-Err-NoBlock.field-0-is c.in-Err-NoBlock.ensures.refuses in
     let part = back_part _ _ _ _ _ c.drain_list.ensures.takes in
     let there = ap (λ l. has_group l.groups c.args.group) part.ledger ∙ c.requires.room.charges.there in
@@ -66,12 +66,12 @@ take_in_rounds-requires-clause-room g c =
     none_leaves g.N.BootName.frames c.args.group c.args.order c.drain_list.new.self c.take_block.new.self c.drain_list.new.cpu
     c.take_block.new.cpu none (ap (λ l. is_killed l c.args.group) part.killed ∙ c.requires.room.charges.alive) there fits
 
-pub take_in_rounds-requires-clause-none_fresh : goal.take_in_rounds-requires-clause-none_fresh
-take_in_rounds-requires-clause-none_fresh g c =
+pub note_and_reclaim_until_taken-requires-clause-none_fresh : goal.note_and_reclaim_until_taken-requires-clause-none_fresh
+note_and_reclaim_until_taken-requires-clause-none_fresh g c =
     ap (λ (e : KnownCpu). e.fresh) c.in-Err-NoBlock.ensures.cpu ∙ (back_part _ _ _ _ _ c.drain_list.ensures.takes).fresh ∙ c.requires.settled.0
 
-pub take_in_rounds-requires-clause-none_back : goal.take_in_rounds-requires-clause-none_back
-take_in_rounds-requires-clause-none_back g c =
+pub note_and_reclaim_until_taken-requires-clause-none_back : goal.note_and_reclaim_until_taken-requires-clause-none_back
+note_and_reclaim_until_taken-requires-clause-none_back g c =
     ap (λ (e : KnownCpu). e.back) c.in-Err-NoBlock.ensures.cpu ∙ (back_part _ _ _ _ _ c.drain_list.ensures.takes).back ∙ c.requires.settled.1
 
 pub returns-in-Err-NoBlock-clause-takes : goal.returns-in-Err-NoBlock-clause-takes
@@ -80,31 +80,31 @@ returns-in-Err-NoBlock-clause-takes g c =
     let vain = by_none _ c.args.group c.args.order _ _ c.in-Err-NoBlock.field-0 c.in-Err-NoBlock.field-0-is c.in-Err-NoBlock.ensures.steps in
     reclaims_after g.N.BootName.frames c.args.group c.args.order _ _ _ _ _ _ c.drain_list.result c.list_len-listed.result
     c.list_len-listed.ensures.count c.drain_list.ensures.at_most c.drain_list.ensures.takes c.drain_list.ensures.fewer_only_at_the_end
-    (c.take_in_rounds.ensures.cpu ∙ c.in-Err-NoBlock.ensures.cpu) c.drain_list.ensures.steps _ _ none c.in-Err-NoBlock.ensures.cpu vain
-    c.take_in_rounds.result c.take_in_rounds.ensures.takes
+    (c.note_and_reclaim_until_taken.ensures.cpu ∙ c.in-Err-NoBlock.ensures.cpu) c.drain_list.ensures.steps _ _ none c.in-Err-NoBlock.ensures.cpu vain
+    c.note_and_reclaim_until_taken.result c.note_and_reclaim_until_taken.ensures.takes
 
 pub returns-in-Err-NoBlock-clause-stays : goal.returns-in-Err-NoBlock-clause-stays
 returns-in-Err-NoBlock-clause-stays g c =
     let none = is_none _ _ c.args.group c.args.order c.in-Err-NoBlock.field-0 c.in-Err-NoBlock.field-0-is c.in-Err-NoBlock.ensures.refuses in
     let vain = by_none _ c.args.group c.args.order _ _ c.in-Err-NoBlock.field-0 c.in-Err-NoBlock.field-0-is c.in-Err-NoBlock.ensures.steps in
     let part = back_part _ _ _ _ _ c.drain_list.ensures.takes in
-    let cpu = c.take_in_rounds.ensures.cpu ∙ c.in-Err-NoBlock.ensures.cpu in
+    let cpu = c.note_and_reclaim_until_taken.ensures.cpu ∙ c.in-Err-NoBlock.ensures.cpu in
     record {
-      visit = c.take_in_rounds.ensures.visit;
+      visit = c.note_and_reclaim_until_taken.ensures.visit;
       opened = reclaims_open g.N.BootName.frames c.args.group c.args.order _ _ _ _ _ _ c.drain_list.result c.list_len-listed.result
           c.list_len-listed.ensures.count c.drain_list.ensures.at_most c.drain_list.ensures.takes c.drain_list.ensures.fewer_only_at_the_end
-          cpu c.drain_list.ensures.steps _ _ none c.in-Err-NoBlock.ensures.cpu vain c.take_in_rounds.result c.take_in_rounds.ensures.takes;
+          cpu c.drain_list.ensures.steps _ _ none c.in-Err-NoBlock.ensures.cpu vain c.note_and_reclaim_until_taken.result c.note_and_reclaim_until_taken.ensures.takes;
       number = ap (λ (e : KnownCpu). e.number) cpu ∙ part.number;
       back = ap (λ (e : KnownCpu). e.back) cpu ∙ part.back;
     }
 
 pub returns-in-Err-NoBlock-clause-fresh : goal.returns-in-Err-NoBlock-clause-fresh
 returns-in-Err-NoBlock-clause-fresh g c =
-    ap (λ (e : KnownCpu). e.fresh) (c.take_in_rounds.ensures.cpu ∙ c.in-Err-NoBlock.ensures.cpu)
+    ap (λ (e : KnownCpu). e.fresh) (c.note_and_reclaim_until_taken.ensures.cpu ∙ c.in-Err-NoBlock.ensures.cpu)
     ∙ (back_part _ _ _ _ _ c.drain_list.ensures.takes).fresh ∙ c.requires.settled.0
 
 pub returns-in-Err-NoBlock-clause-list : goal.returns-in-Err-NoBlock-clause-list
 returns-in-Err-NoBlock-clause-list g c =
-    list_shrinks g.N.BootName.frames c.args.group c.args.order _ _ c.take_in_rounds.new.machine _ _ _ c.drain_list.result
+    list_shrinks g.N.BootName.frames c.args.group c.args.order _ _ c.note_and_reclaim_until_taken.new.machine _ _ _ c.drain_list.result
     c.list_len-listed.result c.list_len-listed.ensures.count c.drain_list.ensures.at_most c.drain_list.ensures.takes
-    c.drain_list.ensures.fewer_only_at_the_end (c.take_in_rounds.ensures.cpu ∙ c.in-Err-NoBlock.ensures.cpu) c.drain_list.ensures.steps
+    c.drain_list.ensures.fewer_only_at_the_end (c.note_and_reclaim_until_taken.ensures.cpu ∙ c.in-Err-NoBlock.ensures.cpu) c.drain_list.ensures.steps

@@ -5,20 +5,20 @@ use Rattle.mem_machine.specs.Local.{visit_state}
 use Rattle.mem_alloc.specs.Blocks.{MakesTakeRounds, MayHaveBlock}
 use Rattle.mem_alloc.proofs.Rounding.{noted_visit, zone_noted}
 use Rattle.mem_alloc.proofs.Taking.{noted_room}
-use Rattle.mem_alloc.proofs.blocks.take_in_rounds.Goals as goal
+use Rattle.mem_alloc.proofs.blocks.note_and_reclaim_until_taken.Goals as goal
 
-pub make_take_rounds-requires-clause-visit : goal.make_take_rounds-requires-clause-visit
-make_take_rounds-requires-clause-visit g c =
+pub reclaim_until_taken-requires-clause-visit : goal.reclaim_until_taken-requires-clause-visit
+reclaim_until_taken-requires-clause-visit g c =
     subst (λ (x : KnownMachine). Visits g.N.BootName.frames (visit_state x c.args.cpu.now)) (sym c.note.ensures)
     (noted_visit g.N.BootName.frames c.args.machine.now c.args.cpu.now _ c.requires.visit)
 
-pub make_take_rounds-requires-clause-room : goal.make_take_rounds-requires-clause-room
-make_take_rounds-requires-clause-room g c =
+pub reclaim_until_taken-requires-clause-room : goal.reclaim_until_taken-requires-clause-room
+reclaim_until_taken-requires-clause-room g c =
     subst (λ (x : KnownMachine). MayHaveBlock x c.args.group c.args.order) (sym c.note.ensures)
     (noted_room c.args.machine.now _ c.args.group c.args.order c.requires.room)
 
 pub returns-clause-takes : goal.returns-clause-takes
 returns-clause-takes g c =
-    zone_noted g.N.BootName.frames c.args.order (MakesTakeRounds c.args.group c.args.order c.make_take_rounds.result) c.args.machine.now c.note.new.self
-    c.args.cpu.now (visit_state c.make_take_rounds.new.machine c.make_take_rounds.new.cpu)
-    (c.note.ensures ∙ ap (λ k. with_note c.args.machine.now (Zone k)) c.exponent.ensures.exponent) c.make_take_rounds.ensures.takes
+    zone_noted g.N.BootName.frames c.args.order (MakesTakeRounds c.args.group c.args.order c.reclaim_until_taken.result) c.args.machine.now c.note.new.self
+    c.args.cpu.now (visit_state c.reclaim_until_taken.new.machine c.reclaim_until_taken.new.cpu)
+    (c.note.ensures ∙ ap (λ k. with_note c.args.machine.now (Zone k)) c.exponent.ensures.exponent) c.reclaim_until_taken.ensures.takes

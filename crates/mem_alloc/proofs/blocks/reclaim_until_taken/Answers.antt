@@ -8,7 +8,7 @@ use Rattle.mem_alloc.specs.Stepping.{transition}
 use Rattle.mem_alloc.specs.Blocks.{FindsNoBlock, TakesFreeBlock}
 use Rattle.mem_alloc.proofs.Rounding.{rounds_none, rounds_done, rounds_succeed, rounds_end, rounds_more}
 use Rattle.mem_alloc.proofs.Taking.{is_none, by_none, none_spares}
-use Rattle.mem_alloc.proofs.blocks.make_take_rounds.Goals as goal
+use Rattle.mem_alloc.proofs.blocks.reclaim_until_taken.Goals as goal
 
 pub loop-round-init : goal.loop-round-init
 loop-round-init g c =

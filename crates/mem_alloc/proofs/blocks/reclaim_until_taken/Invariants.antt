@@ -1,7 +1,7 @@
 use Rattle.std.proofs.Common.{◌^◌}
 use Rattle.mem_alloc.specs.Blocks.{FindsNoBlock, TakesFreeBlock}
 use Rattle.mem_alloc.proofs.Rounding.{RoundsSoFar}
-use Rattle.mem_alloc.proofs.blocks.make_take_rounds.Given as goal
+use Rattle.mem_alloc.proofs.blocks.reclaim_until_taken.Given as goal
 
 abbrev pub invariant-loop-round : goal.invariant-loop-round
 invariant-loop-round g l =
