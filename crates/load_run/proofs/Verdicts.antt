@@ -5,10 +5,10 @@ use Rattle.std.specs.Prelude.{◌⊎◌, ⊤, is_some}
 use Rattle.std.specs.Io.KnownBytes.{Appends}
 use Rattle.std.proofs.KnownBytes.{Appends-nil}
 use Rattle.step_rules.specs.declared.step.Answer.{Answer}
-use Rattle.log_check.specs.declared.end.LogEnd.{LogEnd}
-use Rattle.log_check.specs.declared.end.LogEnd.TheVariants.{BadLine, Legal, NotLegal}
-use Rattle.log_check.specs.Ends.{IsEnd, IsLegalLog, says_legal}
-use Rattle.log_check.specs.Texts.{end_text}
+use Rattle.log_check.specs.declared.end.LogVerdict.{LogVerdict}
+use Rattle.log_check.specs.declared.end.LogVerdict.TheVariants.{BadLine, Legal, NotLegal}
+use Rattle.log_check.specs.Ends.{IsLegalLog, IsLogVerdict, says_legal}
+use Rattle.log_check.specs.Texts.{verdict_text}
 use Rattle.load_options.specs.declared.fault.WordsFault.TheVariants as words
 use Rattle.load_options.specs.declared.task.Options.{Options}
 use Rattle.load_options.specs.declared.task.Task.{Task}
@@ -17,7 +17,8 @@ use Rattle.load_run.specs.declared.fault.ProgramFault.{ProgramFault}
 use Rattle.load_run.specs.declared.fault.ProgramFault.TheVariants.{BadConfig, BadLogLine, IllegalEnd, IllegalStep, Input, NoMemory, Output, Script, Words}
 use Rattle.load_run.specs.Answers.{IsOnScript}
 use Rattle.load_run.specs.Causes.{Written, written}
-use Rattle.load_run.specs.Checks.{Checks, FailsToCheck, IsEndOf, IsVerdict, LeavesLine, LeavesReport, ReportsBadLine, ReportsLegal, ReportsNotLegal}
+use Rattle.load_run.specs.Checks.{Checks, FailsToCheck, IsLogVerdictOf, IsVerdict, LeavesLine, LeavesReport}
+use Rattle.load_run.specs.Checks.{ReportsBadLine, ReportsLegal, ReportsNotLegal}
 use Rattle.load_run.specs.Driving.{Drives, DrivesScript, DrivesTask, LintsAsked}
 use Rattle.load_run.specs.Lints.{Lints}
 use Rattle.load_run.specs.Sessions.{DrivesSession, SessionAsked}
@@ -31,14 +32,14 @@ use Rattle.load_run.proofs.SessionEnds.{drives_failed}
 use Rattle.load_run.proofs.Telling.{version_failed}
 
 -- both are known of the input
-pub end_of : (input : Option (List ℕ)) (end : LogEnd) → IfSome input (λ text. IsEnd text end)
-    → IfSome input (λ text. IsTrue (says_legal end) ↔ IsLegalLog text) → IsEndOf input end
+pub end_of : (input : Option (List ℕ)) (end : LogVerdict) → IfSome input (λ text. IsLogVerdict text end)
+    → IfSome input (λ text. IsTrue (says_legal end) ↔ IsLegalLog text) → IsLogVerdictOf input end
 end_of None end is exact = tt
 end_of (Some text) end is exact = (is, exact)
 
 -- the log is legal, and that was written
-checks_legal : (input before after faults : Option (List ℕ)) (steps : ℕ) → IsEndOf input (Legal steps)
-    → Appends before after (end_text (Legal steps)) → Checks input (written before faults) (written after faults) 0
+checks_legal : (input before after faults : Option (List ℕ)) (steps : ℕ) → IsLogVerdictOf input (Legal steps)
+    → Appends before after (verdict_text (Legal steps)) → Checks input (written before faults) (written after faults) 0
 checks_legal input before after faults steps is whole = record {
   status_at_most = omega arith;
   silent = λ zero. refl;
@@ -48,13 +49,13 @@ checks_legal input before after faults steps is whole = record {
   bad_line = λ two. absurd (omega (arith, two));
 }
   where
-    go : (bytes : Option (List ℕ)) → IsEndOf bytes (Legal steps) → IfSome bytes (ReportsLegal before after)
+    go : (bytes : Option (List ℕ)) → IsLogVerdictOf bytes (Legal steps) → IfSome bytes (ReportsLegal before after)
     go None is = tt
     go (Some text) is = record { steps = steps; keeps = is.0; written = whole }
 
 -- a step is not legal, and that was written
-checks_not_legal : (input before after faults : Option (List ℕ)) (line step : ℕ) (expected : Answer) → IsEndOf input (NotLegal line step expected)
-    → Appends before after (end_text (NotLegal line step expected)) → Checks input (written before faults) (written after faults) 1
+checks_not_legal : (input before after faults : Option (List ℕ)) (line step : ℕ) (expected : Answer) → IsLogVerdictOf input (NotLegal line step expected)
+    → Appends before after (verdict_text (NotLegal line step expected)) → Checks input (written before faults) (written after faults) 1
 checks_not_legal input before after faults line step expected is whole = record {
   status_at_most = omega arith;
   silent = λ zero. refl;
@@ -64,7 +65,7 @@ checks_not_legal input before after faults line step expected is whole = record 
   bad_line = λ two. absurd (omega (arith, two));
 }
   where
-    go : (bytes : Option (List ℕ)) → IsEndOf bytes (NotLegal line step expected)
+    go : (bytes : Option (List ℕ)) → IsLogVerdictOf bytes (NotLegal line step expected)
         → IfSome bytes (λ text. ReportsNotLegal (written before faults) (written after faults) text ⊎ FailsToCheck (written before faults) (written after faults) text)
     go None is = tt
     go (Some text) is = inl (record {
@@ -78,8 +79,8 @@ checks_not_legal input before after faults line step expected is whole = record 
     })
 
 -- what was to be written was, whole
-pub checks_written : (input before after faults : Option (List ℕ)) (end : LogEnd) (status : ℕ) → IsEndOf input end → IsVerdict end status
-    → Appends before after (end_text end) → Checks input (written before faults) (written after faults) status
+pub checks_written : (input before after faults : Option (List ℕ)) (end : LogVerdict) (status : ℕ) → IsLogVerdictOf input end → IsVerdict end status
+    → Appends before after (verdict_text end) → Checks input (written before faults) (written after faults) status
 checks_written input before after faults (Legal steps) status is verdict whole =
     subst (Checks input (written before faults) (written after faults)) (sym verdict) (checks_legal input before after faults steps is whole)
 checks_written input before after faults (NotLegal line step expected) status is verdict whole =
@@ -87,7 +88,7 @@ checks_written input before after faults (NotLegal line step expected) status is
 checks_written input before after faults (BadLine line) status is verdict whole = absurd verdict
 
 -- the input is no log, and that was told
-pub checks_bad_line : (input output faults faults_after : Option (List ℕ)) (line status : ℕ) → IsEndOf input (BadLine line) → status ≡ 2
+pub checks_bad_line : (input output faults faults_after : Option (List ℕ)) (line status : ℕ) → IsLogVerdictOf input (BadLine line) → status ≡ 2
     → AppendsBeginning faults faults_after (fault_text (BadLogLine line)) → Checks input (written output faults) (written output faults_after) status
 checks_bad_line input output faults faults_after line status is ended told = record {
   status_at_most = omega (arith, ended);
@@ -98,7 +99,7 @@ checks_bad_line input output faults faults_after line status is ended told = rec
   bad_line = λ two. go input is;
 }
   where
-    go : (bytes : Option (List ℕ)) → IsEndOf bytes (BadLine line) → IfSome bytes (ReportsBadLine faults faults_after)
+    go : (bytes : Option (List ℕ)) → IsLogVerdictOf bytes (BadLine line) → IfSome bytes (ReportsBadLine faults faults_after)
     go None is = tt
     go (Some text) is = record { line = line; first = is.0; not_legal = λ legal. false≢true (is.1.1 legal); told = told }
 
@@ -154,16 +155,16 @@ checks_fault input output faults faults_after IllegalEnd status is ended told = 
 checks_fault input output faults faults_after Output status is ended told = absurd is
 
 -- what was to be written wasn't, or not whole
-pub checks_unwritten : (input before after faults faults_after : Option (List ℕ)) (end : LogEnd) (fault : ProgramFault) (status : ℕ) → IsEndOf input end
-    → LeavesLine (end_text end) before after fault → status ≡ status_of fault → AppendsBeginning faults faults_after (fault_text fault)
+pub checks_unwritten : (input before after faults faults_after : Option (List ℕ)) (end : LogVerdict) (fault : ProgramFault) (status : ℕ) → IsLogVerdictOf input end
+    → LeavesLine (verdict_text end) before after fault → status ≡ status_of fault → AppendsBeginning faults faults_after (fault_text fault)
     → Checks input (written before faults) (written after faults_after) status
 checks_unwritten input before after faults faults_after end fault status is left ended told = go fault left ended told
   where
-    begun : (bytes : Option (List ℕ)) → IsEndOf bytes end → AppendsBeginning before after (end_text end) → IfSome bytes (LeavesReport Output before after)
+    begun : (bytes : Option (List ℕ)) → IsLogVerdictOf bytes end → AppendsBeginning before after (verdict_text end) → IfSome bytes (LeavesReport Output before after)
     begun None is begins = tt
     begun (Some text) is begins = record { end = end; is = is.0; begun = begins }
 
-    go : (f : ProgramFault) → LeavesLine (end_text end) before after f → status ≡ status_of f → AppendsBeginning faults faults_after (fault_text f)
+    go : (f : ProgramFault) → LeavesLine (verdict_text end) before after f → status ≡ status_of f → AppendsBeginning faults faults_after (fault_text f)
         → Checks input (written before faults) (written after faults_after) status
     go Output left ended told = checks_failed input before after faults faults_after Output status (begun input is left) ended told
     go (NoMemory e) left ended told =

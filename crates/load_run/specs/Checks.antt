@@ -3,10 +3,10 @@ use Rattle.std.specs.Prelude.{◌≡◌, ◌⊎◌, ◌↔◌, ℕ, ◌≤◌, L
 use Rattle.std.specs.Io.KnownBytes.{Appends}
 use Rattle.step_rules.specs.declared.step.Answer.{Answer}
 use Rattle.log_lines.specs.Log.{IsFirstBadLine}
-use Rattle.log_check.specs.declared.end.LogEnd.{LogEnd}
-use Rattle.log_check.specs.declared.end.LogEnd.TheVariants.{BadLine, Legal, NotLegal}
-use Rattle.log_check.specs.Ends.{BreaksRules, IsEnd, IsLegalLog, KeepsPromise, says_legal}
-use Rattle.log_check.specs.Texts.{end_text}
+use Rattle.log_check.specs.declared.end.LogVerdict.{LogVerdict}
+use Rattle.log_check.specs.declared.end.LogVerdict.TheVariants.{BadLine, Legal, NotLegal}
+use Rattle.log_check.specs.Ends.{BreaksRules, IsLegalLog, IsLogVerdict, KeepsPromise, says_legal}
+use Rattle.log_check.specs.Texts.{verdict_text}
 use Rattle.load_options.specs.declared.fault.WordsFault.TheVariants as words
 use Rattle.load_run.specs.declared.fault.ProgramFault.{ProgramFault}
 use Rattle.load_run.specs.declared.fault.ProgramFault.TheVariants.{Words, BadLogLine, Input, Output, NoMemory}
@@ -19,7 +19,7 @@ use Rattle.load_run.specs.Writing.{AppendsBeginning}
 pub record ReportsLegal (before after : Option (List ℕ)) (text : List ℕ) : Type 0 where
   pub steps : ℕ
   pub keeps : KeepsPromise text steps
-  pub written : Appends before after (end_text (Legal steps))
+  pub written : Appends before after (verdict_text (Legal steps))
 
 -- the text is that of no legal run: this step is the first that breaks the rules, and this answer was due; the output
 -- got the line that says so, and no fault is reported
@@ -29,7 +29,7 @@ pub record ReportsNotLegal (before after : Written) (text : List ℕ) : Type 0 w
   pub expected : Answer
   pub breaks : BreaksRules text line step expected
   pub not_legal : ¬ IsLegalLog text
-  pub written : Appends before.output after.output (end_text (NotLegal line step expected))
+  pub written : Appends before.output after.output (verdict_text (NotLegal line step expected))
   pub silent : after.faults ≡ before.faults
 
 -- the text is that of no log: this line is the first bad one; the fault writer got that, as far as it took it
@@ -41,9 +41,9 @@ pub record ReportsBadLine (before after : Option (List ℕ)) (text : List ℕ) :
 
 -- the output got a beginning of the line that says what the text is
 pub record BeginsVerdict (before after : Option (List ℕ)) (text : List ℕ) : Type 0 where
-  pub end : LogEnd
-  pub is : IsEnd text end
-  pub begun : AppendsBeginning before after (end_text end)
+  pub end : LogVerdict
+  pub is : IsLogVerdict text end
+  pub begun : AppendsBeginning before after (verdict_text end)
 
 -- what a check leaves in the output after a fault of its own: a beginning of its line if the output failed, else
 -- nothing; no other fault is one of a check
@@ -74,11 +74,11 @@ pub record Checks (input : Option (List ℕ)) (before after : Written) (status :
 -- ---- the parts of a check
 
 -- the log is this, and it is called legal exactly if it is
-abbrev pub IsEndOf : Option (List ℕ) → LogEnd → Type 0
-IsEndOf input end = IfSome input (λ text. IsEnd text end × (IsTrue (says_legal end) ↔ IsLegalLog text))
+abbrev pub IsLogVerdictOf : Option (List ℕ) → LogVerdict → Type 0
+IsLogVerdictOf input end = IfSome input (λ text. IsLogVerdict text end × (IsTrue (says_legal end) ↔ IsLegalLog text))
 
 -- this is a log, and has this status: 0 if it is legal, 1 if it isn't
-abbrev pub IsVerdict : LogEnd → ℕ → Type 0
+abbrev pub IsVerdict : LogVerdict → ℕ → Type 0
 IsVerdict (Legal steps) status = status ≡ 0
 IsVerdict (NotLegal line step expected) status = status ≡ 1
 IsVerdict (BadLine line) status = ⊥

@@ -2,14 +2,14 @@
 
 ghost use Rattle.std.specs.Prelude.{List, Option, IfErr, OnOk, ℕ};
 ghost use Rattle.std.specs.Io.KnownBytes.{Appends};
-ghost use Rattle.log_check.specs.Texts.{end_text};
+ghost use Rattle.log_check.specs.Texts.{verdict_text};
 ghost use Rattle.load_run.specs.Causes.{written};
-ghost use Rattle.load_run.specs.Checks.{Checks, IsEndOf, IsVerdict, LeavesLine};
+ghost use Rattle.load_run.specs.Checks.{Checks, IsLogVerdictOf, IsVerdict, LeavesLine};
 
 use crate::fault::ProgramFault;
 use crate::fault_lines::report_fault;
 use crate::program::write_answers;
-use log_check::end::{LogEnd, LogFault};
+use log_check::end::{LogFault, LogVerdict};
 use log_check::{check_log, write_end};
 use std::alloc::{AllocError, Global};
 use std::io::{Read, Write};
@@ -39,15 +39,20 @@ pub fn drive_check<I: Read, O: Write, F: Write>(
 
 // Reports what the log is.
 #[tactic(auto, using(crate::proofs::Verdicts::checks_bad_line))]
-fn report_end<O: Write, F: Write>(alloc: Global, end: &LogEnd, output: &mut O, faults: &mut F) -> u8
-    ensures checks { (input : Option (List ℕ)) → IsEndOf input end.now
+fn report_end<O: Write, F: Write>(
+    alloc: Global,
+    end: &LogVerdict,
+    output: &mut O,
+    faults: &mut F,
+) -> u8
+    ensures checks { (input : Option (List ℕ)) → IsLogVerdictOf input end.now
         → Checks input (written (O.contents output.old) (F.contents faults.old))
         (written (O.contents output.new) (F.contents faults.new)) result }
 {
     match end {
-        LogEnd::Legal { .. } => report_verdict(alloc, end, 0, output, faults),
-        LogEnd::NotLegal { .. } => report_verdict(alloc, end, 1, output, faults),
-        LogEnd::BadLine { line } => report_fault(&ProgramFault::BadLogLine(*line), faults),
+        LogVerdict::Legal { .. } => report_verdict(alloc, end, 0, output, faults),
+        LogVerdict::NotLegal { .. } => report_verdict(alloc, end, 1, output, faults),
+        LogVerdict::BadLine { line } => report_fault(&ProgramFault::BadLogLine(*line), faults),
     }
 }
 
@@ -55,12 +60,12 @@ fn report_end<O: Write, F: Write>(alloc: Global, end: &LogEnd, output: &mut O, f
 #[tactic(auto, using(crate::proofs::Verdicts::checks_written, crate::proofs::Verdicts::checks_unwritten))]
 fn report_verdict<O: Write, F: Write>(
     alloc: Global,
-    end: &LogEnd,
+    end: &LogVerdict,
     status: u8,
     output: &mut O,
     faults: &mut F,
 ) -> u8
-    ensures checks { (input : Option (List ℕ)) → IsEndOf input end.now → IsVerdict end.now status
+    ensures checks { (input : Option (List ℕ)) → IsLogVerdictOf input end.now → IsVerdict end.now status
         → Checks input (written (O.contents output.old) (F.contents faults.old))
         (written (O.contents output.new) (F.contents faults.new)) result }
 {
@@ -71,9 +76,13 @@ fn report_verdict<O: Write, F: Write>(
 }
 
 // Writes the line that says what the log is.
-fn write_verdict<O: Write>(alloc: Global, end: &LogEnd, output: &mut O) -> Result<(), ProgramFault>
-    ensures written { OnOk result (Appends (O.contents output.old) (O.contents output.new) (end_text end.now)) }
-    ensures left { IfErr result (LeavesLine (end_text end.now) (O.contents output.old) (O.contents output.new)) }
+fn write_verdict<O: Write>(
+    alloc: Global,
+    end: &LogVerdict,
+    output: &mut O,
+) -> Result<(), ProgramFault>
+    ensures written { OnOk result (Appends (O.contents output.old) (O.contents output.new) (verdict_text end.now)) }
+    ensures left { IfErr result (LeavesLine (verdict_text end.now) (O.contents output.old) (O.contents output.new)) }
 {
     let mut text = Vec::new(alloc);
     match write_end(end, &mut text) {

@@ -17,12 +17,12 @@ use Rattle.log_lines.proofs.BadLines.{same_first}
 use Rattle.log_lines.proofs.Lines.{same_line}
 use Rattle.log_lines.proofs.Logs.{ended}
 use Rattle.log_check.specs.declared.reader.LogReader.{LogReader}
-use Rattle.log_check.specs.declared.end.LogEnd.{LogEnd}
-use Rattle.log_check.specs.declared.end.LogEnd.TheVariants as kinds
+use Rattle.log_check.specs.declared.end.LogVerdict.{LogVerdict}
+use Rattle.log_check.specs.declared.end.LogVerdict.TheVariants as kinds
 use Rattle.log_check.specs.declared.progress.Progress.{Progress}
 use Rattle.log_check.specs.declared.progress.Taken.{Taken}
 use Rattle.log_check.specs.declared.progress.Taken.TheVariants.{GoesOn, NotLegal, Bad}
-use Rattle.log_check.specs.Ends.{BreaksRules, IsEnd, KeepsPromise, zone_in}
+use Rattle.log_check.specs.Ends.{BreaksRules, IsLogVerdict, KeepsPromise, zone_in}
 use Rattle.log_check.specs.Taking.{AreWholeLines, CountsSteps, EndsIllegally, HasChecked, HasRead, HasTaken, Reads, StepsAre, Takes}
 
 abbrev NoFeed : List ℕ → Type 0
@@ -273,12 +273,12 @@ Judged r now taken = ((l : LogLine) × IsLineText r.line.items l × ((lines : Li
     ⊎ ((taken ≡ Bad) × ((l : LogLine) → ¬ IsLineText r.line.items l))
 
 -- what is known of the log then
-abbrev pub end_of : Taken → (line steps : ℕ) → Option LogEnd
+abbrev pub end_of : Taken → (line steps : ℕ) → Option LogVerdict
 end_of GoesOn line steps = None
 end_of (NotLegal expected) line steps = Some (kinds.NotLegal line steps expected)
 end_of Bad line steps = Some (kinds.BadLine line)
 
-pub line_ended : (before : List ℕ) (r s : LogReader) (taken : Taken) (end : Option LogEnd) → HasRead before r → Judged r s.progress taken
+pub line_ended : (before : List ℕ) (r s : LogReader) (taken : Taken) (end : Option LogVerdict) → HasRead before r → Judged r s.progress taken
     → s.line.items ≡ [] → s.lines ≡ r.lines + 1 → end ≡ end_of taken s.lines s.progress.steps → Reads (before ++ 10 ∷ []) s end
 line_ended before r s GoesOn end h (inl j) empty one is =
     subst (Reads (before ++ 10 ∷ []) s) (sym is) (read_line before r s j.0 h j.1 j.2 empty one)
@@ -292,7 +292,7 @@ line_ended before r s Bad end h (inr none) empty one is =
     subst (Reads (before ++ 10 ∷ []) s) (sym is) (λ rest. line_bad before rest r s.lines h (λ lines l checked has. absurd (none.1 l has)) one)
 
 -- it is known before the bytes end
-pub stops : (before bytes : List ℕ) (i d : ℕ) (r : LogReader) (end : Option LogEnd) → i < length bytes → is_some end ≡ true
+pub stops : (before bytes : List ℕ) (i d : ℕ) (r : LogReader) (end : Option LogVerdict) → i < length bytes → is_some end ≡ true
     → Reads ((before ++ take i bytes) ++ get_or bytes i d ∷ []) r end → Reads (before ++ bytes) r end
 stops before bytes i d r None h some reads = absurd (false≢true some)
 stops before bytes i d r (Some end) h some reads = λ rest.
@@ -304,4 +304,4 @@ stops before bytes i d r (Some end) h some reads = λ rest.
     ap (λ (x : List ℕ). x ++ (drop (i + 1) bytes ++ rest)) here
     ∙ sym (append_assoc (before ++ take (i + 1) bytes) (drop (i + 1) bytes) rest)
     ∙ ap (λ (x : List ℕ). x ++ rest) (append_assoc before (take (i + 1) bytes) (drop (i + 1) bytes) ∙ ap (λ (x : List ℕ). before ++ x) all) in
-    subst (λ (x : List ℕ). IsEnd x end) whole (reads (drop (i + 1) bytes ++ rest))
+    subst (λ (x : List ℕ). IsLogVerdict x end) whole (reads (drop (i + 1) bytes ++ rest))

@@ -14,9 +14,9 @@ use Rattle.log_lines.specs.declared.line.LogLine.TheVariants as kinds
 use Rattle.log_lines.specs.Log.{IsLog, WholeLog, says_something}
 use Rattle.log_lines.proofs.BadLines.{bad_line_is_no_log, continues, filter_append, says_both}
 use Rattle.log_lines.proofs.Logs.{ended, line_of_entry, same_entry}
-use Rattle.log_check.specs.declared.end.LogEnd.{LogEnd}
-use Rattle.log_check.specs.declared.end.LogEnd.TheVariants.{Legal, NotLegal, BadLine}
-use Rattle.log_check.specs.Ends.{BreaksRules, IsEnd, IsLegalLog, says_legal, zone_in}
+use Rattle.log_check.specs.declared.end.LogVerdict.{LogVerdict}
+use Rattle.log_check.specs.declared.end.LogVerdict.TheVariants.{Legal, NotLegal, BadLine}
+use Rattle.log_check.specs.Ends.{BreaksRules, IsLegalLog, IsLogVerdict, says_legal, zone_in}
 
 steps_begin : (run all : List (Step × Answer)) (back : List LogLine) → map line_of_entry run ++ back ≡ map line_of_entry all
     → (more : List (Step × Answer)) × (all ≡ run ++ more)
@@ -71,12 +71,12 @@ breaks_rules text line step expected breaks legal =
     let run : IsLegalRun zone breaks.log.run = legal_front zone breaks.log.run on.more (subst (IsLegalRun zone) on.run whole) in
     no_verdict (step - 1) expected ((illegal_only zone breaks.log.run (step - 1) expected breaks.first).1 run)
 
-pub exact : (text : List ℕ) (end : LogEnd) → IsEnd text end → IsTrue (says_legal end) ↔ IsLegalLog text
+pub exact : (text : List ℕ) (end : LogVerdict) → IsLogVerdict text end → IsTrue (says_legal end) ↔ IsLegalLog text
 exact text (Legal steps) is = (λ yes. record { log = is.log; is = is.is; legal = is.legal }, λ legal. refl)
 exact text (NotLegal line step expected) is = (λ no. absurd (false≢true no), λ legal. absurd (breaks_rules text line step expected is legal))
 exact text (BadLine line) is = (λ no. absurd (false≢true no), λ legal. absurd (bad_line_is_no_log text line legal.log is legal.is))
 
-pub exact_if : (input : Option (List ℕ)) (end : LogEnd) → IfSome input (λ text. IsEnd text end)
+pub exact_if : (input : Option (List ℕ)) (end : LogVerdict) → IfSome input (λ text. IsLogVerdict text end)
     → IfSome input (λ text. IsTrue (says_legal end) ↔ IsLegalLog text)
 exact_if None end is = tt
 exact_if (Some text) end is = exact text end is

@@ -2,9 +2,9 @@
 use Rattle.std.proofs.Common.{◌≡◌, ◌∙◌, ℕ, List, [], ◌++◌, Option, None, Some, IfSome, ap, append_assoc, append-nil, subst, sym}
 use Rattle.std.proofs.KnownBytes.{Consumes-kept, Consumes-nil, Consumes-trans}
 use Rattle.std.specs.Io.KnownBytes.{Consumes, IsAtEnd, Keeps}
-use Rattle.log_check.specs.declared.end.LogEnd.{LogEnd}
+use Rattle.log_check.specs.declared.end.LogVerdict.{LogVerdict}
 use Rattle.log_check.specs.declared.reader.LogReader.{LogReader}
-use Rattle.log_check.specs.Ends.{IsEnd}
+use Rattle.log_check.specs.Ends.{IsLogVerdict}
 use Rattle.log_check.specs.Taking.{HasRead, Reads}
 
 -- these bytes were read of the input, and are what the log is known to begin with
@@ -34,23 +34,23 @@ kept input left after log so_far same = record {
 }
 
 -- all was read
-pub all_read : (input left after : Option (List ℕ)) (log : LogReader) (end : LogEnd) → IsReadTo input left log → Consumes left after [] → IsAtEnd after
-    → ((before : List ℕ) → HasRead before log → IsEnd before end) → IfSome input (λ text. IsEnd text end)
+pub all_read : (input left after : Option (List ℕ)) (log : LogReader) (end : LogVerdict) → IsReadTo input left log → Consumes left after [] → IsAtEnd after
+    → ((before : List ℕ) → HasRead before log → IsLogVerdict before end) → IfSome input (λ text. IsLogVerdict text end)
 all_read None left after log end so_far read at_end is = tt
 all_read (Some all) None after log end so_far read at_end is = absurd so_far.read
 all_read (Some all) (Some rest) None log end so_far read at_end is = absurd read
 all_read (Some all) (Some rest) (Some last) log end so_far read at_end is =
     let none : rest ≡ [] = read ∙ at_end in
     let whole : all ≡ so_far.bytes = so_far.read ∙ ap (λ (l : List ℕ). so_far.bytes ++ l) none ∙ append-nil so_far.bytes in
-    subst (λ (l : List ℕ). IsEnd l end) (sym whole) (is so_far.bytes so_far.known)
+    subst (λ (l : List ℕ). IsLogVerdict l end) (sym whole) (is so_far.bytes so_far.known)
 
 -- a piece more was read, and it is known what the log is
-pub ended : (input left after : Option (List ℕ)) (log new : LogReader) (piece : List ℕ) (end : LogEnd) → IsReadTo input left log → Consumes left after piece
-    → ((before : List ℕ) → HasRead before log → Reads (before ++ piece) new (Some end)) → IfSome input (λ text. IsEnd text end)
+pub ended : (input left after : Option (List ℕ)) (log new : LogReader) (piece : List ℕ) (end : LogVerdict) → IsReadTo input left log → Consumes left after piece
+    → ((before : List ℕ) → HasRead before log → Reads (before ++ piece) new (Some end)) → IfSome input (λ text. IsLogVerdict text end)
 ended None left after log new piece end so_far read is = tt
 ended (Some all) None after log new piece end so_far read is = absurd so_far.read
 ended (Some all) (Some rest) None log new piece end so_far read is = absurd read
 ended (Some all) (Some rest) (Some last) log new piece end so_far read is =
     let whole : all ≡ (so_far.bytes ++ piece) ++ last
     = so_far.read ∙ ap (λ (l : List ℕ). so_far.bytes ++ l) read ∙ sym (append_assoc so_far.bytes piece last) in
-    subst (λ (l : List ℕ). IsEnd l end) (sym whole) (is so_far.bytes so_far.known last)
+    subst (λ (l : List ℕ). IsLogVerdict l end) (sym whole) (is so_far.bytes so_far.known last)

@@ -6,8 +6,8 @@ use Rattle.step_rules.specs.After.{IsLegalRun}
 use Rattle.mem_core.specs.Checked.{IsFirstIllegal}
 use Rattle.mem_core.specs.Promise.{AlwaysKeepsPromise}
 use Rattle.log_lines.specs.Log.{IsFirstBadLine, IsLog, WholeLog}
-use Rattle.log_check.specs.declared.end.LogEnd.{LogEnd}
-use Rattle.log_check.specs.declared.end.LogEnd.TheVariants.{Legal, NotLegal, BadLine}
+use Rattle.log_check.specs.declared.end.LogVerdict.{LogVerdict}
+use Rattle.log_check.specs.declared.end.LogVerdict.TheVariants.{Legal, NotLegal, BadLine}
 
 -- the zone of a log
 abbrev pub zone_in : WholeLog → Zone
@@ -41,13 +41,13 @@ pub record BreaksRules (text : List ℕ) (line step : ℕ) (expected : Answer) :
   pub first : IsFirstIllegal (zone_in log) log.run (step - 1) expected
 
 -- what a check says of the text is true
-abbrev pub IsEnd : List ℕ → LogEnd → Type 0
-IsEnd text (Legal steps) = KeepsPromise text steps
-IsEnd text (NotLegal line step expected) = BreaksRules text line step expected
-IsEnd text (BadLine line) = IsFirstBadLine text line
+abbrev pub IsLogVerdict : List ℕ → LogVerdict → Type 0
+IsLogVerdict text (Legal steps) = KeepsPromise text steps
+IsLogVerdict text (NotLegal line step expected) = BreaksRules text line step expected
+IsLogVerdict text (BadLine line) = IsFirstBadLine text line
 
 -- whether the log is a legal run
-abbrev pub says_legal : LogEnd → Bool
+abbrev pub says_legal : LogVerdict → Bool
 says_legal (Legal steps) = true
 says_legal (NotLegal line step expected) = false
 says_legal (BadLine line) = false

@@ -5,7 +5,7 @@ use thiserror::Error;
 
 /// What a check says of the text of a log. Lines and steps are counted from 1.
 #[derive(Clone, Copy, PartialEq, Eq)]
-pub enum LogEnd {
+pub enum LogVerdict {
     /// The log is a legal run.
     Legal {
         /// How many steps it has.

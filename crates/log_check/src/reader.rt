@@ -2,9 +2,9 @@
 
 ghost use Rattle.std.specs.Prelude.{ℕ, ◌+◌, ◌^◌, ◌<◌, [], ◌∷◌, ◌++◌, IfOk, List};
 ghost use Rattle.log_check.specs.Taking.{Fits, HasRead, Reads};
-ghost use Rattle.log_check.specs.Ends.{IsEnd};
+ghost use Rattle.log_check.specs.Ends.{IsLogVerdict};
 
-use crate::end::{LogEnd, LogFault};
+use crate::end::{LogFault, LogVerdict};
 use crate::progress::{Progress, Taken};
 use log_lines::parse_line;
 use std::alloc::Global;
@@ -41,7 +41,7 @@ impl LogReader {
         &mut self,
         alloc: Global,
         bytes: &[u8],
-    ) -> Result<Option<LogEnd>, LogFault>
+    ) -> Result<Option<LogVerdict>, LogFault>
         requires fits { Fits self.old }
         ensures read { IfOk result (λ end.
             (before : List ℕ) → HasRead before self.old → Reads (before ++ bytes.now) self.new end) }
@@ -57,22 +57,22 @@ impl LogReader {
     }
 
     /// The answer for the log if no more bytes follow.
-    pub(crate) fn end(&self) -> LogEnd
+    pub(crate) fn end(&self) -> LogVerdict
         requires fits { Fits self.now }
-        ensures { (before : List ℕ) → HasRead before self.now → IsEnd before result }
+        ensures { (before : List ℕ) → HasRead before self.now → IsLogVerdict before result }
     {
         if self.line.is_empty() && self.progress.checker.is_some() {
-            LogEnd::Legal {
+            LogVerdict::Legal {
                 steps: self.progress.steps,
             }
         } else {
-            LogEnd::BadLine {
+            LogVerdict::BadLine {
                 line: self.lines + 1,
             }
         }
     }
 
-    fn take_byte(&mut self, alloc: Global, byte: u8) -> Result<Option<LogEnd>, LogFault>
+    fn take_byte(&mut self, alloc: Global, byte: u8) -> Result<Option<LogVerdict>, LogFault>
         requires fits { Fits self.old }
         ensures read { IfOk result (λ end.
             (before : List ℕ) → HasRead before self.old → Reads (before ++ byte ∷ []) self.new end) }
@@ -85,7 +85,7 @@ impl LogReader {
             return self.end_line(alloc);
         }
         if self.line.len() >= MOST_LINE {
-            return Ok(Some(LogEnd::BadLine {
+            return Ok(Some(LogVerdict::BadLine {
                 line: self.lines + 1,
             }));
         }
@@ -95,7 +95,7 @@ impl LogReader {
         }
     }
 
-    fn end_line(&mut self, alloc: Global) -> Result<Option<LogEnd>, LogFault>
+    fn end_line(&mut self, alloc: Global) -> Result<Option<LogVerdict>, LogFault>
         requires fits { Fits self.old }
         requires few { self.old.lines + 2 < 2 ^ 64 }
         ensures read { IfOk result (λ end.
@@ -110,12 +110,12 @@ impl LogReader {
         self.line.clear();
         Ok(match taken {
             Taken::GoesOn => None,
-            Taken::NotLegal(expected) => Some(LogEnd::NotLegal {
+            Taken::NotLegal(expected) => Some(LogVerdict::NotLegal {
                 line: self.lines,
                 step: self.progress.steps,
                 expected,
             }),
-            Taken::Bad => Some(LogEnd::BadLine { line: self.lines }),
+            Taken::Bad => Some(LogVerdict::BadLine { line: self.lines }),
         })
     }
 }

@@ -1,9 +1,9 @@
 //! Reads a log piece by piece.
 
 ghost use Rattle.std.specs.Prelude.{◌↔◌, IfOk, IfSome, IsTrue};
-ghost use Rattle.log_check.specs.Ends.{IsEnd, IsLegalLog, says_legal};
+ghost use Rattle.log_check.specs.Ends.{IsLegalLog, IsLogVerdict, says_legal};
 
-use crate::end::{LogEnd, LogFault};
+use crate::end::{LogFault, LogVerdict};
 use crate::reader::LogReader;
 use std::alloc::Global;
 use std::io::{ErrorKind, Read};
@@ -18,8 +18,8 @@ const PIECE: usize = 4_096;
 /// An interrupted read is repeated, at most 2^64 - 1 times in all, so that the call returns even if each one is
 /// interrupted. Any other error of the reader is `Input`, even if it says that memory ran out. `NoMemory` means that
 /// an allocation failed here.
-pub fn check_log<I: Read>(alloc: Global, input: &mut I) -> Result<LogEnd, LogFault>
-    ensures end { IfOk result (λ end. IfSome (I.remaining input.old) (λ text. IsEnd text end)) }
+pub fn check_log<I: Read>(alloc: Global, input: &mut I) -> Result<LogVerdict, LogFault>
+    ensures end { IfOk result (λ end. IfSome (I.remaining input.old) (λ text. IsLogVerdict text end)) }
     ensures exact { IfOk result (λ end. IfSome (I.remaining input.old)
         (λ text. IsTrue (says_legal end) ↔ IsLegalLog text)) }
 {

@@ -1,27 +1,27 @@
 //! The result of a check as text.
 
 ghost use Rattle.std.specs.Prelude.{◌≡◌, ◌++◌, IfOk, decimal};
-ghost use Rattle.log_check.specs.declared.end.LogEnd.TheVariants.{BadLine, Legal, NotLegal};
-ghost use Rattle.log_check.specs.Texts.{due_text, end_text, place_text};
+ghost use Rattle.log_check.specs.declared.end.LogVerdict.TheVariants.{BadLine, Legal, NotLegal};
+ghost use Rattle.log_check.specs.Texts.{due_text, place_text, verdict_text};
 
-use crate::end::LogEnd;
+use crate::end::LogVerdict;
 use itoa::Buffer;
 use log_lines::write_answer;
 use std::alloc::AllocError;
 use step_rules::step::Answer;
 
 /// Appends the line that says what a log is. It fails only if memory runs out.
-pub fn write_end(end: &LogEnd, text: &mut Vec<u8>) -> Result<(), AllocError>
-    ensures { IfOk result (λ _. text.new.items ≡ text.old.items ++ end_text end.now) }
+pub fn write_end(end: &LogVerdict, text: &mut Vec<u8>) -> Result<(), AllocError>
+    ensures { IfOk result (λ _. text.new.items ≡ text.old.items ++ verdict_text end.now) }
 {
     match *end {
-        LogEnd::Legal { steps } => write_legal(steps, text),
-        LogEnd::NotLegal {
+        LogVerdict::Legal { steps } => write_legal(steps, text),
+        LogVerdict::NotLegal {
             line,
             step,
             expected,
         } => write_not_legal(line, step, &expected, text),
-        LogEnd::BadLine { line } => write_bad_line(line, text),
+        LogVerdict::BadLine { line } => write_bad_line(line, text),
     }
 }
 
@@ -33,7 +33,7 @@ fn push_number(number: u64, text: &mut Vec<u8>) -> Result<(), AllocError>
 }
 
 fn write_legal(steps: u64, text: &mut Vec<u8>) -> Result<(), AllocError>
-    ensures { IfOk result (λ _. text.new.items ≡ text.old.items ++ end_text (Legal steps)) }
+    ensures { IfOk result (λ _. text.new.items ≡ text.old.items ++ verdict_text (Legal steps)) }
 {
     text.extend_from_slice(b"legal: ")?;
     push_number(steps, text)?;
@@ -47,7 +47,7 @@ fn write_not_legal(
     expected: &Answer,
     text: &mut Vec<u8>,
 ) -> Result<(), AllocError>
-    ensures { IfOk result (λ _. text.new.items ≡ text.old.items ++ end_text (NotLegal line step expected.now)) }
+    ensures { IfOk result (λ _. text.new.items ≡ text.old.items ++ verdict_text (NotLegal line step expected.now)) }
 {
     write_place(line, step, text)?;
     write_due(expected, text)
@@ -73,7 +73,7 @@ fn write_due(expected: &Answer, text: &mut Vec<u8>) -> Result<(), AllocError>
 }
 
 fn write_bad_line(line: u64, text: &mut Vec<u8>) -> Result<(), AllocError>
-    ensures { IfOk result (λ _. text.new.items ≡ text.old.items ++ end_text (BadLine line)) }
+    ensures { IfOk result (λ _. text.new.items ≡ text.old.items ++ verdict_text (BadLine line)) }
 {
     text.extend_from_slice(b"bad line ")?;
     push_number(line, text)?;

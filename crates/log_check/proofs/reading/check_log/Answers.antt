@@ -1,7 +1,7 @@
 -- Serves the contract of `check_log`: each read takes one more piece, up to the end or until the answer is known.
 use Rattle.std.proofs.Common.{◌<◌, ◌++◌, ℕ, Option, length, rules, subst, sym, take}
 use Rattle.std.specs.Io.KnownBytes.{Consumes}
-use Rattle.log_check.specs.declared.end.LogEnd.{LogEnd}
+use Rattle.log_check.specs.declared.end.LogVerdict.{LogVerdict}
 use Rattle.log_check.specs.declared.reader.LogReader.{LogReader}
 use Rattle.log_check.specs.Taking.{Fits, Reads}
 use Rattle.log_check.proofs.Exact.{exact_if}
@@ -27,7 +27,7 @@ returns-in-Some-clause-end g c =
     let piece = take c.in-Ok.n c.read.new.buf in
     ended (g.I.Read.remaining c.args.input.now) (g.I.Read.remaining c.loop.input) (g.I.Read.remaining c.read.new.self) c.loop.log c.take_bytes.new.self
     piece c.in-Some.end c.loop.invariant.1 c.in-Ok.ensures.bytes.0
-    (λ before h. subst (λ (e : Option LogEnd). Reads (before ++ piece) c.take_bytes.new.self e) c.in-Some.is (c.in_ok-end-in-Ok.ensures.read before h))
+    (λ before h. subst (λ (e : Option LogVerdict). Reads (before ++ piece) c.take_bytes.new.self e) c.in-Some.is (c.in_ok-end-in-Ok.ensures.read before h))
 
 pub returns-in-Some-clause-exact : goal.returns-in-Some-clause-exact
 returns-in-Some-clause-exact g c = exact_if (g.I.Read.remaining c.args.input.now) c.in-Some.end (returns-in-Some-clause-end g c)
@@ -44,7 +44,7 @@ loop-preserved g c =
           subst So (sym w.log-is) (
             w.in_ok-end-in-Ok.ensures.fits,
             more input before after c.loop.log w.take_bytes.new.self piece c.loop.invariant.1 w.in-Ok.ensures.bytes.0
-                (λ text h. subst (λ (e : Option LogEnd). Reads (text ++ piece) w.take_bytes.new.self e) w.in_default.is (w.in_ok-end-in-Ok.ensures.read text h)),
+                (λ text h. subst (λ (e : Option LogVerdict). Reads (text ++ piece) w.take_bytes.new.self e) w.in_default.is (w.in_ok-end-in-Ok.ensures.read text h)),
           )
       | in-Err w ↦ subst So (sym w.log-is) (c.loop.invariant.0, kept input before after c.loop.log c.loop.invariant.1 w.in-Err.ensures.bytes)
     ]
