@@ -75,7 +75,7 @@ impl StockWords {
         Stock::of_word(found)
     }
 
-    /// A `consume` that always takes. By the book the CPU's stock, which is of group `g` (0 to 63), has a page that is
+    /// A `consume` that always takes. By the book the CPU's stock, which is of this group, 0 to 63, has a page that is
     /// neither fresh nor reported.
     pub fn consume_held(&self, zone: &mut StockSeat, seat: &mut StockSeat, group: u32)
         requires tables { (zone.old.table ≡ self.now.table) × (seat.old.table ≡ self.now.table) }
@@ -93,7 +93,7 @@ impl StockWords {
         self.part(&mut zone.raw, &mut seat.raw);
     }
 
-    /// Fills the CPU's stock with `n` pages (1 to 65,535) of group `g` (0 to 63). The stock was never filled, or was
+    /// Fills the CPU's stock with this many pages, 1 to 65,535, of this group, 0 to 63. The stock was never filled, or was
     /// drained after its last fill. The CPU has no fresh page and no reported page that isn't absorbed.
     pub fn fill(&self, zone: &mut StockSeat, seat: &mut StockSeat, group: u32, pages: u32)
         requires tables { (zone.old.table ≡ self.now.table) × (seat.old.table ≡ self.now.table) }
