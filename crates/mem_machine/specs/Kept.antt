@@ -23,6 +23,7 @@ machine_of fields = record {
 }
 
 -- what the fields show is consistent, and the zone's free frames are those whose record is Free
-pub record IsSoundMachine {N : Type 0} (table : KnownTable) (stock_table : KnownStockTable) (fields : Inside N) : Type 0 where
+pub record IsSoundMachine {N : Type 0} (table : KnownTable) (stock_table : KnownStockTable) (fields : Inside N)
+    : Type 0 where
   pub consistent : IsConsistent table stock_table (machine_of fields)
   pub free : fields.zone.free ≡ free_of fields.frame_states.items

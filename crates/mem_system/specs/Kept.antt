@@ -12,7 +12,8 @@ locked_of fields = record { machine = fields.machine; sizes = fields.sizes }
 
 -- while the lock is free, what lies behind it is quiet, with room for the seats of all CPUs, which are gathered at the
 -- end
-pub record IsSoundInside {N : Type 0} (table : KnownTable) (stock_table : KnownStockTable) (fields : Inside N) : Type 0 where
+pub record IsSoundInside {N : Type 0} (table : KnownTable) (stock_table : KnownStockTable) (fields : Inside N)
+    : Type 0 where
   pub quiet : IsQuiet table stock_table (locked_of fields)
   pub frame_seats :
       IsEmptyWithRoom fields.sizes.cpus (length fields.frame_seats.items) (vec_capacity fields.frame_seats)
