@@ -93,8 +93,8 @@ impl StockWords {
         self.part(&mut zone.raw, &mut seat.raw);
     }
 
-    /// Fills the CPU's stock with this many pages, 1 to 65,535, of this group, 0 to 63. The stock was never filled, or was
-    /// drained after its last fill. The CPU has no fresh page and no reported page that isn't absorbed.
+    /// Fills the CPU's stock with this many pages, 1 to 65,535, of this group, 0 to 63. The stock was never filled, or
+    /// was drained after its last fill. The CPU has no fresh page and no reported page that isn't absorbed.
     pub fn fill(&self, zone: &mut StockSeat, seat: &mut StockSeat, group: u32, pages: u32)
         requires tables { (zone.old.table ≡ self.now.table) × (seat.old.table ≡ self.now.table) }
         requires zone { IsZoneView zone.old.view }
