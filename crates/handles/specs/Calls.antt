@@ -82,7 +82,7 @@ pub record ServesCommand (frames : KnownTable) (stock_table : KnownStockTable) (
   pub rest : SameButState from to
 
 -- the command was served, and this is returned of its answer
-pub record TellsCommand (frames : KnownTable) (stock_table : KnownStockTable) (cpu : ℕ) (command : Command)
+pub record ReturnsCommandAnswer (frames : KnownTable) (stock_table : KnownStockTable) (cpu : ℕ) (command : Command)
     (from to : KnownLive) (returned : CallAnswer) : Type 0 where
   pub answer : Answer
   pub serves : ServesCommand frames stock_table cpu command from to answer
@@ -94,7 +94,7 @@ pub record ServesCall (frames : KnownTable) (stock_table : KnownStockTable) (cpu
     (returned : CallAnswer) : Type 0 where
   pub command : Command
   pub means : Means from.state.locked.machine.ledger.groups asked command
-  pub tells : TellsCommand frames stock_table cpu command from to returned
+  pub tells : ReturnsCommandAnswer frames stock_table cpu command from to returned
 
 -- the call names what isn't there, and nothing is done
 pub record RefusesCall (is_missing : Type 0) (from to : KnownLive) : Type 0 where

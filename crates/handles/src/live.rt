@@ -12,7 +12,7 @@ ghost use Rattle.script_replay.specs.Typed.{IsShort};
 ghost use Rattle.script_replay.specs.Works.{work_of};
 ghost use Rattle.load_run.specs.Answers.{IsNewBootState};
 ghost use Rattle.load_run.specs.Ending.{EndsHeld};
-ghost use Rattle.handles.specs.Calls.{Calls, HasNoGroup, IsCpu, TellsCommand, file_reply};
+ghost use Rattle.handles.specs.Calls.{Calls, HasNoGroup, IsCpu, ReturnsCommandAnswer, file_reply};
 ghost use Rattle.handles.specs.declared.calls.Call.TheVariants.{Alloc, AtFrame};
 ghost use Rattle.handles.specs.Commands.{AnswersScript, FailsScript, FailsText, ReplaysText, TakesUnreadAnswer};
 ghost use Rattle.handles.specs.Commands.{with_unread_answer};
@@ -128,7 +128,7 @@ impl<N: BootName> Live<N> {
     fn serve(&mut self, cpu: u32, command: &Command<'_>) -> CallAnswer
         requires there { CpuCommandInRange N.frames.frames (length self.old.state.cpus) cpu command.now }
         requires short { IsShort (work_of command.now) }
-        ensures { TellsCommand N.frames N.stocks cpu command.now self.old self.new result }
+        ensures { ReturnsCommandAnswer N.frames N.stocks cpu command.now self.old self.new result }
     {
         CallAnswer::Served(serve_typed(
             &mut self.locked,

@@ -26,7 +26,8 @@ use Rattle.load_options.specs.declared.task.Task.TheVariants.{Version}
 use Rattle.load_options.specs.declared.fault.WordsFault.{WordsFault}
 use Rattle.load_options.specs.declared.fault.WordsFault.TheVariants.{BadWords, NoMemory}
 use Rattle.load_options.specs.Fault.{IsNoMemory}
-use Rattle.load_options.specs.Words.{TellsOptions, if_none, number_in, number_kept, asks_version, bare_options, options_of, options_under, parsed_options, program, size_in}
+use Rattle.load_options.specs.Words.{GivesOptions, if_none, number_in, number_kept, asks_version, bare_options}
+use Rattle.load_options.specs.Words.{options_of, options_under, parsed_options, program, size_in}
 
 -- ---- options
 
@@ -141,17 +142,17 @@ asked_nothing words kind other among =
     go (k ∷ rest) some = refl
 
 -- a fault is what such words are answered
-pub answers_fault : (asked : Option Options) (fault : WordsFault) → asked ≡ None → TellsOptions asked (Err fault)
+pub answers_fault : (asked : Option Options) (fault : WordsFault) → asked ≡ None → GivesOptions asked (Err fault)
 answers_fault asked (BadWords text) none = none
 answers_fault asked (NoMemory e) none = tt
 
 -- that memory ran out is an answer to all words
-pub answers_memory : (asked : Option Options) (fault : WordsFault) → IsNoMemory fault → TellsOptions asked (Err fault)
+pub answers_memory : (asked : Option Options) (fault : WordsFault) → IsNoMemory fault → GivesOptions asked (Err fault)
 answers_memory asked (BadWords text) memory = absurd memory
 answers_memory asked (NoMemory e) memory = tt
 
 -- options that are answered are those that were asked for
-pub asked_ok : (asked : Option Options) (r : Result Options WordsFault) → TellsOptions asked r → IfOk r (λ o. asked ≡ Some o)
+pub asked_ok : (asked : Option Options) (r : Result Options WordsFault) → GivesOptions asked r → IfOk r (λ o. asked ≡ Some o)
 asked_ok asked (Ok o) is = is
 asked_ok asked (Err fault) is = tt
 

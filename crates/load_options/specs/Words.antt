@@ -201,7 +201,7 @@ unfoldable pub options_of : List (List ℕ) → Option Options
 options_of words = if asks_version words then Some (bare_options Version) else parsed_options words
 
 -- the answer to the words: the options that they ask for; a fault, if they ask for none; or that memory ran out
-abbrev pub TellsOptions : Option Options → Result Options WordsFault → Type 0
-TellsOptions asked (Ok options) = asked ≡ Some options
-TellsOptions asked (Err (BadWords text)) = asked ≡ None
-TellsOptions asked (Err (NoMemory e)) = ⊤
+abbrev pub GivesOptions : Option Options → Result Options WordsFault → Type 0
+GivesOptions asked (Ok options) = asked ≡ Some options
+GivesOptions asked (Err (BadWords text)) = asked ≡ None
+GivesOptions asked (Err (NoMemory e)) = ⊤

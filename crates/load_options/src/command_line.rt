@@ -6,7 +6,7 @@ ghost use Rattle.clap.specs.declared.builder.command.Command.TheViews.{out-Comma
 ghost use Rattle.clap.specs.declared.builder.value_parser.ValueParser.TheVariants.{Signed};
 ghost use Rattle.load_options.specs.Fault.{IsNoMemory};
 ghost use Rattle.load_options.specs.Sizes.{HasSizesInRange};
-ghost use Rattle.load_options.specs.Words.{TellsOptions, asks_version, bare_program, check_shape, command_shape};
+ghost use Rattle.load_options.specs.Words.{GivesOptions, asks_version, bare_program, check_shape, command_shape};
 ghost use Rattle.load_options.specs.Words.{flag_rule, options_of, program, replay_shape, serve_shape, size_rule};
 ghost use Rattle.load_options.specs.Words.{sized_shape};
 
@@ -92,7 +92,7 @@ pub fn words<R: Env + AllocGlobal>(rt: &R) -> Result<Vec<String>, WordsFault> {
 /// A size is a whole number in its own range: 1 to 1,048,576 frames, 1 to 64 CPUs, batch 1 to 64, high 1 to 256,
 /// stock 1 to 64. `Config::is_valid` requires more: high is at least batch. The defaults are 16, 2, 4, 8 and 4.
 pub fn options<S: AsStr>(alloc: Global, words: &[S]) -> Result<Options, WordsFault>
-    ensures asked { TellsOptions (options_of (map S.text words.now)) result }
+    ensures asked { GivesOptions (options_of (map S.text words.now)) result }
     ensures in_range { IfOk result (λ o. HasSizesInRange o.sizes) }
 {
     if is_version(words) {

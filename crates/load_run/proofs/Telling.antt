@@ -7,12 +7,12 @@ use Rattle.load_run.specs.declared.fault.ProgramFault.TheVariants.{Words, Script
 use Rattle.load_run.specs.Causes.{written}
 use Rattle.load_run.specs.Checks.{LeavesLine}
 use Rattle.load_run.specs.Fault.{fault_text, status_of}
-use Rattle.load_run.specs.Versions.{TellsVersion, version_text}
+use Rattle.load_run.specs.Versions.{WritesVersion, version_text}
 use Rattle.load_run.specs.Writing.{AppendsBeginning}
 
 -- the version was written, whole
 pub version_written : (before after faults : Option (List ℕ)) → Appends before after version_text
-    → TellsVersion (written before faults) (written after faults) 0
+    → WritesVersion (written before faults) (written after faults) 0
 version_written before after faults whole = record {
   status_at_most = omega arith;
   silent = λ zero. refl;
@@ -23,7 +23,7 @@ version_written before after faults whole = record {
 -- that failed with this fault
 pub version_failed : (before after faults faults_after : Option (List ℕ)) (fault : ProgramFault) (status : ℕ) → status_of fault ≡ 1
     → AppendsBeginning before after version_text → status ≡ status_of fault → AppendsBeginning faults faults_after (fault_text fault)
-    → TellsVersion (written before faults) (written after faults_after) status
+    → WritesVersion (written before faults) (written after faults_after) status
 version_failed before after faults faults_after fault status failure begun is told =
     let ended : status ≡ 1 = is ∙ failure in record {
       status_at_most = omega (arith, ended);
@@ -35,7 +35,7 @@ version_failed before after faults faults_after fault status failure begun is to
 -- it wasn't written, or not whole
 pub version_unwritten : (before after faults faults_after : Option (List ℕ)) (fault : ProgramFault) (status : ℕ)
     → LeavesLine version_text before after fault → status ≡ status_of fault → AppendsBeginning faults faults_after (fault_text fault)
-    → TellsVersion (written before faults) (written after faults_after) status
+    → WritesVersion (written before faults) (written after faults_after) status
 version_unwritten before after faults faults_after Output status left is told =
     version_failed before after faults faults_after Output status refl left is told
 version_unwritten before after faults faults_after (NoMemory e) status left is told =

@@ -22,7 +22,7 @@ use Rattle.load_run.specs.Checks.{ReportsBadLine, ReportsLegal, ReportsNotLegal}
 use Rattle.load_run.specs.Driving.{Drives, DrivesScript, DrivesTask, LintsAsked}
 use Rattle.load_run.specs.Lints.{Lints}
 use Rattle.load_run.specs.Sessions.{DrivesSession, SessionAsked}
-use Rattle.load_run.specs.Versions.{TellsVersion}
+use Rattle.load_run.specs.Versions.{WritesVersion}
 use Rattle.load_run.specs.Fault.{IsWordsFault, fault_text, status_of}
 use Rattle.load_run.specs.Writing.{AppendsBeginning}
 use Rattle.load_run.proofs.Causing.{words_cause}
@@ -215,7 +215,7 @@ drives_words (Some options) input output faults faults_after fault status is end
     for_lint (NoMemory e) is ended told = absurd is
 
     for_version : (f : ProgramFault) → IsWordsFault (Some options) f → status ≡ status_of f → AppendsBeginning faults faults_after (fault_text f)
-        → TellsVersion (written output faults) (written output faults_after) status
+        → WritesVersion (written output faults) (written output faults_after) status
     for_version (Words (words.NoMemory e)) is ended told =
         version_failed output output faults faults_after (Words (words.NoMemory e)) status refl (0, Appends-nil output) ended told
     for_version (Words (words.BadWords text)) is ended told = absurd (false≢true (sym (ap is_some is)))
@@ -292,7 +292,7 @@ serve_drives options is_explained input before after status is drives =
 
 -- and the version
 pub version_drives : (options : Options) (input : Option (List ℕ)) (before after : Written) (status : ℕ) → options.task ≡ Version
-    → TellsVersion before after status → Drives (Some options) input before after status
+    → WritesVersion before after status → Drives (Some options) input before after status
 version_drives options input before after status is tells =
     subst (λ (task : Task). DrivesTask task (Some options) input before after status) (sym is) tells
 

@@ -22,7 +22,7 @@ use Rattle.script_threads.specs.Runs.{lines_before_go}
 use Rattle.load_options.specs.declared.task.Options.{Options}
 use Rattle.load_options.specs.declared.task.Task.{Task}
 use Rattle.load_options.specs.declared.task.Task.TheVariants.{Replay, Steps, Run, Check, Lint, Serve, Version}
-use Rattle.load_run.specs.Ending.{TellsEnd}
+use Rattle.load_run.specs.Ending.{WritesEnd}
 use Rattle.load_run.specs.Logs.{AreLoggedSteps}
 -- what stands after a boot
 pub use Rattle.load_run.specs.Starting.{IsNewBootState}
@@ -48,7 +48,7 @@ pub record AreReplayAnswers (sizes : Config) (form : Form) (is_audited : Bool) (
   pub served : ServesAll (form_terms frames stocks form) lines start end answers
   pub history : HasHistory (form_terms frames stocks form) lines (past [] start) end answers
   pub told : AgreesWithRun frames [] start.locked.machine.ledger
-  pub ends : TellsEnd frames stocks is_audited end ending
+  pub ends : WritesEnd frames stocks is_audited end ending
   pub text_is : text ≡ answers ++ ending
 
 -- the line that says how many steps were checked
@@ -71,7 +71,7 @@ pub record AreCheckedAnswers (sizes : Config) (form : Form) (is_audited : Bool) 
   pub first : IsNewBootState sizes frames stocks start
   pub served : ServesAll (form_terms frames stocks form) lines start end answers
   pub history : KeepsHistory (form_terms frames stocks form) lines (past [] start) (past run end) answers
-  pub ends : TellsEnd frames stocks is_audited end ending
+  pub ends : WritesEnd frames stocks is_audited end ending
   pub whole : StepRun
   pub whole_is : whole ≡ run ++ ends.ends.leaves.steps
   pub legal : IsLegalRun (zone_of frames) whole
@@ -107,7 +107,7 @@ pub record AreThreadAnswers (sizes : Config) (is_numbered is_audited : Bool) (li
   pub tells : AreAllAnswers (boot_tables frames stocks)
       (workers_from 1 at_go.cpus (drop (lines_before_go lines) lines) is_numbered) later
   pub quiet : IsQuietSystem frames stocks end
-  pub ends : TellsEnd frames stocks is_audited end ending
+  pub ends : WritesEnd frames stocks is_audited end ending
   pub text_is : text ≡ (early ++ later) ++ ending
 
 -- the task is one that answers a script

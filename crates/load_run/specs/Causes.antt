@@ -7,7 +7,7 @@ use Rattle.script_lines.specs.declared.line.Line.{Line}
 use Rattle.script_lines.specs.Script.{IsFirstBadLine, IsScript}
 use Rattle.load_options.specs.declared.task.Options.{Options}
 use Rattle.load_options.specs.Sizes.{HasSizesInRange}
-use Rattle.load_options.specs.Words.{TellsOptions}
+use Rattle.load_options.specs.Words.{GivesOptions}
 use Rattle.load_run.specs.declared.fault.ProgramFault.{ProgramFault}
 use Rattle.load_run.specs.declared.fault.ProgramFault.TheVariants.{Words, Script, BadLogLine, BadConfig}
 use Rattle.load_run.specs.declared.fault.ProgramFault.TheVariants.{IllegalStep, IllegalEnd, Input, Output, NoMemory}
@@ -46,7 +46,7 @@ pub record HasAnswers (asked : Option Options) (input : List ℕ) : Type 0 where
 -- input is a script. A step is called not legal only if the options ask for a check. No clause names a further cause
 -- for that, for memory that ran out, or for an input that failed.
 abbrev pub HasCause : Option Options → ProgramFault → (input : List ℕ) → Type 0
-HasCause asked (Words fault) input = TellsOptions asked (Err fault)
+HasCause asked (Words fault) input = GivesOptions asked (Err fault)
 HasCause asked (Script (script.BadLine number)) input = IsBadAt asked number input
 HasCause asked (Script script.NoMemory) input = IsSome asked
 HasCause asked (BadLogLine number) input = ⊥

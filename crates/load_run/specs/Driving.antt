@@ -10,7 +10,7 @@ use Rattle.load_run.specs.Causes.{FailsAtWork, HasCause, IsMisused, Written}
 use Rattle.load_run.specs.Checks.{Checks}
 use Rattle.load_run.specs.Lints.{Lints}
 use Rattle.load_run.specs.Sessions.{SessionAsked}
-use Rattle.load_run.specs.Versions.{TellsVersion}
+use Rattle.load_run.specs.Versions.{WritesVersion}
 
 -- What the options that are asked for, if any, and an input lead to: answers or a fault. If the input's bytes are
 -- known, these are the answers to them, or the fault has its cause.
@@ -56,7 +56,7 @@ DrivesTask Check asked input before after status = Checks input before after sta
 DrivesTask Lint asked input before after status = LintsAsked asked input before after status
 DrivesTask (Serve is_explained) asked input before after status =
     SessionAsked is_explained asked input before after status
-DrivesTask Version asked input before after status = TellsVersion before after status
+DrivesTask Version asked input before after status = WritesVersion before after status
 
 -- The program ran for the options that are asked for, if any. If none are, that is the fault of `DrivesScript`
 abbrev pub Drives : (asked : Option Options) (input : Option (List ℕ)) (before after : Written) (status : ℕ) → Type 0

@@ -133,7 +133,7 @@ end_text true ended = held_text ended.held ++ audit_text ended.audit
 end_text false ended = []
 
 -- a boot ended from this state, and the text is what is written about that
-pub record TellsEnd (table : KnownTable) (stock_table : KnownStockTable) (is_audited : Bool) (before : SystemState)
+pub record WritesEnd (table : KnownTable) (stock_table : KnownStockTable) (is_audited : Bool) (before : SystemState)
     (text : List ℕ) : Type 0 where
   pub ended : BootEnd
   pub ends : EndsHeld table stock_table before ended

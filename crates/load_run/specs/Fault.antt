@@ -9,7 +9,7 @@ use Rattle.load_options.specs.declared.fault.WordsFault.TheVariants as words
 use Rattle.load_options.specs.declared.task.Options.{Options}
 use Rattle.load_options.specs.declared.task.Task.{Task}
 use Rattle.load_options.specs.declared.task.Task.TheVariants.{Replay, Steps, Run, Check, Lint, Serve, Version}
-use Rattle.load_options.specs.Words.{TellsOptions}
+use Rattle.load_options.specs.Words.{GivesOptions}
 use Rattle.load_run.specs.declared.fault.ProgramFault.{ProgramFault}
 use Rattle.load_run.specs.declared.fault.ProgramFault.TheVariants.{Words, Script, BadLogLine, BadConfig}
 use Rattle.load_run.specs.declared.fault.ProgramFault.TheVariants.{IllegalStep, IllegalEnd, Input, Output, NoMemory}
@@ -52,7 +52,7 @@ fault_text (NoMemory error) = codes "no memory\n"
 
 -- a fault of the words: they ask for no options, or memory ran out
 abbrev pub IsWordsFault : Option Options → ProgramFault → Type 0
-IsWordsFault asked (Words fault) = TellsOptions asked (Err fault)
+IsWordsFault asked (Words fault) = GivesOptions asked (Err fault)
 IsWordsFault asked fault = ⊥
 
 -- a fault of reading: the input failed, or memory ran out

@@ -17,7 +17,7 @@ use Rattle.load_run.specs.declared.fault.ProgramFault.{ProgramFault}
 use Rattle.load_run.specs.declared.fault.ProgramFault.TheVariants as kinds
 use Rattle.load_run.specs.Starting.{IsNewBootState}
 use Rattle.load_run.specs.Causes.{Written}
-use Rattle.load_run.specs.Ending.{TellsEnd}
+use Rattle.load_run.specs.Ending.{WritesEnd}
 use Rattle.load_run.specs.Fault.{fault_text}
 use Rattle.load_run.specs.Writing.{AppendsBeginning}
 
@@ -36,7 +36,7 @@ pub record EndsSession (options : Options) (is_explained : Bool) (input before m
   pub history : HasHistory (terms frames stocks is_explained) (lines_of session.turns) (past [] start) end
       (answers_of session.turns)
   pub told : AgreesWithRun frames [] start.locked.machine.ledger
-  pub ends : TellsEnd frames stocks options.is_audited end ending
+  pub ends : WritesEnd frames stocks options.is_audited end ending
 
 -- a session ended, and all of the report was written behind its answers
 pub record ServesInput (options : Options) (is_explained : Bool) (input before after : Option (List ℕ)) : Type 0 where

@@ -11,15 +11,15 @@ abbrev pub version_text : List ℕ
 version_text = codes "memcg 0.1.0\n"
 
 -- the version wasn't written, or not whole; the fault writer got why, as far as it took it
-pub record FailsToTellVersion (before after : Written) : Type 0 where
+pub record FailsToWriteVersion (before after : Written) : Type 0 where
   pub fault : ProgramFault
   pub is_failure : status_of fault ≡ 1
   pub begun : AppendsBeginning before.output after.output version_text
   pub told : AppendsBeginning before.faults after.faults (fault_text fault)
 
 -- the version was written, and the status is 0; or that failed, and it is 1
-pub record TellsVersion (before after : Written) (status : ℕ) : Type 0 where
+pub record WritesVersion (before after : Written) (status : ℕ) : Type 0 where
   pub status_at_most : status ≤ 1
   pub silent : status ≡ 0 → after.faults ≡ before.faults
   pub written : status ≡ 0 → Appends before.output after.output version_text
-  pub fails : status ≡ 1 → FailsToTellVersion before after
+  pub fails : status ≡ 1 → FailsToWriteVersion before after

@@ -4,7 +4,7 @@ ghost use Rattle.std.specs.Prelude.{IfErr, OnOk};
 ghost use Rattle.std.specs.Io.KnownBytes.{Appends};
 ghost use Rattle.load_run.specs.Causes.{written};
 ghost use Rattle.load_run.specs.Checks.{LeavesLine};
-ghost use Rattle.load_run.specs.Versions.{TellsVersion, version_text};
+ghost use Rattle.load_run.specs.Versions.{WritesVersion, version_text};
 
 use crate::fault::ProgramFault;
 use crate::fault_lines::report_fault;
@@ -17,7 +17,7 @@ use std::io::Write;
 /// memory runs out.
 #[tactic(auto, using(crate::proofs::Telling::version_written, crate::proofs::Telling::version_unwritten))]
 pub fn drive_version<O: Write, F: Write>(alloc: Global, output: &mut O, faults: &mut F) -> u8
-    ensures tells { TellsVersion (written (O.contents output.old) (F.contents faults.old))
+    ensures tells { WritesVersion (written (O.contents output.old) (F.contents faults.old))
         (written (O.contents output.new) (F.contents faults.new)) result }
 {
     match write_version(alloc, output) {

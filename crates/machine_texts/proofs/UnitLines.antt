@@ -13,7 +13,7 @@ use Rattle.mem_machine.specs.Machines.{KnownMachine, IsConsistent, home_of}
 use Rattle.mem_machine.specs.FrameStates.{frame_state_at, unit_of}
 use Rattle.mem_machine.specs.Showing.{ListedUnit, entries_in, listed, seat_with_look, seat_with_looks, units_in, with_look_at, with_looks_at}
 use Rattle.mem_machine.proofs.Listing.{IsListed, apart_mid, after_mid, has_mid, home_inside, listed_is}
-use Rattle.machine_texts.specs.Units.{LooksAtAll, TellsLines, TellsUnits, lines_text, order_at, unit_text, units_text}
+use Rattle.machine_texts.specs.Units.{LooksAtAll, ReadsLines, ReadsUnits, lines_text, order_at, unit_text, units_text}
 use Rattle.std.specs.Option.{option_map_or}
 use Rattle.lru_lists.specs.declared.record.LruList.TheVariants.{Inactive, Active}
 
@@ -196,8 +196,8 @@ has_lines m [] ps some = absurd (omega (arith, some))
 has_lines m (u ∷ us) ps some = refl
 
 -- the lines of the inactive units and then those of the active ones
-pub both_lists : (g : ℕ) (m between n : KnownMachine) (first second all : List ℕ → Type 0) → 0 < length (units_in m g) → TellsLines g Inactive first m between
-    → TellsLines g Active second between n → ((one other : List ℕ) → first one → second other → all (one ++ other)) → TellsUnits g all m n
+pub both_lists : (g : ℕ) (m between n : KnownMachine) (first second all : List ℕ → Type 0) → 0 < length (units_in m g) → ReadsLines g Inactive first m between
+    → ReadsLines g Active second between n → ((one other : List ℕ) → first one → second other → all (one ++ other)) → ReadsUnits g all m n
 both_lists g m between n first second all some inactive active together =
     let one : List ListedUnit = map (listed Inactive) (entries_in m g Inactive) in
     let other : List ListedUnit = map (listed Active) (entries_in m g Active) in

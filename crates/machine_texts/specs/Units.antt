@@ -60,14 +60,14 @@ pub record LooksAtAll (units : List ListedUnit) (pins : List ℕ) (before after 
 
 -- The zone's seat looked once at the word of each kept unit of the group, in order. `tells` holds of the text of these
 -- units, with the numbers of pins that the looks found.
-pub record TellsUnits (group : ℕ) (tells : List ℕ → Type 0) (before after : KnownMachine) : Type 0 where
+pub record ReadsUnits (group : ℕ) (tells : List ℕ → Type 0) (before after : KnownMachine) : Type 0 where
   pub pins : List ℕ
   pub looks : LooksAtAll (units_in before group) pins before after
   pub told : tells (units_text before (units_in before group) pins)
 
 -- The zone's seat looked once at the word of each unit of one of the group's lists, in order. `tells` holds of the
 -- lines of these units, with the numbers of pins that the looks found.
-pub record TellsLines (group : ℕ) (list : LruList) (tells : List ℕ → Type 0)
+pub record ReadsLines (group : ℕ) (list : LruList) (tells : List ℕ → Type 0)
     (before after : KnownMachine) : Type 0 where
   pub pins : List ℕ
   pub looks : LooksAtAll (map (listed list) (entries_in before group list)) pins before after

@@ -3,7 +3,7 @@
 ghost use Rattle.std.specs.Prelude.{◌≡◌, ◌<◌, ◌++◌, [], false, true, IfOk, IsOk, length};
 ghost use Rattle.std.specs.String.{string_bytes};
 ghost use Rattle.mem_machine.specs.Showing.{listed, units_in};
-ghost use Rattle.machine_texts.specs.Units.{TellsLines, TellsUnits, list_text, order_at, pins_text, rest_text};
+ghost use Rattle.machine_texts.specs.Units.{ReadsLines, ReadsUnits, list_text, order_at, pins_text, rest_text};
 ghost use Rattle.machine_texts.specs.Units.{text_if, unit_text};
 
 use cpu_part::{BootName, Tables};
@@ -23,7 +23,7 @@ pub fn write_units<N: BootName>(
     group: GroupId,
     text: &mut String,
 ) -> Result<(), AllocError>
-    ensures units { TellsUnits group
+    ensures units { ReadsUnits group
         (λ shown. IfOk result (λ _. string_bytes text.new ≡ string_bytes text.old ++ shown)) machine.old machine.new }
 {
     if keeps_none(machine, group) {
@@ -53,7 +53,7 @@ fn write_list<N: BootName>(
     list: LruList,
     text: &mut String,
 ) -> Result<(), AllocError>
-    ensures lines { TellsLines group list
+    ensures lines { ReadsLines group list
         (λ shown. IfOk result (λ _. string_bytes text.new ≡ string_bytes text.old ++ shown)) machine.old machine.new }
 {
     let count = machine.list_len(group, list);

@@ -17,7 +17,8 @@ use Rattle.mem_alloc.specs.Stepping.{BySteps, ByStepsOfAny, Transition, transiti
 use Rattle.mem_reclaim.specs.Wanted.{progress}
 use Rattle.mem_reclaim.proofs.Keeping.{keeps_none}
 use Rattle.mem_reclaim.proofs.Moving.{moves_rest}
-use Rattle.mem_alloc.specs.Room.{AfterRoom, ClearsBelow, HasMadeRoom, IsRefusedAt, IsRefusedFor, KillsForFewPages, MakesRoom, ReclaimsBefore, ReclaimsFor, RelievesLimit, TellsRoom}
+use Rattle.mem_alloc.specs.Room.{AfterRoom, ClearsBelow, HasMadeRoom, IsRefusedAt, IsRefusedFor, IsRoomAnswer}
+use Rattle.mem_alloc.specs.Room.{KillsForFewPages, MakesRoom, ReclaimsBefore, ReclaimsFor, RelievesLimit}
 use Rattle.mem_alloc.specs.Room.{with_limit_noted, with_max_noted_at}
 use Rattle.mem_alloc.specs.declared.faults.AllocFault.{AllocFault}
 use Rattle.mem_alloc.specs.Charging.{ChargesOne, FillsStock}
@@ -126,7 +127,7 @@ module _ (t : KnownTable) (g pages : ℕ) (c : KnownCpu) (m x : KnownMachine) (s
   module _ (y z n : KnownMachine) (d e : KnownCpu) (over : ℕ) (same : y ≡ with_watch x y.watch) (mine : d ≡ c) (mine_after : e ≡ c)
       (low : IsLowestOver z.ledger.groups (current_of z.ledger) g pages over) (before_it : z ≡ x)
       (refusing : MakesAs t d.number (visit_state z d) (over_steps g pages over) (visit_state y e)) (relieves : ByStepsOfAny t (RelievesLimit g over pages) y n) where
-    refused : (answer : Result (Unit {0}) AllocFault) → TellsRoom g over pages answer n
+    refused : (answer : Result (Unit {0}) AllocFault) → IsRoomAnswer g over pages answer n
         → IsRefusedAt g over pages answer (transition t x (over_steps g pages over ++ relieves.steps) n)
     refused answer room = record {
       lowest = subst (λ (k : KnownMachine). IsLowestOver k.ledger.groups (current_of k.ledger) g pages over) before_it low;
@@ -163,7 +164,7 @@ module _ (t : KnownTable) (g pages : ℕ) (c : KnownCpu) (m x : KnownMachine) (s
     }
 
     -- or it is refused for good
-    pub so_far_over : (cause : AllocFault) → TellsRoom g over pages (Err cause) n → BySteps t (IsRefusedFor g pages cause) (visit_state m c) (visit_state n c)
+    pub so_far_over : (cause : AllocFault) → IsRoomAnswer g over pages (Err cause) n → BySteps t (IsRefusedFor g pages cause) (visit_state m c) (visit_state n c)
     so_far_over cause is = record {
       steps = so_far.making ++ (over_steps g pages over ++ relieves.steps);
       does = record {

@@ -24,7 +24,7 @@ use Rattle.mem_machine.specs.Steps.{over_steps, drain_list_steps}
 use Rattle.mem_alloc.specs.declared.faults.AllocFault.{AllocFault}
 use Rattle.mem_alloc.specs.declared.faults.AllocFault.TheVariants.{Over, NoFrames, RequesterKilled}
 use Rattle.mem_alloc.specs.Stepping.{BySteps, Transition, transition}
-use Rattle.mem_alloc.specs.Room.{AfterRoom, IsRefusedFor, TellsRoom}
+use Rattle.mem_alloc.specs.Room.{AfterRoom, IsRefusedFor, IsRoomAnswer}
 use Rattle.mem_alloc.specs.Blocks.{AllocatesBlock, ChargesBlock, FindsNoBlock, MayHaveBlock, RetriesBlock}
 use Rattle.mem_alloc.specs.Blocks.{TakesAfterDrain, TakesFreeBlock, TakesInRounds, TakesOrReclaims}
 use Rattle.mem_alloc.proofs.Lowering.{same_visit, lowered_fits, usage_back, room_back}
@@ -108,10 +108,10 @@ fault_of (Err cause) = cause
 
 -- which isn't for want of a free block
 pub over_not_none : (g k over : ℕ) (r : Result ℕ AllocFault) (x : AllocFault) (n : KnownMachine) → r ≡ Err x
-    → TellsRoom g over (2 ^ k) (Err x) n → r ≡ Err NoFrames → ⊥
+    → IsRoomAnswer g over (2 ^ k) (Err x) n → r ≡ Err NoFrames → ⊥
 over_not_none g k over r x n is why none =
     let same : x ≡ NoFrames = sym (ap fault_of is) ∙ ap fault_of none in
-    subst (λ (z : AllocFault). TellsRoom g over (2 ^ k) (Err z) n) same why
+    subst (λ (z : AllocFault). IsRoomAnswer g over (2 ^ k) (Err z) n) same why
 
 -- ---- the list that is returned to the zone
 

@@ -87,12 +87,12 @@ pub record HasMadeRoom (requester limited pages : ℕ) (after : KnownMachine) : 
 
 -- What the answer says after the limit of the group `limited` was relieved for the requester's pages. Ok: the limit has
 -- room for them. Over: it still has none, and the requester isn't killed. RequesterKilled: the requester was killed.
-abbrev pub TellsRoom : ℕ → ℕ → ℕ → Result (Unit {0}) AllocFault → KnownMachine → Type 0
-TellsRoom requester limited pages (Ok done) after = HasMadeRoom requester limited pages after
-TellsRoom requester limited pages (Err (Over named)) after =
+abbrev pub IsRoomAnswer : ℕ → ℕ → ℕ → Result (Unit {0}) AllocFault → KnownMachine → Type 0
+IsRoomAnswer requester limited pages (Ok done) after = HasMadeRoom requester limited pages after
+IsRoomAnswer requester limited pages (Err (Over named)) after =
     (named ≡ limited) × NeedsRoom (Some requester) limited pages after
-TellsRoom requester limited pages (Err RequesterKilled) after = is_killed after.killed requester ≡ true
-TellsRoom requester limited pages (Err NoFrames) after = ⊥
+IsRoomAnswer requester limited pages (Err RequesterKilled) after = is_killed after.killed requester ≡ true
+IsRoomAnswer requester limited pages (Err NoFrames) after = ⊥
 
 -- A charge of this many pages to the group `requester` is refused at the group `limited`, the lowest without room on
 -- its path, which the watch sees. Then that limit is relieved, and this is the answer.
@@ -103,7 +103,7 @@ pub record IsRefusedAt (requester limited pages : ℕ) (answer : Result (Unit {0
   pub seen : KnownWatch
   pub relieves : RelievesLimit requester limited pages
       (transition call.table (with_watch call.before seen) relieving call.after)
-  pub room : TellsRoom requester limited pages answer call.after
+  pub room : IsRoomAnswer requester limited pages answer call.after
   pub steps_are : call.steps ≡ over_steps requester pages limited ++ relieving
 
 -- a charge is refused at each of these groups, one after the other, and each limit then gets room for the pages

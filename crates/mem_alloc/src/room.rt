@@ -4,7 +4,7 @@ ghost use Rattle.std.specs.Prelude.{◌≡◌, ◌<◌, IsTrue};
 ghost use Rattle.group_tree.specs.Bounds.{most_groups};
 ghost use Rattle.group_tree.specs.Groups.{has_group};
 ghost use Rattle.mem_alloc.specs.Stepping.{ByStepsOfAny};
-ghost use Rattle.mem_alloc.specs.Room.{ReclaimsFor, RelievesLimit, TellsRoom, with_limit_noted};
+ghost use Rattle.mem_alloc.specs.Room.{IsRoomAnswer, ReclaimsFor, RelievesLimit, with_limit_noted};
 
 use crate::faults::AllocFault;
 use crate::kills::{has_room_at, kill_for_few};
@@ -66,7 +66,7 @@ pub(crate) fn make_room<N: BootName>(
 ) -> Result<(), AllocFault>
     requires { IsTrue (has_group machine.old.ledger.groups limited) }
     ensures relieves { ByStepsOfAny N.frames (RelievesLimit requester limited pages) machine.old machine.new }
-    ensures room { TellsRoom requester limited pages result machine.new }
+    ensures room { IsRoomAnswer requester limited pages result machine.new }
     ensures below { limited < most_groups }
 {
     let _number = limited.number(); // Called for its contract.

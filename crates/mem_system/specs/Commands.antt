@@ -19,7 +19,7 @@ use Rattle.mem_system.specs.declared.command.Reply.TheVariants.{Done}
 use Rattle.mem_system.specs.Boots.{IsSizedAs}
 use Rattle.mem_system.specs.Groups.{MakesGroup, Removes}
 use Rattle.mem_system.specs.Files.{Reads, Writes}
-use Rattle.mem_system.specs.Owners.{TellsPlace}
+use Rattle.mem_system.specs.Owners.{ReportsPlace}
 use Rattle.mem_system.specs.Units.{TouchesFrame, NotesDirt}
 use Rattle.mem_system.specs.Releases.{ReleasesFrame}
 use Rattle.mem_system.specs.Allocations.{Allocates, FreshOf}
@@ -53,7 +53,7 @@ Executes sizes (Rmdir path) reply call = OfMachineAlone (Removes path.now reply)
 Executes sizes (Write path file value) reply call = OfMachineAlone (Writes path.now file.now value.now reply) call
 Executes sizes (Read path file) reply call = Reads call.before.machine.ledger path.now file.now reply × Stays call
 Executes sizes Settle reply call = (reply ≡ Done) × Stays call
-Executes sizes (Owner frame) reply call = TellsPlace call.before.machine frame reply × Stays call
+Executes sizes (Owner frame) reply call = ReportsPlace call.before.machine frame reply × Stays call
 Executes sizes (Touch frame) reply call = OfMachineAlone (TouchesFrame frame reply) call
 Executes sizes (Dirty frame) reply call = OfMachineAlone (NotesDirt frame true reply) call
 Executes sizes (Clean frame) reply call = OfMachineAlone (NotesDirt frame false reply) call

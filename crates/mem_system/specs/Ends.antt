@@ -151,8 +151,8 @@ pub record HasSeatOf (seats : List KnownStockSeat) (cpu : ℕ) : Type 0 where
   pub number : (view_in seats place).number ≡ cpu
 
 -- the stock words are what the zone's seat and the CPU's seat at this index of the list know of that CPU's stock
-abbrev pub TellsStockAt : (stock_words : List ℕ) → KnownMachine → (seats : List KnownStockSeat) (place : ℕ) → Type 0
-TellsStockAt stock_words machine seats place =
+abbrev pub StockWordsAgreeAt : (stock_words : List ℕ) → KnownMachine → (seats : List KnownStockSeat) (place : ℕ) → Type 0
+StockWordsAgreeAt stock_words machine seats place =
     IsStockOf stock_words (view_in seats place).number machine.stock_seat.view (view_in seats place)
 
 -- Both tables are closed with these seats and the machine's. The machine was consistent, and the frames' words keep the
@@ -166,7 +166,7 @@ pub record IsClosed (table : KnownTable) (stock_table : KnownStockTable) (machin
       ((machine.frame_seat.view ∷ map view_of frame_seats) ∷ [])
   pub stock_words : List ℕ
   pub each : (cpu : ℕ) → 0 < cpu → cpu ≤ stock_table.cpus → HasSeatOf stock_seats cpu
-  pub stocks : (place : ℕ) → place < length stock_seats → TellsStockAt stock_words machine stock_seats place
+  pub stocks : (place : ℕ) → place < length stock_seats → StockWordsAgreeAt stock_words machine stock_seats place
 
 -- The words of the frames' table at the end. They keep the reference rule with the views of all seats. A frame's word
 -- is 1, the zone's reference, if the frame heads a kept unit, else 0.

@@ -8,10 +8,10 @@ use Rattle.mem_system.specs.declared.command.Reply.{Reply}
 use Rattle.mem_system.specs.declared.command.Reply.TheVariants.{Free, Lent, Charged}
 
 -- Owner: the place of the frame, with the path of the group that it is charged to
-abbrev pub TellsPlace : KnownMachine → (frame : ℕ) → Reply → Type 0
-TellsPlace machine frame Free = place_of (frame_state_at machine.frame_states frame) ≡ place.Free
-TellsPlace machine frame (Lent cpu) = place_of (frame_state_at machine.frame_states frame) ≡ place.Lent cpu
-TellsPlace machine frame (Charged group path) =
+abbrev pub ReportsPlace : KnownMachine → (frame : ℕ) → Reply → Type 0
+ReportsPlace machine frame Free = place_of (frame_state_at machine.frame_states frame) ≡ place.Free
+ReportsPlace machine frame (Lent cpu) = place_of (frame_state_at machine.frame_states frame) ≡ place.Lent cpu
+ReportsPlace machine frame (Charged group path) =
     (place_of (frame_state_at machine.frame_states frame) ≡ place.Charged group)
     × (path_of machine.ledger.groups group ≡ Some path)
-TellsPlace machine frame other = ⊥
+ReportsPlace machine frame other = ⊥

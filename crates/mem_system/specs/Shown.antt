@@ -5,7 +5,7 @@ use Rattle.stock_word.specs.Stock.{KnownStockTable}
 use Rattle.mem_system.specs.declared.command.Cmd.TheVariants.{Settle}
 use Rattle.mem_system.specs.declared.command.Reply.TheVariants.{Done}
 use Rattle.cpu_part.specs.Cpus.{KnownCpu}
-use Rattle.machine_texts.specs.Units.{TellsUnits}
+use Rattle.machine_texts.specs.Units.{ReadsUnits}
 use Rattle.mem_machine.specs.Machines.{KnownMachine}
 use Rattle.mem_system.specs.Locked.{KnownLocked, IsSound}
 use Rattle.mem_system.specs.Visits.{LockedState, locked_state, IsServed}
@@ -16,7 +16,7 @@ SettlesCaller table before after = IsServed table Settle Done before after
 
 -- What a text through the lock says. Some sound value was behind the lock, the caller was settled in it, and a sound
 -- value was left. `tells` holds of the machine that was left.
-pub record TellsOf (table : KnownTable) (stock_table : KnownStockTable) (tells : KnownMachine → Type 0)
+pub record ReadsUnderLock (table : KnownTable) (stock_table : KnownStockTable) (tells : KnownMachine → Type 0)
     (before after : KnownCpu) : Type 0 where
   pub found : KnownLocked
   pub left : KnownLocked
@@ -30,11 +30,11 @@ pub record TellsOf (table : KnownTable) (stock_table : KnownStockTable) (tells :
 -- holds of the text of these.
 abbrev pub UnitsAt : Option ℕ → (none : Type 0) → (tells : List ℕ → Type 0) → (before after : KnownMachine) → Type 0
 UnitsAt None none tells before after = none × (after ≡ before)
-UnitsAt (Some group) none tells before after = TellsUnits group tells before after
+UnitsAt (Some group) none tells before after = ReadsUnits group tells before after
 
 -- What a text through the lock says if it needs looks at words. Some sound value was behind the lock, the caller was
 -- settled in it, and a sound value was left. `tells` holds of the settled state and of the machine that the looks left.
-pub record TellsAfterSettling (table : KnownTable) (stock_table : KnownStockTable)
+pub record ReadsAfterSettling (table : KnownTable) (stock_table : KnownStockTable)
     (tells : LockedState → KnownMachine → Type 0)
     (before after : KnownCpu) : Type 0 where
   pub found : KnownLocked

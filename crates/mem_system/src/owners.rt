@@ -2,7 +2,7 @@
 
 ghost use Rattle.std.specs.Prelude.{◌<◌};
 ghost use Rattle.mem_system.specs.Outcomes.{HasItsGroups, reply_of};
-ghost use Rattle.mem_system.specs.Owners.{TellsPlace};
+ghost use Rattle.mem_system.specs.Owners.{ReportsPlace};
 
 use crate::outcome::Outcome;
 use cpu_part::{BootName, Tables};
@@ -15,7 +15,7 @@ pub(crate) fn tell_place<N: BootName>(
     frame: u32,
 ) -> Outcome
     requires { frame < N.frames.frames }
-    ensures told { TellsPlace machine.now frame (reply_of machine.now.ledger result) }
+    ensures told { ReportsPlace machine.now frame (reply_of machine.now.ledger result) }
     ensures groups { HasItsGroups machine.now.ledger result }
 {
     let frame = tables.frames.frame(frame).unwrap();

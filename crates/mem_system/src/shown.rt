@@ -8,7 +8,7 @@ ghost use Rattle.machine_texts.specs.Stock.{stock_line_text};
 ghost use Rattle.mem_machine.specs.Local.{visit_state};
 ghost use Rattle.mem_machine.specs.Stocks.{with_look};
 ghost use Rattle.mem_system.specs.Commands.{IsSettled};
-ghost use Rattle.mem_system.specs.Shown.{TellsAfterSettling, UnitsAt};
+ghost use Rattle.mem_system.specs.Shown.{ReadsAfterSettling, UnitsAt};
 ghost use Rattle.mem_system.specs.Visits.{visit_state_of};
 
 use crate::lock::Locked;
@@ -70,7 +70,7 @@ impl<N: BootName> System<N> {
         cpu: &mut Cpu<N>,
         text: &mut String,
     ) -> Result<(), AllocError>
-        ensures told { TellsAfterSettling N.frames N.stocks (λ settled machine.
+        ensures told { ReadsAfterSettling N.frames N.stocks (λ settled machine.
             (IfOk result (λ _. string_bytes text.new ≡ string_bytes text.old ++ stock_line_text (visit_state_of settled)))
             × (machine ≡ with_look settled.locked.machine)) cpu.old cpu.new }
         ensures settled { IsSettled cpu.new }
@@ -93,7 +93,7 @@ impl<N: BootName> System<N> {
         path: &[u8],
         text: &mut String,
     ) -> Result<bool, AllocError>
-        ensures told { TellsAfterSettling N.frames N.stocks (λ settled machine.
+        ensures told { ReadsAfterSettling N.frames N.stocks (λ settled machine.
             UnitsAt (number_at settled.locked.machine.ledger.groups path.now)
             ((result ≡ Ok false) × (text.new ≡ text.old))
             (λ shown. IfOk result (λ is_there. (is_there ≡ true)

@@ -4,7 +4,7 @@ ghost use Rattle.std.specs.Prelude.{◌≡◌, ◌++◌, IfOk};
 ghost use Rattle.std.specs.String.{string_bytes};
 ghost use Rattle.machine_texts.specs.Blocks.{blocks_text};
 ghost use Rattle.machine_texts.specs.Show.{show_text};
-ghost use Rattle.mem_system.specs.Shown.{SettlesCaller, TellsOf};
+ghost use Rattle.mem_system.specs.Shown.{ReadsUnderLock, SettlesCaller};
 ghost use Rattle.mem_system.specs.Commands.{IsSettled};
 ghost use Rattle.mem_system.specs.Visits.{EndsVisit, locked_state};
 
@@ -64,7 +64,7 @@ impl<N: BootName> System<N> {
         alloc: Global,
         cpu: &mut Cpu<N>,
     ) -> Result<Vec<u8>, AllocError>
-        ensures told { TellsOf N.frames N.stocks
+        ensures told { ReadsUnderLock N.frames N.stocks
             (λ machine. IfOk result (λ text. text.items ≡ show_text machine)) cpu.old cpu.new }
         ensures settled { IsSettled cpu.new }
     {
@@ -80,7 +80,7 @@ impl<N: BootName> System<N> {
         alloc: Global,
         cpu: &mut Cpu<N>,
     ) -> Result<Vec<u8>, AllocError>
-        ensures told { TellsOf N.frames N.stocks
+        ensures told { ReadsUnderLock N.frames N.stocks
             (λ machine. IfOk result (λ text. text.items ≡ blocks_text machine.blocks)) cpu.old cpu.new }
         ensures settled { IsSettled cpu.new }
     {
@@ -96,7 +96,7 @@ impl<N: BootName> System<N> {
         cpu: &mut Cpu<N>,
         text: &mut String,
     ) -> Result<(), AllocError>
-        ensures told { TellsOf N.frames N.stocks (λ machine.
+        ensures told { ReadsUnderLock N.frames N.stocks (λ machine.
             IfOk result (λ _. string_bytes text.new ≡ string_bytes text.old ++ show_text machine)) cpu.old cpu.new }
         ensures settled { IsSettled cpu.new }
     {
@@ -115,7 +115,7 @@ impl<N: BootName> System<N> {
         cpu: &mut Cpu<N>,
         text: &mut String,
     ) -> Result<(), AllocError>
-        ensures told { TellsOf N.frames N.stocks (λ machine.
+        ensures told { ReadsUnderLock N.frames N.stocks (λ machine.
             IfOk result (λ _. string_bytes text.new ≡ string_bytes text.old ++ blocks_text machine.blocks))
             cpu.old cpu.new }
         ensures settled { IsSettled cpu.new }

@@ -4,7 +4,7 @@ use Rattle.std.specs.declared.string.String.{String}
 use Rattle.std.specs.String.{string_bytes}
 use Rattle.frame_word.specs.Seats.{KnownTable}
 use Rattle.cpu_part.specs.Cpus.{KnownCpu}
-use Rattle.machine_texts.specs.Units.{TellsUnits, units_text}
+use Rattle.machine_texts.specs.Units.{ReadsUnits, units_text}
 use Rattle.mem_machine.specs.Local.{local_of}
 use Rattle.mem_machine.specs.Machines.{KnownMachine}
 use Rattle.mem_machine.specs.Showing.{units_in}
@@ -63,7 +63,7 @@ pub record HasText {Z : Type 0} (o : Option ℕ) (refusal : List ℕ) (old new :
   pub is : IsUnitsText o refusal text before after
   pub added : string_bytes new ≡ string_bytes old ++ text
 
-its_text : (g : ℕ) (tells : List ℕ → Type 0) (m n : KnownMachine) → (is : TellsUnits g tells m n) → TellsUnits g (λ shown. units_text m (units_in m g) is.pins ≡ shown) m n
+its_text : (g : ℕ) (tells : List ℕ → Type 0) (m n : KnownMachine) → (is : ReadsUnits g tells m n) → ReadsUnits g (λ shown. units_text m (units_in m g) is.pins ≡ shown) m n
 its_text g tells m n is = record { pins = is.pins; looks = is.looks; told = refl }
 
 -- memory ran out: there is a text, which was not added

@@ -325,14 +325,14 @@ pub record WritesAfterLooks (tells : LockedState → KnownMachine → Type 0) (c
   pub cpu : call.after.cpu ≡ settled.cpu
 
 -- Stock: the text is the line about the settled CPU, with its stock as one look found it
-pub record TellsStock (text : List ℕ) (settled : LockedState) (machine : KnownMachine) : Type 0 where
+pub record IsStockText (text : List ℕ) (settled : LockedState) (machine : KnownMachine) : Type 0 where
   pub text_is : text ≡ stock_line_text (visit_state_of settled)
   pub look : machine ≡ with_look settled.locked.machine
 
 -- Units: the text is that of the kept units of the group of this path, with the pins that one look at each unit's word
 -- found; or no group has the path, and that is refused
-abbrev pub TellsUnitsOf : (path text : List ℕ) (settled : LockedState) (machine : KnownMachine) → Type 0
-TellsUnitsOf path text settled machine =
+abbrev pub IsUnitsText : (path text : List ℕ) (settled : LockedState) (machine : KnownMachine) → Type 0
+IsUnitsText path text settled machine =
     UnitsAt (number_at settled.locked.machine.ledger.groups path)
     (text ≡ answer_text (answer.Served (Refused NoGroup))) (λ shown. text ≡ shown) settled.locked.machine machine
 
@@ -340,8 +340,8 @@ TellsUnitsOf path text settled machine =
 abbrev pub WritesWork : (is_explained : Bool) → Work → Transition LockedState → (text : List ℕ) → Type 0
 WritesWork is_explained Blocks call text = WritesMachine (λ machine. blocks_text machine.blocks) call text
 WritesWork is_explained Show call text = WritesMachine show_text call text
-WritesWork is_explained Stock call text = WritesAfterLooks (TellsStock text) call
-WritesWork is_explained (Units path) call text = WritesAfterLooks (TellsUnitsOf path.now text) call
+WritesWork is_explained Stock call text = WritesAfterLooks (IsStockText text) call
+WritesWork is_explained (Units path) call text = WritesAfterLooks (IsUnitsText path.now text) call
 WritesWork is_explained work call text = WritesAnswer is_explained work call text
 
 -- the answer of a command, as text, by some steps

@@ -14,7 +14,7 @@ use Rattle.mem_system.specs.declared.command.Reply.{Reply}
 use Rattle.mem_system.specs.declared.command.Reply.TheVariants.{Done}
 use Rattle.mem_system.specs.Locked.{BehindLock}
 use Rattle.mem_system.specs.Visits.{locked_state, IsServed, IsVisited}
-use Rattle.mem_system.specs.Shown.{TellsAfterSettling, TellsOf}
+use Rattle.mem_system.specs.Shown.{ReadsAfterSettling, ReadsUnderLock}
 use Rattle.reply_texts.specs.Answer.{Answer}
 use Rattle.reply_texts.specs.Answer as answer
 use Rattle.script_lines.specs.declared.line.Command.{Command}
@@ -24,7 +24,7 @@ use Rattle.script_replay.specs.declared.work.Work.{Work}
 use Rattle.script_replay.specs.declared.work.Work.TheVariants.{Visit, Frame, Fast, Release, Get, Put, Settle}
 use Rattle.script_replay.specs.declared.work.Work.TheVariants.{Blocks, Show, Stock, Units}
 use Rattle.script_replay.specs.Answers.{CanNotList, FindsNoGroup, GetsFast, GetsNoneFast, GetsPin, IsTextOf, ListsAgain}
-use Rattle.script_replay.specs.Answers.{PutsPin, TellsStock, TellsUnitsOf}
+use Rattle.script_replay.specs.Answers.{IsStockText, IsUnitsText, PutsPin}
 use Rattle.script_replay.specs.Lines.{AtPart, InOrder}
 use Rattle.script_replay.specs.Terms.{BootTables}
 use Rattle.script_replay.specs.Works.{work_of}
@@ -97,13 +97,13 @@ AnswersWorkByVisit tables (Units path) before after answer = ⊥
 -- `stock` and `units` also look at words, in the same visit.
 abbrev pub VisitsWork : BootTables → Work → (before after : KnownCpu) (text : List ℕ) → Type 0
 VisitsWork tables Blocks before after text =
-    TellsOf tables.frames tables.stocks (λ machine. text ≡ blocks_text machine.blocks) before after
+    ReadsUnderLock tables.frames tables.stocks (λ machine. text ≡ blocks_text machine.blocks) before after
 VisitsWork tables Show before after text =
-    TellsOf tables.frames tables.stocks (λ machine. text ≡ show_text machine) before after
-VisitsWork tables Stock before after text = TellsAfterSettling tables.frames tables.stocks (TellsStock text) before
+    ReadsUnderLock tables.frames tables.stocks (λ machine. text ≡ show_text machine) before after
+VisitsWork tables Stock before after text = ReadsAfterSettling tables.frames tables.stocks (IsStockText text) before
     after
 VisitsWork tables (Units path) before after text =
-    TellsAfterSettling tables.frames tables.stocks (TellsUnitsOf path.now text) before after
+    ReadsAfterSettling tables.frames tables.stocks (IsUnitsText path.now text) before after
 VisitsWork tables work before after text =
     IsTextOf (λ answer. AnswersWorkByVisit tables work before after answer) text
 

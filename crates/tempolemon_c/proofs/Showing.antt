@@ -17,7 +17,7 @@ use Rattle.handles.specs.declared.calls.FileText.{FileText}
 use Rattle.handles.specs.Calls.{Calls, ShowsFile, file_reply}
 use Rattle.handles.specs.Known.{KnownLive}
 use Rattle.tempolemon_c.specs.declared.told.Told.{Told}
-use Rattle.tempolemon_c.specs.Calls.{CallsInto, HasGroupsBehind, PutsAnswer, TellsAnswer, TellsValue}
+use Rattle.tempolemon_c.specs.Calls.{CallsInto, HasGroupsBehind, PutsAnswer, ReturnsAnswer, ReturnsValue}
 use Rattle.tempolemon_c.specs.Handles.{LiveBoot, OnBoot, live_boot}
 use Rattle.tempolemon_c.specs.Statuses.{most_refusal}
 use Rattle.tempolemon_c.specs.Words.{status_of, told_of}
@@ -27,7 +27,7 @@ use Rattle.tempolemon_c.proofs.Numbers.{status_low}
 pub plain_told : (boot : Option LiveBoot) (value : AnswerValue) (status : ℕ) (told : Told) (buffer : List ℕ)
     → ((ledger : Ledger) → status ≡ status_of (answer_of ledger value)) → ((ledger : Ledger) → told ≡ told_of (answer_of ledger value))
     → ((ledger : Ledger) (buffer : List ℕ) → PutsAnswer (answer_of ledger value) buffer buffer)
-    → IfSome boot (TellsValue value status told buffer buffer)
+    → IfSome boot (ReturnsValue value status told buffer buffer)
 plain_told None value status told buffer status_is told_is no_text = tt
 plain_told (Some boot) value status told buffer status_is told_is no_text = let ledger = boot.live.state.locked.machine.ledger in record {
   status_is = status_is ledger;
@@ -42,11 +42,11 @@ module _ (group : ℕ) (file : File) (shown : FileText) (before after : Option L
   stays = on.is ∙ (ap (λ (live : KnownLive). Some (live_boot on.frames on.stocks live)) on.done.stays ∙ sym on.was)
 
   -- what is told of what a file shows is that of the reply to a read of it
-  pub tells : (status : ℕ) (told : Told) (old new : List ℕ) → TellsAnswer (answer.Served (file_reply shown)) status told old new
-      → IfSome before (TellsValue (Served (outcome.Text group file)) status told old new)
+  pub tells : (status : ℕ) (told : Told) (old new : List ℕ) → ReturnsAnswer (answer.Served (file_reply shown)) status told old new
+      → IfSome before (ReturnsValue (Served (outcome.Text group file)) status told old new)
   tells status told old new told_so =
-      subst (λ (b : Option LiveBoot). IfSome b (TellsValue (Served (outcome.Text group file)) status told old new))
-      (sym on.was) (subst (λ (r : Reply). TellsAnswer (answer.Served r) status told old new) on.done.reply_is told_so)
+      subst (λ (b : Option LiveBoot). IfSome b (ReturnsValue (Served (outcome.Text group file)) status told old new))
+      (sym on.was) (subst (λ (r : Reply). ReturnsAnswer (answer.Served r) status told old new) on.done.reply_is told_so)
 
 module _ (cpu : ℕ) (asked : Call) (value : AnswerValue) (before mid : Option LiveBoot)
     (on : OnBoot (λ frames stocks from to. Calls frames stocks cpu asked from to (call.Served value)) before mid) where
@@ -56,11 +56,11 @@ module _ (cpu : ℕ) (asked : Call) (value : AnswerValue) (before mid : Option L
 
   -- and what is told of it is that of the call's answer
   pub value_called : (after : Option LiveBoot) (status : ℕ) (told : Told) (old new : List ℕ) → after ≡ mid
-      → IfSome mid (TellsValue value status told old new) → CallsInto cpu asked before after status told old new
+      → IfSome mid (ReturnsValue value status told old new) → CallsInto cpu asked before after status told old new
   value_called after status told old new same shown =
       let answer : Answer = on.done.tells.answer in
-      let shows : TellsAnswer (answer_of on.to.state.locked.machine.ledger value) status told old new =
-      subst (λ (b : Option LiveBoot). IfSome b (TellsValue value status told old new)) on.is shown in
+      let shows : ReturnsAnswer (answer_of on.to.state.locked.machine.ledger value) status told old new =
+      subst (λ (b : Option LiveBoot). IfSome b (ReturnsValue value status told old new)) on.is shown in
       let status_is : status ≡ status_of answer = shows.status_is ∙ ap status_of (sym on.done.tells.is_answer.1) in
       let low : status ≤ most_refusal = subst (λ (k : ℕ). k ≤ most_refusal) (sym status_is) (status_low answer) in record {
         statuses = inl low;

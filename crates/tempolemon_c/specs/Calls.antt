@@ -63,15 +63,15 @@ PutsAnswer (answer.Served reply) old new = PutsReply reply old new
 PutsAnswer other old new = new ≡ old
 
 -- the status, what is told, and what the buffer gets are those of this answer
-pub record TellsAnswer (answer : Answer) (status : ℕ) (told : Told) (old new : List ℕ) : Type 0 where
+pub record ReturnsAnswer (answer : Answer) (status : ℕ) (told : Told) (old new : List ℕ) : Type 0 where
   pub status_is : status ≡ status_of answer
   pub told_is : told ≡ told_of answer
   pub buffer : PutsAnswer answer old new
 
 -- the same of the answer that is this value, with the texts that the boot gives it
-abbrev pub TellsValue : AnswerValue → (status : ℕ) → Told → (old new : List ℕ) → LiveBoot → Type 0
-TellsValue value status told old new boot =
-    TellsAnswer (answer_of boot.live.state.locked.machine.ledger value) status told old new
+abbrev pub ReturnsValue : AnswerValue → (status : ℕ) → Told → (old new : List ℕ) → LiveBoot → Type 0
+ReturnsValue value status told old new boot =
+    ReturnsAnswer (answer_of boot.live.state.locked.machine.ledger value) status told old new
 
 -- the boot has the groups whose paths or files are the answer
 abbrev pub HasGroupsBehind : AnswerValue → LiveBoot → Type 0

@@ -4,7 +4,7 @@ ghost use Rattle.std.specs.Prelude.{◌≡◌, IfSome, IsSomeAnd};
 ghost use Rattle.mem_system.specs.declared.outcome.Outcome.TheVariants.{Text};
 ghost use Rattle.script_replay.specs.declared.answer_value.AnswerValue.TheVariants.{Served};
 ghost use Rattle.tempolemon_c.specs.Behind.{behind};
-ghost use Rattle.tempolemon_c.specs.Calls.{CallsHost, CallsInto, HasFileBehind, HasGroupsBehind, TellsValue};
+ghost use Rattle.tempolemon_c.specs.Calls.{CallsHost, CallsInto, HasFileBehind, HasGroupsBehind, ReturnsValue};
 
 use crate::buffers::put_answers;
 use crate::handle::Handle;
@@ -69,7 +69,7 @@ fn tell_value(
 ) -> u8
     requires there { IsSomeAnd (behind handle.old) (HasGroupsBehind value.now) }
     ensures stays { behind handle.new ≡ behind handle.old }
-    ensures told { IfSome (behind handle.old) (TellsValue value.now result told.new buffer.old buffer.new) }
+    ensures told { IfSome (behind handle.old) (ReturnsValue value.now result told.new buffer.old buffer.new) }
 {
     match *value {
         AnswerValue::Served(Outcome::Text(group, file)) => {
@@ -97,7 +97,7 @@ fn tell_file(
     requires there { IsSomeAnd (behind handle.old) (HasFileBehind group file) }
     ensures stays { behind handle.new ≡ behind handle.old }
     ensures told { IfSome (behind handle.old)
-        (TellsValue (Served (Text group file)) result told.new buffer.old buffer.new) }
+        (ReturnsValue (Served (Text group file)) result told.new buffer.old buffer.new) }
 {
     match handle.show(alloc, group, file) {
         FileText::Text(text) => {

@@ -4,7 +4,7 @@ use Rattle.group_tree.specs.Groups.{has_group}
 use Rattle.group_tree.proofs.CallerLemmas.{in_subtree-above}
 use Rattle.mem_machine.specs.Machines.{KnownMachine}
 use Rattle.mem_alloc.specs.Stepping.{ByStepsOfAny}
-use Rattle.mem_alloc.specs.Room.{HasMadeRoom, RelievesLimit, TellsRoom, has_room_at}
+use Rattle.mem_alloc.specs.Room.{HasMadeRoom, IsRoomAnswer, RelievesLimit, has_room_at}
 use Rattle.mem_alloc.proofs.Lowering.{Lowers, lowered_visit, lowers_both, usages_fall, watched_lowers}
 use Rattle.mem_alloc.proofs.Killing.{relieving_lowers}
 use Rattle.mem_alloc.proofs.Making.{answer_is, so_far_more, so_far_none, so_far_over}
@@ -84,7 +84,7 @@ returns-in_err-make_room-in-Err-Over-clause-charges g c =
     (so_far_over t c.args.group (2 ^ c.args.order) c.args.cpu.now c.args.machine.now c.tries.machine c.tries.invariant.0 c.take_block.new.self c.tries.machine
     c.make_room.new.machine c.tries.cpu c.take_block.new.cpu c.in-Err-Over.over.group r.1 c.tries.invariant.1
     (c.in-Err-Over.ensures.cpu ∙ c.tries.invariant.1) r.0 refl run relieves x
-    (subst (λ (n : ℕ). TellsRoom c.args.group c.in-Err-Over.over.group n (Err x) c.make_room.new.machine) c.frames-pages.ensures.frames
+    (subst (λ (n : ℕ). IsRoomAnswer c.args.group c.in-Err-Over.over.group n (Err x) c.make_room.new.machine) c.frames-pages.ensures.frames
     c.in_err-make_room-in-Err-Over.ensures.room))
 
 pub returns-in_err-make_room-in-Err-Over-clause-visit : goal.returns-in_err-make_room-in-Err-Over-clause-visit
@@ -105,7 +105,7 @@ returns-in_err-make_room-in-Err-Over-clause-room g c none =
     let is : IfErr c.from_residual.result (λ e. e ≡ x) = search rules in
     absurd (over_not_none c.args.group c.args.order c.in-Err-Over.over.group c.from_residual.result x c.make_room.new.machine
     (answer_is c.from_residual.result x c.from_residual.ensures.0 is)
-    (subst (λ (n : ℕ). TellsRoom c.args.group c.in-Err-Over.over.group n (Err x) c.make_room.new.machine) c.frames-pages.ensures.frames
+    (subst (λ (n : ℕ). IsRoomAnswer c.args.group c.in-Err-Over.over.group n (Err x) c.make_room.new.machine) c.frames-pages.ensures.frames
     c.in_err-make_room-in-Err-Over.ensures.room) none)
 
 pub tries-init : goal.tries-init
