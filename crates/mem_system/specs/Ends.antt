@@ -151,7 +151,8 @@ pub record HasSeatOf (seats : List KnownStockSeat) (cpu : ℕ) : Type 0 where
   pub number : (view_in seats place).number ≡ cpu
 
 -- the stock words are what the zone's seat and the CPU's seat at this index of the list know of that CPU's stock
-abbrev pub StockWordsAgreeAt : (stock_words : List ℕ) → KnownMachine → (seats : List KnownStockSeat) (place : ℕ) → Type 0
+abbrev pub StockWordsAgreeAt : (stock_words : List ℕ) → KnownMachine → (seats : List KnownStockSeat) (place : ℕ)
+    → Type 0
 StockWordsAgreeAt stock_words machine seats place =
     IsStockOf stock_words (view_in seats place).number machine.stock_seat.view (view_in seats place)
 

@@ -331,8 +331,8 @@ pub record IsStockText (text : List ℕ) (settled : LockedState) (machine : Know
 
 -- Units: the text is that of the kept units of the group of this path, with the pins that one look at each unit's word
 -- found; or no group has the path, and that is refused
-abbrev pub IsUnitsText : (path text : List ℕ) (settled : LockedState) (machine : KnownMachine) → Type 0
-IsUnitsText path text settled machine =
+abbrev pub IsUnitsTextOf : (path text : List ℕ) (settled : LockedState) (machine : KnownMachine) → Type 0
+IsUnitsTextOf path text settled machine =
     UnitsAt (number_at settled.locked.machine.ledger.groups path)
     (text ≡ answer_text (answer.Served (Refused NoGroup))) (λ shown. text ≡ shown) settled.locked.machine machine
 
@@ -341,7 +341,7 @@ abbrev pub WritesWork : (is_explained : Bool) → Work → Transition LockedStat
 WritesWork is_explained Blocks call text = WritesMachine (λ machine. blocks_text machine.blocks) call text
 WritesWork is_explained Show call text = WritesMachine show_text call text
 WritesWork is_explained Stock call text = WritesAfterLooks (IsStockText text) call
-WritesWork is_explained (Units path) call text = WritesAfterLooks (IsUnitsText path.now text) call
+WritesWork is_explained (Units path) call text = WritesAfterLooks (IsUnitsTextOf path.now text) call
 WritesWork is_explained work call text = WritesAnswer is_explained work call text
 
 -- the answer of a command, as text, by some steps

@@ -24,7 +24,7 @@ use Rattle.script_replay.specs.declared.work.Work.{Work}
 use Rattle.script_replay.specs.declared.work.Work.TheVariants.{Visit, Frame, Fast, Release, Get, Put, Settle}
 use Rattle.script_replay.specs.declared.work.Work.TheVariants.{Blocks, Show, Stock, Units}
 use Rattle.script_replay.specs.Answers.{CanNotList, FindsNoGroup, GetsFast, GetsNoneFast, GetsPin, IsTextOf, ListsAgain}
-use Rattle.script_replay.specs.Answers.{IsStockText, IsUnitsText, PutsPin}
+use Rattle.script_replay.specs.Answers.{IsStockText, IsUnitsTextOf, PutsPin}
 use Rattle.script_replay.specs.Lines.{AtPart, InOrder}
 use Rattle.script_replay.specs.Terms.{BootTables}
 use Rattle.script_replay.specs.Works.{work_of}
@@ -103,7 +103,7 @@ VisitsWork tables Show before after text =
 VisitsWork tables Stock before after text = ReadsAfterSettling tables.frames tables.stocks (IsStockText text) before
     after
 VisitsWork tables (Units path) before after text =
-    ReadsAfterSettling tables.frames tables.stocks (IsUnitsText path.now text) before after
+    ReadsAfterSettling tables.frames tables.stocks (IsUnitsTextOf path.now text) before after
 VisitsWork tables work before after text =
     IsTextOf (λ answer. AnswersWorkByVisit tables work before after answer) text
 
