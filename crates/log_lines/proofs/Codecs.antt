@@ -6,7 +6,8 @@ use Rattle.std.proofs.lemmas.Fmt.{decimal_is_IsNumeral}
 use Rattle.std.proofs.lemmas.Str.Parse.{digit_from_value}
 use Rattle.std.specs.Str.Parse.{AllDigits}
 use Rattle.std.proofs.lemmas.Slice.Eq.{bytes_eq-Decides}
-use Rattle.log_lines.specs.Words.{Size, Wide, OfGroup, OfOrder, bound_of, Word, Numeral, Path, Fits, word_text, is_path, number, group, order, limit, flag}
+use Rattle.log_lines.specs.Words.{Size, Wide, GroupAction, OrderAction, bound_of, Word, Numeral, Path, Fits, word_text}
+use Rattle.log_lines.specs.Words.{is_path, number, group, order, limit, flag}
 use Rattle.log_lines.specs.Reading.{◌>>=◌, Reads, first_of, only_if, number_of, u32_of, wide_at, number_at, group_at, order_at, limit_of, limit_at, flag_of, flag_at, path_at}
 use Rattle.log_lines.proofs.Numbers.{number_again, number_is, only_if_is}
 
@@ -162,11 +163,11 @@ small_codec size le = record {
 
 pub group_codec : IsCodec group_at (λ g. group g ∷ [])
 unfolding group_at
-group_codec = small_codec OfGroup (omega arith)
+group_codec = small_codec GroupAction (omega arith)
 
 pub order_codec : IsCodec order_at (λ k. order k ∷ [])
 unfolding order_at
-order_codec = small_codec OfOrder (omega arith)
+order_codec = small_codec OrderAction (omega arith)
 
 -- ---- words that are no numbers
 

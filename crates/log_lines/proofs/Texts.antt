@@ -9,7 +9,9 @@ use Rattle.std.proofs.lemmas.List.Splits.{join_with_byte-slice_split, slice_spli
 use Rattle.std.proofs.lemmas.List.Sums.{fails_before_first}
 use Rattle.std.proofs.lemmas.Str.Parse.{digit_from_value}
 use Rattle.std.specs.Str.Parse.{AllDigits}
-use Rattle.log_lines.specs.Words.{Size, Wide, Narrow, OfGroup, OfOrder, bound_of, Word, Fixed, Numeral, Path, Fits, is_graphic, is_no_space, spaced, word_text}
+use Rattle.log_lines.specs.Words.{Size, Wide, Narrow, GroupAction, OrderAction, bound_of, Word, Fixed, Numeral, Path}
+use Rattle.log_lines.specs.Words.{Fits}
+use Rattle.log_lines.specs.Words.{is_graphic, is_no_space, spaced, word_text}
 use Rattle.group_tree.specs.Bounds.{longest_path}
 use Rattle.log_lines.specs.Reading.{is_end, words_left, words_of}
 use Rattle.log_lines.proofs.Codecs.{AllFit, not_true, texts}
@@ -92,8 +94,8 @@ digits_no_space (c ∷ cs) a (suc k) d h = digits_no_space cs a.1 k d (omega ari
 small_bound : (size : Size) → bound_of size ≤ 2 ^ 64
 small_bound Wide = omega arith
 small_bound Narrow = omega arith
-small_bound OfGroup = omega arith
-small_bound OfOrder = omega arith
+small_bound GroupAction = omega arith
+small_bound OrderAction = omega arith
 
 -- a number that fits is below 2 ^ 64
 pub numeral_small : (size : Size) (n : ℕ) → n < bound_of size → n < 2 ^ 64

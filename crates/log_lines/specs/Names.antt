@@ -4,15 +4,16 @@ use Rattle.std.specs.Map.{lookup}
 use Rattle.step_rules.specs.declared.step.Action.{Action}
 use Rattle.step_rules.specs.declared.step.Action.TheVariants as action
 use Rattle.step_rules.specs.declared.step.Answer.TheVariants as answer
-use Rattle.log_lines.specs.declared.name.OfNumber.{OfNumber}
-use Rattle.log_lines.specs.declared.name.OfNumber.TheVariants.{Open, Shut, Get, Put, TakeIn, PassBack, Credit, Report}
-use Rattle.log_lines.specs.declared.name.OfNumber.TheVariants.{Absorb, Drain, Publish, Return}
-use Rattle.log_lines.specs.declared.name.OfNumbers.{OfNumbers}
-use Rattle.log_lines.specs.declared.name.OfNumbers.TheVariants.{Freeze, Unfreeze, PassOut, Collect}
-use Rattle.log_lines.specs.declared.name.OfGroup.{OfGroup}
-use Rattle.log_lines.specs.declared.name.OfGroup.TheVariants.{Consume, NoteMax, NoteOom, GroupKill, Remove, Kill}
-use Rattle.log_lines.specs.declared.name.OfPages.{OfPages}
-use Rattle.log_lines.specs.declared.name.OfPages.TheVariants.{Grant, Ungrant}
+use Rattle.log_lines.specs.declared.name.NumberAction.{NumberAction}
+use Rattle.log_lines.specs.declared.name.NumberAction.TheVariants.{Open, Shut, Get, Put, TakeIn, PassBack, Credit}
+use Rattle.log_lines.specs.declared.name.NumberAction.TheVariants.{Report}
+use Rattle.log_lines.specs.declared.name.NumberAction.TheVariants.{Absorb, Drain, Publish, Return}
+use Rattle.log_lines.specs.declared.name.NumbersAction.{NumbersAction}
+use Rattle.log_lines.specs.declared.name.NumbersAction.TheVariants.{Freeze, Unfreeze, PassOut, Collect}
+use Rattle.log_lines.specs.declared.name.GroupAction.{GroupAction}
+use Rattle.log_lines.specs.declared.name.GroupAction.TheVariants.{Consume, NoteMax, NoteOom, GroupKill, Remove, Kill}
+use Rattle.log_lines.specs.declared.name.PagesAction.{PagesAction}
+use Rattle.log_lines.specs.declared.name.PagesAction.TheVariants.{Grant, Ungrant}
 use Rattle.log_lines.specs.declared.name.ActionName.{ActionName}
 use Rattle.log_lines.specs.declared.name.ActionName.TheVariants.{Lock, Unlock, Number, Numbers, Group, Pages, Fill}
 use Rattle.log_lines.specs.declared.name.ActionName.TheVariants.{Place, Limit, Flag, Make}
@@ -60,7 +61,7 @@ abbrev pub answer_named : List ℕ → Option AnswerName
 answer_named word = lookup (λ name. bytes_eq name word) answer_names
 
 -- an action with a number
-abbrev pub action_of_number : OfNumber → ℕ → Action
+abbrev pub action_of_number : NumberAction → ℕ → Action
 action_of_number Open n = action.OpenVisit n
 action_of_number Shut n = action.ShutVisit n
 action_of_number Get n = action.Get n
@@ -75,14 +76,14 @@ action_of_number Publish n = action.Publish n
 action_of_number Return n = action.Return n
 
 -- an action with a frame, and a count or a CPU
-abbrev pub action_of_numbers : OfNumbers → ℕ → ℕ → Action
+abbrev pub action_of_numbers : NumbersAction → ℕ → ℕ → Action
 action_of_numbers Freeze m n = action.Freeze m n
 action_of_numbers Unfreeze m n = action.Unfreeze m n
 action_of_numbers PassOut m n = action.PassOut m n
 action_of_numbers Collect m n = action.Collect m n
 
 -- an action with a group
-abbrev pub action_of_group : OfGroup → ℕ → Action
+abbrev pub action_of_group : GroupAction → ℕ → Action
 action_of_group Consume g = action.Consume g
 action_of_group NoteMax g = action.NoteMax g
 action_of_group NoteOom g = action.NoteOom g
@@ -91,6 +92,6 @@ action_of_group Remove g = action.Remove g
 action_of_group Kill g = action.Kill g
 
 -- an action with a group and pages
-abbrev pub action_of_pages : OfPages → ℕ → ℕ → Action
+abbrev pub action_of_pages : PagesAction → ℕ → ℕ → Action
 action_of_pages Grant g n = action.Grant g n
 action_of_pages Ungrant g n = action.Ungrant g n

@@ -19,15 +19,15 @@ use Rattle.step_rules.specs.declared.step.Answer.TheVariants as answer
 pub data Size : Type 0 where
   Wide : Size
   Narrow : Size
-  OfGroup : Size
-  OfOrder : Size
+  GroupAction : Size
+  OrderAction : Size
 
 -- numbers of a kind are below this
 abbrev pub bound_of : Size → ℕ
 bound_of Wide = 2 ^ 64
 bound_of Narrow = 2 ^ 32
-bound_of OfGroup = most_groups
-bound_of OfOrder = 11
+bound_of GroupAction = most_groups
+bound_of OrderAction = 11
 
 -- a word: a fixed one, a number, or the path of a group
 pub data Word : Type 0 where
@@ -71,11 +71,11 @@ number n = Numeral Narrow n
 
 -- the number of a group
 abbrev pub group : ℕ → Word
-group g = Numeral OfGroup g
+group g = Numeral GroupAction g
 
 -- the order of a block
 abbrev pub order : ℕ → Word
-order k = Numeral OfOrder k
+order k = Numeral OrderAction k
 
 -- a limit in pages, or `max` for none
 abbrev pub limit : Option ℕ → Word

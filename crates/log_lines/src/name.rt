@@ -10,7 +10,7 @@ use step_rules::step::{Action, Answer};
 
 /// An action with one number: a frame, a CPU or a number of pages.
 #[derive(Clone, Copy)]
-pub(crate) enum OfNumber {
+pub(crate) enum NumberAction {
     Open,
     Shut,
     Get,
@@ -27,7 +27,7 @@ pub(crate) enum OfNumber {
 
 /// An action with two numbers: a frame, and a count or a CPU.
 #[derive(Clone, Copy)]
-pub(crate) enum OfNumbers {
+pub(crate) enum NumbersAction {
     Freeze,
     Unfreeze,
     PassOut,
@@ -36,7 +36,7 @@ pub(crate) enum OfNumbers {
 
 /// An action with a group.
 #[derive(Clone, Copy)]
-pub(crate) enum OfGroup {
+pub(crate) enum GroupAction {
     Consume,
     NoteMax,
     NoteOom,
@@ -47,7 +47,7 @@ pub(crate) enum OfGroup {
 
 /// An action with a group and a number of pages.
 #[derive(Clone, Copy)]
-pub(crate) enum OfPages {
+pub(crate) enum PagesAction {
     Grant,
     Ungrant,
 }
@@ -57,10 +57,10 @@ pub(crate) enum OfPages {
 pub(crate) enum ActionName {
     Lock,
     Unlock,
-    Number(OfNumber),
-    Numbers(OfNumbers),
-    Group(OfGroup),
-    Pages(OfPages),
+    Number(NumberAction),
+    Numbers(NumbersAction),
+    Group(GroupAction),
+    Pages(PagesAction),
     Fill,
     Place,
     Limit,
@@ -82,30 +82,30 @@ pub(crate) enum AnswerName {
 const ACTION_NAMES: [(&[u8], ActionName); 31] = [
     (b"lock", ActionName::Lock),
     (b"unlock", ActionName::Unlock),
-    (b"open", ActionName::Number(OfNumber::Open)),
-    (b"shut", ActionName::Number(OfNumber::Shut)),
-    (b"get", ActionName::Number(OfNumber::Get)),
-    (b"put", ActionName::Number(OfNumber::Put)),
-    (b"take-in", ActionName::Number(OfNumber::TakeIn)),
-    (b"pass-back", ActionName::Number(OfNumber::PassBack)),
-    (b"credit", ActionName::Number(OfNumber::Credit)),
-    (b"report", ActionName::Number(OfNumber::Report)),
-    (b"absorb", ActionName::Number(OfNumber::Absorb)),
-    (b"drain", ActionName::Number(OfNumber::Drain)),
-    (b"publish", ActionName::Number(OfNumber::Publish)),
-    (b"return", ActionName::Number(OfNumber::Return)),
-    (b"freeze", ActionName::Numbers(OfNumbers::Freeze)),
-    (b"unfreeze", ActionName::Numbers(OfNumbers::Unfreeze)),
-    (b"pass-out", ActionName::Numbers(OfNumbers::PassOut)),
-    (b"collect", ActionName::Numbers(OfNumbers::Collect)),
-    (b"consume", ActionName::Group(OfGroup::Consume)),
-    (b"note-max", ActionName::Group(OfGroup::NoteMax)),
-    (b"note-oom", ActionName::Group(OfGroup::NoteOom)),
-    (b"group-kill", ActionName::Group(OfGroup::GroupKill)),
-    (b"remove", ActionName::Group(OfGroup::Remove)),
-    (b"kill", ActionName::Group(OfGroup::Kill)),
-    (b"grant", ActionName::Pages(OfPages::Grant)),
-    (b"ungrant", ActionName::Pages(OfPages::Ungrant)),
+    (b"open", ActionName::Number(NumberAction::Open)),
+    (b"shut", ActionName::Number(NumberAction::Shut)),
+    (b"get", ActionName::Number(NumberAction::Get)),
+    (b"put", ActionName::Number(NumberAction::Put)),
+    (b"take-in", ActionName::Number(NumberAction::TakeIn)),
+    (b"pass-back", ActionName::Number(NumberAction::PassBack)),
+    (b"credit", ActionName::Number(NumberAction::Credit)),
+    (b"report", ActionName::Number(NumberAction::Report)),
+    (b"absorb", ActionName::Number(NumberAction::Absorb)),
+    (b"drain", ActionName::Number(NumberAction::Drain)),
+    (b"publish", ActionName::Number(NumberAction::Publish)),
+    (b"return", ActionName::Number(NumberAction::Return)),
+    (b"freeze", ActionName::Numbers(NumbersAction::Freeze)),
+    (b"unfreeze", ActionName::Numbers(NumbersAction::Unfreeze)),
+    (b"pass-out", ActionName::Numbers(NumbersAction::PassOut)),
+    (b"collect", ActionName::Numbers(NumbersAction::Collect)),
+    (b"consume", ActionName::Group(GroupAction::Consume)),
+    (b"note-max", ActionName::Group(GroupAction::NoteMax)),
+    (b"note-oom", ActionName::Group(GroupAction::NoteOom)),
+    (b"group-kill", ActionName::Group(GroupAction::GroupKill)),
+    (b"remove", ActionName::Group(GroupAction::Remove)),
+    (b"kill", ActionName::Group(GroupAction::Kill)),
+    (b"grant", ActionName::Pages(PagesAction::Grant)),
+    (b"ungrant", ActionName::Pages(PagesAction::Ungrant)),
     (b"fill", ActionName::Fill),
     (b"place", ActionName::Place),
     (b"limit", ActionName::Limit),
@@ -160,72 +160,72 @@ fn named<T: Copy>(names: &[(&[u8], T)], word: &[u8]) -> Option<T>
     None
 }
 
-impl OfNumber {
+impl NumberAction {
     /// The action with this number.
     pub(crate) fn with(self, number: u32) -> Action
         ensures { result ≡ action_of_number self number }
     {
         match self {
-            OfNumber::Open => Action::OpenVisit { cpu: number },
-            OfNumber::Shut => Action::ShutVisit { cpu: number },
-            OfNumber::Get => Action::Get { frame: number },
-            OfNumber::Put => Action::Put { frame: number },
-            OfNumber::TakeIn => Action::TakeIn { frame: number },
-            OfNumber::PassBack => Action::PassBack { frame: number },
-            OfNumber::Credit => Action::Credit { frame: number },
-            OfNumber::Report => Action::Report { pages: number },
-            OfNumber::Absorb => Action::Absorb { cpu: number },
-            OfNumber::Drain => Action::DrainStock { cpu: number },
-            OfNumber::Publish => Action::Publish { frame: number },
-            OfNumber::Return => Action::Return { frame: number },
+            NumberAction::Open => Action::OpenVisit { cpu: number },
+            NumberAction::Shut => Action::ShutVisit { cpu: number },
+            NumberAction::Get => Action::Get { frame: number },
+            NumberAction::Put => Action::Put { frame: number },
+            NumberAction::TakeIn => Action::TakeIn { frame: number },
+            NumberAction::PassBack => Action::PassBack { frame: number },
+            NumberAction::Credit => Action::Credit { frame: number },
+            NumberAction::Report => Action::Report { pages: number },
+            NumberAction::Absorb => Action::Absorb { cpu: number },
+            NumberAction::Drain => Action::DrainStock { cpu: number },
+            NumberAction::Publish => Action::Publish { frame: number },
+            NumberAction::Return => Action::Return { frame: number },
         }
     }
 }
 
-impl OfNumbers {
+impl NumbersAction {
     /// The action with this frame and this number.
     pub(crate) fn with(self, frame: u32, number: u32) -> Action
         ensures { result ≡ action_of_numbers self frame number }
     {
         match self {
-            OfNumbers::Freeze => Action::Freeze {
+            NumbersAction::Freeze => Action::Freeze {
                 frame,
                 count: number,
             },
-            OfNumbers::Unfreeze => Action::Unfreeze {
+            NumbersAction::Unfreeze => Action::Unfreeze {
                 frame,
                 count: number,
             },
-            OfNumbers::PassOut => Action::PassOut { frame, cpu: number },
-            OfNumbers::Collect => Action::Collect { frame, cpu: number },
+            NumbersAction::PassOut => Action::PassOut { frame, cpu: number },
+            NumbersAction::Collect => Action::Collect { frame, cpu: number },
         }
     }
 }
 
-impl OfGroup {
+impl GroupAction {
     /// The action with this group.
     pub(crate) fn with(self, group: GroupId) -> Action
         ensures { result ≡ action_of_group self group }
     {
         match self {
-            OfGroup::Consume => Action::Consume { group },
-            OfGroup::NoteMax => Action::NoteMax { group },
-            OfGroup::NoteOom => Action::NoteOom { group },
-            OfGroup::GroupKill => Action::NoteGroupKill { group },
-            OfGroup::Remove => Action::Remove { group },
-            OfGroup::Kill => Action::Kill { group },
+            GroupAction::Consume => Action::Consume { group },
+            GroupAction::NoteMax => Action::NoteMax { group },
+            GroupAction::NoteOom => Action::NoteOom { group },
+            GroupAction::GroupKill => Action::NoteGroupKill { group },
+            GroupAction::Remove => Action::Remove { group },
+            GroupAction::Kill => Action::Kill { group },
         }
     }
 }
 
-impl OfPages {
+impl PagesAction {
     /// The action with this group and these pages.
     pub(crate) fn with(self, group: GroupId, pages: u32) -> Action
         ensures { result ≡ action_of_pages self group pages }
     {
         match self {
-            OfPages::Grant => Action::Grant { group, pages },
-            OfPages::Ungrant => Action::Ungrant { group, pages },
+            PagesAction::Grant => Action::Grant { group, pages },
+            PagesAction::Ungrant => Action::Ungrant { group, pages },
         }
     }
 }
