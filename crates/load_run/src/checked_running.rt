@@ -74,7 +74,7 @@ pub fn check_on_boot<N: BootName>(
         return Err(CheckFault::IllegalEnd);
     }
     let told = with_end(alloc, answers, end, is_audited)?;
-    Ok(tell_steps(alloc, told, seen.steps)?)
+    Ok(with_steps(alloc, told, seen.steps)?)
 }
 
 // Replays the lines with a check of each step, and ends the boot, also if the replay stopped.
@@ -100,7 +100,7 @@ fn check_and_end_boot<N: BootName>(
 }
 
 // The answers, and after them the number of steps that were checked.
-fn tell_steps(alloc: Global, mut answers: Vec<u8>, steps: u64) -> Result<Vec<u8>, AllocError>
+fn with_steps(alloc: Global, mut answers: Vec<u8>, steps: u64) -> Result<Vec<u8>, AllocError>
     ensures told { IfOk result (λ text. text.items ≡ answers.items ++ checked_text steps) }
 {
     let mut told = String::new(alloc);

@@ -9,7 +9,7 @@ use crate::allocations::allocate;
 use crate::files::{read_file, write_file};
 use crate::groups::{make_group, remove_group};
 use crate::outcome::Outcome;
-use crate::owners::tell_place;
+use crate::owners::report_place;
 use crate::releases::release_frame;
 use crate::units::{note_dirt, touch_frame};
 use control_files::text::ArrayText;
@@ -129,7 +129,7 @@ pub(crate) fn execute<N: BootName>(
         Cmd::Write { path, file, value } => write_file(machine, tables, path, file, value),
         Cmd::Read { path, file } => read_file(machine.charges(), path, file),
         Cmd::Settle => Outcome::Done,
-        Cmd::Owner { frame } => tell_place(machine, tables, *frame),
+        Cmd::Owner { frame } => report_place(machine, tables, *frame),
         Cmd::Touch { frame } => touch_frame(machine, tables, *frame),
         Cmd::Dirty { frame } => note_dirt(machine, tables, *frame, true),
         Cmd::Clean { frame } => note_dirt(machine, tables, *frame, false),

@@ -44,7 +44,7 @@ pub enum Outcome {
 // Turns the outcome into its reply. It is inlined, because a reply has room for a path: returning one by value clears
 // and copies that room.
 #[inline(always)]
-pub(crate) fn tell(charges: &Charges, outcome: Outcome, reply: &mut Reply)
+pub(crate) fn set_reply(charges: &Charges, outcome: Outcome, reply: &mut Reply)
     requires { HasItsGroups charges.now outcome }
     ensures { reply.new ≡ reply_of charges.now outcome }
 {

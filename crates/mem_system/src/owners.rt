@@ -9,7 +9,7 @@ use cpu_part::{BootName, Tables};
 use mem_machine::{Machine, Place};
 
 // The place of the frame: free, lent to a CPU, or charged to a group.
-pub(crate) fn tell_place<N: BootName>(
+pub(crate) fn report_place<N: BootName>(
     machine: &Machine<N>,
     tables: &Tables<N>,
     frame: u32,

@@ -11,7 +11,7 @@ ghost use Rattle.mem_system.specs.Visits.{EndsVisit, ServesOutcome, ServesFrameO
 use crate::allocations::outcome_of;
 use crate::command::{Cmd, Reply, execute};
 use crate::lock::Locked;
-use crate::outcome::{Outcome, tell};
+use crate::outcome::{Outcome, set_reply};
 use cpu_part::{BootName, Cpu, Tables};
 use group_tree::group::GroupId;
 use mem_alloc::alloc_frame;
@@ -59,7 +59,7 @@ pub(crate) fn serve_into<N: BootName>(
     ensures ends { EndsVisit N.frames (locked_state locked.old cpu.old) (locked_state locked.new cpu.new) }
 {
     let outcome = serve_outcome(locked, tables, cpu, cmd);
-    tell(locked.charges(), outcome, reply);
+    set_reply(locked.charges(), outcome, reply);
 }
 
 /// Serves one command of the CPU, which holds the lock, as `serve_outcome` does, and returns its reply with texts. A

@@ -69,7 +69,7 @@ returns g c =
         whole_is = refl;
         legal = saw.legal;
         promise = saw.promise;
-        text_is = c.in_ok-tell_steps.ensures.told ∙ (ap (λ (l : List ℕ). l ++ checked_text steps) c.in_ok-told.ensures.told
+        text_is = c.in_ok-with_steps.ensures.told ∙ (ap (λ (l : List ℕ). l ++ checked_text steps) c.in_ok-told.ensures.told
             ∙ (append_assoc answers ending (checked_text steps)
             ∙ ap (λ (n : ℕ). answers ++ (ending ++ checked_text n)) (ended.ends.steps ∙ saw.count)));
       };

@@ -1,5 +1,5 @@
 use Rattle.std.proofs.Common.{rules}
-use Rattle.mem_system.proofs.outcome.tell.Goals as goal
+use Rattle.mem_system.proofs.outcome.set_reply.Goals as goal
 
 pub returns-in-Charged : goal.returns-in-Charged
 returns-in-Charged c = search rules

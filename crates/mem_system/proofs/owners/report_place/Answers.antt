@@ -4,7 +4,7 @@ use Rattle.mem_machine.specs.declared.frame_state.Place.TheVariants as place
 use Rattle.mem_machine.specs.FrameStates.{frame_state_at, place_of}
 use Rattle.mem_machine.proofs.Keepers.{keeper_there}
 use Rattle.mem_system.proofs.Telling.{path_told}
-use Rattle.mem_system.proofs.owners.tell_place.Goals as goal
+use Rattle.mem_system.proofs.owners.report_place.Goals as goal
 
 pub returns-in-Charged-clause-told : goal.returns-in-Charged-clause-told
 returns-in-Charged-clause-told g c =
