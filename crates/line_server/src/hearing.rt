@@ -11,7 +11,7 @@ use std::io::Read;
 
 /// A line that was read.
 #[derive(Drop)]
-pub enum SessionLine {
+pub enum Heard {
     /// A line with this text.
     Text(Vec<u8>),
     /// A line that is too long.
@@ -19,19 +19,19 @@ pub enum SessionLine {
 }
 
 /// Reads the next line. None if the session ends with it: the line is `quit`, or the input has ended.
-pub fn next_line<I: Read>(alloc: Global, input: &mut I) -> Result<Option<SessionLine>, ServeFault>
+pub fn hear<I: Read>(alloc: Global, input: &mut I) -> Result<Option<Heard>, ServeFault>
     ensures heard { IfOk result (Hears (I.remaining input.old) (I.remaining input.new)) }
     ensures fault { IfErr result IsReadFault }
 {
     let mut line = Vec::new(alloc);
     match read_line(input, &mut line)? {
         Found::End => Ok(None),
-        Found::TooLong => Ok(Some(SessionLine::TooLong)),
+        Found::TooLong => Ok(Some(Heard::TooLong)),
         Found::Line => {
             if is_quit(&line) {
                 Ok(None)
             } else {
-                Ok(Some(SessionLine::Text(line)))
+                Ok(Some(Heard::Text(line)))
             }
         }
     }

@@ -12,7 +12,7 @@ ghost use Rattle.line_server.specs.Lines.{text_of};
 ghost use Rattle.line_server.specs.Turns.{AddsAnswer, ServesAtMost, WritesTurn};
 
 use crate::fault::ServeFault;
-use crate::hearing::{SessionLine, next_line};
+use crate::hearing::{Heard, hear};
 use crate::refusing::refuse_text;
 use cpu_part::{BootName, Cpu, Tables};
 use line_streams::write_and_flush;
@@ -160,7 +160,7 @@ impl<N: BootName> Server<N> {
             self.old.state self.new.state (O.contents output.old) (O.contents output.new)) }
         ensures terms { KeepsTerms self.old self.new }
     {
-        let Some(heard) = next_line(alloc, input)? else {
+        let Some(heard) = hear(alloc, input)? else {
             return Ok(false);
         };
         let answer = self.answer(alloc, &heard)?;
@@ -171,7 +171,7 @@ impl<N: BootName> Server<N> {
     }
 
     // Serves a line, and returns its answer with an empty line behind it.
-    fn answer(&mut self, alloc: Global, heard: &SessionLine) -> Result<String, AllocError>
+    fn answer(&mut self, alloc: Global, heard: &Heard) -> Result<String, AllocError>
         ensures answered { IfOk result (λ answer. WritesTurn (terms_of N.frames N.stocks self.old) self.old.sizes
             (text_of heard.now) self.old.state self.new.state (string_bytes answer)) }
         ensures failed { OnErr result
@@ -188,7 +188,7 @@ impl<N: BootName> Server<N> {
     fn add_answer(
         &mut self,
         alloc: Global,
-        heard: &SessionLine,
+        heard: &Heard,
         answer: &mut String,
     ) -> Result<(), AllocError>
         ensures answered { OnOk result (AddsAnswer (terms_of N.frames N.stocks self.old) self.old.sizes
@@ -198,8 +198,8 @@ impl<N: BootName> Server<N> {
         ensures terms { KeepsTerms self.old self.new }
     {
         match heard {
-            SessionLine::Text(text) => self.add_answer_to_text(alloc, text, answer),
-            SessionLine::TooLong => answer.push_str("bad: line too long\n"),
+            Heard::Text(text) => self.add_answer_to_text(alloc, text, answer),
+            Heard::TooLong => answer.push_str("bad: line too long\n"),
         }
     }
 
