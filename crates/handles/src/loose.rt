@@ -19,12 +19,12 @@ impl<T, A: Allocator> Model for Loose<T, A> {
 
 impl<T, A: Allocator> Loose<T, A> {
     /// The parts of a box.
-    pub fn of(b: Box<T, A>) -> Loose<T, A>
+    pub fn of(boxed: Box<T, A>) -> Loose<T, A>
     where
         T: Drop,
-        ensures { result.value ≡ b.value }
+        ensures { result.value ≡ boxed.value }
     {
-        let (ptr, alloc) = Box::into_raw_with_allocator(b);
+        let (ptr, alloc) = Box::into_raw_with_allocator(boxed);
         Loose { ptr, alloc }
     }
 

@@ -1,4 +1,4 @@
--- The accounts of the groups that are there change one after another (for `follow`).
+-- The accounts of the groups that are there change one after another (for `update_accounts`).
 use Rattle.std.proofs.Common.{◌≡◌, ◌≢◌, ℕ, ◌+◌, ◌<◌, ◌||◌, Bool, true, false, cond, eqb, List, length, take, get_or, set, refl, sym, ◌∙◌}
 use Rattle.std.proofs.Common.{ap, subst, arith, inl, inr}
 use Rattle.std.specs.Prelude.{AllPairs}

@@ -60,7 +60,7 @@ fn makes_group(group: GroupId, action: &Action, answer: &Answer) -> bool
 }
 
 // The events of a group and of all groups below it after a step.
-fn events_below(
+fn subtree_events(
     rows: &Rows,
     action: &Action,
     answer: &Answer,
@@ -85,7 +85,12 @@ fn events_below(
 }
 
 // The events of a group itself after a step.
-fn events_here(action: &Action, answer: &Answer, group: GroupId, events: EventCounts) -> EventCounts
+fn local_events(
+    action: &Action,
+    answer: &Answer,
+    group: GroupId,
+    events: EventCounts,
+) -> EventCounts
     ensures { result ≡ events_after (λ h. h == group) group action.now answer.now events }
 {
     if makes_group(group, action, answer) {
@@ -146,13 +151,18 @@ fn account_after(
 {
     Account {
         peak: peak_after(rows, action, answer, group, account.peak),
-        events: events_below(rows, action, answer, group, account.events),
-        events_local: events_here(action, answer, group, account.events_local),
+        events: subtree_events(rows, action, answer, group, account.events),
+        events_local: local_events(action, answer, group, account.events_local),
     }
 }
 
 /// Updates the account of each existing group for the step that led to these rows.
-pub(crate) fn follow(rows: &Rows, action: &Action, answer: &Answer, accounts: &mut Vec<Account>)
+pub(crate) fn update_accounts(
+    rows: &Rows,
+    action: &Action,
+    answer: &Answer,
+    accounts: &mut Vec<Account>,
+)
     requires fits { FitsZone rows.now }
     requires bounded { IsBelowBounds (state_in rows.now) }
     requires length { vec_len accounts.old ≡ most_groups }

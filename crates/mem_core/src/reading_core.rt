@@ -13,7 +13,7 @@ ghost use Rattle.zone_sizes.specs.Config.{IsValidConfig};
 mod readers;
 
 use crate::account::Account;
-use crate::accounts::{follow, new_accounts};
+use crate::accounts::{new_accounts, update_accounts};
 use crate::free_areas::set_areas;
 use core_rows::rows::Rows;
 use core_steps::serve::{pages_asked, serve};
@@ -91,7 +91,7 @@ impl Core {
         if let Answer::Illegal = answer {
             return answer;
         }
-        follow(&self.rows, &step.action, &answer, &mut self.accounts);
+        update_accounts(&self.rows, &step.action, &answer, &mut self.accounts);
         set_areas(&self.rows, &mut self.free, &mut self.areas);
         answer
     }

@@ -69,7 +69,7 @@ pub drained_one : (t : KnownTable) (test : List Group → Option ℕ → Bool) (
     → ((c : KnownCpu) → MakesAs t c.number (visit_state m c) (drain_steps q (stock_group m q) pages) (visit_state n c)) → DrainsBySteps t (DrainsIf test q) pages m n
 drained_one t test q pages m n below drains steps = record {
   drains = record { cpu = q; group = stock_group m q; pages = pages } ∷ [];
-  all = (below, record { cpu = refl; group = refl; drains = drains });
+  all = (below, record { same_cpu = refl; group = refl; drains = drains });
   sum = omega arith;
   steps = λ c. subst (λ (r : Run). MakesAs t c.number (visit_state m c) r (visit_state n c))
       (sym (append-nil (drain_steps q (stock_group m q) pages))) (steps c);

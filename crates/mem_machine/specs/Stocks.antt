@@ -74,10 +74,10 @@ pub record DrainsNoted (steps cpu pages : ℕ) (before after : KnownMachine) : T
   pub noted : after.notes ≡ noted before.notes (Stock cpu pages)
 
 -- the CPU's stock is drained after a look found its group, and `drain` is that drain
-pub record DrainsOne (number : ℕ) (drain : Drain) (before after : KnownMachine) : Type 0 where
-  pub cpu : drain.cpu ≡ number
-  pub group : drain.group ≡ stock_group before number
-  pub drains : DrainsNoted (steps_to_drain (stock_group before number)) number drain.pages before after
+pub record DrainsOne (cpu : ℕ) (drain : Drain) (before after : KnownMachine) : Type 0 where
+  pub same_cpu : drain.cpu ≡ cpu
+  pub group : drain.group ≡ stock_group before cpu
+  pub drains : DrainsNoted (steps_to_drain (stock_group before cpu)) cpu drain.pages before after
 
 -- which stocks a call drains: a test of the existing groups and of a stock's group
 abbrev pub StockTest : Type 0

@@ -119,7 +119,8 @@ impl<N: BootName> Machine<N> {
     {
         let mut pages = 0;
         for cpu_index in 0..tables.frames.cpus() {
-            pages += u64::from(self.drain_if_below(tables, cpu_index + 1, group));
+            let cpu = cpu_index + 1;
+            pages += u64::from(self.drain_if_below(tables, cpu, group));
         }
         pages
     }
@@ -145,7 +146,8 @@ impl<N: BootName> Machine<N> {
     {
         let mut pages = 0;
         for cpu_index in 0..tables.frames.cpus() {
-            pages += u64::from(self.drain_if_own(tables, cpu_index + 1, group));
+            let cpu = cpu_index + 1;
+            pages += u64::from(self.drain_if_own(tables, cpu, group));
         }
         pages
     }

@@ -28,8 +28,8 @@ serve-answer-requires-clause-bounded c =
     let few = c.self.invariant.few in
     ready c.self.inside.rows (c.self.inside.steps * 2 ^ 32) (omega arith) c.self.invariant.fits c.self.invariant.sound c.self.invariant.bounded
 
-pub follow-requires-clause-bounded : goal.follow-requires-clause-bounded
-follow-requires-clause-bounded c =
+pub update_accounts-requires-clause-bounded : goal.update_accounts-requires-clause-bounded
+update_accounts-requires-clause-bounded c =
     let s = rows.state_in c.self.inside.rows in
     let n = c.self.inside.steps in
     let seat = c.args.step.seat in
@@ -68,8 +68,8 @@ invariant_of-self-2 c =
       sound = subst IsSound (sym state) (sound_after s seat action answer c.self.invariant.sound c.serve-answer.ensures.allowed);
       homed = subst IsHomed (sym state) (homes_allowed s seat action answer c.self.invariant.sound c.self.invariant.homed c.serve-answer.ensures.allowed);
       bounded = subst (λ (m : ℕ). IsBounded m t) count (subst (IsBounded (n * 2 ^ 32 + 2 ^ 32)) (sym state) bounded);
-      accounts = c.follow.ensures.length;
-      peaks = c.follow.ensures.small;
+      accounts = c.update_accounts.ensures.length;
+      peaks = c.update_accounts.ensures.small;
       few = subst (λ (x : CoreState). x.steps + 1 < 2 ^ 64) (sym c.self.view_is) c.requires;
       frames = c.set_areas.ensures.frames ∙ c.self.invariant.frames ∙ sym frames;
       room = let a = c.set_areas.ensures.room in let b = c.self.invariant.room in omega arith;
@@ -88,7 +88,7 @@ returns-clause-state c =
       rows = c.serve-answer.new.rows;
       free = c.set_areas.new.free;
       accounts =
-          c.follow.new.accounts;
+          c.update_accounts.new.accounts;
       areas = c.set_areas.new.areas;
       steps = c.self.inside.steps + 1;
     } in
@@ -114,7 +114,7 @@ returns-clause-shows c run shows =
       rows = c.serve-answer.new.rows;
       free = c.set_areas.new.free;
       accounts =
-          c.follow.new.accounts;
+          c.update_accounts.new.accounts;
       areas = c.set_areas.new.areas;
       steps = c.self.inside.steps + 1;
     } in
@@ -122,10 +122,10 @@ returns-clause-shows c run shows =
     (ap (λ (x : CoreState). x.steps + 1) c.self.view_is) (returns-clause-state c)
     (subst (λ (old : List Account). AccountsFollow
     (after (state_shown c.args.self.now) c.args.step.seat c.args.step.action c.serve-answer.result) c.args.step.action
-    c.serve-answer.result old c.follow.new.accounts.items)
+    c.serve-answer.result old c.update_accounts.new.accounts.items)
     (ap (λ (x : CoreState). x.accounts) c.self.view_is)
     (subst (λ (t : State). AccountsFollow t c.args.step.action c.serve-answer.result c.self.inside.accounts.items
-    c.follow.new.accounts.items) (sym (shown_is inside) ∙ returns-clause-state c) c.follow.ensures.follow))
+    c.update_accounts.new.accounts.items) (sym (shown_is inside) ∙ returns-clause-state c) c.update_accounts.ensures.follow))
 
 pub returns-clause-promise : goal.returns-clause-promise
 returns-clause-promise c run shows =
@@ -133,7 +133,7 @@ returns-clause-promise c run shows =
       rows = c.serve-answer.new.rows;
       free = c.set_areas.new.free;
       accounts =
-          c.follow.new.accounts;
+          c.update_accounts.new.accounts;
       areas = c.set_areas.new.areas;
       steps = c.self.inside.steps + 1;
     } in

@@ -7,7 +7,7 @@ use Rattle.group_tree.specs.Groups.{AreGroups}
 use Rattle.core_rows.specs.Shown.{state_in}
 use Rattle.mem_core.specs.Accounts.{Account, account_after}
 use Rattle.mem_core.proofs.AccountLemmas.{AreChanged, AreChanged-none, AreChanged-step, AreChanged-there}
-use Rattle.mem_core.proofs.accounts.follow.Goals as goal
+use Rattle.mem_core.proofs.accounts.update_accounts.Goals as goal
 
 pub loop-row-init : goal.loop-row-init
 loop-row-init c = record {

@@ -3,7 +3,7 @@ use Rattle.std.proofs.Common.{◌≡◌, take, vec_len}
 use Rattle.core_rows.specs.Shown.{state_in}
 use Rattle.mem_core.specs.Accounts.{account_after, HaveSmallPeaks}
 use Rattle.mem_core.proofs.AccountLemmas.{AreChanged}
-use Rattle.mem_core.proofs.accounts.follow.Given as goal
+use Rattle.mem_core.proofs.accounts.update_accounts.Given as goal
 
 abbrev pub invariant-loop-row : goal.invariant-loop-row
 invariant-loop-row l = record {
