@@ -11,17 +11,17 @@ use Rattle.kill_notes.specs.declared.note.Note.TheVariants.{Victim, GroupKill, K
 use Rattle.kill_texts.specs.Lines.{line_text}
 
 -- the note says that a stock was drained, that a round of reclaim was made, or that a group was killed
-abbrev pub is_deed : Note → Bool
-is_deed (Stock cpu pages) = true
-is_deed (Round number returned missed pages usage) = true
-is_deed (Kill g returned pages pinned left usage) = true
-is_deed (Limit g max usage need) = false
-is_deed (Zone order) = false
-is_deed (Asked g pages) = false
-is_deed (Reclaimed g first last) = false
-is_deed (Oom g) = false
-is_deed (Victim victim candidates next) = false
-is_deed (GroupKill g number) = false
+abbrev pub is_attempt : Note → Bool
+is_attempt (Stock cpu pages) = true
+is_attempt (Round number returned missed pages usage) = true
+is_attempt (Kill g returned pages pinned left usage) = true
+is_attempt (Limit g max usage need) = false
+is_attempt (Zone order) = false
+is_attempt (Asked g pages) = false
+is_attempt (Reclaimed g first last) = false
+is_attempt (Oom g) = false
+is_attempt (Victim victim candidates next) = false
+is_attempt (GroupKill g number) = false
 
 -- The usage under the limit whose stocks are drained, after a note. A limit gives its usage, each of its stocks takes
 -- off what it had, and after any other note there is none.
@@ -52,4 +52,4 @@ left_out_text frames = if frames == 0 then [] else (codes "# reclaimed " ++ deci
 -- removed, if it removed one.
 abbrev pub explanation_text : List Group → (gone : List ℕ) → List Note → (left_out : ℕ) → List ℕ
 explanation_text groups gone notes left_out =
-    if list_any is_deed notes then lines_text groups gone None notes ++ left_out_text left_out else []
+    if list_any is_attempt notes then lines_text groups gone None notes ++ left_out_text left_out else []

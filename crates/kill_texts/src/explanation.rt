@@ -3,7 +3,7 @@
 ghost use Rattle.std.specs.Prelude.{◌≡◌, ◌++◌, IfOk, None};
 ghost use Rattle.std.specs.List.{list_any};
 ghost use Rattle.std.specs.String.{string_bytes};
-ghost use Rattle.kill_texts.specs.Explanation.{explanation_text, is_deed, left_out_text, lines_text, usage_after};
+ghost use Rattle.kill_texts.specs.Explanation.{explanation_text, is_attempt, left_out_text, lines_text, usage_after};
 
 use crate::lines::write_line;
 use crate::parts::push_count;
@@ -25,7 +25,7 @@ pub fn write_explanation(
     ensures { IfOk result (λ _. string_bytes text.new
         ≡ string_bytes text.old ++ explanation_text tree.now gone.now notes.now left_out) }
 {
-    if has_deed(notes) {
+    if has_attempt(notes) {
         write_lines(tree, gone, notes, text)?;
         write_left_out(left_out, text)
     } else {
@@ -34,14 +34,14 @@ pub fn write_explanation(
 }
 
 // Whether a stock was drained, a round of reclaim made, or a group killed.
-fn has_deed(notes: &[Note]) -> bool
-    ensures { result ≡ list_any is_deed notes.now }
+fn has_attempt(notes: &[Note]) -> bool
+    ensures { result ≡ list_any is_attempt notes.now }
 {
-    notes.iter().any(is_deed)
+    notes.iter().any(is_attempt)
 }
 
-fn is_deed(note: &Note) -> bool
-    ensures { result ≡ is_deed note.now }
+fn is_attempt(note: &Note) -> bool
+    ensures { result ≡ is_attempt note.now }
 {
     matches!(
         note,

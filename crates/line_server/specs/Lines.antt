@@ -8,8 +8,8 @@ use Rattle.script_lint.specs.Findings.{IsFoundInText}
 use Rattle.script_lint.specs.Texts.{cause_text}
 use Rattle.script_lint.specs.declared.finding.Finding.{Finding}
 use Rattle.line_streams.specs.Lines.{first_text, longest_line}
-use Rattle.line_server.specs.declared.hearing.Heard.{Heard}
-use Rattle.line_server.specs.declared.hearing.Heard.TheVariants as heard
+use Rattle.line_server.specs.declared.input_line.InputLine.{InputLine}
+use Rattle.line_server.specs.declared.input_line.InputLine.TheVariants as input_line
 
 -- ---- what is read
 -- whether a line ends the session
@@ -17,9 +17,9 @@ abbrev pub is_quit : List ℕ → Bool
 is_quit text = pointwise nat_eq text (codes "quit")
 
 -- the text of a line; None if the line is too long
-abbrev pub text_of : Heard → Option (List ℕ)
-text_of (heard.Text text) = Some text.items
-text_of heard.TooLong = None
+abbrev pub text_of : InputLine → Option (List ℕ)
+text_of (input_line.Text text) = Some text.items
+text_of input_line.TooLong = None
 
 -- the first line of these bytes has this text, and isn't `quit`; or it is too long
 abbrev pub IsFirstLine : (bytes : List ℕ) → (text : Option (List ℕ)) → Type 0
@@ -36,10 +36,10 @@ pub record ReadsLine (text : Option (List ℕ)) (before after : Option (List ℕ
 abbrev pub EndsAt : (bytes : List ℕ) → Type 0
 EndsAt bytes = (bytes ≡ []) ⊎ (is_quit (first_text bytes) ≡ true)
 
--- what was heard at known bytes: the end of the session, or the first line
-abbrev pub Hears : (before after : Option (List ℕ)) → Option Heard → Type 0
-Hears before after None = IfSome before EndsAt
-Hears before after (Some heard) = ReadsLine (text_of heard) before after
+-- what was read of known bytes: the end of the session, or the first line
+abbrev pub ReadsInputLine : (before after : Option (List ℕ)) → Option InputLine → Type 0
+ReadsInputLine before after None = IfSome before EndsAt
+ReadsInputLine before after (Some line) = ReadsLine (text_of line) before after
 
 -- ---- a bad line
 -- the answer to a bad line

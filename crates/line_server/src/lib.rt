@@ -3,7 +3,7 @@
 #![tactic(auto)]
 
 pub mod fault;
-mod hearing;
+mod input_line;
 mod refusing;
 pub mod server;
 

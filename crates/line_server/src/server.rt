@@ -12,7 +12,7 @@ ghost use Rattle.line_server.specs.Lines.{text_of};
 ghost use Rattle.line_server.specs.Turns.{AddsAnswer, ServesAtMost, WritesTurn};
 
 use crate::fault::ServeFault;
-use crate::hearing::{Heard, hear};
+use crate::input_line::{InputLine, read_input_line};
 use crate::refusing::refuse_text;
 use cpu_part::{BootName, Cpu, Tables};
 use line_streams::write_and_flush;
@@ -160,10 +160,10 @@ impl<N: BootName> Server<N> {
             self.old.state self.new.state (O.contents output.old) (O.contents output.new)) }
         ensures terms { KeepsTerms self.old self.new }
     {
-        let Some(heard) = hear(alloc, input)? else {
+        let Some(input_line) = read_input_line(alloc, input)? else {
             return Ok(false);
         };
-        let answer = self.answer(alloc, &heard)?;
+        let answer = self.answer(alloc, &input_line)?;
         match write_and_flush(answer.as_bytes(), output) {
             Ok(()) => Ok(true),
             Err(_) => Err(ServeFault::Output),
@@ -171,15 +171,15 @@ impl<N: BootName> Server<N> {
     }
 
     // Serves a line, and returns its answer with an empty line behind it.
-    fn answer(&mut self, alloc: Global, heard: &Heard) -> Result<String, AllocError>
+    fn answer(&mut self, alloc: Global, input_line: &InputLine) -> Result<String, AllocError>
         ensures answered { IfOk result (λ answer. WritesTurn (terms_of N.frames N.stocks self.old) self.old.sizes
-            (text_of heard.now) self.old.state self.new.state (string_bytes answer)) }
+            (text_of input_line.now) self.old.state self.new.state (string_bytes answer)) }
         ensures failed { OnErr result
             (ServesAtMost (terms_of N.frames N.stocks self.old) self.old.state self.new.state) }
         ensures terms { KeepsTerms self.old self.new }
     {
         let mut answer = String::new(alloc);
-        self.add_answer(alloc, heard, &mut answer)?;
+        self.add_answer(alloc, input_line, &mut answer)?;
         answer.push_str("\n")?;
         Ok(answer)
     }
@@ -188,18 +188,18 @@ impl<N: BootName> Server<N> {
     fn add_answer(
         &mut self,
         alloc: Global,
-        heard: &Heard,
+        input_line: &InputLine,
         answer: &mut String,
     ) -> Result<(), AllocError>
         ensures answered { OnOk result (AddsAnswer (terms_of N.frames N.stocks self.old) self.old.sizes
-            (text_of heard.now) self.old.state self.new.state (string_bytes answer.old) (string_bytes answer.new)) }
+            (text_of input_line.now) self.old.state self.new.state (string_bytes answer.old) (string_bytes answer.new)) }
         ensures failed { OnErr result
             (ServesAtMost (terms_of N.frames N.stocks self.old) self.old.state self.new.state) }
         ensures terms { KeepsTerms self.old self.new }
     {
-        match heard {
-            Heard::Text(text) => self.add_answer_to_text(alloc, text, answer),
-            Heard::TooLong => answer.push_str("bad: line too long\n"),
+        match input_line {
+            InputLine::Text(text) => self.add_answer_to_text(alloc, text, answer),
+            InputLine::TooLong => answer.push_str("bad: line too long\n"),
         }
     }
 

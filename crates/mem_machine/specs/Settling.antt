@@ -160,7 +160,7 @@ pub record Settles (before after : VisitState) : Type 0 where
 
 -- ---- the steps
 
--- the steps by which the zone takes over a fresh frame, whose page is booked to the stock no longer
+-- the steps by which the zone takes over a fresh frame, after which its page is no longer booked to the stock
 abbrev pub collect_steps : ℕ → ℕ → Run
 collect_steps cpu frame =
     cpu_makes cpu (PassBack frame) Done

@@ -58,7 +58,7 @@ pub(crate) fn serve_into(
     }
 }
 
-// Tells the answer of a call, and writes the text of a file into the buffer, if that has room for it.
+// Tells the answer, and writes the text of a file into the buffer, if that has room for it.
 #[tactic(auto, using(crate::proofs::Showing::plain_told))]
 fn tell_value(
     alloc: Global,

@@ -2,7 +2,7 @@
 
 ghost use Rattle.std.specs.Prelude.{◌≡◌, IfErr, IfOk};
 ghost use Rattle.line_server.specs.Faults.{IsReadFault};
-ghost use Rattle.line_server.specs.Lines.{Hears, is_quit};
+ghost use Rattle.line_server.specs.Lines.{ReadsInputLine, is_quit};
 
 use crate::fault::ServeFault;
 use line_streams::{Found, read_line};
@@ -11,7 +11,7 @@ use std::io::Read;
 
 /// A line that was read.
 #[derive(Drop)]
-pub enum Heard {
+pub enum InputLine {
     /// A line with this text.
     Text(Vec<u8>),
     /// A line that is too long.
@@ -19,19 +19,22 @@ pub enum Heard {
 }
 
 /// Reads the next line. None if the session ends with it: the line is `quit`, or the input has ended.
-pub fn hear<I: Read>(alloc: Global, input: &mut I) -> Result<Option<Heard>, ServeFault>
-    ensures heard { IfOk result (Hears (I.remaining input.old) (I.remaining input.new)) }
+pub fn read_input_line<I: Read>(
+    alloc: Global,
+    input: &mut I,
+) -> Result<Option<InputLine>, ServeFault>
+    ensures read { IfOk result (ReadsInputLine (I.remaining input.old) (I.remaining input.new)) }
     ensures fault { IfErr result IsReadFault }
 {
     let mut line = Vec::new(alloc);
     match read_line(input, &mut line)? {
         Found::End => Ok(None),
-        Found::TooLong => Ok(Some(Heard::TooLong)),
+        Found::TooLong => Ok(Some(InputLine::TooLong)),
         Found::Line => {
             if is_quit(&line) {
                 Ok(None)
             } else {
-                Ok(Some(Heard::Text(line)))
+                Ok(Some(InputLine::Text(line)))
             }
         }
     }
