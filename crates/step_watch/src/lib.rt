@@ -5,6 +5,7 @@
 
 pub mod laws;
 mod made_steps;
+mod taken_steps;
 mod watch;
 
 pub use watch::Watch;

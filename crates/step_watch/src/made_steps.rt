@@ -1,5 +1,5 @@
-//! How the watch takes the steps that the machine makes: one call for each kind of step and answer. Each tests first
-//! whether the watch is on. An action has room for a path, so it is built only behind that test.
+//! How the watch takes the steps that the machine makes: one call for each kind of step and answer. Each only tests
+//! whether the watch is on, so that a step costs nearly nothing if it is off. The rest is in `taken_steps`.
 
 ghost use Rattle.std.specs.Prelude.{◌∷◌, []};
 ghost use Rattle.step_rules.specs.declared.step.Action.TheVariants.{Absorb, Collect, Consume, DrainStock};
@@ -14,7 +14,6 @@ ghost use Rattle.step_watch.specs.Watched.{Watches, cpu_makes, zone_makes};
 
 use crate::watch::Watch;
 use group_tree::group::GroupId;
-use step_rules::step::{Action, Answer, Step};
 use zone_blocks::block::Block;
 use zone_blocks::order::Order;
 
@@ -25,8 +24,7 @@ impl Watch {
         ensures { Watches self.old (zone_makes (Grant group pages) Granted ∷ []) self.new }
     {
         if self.is_on() {
-            let action = Action::Grant { group, pages };
-            self.take(&Step { seat: 0, action }, &Answer::Granted);
+            self.take_granted(group, pages);
         }
     }
 
@@ -36,8 +34,7 @@ impl Watch {
         ensures { Watches self.old (zone_makes (Grant group pages) (Over over) ∷ []) self.new }
     {
         if self.is_on() {
-            let action = Action::Grant { group, pages };
-            self.take(&Step { seat: 0, action }, &Answer::Over(over));
+            self.take_refused(group, pages, over);
         }
     }
 
@@ -47,8 +44,7 @@ impl Watch {
         ensures { Watches self.old (zone_makes (Ungrant group pages) Done ∷ []) self.new }
     {
         if self.is_on() {
-            let action = Action::Ungrant { group, pages };
-            self.take(&Step { seat: 0, action }, &Answer::Done);
+            self.take_ungranted(group, pages);
         }
     }
 
@@ -58,8 +54,7 @@ impl Watch {
         ensures { Watches self.old (zone_makes (PlaceBlock group order) (Placed block) ∷ []) self.new }
     {
         if self.is_on() {
-            let action = Action::PlaceBlock { group, order };
-            self.take(&Step { seat: 0, action }, &Answer::Placed(block));
+            self.take_placed(group, order, block);
         }
     }
 
@@ -69,8 +64,7 @@ impl Watch {
         ensures { Watches self.old (zone_makes (PlaceBlock group order) NoFreeBlock ∷ []) self.new }
     {
         if self.is_on() {
-            let action = Action::PlaceBlock { group, order };
-            self.take(&Step { seat: 0, action }, &Answer::NoFreeBlock);
+            self.take_found_no_block(group, order);
         }
     }
 
@@ -80,8 +74,7 @@ impl Watch {
         ensures { Watches self.old (zone_makes (Publish frame) Done ∷ []) self.new }
     {
         if self.is_on() {
-            let action = Action::Publish { frame };
-            self.take(&Step { seat: 0, action }, &Answer::Done);
+            self.take_published(frame);
         }
     }
 
@@ -91,8 +84,7 @@ impl Watch {
         ensures { Watches self.old (zone_makes (Unfreeze frame count) Done ∷ []) self.new }
     {
         if self.is_on() {
-            let action = Action::Unfreeze { frame, count };
-            self.take(&Step { seat: 0, action }, &Answer::Done);
+            self.take_unfroze(frame, count);
         }
     }
 
@@ -102,8 +94,7 @@ impl Watch {
         ensures { Watches self.old (zone_makes (Freeze frame count) Done ∷ []) self.new }
     {
         if self.is_on() {
-            let action = Action::Freeze { frame, count };
-            self.take(&Step { seat: 0, action }, &Answer::Done);
+            self.take_froze(frame, count);
         }
     }
 
@@ -113,8 +104,7 @@ impl Watch {
         ensures { Watches self.old (zone_makes (Freeze frame count) Missed ∷ []) self.new }
     {
         if self.is_on() {
-            let action = Action::Freeze { frame, count };
-            self.take(&Step { seat: 0, action }, &Answer::Missed);
+            self.take_missed(frame, count);
         }
     }
 
@@ -124,8 +114,7 @@ impl Watch {
         ensures { Watches self.old (zone_makes (Put frame) (Left left) ∷ []) self.new }
     {
         if self.is_on() {
-            let action = Action::Put { frame };
-            self.take(&Step { seat: 0, action }, &Answer::Left(left));
+            self.take_put_left(frame, left);
         }
     }
 
@@ -135,8 +124,7 @@ impl Watch {
         ensures { Watches self.old (zone_makes (Put frame) Last ∷ []) self.new }
     {
         if self.is_on() {
-            let action = Action::Put { frame };
-            self.take(&Step { seat: 0, action }, &Answer::Last);
+            self.take_put_last(frame);
         }
     }
 
@@ -146,8 +134,7 @@ impl Watch {
         ensures { Watches self.old (zone_makes (Return frame) Done ∷ []) self.new }
     {
         if self.is_on() {
-            let action = Action::Return { frame };
-            self.take(&Step { seat: 0, action }, &Answer::Done);
+            self.take_returned(frame);
         }
     }
 
@@ -157,8 +144,7 @@ impl Watch {
         ensures { Watches self.old (zone_makes (PassOut frame cpu) Done ∷ []) self.new }
     {
         if self.is_on() {
-            let action = Action::PassOut { frame, cpu };
-            self.take(&Step { seat: 0, action }, &Answer::Done);
+            self.take_passed_out(frame, cpu);
         }
     }
 
@@ -168,8 +154,7 @@ impl Watch {
         ensures { Watches self.old (cpu_makes cpu (TakeIn frame) Done ∷ []) self.new }
     {
         if self.is_on() {
-            let action = Action::TakeIn { frame };
-            self.take(&Step { seat: cpu, action }, &Answer::Done);
+            self.take_took_in(cpu, frame);
         }
     }
 
@@ -179,8 +164,7 @@ impl Watch {
         ensures { Watches self.old (cpu_makes cpu (PassBack frame) Done ∷ []) self.new }
     {
         if self.is_on() {
-            let action = Action::PassBack { frame };
-            self.take(&Step { seat: cpu, action }, &Answer::Done);
+            self.take_passed_back(cpu, frame);
         }
     }
 
@@ -190,8 +174,7 @@ impl Watch {
         ensures { Watches self.old (zone_makes (Collect frame cpu) Done ∷ []) self.new }
     {
         if self.is_on() {
-            let action = Action::Collect { frame, cpu };
-            self.take(&Step { seat: 0, action }, &Answer::Done);
+            self.take_collected(frame, cpu);
         }
     }
 
@@ -201,8 +184,7 @@ impl Watch {
         ensures { Watches self.old (cpu_makes cpu (Consume group) Took ∷ []) self.new }
     {
         if self.is_on() {
-            let action = Action::Consume { group };
-            self.take(&Step { seat: cpu, action }, &Answer::Took);
+            self.take_consumed(cpu, group);
         }
     }
 
@@ -212,8 +194,7 @@ impl Watch {
         ensures { Watches self.old (cpu_makes cpu (Report pages) Done ∷ []) self.new }
     {
         if self.is_on() {
-            let action = Action::Report { pages };
-            self.take(&Step { seat: cpu, action }, &Answer::Done);
+            self.take_reported(cpu, pages);
         }
     }
 
@@ -223,8 +204,7 @@ impl Watch {
         ensures { Watches self.old (zone_makes (Absorb cpu) (Pages pages) ∷ []) self.new }
     {
         if self.is_on() {
-            let action = Action::Absorb { cpu };
-            self.take(&Step { seat: 0, action }, &Answer::Pages(pages));
+            self.take_absorbed(cpu, pages);
         }
     }
 
@@ -234,8 +214,7 @@ impl Watch {
         ensures { Watches self.old (zone_makes (Fill cpu group pages) Done ∷ []) self.new }
     {
         if self.is_on() {
-            let action = Action::Fill { cpu, group, pages };
-            self.take(&Step { seat: 0, action }, &Answer::Done);
+            self.take_filled(cpu, group, pages);
         }
     }
 
@@ -245,8 +224,7 @@ impl Watch {
         ensures { Watches self.old (zone_makes (DrainStock cpu) (Pages pages) ∷ []) self.new }
     {
         if self.is_on() {
-            let action = Action::DrainStock { cpu };
-            self.take(&Step { seat: 0, action }, &Answer::Pages(pages));
+            self.take_drained(cpu, pages);
         }
     }
 
@@ -256,8 +234,7 @@ impl Watch {
         ensures { Watches self.old (zone_makes (OpenVisit cpu) Done ∷ []) self.new }
     {
         if self.is_on() {
-            let action = Action::OpenVisit { cpu };
-            self.take(&Step { seat: 0, action }, &Answer::Done);
+            self.take_visit_opened(cpu);
         }
     }
 
@@ -267,8 +244,7 @@ impl Watch {
         ensures { Watches self.old (zone_makes (ShutVisit cpu) Done ∷ []) self.new }
     {
         if self.is_on() {
-            let action = Action::ShutVisit { cpu };
-            self.take(&Step { seat: 0, action }, &Answer::Done);
+            self.take_visit_shut(cpu);
         }
     }
 }
