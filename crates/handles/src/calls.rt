@@ -90,6 +90,7 @@ impl FrameCall {
     ghost use Rattle.handles.specs.Calls.{frame_command};
 
     /// The script's command that does this.
+    #[inline(always)]
     pub fn command(self, frame: u32) -> Command<'static>
         ensures value { result ≡ frame_command self frame }
         ensures in_zone { (frames : ℕ) → frame < frames → CommandInRange frames result }

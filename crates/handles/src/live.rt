@@ -27,7 +27,7 @@ use mem_system::{Boot, Locked};
 use script_lines::fault::ScriptFault;
 use script_lines::line::Command;
 use script_lines::script::parse_script;
-use script_replay::{Form, replay, serve_typed};
+use script_replay::{Form, alloc_typed, replay, serve_typed};
 use std::alloc::{AllocError, Global};
 use std::marker::Model;
 use zone_sizes::config::Config;
@@ -105,6 +105,7 @@ impl<N: BootName> Live<N> {
 
     /// Serves a call of the CPU of this number, and returns its answer. If the call names what isn't there,
     /// nothing is done. No memory is taken.
+    #[inline(always)]
     pub fn call(&mut self, cpu: u32, call: &Call<'_>) -> CallAnswer
         ensures { Calls N.frames N.stocks cpu call.now self.old self.new result }
     {
@@ -125,6 +126,7 @@ impl<N: BootName> Live<N> {
     }
 
     // Serves a command of a CPU that is there, as is all that the command names.
+    #[inline(always)]
     fn serve(&mut self, cpu: u32, command: &Command<'_>) -> CallAnswer
         requires there { CpuCommandInRange N.frames.frames (length self.old.state.cpus) cpu command.now }
         requires short { IsShort (work_of command.now) }
@@ -140,6 +142,7 @@ impl<N: BootName> Live<N> {
     }
 
     // Serves a call that names a frame, of a CPU that is there.
+    #[inline(always)]
     fn serve_at(&mut self, cpu: u32, frame: u32, what: FrameCall) -> CallAnswer
         requires there { IsCpu (length self.old.state.cpus) cpu }
         ensures { Calls N.frames N.stocks cpu (AtFrame frame what) self.old self.new result }
@@ -158,9 +161,24 @@ impl<N: BootName> Live<N> {
         let Some(group) = find_group(self.locked.charges(), group) else {
             return CallAnswer::NoGroup;
         };
+        if order == 0 {
+            return self.take_frame(cpu, group);
+        }
         let path = *self.locked.charges().tree().path_of(group);
         let path = path.as_bytes();
         self.serve(cpu, &Command::Alloc { path, order })
+    }
+
+    // Takes a single frame for an existing group, at a CPU that is there. The group's path is neither copied nor looked
+    // up.
+    #[inline(always)]
+    fn take_frame(&mut self, cpu: u32, group: GroupId) -> CallAnswer
+        requires there { IsCpu (length self.old.state.cpus) cpu }
+        requires group { IsTrue (has_group self.old.state.locked.machine.ledger.groups group) }
+        ensures { Calls N.frames N.stocks cpu (Alloc group 0) self.old self.new result }
+    {
+        let _path = self.locked.charges().tree().path_of(group).as_bytes(); // Called for its contract.
+        CallAnswer::Served(alloc_typed(&mut self.locked, &self.tables, &mut self.cpus, cpu, group))
     }
 
     /// What a file of a group shows. The group exists, and isn't the root, which has no files.

@@ -21,7 +21,7 @@ mod work;
 
 pub use answer_value::AnswerValue;
 pub use form::Form;
-pub use typed_calls::serve_typed;
+pub use typed_calls::{alloc_typed, serve_typed};
 pub use value_replay::{Stopped, replay, replay_checked, serve_line};
 pub use visit_answers::{Visitor, visit_line, visit_numbered_line};
 pub use visit_replay::{replay_lines, visit_command};

@@ -1,6 +1,8 @@
 //! Serving one command of a CPU, by value of what lies behind the lock, with its answer as a value.
 
-ghost use Rattle.std.specs.Prelude.{◌≡◌, ◌<◌};
+ghost use Rattle.std.specs.Prelude.{◌≡◌, ◌<◌, IsTrue, List, Some, ℕ};
+ghost use Rattle.std.specs.Borrow.{Bor};
+ghost use Rattle.group_tree.specs.Groups.{has_group, number_at};
 ghost use Rattle.mem_system.specs.Visits.{locked_state};
 ghost use Rattle.script_replay.specs.declared.work.Work.TheVariants as work;
 ghost use Rattle.script_replay.specs.Ranges.{WorkInRange};
@@ -13,9 +15,11 @@ use crate::watched_steps::{watch_credit, watch_fast, watch_get, watch_put};
 use crate::work::Work;
 use cpu_part::{BootName, Cpu, Fast, Tables};
 use group_tree::fault::Fault;
+use group_tree::group::GroupId;
 use mem_system::{Cmd, Locked, Outcome};
 
 // Does what a command asks for, whose answer isn't a text of any length.
+#[inline(always)]
 pub(crate) fn serve_typed_work<N: BootName>(
     locked: &mut Locked<N>,
     tables: &Tables<N>,
@@ -60,6 +64,22 @@ fn serve_typed_frame<N: BootName>(
     let Some(group) = locked.find(path) else {
         return AnswerValue::Served(Outcome::Refused(Fault::NoGroup));
     };
+    serve_typed_alloc(locked, tables, cpu, group)
+}
+
+// Takes a frame for an existing group, if possible without the lock. It looks up no path.
+pub(crate) fn serve_typed_alloc<N: BootName>(
+    locked: &mut Locked<N>,
+    tables: &Tables<N>,
+    cpu: &mut Cpu<N>,
+    group: GroupId,
+) -> AnswerValue
+    requires there { IsTrue (has_group locked.old.machine.ledger.groups group) }
+    ensures answer { (path : Bor (List ℕ)) → number_at locked.old.machine.ledger.groups path.now ≡ Some group
+        → SaysWork N.frames (work.Frame path) (locked_state locked.old cpu.old)
+        (locked_state locked.new cpu.new) (answer_of locked.new.machine.ledger result) }
+    ensures groups { NamesItsGroups locked.new.machine.ledger result }
+{
     let cpu_number = cpu.number();
     let group_number = group.number();
     match cpu.alloc_fast(tables, group_number) {
@@ -110,6 +130,7 @@ fn serve_typed_release<N: BootName>(
 }
 
 // Pins the frame without the lock.
+#[inline(always)]
 fn serve_typed_get<N: BootName>(
     locked: &mut Locked<N>,
     tables: &Tables<N>,
@@ -131,6 +152,7 @@ fn serve_typed_get<N: BootName>(
 }
 
 // Puts a pin of the frame without the lock.
+#[inline(always)]
 fn serve_typed_put<N: BootName>(
     locked: &mut Locked<N>,
     tables: &Tables<N>,

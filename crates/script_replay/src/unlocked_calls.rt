@@ -32,6 +32,7 @@ pub(crate) fn try_list<N: BootName>(tables: &Tables<N>, cpu: &mut Cpu<N>, frame_
 }
 
 // Pins the frame, without the lock.
+#[inline(always)]
 pub(crate) fn pin<N: BootName>(
     tables: &Tables<N>,
     cpu: &mut Cpu<N>,
@@ -55,6 +56,7 @@ pub(crate) fn write_pin(got: &Result<Get, Fault>, text: &mut String) -> Result<(
 }
 
 // Puts a pin of the frame, without the lock. Returns None if the CPU has no pin on it.
+#[inline(always)]
 pub(crate) fn unpin<N: BootName>(
     tables: &Tables<N>,
     cpu: &mut Cpu<N>,

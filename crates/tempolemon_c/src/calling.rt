@@ -19,6 +19,9 @@ use script_replay::AnswerValue;
 use std::alloc::Global;
 
 /// Serves a call of the CPU of this number, and tells the host.
+///
+/// It is inlined down to the part of the CPU, and so each call of a host has the steps of that call alone.
+#[inline(always)]
 pub(crate) fn serve_call(
     alloc: Global,
     handle: &mut Handle,
@@ -32,6 +35,7 @@ pub(crate) fn serve_call(
 }
 
 /// Serves a call as `serve_call` does, and writes the text of a file into the buffer, if that has room for it.
+#[inline(always)]
 #[tactic(auto, using(crate::proofs::Showing::groups_there, crate::proofs::Showing::value_called))]
 pub(crate) fn serve_into(
     alloc: Global,
@@ -58,7 +62,9 @@ pub(crate) fn serve_into(
     }
 }
 
-// Tells the answer, and writes the text of a file into the buffer, if that has room for it.
+// Tells the answer, and writes the text of a file into the buffer, if that has room for it. The fields are written
+// one by one: a whole `Told` is copied with the bytes between its fields, which the CPU has to wait for.
+#[inline(always)]
 #[tactic(auto, using(crate::proofs::Showing::plain_told))]
 fn tell_value(
     alloc: Global,
@@ -77,7 +83,8 @@ fn tell_value(
         }
         _ => {
             let answered = tell(value);
-            *told = answered.told;
+            told.number = answered.told.number;
+            told.word = answered.told.word;
             answered.status
         }
     }
@@ -85,6 +92,7 @@ fn tell_value(
 
 // Tells what a file shows, and writes its text into the buffer, if that has room for it. Here alone there is room for
 // a text, so that no other call clears that room.
+#[inline(never)]
 #[tactic(auto, using(crate::proofs::Numbers::number_low, crate::proofs::Showing::stays, crate::proofs::Showing::tells))]
 fn tell_file(
     alloc: Global,

@@ -55,6 +55,7 @@ impl Handle {
     }
 
     /// Serves a call of the CPU of this number.
+    #[inline(always)]
     #[tactic(auto, using(crate::proofs::Crossing::crossed, crate::proofs::Crossing::some_behind))]
     pub(crate) fn call(&mut self, alloc: Global, cpu: u32, call: &Call<'_>) -> CallAnswer
         requires live { IsSome (behind self.old) }

@@ -48,7 +48,9 @@ fn with_number(word: u8, number: u64) -> Answered
     }
 }
 
-/// What is told of an answer that isn't a text.
+/// What is told of an answer that isn't a text. It is inlined with what it calls, so that the answer isn't built in
+/// memory.
+#[inline(always)]
 pub(crate) fn tell(value: &AnswerValue) -> Answered
     requires { IsPlain value.now }
     ensures status { (ledger : Ledger) → result.status ≡ status_of (answer_of ledger value.now) }
@@ -66,6 +68,7 @@ pub(crate) fn tell(value: &AnswerValue) -> Answered
 }
 
 // What is told of an outcome that isn't a text.
+#[inline(always)]
 #[tactic(auto, using(crate::proofs::Numbers::number_low))]
 fn tell_outcome(outcome: &Outcome) -> Answered
     requires { IsPlainOutcome outcome.now }
@@ -103,6 +106,7 @@ fn tell_outcome(outcome: &Outcome) -> Answered
 }
 
 // What is told of a frame that was asked for without the lock.
+#[inline(always)]
 fn tell_fast(fast: &Fast) -> Answered
     ensures status { result.status ≡ 0 }
     ensures told { result.told ≡ fast_told fast.now }
@@ -118,6 +122,7 @@ fn tell_fast(fast: &Fast) -> Answered
 }
 
 // What is told of a pin that was asked for.
+#[inline(always)]
 fn tell_get(got: &Get) -> Answered
     ensures status { result.status ≡ 0 }
     ensures told { result.told ≡ get_told got.now }
@@ -131,6 +136,7 @@ fn tell_get(got: &Get) -> Answered
 }
 
 // What is told of a pin that was put.
+#[inline(always)]
 fn tell_put(put: &Put) -> Answered
     ensures status { result.status ≡ 0 }
     ensures told { result.told ≡ put_told put.now }

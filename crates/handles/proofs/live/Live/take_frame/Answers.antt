@@ -1,0 +1,44 @@
+use Rattle.std.proofs.Common.{◌≡◌, ℕ, Some, List, refl, subst, sym}
+use Rattle.std.specs.Borrow.{Bor}
+use Rattle.group_tree.specs.declared.group.Group.{Group}
+use Rattle.group_tree.specs.Groups.{number_at, path_of}
+use Rattle.group_charge.specs.Charges.{AreCharges, Ledger}
+use Rattle.script_lines.specs.declared.line.Command.TheVariants as cmd
+use Rattle.script_replay.specs.Lines.{system_state}
+use Rattle.script_replay.specs.Terms.{boot_tables}
+use Rattle.script_replay.specs.Typed.{SaysCommand, answer_of}
+use Rattle.handles.specs.Calls.{Calls}
+use Rattle.handles.specs.Known.{KnownLive}
+use Rattle.handles.specs.declared.calls.Call.TheVariants.{Alloc}
+use Rattle.handles.specs.declared.calls.CallAnswer.TheVariants.{Said}
+use Rattle.handles.proofs.Finding.{frame_taken}
+use Rattle.handles.proofs.live.Live.take_frame.Goals as goal
+
+pub returns : goal.returns
+returns g c =
+    let live : KnownLive = record {
+      sizes = c.self.inside.sizes;
+      state = system_state c.self.inside.locked c.self.inside.cpus.items;
+      kept = c.self.inside.kept.items;
+    } in
+    let group = c.args.group in
+    let seen = c.path_of.result.now in
+    let in_ledger : path_of live.state.locked.machine.ledger.groups group ≡ Some seen =
+    subst (λ (l : Ledger). path_of l.groups group ≡ Some seen) c.charges.ensures
+    (subst (λ (groups : List Group). path_of groups group ≡ Some seen) c.tree.ensures.tree c.path_of.ensures.value) in
+    let is : path_of live.state.locked.machine.ledger.groups group ≡ Some c.as_bytes-path.result.now =
+    subst (λ (path : List ℕ). path_of live.state.locked.machine.ledger.groups group ≡ Some path) (sym c.as_bytes-path.ensures.text) in_ledger in
+    let left : KnownLive = record {
+      sizes = c.self.inside.sizes;
+      state = system_state c.alloc_typed.new.locked c.alloc_typed.new.cpus;
+      kept = c.self.inside.kept.items;
+    } in
+    let says : (named : Bor (List ℕ)) → number_at live.state.locked.machine.ledger.groups named.now ≡ Some group
+    → SaysCommand (boot_tables g.N.BootName.frames g.N.BootName.stocks) c.args.cpu (cmd.Alloc named 0) live.state left.state
+    (answer_of left.state.locked.machine.ledger c.alloc_typed.result) =
+    λ named found. subst (λ cpus. SaysCommand (boot_tables g.N.BootName.frames g.N.BootName.stocks) c.args.cpu (cmd.Alloc named 0)
+    (system_state c.self.inside.locked cpus) left.state (answer_of left.state.locked.machine.ledger c.alloc_typed.result))
+    c.deref_mut.ensures.value (c.alloc_typed.ensures.answer named found) in
+    subst (λ (from : KnownLive). Calls g.N.BootName.frames g.N.BootName.stocks c.args.cpu (Alloc group 0) from left (Said c.alloc_typed.result)) c.self.view_is
+    (frame_taken g.N.BootName.frames g.N.BootName.stocks c.args.cpu group live left c.alloc_typed.result c.as_bytes-path.result
+    (subst AreCharges c.charges.ensures c.tree.ensures.legal) is says c.alloc_typed.ensures.groups (record { sizes = refl; kept = refl }))

@@ -1,0 +1,20 @@
+use Rattle.std.proofs.Common.{◌-◌, ap, get_or}
+use Rattle.std.specs.Prelude.{length}
+use Rattle.cpu_part.specs.Cpus.{KnownCpu}
+use Rattle.script_lines.specs.declared.line.Command.TheVariants.{Alloc}
+use Rattle.script_replay.specs.Ranges.{CpuCommandInRange}
+use Rattle.script_replay.specs.Terms.{boot_tables}
+use Rattle.script_replay.proofs.Saying.{command_said, part_of}
+use Rattle.script_replay.proofs.typed_calls.alloc_typed.Goals as goal
+
+pub returns-clause-answer : goal.returns-clause-answer
+returns-clause-answer g c path is =
+    let cpus = c.args.cpus.now in
+    let at = c.args.cpu - 1 in
+    let part : KnownCpu = get_or cpus at c.index-cpus-at.result in
+    let frames = g.N.BootName.frames.frames in
+    let there : CpuCommandInRange frames (length cpus) c.args.cpu (Alloc path 0) = record { low = c.requires.low; high = c.requires.high; names = tt } in
+    command_said (boot_tables g.N.BootName.frames g.N.BootName.stocks) c.args.locked.now c.alloc_typed_part.new.locked cpus c.args.cpu (Alloc path 0)
+    part c.alloc_typed_part.new.cpu _ there
+    (part_of cpus frames c.args.cpu (Alloc path 0) part there (ap (λ (d : KnownCpu). get_or cpus at d) c.index-cpus-at.is))
+    (c.alloc_typed_part.ensures.answer path is) c.alloc_typed_part.ensures.invariants c.alloc_typed_part.ensures.tied c.alloc_typed_part.ensures.none_fresh
