@@ -1,8 +1,10 @@
-use Rattle.std.proofs.Common.{◌≡◌, ℕ, Some, List, refl, subst, sym}
+use Rattle.std.proofs.Common.{◌≡◌, ◌≤◌, ◌∙◌, ◌++◌, ℕ, Some, List, drop, length, refl, rules, subst, sym, take}
+use Rattle.std.proofs.lemmas.List.{take-append-le, take_all}
 use Rattle.std.specs.Borrow.{Bor}
 use Rattle.group_tree.specs.declared.group.Group.{Group}
 use Rattle.group_tree.specs.Groups.{number_at, path_of}
 use Rattle.group_charge.specs.Charges.{AreCharges, Ledger}
+use Rattle.cpu_part.specs.Cpus.{KnownCpu}
 use Rattle.script_lines.specs.declared.line.Command.TheVariants as cmd
 use Rattle.script_replay.specs.Lines.{system_state}
 use Rattle.script_replay.specs.Terms.{boot_tables}
@@ -19,7 +21,7 @@ returns g c =
     let live : KnownLive = record {
       sizes = c.self.inside.sizes;
       state = system_state c.self.inside.locked c.self.inside.cpus.items;
-      kept = c.self.inside.kept.items;
+      unread_answer = c.self.inside.unread_answer.items;
     } in
     let group = c.args.group in
     let seen = c.path_of.result.now in
@@ -31,7 +33,7 @@ returns g c =
     let left : KnownLive = record {
       sizes = c.self.inside.sizes;
       state = system_state c.alloc_typed.new.locked c.alloc_typed.new.cpus;
-      kept = c.self.inside.kept.items;
+      unread_answer = c.self.inside.unread_answer.items;
     } in
     let says : (named : Bor (List ℕ)) → number_at live.state.locked.machine.ledger.groups named.now ≡ Some group
     → SaysCommand (boot_tables g.N.BootName.frames g.N.BootName.stocks) c.args.cpu (cmd.Alloc named 0) live.state left.state
@@ -39,6 +41,21 @@ returns g c =
     λ named found. subst (λ cpus. SaysCommand (boot_tables g.N.BootName.frames g.N.BootName.stocks) c.args.cpu (cmd.Alloc named 0)
     (system_state c.self.inside.locked cpus) left.state (answer_of left.state.locked.machine.ledger c.alloc_typed.result))
     c.deref_mut.ensures.value (c.alloc_typed.ensures.answer named found) in
-    subst (λ (from : KnownLive). Calls g.N.BootName.frames g.N.BootName.stocks c.args.cpu (Alloc group 0) from left (Said c.alloc_typed.result)) c.self.view_is
-    (frame_taken g.N.BootName.frames g.N.BootName.stocks c.args.cpu group live left c.alloc_typed.result c.as_bytes-path.result
-    (subst AreCharges c.charges.ensures c.tree.ensures.legal) is says c.alloc_typed.ensures.groups (record { sizes = refl; kept = refl }))
+    let frames = g.N.BootName.frames in
+    let stocks = g.N.BootName.stocks in
+    let inside = c.self.inside in
+    let cpus = c.alloc_typed.new.cpus in
+    let short : inside.cpus.len ≤ length cpus = search rules in
+    let long : length cpus ≤ inside.cpus.len = search rules in
+    let same : take inside.cpus.len (cpus ++ drop (length cpus) inside.cpus.items) ≡ cpus
+    = take-append-le inside.cpus.len cpus (drop (length cpus) inside.cpus.items) short ∙ take_all inside.cpus.len cpus long in
+    subst (λ (from : KnownLive). Calls frames stocks c.args.cpu (Alloc group 0) from
+    (record {
+      sizes = inside.sizes;
+      state = system_state c.alloc_typed.new.locked (take inside.cpus.len (cpus ++ drop (length cpus) inside.cpus.items));
+      unread_answer = inside.unread_answer.items;
+    }) (Said c.alloc_typed.result)) c.self.view_is
+    (subst (λ (l : List KnownCpu). Calls frames stocks c.args.cpu (Alloc group 0) live
+    (record { sizes = inside.sizes; state = system_state c.alloc_typed.new.locked l; unread_answer = inside.unread_answer.items }) (Said c.alloc_typed.result)) (sym same)
+    (frame_taken frames stocks c.args.cpu group live left c.alloc_typed.result c.as_bytes-path.result
+    (subst AreCharges c.charges.ensures c.tree.ensures.legal) is says c.alloc_typed.ensures.groups (record { sizes = refl; kept = refl })))
