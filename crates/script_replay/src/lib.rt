@@ -24,5 +24,5 @@ pub use form::Form;
 pub use typed_calls::{alloc_typed, serve_typed};
 pub use value_replay::{Stopped, replay, replay_checked, serve_line};
 pub use visit_answers::{Visitor, visit_line, visit_numbered_line};
-pub use visit_replay::{replay_lines, visit_command};
+pub use visit_replay::replay_lines;
 pub use work::Work;

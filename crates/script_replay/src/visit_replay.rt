@@ -1,7 +1,6 @@
 //! Serving lines one after the other by visits: each command takes the zone's lock by itself.
 
 ghost use Rattle.std.specs.Prelude.{◌≡◌, All, IfOk, OnErr, length};
-ghost use Rattle.mem_system.specs.Commands.{IsOfZone};
 ghost use Rattle.script_replay.specs.Answers.{AddsText};
 ghost use Rattle.script_replay.specs.Lines.{StopsAt};
 ghost use Rattle.script_replay.specs.Ranges.{LineInRange};
@@ -10,8 +9,7 @@ ghost use Rattle.script_replay.specs.Visits.{VisitsAll, VisitsLine};
 
 use crate::visit_answers::{Visitor, visit_text};
 use cpu_part::{BootName, Cpu};
-use mem_system::{Cmd, NoGate, Reply, System};
-use reply_texts::write_reply;
+use mem_system::{NoGate, System};
 use script_lines::line::Line;
 use std::alloc::{AllocError, Global};
 use std::sync::Wait;
@@ -63,21 +61,4 @@ fn serve_by_visit<N: BootName, R: Wait>(
             visit_text(&visitor, &mut cpus[at], command, answers)
         }
     }
-}
-
-/// Serves the command by a visit at once, and adds its answer. Its contract leaves out what `System::visit` says: these
-/// clauses would cost a caller that needs only the text minutes of checking. `AllocError` is returned if memory runs
-/// out for the text: the command was served then.
-pub fn visit_command<N: BootName, R: Wait>(
-    rt: &R,
-    system: &System<N>,
-    cpu: &mut Cpu<N>,
-    cmd: &Cmd<'_>,
-    text: &mut String,
-) -> Result<(), AllocError>
-    requires of_zone { IsOfZone N.frames cmd.now }
-{
-    let mut reply = Reply::Done;
-    system.visit_into(rt, cpu, cmd, &NoGate, &mut reply);
-    write_reply(&reply, text)
 }
