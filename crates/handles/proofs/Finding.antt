@@ -24,7 +24,7 @@ found_by_path groups n path are is =
     let by_its_number = number_at-there groups at.0 are.paths_distinct there.0 in
     subst (λ (p : List ℕ). number_at groups p ≡ Some n) at.2 (subst (λ (m : ℕ). number_at groups at.0.path ≡ Some m) there.1 by_its_number)
 
-module _ (frames : KnownTable) (stock_table : KnownStockTable) (cpu group : ℕ) (from to : KnownLive) (said : Said) where
+module _ (frames : KnownTable) (stock_table : KnownStockTable) (cpu group : ℕ) (from to : KnownLive) (value : AnswerValue) where
   abbrev groups : List Group
   groups = from.state.locked.machine.ledger.groups
 
@@ -33,14 +33,14 @@ module _ (frames : KnownTable) (stock_table : KnownStockTable) (cpu group : ℕ)
 
   pub frame_taken : (path : Bor (List ℕ)) → AreCharges from.state.locked.machine.ledger → path_of groups group ≡ Some path.now
       → ((named : Bor (List ℕ)) → number_at groups named.now ≡ Some group
-      → SaysCommand (boot_tables frames stock_table) cpu (cmd.Alloc named 0) from.state to.state (answer_of after said))
-      → NamesItsGroups after said → SameButState from to → Calls frames stock_table cpu (call.Alloc group 0) from to (returned.Served value)
+      → SaysCommand (boot_tables frames stock_table) cpu (cmd.Alloc named 0) from.state to.state (answer_of after value))
+      → NamesItsGroups after value → SameButState from to → Calls frames stock_table cpu (call.Alloc group 0) from to (returned.Served value)
   frame_taken path legal is says there rest = record {
     command = cmd.Alloc path 0;
     means = (is, refl);
     tells = record {
-      answer = answer_of after said;
+      answer = answer_of after value;
       serves = record { says = says path (found_by_path groups group path.now legal.groups is); rest = rest };
-      is_told = (there, refl);
+      is_answer = (there, refl);
     };
   }

@@ -12,7 +12,7 @@ use Rattle.script_replay.specs.Typed.{SaysCommand, answer_of}
 use Rattle.handles.specs.Calls.{Calls}
 use Rattle.handles.specs.Known.{KnownLive}
 use Rattle.handles.specs.declared.calls.Call.TheVariants.{Alloc}
-use Rattle.handles.specs.declared.calls.CallAnswer.TheVariants.{Said}
+use Rattle.handles.specs.declared.calls.CallAnswer.TheVariants.{Served}
 use Rattle.handles.proofs.Finding.{frame_taken}
 use Rattle.handles.proofs.live.Live.take_frame.Goals as goal
 
@@ -54,8 +54,8 @@ returns g c =
       sizes = inside.sizes;
       state = system_state c.alloc_typed.new.locked (take inside.cpus.len (cpus ++ drop (length cpus) inside.cpus.items));
       unread_answer = inside.unread_answer.items;
-    }) (Said c.alloc_typed.result)) c.self.view_is
+    }) (Served c.alloc_typed.result)) c.self.view_is
     (subst (λ (l : List KnownCpu). Calls frames stocks c.args.cpu (Alloc group 0) live
-    (record { sizes = inside.sizes; state = system_state c.alloc_typed.new.locked l; unread_answer = inside.unread_answer.items }) (Said c.alloc_typed.result)) (sym same)
+    (record { sizes = inside.sizes; state = system_state c.alloc_typed.new.locked l; unread_answer = inside.unread_answer.items }) (Served c.alloc_typed.result)) (sym same)
     (frame_taken frames stocks c.args.cpu group live left c.alloc_typed.result c.as_bytes-path.result
-    (subst AreCharges c.charges.ensures c.tree.ensures.legal) is says c.alloc_typed.ensures.groups (record { sizes = refl; kept = refl })))
+    (subst AreCharges c.charges.ensures c.tree.ensures.legal) is says c.alloc_typed.ensures.groups (record { sizes = refl; unread_answer = refl })))
