@@ -12,3 +12,4 @@ pub mod Written
 pub mod Telling
 pub mod Watched
 pub mod Logged
+pub mod TraceMade

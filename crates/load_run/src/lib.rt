@@ -19,6 +19,7 @@ mod refusals;
 pub mod running;
 pub mod serving;
 pub mod thread_running;
+pub mod tracing;
 pub mod versions;
 pub mod writing;
 

@@ -116,7 +116,7 @@ fn log_and_end_boot<N: BootName>(
 }
 
 // The texts between the line feeds of a script.
-fn texts_of<'a>(alloc: Global, script: &'a [u8]) -> Result<Vec<&'a [u8]>, AllocError>
+pub(crate) fn texts_of<'a>(alloc: Global, script: &'a [u8]) -> Result<Vec<&'a [u8]>, AllocError>
     ensures { IfOk result (λ found. map (λ text. text.now) found.items ≡ texts_of script.now) }
 {
     let mut texts = Vec::new(alloc);

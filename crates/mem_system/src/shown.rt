@@ -6,6 +6,7 @@ ghost use Rattle.std.specs.String.{string_bytes};
 ghost use Rattle.group_tree.specs.Groups.{number_at};
 ghost use Rattle.machine_texts.specs.Stock.{stock_line_text};
 ghost use Rattle.mem_machine.specs.Local.{visit_state};
+ghost use Rattle.mem_machine.specs.Showing.{stock_now};
 ghost use Rattle.mem_machine.specs.Stocks.{with_look};
 ghost use Rattle.mem_system.specs.Commands.{IsSettled};
 ghost use Rattle.mem_system.specs.Shown.{ReadsAfterSettling, UnitsAt};
@@ -18,6 +19,7 @@ use cpu_part::{BootName, Cpu, Tables};
 use machine_texts::{write_stock, write_units};
 use std::alloc::AllocError;
 use std::sync::Wait;
+use stock_word::Stock;
 
 /// Adds a line about the CPU alone: its stock as it is now, by one look at the stock's word, and how many frames and
 /// pins it has. Another CPU's visit may have drained the stock since the CPU last saw it. It fails only if memory runs
@@ -35,6 +37,18 @@ pub fn write_own_stock<N: BootName>(
 {
     let stock = locked.machine.stock_now(tables, cpu);
     write_stock(locked.machine.charges().tree(), cpu, stock, text)
+}
+
+impl<N: BootName> Locked<N> {
+    /// The stock of any CPU of the boot as it is now, by one look at the stock's word. Another CPU's visit may have
+    /// drained it since the CPU itself last saw it. The zone's seat counts the look as a step.
+    pub fn stock_now(&mut self, tables: &Tables<N>, cpu: &mut Cpu<N>) -> Stock
+        ensures stock { result ≡ stock_now (visit_state self.old.machine cpu.old) }
+        ensures locked { self.new ≡ record self.old { machine = with_look self.old.machine } }
+        ensures cpu { cpu.new ≡ cpu.old }
+    {
+        self.machine.stock_now(tables, cpu)
+    }
 }
 
 /// Adds a line for each kept unit of the group of this path, or `none` if it has none, and returns true. If no group

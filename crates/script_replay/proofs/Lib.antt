@@ -4,6 +4,7 @@ pub mod InRange
 pub mod Going
 pub mod Taking
 pub mod Numbering
+pub mod Routing
 pub mod Saying
 pub mod Telling
 pub mod Following

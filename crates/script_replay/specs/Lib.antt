@@ -3,6 +3,7 @@ pub mod History
 pub mod Lines
 pub mod Numbers
 pub mod Ranges
+pub mod Routes
 pub mod Terms
 pub mod Typed
 pub mod Visits

@@ -10,6 +10,8 @@ mod answer_value;
 mod command_answers;
 mod form;
 mod locked_calls;
+mod route;
+mod routed_calls;
 mod typed_answers;
 mod typed_calls;
 mod unlocked_calls;
@@ -21,6 +23,8 @@ mod work;
 
 pub use answer_value::AnswerValue;
 pub use form::Form;
+pub use route::Route;
+pub use routed_calls::serve_traced_line;
 pub use typed_calls::{alloc_typed, serve_typed};
 pub use value_replay::{Stopped, replay, replay_checked, serve_line};
 pub use visit_answers::{Visitor, visit_line, visit_numbered_line};

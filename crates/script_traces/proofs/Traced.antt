@@ -1,0 +1,84 @@
+-- The objects of lines. Serves `trace_line`, `trace_each` and `replay_traced`.
+use Rattle.std.proofs.Common.{◌≡◌, ℕ, ◌+◌, ◌<◌, List, [], ◌∷◌, ◌++◌, length, take, get_or, append_assoc, append-nil, ap, refl, sym, ◌∙◌}
+use Rattle.cpu_part.specs.Cpus.{KnownCpu}
+use Rattle.kill_notes.specs.declared.note.Note.{Note}
+use Rattle.kill_notes.specs.Notes.{KnownNotes}
+use Rattle.mem_system.specs.Locked.{KnownLocked}
+use Rattle.script_lines.specs.declared.line.Command.{Command}
+use Rattle.script_lines.specs.declared.line.Line.{Line}
+use Rattle.script_lines.specs.declared.line.Line.TheVariants.{At}
+use Rattle.script_replay.specs.declared.route.Route.{Route}
+use Rattle.script_replay.specs.Lines.{InOrder, SystemState, system_state}
+use Rattle.script_replay.specs.Routes.{ServesByRoute}
+use Rattle.script_replay.specs.Terms.{BootTables}
+use Rattle.script_replay.proofs.InOrder.{in_order_line}
+use Rattle.shown_states.specs.Cpus.{locked_with_looks}
+use Rattle.shown_states.specs.States.{shown_state}
+use Rattle.trace_lines.specs.declared.objects.LineFacts.{LineFacts}
+use Rattle.trace_lines.specs.Objects.{object_text}
+use Rattle.trace_lines.specs.Shown.{KnownShown}
+use Rattle.script_traces.specs.Commands.{command_at}
+use Rattle.script_traces.specs.Traces.{GrowsBy, TracesLine, line_facts, looked, notes_on, system_shown}
+
+-- ---- states
+
+pub shown_as : (locked : KnownLocked) (cpus : List KnownCpu) → shown_state locked.machine cpus ≡ system_shown (system_state locked cpus)
+unfolding system_shown
+shown_as locked cpus = refl
+
+-- what was shown before the looks is shown after them
+pub shown_after : (shown : KnownShown) (locked after : KnownLocked) (cpus others : List KnownCpu) → shown ≡ shown_state locked.machine cpus
+    → shown_state after.machine others ≡ shown_state locked.machine cpus → shown ≡ system_shown (system_state after others)
+shown_after shown locked after cpus others is again = is ∙ sym again ∙ shown_as after others
+
+pub state_looked : (locked after : KnownLocked) (cpus others : List KnownCpu) → after ≡ locked_with_looks locked (length cpus) → others ≡ cpus
+    → system_state after others ≡ looked (system_state locked cpus)
+state_looked locked after cpus others looks same = λ i. system_state (looks i) (same i)
+
+-- ---- one line
+
+-- the same object, of equal parts
+pub object_same : (facts facts_are : LineFacts) (command command_is answer answer_is : List ℕ) (before before_is after after_is : KnownShown)
+    (notes notes_are : List Note) (more more_is : ℕ) (old new : List ℕ)
+    → new ≡ old ++ object_text facts command answer before after notes more
+    → facts ≡ facts_are → command ≡ command_is → answer ≡ answer_is → before ≡ before_is → after ≡ after_is → notes ≡ notes_are → more ≡ more_is
+    → new ≡ old ++ object_text facts_are command_is answer_is before_is after_is notes_are more_is
+object_same facts facts_are command command_is answer answer_is before before_is after after_is notes notes_are more more_is old new added f c a b s n m =
+    added ∙ (λ i. old ++ object_text (f i) (c i) (a i) (b i) (s i) (n i) (m i))
+
+pub line_traced : (tables : BootTables) (texts : List (List ℕ)) (number cpu : ℕ) (command : Command) (route : Route) (answer : List ℕ)
+    (before served after : SystemState) (notes : KnownNotes) (old new : List ℕ)
+    → ServesByRoute tables.frames (At number cpu command) before served route answer → after ≡ looked served
+    → notes ≡ notes_on route served.locked.machine.notes
+    → new ≡ old ++ object_text (line_facts number cpu route) (command_at texts number) answer (system_shown before) (system_shown served) notes.list notes.left_out
+    → GrowsBy (TracesLine tables texts (At number cpu command) before after) old new
+line_traced tables texts number cpu command route answer before served after notes old new serves left are added = record {
+  text = object_text (line_facts number cpu route) (command_at texts number) answer (system_shown before) (system_shown served) notes.list notes.left_out;
+  so = record {
+    route = route;
+    answer = answer;
+    served = served;
+    serves = serves;
+    left = left;
+    notes = notes;
+    notes_are = are;
+    object_is = refl;
+  };
+  added = added;
+}
+
+-- ---- the lines so far
+
+pub traces_start : (tables : BootTables) (texts : List (List ℕ)) (lines : List Line) (s : SystemState) (old : List ℕ)
+    → GrowsBy (InOrder (TracesLine tables texts) (take 0 lines) s s) old old
+traces_start tables texts lines s old = record { text = []; so = (refl, refl); added = sym (append-nil old) }
+
+pub traces_more : (tables : BootTables) (texts : List (List ℕ)) (lines : List Line) (i : ℕ) (default : Line) (s m e : SystemState)
+    (old mid new : List ℕ) → i < length lines → GrowsBy (InOrder (TracesLine tables texts) (take i lines) s m) old mid
+    → GrowsBy (TracesLine tables texts (get_or lines i default) m e) mid new
+    → GrowsBy (InOrder (TracesLine tables texts) (take (i + 1) lines) s e) old new
+traces_more tables texts lines i default s m e old mid new inside so_far one = record {
+  text = so_far.text ++ one.text;
+  so = in_order_line (TracesLine tables texts) s m e lines i default so_far.text (so_far.text ++ one.text) inside so_far.so one.text one.so refl;
+  added = one.added ∙ ap (λ (l : List ℕ). l ++ one.text) so_far.added ∙ append_assoc old so_far.text one.text;
+}

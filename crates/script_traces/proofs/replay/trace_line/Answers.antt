@@ -1,0 +1,55 @@
+use Rattle.std.proofs.Common.{◌≡◌, ◌∙◌, ◌++◌, Bor, List, ℕ, ap, map, sym, subst}
+use Rattle.std.specs.String.{string_bytes}
+use Rattle.kill_notes.specs.Notes.{KnownNotes}
+use Rattle.mem_machine.specs.Machines.{KnownMachine}
+use Rattle.mem_system.specs.Locked.{KnownLocked}
+use Rattle.script_lines.specs.declared.line.Line.{Line}
+use Rattle.script_lines.specs.declared.line.Line.TheVariants.{At}
+use Rattle.script_replay.specs.declared.route.Route.{Route}
+use Rattle.script_replay.specs.Lines.{SystemState, system_state}
+use Rattle.script_replay.specs.Routes.{ServesByRoute}
+use Rattle.script_replay.specs.Terms.{boot_tables}
+use Rattle.script_traces.specs.Traces.{GrowsBy, TracesLine, line_facts, notes_on, system_shown}
+use Rattle.script_traces.proofs.Traced.{line_traced, object_same, shown_after, shown_as, state_looked}
+use Rattle.script_traces.proofs.replay.trace_line.Goals as goal
+
+pub returns-clause-shown : goal.returns-clause-shown
+returns-clause-shown g c =
+    shown_after c.in_ok-now.now c.serve_traced_line.new.locked c.show.new.locked c.serve_traced_line.new.cpus c.show.new.cpus
+    c.in_ok-now.ensures.shown c.show.ensures.again
+
+pub returns-clause-traced : goal.returns-clause-traced
+returns-clause-traced g c =
+    let t = g.N.BootName.frames in
+    let tables = boot_tables t g.N.BootName.stocks in
+    let texts = map (λ (text : Bor (List ℕ)). text.now) c.args.texts.now in
+    let left = c.serve_traced_line.new in
+    let before : SystemState = system_state c.args.locked.now c.args.cpus.now in
+    let served : SystemState = system_state left.locked left.cpus in
+    let after : SystemState = system_state c.show.new.locked c.show.new.cpus in
+    let number = c.in-At.number in
+    let cpu = c.in-At.cpu in
+    let command = c.in-At.command in
+    let route = c.in_ok-route.route in
+    let by = c.in_ok-route.ensures.served in
+    let answer = by.text in
+    let line : Line = At number cpu command in
+    let is : c.args.line.now ≡ line = c.in-At.is in
+    let serves : ServesByRoute t line before served route answer =
+    subst (λ (r : Route). ServesByRoute t line before served r answer) (sym by.returned)
+    (subst (λ (l : Line). ServesByRoute t l before served by.taken answer) is by.so.serves) in
+    let looks = c.show.ensures.looked in
+    let machine : c.machine.result.now.notes ≡ left.locked.machine.notes =
+    ap (λ (m : KnownMachine). m.notes) c.machine.ensures.machine ∙ ap (λ (l : KnownLocked). l.machine.notes) looks in
+    let notes : KnownNotes = notes_on route left.locked.machine.notes in
+    let are : notes_on route c.machine.result.now.notes ≡ notes = ap (notes_on route) machine in
+    let said : string_bytes left.answer ≡ answer =
+    by.added ∙ ap (λ (l : List ℕ). l ++ answer) c.new-answer.ensures.bytes in
+    let object = object_same _ (line_facts number cpu route) _ _ _ answer _ (system_shown before) _ (system_shown served) _ notes.list _ notes.left_out
+    (string_bytes c.args.trace.now) (string_bytes c.write_object.new.text) c.in_ok-write_object.ensures c.line_facts-facts.ensures
+    c.command_at-command.ensures (c.as_bytes.ensures.value ∙ said) c.requires.shown (c.in_ok-now.ensures.shown ∙ shown_as left.locked left.cpus)
+    (c.notes_on-more.ensures.notes ∙ ap (λ (n : KnownNotes). n.list) are) (c.notes_on-more.ensures.more ∙ ap (λ (n : KnownNotes). n.left_out) are) in
+    subst (λ (l : Line). GrowsBy (TracesLine tables texts l before after) (string_bytes c.args.trace.now) (string_bytes c.write_object.new.text)) (sym is)
+    (line_traced tables texts number cpu command route answer before served after notes (string_bytes c.args.trace.now)
+    (string_bytes c.write_object.new.text) serves (state_looked left.locked c.show.new.locked left.cpus c.show.new.cpus looks c.show.ensures.cpus)
+    (λ i. notes) object)

@@ -1,0 +1,10 @@
+pub mod Looks
+pub mod FlagsSet
+pub mod FlagsKept
+pub mod FreshSet
+pub mod Numbered
+pub mod Distinct
+pub mod CpusShown
+pub mod GroupsShown
+pub mod OneBoot
+pub mod Filled

@@ -1,0 +1,5 @@
+pub mod Frames
+pub mod Groups
+pub mod Cpus
+pub mod States
+pub mod Laws

@@ -1,0 +1,99 @@
+//! The places of the frames.
+
+ghost use Rattle.std.specs.Prelude.{◌≡◌, IfOk, map, slice_set};
+ghost use Rattle.trace_lines.specs.declared.place.Place.TheVariants.{Charged};
+ghost use Rattle.trace_lines.specs.Places.{places_of};
+ghost use Rattle.shown_states.specs.Frames.{places_shown, record_of, with_fresh, with_fresh_of, with_singles};
+
+use cpu_part::{BootName, Cpu};
+use frame_word::Frame;
+use mem_machine::{FrameState, Machine};
+use std::alloc::{AllocError, Global};
+use stock_word::Stock;
+use trace_lines::place::{Place, TracedFrame, places};
+
+// The place of each frame. For the zone a fresh frame is lent to its CPU, but here it is charged.
+pub(crate) fn show_places<N: BootName>(
+    alloc: Global,
+    machine: &Machine<N>,
+    cpus: &[Cpu<N>],
+) -> Result<Vec<Place>, AllocError>
+    ensures { IfOk result (λ places. places.items ≡ places_shown machine.now cpus.now) }
+{
+    let mut places = recorded_places(alloc, machine)?;
+    set_fresh(cpus, &mut places);
+    Ok(places)
+}
+
+// The place of each frame by the zone's own records.
+fn recorded_places<N: BootName>(
+    alloc: Global,
+    machine: &Machine<N>,
+) -> Result<Vec<Place>, AllocError>
+    ensures { IfOk result (λ places. places.items ≡ places_of (map record_of machine.now.frame_states)) }
+{
+    let frame_states = machine.frame_states();
+    let mut records = Vec::with_capacity(alloc, frame_states.len())?;
+    for frame_state in frame_states {
+        records.push(record_of(frame_state))?;
+    }
+    places(alloc, &records)
+}
+
+// Sets the places of the fresh frames of these CPUs.
+fn set_fresh<N: BootName>(cpus: &[Cpu<N>], places: &mut [Place])
+    ensures { places.new ≡ with_fresh places.old cpus.now }
+{
+    for cpu in cpus {
+        set_fresh_of(cpu.last_stock(), cpu.fresh(), places);
+    }
+}
+
+// Sets the places of the fresh frames of a CPU whose stock this is.
+fn set_fresh_of(stock: Stock, fresh: &[Frame], places: &mut [Place])
+    ensures { places.new ≡ with_fresh_of stock places.old fresh.now }
+{
+    match stock {
+        Stock::NoGroup => {}
+        Stock::HeldBy { group, .. } => set_singles(group, fresh, places),
+        Stock::DrainedOf { group } => set_singles(group, fresh, places),
+    }
+}
+
+// Puts each of these frames in a unit of its own, charged to this group.
+fn set_singles(group: u32, frames: &[Frame], places: &mut [Place])
+    ensures { places.new ≡ with_singles group places.old frames.now }
+{
+    for frame in frames {
+        set_single(group, frame.number() as usize, places);
+    }
+}
+
+// Puts this frame in a unit of its own, charged to this group.
+#[tactic(auto, using(crate::proofs::FreshSet::single_past))]
+fn set_single(group: u32, frame: usize, places: &mut [Place])
+    ensures { places.new ≡ slice_set places.old frame (Charged group 0) }
+{
+    if frame < places.len() {
+        places[frame] = Place::Charged { group, order: 0 };
+    }
+}
+
+// What is recorded of a frame in this state.
+fn record_of(frame_state: &FrameState) -> TracedFrame
+    ensures { result ≡ record_of frame_state.now }
+{
+    match *frame_state {
+        FrameState::Free => TracedFrame::Free,
+        FrameState::Lent(cpu) => TracedFrame::Lent {
+            cpu: u32::from(cpu),
+        },
+        FrameState::Head(unit) => TracedFrame::Head {
+            group: unit.group.number(),
+            order: unit.order.exponent(),
+        },
+        FrameState::Tail(group) => TracedFrame::Tail {
+            group: group.number(),
+        },
+    }
+}

@@ -1,0 +1,15 @@
+//! What is shown of a machine and its CPUs, as plain values: a trace compares these before and after a line of a
+//! script.
+#![tactic(auto)]
+
+mod counts;
+mod cpus;
+mod flags;
+mod frames;
+mod groups;
+mod laws;
+mod lists;
+mod states;
+
+pub use laws::{states_are_of_one_boot, steps_keep_stocks};
+pub use states::show;

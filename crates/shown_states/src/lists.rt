@@ -1,0 +1,52 @@
+//! The numbers of frames and of units.
+
+ghost use Rattle.std.specs.Prelude.{◌≡◌, ◌++◌, IfOk};
+ghost use Rattle.mem_machine.specs.Machines.{entries_in};
+ghost use Rattle.shown_states.specs.Groups.{numbers_of};
+
+use cpu_part::BootName;
+use frame_word::Frame;
+use group_tree::group::GroupId;
+use lru_lists::record::LruList;
+use mem_machine::Machine;
+use std::alloc::{AllocError, Global};
+
+// The numbers of the first frames, and behind them those of the rest.
+pub(crate) fn frame_numbers(
+    alloc: Global,
+    first: &[Frame],
+    rest: &[Frame],
+) -> Result<Vec<u32>, AllocError>
+    ensures { IfOk result (λ numbers. numbers.items ≡ first.now ++ rest.now) }
+{
+    let mut numbers = Vec::with_capacity(alloc, first.len())?;
+    add_frames(first, &mut numbers)?;
+    add_frames(rest, &mut numbers)?;
+    Ok(numbers)
+}
+
+// Adds the numbers of these frames.
+fn add_frames(frames: &[Frame], numbers: &mut Vec<u32>) -> Result<(), AllocError>
+    ensures { IfOk result (λ _. numbers.new.items ≡ numbers.old.items ++ frames.now) }
+{
+    for frame in frames {
+        numbers.push(frame.number())?;
+    }
+    Ok(())
+}
+
+// The first frames of the units on one of a group's lists, from the oldest to the newest.
+pub(crate) fn unit_numbers<N: BootName>(
+    alloc: Global,
+    machine: &Machine<N>,
+    group: GroupId,
+    list: LruList,
+) -> Result<Vec<u32>, AllocError>
+    ensures { IfOk result (λ numbers. numbers.items ≡ numbers_of (entries_in machine.now group list)) }
+{
+    let mut numbers = Vec::with_capacity(alloc, machine.list_len(group, list) as usize)?;
+    for entry in machine.entries(group, list) {
+        numbers.push(entry.number)?;
+    }
+    Ok(numbers)
+}
