@@ -71,7 +71,7 @@ pub struct End {
     pub returns: u64,
 }
 
-/// Adds the header of a trace. It fails only if memory spans out.
+/// Adds the header of a trace. It fails only if memory runs out.
 pub fn write_header(header: &Header, text: &mut String) -> Result<(), AllocError>
     ensures { IfOk result (λ _. string_bytes text.new ≡ string_bytes text.old ++ header_text header.now) }
 {
@@ -139,7 +139,7 @@ fn push_keyed_string(key: &str, bytes: &[u8], text: &mut String) -> Result<(), A
 
 /// Adds the object of a line: the line with its command and answer, what differs between what was shown `before` it and
 /// what is shown `after` it, its notes, which leave out `left_out` frames, and the counts, if they changed. It fails
-/// only if memory spans out.
+/// only if memory runs out.
 pub fn write_object(
     alloc: Global,
     line: &LineFacts,
@@ -230,7 +230,7 @@ fn reason(miss: FastMiss) -> &'static str
     }
 }
 
-/// Adds the end of a trace. It fails only if memory spans out.
+/// Adds the end of a trace. It fails only if memory runs out.
 pub fn write_end(end: &End, text: &mut String) -> Result<(), AllocError>
     ensures { IfOk result (λ _. string_bytes text.new ≡ string_bytes text.old ++ end_text end.now) }
 {

@@ -73,7 +73,7 @@ pub fn order_after(order: u32, frame: TracedFrame) -> u32
     }
 }
 
-/// The places of frames with these records. `AllocError` if memory spans out.
+/// The places of frames with these records. `AllocError` if memory runs out.
 pub fn places(alloc: Global, frames: &[TracedFrame]) -> Result<Vec<Place>, AllocError>
     ensures { IfOk result (λ places. places.items ≡ places_of frames.now) }
 {
