@@ -5,7 +5,7 @@ use Rattle.std.proofs.lemmas.Bool.Decides.{eqb_tells}
 use Rattle.std.specs.Prelude.{IsPermutation}
 use Rattle.frame_word.specs.declared.view.FrameNote.{FrameNote}
 use Rattle.frame_word.specs.declared.view.FrameView.{FrameView}
-use Rattle.frame_word.specs.Views.{note_of, changed, in_hands, looked, held, let_go, let_go_last, took_in, gave_back}
+use Rattle.frame_word.specs.Views.{note_of, changed, in_hands, looked, held, dropped_one, dropped_last, took_in, passed_back_by_cpu}
 use Rattle.frame_word.proofs.Notes.{note_here, note_else}
 use Rattle.cpu_part.specs.Cpus.{times, IsNoted, AreNoted}
 use Rattle.cpu_part.proofs.Counts.{test_here, test_other, times_front, times_end, times_parted}
@@ -81,10 +81,10 @@ module _ (frames f : ℕ) (list fresh back pins : List ℕ) (v : FrameView) (not
       record { borrowed = omega (arith, s, o); own = refl; references = refl })
 
   -- the frame went back to the zone from the list, from the fresh frames, or from the back frames
-  pub noted_front_handed : (rest : List ℕ) → list ≡ f ∷ rest → AreNoted frames rest fresh back pins (changed v f gave_back)
+  pub noted_front_handed : (rest : List ℕ) → list ≡ f ∷ rest → AreNoted frames rest fresh back pins (changed v f passed_back_by_cpu)
   noted_front_handed rest front =
       let n = noted f in let h = n.once in let e = ap (times f) front ∙ times_front f f rest in let t = test_here f in
-      noted_changed frames f list fresh back pins rest fresh back pins v noted gave_back
+      noted_changed frames f list fresh back pins rest fresh back pins v noted passed_back_by_cpu
       (record {
         borrowed_is = omega (arith, h, e, t);
         own_is = omega (arith, h, e, t);
@@ -96,10 +96,10 @@ module _ (frames f : ℕ) (list fresh back pins : List ℕ) (v : FrameView) (not
       (λ g not. let s = ap (times g) front ∙ times_front g f rest in let o = test_other g f not in
       record { borrowed = omega (arith, s, o); own = refl; references = refl })
 
-  pub noted_fresh_handed : (rest : List ℕ) → fresh ≡ f ∷ rest → AreNoted frames list rest back pins (changed v f gave_back)
+  pub noted_fresh_handed : (rest : List ℕ) → fresh ≡ f ∷ rest → AreNoted frames list rest back pins (changed v f passed_back_by_cpu)
   noted_fresh_handed rest front =
       let n = noted f in let h = n.once in let e = ap (times f) front ∙ times_front f f rest in let t = test_here f in
-      noted_changed frames f list fresh back pins list rest back pins v noted gave_back
+      noted_changed frames f list fresh back pins list rest back pins v noted passed_back_by_cpu
       (record {
         borrowed_is = omega (arith, h, e, t);
         own_is = omega (arith, h, e, t);
@@ -111,10 +111,10 @@ module _ (frames f : ℕ) (list fresh back pins : List ℕ) (v : FrameView) (not
       (λ g not. let s = ap (times g) front ∙ times_front g f rest in let o = test_other g f not in
       record { borrowed = omega (arith, s, o); own = refl; references = refl })
 
-  pub noted_back_handed : (rest : List ℕ) → back ≡ f ∷ rest → AreNoted frames list fresh rest pins (changed v f gave_back)
+  pub noted_back_handed : (rest : List ℕ) → back ≡ f ∷ rest → AreNoted frames list fresh rest pins (changed v f passed_back_by_cpu)
   noted_back_handed rest front =
       let n = noted f in let h = n.once in let e = ap (times f) front ∙ times_front f f rest in let t = test_here f in
-      noted_changed frames f list fresh back pins list fresh rest pins v noted gave_back
+      noted_changed frames f list fresh back pins list fresh rest pins v noted passed_back_by_cpu
       (record {
         borrowed_is = omega (arith, h, e, t);
         own_is = omega (arith, h, e, t);
@@ -144,10 +144,10 @@ module _ (frames f : ℕ) (list fresh back pins : List ℕ) (v : FrameView) (not
       record { borrowed = refl; own = refl; references = omega (arith, s, o) })
 
   -- one pin went, and references of others are left
-  pub noted_unpinned : (pins' : List ℕ) (left : ℕ) → IsPermutation pins (f ∷ pins') → AreNoted frames list fresh back pins' (changed v f (let_go left))
+  pub noted_unpinned : (pins' : List ℕ) (left : ℕ) → IsPermutation pins (f ∷ pins') → AreNoted frames list fresh back pins' (changed v f (dropped_one left))
   noted_unpinned pins' left parts =
       let n = noted f in let r = n.references_are in let e = times_parted f f pins pins' parts in let t = test_here f in
-      noted_changed frames f list fresh back pins list fresh back pins' v noted (let_go left)
+      noted_changed frames f list fresh back pins list fresh back pins' v noted (dropped_one left)
       (record {
         borrowed_is = n.borrowed_is;
         own_is = n.own_is;
@@ -161,11 +161,11 @@ module _ (frames f : ℕ) (list fresh back pins : List ℕ) (v : FrameView) (not
 
   -- the last reference went, and the frame is a back frame
   pub noted_last_unpinned : (pins' back' : List ℕ) → IsPermutation pins (f ∷ pins') → back' ≡ back ++ f ∷ [] → in_hands (note_of v f) ≡ 0
-      → AreNoted frames list fresh back' pins' (changed v f let_go_last)
+      → AreNoted frames list fresh back' pins' (changed v f dropped_last)
   noted_last_unpinned pins' back' parts end none =
       let n = noted f in let a = n.borrowed_is in let b = n.own_is in let r = n.references_are in let e = times_parted f f pins pins' parts in
       let u = ap (times f) end ∙ times_end f f back in let t = test_here f in
-      noted_changed frames f list fresh back pins list fresh back' pins' v noted let_go_last
+      noted_changed frames f list fresh back pins list fresh back' pins' v noted dropped_last
       (record {
         borrowed_is = n.borrowed_is;
         own_is = omega (arith, a, b, u, t, none);

@@ -6,7 +6,7 @@ use Rattle.frame_word.specs.declared.view.FrameNote.{FrameNote}
 use Rattle.frame_word.specs.declared.answers.Get.{Get}
 use Rattle.frame_word.specs.declared.answers.Get.TheVariants.{Held, Zero, Raced, Full}
 use Rattle.frame_word.specs.declared.answers.Put.TheVariants.{Left}
-use Rattle.frame_word.specs.Views.{note_of, in_hands, looked, held, raced, let_go, let_go_last, took_in, gave_back}
+use Rattle.frame_word.specs.Views.{note_of, in_hands, looked, held, raced, dropped_one, dropped_last, took_in, passed_back_by_cpu}
 use Rattle.frame_word.specs.Seats.{KnownTable, KnownSeat, seat_with, GetAnswers, PutAnswers}
 use Rattle.stock_word.specs.Stock.{KnownStockTable, KnownStockSeat}
 use Rattle.stock_word.specs.Kinds.{after_report}
@@ -70,17 +70,17 @@ module _ (t : KnownTable) (w : KnownStockTable) (c : KnownCpu) (tied : IsTied t 
       → IsTied t w (record c { pins = pins; frame_seat = seat })
   tied_left n seat pins put parts = subst (λ (s : KnownSeat). IsTied t w (record c { pins = pins; frame_seat = s })) (sym put.2)
       (record {
-        seats = seats_with (let_go n);
+        seats = seats_with (dropped_one n);
         noted = noted_unpinned t.frames f c.list c.fresh c.back c.pins c.frame_seat.view tied.noted pins n parts;
         within = let b = tied.within in let p = b.pin_bound in let e = length_parted f c.pins pins parts in
             record { list_bound = b.list_bound; fresh_bound = b.fresh_bound; pin_bound = omega (arith, e, p); pages_are = b.pages_are };
       })
 
-  pub tied_last : (seat : KnownSeat) (pins back : List ℕ) → seat ≡ seat_with c.frame_seat f let_go_last → IsPermutation c.pins (f ∷ pins) → back ≡ c.back ++ f ∷ []
+  pub tied_last : (seat : KnownSeat) (pins back : List ℕ) → seat ≡ seat_with c.frame_seat f dropped_last → IsPermutation c.pins (f ∷ pins) → back ≡ c.back ++ f ∷ []
       → in_hands (note_of c.frame_seat.view f) ≡ 0 → IsTied t w (record c { back = back; pins = pins; frame_seat = seat })
   tied_last seat pins back is parts end none = subst (λ (s : KnownSeat). IsTied t w (record c { back = back; pins = pins; frame_seat = s })) (sym is)
       (record {
-        seats = seats_with let_go_last;
+        seats = seats_with dropped_last;
         noted = noted_last_unpinned t.frames f c.list c.fresh c.back c.pins c.frame_seat.view tied.noted pins back parts end none;
         within = let b = tied.within in let p = b.pin_bound in let e = length_parted f c.pins pins parts in let u = length_end f c.back back end in
             record { list_bound = b.list_bound; fresh_bound = b.fresh_bound; pin_bound = omega (arith, e, p, u); pages_are = b.pages_are };
@@ -97,27 +97,27 @@ module _ (t : KnownTable) (w : KnownStockTable) (c : KnownCpu) (tied : IsTied t 
             record { list_bound = omega (arith, e, room); fresh_bound = b.fresh_bound; pin_bound = b.pin_bound; pages_are = b.pages_are };
       })
 
-  pub tied_front_handed : (seat : KnownSeat) (rest : List ℕ) → seat ≡ seat_with c.frame_seat f gave_back → c.list ≡ f ∷ rest
+  pub tied_front_handed : (seat : KnownSeat) (rest : List ℕ) → seat ≡ seat_with c.frame_seat f passed_back_by_cpu → c.list ≡ f ∷ rest
       → IsTied t w (record c { list = rest; frame_seat = seat })
   tied_front_handed seat rest is front = subst (λ (s : KnownSeat). IsTied t w (record c { list = rest; frame_seat = s })) (sym is)
       (record {
-        seats = seats_with gave_back;
+        seats = seats_with passed_back_by_cpu;
         noted = noted_front_handed t.frames f c.list c.fresh c.back c.pins c.frame_seat.view tied.noted rest front;
         within = let b = tied.within in let p = b.list_bound in let e = length_front f c.list rest front in
             record { list_bound = omega (arith, e, p); fresh_bound = b.fresh_bound; pin_bound = b.pin_bound; pages_are = b.pages_are };
       })
 
-  pub tied_back_handed : (seat : KnownSeat) (rest : List ℕ) → seat ≡ seat_with c.frame_seat f gave_back → c.back ≡ f ∷ rest
+  pub tied_back_handed : (seat : KnownSeat) (rest : List ℕ) → seat ≡ seat_with c.frame_seat f passed_back_by_cpu → c.back ≡ f ∷ rest
       → IsTied t w (record c { back = rest; frame_seat = seat })
   tied_back_handed seat rest is front = subst (λ (s : KnownSeat). IsTied t w (record c { back = rest; frame_seat = s })) (sym is)
       (record {
-        seats = seats_with gave_back;
+        seats = seats_with passed_back_by_cpu;
         noted = noted_back_handed t.frames f c.list c.fresh c.back c.pins c.frame_seat.view tied.noted rest front;
         within = let b = tied.within in let p = b.pin_bound in let e = length_front f c.back rest front in
             record { list_bound = b.list_bound; fresh_bound = b.fresh_bound; pin_bound = omega (arith, e, p); pages_are = b.pages_are };
       })
 
-  pub tied_fresh_handed : (seat : KnownSeat) (stock : KnownStockSeat) (rest : List ℕ) → seat ≡ seat_with c.frame_seat f gave_back
+  pub tied_fresh_handed : (seat : KnownSeat) (stock : KnownStockSeat) (rest : List ℕ) → seat ≡ seat_with c.frame_seat f passed_back_by_cpu
       → stock ≡ with_view c.stock_seat (after_report c.stock_seat.view 1) → c.fresh ≡ f ∷ rest
       → IsTied t w (record c { fresh = rest; frame_seat = seat; stock_seat = stock })
   tied_fresh_handed seat stock rest is paid front = subst (λ (s : KnownSeat × KnownStockSeat). IsTied t w (record c {

@@ -5,7 +5,7 @@ use Rattle.frame_word.specs.declared.answers.Get.{Get}
 use Rattle.frame_word.specs.declared.answers.Get.TheVariants.{Held}
 use Rattle.frame_word.specs.declared.answers.Put.{Put}
 use Rattle.frame_word.specs.declared.answers.Put.TheVariants.{Left, Last}
-use Rattle.frame_word.specs.Views.{gave_back}
+use Rattle.frame_word.specs.Views.{passed_back_by_cpu}
 use Rattle.frame_word.specs.Seats.{KnownSeat, seat_with, GetAnswers, PutAnswers}
 use Rattle.stock_word.specs.declared.view.StockView.{StockView}
 use Rattle.stock_word.specs.declared.words.Consume.{Consume}
@@ -76,23 +76,23 @@ UnpinAnswers f Last c d = IsPermutation c.pins (f ∷ d.pins) × (seat : KnownSe
     × (d ≡ record c { pins = d.pins; back = c.back ++ f ∷ []; frame_seat = seat })
 
 -- f, the front of the list, is passed back to the zone
-abbrev pub HandsFront : ℕ → KnownCpu → KnownCpu → Type 0
-HandsFront f c d = (rest : List ℕ) × (c.list ≡ f ∷ rest)
-    × (d ≡ record c { list = rest; frame_seat = seat_with c.frame_seat f gave_back })
+abbrev pub PassesFront : ℕ → KnownCpu → KnownCpu → Type 0
+PassesFront f c d = (rest : List ℕ) × (c.list ≡ f ∷ rest)
+    × (d ≡ record c { list = rest; frame_seat = seat_with c.frame_seat f passed_back_by_cpu })
 
 -- f, the oldest fresh frame, is passed back to the zone, and its page is reported
-abbrev pub HandsFresh : ℕ → KnownCpu → KnownCpu → Type 0
-HandsFresh f c d = (rest : List ℕ) × (c.fresh ≡ f ∷ rest)
+abbrev pub PassesFresh : ℕ → KnownCpu → KnownCpu → Type 0
+PassesFresh f c d = (rest : List ℕ) × (c.fresh ≡ f ∷ rest)
     × (d ≡ record c {
       fresh = rest;
-      frame_seat = seat_with c.frame_seat f gave_back;
+      frame_seat = seat_with c.frame_seat f passed_back_by_cpu;
       stock_seat = with_view c.stock_seat (after_report c.stock_seat.view 1);
     })
 
 -- f, the oldest back frame, is passed back to the zone
-abbrev pub HandsBack : ℕ → KnownCpu → KnownCpu → Type 0
-HandsBack f c d = (rest : List ℕ) × (c.back ≡ f ∷ rest)
-    × (d ≡ record c { back = rest; frame_seat = seat_with c.frame_seat f gave_back })
+abbrev pub PassesBackUnit : ℕ → KnownCpu → KnownCpu → Type 0
+PassesBackUnit f c d = (rest : List ℕ) × (c.back ≡ f ∷ rest)
+    × (d ≡ record c { back = rest; frame_seat = seat_with c.frame_seat f passed_back_by_cpu })
 
 -- f, the front of the list, is now the newest fresh frame; a page is taken from the stock of g, which has n left
 abbrev pub TakesFront : ℕ → ℕ → ℕ → KnownCpu → KnownCpu → Type 0

@@ -6,7 +6,7 @@ ghost use Rattle.frame_word.specs.Seats.{IsZoneSeat, LentIsBorrowed, NothingPass
 ghost use Rattle.stock_word.specs.Stock.{IsZoneView, IsCpuView, account_for, account_of, group_of};
 ghost use Rattle.stock_word.specs.Kinds.{zone_after_report, after_report};
 ghost use Rattle.stock_word.specs.Calls.{with_view};
-ghost use Rattle.cpu_part.specs.Calls.{HandsFront, HandsFresh, HandsBack};
+ghost use Rattle.cpu_part.specs.Calls.{PassesFront, PassesFresh, PassesBackUnit};
 ghost use Rattle.cpu_part.specs.Cpus.{most_listed};
 
 use crate::boot_name::{BootName, Tables};
@@ -45,7 +45,7 @@ impl<N: BootName> Cpu<N> {
 
     /// Takes a frame that is in transit to this CPU, and lent to it, to the end of the list. Listed and fresh frames
     /// are fewer than 256.
-    pub fn accept(&mut self, tables: &Tables<N>, zone: &mut FrameSeat, frame: Frame)
+    pub fn take_in(&mut self, tables: &Tables<N>, zone: &mut FrameSeat, frame: Frame)
         requires zone { IsZoneSeat N.frames zone.old }
         requires frame { frame < N.frames.frames }
         requires passes { Passes zone.old self.old.frame_seat frame }
@@ -63,11 +63,11 @@ impl<N: BootName> Cpu<N> {
     }
 
     /// Passes the front of the list back to the zone; `None` exactly if the list is empty. The visit is open.
-    pub fn hand_front(&mut self, tables: &Tables<N>, zone: &mut FrameSeat) -> Option<Frame>
+    pub fn pass_front(&mut self, tables: &Tables<N>, zone: &mut FrameSeat) -> Option<Frame>
         requires zone { IsZoneSeat N.frames zone.old }
         requires open { IsOpen zone.old self.old.number }
         ensures answer { MatchOption result ((self.old.list ≡ []) × (self.new ≡ self.old))
-            (λ f. HandsFront f self.old self.new) }
+            (λ f. PassesFront f self.old self.new) }
         ensures frame { IfSome result (λ f. f < N.frames.frames) }
         ensures zone { zone.new ≡ zone.old }
         ensures borrowed { IfSome result (λ f. HasNothingOf zone.old f × IsLent zone.old f self.old.number) }
@@ -79,7 +79,7 @@ impl<N: BootName> Cpu<N> {
 
     /// Passes the oldest fresh frame back to the zone and reports its page; `None` exactly if there is none. The visit
     /// is open.
-    pub fn hand_fresh(
+    pub fn pass_fresh(
         &mut self,
         tables: &Tables<N>,
         zone: &mut FrameSeat,
@@ -89,7 +89,7 @@ impl<N: BootName> Cpu<N> {
         requires zone_stock { (zone_stock.old.table ≡ N.stocks.table) × IsZoneView zone_stock.old.view }
         requires open { IsOpen zone.old self.old.number }
         ensures answer { MatchOption result ((self.old.fresh ≡ []) × (self.new ≡ self.old))
-            (λ f. HandsFresh f self.old self.new) }
+            (λ f. PassesFresh f self.old self.new) }
         ensures frame { IfSome result (λ f. f < N.frames.frames) }
         ensures zone { zone.new ≡ zone.old }
         ensures borrowed { IfSome result (λ f. HasNothingOf zone.old f × IsLent zone.old f self.old.number) }
@@ -117,11 +117,11 @@ impl<N: BootName> Cpu<N> {
     }
 
     /// Passes the oldest back frame back to the zone; `None` exactly if there is none. The visit is open.
-    pub fn hand_back(&mut self, tables: &Tables<N>, zone: &mut FrameSeat) -> Option<Frame>
+    pub fn pass_back_unit(&mut self, tables: &Tables<N>, zone: &mut FrameSeat) -> Option<Frame>
         requires zone { IsZoneSeat N.frames zone.old }
         requires open { IsOpen zone.old self.old.number }
         ensures answer { MatchOption result ((self.old.back ≡ []) × (self.new ≡ self.old))
-            (λ f. HandsBack f self.old self.new) }
+            (λ f. PassesBackUnit f self.old self.new) }
         ensures frame { IfSome result (λ f. f < N.frames.frames) }
         ensures zone { zone.new ≡ zone.old }
         ensures own { IfSome result (λ f. HasNothingOf zone.old f × IsLentToNone zone.old f) }

@@ -10,8 +10,8 @@ use Rattle.seat_sums.specs.Totals.{total_over}
 use Rattle.seat_sums.proofs.Totals.{total_swap, total_view, total_below, total_plus}
 use Rattle.frame_word.specs.declared.view.FrameNote.{FrameNote}
 use Rattle.frame_word.specs.declared.view.FrameView.{FrameView}
-use Rattle.frame_word.specs.Views.{note_of, changed, with_visit, in_hands, lent_count, HasNone, IsSettledAt, begun, ended, passed_out_to, took_in}
-use Rattle.frame_word.specs.Views.{gave_back, collected_from}
+use Rattle.frame_word.specs.Views.{note_of, changed, with_visit, in_hands, lent_count, HasNone, IsHandedOverAt, begun, ended, passed_out_to, took_in}
+use Rattle.frame_word.specs.Views.{passed_back_by_cpu, collected_from}
 use Rattle.frame_word.specs.ReferenceRule.{mark, only, visit_index, references_in, hands_in, begun_in, ended_in, lent_in, lent_number, borrowed_in}
 use Rattle.frame_word.specs.ReferenceRule.{opened_in, HandOverRule, FrameRule, VisitRule, ReferenceRule}
 use Rattle.frame_word.proofs.Notes.{lent_yes, lent_no, put_here, put_else, note_here, only_here, only_else, marked_here, marked_else}
@@ -247,40 +247,40 @@ module _ (frames cpus : ℕ) (seats : List (List FrameView)) (id : ℕ) (z v : F
 
     -- pass_back: out of the CPU's hand, while its visit is open
     pub gave_back_rule : get_or z.opened q 0 ≡ 1 → in_hands (note_of v f) ≡ 1
-        → ReferenceRule frames cpus (set words f (mark q)) (swapped seats id pair 1 v at refl (changed v f gave_back))
+        → ReferenceRule frames cpus (set words f (mark q)) (swapped seats id pair 1 v at refl (changed v f passed_back_by_cpu))
     gave_back_rule open_now hand =
         let visit : get_or words (visit_index frames q) 0 ≡ 1 = visit_here ∙ open_now in
         let part = hands_part frames cpus seats id pair 1 v at refl words f inside rule in
         let c = case_handed cpus word_now refs_now hands_now 1 (omega arith) (omega arith) now in let c0 = c.0 in let c1 = c.1 in let c2 = c.2 in
-        let new : List (List FrameView) = swapped seats id pair 1 v at refl (changed v f gave_back) in
+        let new : List (List FrameView) = swapped seats id pair 1 v at refl (changed v f passed_back_by_cpu) in
         let at_q : HandOverRule new f (mark q) q =
         let o = (rule.each_frame f inside).each_cpu q low high in let o0 = o.passing in let o2 = o.lent_is_near in
-        let b = begun_swap frames cpus seats id pair 1 v at refl words f inside rule gave_back q in
-        let e = ended_swap frames cpus seats id pair 1 v at refl words f inside rule gave_back q in
-        let l = lent_swap frames cpus seats id pair 1 v at refl words f inside rule gave_back q in
-        let d = borrowed_swap frames cpus seats id pair 1 v at refl words f inside rule gave_back q in
-        let h = hands_swap frames cpus seats id pair 1 v at refl words f inside rule gave_back q in
-        let below = borrowed_below frames cpus seats id pair 1 v at refl words f inside rule gave_back q in
+        let b = begun_swap frames cpus seats id pair 1 v at refl words f inside rule passed_back_by_cpu q in
+        let e = ended_swap frames cpus seats id pair 1 v at refl words f inside rule passed_back_by_cpu q in
+        let l = lent_swap frames cpus seats id pair 1 v at refl words f inside rule passed_back_by_cpu q in
+        let d = borrowed_swap frames cpus seats id pair 1 v at refl words f inside rule passed_back_by_cpu q in
+        let h = hands_swap frames cpus seats id pair 1 v at refl words f inside rule passed_back_by_cpu q in
+        let below = borrowed_below frames cpus seats id pair 1 v at refl words f inside rule passed_back_by_cpu q in
         let before = borrowed_before frames cpus seats id pair 1 v at refl words f inside rule q in
         let m0 = marked_else q word_now (λ x. omega arith) in let m1 = marked_here q (mark q) refl in
         let b0 = only_here q v (note_of v f).passed_back refl in let b1 = only_here q v ((note_of v f).passed_back + 1) refl in
         record { passing = omega arith; borrowed_is_lent = omega arith; lent_is_near = omega arith } in
-        hand_step frames cpus seats id pair 1 v at refl words f inside rule gave_back (mark q) refl
+        hand_step frames cpus seats id pair 1 v at refl words f inside rule passed_back_by_cpu (mark q) refl
         (λ p lo hi is. subst (λ (x : ℕ). get_or words (visit_index frames x) 0 ≡ 1) (omega arith) visit)
         (λ h eh. inr (inr (omega arith, omega arith, c1, omega arith)))
         (λ p lo hi. dite (ℕ_discrete p q)
         (λ is. subst (HandOverRule new f (mark q)) (sym is) at_q)
         (λ not. let o = (rule.each_frame f inside).each_cpu p lo hi in let o0 = o.passing in let o1 = o.borrowed_is_lent in let o2 = o.lent_is_near in
-        let b = begun_swap frames cpus seats id pair 1 v at refl words f inside rule gave_back p in
-        let e = ended_swap frames cpus seats id pair 1 v at refl words f inside rule gave_back p in
-        let l = lent_swap frames cpus seats id pair 1 v at refl words f inside rule gave_back p in
-        let d = borrowed_swap frames cpus seats id pair 1 v at refl words f inside rule gave_back p in
+        let b = begun_swap frames cpus seats id pair 1 v at refl words f inside rule passed_back_by_cpu p in
+        let e = ended_swap frames cpus seats id pair 1 v at refl words f inside rule passed_back_by_cpu p in
+        let l = lent_swap frames cpus seats id pair 1 v at refl words f inside rule passed_back_by_cpu p in
+        let d = borrowed_swap frames cpus seats id pair 1 v at refl words f inside rule passed_back_by_cpu p in
         let m0 = marked_else p word_now (λ x. omega arith) in let m1 = marked_else p (mark q) (λ x. not (omega arith)) in
         let other : q ≢ p = λ x. not (sym x) in
         let b0 = only_else p v (note_of v f).passed_back other in let b1 = only_else p v ((note_of v f).passed_back + 1) other in
         let d0 = only_else p v (note_of v f).borrowed other in let d1 = only_else p v 0 other in
         record { passing = omega arith; borrowed_is_lent = omega arith; lent_is_near = omega arith }))
-        (let n = number_swap frames cpus seats id pair 1 v at refl words f inside rule gave_back 0 in
+        (let n = number_swap frames cpus seats id pair 1 v at refl words f inside rule passed_back_by_cpu 0 in
         let most = (rule.each_frame f inside).lent_to_one in omega arith)
 
     -- collect: into the zone's hand
@@ -363,7 +363,7 @@ module _ (frames cpus : ℕ) (seats : List (List FrameView)) (id : ℕ) (z v : F
         dite (ℕ_discrete (note_of z f).lent q) (λ e. e) (λ ne. let x = lent_no (note_of z f) q ne in absurd (omega arith))
 
     -- while the visit is shut, or nothing passes, no word is the CPU's mark: the two seats are settled
-    pub settled_where : word_now ≢ mark q → IsSettledAt z v f
+    pub settled_where : word_now ≢ mark q → IsHandedOverAt z v f
     settled_where not = let o = (rule.each_frame f inside).each_cpu q low high in let o0 = o.passing in let o2 = o.lent_is_near in
         let m = marked_else q word_now not in let b = begun_here f in let e = ended_here f in let l = lent_here f q in let d = borrowed_here f in
         let both = hands_both f in let one = one_hand cpus word_now refs_now hands_now now in let r0 = zone_refs in let r1 = cpu_refs in record {

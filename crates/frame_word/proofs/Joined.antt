@@ -4,7 +4,7 @@ use Rattle.std.proofs.Common.{◌≡◌, ◌≢◌, ℕ, ◌+◌, ◌-◌, ◌<�
 use mathlib.Core.Option.{none}
 use Rattle.atomic_table.specs.Table.{Me, Step, step, keeps, Allows}
 use Rattle.frame_word.specs.declared.view.FrameView.{FrameView}
-use Rattle.frame_word.specs.Views.{note_of, changed, with_visit, in_hands, begun, ended, passed_out_to, took_in, gave_back, collected_from}
+use Rattle.frame_word.specs.Views.{note_of, changed, with_visit, in_hands, begun, ended, passed_out_to, took_in, passed_back_by_cpu, collected_from}
 use Rattle.frame_word.specs.ReferenceRule.{mark, visit_index, ReferenceRule}
 use Rattle.frame_word.specs.Kinds.{rule_of, by_one, by_two, passes_out, takes_in, passes_back, collects, visits}
 use Rattle.frame_word.proofs.ShortSteps.{handed, not_lent}
@@ -48,14 +48,14 @@ module _ {S : Type 0} (frames cpus slots id : ℕ) (me : Me S (List FrameView)) 
           → Stores (by_two passes_back) me f word
       passes_back_as open_now hand word is = subst (λ (m : Me S (List FrameView)). Stores (by_two passes_back) m f word) (sym both)
           (λ s h homes at small. let none_of = handed_over frames cpus s.views id z v at zone low high s.words h f inside hand in (
-            z ∷ changed v f gave_back ∷ [],
+            z ∷ changed v f passed_back_by_cpu ∷ [],
             keeps,
             tt,
-            subst (λ (x : ℕ). ReferenceRule frames cpus (set s.words f x) (set s.views id (z ∷ changed v f gave_back ∷ []))) (sym is)
+            subst (λ (x : ℕ). ReferenceRule frames cpus (set s.words f x) (set s.views id (z ∷ changed v f passed_back_by_cpu ∷ []))) (sym is)
                 (gave_back_rule frames cpus s.views id z v at zone low high s.words h f inside open_now hand),
             (
               z,
-              changed v f gave_back,
+              changed v f passed_back_by_cpu,
               refl,
               (
                 refl,

@@ -5,9 +5,9 @@
 use Rattle.std.specs.Prelude.{◌≡◌, ◌≢◌, ◌⊎◌, ℕ, ◌+◌, ◌-◌, ◌<◌, ◌≤◌, List, [], ◌∷◌}
 use Rattle.atomic_table.specs.Table.{State, Step, Me, Final, Seen}
 use Rattle.frame_word.specs.declared.view.FrameView.{FrameView}
-use Rattle.frame_word.specs.Views.{note_of, changed, with_visit, in_hands, looked, held, raced, let_go, let_go_last}
-use Rattle.frame_word.specs.Views.{frozen, missed, unfrozen, passed_out_to, took_in, gave_back, collected_from, HasNone}
-use Rattle.frame_word.specs.Views.{IsSettledAt}
+use Rattle.frame_word.specs.Views.{note_of, changed, with_visit, in_hands, looked, held, raced, dropped_one, dropped_last}
+use Rattle.frame_word.specs.Views.{frozen, missed, unfrozen, passed_out_to, took_in, passed_back_by_cpu, collected_from, HasNone}
+use Rattle.frame_word.specs.Views.{IsHandedOverAt}
 use Rattle.frame_word.specs.ReferenceRule.{most_references, mark_base, ReferenceRule}
 use Rattle.frame_word.specs.Seats.{first_zone_view, first_cpu_view, cpu_views}
 
@@ -52,7 +52,7 @@ adds v f asked found w = (found ≡ (note_of v f).seen → w ≡ changed v f hel
 -- A put: one reference less. After the last one the seat owns the frame. The frame was in no hand of the seat before.
 abbrev pub puts : FrameView → ℕ → ℕ → ℕ → FrameView → Type 0
 puts v f asked found w = ((note_of v f).references ≤ found) × (found ≤ most_references) × (in_hands (note_of v f) ≡ 0)
-    × (found ≡ 1 → w ≡ changed v f let_go_last) × (2 ≤ found → w ≡ changed v f (let_go (found - 1)))
+    × (found ≡ 1 → w ≡ changed v f dropped_last) × (2 ≤ found → w ≡ changed v f (dropped_one (found - 1)))
 
 -- A freeze of n. If the word is n, all n references are the seat's and are dropped, and the seat owns the frame. Else
 -- it is a miss, which found another word. The frame was in no hand of the seat.
@@ -84,7 +84,7 @@ takes_in z v f stored z' v' = (z' ≡ z) × (v' ≡ changed v f took_in) × HasN
 -- A pass by a CPU: the frame leaves its hand. The zone's seat had nothing of the frame. It had lent the frame to no
 -- CPU, if the CPU owned it, or to this CPU, if the CPU had borrowed it.
 abbrev pub passes_back : FrameView → FrameView → ℕ → ℕ → FrameView → FrameView → Type 0
-passes_back z v f stored z' v' = (z' ≡ z) × (v' ≡ changed v f gave_back) × HasNone z f × ((note_of v f).references ≡ 0)
+passes_back z v f stored z' v' = (z' ≡ z) × (v' ≡ changed v f passed_back_by_cpu) × HasNone z f × ((note_of v f).references ≡ 0)
     × ((note_of v f).own ≡ 1 → (note_of z f).lent ≡ 0) × ((note_of v f).borrowed ≡ 1 → (note_of z f).lent ≡ v.number)
 
 -- A take by the zone's seat: it owns the frame, which is lent to no CPU any more. Neither seat had anything of the
@@ -97,7 +97,7 @@ collects z v f stored z' v' = (z' ≡ changed z f (collected_from v.number)) × 
 -- each frame. The CPU's visit word is the one at `word`, after those of the frames.
 abbrev pub visits : FrameView → FrameView → ℕ → ℕ → FrameView → FrameView → Type 0
 visits z v word state z' v' = (z' ≡ with_visit z v.number state) × (v' ≡ v)
-    × ((f : ℕ) → f + (v.number - 1) < word → IsSettledAt z v f)
+    × ((f : ℕ) → f + (v.number - 1) < word → IsHandedOverAt z v f)
 
 module _ {S : Type 0} where
   -- the reference rule of a table's state, over its words and all views

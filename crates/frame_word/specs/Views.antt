@@ -62,7 +62,7 @@ HasNone v f = ((note_of v f).references ≡ 0) × (in_hands (note_of v f) ≡ 0)
 -- The zone and a CPU are settled at the frame. It isn't in transit to or from the CPU, and is lent to the CPU exactly
 -- if the CPU has borrowed it. If one of the two has it in a hand, the other hasn't, and neither has a reference on it.
 -- If one of the two owns it, it is lent to no CPU.
-pub record IsSettledAt (zone cpu : FrameView) (f : ℕ) : Type 0 where
+pub record IsHandedOverAt (zone cpu : FrameView) (f : ℕ) : Type 0 where
   pub still : begun zone cpu f ≡ ended zone cpu f
   pub lent_is_borrowed : (note_of zone f).lent ≡ cpu.number → (note_of cpu f).borrowed ≡ 1
   pub borrowed_is_lent : (note_of cpu f).borrowed ≡ 1 → (note_of zone f).lent ≡ cpu.number
@@ -89,12 +89,12 @@ abbrev pub raced : ℕ → FrameNote → FrameNote
 raced word k = record k { steps = k.steps + 1; races = k.races + 1; raced_from = k.seen; seen = word }
 
 -- put: one reference less, and n are left to all seats
-abbrev pub let_go : ℕ → FrameNote → FrameNote
-let_go n k = record k { steps = k.steps + 1; references = k.references - 1; left = n }
+abbrev pub dropped_one : ℕ → FrameNote → FrameNote
+dropped_one n k = record k { steps = k.steps + 1; references = k.references - 1; left = n }
 
 -- the last put: one reference less, none left to any seat, and the seat owns the frame
-abbrev pub let_go_last : FrameNote → FrameNote
-let_go_last k = record k { steps = k.steps + 1; references = k.references - 1; left = 0; own = 1 }
+abbrev pub dropped_last : FrameNote → FrameNote
+dropped_last k = record k { steps = k.steps + 1; references = k.references - 1; left = 0; own = 1 }
 
 -- freeze: n references less, and the seat owns the frame
 abbrev pub frozen : ℕ → FrameNote → FrameNote
@@ -122,8 +122,8 @@ abbrev pub took_in : FrameNote → FrameNote
 took_in k = record k { steps = k.steps + 1; borrowed = 1; taken_in = k.taken_in + 1 }
 
 -- pass_back: the frame leaves the CPU's hand, and a hand-over began
-abbrev pub gave_back : FrameNote → FrameNote
-gave_back k = record k { steps = k.steps + 1; own = 0; borrowed = 0; passed_back = k.passed_back + 1 }
+abbrev pub passed_back_by_cpu : FrameNote → FrameNote
+passed_back_by_cpu k = record k { steps = k.steps + 1; own = 0; borrowed = 0; passed_back = k.passed_back + 1 }
 
 -- collect: the zone owns the frame, which is lent to no CPU, and the hand-over ended
 abbrev pub collected_from : ℕ → FrameNote → FrameNote

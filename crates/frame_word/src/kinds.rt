@@ -9,7 +9,7 @@
 ghost use Rattle.std.specs.Prelude.{◌≡◌, ◌⊎◌, ◌<◌, ◌≤◌, ◌+◌, ◌++◌, [], ◌∷◌, length, IfOk};
 ghost use Rattle.std.specs.Mem.Slots.{slots_items, slots_len, IsFull};
 ghost use Rattle.frame_word.specs.ReferenceRule.{most_references, visit_index, ReferenceRule};
-ghost use Rattle.frame_word.specs.Views.{note_of, unfrozen, passed_out_to, took_in, gave_back, collected_from};
+ghost use Rattle.frame_word.specs.Views.{note_of, unfrozen, passed_out_to, took_in, passed_back_by_cpu, collected_from};
 ghost use Rattle.frame_word.specs.Kinds.{first_views, first_alone, but_first, rule_of, EndsWith, by_one, by_two, looks};
 ghost use Rattle.frame_word.specs.Kinds.{adds, puts, freezes, unfreezes, passes_out, takes_in, passes_back, collects};
 ghost use Rattle.frame_word.specs.Kinds.{visits};
@@ -316,7 +316,7 @@ impl FrameWords {
         requires frame { frame < self.now.frames }
         requires open { IsOpen zone.old (number_of cpu.old) }
         requires hand { IsInHand cpu.old frame }
-        ensures cpu { cpu.new ≡ seat_with cpu.old frame gave_back }
+        ensures cpu { cpu.new ≡ seat_with cpu.old frame passed_back_by_cpu }
         ensures zone { zone.new ≡ zone.old }
         ensures nothing { HasNothingOf zone.old frame }
         ensures no_reference { seat_references cpu.old frame ≡ 0 }

@@ -8,7 +8,7 @@ use Rattle.zone_blocks.specs.Areas.{HasNoneFrom}
 use Rattle.frame_word.specs.Seats.{KnownTable}
 use Rattle.group_tree.specs.Room.{IsLowestOver}
 use Rattle.group_charge.specs.Charges.{current_of}
-use Rattle.stock_word.specs.declared.view.Account.{Account}
+use Rattle.stock_word.specs.declared.view.StockAccount.{StockAccount}
 use Rattle.stock_word.specs.Stock.{account_of}
 use Rattle.cpu_part.specs.Cpus.{KnownCpu}
 use Rattle.zone_sizes.specs.declared.config.Config.{Config}
@@ -139,9 +139,9 @@ filled_page : (g k : ℕ) (m n : KnownMachine) (c d : KnownCpu) → Fills g k (v
 filled_page g k m n c d f some none =
     let at : account_of n.stock_seat.view d.number ≡ filled_account m.stock_seat.view c.number g k =
     (λ i. account_of (f.machine i).stock_seat.view (f.cpu i).number) ∙ filled_at m.stock_seat.view c.number g k in
-    let book : (account_of n.stock_seat.view d.number).book ≡ (account_of m.stock_seat.view c.number).book + k = ap (λ (a : Account). a.book) at in
+    let book : (account_of n.stock_seat.view d.number).book ≡ (account_of m.stock_seat.view c.number).book + k = ap (λ (a : StockAccount). a.book) at in
     let fresh : length d.fresh ≡ 0 = ap (λ (e : KnownCpu). length e.fresh) f.cpu ∙ ap length none in
-    record { group = ap (λ (a : Account). a.group) at; held = ap (λ (a : Account). a.filled) at; some = omega (arith, book, fresh, some) }
+    record { group = ap (λ (a : StockAccount). a.group) at; held = ap (λ (a : StockAccount). a.filled) at; some = omega (arith, book, fresh, some) }
 
 pub charged_page : (t : KnownTable) (sizes : Config) (g : ℕ) (r : Result (Unit {0}) AllocFault) (m n : KnownMachine) (c d : KnownCpu) (steps : Run)
     → IsValidConfig sizes → ChargesFrame sizes g r (transition t (visit_state m c) steps (visit_state n d)) → c.fresh ≡ [] → OnOk r (HoldsPage (visit_state n d) g)
@@ -204,12 +204,12 @@ pub lent_page : (frames : List ℕ) (g : ℕ) (m n : KnownMachine) (c d : KnownC
 lent_page frames g m n c d lends page =
     let l = lent_part frames m n c d lends in
     let at : account_of n.stock_seat.view d.number ≡ account_of m.stock_seat.view c.number = λ i. account_of (l.stock_seat i).view (l.number i) in
-    let book : (account_of n.stock_seat.view d.number).book ≡ (account_of m.stock_seat.view c.number).book = ap (λ (a : Account). a.book) at in
+    let book : (account_of n.stock_seat.view d.number).book ≡ (account_of m.stock_seat.view c.number).book = ap (λ (a : StockAccount). a.book) at in
     let fresh : length d.fresh ≡ length c.fresh = ap length l.fresh in
     let some = page.some in
     record {
-      group = ap (λ (a : Account). a.group) at ∙ page.group;
-      held = ap (λ (a : Account). a.filled) at ∙ page.held;
+      group = ap (λ (a : StockAccount). a.group) at ∙ page.group;
+      held = ap (λ (a : StockAccount). a.filled) at ∙ page.held;
       some = omega (arith, book, fresh, some);
     }
 
@@ -411,12 +411,12 @@ no_frame_keeps t sizes NoFrames m n c d steps h =
 spared_page : (t : KnownTable) (g : ℕ) (m n : KnownMachine) (c d : KnownCpu) → Spares t m c n d → HoldsPage (visit_state m c) g → HoldsPage (visit_state n d) g
 spared_page t g m n c d s page =
     let at : account_of n.stock_seat.view d.number ≡ account_of m.stock_seat.view c.number = λ i. account_of (s.stock_seat i).view (s.cpu i).number in
-    let book : (account_of n.stock_seat.view d.number).book ≡ (account_of m.stock_seat.view c.number).book = ap (λ (a : Account). a.book) at in
+    let book : (account_of n.stock_seat.view d.number).book ≡ (account_of m.stock_seat.view c.number).book = ap (λ (a : StockAccount). a.book) at in
     let fresh : length d.fresh ≡ length c.fresh = ap (λ (e : KnownCpu). length e.fresh) s.cpu in
     let some = page.some in
     record {
-      group = ap (λ (a : Account). a.group) at ∙ page.group;
-      held = ap (λ (a : Account). a.filled) at ∙ page.held;
+      group = ap (λ (a : StockAccount). a.group) at ∙ page.group;
+      held = ap (λ (a : StockAccount). a.filled) at ∙ page.held;
       some = omega (arith, book, fresh, some);
     }
 

@@ -12,7 +12,7 @@ use Rattle.group_charge.specs.declared.account.Account as charge
 use Rattle.group_charge.specs.Charges.{Ledger, current_of, usage_of, noted, added, taken, peaked, charged, with_charge, with_uncharge}
 use Rattle.group_charge.proofs.CallerLemmas.{sum-map_same}
 use Rattle.group_charge.proofs.SumLemmas.{share}
-use Rattle.stock_word.specs.declared.view.Account.{Account}
+use Rattle.stock_word.specs.declared.view.StockAccount.{StockAccount}
 use Rattle.stock_word.specs.declared.view.StockView.{StockView}
 use Rattle.stock_word.specs.Stock.{KnownStockSeat, account_of}
 use Rattle.stock_word.specs.Kinds.{with_steps, zone_after_drain}
@@ -71,8 +71,8 @@ lowers_both t m x n a b = record {
 
 emptied_at : (view : StockView) (q k p : ℕ) → (account_of view p).filled ≡ false → (account_of (zone_after_drain view q k) p).filled ≡ false
 emptied_at view q k p is = elim (cases_eq p q) [
-  | inl e ↦ ap (λ (j : ℕ). (account_of (zone_after_drain view q k) j).filled) e ∙ ap (λ (a : Account). a.filled) (drained_at view q k)
-  | inr ne ↦ ap (λ (a : Account). a.filled) (drained_else view q k p ne) ∙ is
+  | inl e ↦ ap (λ (j : ℕ). (account_of (zone_after_drain view q k) j).filled) e ∙ ap (λ (a : StockAccount). a.filled) (drained_at view q k)
+  | inr ne ↦ ap (λ (a : StockAccount). a.filled) (drained_else view q k p ne) ∙ is
 ]
 
 pub drain_lowers : (t : KnownTable) (m n : KnownMachine) (q k : ℕ) → Drains q k m n → Lowers t m n

@@ -3,7 +3,7 @@
 use Rattle.std.proofs.Common.{◌≡◌, ℕ, ◌+◌, ◌-◌, ◌==◌, ◌||◌, Some, List, [], length, refl, sym, ◌∙◌, ap, subst, arith, inl, inr, eq-eqb}
 use Rattle.std.proofs.lemmas.Bool.{cases_eq, ne_eqb, cond-true, cond-false, or_from}
 use Rattle.frame_word.specs.Seats.{KnownTable, seat_references}
-use Rattle.stock_word.specs.declared.view.Account.{Account}
+use Rattle.stock_word.specs.declared.view.StockAccount.{StockAccount}
 use Rattle.stock_word.specs.Stock.{account_of}
 use Rattle.cpu_part.specs.Cpus.{KnownCpu}
 use Rattle.step_rules.specs.declared.phase.ChargedUnit.{ChargedUnit}
@@ -31,7 +31,7 @@ use Rattle.mem_history.proofs.Covers.{cover, cover_hidden, cover_shown, fresh_un
 -- ---- parts, seen from outside and from inside
 
 -- the lists and the group of a part that has this account
-pub lists_with : (list fresh back : List ℕ) (a : Account) (P : Part) → part_with list fresh back a ≡ P →
+pub lists_with : (list fresh back : List ℕ) (a : StockAccount) (P : Part) → part_with list fresh back a ≡ P →
     (P.list ≡ list) × (P.fresh ≡ fresh) × (P.back ≡ back) × (a.group ≡ P.stock.group)
 lists_with list fresh back a P e = (
   sym (ap (λ (x : Part). x.list) e),
@@ -41,7 +41,7 @@ lists_with list fresh back a P e = (
 )
 
 -- what others see of a part is its account; with its own lists it is the part
-from_outside : (list fresh back : List ℕ) (a : Account) (P : Part) → part_with [] [] [] a ≡ other_part_seen P → P.list ≡ list → P.fresh ≡ fresh → P.back ≡ back →
+from_outside : (list fresh back : List ℕ) (a : StockAccount) (P : Part) → part_with [] [] [] a ≡ other_part_seen P → P.list ≡ list → P.fresh ≡ fresh → P.back ≡ back →
     part_with list fresh back a ≡ P
 from_outside list fresh back a P e same_list same_fresh same_back =
     let outer : a.book - 0 - a.unabsorbed ≡ P.stock.pages + length P.fresh = ap (λ (x : Part). x.stock.pages) e in
@@ -62,7 +62,7 @@ from_outside list fresh back a P e same_list same_fresh same_back =
     }
 
 -- the part, whose book has its fresh pages and those noted, as others see it
-from_inside : (list fresh back : List ℕ) (a : Account) (P : Part) → part_with list fresh back a ≡ P →
+from_inside : (list fresh back : List ℕ) (a : StockAccount) (P : Part) → part_with list fresh back a ≡ P →
     P.book ≡ P.stock.pages + length P.fresh + P.unreported + P.reported → part_with [] [] [] a ≡ other_part_seen P
 from_inside list fresh back a P e booked =
     let inner : a.book - length fresh - a.unabsorbed ≡ P.stock.pages = ap (λ (x : Part). x.stock.pages) e in

@@ -3,7 +3,7 @@ use Rattle.std.proofs.Common.{◌≡◌, ℕ, ◌+◌, ◌-◌, ◌<◌, ◌≤�
 use Rattle.std.proofs.lemmas.Bool.{cases_eq, ne_eqb, cond-true, cond-false}
 use Rattle.std.proofs.lemmas.Option.{none-some}
 use Rattle.frame_word.specs.Seats.{KnownTable}
-use Rattle.stock_word.specs.declared.view.Account.{Account}
+use Rattle.stock_word.specs.declared.view.StockAccount.{StockAccount}
 use Rattle.stock_word.specs.declared.view.Stock.{Stock}
 use Rattle.stock_word.specs.declared.view.Stock.TheVariants.{NoGroup, HeldBy, DrainedOf}
 use Rattle.stock_word.specs.declared.view.StockView.{StockView}
@@ -26,7 +26,7 @@ group_fits (HeldBy h n) g is e = let same : h ≡ g = ap number_or_0 e in let lo
 group_fits (DrainedOf h) g is e = let same : h ≡ g = ap number_or_0 e in (omega (arith, same, is), same)
 
 module _ (view : StockView) (p : ℕ) where
-  abbrev pub absorbed_account : Account
+  abbrev pub absorbed_account : StockAccount
   absorbed_account = let a = account_of view p in record a { book = a.book - (a.unabsorbed + 1); unabsorbed = 0 }
 
   abbrev after : StockView
@@ -38,7 +38,7 @@ module _ (view : StockView) (p : ℕ) where
   pub absorbed_at : account_of after p ≡ absorbed_account
   absorbed_at =
       account_of-with_account (zone_after_report view p 1) p (let a = account_of (zone_after_report view p 1) p in record a { book = a.book - a.unabsorbed; unabsorbed = 0 })
-      ∙ ap (λ (a : Account). record a { book = a.book - a.unabsorbed; unabsorbed = 0 }) noted_at
+      ∙ ap (λ (a : StockAccount). record a { book = a.book - a.unabsorbed; unabsorbed = 0 }) noted_at
 
   pub absorbed_else : (q : ℕ) → (q ≡ p → ⊥) → account_of after q ≡ account_of view q
   absorbed_else q ne =
@@ -46,7 +46,7 @@ module _ (view : StockView) (p : ℕ) where
       ∙ account_of-with_account_other view p q (let a = account_of view p in record a { unabsorbed = a.unabsorbed + 1 }) ne
 
   -- a test of the accounts after it
-  pub absorbed_read : {X : Type 0} (h : Account → X) → (q : ℕ) → h (account_of after q) ≡ with_at (λ k. h (account_of view k)) p (h absorbed_account) q
+  pub absorbed_read : {X : Type 0} (h : StockAccount → X) → (q : ℕ) → h (account_of after q) ≡ with_at (λ k. h (account_of view k)) p (h absorbed_account) q
   absorbed_read h q = elim (cases_eq q p) [
     | inl e ↦ subst (λ (k : ℕ). h (account_of after k) ≡ with_at (λ j. h (account_of view j)) p (h absorbed_account) k) (sym e)
         (ap h absorbed_at ∙ sym (at_same (λ k. h (account_of view k)) p (h absorbed_account)))
@@ -55,13 +55,13 @@ module _ (view : StockView) (p : ℕ) where
 
   -- nothing that was reported is unabsorbed
   pub none_noted : ((q : ℕ) → (account_of view q).unabsorbed ≡ 0) → (q : ℕ) → (account_of after q).unabsorbed ≡ 0
-  none_noted none q = absorbed_read (λ (a : Account). a.unabsorbed) q
+  none_noted none q = absorbed_read (λ (a : StockAccount). a.unabsorbed) q
       ∙ at_each (λ j. (account_of view j).unabsorbed) p absorbed_account.unabsorbed (λ j x. x ≡ 0) refl (λ j ne. none j) q
 
   -- the books fit their words still
   pub still_bounded : ((q : ℕ) → (account_of view q).book < 65536) → (q : ℕ) → (account_of after q).book < 65536
   still_bounded bounded q =
-      let read = absorbed_read (λ (a : Account). a.book) q in
+      let read = absorbed_read (λ (a : StockAccount). a.book) q in
       let at = at_each (λ j. (account_of view j).book) p absorbed_account.book (λ j x. x < 65536)
       (let a = bounded p in omega (arith, a)) (λ j ne. bounded j) q in
       omega (arith, read, at)

@@ -14,7 +14,7 @@ use Rattle.stock_word.specs.Stock.{KnownStockTable}
 use Rattle.group_charge.specs.Charges.{Ledger, with_uncharge}
 use Rattle.lru_lists.specs.declared.record.Home.{Home}
 use Rattle.cpu_part.specs.Cpus.{KnownCpu, IsTied}
-use Rattle.cpu_part.specs.Calls.{HandsBack}
+use Rattle.cpu_part.specs.Calls.{PassesBackUnit}
 use Rattle.cpu_part.proofs.CallerLemmas.{handed_passes}
 use Rattle.step_rules.specs.declared.phase.ChargedUnit.{ChargedUnit}
 use Rattle.step_rules.specs.declared.phase.Stage.TheVariants.{AwaitsReturn, BackAt}
@@ -73,7 +73,7 @@ back_inside t w m ok i unit heads = (ok.units.heads i unit heads).block.inside
 
 -- and passes once it was handed
 pub back_passes : (t : KnownTable) (w : KnownStockTable) (m now : KnownMachine) → m ≡ now → (c h : KnownCpu) → IsTied t w c → Visits t (visit_state now c)
-    → (f : ℕ) (seat : KnownSeat) → f < t.frames → HandsBack f c h → seat ≡ m.frame_seat → Passes seat h.frame_seat f
+    → (f : ℕ) (seat : KnownSeat) → f < t.frames → PassesBackUnit f c h → seat ≡ m.frame_seat → Passes seat h.frame_seat f
 back_passes t w m now same c h tied visit f seat inside hands is =
     subst (λ (s : KnownSeat). Passes s h.frame_seat f) (sym is)
     (handed_passes t m.frame_seat c.frame_seat c.number tied.seats.frame_number f (subst (λ (x : KnownMachine). NothingPasses t x.frame_seat c.frame_seat)
@@ -166,7 +166,7 @@ pub record AllReturned (t : KnownTable) (w : KnownStockTable) (now : KnownMachin
   pub steps : LeadsAs t c.number (visit_state now c) (return_steps c.number f) (visit_state n d)
 
 pub return_all : (t : KnownTable) (w : KnownStockTable) (m now : KnownMachine) → m ≡ now → (c h d : KnownCpu) → IsTied t w c → IsConsistent t w m → Visits t (visit_state now c)
-    → (before free : List Bool) → before ≡ free_of m.frame_states → (f : ℕ) → WasBack t m f → HandsBack f c h → d ≡ h → (i : ℕ) → i ≡ f
+    → (before free : List Bool) → before ≡ free_of m.frame_states → (f : ℕ) → WasBack t m f → PassesBackUnit f c h → d ≡ h → (i : ℕ) → i ≡ f
     → (unit : ChargedUnit) → frame_state_at m.frame_states i ≡ Head unit
     → (seat : KnownSeat) → seat ≡ seat_with m.frame_seat f (collected_from h.number)
     → (frame_states : List FrameState) → FreesFrames i (2 ^ unit.order) m.frame_states frame_states → (blocks : List Block)

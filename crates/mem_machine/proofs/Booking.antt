@@ -5,7 +5,7 @@ use Rattle.std.specs.Prelude.{slice_set}
 use Rattle.std.proofs.lemmas.Bool.{cases_eq, cases_lt, false≢true, ne_eqb, cond-true, cond-false}
 use Rattle.std.proofs.lemmas.List.{get_or-set_same, get_or-set_other, length-set, length-replicate}
 use Rattle.frame_word.specs.Seats.{KnownTable}
-use Rattle.stock_word.specs.declared.view.Account.{Account}
+use Rattle.stock_word.specs.declared.view.StockAccount.{StockAccount}
 use Rattle.stock_word.specs.declared.view.StockView.{StockView}
 use Rattle.stock_word.specs.Stock.{KnownStockTable, KnownStockSeat, account_of, with_account, first_zone_stock_view}
 use Rattle.stock_word.specs.Kinds.{with_steps, zone_after_absorb, zone_after_drain, zone_after_fill, zone_after_report}
@@ -25,7 +25,7 @@ use Rattle.mem_machine.proofs.First.{repeated}
 
 -- ---- the books of a group, after one CPU's account changed
 
-module _ (t : KnownTable) (stock : KnownStockSeat) (q : ℕ) (b : Account) (inside : q ≤ t.cpus) where
+module _ (t : KnownTable) (stock : KnownStockSeat) (q : ℕ) (b : StockAccount) (inside : q ≤ t.cpus) where
   abbrev changed : KnownStockSeat
   changed = with_view stock (with_account stock.view q b)
 
@@ -222,7 +222,7 @@ module _ (t : KnownTable) (w : KnownStockTable) (m : KnownStockSeat) (sums : Lis
 pub noted_group : (m n : KnownStockSeat) (p k : ℕ) → n ≡ with_view m (zone_after_report m.view p k) → (account_of n.view p).group ≡ (account_of m.view p).group
 noted_group m n p k is =
     ap (λ (x : KnownStockSeat). (account_of x.view p).group) is
-    ∙ ap (λ (a : Account). a.group) (account_of-with_account m.view p (let a = account_of m.view p in record a { unabsorbed = a.unabsorbed + k }))
+    ∙ ap (λ (a : StockAccount). a.group) (account_of-with_account m.view p (let a = account_of m.view p in record a { unabsorbed = a.unabsorbed + k }))
 
 -- the pages of a group that is there leave its books room for as many as its root has
 pub room_booked : (t : KnownTable) (w : KnownStockTable) (m now : KnownMachine) → m ≡ now → IsConsistent t w m → AreCharges m.ledger → (g n : ℕ)

@@ -7,7 +7,7 @@ use Rattle.std.specs.Option.{option_map_or}
 use Rattle.std.proofs.lemmas.Bool.{cases_eq, ne_eqb, and_from, cond-true, cond-false, le-leb}
 use Rattle.std.proofs.lemmas.Option.{none-some}
 use Rattle.frame_word.specs.Seats.{KnownTable}
-use Rattle.stock_word.specs.declared.view.Account.{Account}
+use Rattle.stock_word.specs.declared.view.StockAccount.{StockAccount}
 use Rattle.stock_word.specs.declared.view.StockView.{StockView}
 use Rattle.stock_word.specs.Stock.{KnownStockTable, KnownStockSeat, IsZoneView, account_of}
 use Rattle.stock_word.specs.Kinds.{with_steps, zone_after_drain}
@@ -76,7 +76,7 @@ groups_stay l (Some g) n = refl
 -- ---- the accounts
 
 module _ (view : StockView) (q n : ℕ) where
-  abbrev pub drained_account : Account
+  abbrev pub drained_account : StockAccount
   drained_account = let a = account_of view q in record a { book = a.book - n; filled = false }
 
   pub drained_at : account_of (zone_after_drain view q n) q ≡ drained_account
@@ -86,7 +86,7 @@ module _ (view : StockView) (q n : ℕ) where
   drained_else p ne = account_of-with_account_other view q p drained_account ne
 
   -- a test of the accounts after it
-  pub drained_read : {X : Type 0} (h : Account → X) → (p : ℕ) → h (account_of (zone_after_drain view q n) p)
+  pub drained_read : {X : Type 0} (h : StockAccount → X) → (p : ℕ) → h (account_of (zone_after_drain view q n) p)
       ≡ with_at (λ k. h (account_of view k)) q (h drained_account) p
   drained_read h p = elim (cases_eq p q) [
     | inl e ↦ subst (λ (k : ℕ). h (account_of (zone_after_drain view q n) k) ≡ with_at (λ j. h (account_of view j)) q (h drained_account) k) (sym e)
@@ -94,7 +94,7 @@ module _ (view : StockView) (q n : ℕ) where
     | inr ne ↦ ap h (drained_else p ne) ∙ sym (at_other (λ k. h (account_of view k)) q (h drained_account) p ne)
   ]
 
-pub booked_is : (h : ℕ) (a : Account) (c : ℕ) → one_if_is h a.group ≡ c → booked h a ≡ cond (c == 0) 0 a.book
+pub booked_is : (h : ℕ) (a : StockAccount) (c : ℕ) → one_if_is h a.group ≡ c → booked h a ≡ cond (c == 0) 0 a.book
 booked_is h a c is = ap (λ (k : ℕ). cond (k == 0) 0 a.book) is
 
 pub counts_own : (h g : ℕ) → h ≡ g → one_if_is h (Some g) ≡ 1
@@ -104,10 +104,10 @@ pub counts_other : (h g : ℕ) → (h ≡ g → ⊥) → one_if_is h (Some g) �
 counts_other h g ne = cond-false (g == h) 1 0 (ne_eqb g h (λ e. ne (sym e)))
 
 -- an account with k pages of its group less
-pub booked_less : (h g k : ℕ) (a : Account) → a.group ≡ Some g → k ≤ a.book
+pub booked_less : (h g k : ℕ) (a : StockAccount) → a.group ≡ Some g → k ≤ a.book
     → booked h (record a { book = a.book - k; filled = false }) + cond (h == g) k 0 ≡ booked h a
 booked_less h g k a group enough =
-    let b : Account = record a { book = a.book - k; filled = false } in
+    let b : StockAccount = record a { book = a.book - k; filled = false } in
     elim (cases_eq h g) [
       | inl e ↦
           let u : one_if_is h a.group ≡ 1 = ap (one_if_is h) group ∙ counts_own h g e in
@@ -123,7 +123,7 @@ booked_less h g k a group enough =
           omega (arith, x, y, z)
     ]
 
-booked_no_group : (h : ℕ) (a : Account) → a.group ≡ None → booked h a ≡ 0
+booked_no_group : (h : ℕ) (a : StockAccount) → a.group ≡ None → booked h a ≡ 0
 booked_no_group h a none = booked_is h a 0 (ap (one_if_is h) none)
 
 -- what is booked to a CPU's stock is charged to its group
@@ -189,11 +189,11 @@ module _ (t : KnownTable) (w : KnownStockTable) (m : KnownMachine) (ok : IsConsi
 
   pub drain_consistent : (stock_group m q ≡ None → k ≡ 0) → IsConsistent t w (record m { ledger = uncharged m.ledger (stock_group m q) k; stock_seat = emptied })
   drain_consistent none = stocks_consistent t w m (uncharged m.ledger (stock_group m q) k) emptied ok refl ok.seats.stocks
-      (λ p. drained_read m.stock_seat.view q k (λ (a : Account). a.unabsorbed) p
+      (λ p. drained_read m.stock_seat.view q k (λ (a : StockAccount). a.unabsorbed) p
       ∙ at_each (λ j. (account_of m.stock_seat.view j).unabsorbed) q (drained_account m.stock_seat.view q k).unabsorbed
       (λ j x. x ≡ 0) (ok.absorbed q) (λ j ne. ok.absorbed j) p)
       (λ p.
-      let read = drained_read m.stock_seat.view q k (λ (a : Account). a.book) p in
+      let read = drained_read m.stock_seat.view q k (λ (a : StockAccount). a.book) p in
       let at = at_each (λ j. (account_of m.stock_seat.view j).book) q (drained_account m.stock_seat.view q k).book (λ j x. x < 65536)
       (let a = ok.bounded q in omega (arith, a)) (λ j ne. ok.bounded j) p in
       omega (arith, read, at))
@@ -213,7 +213,7 @@ and_true true = refl
 and_true false = refl
 
 -- a CPU's part whose stock is drained
-part_drained : (l f b : List ℕ) (a : Account) (n : ℕ) → part_with l f b (record a { book = a.book - n; filled = false }) ≡ drained (part_with l f b a) n
+part_drained : (l f b : List ℕ) (a : StockAccount) (n : ℕ) → part_with l f b (record a { book = a.book - n; filled = false }) ≡ drained (part_with l f b a) n
 part_drained l f b a n =
     let pages : a.book - n - length f - a.unabsorbed ≡ a.book - length f - a.unabsorbed - n = omega arith in
     λ i. record {
@@ -227,10 +227,10 @@ part_drained l f b a n =
     }
 
 module _ (stock : KnownStockSeat) (c : KnownCpu) (q n : ℕ) where
-  abbrev pub shown : ℕ → Account → Part
+  abbrev pub shown : ℕ → StockAccount → Part
   shown p a = cond (p == c.number) (part_with c.list c.fresh c.back a) (part_with [] [] [] a)
 
-  shown_drained : (p : ℕ) (a : Account) → shown p (record a { book = a.book - n; filled = false }) ≡ drained (shown p a) n
+  shown_drained : (p : ℕ) (a : StockAccount) → shown p (record a { book = a.book - n; filled = false }) ≡ drained (shown p a) n
   shown_drained p a = (λ i. cond (p == c.number) (part_drained c.list c.fresh c.back a n i) (part_drained [] [] [] a n i))
       ∙ sym (cond-ap (λ (x : Part). drained x n) (p == c.number) (part_with c.list c.fresh c.back a) (part_with [] [] [] a))
 

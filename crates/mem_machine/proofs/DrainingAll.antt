@@ -8,7 +8,7 @@ use Rattle.std.proofs.lemmas.List.Sums.{sum_by-append}
 use Rattle.std.proofs.lemmas.Grind.{flat_map-append}
 use Rattle.std.proofs.lemmas.Bool.{cases_eq, false_from_ne_true, false≢true}
 use Rattle.frame_word.specs.Seats.{KnownTable}
-use Rattle.stock_word.specs.declared.view.Account.{Account}
+use Rattle.stock_word.specs.declared.view.StockAccount.{StockAccount}
 use Rattle.stock_word.specs.declared.view.StockView.{StockView}
 use Rattle.stock_word.specs.Stock.{KnownStockSeat, account_of}
 use Rattle.stock_word.specs.Calls.{with_view, after_look}
@@ -35,7 +35,7 @@ look_else view q p None ne = drained_else view q 0 p ne
 look_else view q p (Some g) ne = refl
 
 look_group : (view : StockView) (q : ℕ) (o : Option ℕ) → (account_of (after_look view q o) q).group ≡ (account_of view q).group
-look_group view q None = ap (λ (a : Account). a.group) (drained_at view q 0)
+look_group view q None = ap (λ (a : StockAccount). a.group) (drained_at view q 0)
 look_group view q (Some g) = refl
 
 module _ (test : List Group → Option ℕ → Bool) (q : ℕ) (x n : KnownMachine) where
@@ -51,14 +51,14 @@ module _ (test : List Group → Option ℕ → Bool) (q : ℕ) (x n : KnownMachi
 
   pub below_group : (drains : List Drain) → DrainsIf test q drains x n → stock_group n q ≡ stock_group x q
   below_group [] d = ap (λ (y : KnownMachine). stock_group y q) d.1 ∙ look_group x.stock_seat.view q (stock_group x q)
-  below_group (e ∷ []) d = ap (λ (y : KnownMachine). stock_group y q) d.1.drains.drains.machine ∙ ap (λ (a : Account). a.group) (drained_at x.stock_seat.view q e.pages)
+  below_group (e ∷ []) d = ap (λ (y : KnownMachine). stock_group y q) d.1.drains.drains.machine ∙ ap (λ (a : StockAccount). a.group) (drained_at x.stock_seat.view q e.pages)
   below_group (e ∷ f ∷ more) d = absurd d
 
   pub below_filled : (drains : List Drain) → DrainsIf test q drains x n → test x.ledger.groups (stock_group x q) ≡ true
       → (account_of n.stock_seat.view q).filled ≡ false
   below_filled [] d below = absurd (false≢true (sym d.0 ∙ below))
   below_filled (e ∷ []) d below = ap (λ (y : KnownMachine). (account_of y.stock_seat.view q).filled) d.1.drains.drains.machine
-      ∙ ap (λ (a : Account). a.filled) (drained_at x.stock_seat.view q e.pages)
+      ∙ ap (λ (a : StockAccount). a.filled) (drained_at x.stock_seat.view q e.pages)
   below_filled (e ∷ f ∷ more) d below = absurd d
 
 -- ---- one CPU's stock
@@ -82,7 +82,7 @@ pub drained_not : (t : KnownTable) (test : List Group → Option ℕ → Bool) (
 drained_not t test q m n other is steps = record { drains = []; all = (other, is); sum = refl; steps = steps }
 
 -- a part whose stock is of no group shows the same once that counts as drained
-part_none : (l f b : List ℕ) (a : Account) → a.group ≡ None → part_with l f b (record a { book = a.book - 0; filled = false }) ≡ part_with l f b a
+part_none : (l f b : List ℕ) (a : StockAccount) → a.group ≡ None → part_with l f b (record a { book = a.book - 0; filled = false }) ≡ part_with l f b a
 part_none l f b a none =
     let book : a.book - 0 ≡ a.book = omega arith in
     let pages : a.book - 0 - length f - a.unabsorbed ≡ a.book - length f - a.unabsorbed = omega arith in
@@ -99,7 +99,7 @@ part_none l f b a none =
     }
 
 module _ (t : KnownTable) (m : KnownMachine) (q : ℕ) (none : stock_group m q ≡ None) (c : KnownCpu) where
-  abbrev shown : ℕ → Account → Part
+  abbrev shown : ℕ → StockAccount → Part
   shown p a = cond (p == c.number) (part_with c.list c.fresh c.back a) (part_with [] [] [] a)
 
   shown_here : shown q (account_of (zone_after_drain m.stock_seat.view q 0) q) ≡ shown q (account_of m.stock_seat.view q)
@@ -191,7 +191,7 @@ drained_now test k x n last d before q some few below =
           ∙ ap (λ (j : ℕ). test n.ledger.groups (stock_group n j)) (sym e) ∙ below))
       | inr ne ↦
           let same = below_else test (k + 1) x n last d q ne in
-          ap (λ (a : Account). a.filled) same
+          ap (λ (a : StockAccount). a.filled) same
           ∙ before q some (omega (arith, few, ne)) ((λ i. test (sym groups i) (sym same i).group) ∙ below)
     ]
 

@@ -18,7 +18,7 @@ use Rattle.lru_lists.specs.declared.record.Link.{Link}
 use Rattle.lru_lists.specs.declared.record.Home.{Home}
 use Rattle.lru_lists.specs.declared.lru.Lru.{Lru}
 use Rattle.cpu_part.specs.Cpus.{KnownCpu, IsTied}
-use Rattle.cpu_part.specs.Calls.{HandsFresh}
+use Rattle.cpu_part.specs.Calls.{PassesFresh}
 use Rattle.step_rules.specs.declared.phase.Stage.TheVariants.{FreshAt, Collected, Live, BackAt}
 use Rattle.step_rules.specs.declared.phase.Phase.TheVariants as phase
 use Rattle.step_rules.specs.declared.step.Action.TheVariants.{Unfreeze, Publish, Return}
@@ -281,7 +281,7 @@ pub record AllKept (t : KnownTable) (w : KnownStockTable) (now : KnownMachine) (
   pub steps : LeadsAs t c.number (visit_state now c) (keep_steps c.number f) (visit_state n d)
 
 pub keep_all : (t : KnownTable) (w : KnownStockTable) (m now : KnownMachine) → m ≡ now → (c h : KnownCpu) → IsTied t w c → IsConsistent t w m → Visits t (visit_state now c)
-    → (free : List Bool) → free ≡ free_of m.frame_states → (f g : ℕ) → WasFresh t m c f g → HandsFresh f c h → (i k : ℕ) → i ≡ f → k ≡ 0
+    → (free : List Bool) → free ≡ free_of m.frame_states → (f g : ℕ) → WasFresh t m c f g → PassesFresh f c h → (i k : ℕ) → i ≡ f → k ≡ 0
     → (mid seat : KnownSeat) → mid ≡ seat_with m.frame_seat f (collected_from c.number) → seat ≡ seat_with mid f (unfrozen 1)
     → (stock : KnownStockSeat) → stock ≡ with_page_absorbed m.stock_seat c.number
     → (links : List Link) (lists : List Lru) → AllJoin m.links m.lists g i links lists
@@ -335,7 +335,7 @@ pub record AllDropped (t : KnownTable) (w : KnownStockTable) (now : KnownMachine
   pub steps : LeadsAs t c.number (visit_state now c) (drop_steps c.number f) (visit_state n d)
 
 pub drop_all : (t : KnownTable) (w : KnownStockTable) (m now : KnownMachine) → m ≡ now → (c h : KnownCpu) → IsTied t w c → IsConsistent t w m → Visits t (visit_state now c)
-    → (before free : List Bool) → before ≡ free_of m.frame_states → (f g : ℕ) → WasFresh t m c f g → is_killed now.killed g ≡ true → HandsFresh f c h
+    → (before free : List Bool) → before ≡ free_of m.frame_states → (f g : ℕ) → WasFresh t m c f g → is_killed now.killed g ≡ true → PassesFresh f c h
     → (i k : ℕ) → i ≡ f → k ≡ 0
     → (seat : KnownSeat) → seat ≡ seat_with m.frame_seat f (collected_from c.number)
     → (stock : KnownStockSeat) → stock ≡ with_page_absorbed m.stock_seat c.number

@@ -5,7 +5,7 @@ use Rattle.std.proofs.Common.{refl, sym, ap, ◌∙◌, subst, arith, inl, inr, 
 use Rattle.std.specs.Prelude.{nat_le}
 use Rattle.std.proofs.lemmas.Bool.{cases_eq, and_from, or_left, or_right, le-leb}
 use Rattle.frame_word.specs.declared.view.FrameNote.{FrameNote}
-use Rattle.frame_word.specs.Views.{note_of, gave_back, collected_from}
+use Rattle.frame_word.specs.Views.{note_of, passed_back_by_cpu, collected_from}
 use Rattle.frame_word.specs.Seats.{KnownTable, KnownSeat, number_of, seat_with, IsOpen, IsLent, IsBorrowed}
 use Rattle.frame_word.proofs.Notes.{note_here, note_else}
 use Rattle.stock_word.specs.Stock.{KnownStockTable}
@@ -49,7 +49,7 @@ module _ (t : KnownTable) (w : KnownStockTable) (m : KnownMachine) (c : KnownCpu
   plain = seat_with m.frame_seat f (collected_from c.number)
 
   abbrev cpu : KnownSeat
-  cpu = seat_with c.frame_seat f gave_back
+  cpu = seat_with c.frame_seat f passed_back_by_cpu
 
   told_same : (g : ℕ) → told (note_of zone.view g) ≡ told (note_of plain.view g)
   told_same g = elim (cases_eq g f) [
@@ -68,10 +68,10 @@ module _ (t : KnownTable) (w : KnownStockTable) (m : KnownMachine) (c : KnownCpu
   plain_lent g inside = elim (cases_eq g f) [
     | inl e ↦ subst (λ (h : ℕ). (IsLent plain h (number_of c.frame_seat) → IsBorrowed cpu h) × (IsBorrowed cpu h → IsLent plain h (number_of c.frame_seat))) (sym e) (
       λ a. absurd (not_lent_to (sym (ap (λ (k : FrameNote). k.lent) (note_here m.frame_seat.view f (collected_from c.number))) ∙ a)),
-      λ a. absurd (no_one (sym (ap (λ (k : FrameNote). k.borrowed) (note_here c.frame_seat.view f gave_back)) ∙ a)),
+      λ a. absurd (no_one (sym (ap (λ (k : FrameNote). k.borrowed) (note_here c.frame_seat.view f passed_back_by_cpu)) ∙ a)),
     )
     | inr ne ↦ subst (λ (k : FrameNote × FrameNote). (k.0.lent ≡ number_of c.frame_seat → k.1.borrowed ≡ 1) × (k.1.borrowed ≡ 1 → k.0.lent ≡ number_of c.frame_seat))
-        (λ i. (sym (note_else m.frame_seat.view f g (collected_from c.number) ne) i, sym (note_else c.frame_seat.view f g gave_back ne) i)) (visit.lent g inside)
+        (λ i. (sym (note_else m.frame_seat.view f g (collected_from c.number) ne) i, sym (note_else c.frame_seat.view f g passed_back_by_cpu ne) i)) (visit.lent g inside)
   ]
 
   pub handed_visits : (n : KnownMachine) (d : KnownCpu) → n.frame_seat ≡ zone → d.frame_seat ≡ cpu → d.number ≡ c.number → Visits t (visit_state n d)

@@ -13,7 +13,7 @@ use Rattle.group_tree.specs.Groups.{the_root, in_subtree}
 use Rattle.group_charge.specs.declared.account.Account.{Account}
 use Rattle.group_charge.specs.Charges.{Ledger, AreCharges, current_of, usage_of as usage_charged, pages_of, account_at}
 use Rattle.group_charge.proofs.ChargeLemmas.{all_distinct, as_many}
-use Rattle.stock_word.specs.declared.view.Account.{Account as Book}
+use Rattle.stock_word.specs.declared.view.StockAccount.{StockAccount as Book}
 use Rattle.stock_word.specs.Stock.{KnownStockTable, account_of}
 use Rattle.frame_word.specs.Seats.{KnownTable}
 use Rattle.step_rules.specs.State.{one_if, sum_to}

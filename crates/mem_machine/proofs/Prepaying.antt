@@ -5,7 +5,7 @@ use Rattle.std.specs.Prelude.{nat_le, Result, Ok, Err, OnOk, OnErr, IfErr}
 use Rattle.std.proofs.lemmas.Bool.{cases_eq, ne_eqb, and_from, cond-true, cond-false, cond_both, le-leb, false≢true}
 use Rattle.std.proofs.lemmas.List.Sums.{sum_by-cons}
 use Rattle.frame_word.specs.Seats.{KnownTable}
-use Rattle.stock_word.specs.declared.view.Account.{Account}
+use Rattle.stock_word.specs.declared.view.StockAccount.{StockAccount}
 use Rattle.stock_word.specs.declared.view.StockView.{StockView}
 use Rattle.stock_word.specs.declared.view.Stock.{Stock}
 use Rattle.stock_word.specs.declared.view.Stock.TheVariants.{NoGroup, HeldBy, DrainedOf}
@@ -49,7 +49,7 @@ use Rattle.mem_machine.proofs.LedgerMoves.{follows_grant}
 -- ---- the accounts
 
 module _ (view : StockView) (q g n : ℕ) where
-  abbrev pub filled_account : Account
+  abbrev pub filled_account : StockAccount
   filled_account = let a = account_of view q in record a { book = a.book + n; group = Some g; filled = true }
 
   pub filled_at : account_of (zone_after_fill view q g n) q ≡ filled_account
@@ -58,7 +58,7 @@ module _ (view : StockView) (q g n : ℕ) where
   pub filled_else : (p : ℕ) → (p ≡ q → ⊥) → account_of (zone_after_fill view q g n) p ≡ account_of view p
   filled_else p ne = account_of-with_account_other view q p filled_account ne
 
-  pub filled_read : {X : Type 0} (h : Account → X) → (p : ℕ) → h (account_of (zone_after_fill view q g n) p)
+  pub filled_read : {X : Type 0} (h : StockAccount → X) → (p : ℕ) → h (account_of (zone_after_fill view q g n) p)
       ≡ with_at (λ k. h (account_of view k)) q (h filled_account) p
   filled_read h p = elim (cases_eq p q) [
     | inl e ↦ subst (λ (k : ℕ). h (account_of (zone_after_fill view q g n) k) ≡ with_at (λ j. h (account_of view j)) q (h filled_account) k) (sym e)
@@ -67,9 +67,9 @@ module _ (view : StockView) (q g n : ℕ) where
   ]
 
 -- an empty account that is filled
-pub booked_more : (h g k : ℕ) (a : Account) → a.book ≡ 0 → booked h (record a { book = a.book + k; group = Some g; filled = true }) ≡ booked h a + cond (h == g) k 0
+pub booked_more : (h g k : ℕ) (a : StockAccount) → a.book ≡ 0 → booked h (record a { book = a.book + k; group = Some g; filled = true }) ≡ booked h a + cond (h == g) k 0
 booked_more h g k a empty =
-    let b : Account = record a { book = a.book + k; group = Some g; filled = true } in
+    let b : StockAccount = record a { book = a.book + k; group = Some g; filled = true } in
     let none : booked h a ≡ 0 = ap (λ (x : ℕ). cond (one_if_is h a.group == 0) 0 x) empty ∙ cond-same (one_if_is h a.group == 0) 0 in
     elim (cases_eq h g) [
       | inl e ↦
@@ -91,10 +91,10 @@ fill_consistent t w m q g k l ok inside empty small rise =
     let stock : KnownStockSeat = with_view m.stock_seat (zone_after_fill m.stock_seat.view q g k) in
     let a = account_of m.stock_seat.view q in
     stocks_consistent t w m l stock ok refl ok.seats.stocks
-    (λ p. filled_read m.stock_seat.view q g k (λ (x : Account). x.unabsorbed) p
+    (λ p. filled_read m.stock_seat.view q g k (λ (x : StockAccount). x.unabsorbed) p
     ∙ at_each (λ j. (account_of m.stock_seat.view j).unabsorbed) q a.unabsorbed (λ j x. x ≡ 0) (ok.absorbed q) (λ j ne. ok.absorbed j) p)
     (λ p.
-    let read = filled_read m.stock_seat.view q g k (λ (x : Account). x.book) p in
+    let read = filled_read m.stock_seat.view q g k (λ (x : StockAccount). x.book) p in
     let at = at_each (λ j. (account_of m.stock_seat.view j).book) q (filled_account m.stock_seat.view q g k).book (λ j x. x < 65536) (omega (arith, empty, small))
     (λ j ne. ok.bounded j) p in
     omega (arith, read, at))
@@ -113,7 +113,7 @@ fill_consistent t w m q g k l ok inside empty small rise =
 -- ---- the steps
 
 -- a CPU's part whose stock is filled
-part_filled : (l f b : List ℕ) (a : Account) (g n : ℕ) → length f ≡ 0 → a.unabsorbed ≡ 0 → a.book ≡ 0
+part_filled : (l f b : List ℕ) (a : StockAccount) (g n : ℕ) → length f ≡ 0 → a.unabsorbed ≡ 0 → a.book ≡ 0
     → part_with l f b (record a { book = a.book + n; group = Some g; filled = true }) ≡ filled (part_with l f b a) g n
 part_filled l f b a g n none noted empty =
     let pages : a.book + n - length f - a.unabsorbed ≡ n = omega (arith, none, noted, empty) in
@@ -132,7 +132,7 @@ module _ (stock : KnownStockSeat) (c : KnownCpu) (g n : ℕ) (none : length c.fr
   abbrev after_it : KnownStockSeat
   after_it = with_view stock (zone_after_fill stock.view c.number g n)
 
-  abbrev shown : ℕ → Account → Part
+  abbrev shown : ℕ → StockAccount → Part
   shown p a = cond (p == c.number) (part_with c.list c.fresh c.back a) (part_with [] [] [] a)
 
   part_filled_at : (p : ℕ) → part_of after_it c p ≡ with_at (part_of stock c) c.number (filled (part_of stock c c.number) g n) p
@@ -312,7 +312,7 @@ module _ (m x : KnownMachine) (q p k : ℕ) (named : q ≡ p) (d : Drains q k m 
 
   pub emptied_drained : (account_of x.stock_seat.view p).filled ≡ false
   emptied_drained = ap (λ (n : ℕ). (account_of x.stock_seat.view n).filled) (sym named) ∙ ap (λ (y : KnownMachine). (account_of y.stock_seat.view q).filled) d.machine
-      ∙ ap (λ (a : Account). a.filled) (drained_at m.stock_seat.view q k)
+      ∙ ap (λ (a : StockAccount). a.filled) (drained_at m.stock_seat.view q k)
 
   pub emptied_own : Drains p k m x
   emptied_own = subst (λ (n : ℕ). Drains n k m x) named d
@@ -325,8 +325,8 @@ module _ (m x : KnownMachine) (q p k : ℕ) (named : q ≡ p) (d : Drains q k m 
       let its : c.number ≡ q = mine ∙ sym named in
       let account : account_of x.stock_seat.view c.number ≡ drained_account m.stock_seat.view q k =
       ap (account_of x.stock_seat.view) its ∙ ap (λ (z : KnownMachine). account_of z.stock_seat.view q) d.machine ∙ drained_at m.stock_seat.view q k in
-      let empty : pages_of stock ≡ 0 = none_in stock (own.held ∙ ap (λ (a : Account). a.filled) account) in
-      let left : (account_of x.stock_seat.view c.number).book ≡ (account_of m.stock_seat.view q).book - k = ap (λ (a : Account). a.book) account in
+      let empty : pages_of stock ≡ 0 = none_in stock (own.held ∙ ap (λ (a : StockAccount). a.filled) account) in
+      let left : (account_of x.stock_seat.view c.number).book ≡ (account_of m.stock_seat.view q).book - k = ap (λ (a : StockAccount). a.book) account in
       let all : pages_of stock ≡ (account_of x.stock_seat.view c.number).book - length c.fresh = own.pages in
       let fresh : length c.fresh ≡ 0 = ap length none in
       let booked = d.booked in

@@ -6,10 +6,10 @@ use Rattle.std.proofs.lemmas.Bool.{cases_eq, ne_eqb, and_from, cond-true, lt-ltb
 use Rattle.std.proofs.lemmas.Nat.{pow_pos}
 use Rattle.std.proofs.lemmas.List.{get_or-set_same, get_or-set_other}
 use Rattle.frame_word.specs.declared.view.FrameNote.{FrameNote}
-use Rattle.frame_word.specs.Views.{gave_back, collected_from, unfrozen}
+use Rattle.frame_word.specs.Views.{passed_back_by_cpu, collected_from, unfrozen}
 use Rattle.frame_word.specs.Seats.{KnownTable, KnownSeat, seat_references, seat_with}
 use Rattle.frame_word.proofs.Notes.{note_here, note_else}
-use Rattle.stock_word.specs.declared.view.Account.{Account}
+use Rattle.stock_word.specs.declared.view.StockAccount.{StockAccount}
 use Rattle.stock_word.specs.Stock.{KnownStockTable, KnownStockSeat, account_of}
 use Rattle.stock_word.specs.Kinds.{after_report}
 use Rattle.stock_word.specs.Calls.{with_view}
@@ -64,10 +64,10 @@ back_phase c f x unit is once = ap (phase_of c f) is ∙ cond-true (nat_le 1 (ti
 -- ---- the CPU after the frame was handed over
 
 abbrev pub fresh_handed : KnownCpu → ℕ → List ℕ → KnownCpu
-fresh_handed c f rest = record c { fresh = rest; frame_seat = seat_with c.frame_seat f gave_back; stock_seat = with_view c.stock_seat (after_report c.stock_seat.view 1) }
+fresh_handed c f rest = record c { fresh = rest; frame_seat = seat_with c.frame_seat f passed_back_by_cpu; stock_seat = with_view c.stock_seat (after_report c.stock_seat.view 1) }
 
 abbrev pub back_handed : KnownCpu → ℕ → List ℕ → KnownCpu
-back_handed c f rest = record c { back = rest; frame_seat = seat_with c.frame_seat f gave_back }
+back_handed c f rest = record c { back = rest; frame_seat = seat_with c.frame_seat f passed_back_by_cpu }
 
 -- other frames' phases stay
 pub fresh_else : (c : KnownCpu) (f : ℕ) (rest : List ℕ) → c.fresh ≡ f ∷ rest → (g : ℕ) (y : FrameState) → (g ≡ f → ⊥)
@@ -126,7 +126,7 @@ module _ (stock : KnownStockSeat) (c : KnownCpu) (f : ℕ) (rest : List ℕ) (fr
   abbrev p : ℕ
   p = c.number
 
-  abbrev a : Account
+  abbrev a : StockAccount
   a = account_of stock.view c.number
 
   abbrev part : Part
@@ -206,7 +206,7 @@ module _ (stock : KnownStockSeat) (c : KnownCpu) (f : ℕ) (rest : List ℕ) (fr
 
 -- ---- references
 
-module _ (seat : KnownSeat) (c d : KnownCpu) (f p : ℕ) (cpu : d.frame_seat ≡ seat_with c.frame_seat f gave_back) (number : d.number ≡ c.number) where
+module _ (seat : KnownSeat) (c d : KnownCpu) (f p : ℕ) (cpu : d.frame_seat ≡ seat_with c.frame_seat f passed_back_by_cpu) (number : d.number ≡ c.number) where
   abbrev used : FrameNote → FrameNote
   used k = unfrozen 1 (collected_from p k)
 
@@ -218,7 +218,7 @@ module _ (seat : KnownSeat) (c d : KnownCpu) (f p : ℕ) (cpu : d.frame_seat ≡
   ]
 
   own_same : (x : ℕ) → seat_references d.frame_seat x ≡ seat_references c.frame_seat x
-  own_same x = ap (λ (s : KnownSeat). seat_references s x) cpu ∙ holds_same c.frame_seat f gave_back (λ k. refl) x
+  own_same x = ap (λ (s : KnownSeat). seat_references s x) cpu ∙ holds_same c.frame_seat f passed_back_by_cpu (λ k. refl) x
 
   -- the zone has one reference more
   pub references_used : (q x : ℕ) → references_of (seat_with seat f used) d q x

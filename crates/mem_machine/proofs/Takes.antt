@@ -8,12 +8,12 @@ use Rattle.zone_blocks.specs.declared.block.Block.{Block}
 use Rattle.zone_blocks.specs.Areas.{AreMaximalBlocks}
 use Rattle.zone_buddy.specs.Zone.{GivesFrames, IsInUse}
 use Rattle.frame_word.specs.declared.view.FrameNote.{FrameNote}
-use Rattle.frame_word.specs.Views.{note_of, gave_back, collected_from}
+use Rattle.frame_word.specs.Views.{note_of, passed_back_by_cpu, collected_from}
 use Rattle.frame_word.specs.Seats.{KnownTable, KnownSeat, number_of, seat_with, IsLent, IsBorrowed, Passes, NothingPasses}
 use Rattle.frame_word.proofs.Notes.{note_here, note_else}
 use Rattle.stock_word.specs.Stock.{KnownStockTable, account_of}
 use Rattle.cpu_part.specs.Cpus.{KnownCpu, IsTied, times}
-use Rattle.cpu_part.specs.Calls.{HandsFront}
+use Rattle.cpu_part.specs.Calls.{PassesFront}
 use Rattle.cpu_part.proofs.CallerLemmas.{handed_passes, collected_is_still}
 use Rattle.cpu_part.proofs.Counts.{test, test_here, times_front}
 use Rattle.lru_lists.specs.declared.record.Home.{Home}
@@ -126,34 +126,34 @@ module _ (t : KnownTable) (w : KnownStockTable) (m : KnownMachine) (c : KnownCpu
   no_one : ◌≡◌ {A = ℕ} 0 1 → ⊥
   no_one is = omega (arith, is)
 
-  pub take_visits : (blocks : List Block) → Visits t (visit_state (record m { blocks = blocks; frame_states = slice_set m.frame_states f Free; frame_seat = seat_with m.frame_seat f (collected_from c.number) }) (record c { list = rest; frame_seat = seat_with c.frame_seat f gave_back }))
+  pub take_visits : (blocks : List Block) → Visits t (visit_state (record m { blocks = blocks; frame_states = slice_set m.frame_states f Free; frame_seat = seat_with m.frame_seat f (collected_from c.number) }) (record c { list = rest; frame_seat = seat_with c.frame_seat f passed_back_by_cpu }))
   take_visits blocks = record {
     is_open = visit.is_open;
-    still = collected_is_still t m.frame_seat c.frame_seat c.number tied.seats.frame_number f visit.still (seat_with c.frame_seat f gave_back)
+    still = collected_is_still t m.frame_seat c.frame_seat c.number tied.seats.frame_number f visit.still (seat_with c.frame_seat f passed_back_by_cpu)
         (seat_with m.frame_seat f (collected_from c.number)) refl refl;
     lent = λ g inside. elim (cases_eq g f) [
-      | inl e ↦ subst (λ (h : ℕ). (IsLent (seat_with m.frame_seat f (collected_from c.number)) h (number_of c.frame_seat) → IsBorrowed (seat_with c.frame_seat f gave_back) h)
-          × (IsBorrowed (seat_with c.frame_seat f gave_back) h → IsLent (seat_with m.frame_seat f (collected_from c.number)) h (number_of c.frame_seat))) (sym e) (
+      | inl e ↦ subst (λ (h : ℕ). (IsLent (seat_with m.frame_seat f (collected_from c.number)) h (number_of c.frame_seat) → IsBorrowed (seat_with c.frame_seat f passed_back_by_cpu) h)
+          × (IsBorrowed (seat_with c.frame_seat f passed_back_by_cpu) h → IsLent (seat_with m.frame_seat f (collected_from c.number)) h (number_of c.frame_seat))) (sym e) (
             λ a. absurd (not_lent_to (sym (ap (λ (k : FrameNote). k.lent) (note_here m.frame_seat.view f (collected_from c.number))) ∙ a)),
-            λ a. absurd (no_one (sym (ap (λ (k : FrameNote). k.borrowed) (note_here c.frame_seat.view f gave_back)) ∙ a)),
+            λ a. absurd (no_one (sym (ap (λ (k : FrameNote). k.borrowed) (note_here c.frame_seat.view f passed_back_by_cpu)) ∙ a)),
           )
       | inr ne ↦ subst (λ (k : FrameNote × FrameNote). (k.0.lent ≡ number_of c.frame_seat → k.1.borrowed ≡ 1) × (k.1.borrowed ≡ 1 → k.0.lent ≡ number_of c.frame_seat))
-          (λ i. (sym (note_else m.frame_seat.view f g (collected_from c.number) ne) i, sym (note_else c.frame_seat.view f g gave_back ne) i)) (visit.lent g inside)
+          (λ i. (sym (note_else m.frame_seat.view f g (collected_from c.number) ne) i, sym (note_else c.frame_seat.view f g passed_back_by_cpu ne) i)) (visit.lent g inside)
     ];
   }
 
-  same_phase : (g : ℕ) (y : FrameState) → phase_of (record c { list = rest; frame_seat = seat_with c.frame_seat f gave_back }) g y ≡ phase_of c g y
+  same_phase : (g : ℕ) (y : FrameState) → phase_of (record c { list = rest; frame_seat = seat_with c.frame_seat f passed_back_by_cpu }) g y ≡ phase_of c g y
   same_phase g Free = refl
   same_phase g (Lent q) = refl
   same_phase g (Head unit) = refl
   same_phase g (Tail h) = refl
 
   pub take_runs : (blocks : List Block) → LeadsAs t c.number (visit_state m c) (unlist_steps c.number f)
-      (visit_state (record m { blocks = blocks; frame_states = slice_set m.frame_states f Free; frame_seat = seat_with m.frame_seat f (collected_from c.number) }) (record c { list = rest; frame_seat = seat_with c.frame_seat f gave_back }))
+      (visit_state (record m { blocks = blocks; frame_states = slice_set m.frame_states f Free; frame_seat = seat_with m.frame_seat f (collected_from c.number) }) (record c { list = rest; frame_seat = seat_with c.frame_seat f passed_back_by_cpu }))
   take_runs blocks =
       let p = c.number in
       let s = local_of t m c in
-      let d : KnownCpu = record c { list = rest; frame_seat = seat_with c.frame_seat f gave_back } in
+      let d : KnownCpu = record c { list = rest; frame_seat = seat_with c.frame_seat f passed_back_by_cpu } in
       let was : s.phases f ≡ phase.Lent p OnList = ap (phase_of c f) is_lent_frame_state ∙ lent_listed c f p none_fresh in
       let own : part_of m.stock_seat c p ≡ part_with c.list c.fresh c.back (account_of m.stock_seat.view p) = cond-true (p == p)
       (part_with c.list c.fresh c.back (account_of m.stock_seat.view p)) (part_with [] [] [] (account_of m.stock_seat.view p)) (eq-eqb p p refl) in
@@ -171,8 +171,8 @@ module _ (t : KnownTable) (w : KnownStockTable) (m : KnownMachine) (c : KnownCpu
       and_from _ _ (and_from _ _ (and_from _ _ (zone_may_act m.frame_seat p) framed) (seated_cpu t c seated)) returns in
       let ph = phases_changed c d m.frame_states f Free (phases.passed_back (s.phases f)) (phases.collected (mid.phases f)) within
       (sym (ap phases.collected passing)) (λ g y ne. same_phase g y) in
-      let re = references_stay m.frame_seat (seat_with m.frame_seat f (collected_from p)) c.frame_seat (seat_with c.frame_seat f gave_back) p
-      (holds_same m.frame_seat f (collected_from p) (λ k. refl)) (holds_same c.frame_seat f gave_back (λ k. refl)) in
+      let re = references_stay m.frame_seat (seat_with m.frame_seat f (collected_from p)) c.frame_seat (seat_with c.frame_seat f passed_back_by_cpu) p
+      (holds_same m.frame_seat f (collected_from p) (λ k. refl)) (holds_same c.frame_seat f passed_back_by_cpu (λ k. refl)) in
       let gone : part_with rest c.fresh c.back (account_of m.stock_seat.view p) ≡ without_frame (part_of m.stock_seat c p) (s.phases f) p f =
       sym ((λ i. without_frame (own i) (was i) p f)
       ∙ (λ i. record (part_with rest c.fresh c.back (account_of m.stock_seat.view p)) {
@@ -204,12 +204,12 @@ pub record AllTaken (t : KnownTable) (w : KnownStockTable) (now : KnownMachine) 
 pub take_all : (t : KnownTable) (w : KnownStockTable) (m now : KnownMachine) → m ≡ now → (c h d : KnownCpu) → IsTied t w c → IsConsistent t w m → Visits t (visit_state now c)
     → (before free : List Bool) (k : ℕ) (blocks : List Block) (f i : ℕ) (seat : KnownSeat)
     → before ≡ free_of m.frame_states → k ≡ 0 → GivesFrames before (record { at = i; order = k }) free → AreMaximalBlocks free blocks
-    → f < t.frames → IsLent m.frame_seat f c.number → i ≡ f → HandsFront f c h → seat ≡ seat_with m.frame_seat f (collected_from h.number) → d ≡ h
+    → f < t.frames → IsLent m.frame_seat f c.number → i ≡ f → PassesFront f c h → seat ≡ seat_with m.frame_seat f (collected_from h.number) → d ≡ h
     → AllTaken t w now c f (record m { blocks = blocks; frame_states = slice_set m.frame_states i Free; frame_seat = seat }) d free
 take_all t w m now same c h d tied ok visit_now before free k blocks f i seat was zero_is gives areas inside lent index hands collected stays =
     let visit : Visits t (visit_state m c) = subst (λ (x : KnownMachine). Visits t (visit_state x c)) (sym same) visit_now in
     let rest = hands.0 in
-    let e : KnownCpu = record c { list = rest; frame_seat = seat_with c.frame_seat f gave_back } in
+    let e : KnownCpu = record c { list = rest; frame_seat = seat_with c.frame_seat f passed_back_by_cpu } in
     let n : KnownMachine = record m { blocks = blocks; frame_states = slice_set m.frame_states f Free; frame_seat = seat_with m.frame_seat f (collected_from c.number) } in
     let gives_f : GivesFrames before (record { at = f; order = 0 }) free =
     subst (λ (x : ℕ × ℕ). GivesFrames before (record { at = x.0; order = x.1 }) free) (λ j. (index j, zero_is j)) gives in
@@ -246,7 +246,7 @@ taken_none m now same c d seat none is = record { none = none.0; stays = record 
 -- the frame passes for the CPU once it was handed
 pub passes_back_to : (t : KnownTable) (w : KnownStockTable) (m now : KnownMachine) → m ≡ now → (c h : KnownCpu) → IsTied t w c → Visits t (visit_state now c)
     → (f : ℕ) (seat : KnownSeat)
-    → f < t.frames → HandsFront f c h → seat ≡ m.frame_seat → Passes seat h.frame_seat f
+    → f < t.frames → PassesFront f c h → seat ≡ m.frame_seat → Passes seat h.frame_seat f
 passes_back_to t w m now same c h tied visit f seat inside hands is =
     subst (λ (s : KnownSeat). Passes s h.frame_seat f) (sym is)
     (handed_passes t m.frame_seat c.frame_seat c.number tied.seats.frame_number f (subst (λ (x : KnownMachine). NothingPasses t x.frame_seat c.frame_seat)

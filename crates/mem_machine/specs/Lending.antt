@@ -2,7 +2,7 @@
 use Rattle.std.specs.Prelude.{◌≡◌, ℕ, ◌+◌, ◌≤◌, Bool, true, false}
 use Rattle.std.specs.Prelude.{List, [], ◌∷◌, ◌++◌, length, take, slice_set}
 use Rattle.zone_blocks.specs.Areas.{AreMaximalBlocks, HasNoneFrom, IsFrontOfSmallest}
-use Rattle.frame_word.specs.Views.{passed_out_to, took_in, gave_back, collected_from}
+use Rattle.frame_word.specs.Views.{passed_out_to, took_in, passed_back_by_cpu, collected_from}
 use Rattle.frame_word.specs.Seats.{KnownTable, seat_with}
 use Rattle.cpu_part.specs.Cpus.{KnownCpu, most_listed}
 use Rattle.step_rules.specs.After.{Run}
@@ -74,7 +74,7 @@ pub record UnlistsOne (frame : ℕ) (before after : VisitState) : Type 0 where
     frame_seat = seat_with before.machine.frame_seat frame (collected_from before.cpu.number);
     watch = after.machine.watch;
   }
-  pub cpu : after.cpu ≡ record before.cpu { list = rest; frame_seat = seat_with before.cpu.frame_seat frame gave_back }
+  pub cpu : after.cpu ≡ record before.cpu { list = rest; frame_seat = seat_with before.cpu.frame_seat frame passed_back_by_cpu }
 
 -- the list is empty, and nothing changed
 pub record UnlistsNone (before after : VisitState) : Type 0 where

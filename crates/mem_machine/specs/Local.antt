@@ -2,7 +2,7 @@
 use Rattle.std.specs.Prelude.{◌≡◌, ℕ, ◌-◌, ◌==◌, ◌&&◌, nat_le, not, Option, Some, None, is_some}
 use Rattle.std.specs.Prelude.{List, [], length, slice_index, if◌then◌else◌}
 use Rattle.frame_word.specs.Seats.{KnownTable, KnownSeat, seat_references}
-use Rattle.stock_word.specs.declared.view.Account.{Account}
+use Rattle.stock_word.specs.declared.view.StockAccount.{StockAccount}
 use Rattle.stock_word.specs.Stock.{KnownStockSeat, account_of}
 use Rattle.stock_word.specs.Stock as stocks
 use Rattle.cpu_part.specs.Cpus.{KnownCpu, times}
@@ -49,7 +49,7 @@ phase_of cpu frame (Tail group) = phase.Tail group
 
 -- the part of a CPU with these lists and this account: its stock has the booked pages that are neither fresh nor
 -- unabsorbed
-abbrev pub part_with : List ℕ → List ℕ → List ℕ → Account → Part
+abbrev pub part_with : List ℕ → List ℕ → List ℕ → StockAccount → Part
 part_with list fresh back account = record {
   list = list;
   fresh = fresh;

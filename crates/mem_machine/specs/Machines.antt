@@ -8,7 +8,7 @@ use Rattle.frame_word.specs.declared.view.FrameNote.{FrameNote}
 use Rattle.frame_word.specs.Views.{note_of}
 use Rattle.frame_word.specs.Seats.{KnownTable, KnownSeat, IsZoneSeat, IsOpen, NothingPasses, LentIsBorrowed}
 use Rattle.frame_word.specs.Seats.{first_zone_view}
-use Rattle.stock_word.specs.declared.view.Account.{Account}
+use Rattle.stock_word.specs.declared.view.StockAccount.{StockAccount}
 use Rattle.stock_word.specs.Stock.{KnownStockTable, KnownStockSeat, IsZoneView, account_of, first_zone_stock_view}
 use Rattle.group_charge.specs.Charges.{Ledger, pages_of, current_of, initial_ledger, with_new_group}
 use Rattle.group_tree.specs.Bounds.{most_groups}
@@ -142,7 +142,7 @@ frames_charged frame_states group = sum_to (length frame_states)
     (λ frame. one_if_is group (frame_state_group (frame_state_at frame_states frame)))
 
 -- the pages booked to a CPU's stock if that is of the group, else 0
-abbrev pub booked : ℕ → Account → ℕ
+abbrev pub booked : ℕ → StockAccount → ℕ
 booked group account = if one_if_is group account.group == 0 then 0 else account.book
 
 -- how many pages are booked to the stocks of the group itself

@@ -3,10 +3,10 @@ use Rattle.std.specs.Prelude.{◌≡◌, ℕ, ◌+◌, ◌^◌, ◌<◌, ◌≤�
 use Rattle.std.specs.Prelude.{List, [], ◌∷◌, ◌++◌, slice_set, if◌then◌else◌}
 use Rattle.std.specs.List.{flat_map}
 use Rattle.zone_blocks.specs.Areas.{AreMaximalBlocks}
-use Rattle.frame_word.specs.Views.{gave_back, collected_from, unfrozen}
+use Rattle.frame_word.specs.Views.{passed_back_by_cpu, collected_from, unfrozen}
 use Rattle.frame_word.specs.Seats.{KnownTable, KnownSeat, seat_with}
 use Rattle.frame_word.specs.Seats.{IsZoneSeat, IsOpen, NothingPasses, HasNothingOf, IsLent}
-use Rattle.stock_word.specs.declared.view.Account.{Account}
+use Rattle.stock_word.specs.declared.view.StockAccount.{StockAccount}
 use Rattle.stock_word.specs.Stock.{KnownStockSeat, account_of, group_of}
 use Rattle.stock_word.specs.Kinds.{after_report, zone_after_report, zone_after_absorb, with_steps}
 use Rattle.stock_word.specs.Calls.{with_view}
@@ -31,7 +31,7 @@ abbrev pub with_page_absorbed : KnownStockSeat → ℕ → KnownStockSeat
 with_page_absorbed seat cpu = with_view seat (with_steps 1 (zone_after_absorb (zone_after_report seat.view cpu 1) cpu))
 
 -- at least one of the pages booked in the account isn't reported yet
-abbrev pub HasUnreportedPage : Account → Type 0
+abbrev pub HasUnreportedPage : StockAccount → Type 0
 HasUnreportedPage account = 1 + account.unabsorbed ≤ account.book
 
 -- the seat is the zone's at the frames' table, the CPU's visit is open, and no frame is in transit between the two
@@ -55,7 +55,7 @@ pub record HandsOver (frame : ℕ) (before after : KnownCpu) : Type 0 where
   pub front : before.fresh ≡ frame ∷ after.fresh
   pub cpu : after ≡ record before {
     fresh = after.fresh;
-    frame_seat = seat_with before.frame_seat frame gave_back;
+    frame_seat = seat_with before.frame_seat frame passed_back_by_cpu;
     stock_seat = with_view before.stock_seat (after_report before.stock_seat.view 1);
   }
 
@@ -105,7 +105,7 @@ pub record ReturnsBack (frame : ℕ) (before after : VisitState) : Type 0 where
   pub front : before.cpu.back ≡ frame ∷ after.cpu.back
   pub cpu : after.cpu ≡ record before.cpu {
     back = after.cpu.back;
-    frame_seat = seat_with before.cpu.frame_seat frame gave_back;
+    frame_seat = seat_with before.cpu.frame_seat frame passed_back_by_cpu;
   }
 
 -- the group of the CPU's fresh frames is killed

@@ -8,7 +8,7 @@ ghost use Rattle.stock_word.specs.Stock.{account_of, drained_of, first_zone_stoc
 ghost use Rattle.stock_word.specs.Stock.{stocked};
 ghost use Rattle.stock_word.specs.Kinds.{after_fill, with_steps, zone_after_drain, zone_after_fill};
 ghost use Rattle.stock_word.specs.Calls.{after_look, with_view};
-ghost use Rattle.cpu_part.specs.Calls.{CanTake, HandsFresh, TakesFront};
+ghost use Rattle.cpu_part.specs.Calls.{CanTake, PassesFresh, TakesFront};
 ghost use Rattle.mem_machine.specs.Machines.{IsCpuOf, pages_booked};
 ghost use Rattle.mem_machine.specs.Settling.{IsVisitedAt, KnowsFresh, with_page_absorbed};
 ghost use Rattle.mem_machine.specs.Stocks.{FitsStock};
@@ -161,12 +161,12 @@ impl<N: BootName> BookedSeat<N> {
         requires fresh { cpu.old.fresh ≢ [] }
         requires group { group_of cpu.old.stock_seat.view.last ≡ Some group }
         ensures known { KnowsFresh N.frames zone.old self.old cpu.old result }
-        ensures cpu { HandsFresh result cpu.old cpu.new }
+        ensures cpu { PassesFresh result cpu.old cpu.new }
         ensures zone { zone.new ≡ seat_with zone.old result (collected_from cpu.old.number) }
         ensures seat { self.new ≡ with_page_absorbed self.old cpu.old.number }
     {
         let cpu_number = cpu.number();
-        let Some(frame) = cpu.hand_fresh(tables, zone, &mut self.seat) else {
+        let Some(frame) = cpu.pass_fresh(tables, zone, &mut self.seat) else {
             unreachable!()
         };
         cpu.collect(tables, zone, frame);

@@ -39,7 +39,7 @@ impl<N: BootName> Machine<N> {
             .pass_out(&mut self.frame_seat, frame, cpu_number);
         self.watch.passed_out(at, cpu_number);
         self.frame_states[at as usize] = FrameState::Lent(cpu_number as u8);
-        cpu.accept(tables, &mut self.frame_seat, frame);
+        cpu.take_in(tables, &mut self.frame_seat, frame);
         self.watch.took_in(cpu_number, at);
         true
     }
@@ -83,7 +83,7 @@ impl<N: BootName> Machine<N> {
             .pass_out(&mut self.frame_seat, frame, cpu_number);
         self.watch.passed_out(given, cpu_number);
         self.frame_states[given as usize] = FrameState::Lent(cpu_number as u8);
-        cpu.accept(tables, &mut self.frame_seat, frame);
+        cpu.take_in(tables, &mut self.frame_seat, frame);
         self.watch.took_in(cpu_number, given);
     }
 
@@ -95,7 +95,7 @@ impl<N: BootName> Machine<N> {
         ensures visit { Visits N.frames (visit_state self.new cpu.new) }
     {
         let cpu_number = cpu.number();
-        let Some(frame) = cpu.hand_front(tables, &mut self.frame_seat) else {
+        let Some(frame) = cpu.pass_front(tables, &mut self.frame_seat) else {
             return false;
         };
         let at = frame.number();

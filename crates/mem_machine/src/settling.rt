@@ -96,7 +96,7 @@ impl<N: BootName> Machine<N> {
         ensures steps { MakesReturnSteps N.frames result (visit_state self.old cpu.old) (visit_state self.new cpu.new) }
     {
         let cpu_number = cpu.number();
-        let Some(frame) = cpu.hand_back(tables, &mut self.frame_seat) else {
+        let Some(frame) = cpu.pass_back_unit(tables, &mut self.frame_seat) else {
             return None;
         };
         let at = frame.number();

@@ -6,7 +6,7 @@ use Rattle.std.proofs.lemmas.Bool.{cases_eq, false≢true}
 use Rattle.std.proofs.lemmas.Option.{none-some}
 use Rattle.std.proofs.lemmas.List.{append_assoc, append-nil}
 use Rattle.frame_word.specs.declared.view.FrameNote.{FrameNote}
-use Rattle.frame_word.specs.Views.{let_go, let_go_last}
+use Rattle.frame_word.specs.Views.{dropped_one, dropped_last}
 use Rattle.frame_word.specs.Seats.{KnownTable, KnownSeat, IsOpen, NothingPasses, LentIsBorrowed, misses_of, seat_with}
 use Rattle.frame_word.proofs.Notes.{note_here, note_else}
 use Rattle.stock_word.specs.Stock.{KnownStockSeat, KnownStockTable, account_of}
@@ -33,7 +33,7 @@ use Rattle.mem_machine.proofs.Draining.{drained_at, groups_stay}
 use Rattle.std.proofs.lemmas.List.Folds.{list_any-append}
 use Rattle.std.proofs.lemmas.List.Sums.{sum_by-append}
 use Rattle.group_charge.specs.Charges.{current_of}
-use Rattle.stock_word.specs.declared.view.Account.{Account}
+use Rattle.stock_word.specs.declared.view.StockAccount.{StockAccount}
 use Rattle.stock_word.specs.declared.view.StockView.{StockView}
 use Rattle.stock_word.specs.Calls.{after_look}
 use Rattle.step_rules.specs.declared.step.Step.{Step}
@@ -130,14 +130,14 @@ pub release_lets : (t : KnownTable) (m n : KnownMachine) (f : ℕ) (left : Relea
 release_lets t m n f (Left left) is visit = off_list t m n f is.list (ap (λ (x : KnownMachine). x.ledger.groups) is.machine)
     (λ g. let e = ap (λ (x : KnownMachine). current_of x.ledger g) is.machine in omega (arith, e))
     (ap (λ (x : KnownMachine). x.frame_seat.view.opened) is.machine)
-    (λ g. ap (λ (x : KnownMachine). misses_of x.frame_seat g) is.machine ∙ misses_put m.frame_seat f g (let_go left) (λ k. refl)) visit
+    (λ g. ap (λ (x : KnownMachine). misses_of x.frame_seat g) is.machine ∙ misses_put m.frame_seat f g (dropped_one left) (λ k. refl)) visit
 release_lets t m n f Returned is visit = off_list t m n f is.list (ap (λ (x : KnownMachine). x.ledger.groups) is.machine)
     (λ g.
     let e = ap (λ (x : KnownMachine). current_of x.ledger g) is.machine in
     let low = current_falls m.ledger (Some is.unit.group) (2 ^ is.unit.order) g in
     omega (arith, e, low))
     (ap (λ (x : KnownMachine). x.frame_seat.view.opened) is.machine)
-    (λ g. ap (λ (x : KnownMachine). misses_of x.frame_seat g) is.machine ∙ misses_put m.frame_seat f g let_go_last (λ k. refl)) visit
+    (λ g. ap (λ (x : KnownMachine). misses_of x.frame_seat g) is.machine ∙ misses_put m.frame_seat f g dropped_last (λ k. refl)) visit
 
 release_stocks : (m n : KnownMachine) (f : ℕ) (left : Released) → Releases f left m n → KeepsStocks m n
 release_stocks m n f (Left left) is = record { stock_seat = ap (λ (x : KnownMachine). x.stock_seat) is.machine; killed = ap (λ (x : KnownMachine). x.killed) is.machine }
@@ -307,7 +307,7 @@ leaves_units_both a b c p q = record {
 
 -- a stock that was looked at, and is of no group, counts as drained
 looked_filled : (view : StockView) (q : ℕ) (o : Option ℕ) → (account_of view q).filled ≡ false → (account_of (after_look view q o) q).filled ≡ false
-looked_filled view q None is = ap (λ (a : Account). a.filled) (drained_at view q 0)
+looked_filled view q None is = ap (λ (a : StockAccount). a.filled) (drained_at view q 0)
 looked_filled view q (Some g) is = is
 
 filled_after : (test : List Group → Option ℕ → Bool) (q : ℕ) (m n : KnownMachine) (drains : List Drain) → DrainsIf test q drains m n
@@ -315,20 +315,20 @@ filled_after : (test : List Group → Option ℕ → Bool) (q : ℕ) (m n : Know
 filled_after test q m n [] h is =
     ap (λ (x : KnownMachine). (account_of x.stock_seat.view q).filled) h.1 ∙ looked_filled m.stock_seat.view q (stock_group m q) is
 filled_after test q m n (drain ∷ []) h is =
-    ap (λ (x : KnownMachine). (account_of x.stock_seat.view q).filled) h.1.drains.drains.machine ∙ ap (λ (a : Account). a.filled) (drained_at m.stock_seat.view q drain.pages)
+    ap (λ (x : KnownMachine). (account_of x.stock_seat.view q).filled) h.1.drains.drains.machine ∙ ap (λ (a : StockAccount). a.filled) (drained_at m.stock_seat.view q drain.pages)
 filled_after test q m n (one ∷ two ∷ more) h is = absurd h
 
 one_drains : (test : List Group → Option ℕ → Bool) (q : ℕ) (m n : KnownMachine) (drains : List Drain) → DrainsIf test q drains m n → OnlyDrains m n
 one_drains test q m n drains h = record {
   of = λ p. elim (cases_eq p q) [
     | inl e ↦ subst (λ (x : ℕ). stock_group n x ≡ stock_group m x) (sym e) (below_group test q m n drains h)
-    | inr ne ↦ ap (λ (a : Account). a.group) (below_else test q m n drains h p ne)
+    | inr ne ↦ ap (λ (a : StockAccount). a.group) (below_else test q m n drains h p ne)
   ];
   drained = λ p is. elim (cases_eq p q) [
     | inl e ↦
         subst (λ (x : ℕ). (account_of n.stock_seat.view x).filled ≡ false) (sym e)
         (filled_after test q m n drains h (ap (λ (x : ℕ). (account_of m.stock_seat.view x).filled) (sym e) ∙ is))
-    | inr ne ↦ ap (λ (a : Account). a.filled) (below_else test q m n drains h p ne) ∙ is
+    | inr ne ↦ ap (λ (a : StockAccount). a.filled) (below_else test q m n drains h p ne) ∙ is
   ];
 }
 

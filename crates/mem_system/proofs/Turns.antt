@@ -4,7 +4,7 @@ use Rattle.std.proofs.Common.{append-nil}
 use Rattle.std.specs.Prelude.{slice_set}
 use Rattle.std.proofs.lemmas.Bool.{cases_lt, cases_eq}
 use Rattle.frame_word.specs.Seats.{KnownTable}
-use Rattle.stock_word.specs.declared.view.Account.{Account}
+use Rattle.stock_word.specs.declared.view.StockAccount.{StockAccount}
 use Rattle.stock_word.specs.Stock.{KnownStockSeat, account_at, account_of}
 use Rattle.stock_word.specs.Kinds.{zone_after_drain}
 use Rattle.cpu_part.specs.Cpus.{KnownCpu}
@@ -118,9 +118,9 @@ emptied_alone m entered x y n c1 c2 frames p q k opened takes drains shut =
     record {
       none_lent = λ r none f is. none f (sym (ap (λ (l : List FrameState). frame_state_at l f) first)
           ∙ taken.lent f r (sym (ap (λ (l : List FrameState). frame_state_at l f) frame_states) ∙ is));
-      drained = λ r was. ap (λ (l : List Account). (account_at l r).filled) accounts ∙ elim (cases_eq r q) [
-        | inl e ↦ ap (λ (j : ℕ). (account_of (zone_after_drain m.stock_seat.view q k) j).filled) e ∙ ap (λ (a : Account). a.filled) (drained_at m.stock_seat.view q k)
-        | inr ne ↦ ap (λ (a : Account). a.filled) (drained_else m.stock_seat.view q k r ne) ∙ was
+      drained = λ r was. ap (λ (l : List StockAccount). (account_at l r).filled) accounts ∙ elim (cases_eq r q) [
+        | inl e ↦ ap (λ (j : ℕ). (account_of (zone_after_drain m.stock_seat.view q k) j).filled) e ∙ ap (λ (a : StockAccount). a.filled) (drained_at m.stock_seat.view q k)
+        | inr ne ↦ ap (λ (a : StockAccount). a.filled) (drained_else m.stock_seat.view q k r ne) ∙ was
       ];
     }
 
@@ -128,7 +128,7 @@ emptied_alone m entered x y n c1 c2 frames p q k opened takes drains shut =
 pub emptied_drained : (x y n : KnownMachine) (p q k : ℕ) → Drains q k x y → n ≡ with_watch (with_visit_of y p 0) n.watch → (account_of n.stock_seat.view q).filled ≡ false
 emptied_drained x y n p q k drains shut =
     ap (λ (z : KnownMachine). (account_of z.stock_seat.view q).filled) (shut ∙ ap (λ (z : KnownMachine). with_watch (with_visit_of z p 0) n.watch) drains.machine)
-    ∙ ap (λ (a : Account). a.filled) (drained_at x.stock_seat.view q k)
+    ∙ ap (λ (a : StockAccount). a.filled) (drained_at x.stock_seat.view q k)
 
 -- the whole visit, from its four parts
 pub emptied : (t : KnownTable) (m n : KnownMachine) (c d : KnownCpu) (entered x y : KnownMachine) (c1 c2 : KnownCpu) (k q pages : ℕ)

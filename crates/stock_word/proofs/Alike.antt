@@ -2,7 +2,7 @@
 use Rattle.std.proofs.Common.{◌≡◌, ℕ, ◌+◌, Bool, true, false, cond, List, [], ◌∷◌, length, Option, Some, None, refl, ap, arith}
 use Rattle.stock_word.specs.declared.view.Stock.{Stock}
 use Rattle.stock_word.specs.declared.view.Stock.TheVariants.{NoGroup, HeldBy, DrainedOf}
-use Rattle.stock_word.specs.declared.view.Account.{Account}
+use Rattle.stock_word.specs.declared.view.StockAccount.{StockAccount}
 use Rattle.stock_word.specs.declared.view.StockView.{StockView}
 use Rattle.stock_word.specs.Stock.{no_account}
 
@@ -53,7 +53,7 @@ alike_stock (DrainedOf g) NoGroup h = absurd (omega (arith, h which))
 alike_stock (DrainedOf g) (HeldBy k m) h = absurd (omega (arith, h which))
 alike_stock (DrainedOf g) (DrainedOf k) h = let d : g ≡ k = h of in ap DrainedOf d
 
-alike_account : (x y : Account) → Alike x y → x ≡ y
+alike_account : (x y : StockAccount) → Alike x y → x ≡ y
 alike_account x y h =
     let book = h (λ a. a.book) in
     let group = alike_group x.group y.group (λ f. h (λ a. f a.group)) in
@@ -61,15 +61,15 @@ alike_account x y h =
     let noted = h (λ a. a.unabsorbed) in
     λ i. record { book = book i; group = group i; filled = filled i; unabsorbed = noted i }
 
-head_or : Account → List Account → Account
+head_or : StockAccount → List StockAccount → StockAccount
 head_or a [] = a
 head_or a (x ∷ xs) = x
 
-rest_of : List Account → List Account
+rest_of : List StockAccount → List StockAccount
 rest_of [] = []
 rest_of (x ∷ xs) = xs
 
-alike_accounts : (xs ys : List Account) → Alike xs ys → xs ≡ ys
+alike_accounts : (xs ys : List StockAccount) → Alike xs ys → xs ≡ ys
 unfolding head_or rest_of
 alike_accounts [] [] h = refl
 alike_accounts [] (y ∷ ys) h = let e : 0 ≡ length (y ∷ ys) = h length in absurd (omega arith)

@@ -9,7 +9,7 @@ use lib.ListN.{get_elem?}
 use Rattle.atomic_table.specs.Table.{Splits, Joins}
 use Rattle.seat_sums.specs.Totals.{sum_over, SameTotals, join_of}
 use Rattle.seat_sums.proofs.Totals.{total_set, total_more, join_totals}
-use Rattle.stock_word.specs.declared.view.Account.{Account}
+use Rattle.stock_word.specs.declared.view.StockAccount.{StockAccount}
 use Rattle.stock_word.specs.declared.view.StockView.{StockView}
 use Rattle.stock_word.specs.Stock.{account_of}
 use Rattle.stock_word.specs.StockRule.{stock_index, report_index, at_seat, IsStock, HoldsAt, StockRule}
@@ -85,11 +85,11 @@ leaves_report cpus words p y rows below = record {
 
 -- ---- the rule
 
-abbrev Stocked : List ℕ → ℕ → Account → StockView → Type 0
+abbrev Stocked : List ℕ → ℕ → StockAccount → StockView → Type 0
 Stocked words q a v = IsStock (slice_index words (stock_index q)) (slice_index words (report_index q)) a v
 
 -- the words are other terms for the same numbers
-stocked : (words : List ℕ) (q x y : ℕ) (a : Account) (v : StockView) → slice_index words (stock_index q) ≡ x
+stocked : (words : List ℕ) (q x y : ℕ) (a : StockAccount) (v : StockView) → slice_index words (stock_index q) ≡ x
     → slice_index words (report_index q) ≡ y → IsStock x y a v → Stocked words q a v
 stocked words q x y a v at_x at_y h = subst (λ n. IsStock n (slice_index words (report_index q)) a v) (sym at_x) (subst (λ n. IsStock x n a v) (sym at_y) h)
 

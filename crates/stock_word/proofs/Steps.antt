@@ -10,7 +10,7 @@ use Rattle.atomic_table.specs.Table.{State, Me, Act, keeps, step, stepped, Valid
 use Rattle.seat_sums.specs.Totals.{sum_over}
 use Rattle.atomic_table.proofs.Lists.{exchanged}
 use Rattle.stock_word.specs.declared.view.Stock.TheVariants.{HeldBy, DrainedOf}
-use Rattle.stock_word.specs.declared.view.Account.{Account}
+use Rattle.stock_word.specs.declared.view.StockAccount.{StockAccount}
 use Rattle.stock_word.specs.declared.view.StockView.{StockView}
 use Rattle.stock_word.specs.Stock.{word_of, pages_of, group_of, account_of, with_account, first_of, without_second, second_alone}
 use Rattle.stock_word.specs.StockRule.{stock_index, report_index, IsStock, StockRule}
@@ -54,7 +54,7 @@ same_held_group g n k j a b e = let c : (g + 1) * 65536 + n ≡ (k + 1) * 65536 
 same_held_pages : (g n k j : ℕ) → n < 65536 → j < 65536 → word_of (HeldBy g n) ≡ word_of (HeldBy k j) → n ≡ j
 same_held_pages g n k j a b e = let c : (g + 1) * 65536 + n ≡ (k + 1) * 65536 + j = e in omega arith
 
-exact_books : (a : Account) (v : StockView) → pages_of v.last ≡ left_of a v → v.fresh + a.unabsorbed < a.book → a.book ≡ pages_of v.last + v.fresh + a.unabsorbed
+exact_books : (a : StockAccount) (v : StockView) → pages_of v.last ≡ left_of a v → v.fresh + a.unabsorbed < a.book → a.book ≡ pages_of v.last + v.fresh + a.unabsorbed
 exact_books a v e more = omega arith
 
 module _ {S : Type 0} (cpus slots id : ℕ) where
@@ -180,7 +180,7 @@ module _ {S : Type 0} (cpus slots id : ℕ) where
   module _ (m : StockView) (zeroth : m.number ≡ 0) (p : ℕ) (low : 0 < p) (high : p
       ≤ cpus) (s : State S (List StockView)) (rule : holds s) (at : get_elem? s.views id ≡ some (m ∷ [])) where
     -- a step of the zone's seat that leaves the account a of p, its stock word as x or its report word as y
-    stock_owes : (x : ℕ) (a : Account) (then : ℕ → Me S (List StockView) → Type 0)
+    stock_owes : (x : ℕ) (a : StockAccount) (then : ℕ → Me S (List StockView) → Type 0)
         → IsStock x (slice_index s.words (report_index p)) a (rule.each p low high).view
         → then (slice_index s.words (stock_index p)) (with_steps 1 (with_account m p a) ∷ [], []) → Owes s (m ∷ [], []) (stock_index p) then x
     stock_owes x a then kept told = (
@@ -190,11 +190,11 @@ module _ {S : Type 0} (cpus slots id : ℕ) where
       zone_keeps cpus s.words s.views rule (set s.words (stock_index p) x) id m at zeroth p x _ low high
           (leaves_stock cpus s.words p x rule.rows high) (with_steps 1 (with_account m p a)) zeroth
           (λ q ne. account_of-with_account_other m p q a ne)
-          (subst (λ (b : Account). IsStock x (slice_index s.words (report_index p)) b (rule.each p low high).view) (sym (account_of-with_account m p a)) kept),
+          (subst (λ (b : StockAccount). IsStock x (slice_index s.words (report_index p)) b (rule.each p low high).view) (sym (account_of-with_account m p a)) kept),
       told,
     )
 
-    report_owes : (y : ℕ) (a : Account) (then : ℕ → Me S (List StockView) → Type 0)
+    report_owes : (y : ℕ) (a : StockAccount) (then : ℕ → Me S (List StockView) → Type 0)
         → IsStock (slice_index s.words (stock_index p)) y a (rule.each p low high).view
         → then (slice_index s.words (report_index p)) (with_steps 1 (with_account m p a) ∷ [], []) → Owes s (m ∷ [], []) (report_index p) then y
     report_owes y a then kept told = (
@@ -204,7 +204,7 @@ module _ {S : Type 0} (cpus slots id : ℕ) where
       zone_keeps cpus s.words s.views rule (set s.words (report_index p) y) id m at zeroth p _ y low high
           (leaves_report cpus s.words p y rule.rows high) (with_steps 1 (with_account m p a)) zeroth
           (λ q ne. account_of-with_account_other m p q a ne)
-          (subst (λ (b : Account). IsStock (slice_index s.words (stock_index p)) y b (rule.each p low high).view) (sym (account_of-with_account m p a)) kept),
+          (subst (λ (b : StockAccount). IsStock (slice_index s.words (stock_index p)) y b (rule.each p low high).view) (sym (account_of-with_account m p a)) kept),
       told,
     )
 
@@ -335,7 +335,7 @@ module _ {S : Type 0} (cpus slots id : ℕ) where
 
   module _ (m v : StockView) (zeroth : m.number ≡ 0) (low : 0 < v.number) (high : v.number ≤ cpus) where
     joined_report_owes : (s : State S (List StockView)) (rule : holds s) (at : get_elem? s.views id
-        ≡ some (m ∷ v ∷ [])) (y : ℕ) (a : Account) (v' : StockView) (then : ℕ → Me S (List StockView) → Type 0) → v'.number ≡ v.number
+        ≡ some (m ∷ v ∷ [])) (y : ℕ) (a : StockAccount) (v' : StockView) (then : ℕ → Me S (List StockView) → Type 0) → v'.number ≡ v.number
         → IsStock (slice_index s.words (stock_index v.number)) y a v'
         → then (slice_index s.words (report_index v.number)) (with_account m v.number a ∷ v' ∷ [], []) → Owes s (m ∷ v ∷ [], []) (report_index v.number) then y
     joined_report_owes s rule at y a v' then named kept told = (
@@ -345,12 +345,12 @@ module _ {S : Type 0} (cpus slots id : ℕ) where
       joined_keeps cpus s.words s.views rule (set s.words (report_index v.number) y) id m v at zeroth low high _ y
           (leaves_report cpus s.words v.number y rule.rows high) (with_account m v.number a) v' zeroth named
           (λ q ne. account_of-with_account_other m v.number q a ne)
-          (subst (λ (b : Account). IsStock (slice_index s.words (stock_index v.number)) y b v') (sym (account_of-with_account m v.number a)) kept),
+          (subst (λ (b : StockAccount). IsStock (slice_index s.words (stock_index v.number)) y b v') (sym (account_of-with_account m v.number a)) kept),
       told,
     )
 
     joined_stock_owes : (s : State S (List StockView)) (rule : holds s) (at : get_elem? s.views id
-        ≡ some (m ∷ v ∷ [])) (x : ℕ) (a : Account) (v' : StockView) (then : ℕ → Me S (List StockView) → Type 0) → v'.number ≡ v.number
+        ≡ some (m ∷ v ∷ [])) (x : ℕ) (a : StockAccount) (v' : StockView) (then : ℕ → Me S (List StockView) → Type 0) → v'.number ≡ v.number
         → IsStock x (slice_index s.words (report_index v.number)) a v'
         → then (slice_index s.words (stock_index v.number)) (with_account m v.number a ∷ v' ∷ [], []) → Owes s (m ∷ v ∷ [], []) (stock_index v.number) then x
     joined_stock_owes s rule at x a v' then named kept told = (
@@ -360,7 +360,7 @@ module _ {S : Type 0} (cpus slots id : ℕ) where
       joined_keeps cpus s.words s.views rule (set s.words (stock_index v.number) x) id m v at zeroth low high x _
           (leaves_stock cpus s.words v.number x rule.rows high) (with_account m v.number a) v' zeroth named
           (λ q ne. account_of-with_account_other m v.number q a ne)
-          (subst (λ (b : Account). IsStock x (slice_index s.words (report_index v.number)) b v') (sym (account_of-with_account m v.number a)) kept),
+          (subst (λ (b : StockAccount). IsStock x (slice_index s.words (report_index v.number)) b v') (sym (account_of-with_account m v.number a)) kept),
       told,
     )
 

@@ -2,7 +2,7 @@
 use Rattle.std.proofs.Common.{◌≡◌, ◌≢◌, ℕ, ◌+◌, ◌-◌, ◌*◌, ◌<◌, ◌≤◌, true, false, true≢false, Some, None, refl, ap, sym, ◌∙◌, subst, inl, inr, ⊎_elim, arith}
 use Rattle.stock_word.specs.declared.view.Stock.{Stock}
 use Rattle.stock_word.specs.declared.view.Stock.TheVariants.{NoGroup, HeldBy, DrainedOf}
-use Rattle.stock_word.specs.declared.view.Account.{Account}
+use Rattle.stock_word.specs.declared.view.StockAccount.{StockAccount}
 use Rattle.stock_word.specs.declared.view.StockView.{StockView}
 use Rattle.stock_word.specs.Stock.{word_of, HasWord, pages_of, group_of, is_held, drained_of}
 use Rattle.stock_word.specs.StockRule.{IsStock}
@@ -21,14 +21,14 @@ drained_has_word (HeldBy g n) h = h.0
 drained_has_word (DrainedOf g) h = h
 
 -- the stock of a CPU that finds the word that it saw last, held by g with n
-pub stock_held : (word report : ℕ) (a : Account) (v : StockView) (g n : ℕ) (h : IsStock word report a v)
+pub stock_held : (word report : ℕ) (a : StockAccount) (v : StockView) (g n : ℕ) (h : IsStock word report a v)
     → v.last ≡ HeldBy g n → word ≡ word_of (HeldBy g n) → h.stock ≡ HeldBy g n
 stock_held word report a v g n h last is =
     let fits : HasWord (HeldBy g n) = subst HasWord last h.last_word in
     held_word h.stock g n h.has_word fits.0 fits.1 (sym h.encoded ∙ is)
 
 -- a consume
-pub took : (word report : ℕ) (a : Account) (v : StockView) (g n : ℕ) → IsStock word report a v
+pub took : (word report : ℕ) (a : StockAccount) (v : StockView) (g n : ℕ) → IsStock word report a v
     → v.last ≡ HeldBy g (n + 1) → word ≡ word_of (HeldBy g (n + 1))
     → IsStock (word_of (HeldBy g n)) report a (after_took v g n)
 took word report a v g n h last is =
@@ -52,7 +52,7 @@ took word report a v g n h last is =
     }
 
 -- a credit, of a CPU with a fresh page
-pub back : (word report : ℕ) (a : Account) (v : StockView) (g n : ℕ) → IsStock word report a v → 0 < v.fresh
+pub back : (word report : ℕ) (a : StockAccount) (v : StockView) (g n : ℕ) → IsStock word report a v → 0 < v.fresh
     → v.last ≡ HeldBy g n → word ≡ word_of (HeldBy g n)
     → IsStock (word_of (HeldBy g (n + 1))) report a (after_back v g (n + 1))
 back word report a v g n h fresh last is =
@@ -76,11 +76,11 @@ back word report a v g n h fresh last is =
     }
 
 -- a word other than the one that the CPU saw last is drained, of the same group
-pub now_drained : (word report : ℕ) (a : Account) (v : StockView) (h : IsStock word report a v) → word ≢ word_of v.last → h.stock ≡ drained_of v.last
+pub now_drained : (word report : ℕ) (a : StockAccount) (v : StockView) (h : IsStock word report a v) → word ≢ word_of v.last → h.stock ≡ drained_of v.last
 now_drained word report a v h ne =
     ⊎_elim (λ (e : h.stock ≡ v.last). absurd (ne (h.encoded ∙ ap word_of e))) (λ (e : h.stock ≡ drained_of v.last). e) h.last_seen
 
-pub sees_drained : (word report : ℕ) (a : Account) (v : StockView) → IsStock word report a v → word ≢ word_of v.last → IsStock word report a (after_drained v)
+pub sees_drained : (word report : ℕ) (a : StockAccount) (v : StockView) → IsStock word report a v → word ≢ word_of v.last → IsStock word report a (after_drained v)
 sees_drained word report a v h ne = record {
   stock = h.stock;
   encoded = h.encoded;
@@ -101,14 +101,14 @@ drained_same_group NoGroup = refl
 drained_same_group (HeldBy g n) = refl
 drained_same_group (DrainedOf g) = refl
 
-pub last_group : (word report : ℕ) (a : Account) (v : StockView) → IsStock word report a v → group_of v.last ≡ a.group
+pub last_group : (word report : ℕ) (a : StockAccount) (v : StockView) → IsStock word report a v → group_of v.last ≡ a.group
 last_group word report a v h =
     ⊎_elim (λ (e : h.stock ≡ v.last). ap group_of (sym e)) (λ (e : h.stock ≡ drained_of v.last). sym (drained_same_group v.last)
     ∙ ap group_of (sym e)) h.last_seen
     ∙ h.of_group
 
 -- a report of n fresh pages
-pub reported : (word report : ℕ) (a : Account) (v : StockView) (n : ℕ) → IsStock word report a v → n ≤ v.fresh
+pub reported : (word report : ℕ) (a : StockAccount) (v : StockView) (n : ℕ) → IsStock word report a v → n ≤ v.fresh
     → IsStock word (report + n) (record a { unabsorbed = a.unabsorbed + n }) (after_report v n)
 reported word report a v n h fresh = record {
   stock = h.stock;
@@ -125,7 +125,7 @@ reported word report a v n h fresh = record {
 }
 
 -- the pages that are neither fresh nor reported
-abbrev pub left_of : Account → StockView → ℕ
+abbrev pub left_of : StockAccount → StockView → ℕ
 left_of a v = a.book - v.fresh - a.unabsorbed
 
 held_of : (s : Stock) (g : ℕ) → 0 < pages_of s → group_of s ≡ Some g → s ≡ HeldBy g (pages_of s)
@@ -139,7 +139,7 @@ not_held (HeldBy g n) = refl
 not_held (DrainedOf g) = refl
 
 -- where the books say that the stock has a page, the CPU saw it last
-pub held_by_books : (word report : ℕ) (a : Account) (v : StockView) (g : ℕ) (h : IsStock word report a v) → a.group ≡ Some g → v.fresh + a.unabsorbed < a.book
+pub held_by_books : (word report : ℕ) (a : StockAccount) (v : StockView) (g : ℕ) (h : IsStock word report a v) → a.group ≡ Some g → v.fresh + a.unabsorbed < a.book
     → (v.last ≡ HeldBy g (left_of a v)) × (word ≡ word_of (HeldBy g (left_of a v)))
 held_by_books word report a v g h group more =
     let pages : pages_of h.stock ≡ left_of a v = omega (arith, h.balanced, h.reported, more) in
@@ -156,10 +156,10 @@ no_pages (HeldBy g n) e = absurd (true≢false e)
 no_pages (DrainedOf g) e = refl
 
 -- nothing is booked to a stock that is drained, of a CPU with no fresh and no reported page
-pub nothing_booked : (word report : ℕ) (a : Account) (v : StockView) → IsStock word report a v → a.filled ≡ false → v.fresh ≡ 0 → a.unabsorbed ≡ 0 → a.book ≡ 0
+pub nothing_booked : (word report : ℕ) (a : StockAccount) (v : StockView) → IsStock word report a v → a.filled ≡ false → v.fresh ≡ 0 → a.unabsorbed ≡ 0 → a.book ≡ 0
 nothing_booked word report a v h off fresh noted = let pages = no_pages h.stock (h.held ∙ off) in omega (arith, h.balanced, h.reported, pages, fresh, noted)
 
-pub filled : (word report : ℕ) (a : Account) (v : StockView) (g n : ℕ) → IsStock word report a v → g < 64 → n < 65536
+pub filled : (word report : ℕ) (a : StockAccount) (v : StockView) (g n : ℕ) → IsStock word report a v → g < 64 → n < 65536
     → a.filled ≡ false → v.fresh ≡ 0 → a.unabsorbed ≡ 0
     → IsStock (word_of (HeldBy g n)) report (record a { book = a.book + n; group = Some g; filled = true }) (after_fill v g n)
 filled word report a v g n h group fits off fresh noted =
@@ -190,7 +190,7 @@ drained_again (HeldBy g n) = refl
 drained_again (DrainedOf g) = refl
 
 -- a drain
-pub drained : (word report : ℕ) (a : Account) (v : StockView) (g : ℕ) (h : IsStock word report a v)
+pub drained : (word report : ℕ) (a : StockAccount) (v : StockView) (g : ℕ) (h : IsStock word report a v)
     → group_of h.stock ≡ Some g
     → IsStock (word_of (DrainedOf g)) report (record a { book = a.book - pages_of h.stock; filled = false }) v
 drained word report a v g h group =
@@ -217,7 +217,7 @@ no_word (HeldBy g n) e = absurd (omega (arith, e))
 no_word (DrainedOf g) e = absurd (omega (arith, e))
 
 -- the drain of a stock that was never filled
-pub drained_none : (word report : ℕ) (a : Account) (v : StockView) (h : IsStock word report a v) → word ≡ 0
+pub drained_none : (word report : ℕ) (a : StockAccount) (v : StockView) (h : IsStock word report a v) → word ≡ 0
     → (a.group ≡ None) × IsStock word report (record a { book = a.book - 0; filled = false }) v
 drained_none word report a v h zeroth =
     let is = no_word h.stock (sym h.encoded ∙ zeroth) in (
@@ -243,11 +243,11 @@ some_group (HeldBy g n) ne = (g, refl)
 some_group (DrainedOf g) ne = (g, refl)
 
 -- a stock with a word above 0 is of a group
-pub of_some_group : (word report : ℕ) (a : Account) (v : StockView) (h : IsStock word report a v) → word ≢ 0 → (g : ℕ) × (group_of h.stock ≡ Some g)
+pub of_some_group : (word report : ℕ) (a : StockAccount) (v : StockView) (h : IsStock word report a v) → word ≢ 0 → (g : ℕ) × (group_of h.stock ≡ Some g)
 of_some_group word report a v h ne = some_group h.stock (λ e. ne (h.encoded ∙ ap word_of e))
 
 -- an absorb
-pub absorbed : (word report : ℕ) (a : Account) (v : StockView) → IsStock word report a v → IsStock word 0 (record a { book = a.book - a.unabsorbed; unabsorbed = 0 }) v
+pub absorbed : (word report : ℕ) (a : StockAccount) (v : StockView) → IsStock word report a v → IsStock word 0 (record a { book = a.book - a.unabsorbed; unabsorbed = 0 }) v
 absorbed word report a v h = record {
   stock = h.stock;
   encoded = h.encoded;

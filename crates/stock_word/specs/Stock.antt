@@ -5,7 +5,7 @@ use Rattle.atomic_table.specs.Seated.{TableId}
 use Rattle.seat_sums.specs.Totals.{sum_over}
 use Rattle.stock_word.specs.declared.view.Stock.{Stock}
 use Rattle.stock_word.specs.declared.view.Stock.TheVariants.{NoGroup, HeldBy, DrainedOf}
-use Rattle.stock_word.specs.declared.view.Account.{Account}
+use Rattle.stock_word.specs.declared.view.StockAccount.{StockAccount}
 use Rattle.stock_word.specs.declared.view.StockView.{StockView}
 
 -- the word of a stock
@@ -45,17 +45,17 @@ drained_of (HeldBy g n) = DrainedOf g
 drained_of (DrainedOf g) = DrainedOf g
 
 -- the account of a CPU whose stock was never filled
-abbrev pub no_account : Account
+abbrev pub no_account : StockAccount
 no_account = record { book = 0; group = None; filled = false; unabsorbed = 0 }
 
 -- the account of this CPU; past the end, that of a CPU whose stock was never filled
-abbrev pub account_at : List Account → ℕ → Account
+abbrev pub account_at : List StockAccount → ℕ → StockAccount
 account_at [] cpu = no_account
 account_at (a ∷ accounts) zero = a
 account_at (a ∷ accounts) (suc cpu) = account_at accounts cpu
 
 -- the accounts, with this one for the CPU
-abbrev pub with_account_at : List Account → ℕ → Account → List Account
+abbrev pub with_account_at : List StockAccount → ℕ → StockAccount → List StockAccount
 with_account_at [] zero b = b ∷ []
 with_account_at [] (suc cpu) b = no_account ∷ with_account_at [] cpu b
 with_account_at (a ∷ accounts) zero b = b ∷ accounts
@@ -76,11 +76,11 @@ pub record KnownRawSeat : Type 0 where
   pub views : List StockView
 
 -- the zone's account of the CPU
-abbrev pub account_of : StockView → ℕ → Account
+abbrev pub account_of : StockView → ℕ → StockAccount
 account_of zone cpu = account_at zone.accounts cpu
 
 -- the zone's view with another account of the CPU
-abbrev pub with_account : StockView → ℕ → Account → StockView
+abbrev pub with_account : StockView → ℕ → StockAccount → StockView
 with_account zone cpu account = record zone { accounts = with_account_at zone.accounts cpu account }
 
 -- what the zone's seat knows at first
@@ -146,7 +146,7 @@ second_of [] = first_zone_stock_view
 second_of (v ∷ views) = first_of views
 
 -- the zone's account of the CPU that has this view
-abbrev pub account_for : StockView → StockView → Account
+abbrev pub account_for : StockView → StockView → StockAccount
 account_for zone view = account_of zone view.number
 
 -- the pages that the CPU's stock has by the book: those that are neither fresh nor reported
@@ -181,6 +181,6 @@ Gathers zone seats views = (f : StockView → ℕ) → sum_over f views ≡ f zo
 
 -- The stock of a CPU may be filled: it was never filled or was drained since, and the CPU has no fresh page and no
 -- reported page that isn't absorbed.
-abbrev pub IsSettled : StockView → StockView → Type 0
-IsSettled zone view = ((account_of zone view.number).filled ≡ false) × (view.fresh ≡ 0)
+abbrev pub MayBeFilled : StockView → StockView → Type 0
+MayBeFilled zone view = ((account_of zone view.number).filled ≡ false) × (view.fresh ≡ 0)
     × ((account_of zone view.number).unabsorbed ≡ 0)

@@ -2,7 +2,7 @@
 use Rattle.std.specs.Prelude.{◌≡◌, ℕ, ◌+◌, ◌*◌, ◌<◌, ◌≤◌, ◌⊎◌, List, ◌==◌, cond, None, length, slice_index}
 use Rattle.seat_sums.specs.Totals.{total_over}
 use Rattle.stock_word.specs.declared.view.Stock.{Stock}
-use Rattle.stock_word.specs.declared.view.Account.{Account}
+use Rattle.stock_word.specs.declared.view.StockAccount.{StockAccount}
 use Rattle.stock_word.specs.declared.view.StockView.{StockView}
 use Rattle.stock_word.specs.Stock.{word_of, HasWord, pages_of, group_of, is_held, drained_of, account_of}
 
@@ -24,7 +24,7 @@ abbrev pub IsOnly : List (List StockView) → ℕ → StockView → Type 0
 IsOnly seats q view = (f : StockView → ℕ) → total_over (at_seat q f) seats ≡ f view
 
 -- what holds of a CPU's stock word and report word, the zone's account of it, and the CPU's view
-pub record IsStock (word report : ℕ) (account : Account) (view : StockView) : Type 0 where
+pub record IsStock (word report : ℕ) (account : StockAccount) (view : StockView) : Type 0 where
   pub stock : Stock
   pub encoded : word ≡ word_of stock
   pub has_word : HasWord stock

@@ -70,7 +70,7 @@ impl Stock {
 }
 
 /// What the zone's seat knows of one CPU. No value of it is made.
-pub struct Account {
+pub struct StockAccount {
     /// Pages charged through this CPU's stock: prepaid, fresh and reported ones.
     pub book: u64,
     /// The group of its last fill.
@@ -90,7 +90,7 @@ pub struct StockView {
     /// The stock that the CPU saw last. Its fresh pages are of that group.
     pub last: Stock,
     /// The zone's account of each CPU, by its number. Entry 0 is unused.
-    pub accounts: LinkedList<Account>,
+    pub accounts: LinkedList<StockAccount>,
     /// Atomic steps that the seat made. A step of two joined seats counts at the CPU's, a look at the zone's.
     pub steps: u64,
 }

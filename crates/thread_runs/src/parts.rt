@@ -123,7 +123,7 @@ fn take_back<N: BootName>(
 {
     // The call of `number` brings in the invariant of the CPU's part.
     let _ = cpu.number();
-    let frame = cpu.hand_front(tables, zone)?;
+    let frame = cpu.pass_front(tables, zone)?;
     cpu.collect(tables, zone, frame);
     Some(frame)
 }
@@ -169,7 +169,7 @@ fn take_fresh<N: BootName>(
     requires still { NothingPasses N.frames zone.old cpu.old.frame_seat }
     ensures zone_stock { (zone_stock.new.table ≡ N.stocks.table) × IsZoneView zone_stock.new.view }
 {
-    let frame = cpu.hand_fresh(tables, zone, zone_stock)?;
+    let frame = cpu.pass_fresh(tables, zone, zone_stock)?;
     cpu.collect(tables, zone, frame);
     Some(frame)
 }
@@ -280,7 +280,7 @@ fn take_last<N: BootName>(
     requires zone { IsZoneSeat N.frames zone.old × IsOpen zone.old cpu.old.number }
     requires still { NothingPasses N.frames zone.old cpu.old.frame_seat }
 {
-    let frame = cpu.hand_back(tables, zone)?;
+    let frame = cpu.pass_back_unit(tables, zone)?;
     cpu.collect(tables, zone, frame);
     Some(frame)
 }
@@ -485,7 +485,7 @@ fn give<N: BootName>(tables: &Tables<N>, zone: &mut FrameSeat, cpu: &mut Cpu<N>,
 {
     let cpu_number = cpu.number();
     tables.frames.pass_out(zone, frame, cpu_number);
-    cpu.accept(tables, zone, frame);
+    cpu.take_in(tables, zone, frame);
 }
 
 // The frames that a CPU is given: from `from`, below `to`.

@@ -1,6 +1,6 @@
 //! Worked rows on a stock's word, and its drain while the CPU pays from it.
 ghost use Rattle.std.specs.Prelude.{◌≡◌, ◌≤◌, ◌+◌, false, length};
-ghost use Rattle.stock_word.specs.Stock.{IsCpuView, IsZoneView, IsSettled, account_of, first_zone_stock_view};
+ghost use Rattle.stock_word.specs.Stock.{IsCpuView, IsZoneView, MayBeFilled, account_of, first_zone_stock_view};
 ghost use Rattle.stock_word.specs.Stock.{first_cpu_stock_view};
 ghost use Rattle.stock_word.specs.Kinds.{with_steps, zone_after_drain};
 ghost use Rattle.stock_word.specs.Calls.{steps_of_drain};
@@ -96,10 +96,10 @@ fn fill_and_drain<R: Threads + Sync>(
 ) -> (StockSeat, StockSeat, u32)
     requires tables { (zone.table ≡ words.now.table) × (seat.table ≡ words.now.table) }
     requires numbers { IsZoneView zone.view × (seat.view.number ≡ 1) × (1 ≤ words.now.cpus) }
-    requires settled { IsSettled zone.view seat.view }
+    requires settled { MayBeFilled zone.view seat.view }
     ensures tables { (result.0.table ≡ words.now.table) × (result.1.table ≡ words.now.table) }
     ensures numbers { IsZoneView result.0.view × (result.1.view.number ≡ 1) }
-    ensures settled { IsSettled result.0.view result.1.view }
+    ensures settled { MayBeFilled result.0.view result.1.view }
 {
     words.fill(&mut zone, &mut seat, 1, 50);
     let (drained, worked) = join(

@@ -1,5 +1,5 @@
 use Rattle.std.proofs.Common.{◌≡◌, []}
-use Rattle.stock_word.specs.Stock.{IsZoneView, IsSettled}
+use Rattle.stock_word.specs.Stock.{IsZoneView, MayBeFilled}
 use Rattle.thread_runs.proofs.stocks.drains_beside_consumes_and_credits.Given as goal
 
 abbrev pub invariant-loop : goal.invariant-loop
@@ -8,5 +8,5 @@ invariant-loop g l = record {
   others : l.seats.items ≡ [];
   tables : (l.zone.table ≡ l.words.table) × (l.seat.table ≡ l.words.table);
   numbers : IsZoneView l.zone.view × (l.seat.view.number ≡ 1);
-  settled : IsSettled l.zone.view l.seat.view;
+  settled : MayBeFilled l.zone.view l.seat.view;
 }

@@ -9,15 +9,15 @@ use Rattle.mem_machine.proofs.booked_seat.BookedSeat.collect_fresh.Goals as goal
 pub collect-requires-clause-passes : goal.collect-requires-clause-passes
 collect-requires-clause-passes g c =
     let inside : c.in-Some.frame < g.N.BootName.frames.frames = search rules in
-    subst (λ (s : KnownSeat). Passes s c.hand_fresh.new.self.frame_seat c.in-Some.frame) (sym c.in-Some.ensures.zone)
+    subst (λ (s : KnownSeat). Passes s c.pass_fresh.new.self.frame_seat c.in-Some.frame) (sym c.in-Some.ensures.zone)
     (handed_passes g.N.BootName.frames c.args.zone.now c.args.cpu.now.frame_seat c.args.cpu.now.number c.number-cpu_number.ensures.tied.seats.frame_number
-    c.in-Some.frame c.requires.visited.still c.hand_fresh.new.self.frame_seat (ap (λ (x : KnownCpu). x.frame_seat) c.in-Some.ensures.answer.2) inside)
+    c.in-Some.frame c.requires.visited.still c.pass_fresh.new.self.frame_seat (ap (λ (x : KnownCpu). x.frame_seat) c.in-Some.ensures.answer.2) inside)
 
 pub overflow_sub-self : goal.overflow_sub-self
 overflow_sub-self g c =
     let n = c.args.cpu.now.number in
-    let group : (account_of c.hand_fresh.new.zone_stock.view c.number-cpu_number.result).group ≡ Some c.number-owner.result =
-    ap (λ p. (account_of c.hand_fresh.new.zone_stock.view p).group) c.number-cpu_number.ensures.number
+    let group : (account_of c.pass_fresh.new.zone_stock.view c.number-cpu_number.result).group ≡ Some c.number-owner.result =
+    ap (λ p. (account_of c.pass_fresh.new.zone_stock.view p).group) c.number-cpu_number.ensures.number
     ∙ noted_group c.self.inside.seat _ n 1 c.in-Some.ensures.zone_stock ∙ sym c.in-Some.ensures.group ∙ c.requires.group ∙ ap Some (sym c.number-owner.ensures.value) in
     let inside : c.number-cpu_number.result ≤ g.N.BootName.frames.cpus = omega (arith, c.number-cpu_number.ensures.number, c.number-cpu_number.ensures.tied.seats.frame_cpus) in
     let are = after_note g.N.BootName.frames g.N.BootName.stocks _ _ c.self.invariant n 1 c.number-cpu_number.ensures.tied.seats.frame_cpus _ c.in-Some.ensures.zone_stock in
@@ -26,8 +26,8 @@ overflow_sub-self g c =
 pub invariant_of-self : goal.invariant_of-self
 invariant_of-self g c =
     let n = c.args.cpu.now.number in
-    let group : (account_of c.hand_fresh.new.zone_stock.view c.number-cpu_number.result).group ≡ Some c.number-owner.result =
-    ap (λ p. (account_of c.hand_fresh.new.zone_stock.view p).group) c.number-cpu_number.ensures.number
+    let group : (account_of c.pass_fresh.new.zone_stock.view c.number-cpu_number.result).group ≡ Some c.number-owner.result =
+    ap (λ p. (account_of c.pass_fresh.new.zone_stock.view p).group) c.number-cpu_number.ensures.number
     ∙ noted_group c.self.inside.seat _ n 1 c.in-Some.ensures.zone_stock ∙ sym c.in-Some.ensures.group ∙ c.requires.group ∙ ap Some (sym c.number-owner.ensures.value) in
     let inside : c.number-cpu_number.result ≤ g.N.BootName.frames.cpus = omega (arith, c.number-cpu_number.ensures.number, c.number-cpu_number.ensures.tied.seats.frame_cpus) in
     let are = after_note g.N.BootName.frames g.N.BootName.stocks _ _ c.self.invariant n 1 c.number-cpu_number.ensures.tied.seats.frame_cpus _ c.in-Some.ensures.zone_stock in

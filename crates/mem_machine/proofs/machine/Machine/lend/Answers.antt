@@ -17,26 +17,26 @@ pub pass_out-requires-clause-hand : goal.pass_out-requires-clause-hand
 pass_out-requires-clause-hand g c =
     given_hand g.N.BootName.frames g.N.BootName.stocks _ _ c.self.view_is c.self.invariant.consistent _ c.requires.frame c.requires.free
 
-pub accept-requires-clause-passes : goal.accept-requires-clause-passes
-accept-requires-clause-passes g c =
+pub take_in-requires-clause-passes : goal.take_in-requires-clause-passes
+take_in-requires-clause-passes g c =
     passes_to _ _ _ _ c.self.view_is c.args.cpu.now c.number-cpu_number.ensures.tied c.requires.visit _ _ _ c.requires.frame c.number-cpu_number.ensures.number
     c.pass_out.ensures.zone
 
-pub accept-requires-clause-lent : goal.accept-requires-clause-lent
-accept-requires-clause-lent g c = lent_to_it _ _ _ _ _ c.number-cpu_number.ensures.number c.pass_out.ensures.zone
+pub take_in-requires-clause-lent : goal.take_in-requires-clause-lent
+take_in-requires-clause-lent g c = lent_to_it _ _ _ _ _ c.number-cpu_number.ensures.number c.pass_out.ensures.zone
 
 pub invariant_of-self : goal.invariant_of-self
 invariant_of-self g c =
     let all = (given_all g.N.BootName.frames g.N.BootName.stocks _ _ c.self.view_is c.args.cpu.now _ c.number-cpu_number.ensures.tied c.self.invariant.consistent
     c.requires.visit _ _ _ c.args.frame _ c.number-cpu_number.result _ _ c.self.invariant.free c.requires.frame c.requires.free c.take_frame.ensures.frames c.take_frame.ensures.areas
-    c.number-given.ensures c.number-cpu_number.ensures.number c.pass_out.ensures.zone c.accept.ensures.zone c.accept.ensures.cpu c.accept.ensures.nothing.1.1) in
+    c.number-given.ensures c.number-cpu_number.ensures.number c.pass_out.ensures.zone c.take_in.ensures.zone c.take_in.ensures.cpu c.take_in.ensures.nothing.1.1) in
     record { consistent = consistent_still _ _ _ _ all.consistent; free = all.free_is }
 
 pub returns : goal.returns
 returns g c =
     let all = given_all g.N.BootName.frames g.N.BootName.stocks _ _ c.self.view_is c.args.cpu.now _ c.number-cpu_number.ensures.tied c.self.invariant.consistent c.requires.visit
     _ _ _ c.args.frame _ c.number-cpu_number.result _ _ c.self.invariant.free c.requires.frame c.requires.free c.take_frame.ensures.frames c.take_frame.ensures.areas
-    c.number-given.ensures c.number-cpu_number.ensures.number c.pass_out.ensures.zone c.accept.ensures.zone c.accept.ensures.cpu c.accept.ensures.nothing.1.1 in
+    c.number-given.ensures c.number-cpu_number.ensures.number c.pass_out.ensures.zone c.take_in.ensures.zone c.take_in.ensures.cpu c.take_in.ensures.nothing.1.1 in
     let took = subst (λ (x : ℕ × ℕ). Watches c.self.inside.watch (lend_steps x.0 x.1) c.took_in.new.self)
     (λ i. (c.number-cpu_number.ensures.number i, c.number-given.ensures i))
     (watches_both _ _ _ _ _ c.passed_out.ensures c.took_in.ensures) in

@@ -19,14 +19,14 @@ pass_out-requires-clause-hand g c =
     let there = block_inside _ _ _ _ c.unwrap.result c.in-Some.block c.self.invariant.free k0 c.in-Some.ensures.taken c.in-Some.ensures.frames in
     zone_hand _ _ _ c.self.invariant.consistent _ _ there.0 there.1 c.in-Some-frame.ensures.0
 
-pub accept-requires-clause-passes : goal.accept-requires-clause-passes
-accept-requires-clause-passes g c =
+pub take_in-requires-clause-passes : goal.take_in-requires-clause-passes
+take_in-requires-clause-passes g c =
     let inside : c.in-Some-frame.frame < g.N.BootName.frames.frames = search rules in
     passes_to _ _ _ _ c.self.view_is c.args.cpu.now c.number-cpu_number.ensures.tied c.requires.visit _ _ _ inside c.number-cpu_number.ensures.number
     c.pass_out.ensures.zone
 
-pub accept-requires-clause-lent : goal.accept-requires-clause-lent
-accept-requires-clause-lent g c = lent_to_it _ _ _ _ _ c.number-cpu_number.ensures.number c.pass_out.ensures.zone
+pub take_in-requires-clause-lent : goal.take_in-requires-clause-lent
+take_in-requires-clause-lent g c = lent_to_it _ _ _ _ _ c.number-cpu_number.ensures.number c.pass_out.ensures.zone
 
 pub invariant_of-self-2 : goal.invariant_of-self-2
 invariant_of-self-2 g c =
@@ -34,8 +34,8 @@ invariant_of-self-2 g c =
     let all = (lend_all g.N.BootName.frames g.N.BootName.stocks _ _ c.self.view_is c.args.cpu.now _ c.number-cpu_number.ensures.tied c.self.invariant.consistent
     c.requires.visit _ _
     c.unwrap.result c.in-Some.block _ c.in-Some-frame.frame _ c.number-cpu_number.result _ _ c.self.invariant.free k0 c.in-Some.ensures.taken c.in-Some.ensures.frames
-    c.in-Some.ensures.areas c.in-Some-frame.ensures.0 c.number-at.ensures c.number-cpu_number.ensures.number c.pass_out.ensures.zone c.accept.ensures.zone
-    c.accept.ensures.cpu c.accept.ensures.nothing.1.1) in
+    c.in-Some.ensures.areas c.in-Some-frame.ensures.0 c.number-at.ensures c.number-cpu_number.ensures.number c.pass_out.ensures.zone c.take_in.ensures.zone
+    c.take_in.ensures.cpu c.take_in.ensures.nothing.1.1) in
     record { consistent = consistent_still _ _ _ _ all.consistent; free = all.free_is }
 
 pub returns : goal.returns
@@ -43,8 +43,8 @@ returns g c =
     let k0 : c.unwrap.result ≡ 0 = search rules in
     let all = lend_all g.N.BootName.frames g.N.BootName.stocks _ _ c.self.view_is c.args.cpu.now _ c.number-cpu_number.ensures.tied c.self.invariant.consistent c.requires.visit _ _
     c.unwrap.result c.in-Some.block _ c.in-Some-frame.frame _ c.number-cpu_number.result _ _ c.self.invariant.free k0 c.in-Some.ensures.taken c.in-Some.ensures.frames
-    c.in-Some.ensures.areas c.in-Some-frame.ensures.0 c.number-at.ensures c.number-cpu_number.ensures.number c.pass_out.ensures.zone c.accept.ensures.zone
-    c.accept.ensures.cpu c.accept.ensures.nothing.1.1 in
+    c.in-Some.ensures.areas c.in-Some-frame.ensures.0 c.number-at.ensures c.number-cpu_number.ensures.number c.pass_out.ensures.zone c.take_in.ensures.zone
+    c.take_in.ensures.cpu c.take_in.ensures.nothing.1.1 in
     let took = subst (λ (x : ℕ × ℕ). Watches c.self.inside.watch (lend_steps x.0 x.1) c.took_in.new.self)
     (λ i. (c.number-cpu_number.ensures.number i, c.number-at.ensures i))
     (watches_both _ _ _ _ _ c.passed_out.ensures c.took_in.ensures) in

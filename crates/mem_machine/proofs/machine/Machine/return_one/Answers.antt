@@ -48,9 +48,9 @@ invariant_of-self-2 g c =
     record { inside = inside; nothing = c.in-Some.ensures.own.0; lent = c.in-Some.ensures.own.1 } in
     let heads = read_head g.N.BootName.frames g.N.BootName.stocks _ c.self.invariant.consistent _ _ was c.number-at.ensures _ c.index.ensures _ c.in-Head.is in
     let collected = c.collect.ensures.zone ∙ ap (λ (s : KnownSeat). seat_with s c.in-Some.frame
-    (collected_from c.hand_back.new.self.number)) c.in-Some.ensures.zone in
+    (collected_from c.pass_back_unit.new.self.number)) c.in-Some.ensures.zone in
     let u = c.free_unit.ensures in
-    let all = (return_all g.N.BootName.frames g.N.BootName.stocks _ _ c.self.view_is c.args.cpu.now c.hand_back.new.self _ c.number-cpu_number.ensures.tied
+    let all = (return_all g.N.BootName.frames g.N.BootName.stocks _ _ c.self.view_is c.args.cpu.now c.pass_back_unit.new.self _ c.number-cpu_number.ensures.tied
     c.self.invariant.consistent c.requires _ _ c.self.invariant.free _ was c.in-Some.ensures.answer c.collect.ensures.cpu _ c.number-at.ensures _ heads _ collected
     _ u.frame_states _ u.frames u.areas _ u.charges _
     c.with_last_put-self-inside.ensures) in
@@ -63,9 +63,9 @@ returns g c =
     record { inside = inside; nothing = c.in-Some.ensures.own.0; lent = c.in-Some.ensures.own.1 } in
     let heads = read_head g.N.BootName.frames g.N.BootName.stocks _ c.self.invariant.consistent _ _ was c.number-at.ensures _ c.index.ensures _ c.in-Head.is in
     let collected = c.collect.ensures.zone ∙ ap (λ (s : KnownSeat). seat_with s c.in-Some.frame
-    (collected_from c.hand_back.new.self.number)) c.in-Some.ensures.zone in
+    (collected_from c.pass_back_unit.new.self.number)) c.in-Some.ensures.zone in
     let u = c.free_unit.ensures in
-    let all = return_all g.N.BootName.frames g.N.BootName.stocks _ _ c.self.view_is c.args.cpu.now c.hand_back.new.self _ c.number-cpu_number.ensures.tied
+    let all = return_all g.N.BootName.frames g.N.BootName.stocks _ _ c.self.view_is c.args.cpu.now c.pass_back_unit.new.self _ c.number-cpu_number.ensures.tied
     c.self.invariant.consistent c.requires _ _ c.self.invariant.free _ was c.in-Some.ensures.answer c.collect.ensures.cpu _ c.number-at.ensures _ heads _ collected
     _ u.frame_states _ u.frames u.areas _ u.charges _
     c.with_last_put-self-inside.ensures in

@@ -28,8 +28,8 @@ invariant_of-self-2 g c =
     let k0 : c.unwrap.result ≡ 0 = search rules in
     let inside : c.in-Some.frame < g.N.BootName.frames.frames = search rules in
     let collected = c.collect.ensures.zone ∙ ap (λ (s : KnownSeat). seat_with s c.in-Some.frame
-    (collected_from c.hand_front.new.self.number)) c.in-Some.ensures.zone in
-    let all = (take_all g.N.BootName.frames g.N.BootName.stocks _ _ c.self.view_is c.args.cpu.now c.hand_front.new.self _
+    (collected_from c.pass_front.new.self.number)) c.in-Some.ensures.zone in
+    let all = (take_all g.N.BootName.frames g.N.BootName.stocks _ _ c.self.view_is c.args.cpu.now c.pass_front.new.self _
     c.number-cpu_number.ensures.tied c.self.invariant.consistent
     c.requires _ _ c.unwrap.result _ c.in-Some.frame _ _ c.self.invariant.free k0 c.give.ensures.frames c.give.ensures.areas inside c.in-Some.ensures.borrowed.1
     c.number-at.ensures c.in-Some.ensures.answer collected c.collect.ensures.cpu) in
@@ -40,8 +40,8 @@ returns g c =
     let k0 : c.unwrap.result ≡ 0 = search rules in
     let inside : c.in-Some.frame < g.N.BootName.frames.frames = search rules in
     let collected = c.collect.ensures.zone ∙ ap (λ (s : KnownSeat). seat_with s c.in-Some.frame
-    (collected_from c.hand_front.new.self.number)) c.in-Some.ensures.zone in
-    let all = take_all g.N.BootName.frames g.N.BootName.stocks _ _ c.self.view_is c.args.cpu.now c.hand_front.new.self _ c.number-cpu_number.ensures.tied c.self.invariant.consistent
+    (collected_from c.pass_front.new.self.number)) c.in-Some.ensures.zone in
+    let all = take_all g.N.BootName.frames g.N.BootName.stocks _ _ c.self.view_is c.args.cpu.now c.pass_front.new.self _ c.number-cpu_number.ensures.tied c.self.invariant.consistent
     c.requires _ _ c.unwrap.result _ c.in-Some.frame _ _ c.self.invariant.free k0 c.give.ensures.frames c.give.ensures.areas inside c.in-Some.ensures.borrowed.1
     c.number-at.ensures c.in-Some.ensures.answer collected c.collect.ensures.cpu in
     let took = subst (λ (x : ℕ × ℕ). Watches c.self.inside.watch (unlist_steps x.0 x.1) c.collected.new.self)

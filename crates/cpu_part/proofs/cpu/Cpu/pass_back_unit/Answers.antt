@@ -1,7 +1,7 @@
 use Rattle.std.proofs.Common.{rules, inr, arith}
 use Rattle.std.proofs.lemmas.Grind.{common_steps}
 use Rattle.cpu_part.proofs.Tied.{tied_back_handed, front_inside}
-use Rattle.cpu_part.proofs.cpu.Cpu.hand_back.Goals as goal
+use Rattle.cpu_part.proofs.cpu.Cpu.pass_back_unit.Goals as goal
 
 pub pass_back-requires-clause-frame : goal.pass_back-requires-clause-frame
 pass_back-requires-clause-frame g c =

@@ -1,7 +1,7 @@
 use Rattle.std.proofs.Common.{◌+◌, ◌<◌, length, rules, sym, subst}
 use Rattle.cpu_part.specs.Cpus.{KnownCpu}
 use Rattle.cpu_part.proofs.Tied.{tied_accepted}
-use Rattle.cpu_part.proofs.cpu.Cpu.accept.Goals as goal
+use Rattle.cpu_part.proofs.cpu.Cpu.take_in.Goals as goal
 
 pub invariant_of-self : goal.invariant_of-self
 invariant_of-self g c =

@@ -1,10 +1,10 @@
 use Rattle.std.proofs.Common.{◌<◌, length, rules, inl, inr, sym, ap, subst}
 use Rattle.frame_word.specs.Seats.{KnownSeat, IsInNoHand}
-use Rattle.frame_word.specs.Views.{in_hands, gave_back}
+use Rattle.frame_word.specs.Views.{in_hands, passed_back_by_cpu}
 use Rattle.frame_word.proofs.Notes.{note_here}
 use Rattle.cpu_part.proofs.Counts.{front_removed}
 use Rattle.cpu_part.proofs.Tied.{tied_fresh_handed, front_inside}
-use Rattle.cpu_part.proofs.cpu.Cpu.hand_fresh.Goals as goal
+use Rattle.cpu_part.proofs.cpu.Cpu.pass_fresh.Goals as goal
 
 pub pass_back-requires-clause-frame : goal.pass_back-requires-clause-frame
 pass_back-requires-clause-frame g c =
@@ -17,7 +17,7 @@ pass_back-requires-clause-frame g c =
 pub report_passed-requires-clause-passed : goal.report_passed-requires-clause-passed
 report_passed-requires-clause-passed g c =
     let f = c.remove-frame.result in
-    subst (λ (s : KnownSeat). IsInNoHand s f) (sym c.pass_back.ensures.cpu) (ap in_hands (note_here c.self.inside.frame_seat.view f gave_back))
+    subst (λ (s : KnownSeat). IsInNoHand s f) (sym c.pass_back.ensures.cpu) (ap in_hands (note_here c.self.inside.frame_seat.view f passed_back_by_cpu))
 
 pub invariant_of-self : goal.invariant_of-self
 invariant_of-self g c =

@@ -1,6 +1,6 @@
 use Rattle.std.proofs.Common.{rules, inl}
 use Rattle.cpu_part.proofs.Tied.{tied_front_handed, front_inside}
-use Rattle.cpu_part.proofs.cpu.Cpu.hand_front.Goals as goal
+use Rattle.cpu_part.proofs.cpu.Cpu.pass_front.Goals as goal
 
 pub pass_back-requires-clause-frame : goal.pass_back-requires-clause-frame
 pass_back-requires-clause-frame g c =
