@@ -29,5 +29,5 @@ mod zone_seat;
 pub use closed::ClosedWords;
 pub use kinds::{StockRule, StockWords};
 pub use seat::StockSeat;
-pub use view::{StockAccount, Stock, StockView};
+pub use view::{Stock, StockAccount, StockView};
 pub use words::{Consume, Credit};
