@@ -1,5 +1,5 @@
-//! Serves the lines of a script one after the other, and writes an object of a trace for each: the line with its answer,
-//! and what it changed.
+//! Serves the lines of a script one after the other, and writes an object of a trace for each: the line with its
+//! answer, and what it changed.
 #![tactic(auto)]
 
 mod commands;

@@ -19,8 +19,8 @@ use std::alloc::{AllocError, Global};
 use trace_lines::shown::Shown;
 use trace_lines::write_object;
 
-/// Serves the lines one after the other, each for the CPU that it names, and adds the object of each to the trace. These
-/// are the texts of the whole script, from which the objects have the text of each command. It fails only if memory
+/// Serves the lines one after the other, each for the CPU that it names, and adds the object of each to the trace.
+/// `texts` are those of the whole script, from which the objects have the text of each command. It fails only if memory
 /// runs out: no line is served after that, and what was added then says nothing.
 pub fn replay_traced<N: BootName>(
     alloc: Global,

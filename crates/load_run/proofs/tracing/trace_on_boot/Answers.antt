@@ -41,6 +41,6 @@ returns g c =
             cpus = c.in_ok-locked.ensures.cpus;
           })
           texts grown ended.ends header
-          (c.into_bytes.ensures ∙ c.in_ok-write_end.ensures
+          ((λ i. (c.into_bytes.ensures.value i).items) ∙ c.in_ok-write_end.ensures
           ∙ ap (λ (e : End). string_bytes c.trace_and_end_boot-traced.new.trace ++ end_text e) c.end_of.ensures);
     }
