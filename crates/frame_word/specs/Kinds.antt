@@ -5,9 +5,9 @@
 use Rattle.std.specs.Prelude.{◌≡◌, ◌≢◌, ◌⊎◌, ℕ, ◌+◌, ◌-◌, ◌<◌, ◌≤◌, List, [], ◌∷◌}
 use Rattle.atomic_table.specs.Table.{State, Step, Me, Final, Seen}
 use Rattle.frame_word.specs.declared.view.FrameView.{FrameView}
-use Rattle.frame_word.specs.Views.{note_of, changed, with_visit, in_hands, looked, held, raced, dropped_one, dropped_last}
-use Rattle.frame_word.specs.Views.{frozen, missed, unfrozen, passed_out_to, took_in, passed_back_by_cpu, collected_from, HasNone}
-use Rattle.frame_word.specs.Views.{IsHandedOverAt}
+use Rattle.frame_word.specs.Views.{note_of, changed, with_visit, in_hands, looked, held, raced, dropped_one}
+use Rattle.frame_word.specs.Views.{dropped_last, frozen, missed, unfrozen, passed_out_to, took_in}
+use Rattle.frame_word.specs.Views.{passed_back_by_cpu, collected_from, HasNone, IsHandedOverAt}
 use Rattle.frame_word.specs.ReferenceRule.{most_references, mark_base, ReferenceRule}
 use Rattle.frame_word.specs.Seats.{first_zone_view, first_cpu_view, cpu_views}
 
@@ -84,7 +84,8 @@ takes_in z v f stored z' v' = (z' ≡ z) × (v' ≡ changed v f took_in) × HasN
 -- A pass by a CPU: the frame leaves its hand. The zone's seat had nothing of the frame. It had lent the frame to no
 -- CPU, if the CPU owned it, or to this CPU, if the CPU had borrowed it.
 abbrev pub passes_back : FrameView → FrameView → ℕ → ℕ → FrameView → FrameView → Type 0
-passes_back z v f stored z' v' = (z' ≡ z) × (v' ≡ changed v f passed_back_by_cpu) × HasNone z f × ((note_of v f).references ≡ 0)
+passes_back z v f stored z' v' =
+    (z' ≡ z) × (v' ≡ changed v f passed_back_by_cpu) × HasNone z f × ((note_of v f).references ≡ 0)
     × ((note_of v f).own ≡ 1 → (note_of z f).lent ≡ 0) × ((note_of v f).borrowed ≡ 1 → (note_of z f).lent ≡ v.number)
 
 -- A take by the zone's seat: it owns the frame, which is lent to no CPU any more. Neither seat had anything of the

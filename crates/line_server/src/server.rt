@@ -192,7 +192,8 @@ impl<N: BootName> Server<N> {
         answer: &mut String,
     ) -> Result<(), AllocError>
         ensures answered { OnOk result (AddsAnswer (terms_of N.frames N.stocks self.old) self.old.sizes
-            (text_of input_line.now) self.old.state self.new.state (string_bytes answer.old) (string_bytes answer.new)) }
+            (text_of input_line.now) self.old.state self.new.state
+            (string_bytes answer.old) (string_bytes answer.new)) }
         ensures failed { OnErr result
             (ServesAtMost (terms_of N.frames N.stocks self.old) self.old.state self.new.state) }
         ensures terms { KeepsTerms self.old self.new }

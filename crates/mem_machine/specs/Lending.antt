@@ -74,7 +74,10 @@ pub record UnlistsOne (frame : ℕ) (before after : VisitState) : Type 0 where
     frame_seat = seat_with before.machine.frame_seat frame (collected_from before.cpu.number);
     watch = after.machine.watch;
   }
-  pub cpu : after.cpu ≡ record before.cpu { list = rest; frame_seat = seat_with before.cpu.frame_seat frame passed_back_by_cpu }
+  pub cpu : after.cpu ≡ record before.cpu {
+    list = rest;
+    frame_seat = seat_with before.cpu.frame_seat frame passed_back_by_cpu;
+  }
 
 -- the list is empty, and nothing changed
 pub record UnlistsNone (before after : VisitState) : Type 0 where

@@ -85,7 +85,8 @@ impl<N: BootName> System<N> {
         text: &mut String,
     ) -> Result<(), AllocError>
         ensures told { ReadsAfterSettling N.frames N.stocks (λ settled machine.
-            (IfOk result (λ _. string_bytes text.new ≡ string_bytes text.old ++ stock_line_text (visit_state_of settled)))
+            (IfOk result (λ _. string_bytes text.new
+            ≡ string_bytes text.old ++ stock_line_text (visit_state_of settled)))
             × (machine ≡ with_look settled.locked.machine)) cpu.old cpu.new }
         ensures settled { IsSettled cpu.new }
     {

@@ -27,8 +27,8 @@ use script_lines::line::Command;
 /// Serves a command for the CPU of this number, from 1, as `replay` does, and returns its answer as a value. All that
 /// the command names is there, and it isn't `show`, `blocks`, `stock` or `units`. No memory is taken.
 ///
-/// It is inlined with all that it calls for a Get or a Put, so that a caller that names one of them has its steps alone:
-/// no command and no answer is built in memory to be matched.
+/// It is inlined with all that it calls for a Get or a Put, so that a caller that names one of them has its steps
+/// alone: no command and no answer is built in memory to be matched.
 #[inline(always)]
 pub fn serve_typed<N: BootName>(
     locked: &mut Locked<N>,

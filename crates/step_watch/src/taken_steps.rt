@@ -1,5 +1,5 @@
-//! The steps that the machine makes, as the watch takes them if it is on. An action has room for a path, so building one
-//! is kept out of the machine's calls: each function here is cold, and isn't inlined.
+//! The steps that the machine makes, as the watch takes them if it is on. An action has room for a path, so building
+//! one is kept out of the machine's calls: each function here is cold, and isn't inlined.
 
 ghost use Rattle.std.specs.Prelude.{◌∷◌, []};
 ghost use Rattle.step_rules.specs.declared.step.Action.TheVariants.{Absorb, Collect, Consume, DrainStock};

@@ -11,7 +11,8 @@ ghost use Rattle.std.specs.Prelude.{◌≡◌, ◌≢◌, ◌*◌, ◌+◌, ◌-
 ghost use Rattle.std.specs.Mem.Slots.{slots_items, slots_len, IsFull};
 ghost use Rattle.stock_word.specs.declared.view.Stock.TheVariants.{HeldBy, DrainedOf};
 ghost use Rattle.stock_word.specs.Stock.{KnownStockTable, KnownRawSeat, IsSized, HasWord, word_of, IsCpuView};
-ghost use Rattle.stock_word.specs.Stock.{IsZoneView, account_of, account_for, stocked, MayBeFilled, first_of, second_of};
+ghost use Rattle.stock_word.specs.Stock.{IsZoneView, account_of, account_for, stocked, MayBeFilled, first_of};
+ghost use Rattle.stock_word.specs.Stock.{second_of};
 ghost use Rattle.stock_word.specs.Stock.{first_zone_stock_view, first_cpu_stock_views, without_second, second_alone};
 ghost use Rattle.stock_word.specs.Kinds.{IsAlone, IsPair, Ends, Consumes, Credits, SeesDrained, Reports, ConsumesHeld};
 ghost use Rattle.stock_word.specs.Kinds.{Fills, SeesStock, DrainsNone, LooksAt, Drains, Absorbs, Alone, Joined};
