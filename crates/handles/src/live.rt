@@ -82,7 +82,7 @@ impl<N: BootName> Live<N> {
 
     /// Serves the lines of a script, in order, and returns what `replay` answers to them. A fault of the script is
     /// found before the first line is served.
-    pub fn command(
+    pub fn answer_lines(
         &mut self,
         alloc: Global,
         text: &[u8],

@@ -15,7 +15,7 @@ pub enum Request {
         sizes: Config,
     },
     /// Serve the lines of a script.
-    Command {
+    Lines {
         alloc: Global,
         text: Vec<u8>,
         is_explained: bool,

@@ -3,7 +3,7 @@
 ghost use Rattle.std.specs.Prelude.{◌≡◌, IsSome, IsSomeAnd, None};
 ghost use Rattle.handles.specs.Calls.{Calls, HasFile, ShowsFile};
 ghost use Rattle.handles.specs.Serving.{IsAsked, OnLive, Serves};
-ghost use Rattle.handles.specs.declared.requests.Request.TheVariants.{Command, End, Keep, Recall, Start};
+ghost use Rattle.handles.specs.declared.requests.Request.TheVariants.{End, Keep, Lines, Recall, Start};
 
 use crate::calls::{Call, CallAnswer, FileText};
 use crate::live::Live;
@@ -28,11 +28,11 @@ pub fn serve<N: BootName>(
 {
     match request {
         Request::Start { alloc, boot, sizes } => start(pointer, alloc, boot, sizes),
-        Request::Command {
+        Request::Lines {
             alloc,
             text,
             is_explained,
-        } => command(pointer, alloc, text, is_explained),
+        } => answer_lines(pointer, alloc, text, is_explained),
         Request::Keep { text } => keep(pointer, text),
         Request::Recall { alloc } => recall(pointer, alloc),
         Request::End { alloc } => finish(pointer, alloc),
@@ -92,17 +92,17 @@ fn start<N: BootName>(
 }
 
 // Serves the lines of a script.
-fn command<N: BootName>(
+fn answer_lines<N: BootName>(
     pointer: LivePointer<N>,
     alloc: Global,
     text: Vec<u8>,
     is_explained: bool,
 ) -> (LivePointer<N>, RequestAnswer)
     requires some { IsSome pointer.live }
-    ensures serves { Serves N.frames N.stocks pointer.live (Command alloc text is_explained) result.0.live result.1 }
+    ensures serves { Serves N.frames N.stocks pointer.live (Lines alloc text is_explained) result.0.live result.1 }
 {
     let mut live = pointer.into_loose().into_box();
-    let answered = live.command(alloc, &text, is_explained);
+    let answered = live.answer_lines(alloc, &text, is_explained);
     let pointer = LivePointer::of(Loose::of(live));
     match answered {
         Ok(answers) => (pointer, RequestAnswer::Text(answers)),

@@ -62,8 +62,8 @@ abbrev pub IsEndStatus : ℕ → Type 0
 IsEndStatus status = Contains (done ∷ not_live ∷ []) status
 
 -- the statuses with which lines of a script are answered
-abbrev pub IsCommandStatus : ℕ → Type 0
-IsCommandStatus status = Contains (done ∷ no_memory ∷ bad_line ∷ small_buffer ∷ not_live ∷ []) status
+abbrev pub IsLinesStatus : ℕ → Type 0
+IsLinesStatus status = Contains (done ∷ no_memory ∷ bad_line ∷ small_buffer ∷ not_live ∷ []) status
 
 -- the statuses with which an answer that was kept is fetched
 abbrev pub IsAnswerStatus : ℕ → Type 0

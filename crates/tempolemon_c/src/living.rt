@@ -4,10 +4,10 @@ ghost use Rattle.std.specs.Prelude.{◌≡◌, ◌≢◌, ◌↔◌, None};
 ghost use Rattle.zone_sizes.specs.Config.{IsValidConfig};
 ghost use Rattle.tempolemon_c.specs.Behind.{behind};
 ghost use Rattle.tempolemon_c.specs.Buffers.{ExceedsBuffer, FillsBuffer};
-ghost use Rattle.tempolemon_c.specs.Handles.{BootsNew, CommandRunsOut, Commands, CommandsAndKeeps, EndsBoot};
-ghost use Rattle.tempolemon_c.specs.Handles.{KeepsAnswer, RefusesCommand, TakesAnswer};
+ghost use Rattle.tempolemon_c.specs.Handles.{AnswersAndKeepsLines, AnswersLines, BootsNew, EndsBoot, LinesRunOut};
+ghost use Rattle.tempolemon_c.specs.Handles.{KeepsAnswer, RefusesLines, TakesAnswer};
 ghost use Rattle.tempolemon_c.specs.Replays.{config_of};
-ghost use Rattle.tempolemon_c.specs.Statuses.{IsAnswerStatus, IsBootStatus, IsCommandStatus, IsEndStatus};
+ghost use Rattle.tempolemon_c.specs.Statuses.{IsAnswerStatus, IsBootStatus, IsEndStatus, IsLinesStatus};
 ghost use Rattle.tempolemon_c.specs.Statuses.{bad_config, bad_line, done, is_live, no_memory, not_live, small_buffer};
 
 use crate::buffers::put_answers;
@@ -77,16 +77,17 @@ pub extern "C" fn tempolemon_command(
     written: &mut usize,
     first_bad: &mut usize,
 ) -> u8
-    ensures statuses { IsCommandStatus result }
+    ensures statuses { IsLinesStatus result }
     ensures none_live { (result ≡ not_live) ↔ (behind handle.old ≡ None) }
     ensures answered { result ≡ done → FillsBuffer
-        (Commands script.now is_explained (behind handle.old) (behind handle.new)) answers.old answers.new written.new }
+        (AnswersLines script.now is_explained (behind handle.old) (behind handle.new))
+        answers.old answers.new written.new }
     ensures too_small { result ≡ small_buffer → ExceedsBuffer
-        (CommandsAndKeeps script.now is_explained (behind handle.old) (behind handle.new)) answers.old written.new }
+        (AnswersAndKeepsLines script.now is_explained (behind handle.old) (behind handle.new)) answers.old written.new }
     ensures first_bad_line { result ≡ bad_line
-        → RefusesCommand script.now first_bad.new (behind handle.old) (behind handle.new) }
+        → RefusesLines script.now first_bad.new (behind handle.old) (behind handle.new) }
     ensures ran_out { result ≡ no_memory
-        → CommandRunsOut script.now is_explained (behind handle.old) (behind handle.new) }
+        → LinesRunOut script.now is_explained (behind handle.old) (behind handle.new) }
     ensures stays { result ≡ not_live → behind handle.new ≡ behind handle.old }
     ensures buffer_stays { result ≢ done → answers.new ≡ answers.old }
     ensures no_length { result ≢ done → result ≢ small_buffer → written.new ≡ 0 }
@@ -102,7 +103,7 @@ pub extern "C" fn tempolemon_command(
     };
     match handle.ask(
         alloc,
-        Request::Command {
+        Request::Lines {
             alloc,
             text,
             is_explained,

@@ -11,7 +11,7 @@ returns-else-put_answers-clause-too_small c = λ e. record {
   text = c.in-Text.told.items;
   is = record {
     between = behind c.ask.new.self;
-    commands = search rules;
+    lines = search rules;
     keeps = search rules;
   };
   needed_is = search rules;
