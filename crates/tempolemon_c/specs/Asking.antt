@@ -15,6 +15,6 @@ IsAsk (Recall alloc) = Unit {0}
 IsAsk (End alloc) = ⊥
 
 -- the request was served with this answer
-abbrev pub ServesBoot : Request → (before after : Option LiveBoot) → RequestAnswer → Type 0
-ServesBoot request before after answer =
+abbrev pub AsksBoot : Request → (before after : Option LiveBoot) → RequestAnswer → Type 0
+AsksBoot request before after answer =
     OnBoot (λ frames stocks from to. Serves frames stocks (Some from) request (Some to) answer) before after

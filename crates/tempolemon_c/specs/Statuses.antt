@@ -69,6 +69,6 @@ IsLinesStatus status = Contains (done ∷ no_memory ∷ bad_line ∷ small_buffe
 abbrev pub IsAnswerStatus : ℕ → Type 0
 IsAnswerStatus status = Contains (done ∷ small_buffer ∷ not_live ∷ []) status
 
--- the statuses above the refusals' numbers with which a call is answered
-abbrev pub IsHostStatus : ℕ → Type 0
-IsHostStatus status = Contains (not_live ∷ bad_cpu ∷ bad_frame ∷ bad_group ∷ []) status
+-- the statuses of a typed call that wasn't served; they are above the refusals' numbers
+abbrev pub IsNotServedStatus : ℕ → Type 0
+IsNotServedStatus status = Contains (not_live ∷ bad_cpu ∷ bad_frame ∷ bad_group ∷ []) status
