@@ -127,7 +127,7 @@ typedef struct {
  *   NO_MEMORY   memory ran out
  *
  * Unless the status is DONE, the handle is unchanged and nothing of the boot stays. A boot takes all memory that it ever
- * needs, except for texts: each call that has a path, a script or a kept answer says so.
+ * needs, except for texts: each call that has a path, a script or an unread answer says so.
  */
 uint8_t tempolemon_boot(const tempolemon_sizes *sizes, tempolemon_handle *handle);
 
@@ -143,7 +143,7 @@ uint8_t tempolemon_end(tempolemon_handle *handle, tempolemon_report *report);
  *
  *   DONE          the answers are the first *written bytes of the buffer; the rest of it is unchanged
  *   BAD_LINE      *first_bad is the number of the first bad line, from 1; no line was served
- *   SMALL_BUFFER  the lines were served. Their answers have *written bytes, more than `room`, and the boot keeps them:
+ *   SMALL_BUFFER  the lines were served. Their answers have *written bytes, more than `room`, and are unread:
  *                 fetch them by tempolemon_answer. How long an answer is shows only when its line was served, and that
  *                 can't be undone
  *   NO_MEMORY     memory ran out, before the first line or for the answer of one; the lines up to that were served
@@ -155,11 +155,11 @@ uint8_t tempolemon_end(tempolemon_handle *handle, tempolemon_report *report);
 uint8_t tempolemon_command(tempolemon_handle *handle, bool is_explained, const uint8_t *script, size_t length,
                            uint8_t *answers, size_t room, size_t *written, size_t *first_bad);
 
-/* Fetches the answers that the boot keeps since tempolemon_command returned SMALL_BUFFER. The boot keeps those of the
+/* Fetches the unread answers: those for which tempolemon_command returned SMALL_BUFFER. The boot stores those of the
  * last such call, until they are fetched or it ends.
  *
- *   DONE          the answers are the first *written bytes of the buffer, and the boot keeps none now; 0 if it kept none
- *   SMALL_BUFFER  they have *written bytes, more than `room`, and the boot keeps them still
+ *   DONE          the answers are the first *written bytes of the buffer, and none are unread now; 0 if none were
+ *   SMALL_BUFFER  they have *written bytes, more than `room`, and are unread still
  *   NOT_LIVE      the handle has no boot; *written is 0
  */
 uint8_t tempolemon_answer(tempolemon_handle *handle, uint8_t *answers, size_t room, size_t *written);

@@ -58,7 +58,7 @@ static void live(void) {
     is("its word", told.word, TEMPOLEMON_REFUSED);
     is("a bad line", tempolemon_command(&host, false, BYTES("3 settle\n"), buffer, 160, &written, &first_bad),
        TEMPOLEMON_BAD_LINE);
-    is("a kept answer", tempolemon_command(&host, false, BYTES("1 mkdir /a\n"), buffer, 7, &written, &first_bad),
+    is("an unread answer", tempolemon_command(&host, false, BYTES("1 mkdir /a\n"), buffer, 7, &written, &first_bad),
        TEMPOLEMON_SMALL_BUFFER);
     is("a byte less", tempolemon_answer(&host, buffer, 7, &written), TEMPOLEMON_SMALL_BUFFER);
     is("enough", tempolemon_answer(&host, buffer, 8, &written), TEMPOLEMON_DONE);

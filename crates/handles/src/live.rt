@@ -192,15 +192,15 @@ impl<N: BootName> Live<N> {
         }
     }
 
-    /// Keeps this text in place of the one that was kept.
-    pub fn keep_answer(&mut self, text: Vec<u8>)
+    /// Stores this text as the unread answer, in place of the one before.
+    pub fn store_unread(&mut self, text: Vec<u8>)
         ensures { self.new ≡ with_unread_answer self.old text.items }
     {
         self.unread_answer = text;
     }
 
-    /// Returns the text that was kept, and keeps none.
-    pub fn take_answer(&mut self, alloc: Global) -> Vec<u8>
+    /// Returns the unread answer, and leaves none.
+    pub fn take_unread(&mut self, alloc: Global) -> Vec<u8>
         ensures { TakesUnreadAnswer self.old self.new result.items }
     {
         std::mem::replace(&mut self.unread_answer, Vec::new(alloc))

@@ -65,7 +65,7 @@ IsEndStatus status = Contains (done ∷ not_live ∷ []) status
 abbrev pub IsLinesStatus : ℕ → Type 0
 IsLinesStatus status = Contains (done ∷ no_memory ∷ bad_line ∷ small_buffer ∷ not_live ∷ []) status
 
--- the statuses with which an answer that was kept is fetched
+-- the statuses with which an unread answer is fetched
 abbrev pub IsAnswerStatus : ℕ → Type 0
 IsAnswerStatus status = Contains (done ∷ small_buffer ∷ not_live ∷ []) status
 
