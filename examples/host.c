@@ -7,7 +7,7 @@
 #define BYTES(text) (const uint8_t *)(text), strlen(text)
 
 static tempolemon_handle host;
-static tempolemon_told told;
+static tempolemon_result result;
 
 static void ask(uint8_t status, const char *what) {
     if (status == TEMPOLEMON_DONE) return;
@@ -21,18 +21,18 @@ int main(void) {
     uint8_t status, text[160];
 
     ask(tempolemon_boot(&sizes, &host), "boot");
-    ask(tempolemon_mkdir(&host, 1, BYTES("/web"), &told), "mkdir");
-    const uint32_t web = (uint32_t)told.number;
-    ask(tempolemon_write(&host, 1, BYTES("/web"), BYTES("memory.max"), BYTES("128K"), &told), "write");
+    ask(tempolemon_mkdir(&host, 1, BYTES("/web"), &result), "mkdir");
+    const uint32_t web = (uint32_t)result.number;
+    ask(tempolemon_write(&host, 1, BYTES("/web"), BYTES("memory.max"), BYTES("128K"), &result), "write");
 
-    while ((status = tempolemon_alloc(&host, 1, web, 4, &told)) == TEMPOLEMON_DONE) {
-        const uint32_t frame = (uint32_t)told.number;
+    while ((status = tempolemon_alloc(&host, 1, web, 4, &result)) == TEMPOLEMON_DONE) {
+        const uint32_t frame = (uint32_t)result.number;
         printf("frame %u\n", frame);
-        ask(tempolemon_dirty(&host, 1, frame, &told), "dirty"); /* so that it isn't reclaimed */
+        ask(tempolemon_dirty(&host, 1, frame, &result), "dirty"); /* so that it isn't reclaimed */
     }
     printf("refused %u\n", status);
-    ask(tempolemon_read(&host, 1, BYTES("/web"), BYTES("memory.current"), text, sizeof text, &told), "read");
-    printf("%.*s", (int)told.number, (const char *)text);
+    ask(tempolemon_read(&host, 1, BYTES("/web"), BYTES("memory.current"), text, sizeof text, &result), "read");
+    printf("%.*s", (int)result.number, (const char *)text);
 
     ask(tempolemon_end(&host, &report), "end");
     printf("%u of %u frames were charged\n", report.charged, report.frames);

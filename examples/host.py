@@ -16,8 +16,8 @@ class Handle(ctypes.Structure):
     _fields_ = [("raw", ctypes.c_void_p), ("is_live", ctypes.c_bool)]
 
 
-class Told(ctypes.Structure):
-    _fields_ = [("number", ctypes.c_uint64), ("word", ctypes.c_uint8)]
+class TypedResult(ctypes.Structure):
+    _fields_ = [("number", ctypes.c_uint64), ("kind", ctypes.c_uint8)]
 
 
 class Report(ctypes.Structure):
@@ -29,7 +29,7 @@ class Host:
     """A boot behind a handle."""
 
     def __init__(self, library, sizes):
-        self.library, self.handle, self.told = library, Handle(), Told()
+        self.library, self.handle, self.result = library, Handle(), TypedResult()
         self.ask("boot", self.function("boot")(ctypes.byref(sizes), ctypes.byref(self.handle)))
 
     def function(self, name):
@@ -46,7 +46,7 @@ class Host:
         words = []
         for it in what:
             words += [it, ctypes.c_size_t(len(it))] if isinstance(it, (bytes, ctypes.Array)) else [ctypes.c_uint32(it)]
-        return self.function(name)(ctypes.byref(self.handle), ctypes.c_uint32(cpu), *words, ctypes.byref(self.told))
+        return self.function(name)(ctypes.byref(self.handle), ctypes.c_uint32(cpu), *words, ctypes.byref(self.result))
 
     def end(self):
         report = Report()
@@ -57,16 +57,16 @@ class Host:
 def main():
     host = Host(ctypes.CDLL(sys.argv[1]), Sizes(frames=64, cpus=2, batch=4, high=8, stock=4))
     host.ask("mkdir", host.call("mkdir", 1, b"/web"))
-    web = host.told.number
+    web = host.result.number
     host.ask("write", host.call("write", 1, b"/web", b"memory.max", b"128K"))
     while (status := host.call("alloc", 1, web, 4)) == DONE:
-        frame = host.told.number
+        frame = host.result.number
         print("frame", frame)
         host.ask("dirty", host.call("dirty", 1, frame))  # so that it isn't reclaimed
     print("refused", status)
     text = ctypes.create_string_buffer(160)
     host.ask("read", host.call("read", 1, b"/web", b"memory.current", text))
-    print(text.raw[: host.told.number].decode(), end="")
+    print(text.raw[: host.result.number].decode(), end="")
     report = host.end()
     print(f"{report.charged} of {report.frames} frames were charged")
 

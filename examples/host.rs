@@ -21,9 +21,9 @@ struct Handle {
 
 #[repr(C)]
 #[derive(Default)]
-struct Told {
+struct TypedResult {
     number: u64,
-    word: u8,
+    kind: u8,
 }
 
 #[repr(C)]
@@ -39,23 +39,23 @@ struct Report {
 extern "C" {
     fn tempolemon_boot(sizes: *const Sizes, handle: *mut Handle) -> u8;
     fn tempolemon_end(handle: *mut Handle, report: *mut Report) -> u8;
-    fn tempolemon_mkdir(handle: *mut Handle, cpu: u32, path: *const u8, length: usize, told: *mut Told) -> u8;
+    fn tempolemon_mkdir(handle: *mut Handle, cpu: u32, path: *const u8, length: usize, out: *mut TypedResult) -> u8;
     fn tempolemon_write(handle: *mut Handle, cpu: u32, path: *const u8, length: usize, file: *const u8,
-        file_length: usize, value: *const u8, value_length: usize, told: *mut Told) -> u8;
+        file_length: usize, value: *const u8, value_length: usize, out: *mut TypedResult) -> u8;
     fn tempolemon_read(handle: *mut Handle, cpu: u32, path: *const u8, length: usize, file: *const u8,
-        file_length: usize, text: *mut u8, room: usize, told: *mut Told) -> u8;
-    fn tempolemon_alloc(handle: *mut Handle, cpu: u32, group: u32, order: u32, told: *mut Told) -> u8;
-    fn tempolemon_dirty(handle: *mut Handle, cpu: u32, frame: u32, told: *mut Told) -> u8;
+        file_length: usize, text: *mut u8, room: usize, out: *mut TypedResult) -> u8;
+    fn tempolemon_alloc(handle: *mut Handle, cpu: u32, group: u32, order: u32, out: *mut TypedResult) -> u8;
+    fn tempolemon_dirty(handle: *mut Handle, cpu: u32, frame: u32, out: *mut TypedResult) -> u8;
 }
 
 /// A boot behind a handle. It has to be ended: there is no `Drop`, so that the report isn't lost.
 struct Host(Handle);
 
-/// What a call was told, or its status if that isn't 0.
-fn told(call: impl FnOnce(*mut Told) -> u8) -> Result<u64, u8> {
-    let mut told = Told::default();
-    match call(&mut told) {
-        DONE => Ok(told.number),
+/// The number that a call gives, or its status if that isn't 0.
+fn number_of(call: impl FnOnce(*mut TypedResult) -> u8) -> Result<u64, u8> {
+    let mut result = TypedResult::default();
+    match call(&mut result) {
+        DONE => Ok(result.number),
         status => Err(status),
     }
 }
@@ -77,11 +77,12 @@ impl Host {
     }
 
     fn mkdir(&mut self, path: &str) -> Result<u32, u8> {
-        told(|it| unsafe { tempolemon_mkdir(&mut self.0, 1, path.as_ptr(), path.len(), it) }).map(|group| group as u32)
+        number_of(|it| unsafe { tempolemon_mkdir(&mut self.0, 1, path.as_ptr(), path.len(), it) })
+            .map(|group| group as u32)
     }
 
     fn write(&mut self, path: &str, file: &str, value: &str) -> Result<u64, u8> {
-        told(|it| unsafe {
+        number_of(|it| unsafe {
             tempolemon_write(
                 &mut self.0, 1, path.as_ptr(), path.len(), file.as_ptr(), file.len(), value.as_ptr(), value.len(), it,
             )
@@ -90,7 +91,7 @@ impl Host {
 
     fn read(&mut self, path: &str, file: &str) -> Result<String, u8> {
         let mut text = [0; 160];
-        let length = told(|it| unsafe {
+        let length = number_of(|it| unsafe {
             tempolemon_read(
                 &mut self.0, 1, path.as_ptr(), path.len(), file.as_ptr(), file.len(), text.as_mut_ptr(), text.len(), it,
             )
@@ -99,11 +100,11 @@ impl Host {
     }
 
     fn alloc(&mut self, group: u32, order: u32) -> Result<u32, u8> {
-        told(|it| unsafe { tempolemon_alloc(&mut self.0, 1, group, order, it) }).map(|frame| frame as u32)
+        number_of(|it| unsafe { tempolemon_alloc(&mut self.0, 1, group, order, it) }).map(|frame| frame as u32)
     }
 
     fn dirty(&mut self, frame: u32) -> Result<u64, u8> {
-        told(|it| unsafe { tempolemon_dirty(&mut self.0, 1, frame, it) })
+        number_of(|it| unsafe { tempolemon_dirty(&mut self.0, 1, frame, it) })
     }
 }
 

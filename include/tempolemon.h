@@ -38,7 +38,7 @@ enum {
     TEMPOLEMON_BAD_GROUP = 108,    /* no group has this number */
 };
 
-/* What a typed call answers: the word of the answer that a script's line gets, and the number that goes with it. */
+/* The kinds of what a typed call gives. Each is that of the answer to a script's line. */
 enum {
     TEMPOLEMON_NOTHING = 0,   /* the call wasn't served: its status is above 100 */
     TEMPOLEMON_OK = 1,        /* it was done */
@@ -101,11 +101,11 @@ typedef struct {
     bool is_live;
 } tempolemon_handle;
 
-/* What a typed call answers. */
+/* What a typed call gives: a kind, and the number that goes with it. */
 typedef struct {
-    uint64_t number; /* 0 if none goes with the word */
-    uint8_t word;
-} tempolemon_told;
+    uint64_t number; /* 0 if none goes with the kind */
+    uint8_t kind;
+} tempolemon_result;
 
 /* What a boot reports at its end, in the words of docs/MANUAL.md, "The end, and --audit". */
 typedef struct {
@@ -127,7 +127,7 @@ typedef struct {
  *   NO_MEMORY   memory ran out
  *
  * Unless the status is DONE, the handle is unchanged and nothing of the boot stays. A boot takes all memory that it ever
- * needs, except for texts: each call that has a path, a script or a kept answer says so.
+ * needs, except for texts: each call that has a path, a script or an unread answer says so.
  */
 uint8_t tempolemon_boot(const tempolemon_sizes *sizes, tempolemon_handle *handle);
 
@@ -143,7 +143,7 @@ uint8_t tempolemon_end(tempolemon_handle *handle, tempolemon_report *report);
  *
  *   DONE          the answers are the first *written bytes of the buffer; the rest of it is unchanged
  *   BAD_LINE      *first_bad is the number of the first bad line, from 1; no line was served
- *   SMALL_BUFFER  the lines were served. Their answers have *written bytes, more than `room`, and the boot keeps them:
+ *   SMALL_BUFFER  the lines were served. Their answers have *written bytes, more than `room`, and are unread:
  *                 fetch them by tempolemon_answer. How long an answer is shows only when its line was served, and that
  *                 can't be undone
  *   NO_MEMORY     memory ran out, before the first line or for the answer of one; the lines up to that were served
@@ -155,18 +155,18 @@ uint8_t tempolemon_end(tempolemon_handle *handle, tempolemon_report *report);
 uint8_t tempolemon_command(tempolemon_handle *handle, bool is_explained, const uint8_t *script, size_t length,
                            uint8_t *answers, size_t room, size_t *written, size_t *first_bad);
 
-/* Fetches the answers that the boot keeps since tempolemon_command returned SMALL_BUFFER. The boot keeps those of the
+/* Fetches the unread answers: those for which tempolemon_command returned SMALL_BUFFER. The boot stores those of the
  * last such call, until they are fetched or it ends.
  *
- *   DONE          the answers are the first *written bytes of the buffer, and the boot keeps none now; 0 if it kept none
- *   SMALL_BUFFER  they have *written bytes, more than `room`, and the boot keeps them still
+ *   DONE          the answers are the first *written bytes of the buffer, and none are unread now; 0 if none were
+ *   SMALL_BUFFER  they have *written bytes, more than `room`, and are unread still
  *   NOT_LIVE      the handle has no boot; *written is 0
  */
 uint8_t tempolemon_answer(tempolemon_handle *handle, uint8_t *answers, size_t room, size_t *written);
 
 /* The typed calls. Each does what the command of a script of its name does, for the CPU of this number, from 1: a sequence
  * of them is a replay of these commands. A status up to 22 says that the call was served: 0, or a refusal's number. Above,
- * nothing was done, and the word is NOTHING:
+ * nothing was done, and the kind is NOTHING:
  *
  *   NOT_LIVE   the handle has no boot; this is tested first
  *   BAD_CPU    the zone has no such CPU; this is tested second
@@ -178,54 +178,54 @@ uint8_t tempolemon_answer(tempolemon_handle *handle, uint8_t *answers, size_t ro
 
 /* Makes the group of this path: GROUP with its number, the least free one. */
 uint8_t tempolemon_mkdir(tempolemon_handle *handle, uint32_t cpu, const uint8_t *path, size_t length,
-                         tempolemon_told *told);
+                         tempolemon_result *out);
 
 /* Removes the group of this path: OK. A group that is made later may get its number. */
 uint8_t tempolemon_rmdir(tempolemon_handle *handle, uint32_t cpu, const uint8_t *path, size_t length,
-                         tempolemon_told *told);
+                         tempolemon_result *out);
 
 /* Writes a value to a file of the group of this path: OK. */
 uint8_t tempolemon_write(tempolemon_handle *handle, uint32_t cpu, const uint8_t *path, size_t length,
                          const uint8_t *file, size_t file_length, const uint8_t *value, size_t value_length,
-                         tempolemon_told *told);
+                         tempolemon_result *out);
 
 /* Reads a file of the group of this path: TEXT with the length of the text, which is written at the start of the buffer. The
  * text doesn't end with a null byte.
  *
  *   SMALL_BUFFER  `room` is below 160, the most that a file's text has; this is tested before all else, and nothing was done
  *
- * Unless the word is TEXT, the buffer is unchanged.
+ * Unless the kind is TEXT, the buffer is unchanged.
  */
 uint8_t tempolemon_read(tempolemon_handle *handle, uint32_t cpu, const uint8_t *path, size_t length,
-                        const uint8_t *file, size_t file_length, uint8_t *text, size_t room, tempolemon_told *told);
+                        const uint8_t *file, size_t file_length, uint8_t *text, size_t room, tempolemon_result *out);
 
 /* Allocates 2^order frames for the group of this number, which tempolemon_mkdir answered: FRAME with the first one. */
 uint8_t tempolemon_alloc(tempolemon_handle *handle, uint32_t cpu, uint32_t group, uint32_t order,
-                         tempolemon_told *told);
+                         tempolemon_result *out);
 
 /* Releases the unit that this frame heads, or a fresh frame of the CPU: LISTED, RETURNED, or LEFT with the references. */
-uint8_t tempolemon_release(tempolemon_handle *handle, uint32_t cpu, uint32_t frame, tempolemon_told *told);
+uint8_t tempolemon_release(tempolemon_handle *handle, uint32_t cpu, uint32_t frame, tempolemon_result *out);
 
 /* Pins this frame: HELD, or ZERO, FULL or RACED, and then it isn't pinned. */
-uint8_t tempolemon_get(tempolemon_handle *handle, uint32_t cpu, uint32_t frame, tempolemon_told *told);
+uint8_t tempolemon_get(tempolemon_handle *handle, uint32_t cpu, uint32_t frame, tempolemon_result *out);
 
 /* Puts a pin of the CPU on this frame: LEFT with the references, or LAST. */
-uint8_t tempolemon_put(tempolemon_handle *handle, uint32_t cpu, uint32_t frame, tempolemon_told *told);
+uint8_t tempolemon_put(tempolemon_handle *handle, uint32_t cpu, uint32_t frame, tempolemon_result *out);
 
 /* Notes that the unit that this frame heads was used: MARKED or ACTIVE. */
-uint8_t tempolemon_touch(tempolemon_handle *handle, uint32_t cpu, uint32_t frame, tempolemon_told *told);
+uint8_t tempolemon_touch(tempolemon_handle *handle, uint32_t cpu, uint32_t frame, tempolemon_result *out);
 
 /* Notes that the unit that this frame heads is dirty: OK. */
-uint8_t tempolemon_dirty(tempolemon_handle *handle, uint32_t cpu, uint32_t frame, tempolemon_told *told);
+uint8_t tempolemon_dirty(tempolemon_handle *handle, uint32_t cpu, uint32_t frame, tempolemon_result *out);
 
 /* Notes that the unit that this frame heads is clean: OK. */
-uint8_t tempolemon_clean(tempolemon_handle *handle, uint32_t cpu, uint32_t frame, tempolemon_told *told);
+uint8_t tempolemon_clean(tempolemon_handle *handle, uint32_t cpu, uint32_t frame, tempolemon_result *out);
 
 /* Gives the place of this frame: FREE, CPU with its number, or CHARGED with the group's. */
-uint8_t tempolemon_owner(tempolemon_handle *handle, uint32_t cpu, uint32_t frame, tempolemon_told *told);
+uint8_t tempolemon_owner(tempolemon_handle *handle, uint32_t cpu, uint32_t frame, tempolemon_result *out);
 
 /* Settles the CPU: SETTLED. */
-uint8_t tempolemon_settle(tempolemon_handle *handle, uint32_t cpu, tempolemon_told *told);
+uint8_t tempolemon_settle(tempolemon_handle *handle, uint32_t cpu, tempolemon_result *out);
 
 #ifdef __cplusplus
 }

@@ -15,7 +15,7 @@
 #define BYTES(text) (const uint8_t *)(text), strlen(text)
 
 static tempolemon_handle host;
-static tempolemon_told told;
+static tempolemon_result result;
 static uint32_t group, frame;
 
 static void ask(uint8_t status, const char *what) {
@@ -25,29 +25,29 @@ static void ask(uint8_t status, const char *what) {
 }
 
 static void get_and_put(void) {
-    ask(tempolemon_get(&host, 1, frame, &told), "get");
-    ask(tempolemon_put(&host, 1, frame, &told), "put");
+    ask(tempolemon_get(&host, 1, frame, &result), "get");
+    ask(tempolemon_put(&host, 1, frame, &result), "put");
 }
 
 static void alloc_and_release(void) {
-    ask(tempolemon_alloc(&host, 1, group, 0, &told), "alloc");
-    ask(tempolemon_release(&host, 1, (uint32_t)told.number, &told), "release");
+    ask(tempolemon_alloc(&host, 1, group, 0, &result), "alloc");
+    ask(tempolemon_release(&host, 1, (uint32_t)result.number, &result), "release");
 }
 
 static void alloc_settle_and_release(void) {
-    ask(tempolemon_alloc(&host, 1, group, 0, &told), "alloc");
-    const uint32_t taken = (uint32_t)told.number;
-    ask(tempolemon_settle(&host, 1, &told), "settle");
-    ask(tempolemon_release(&host, 1, taken, &told), "release");
+    ask(tempolemon_alloc(&host, 1, group, 0, &result), "alloc");
+    const uint32_t taken = (uint32_t)result.number;
+    ask(tempolemon_settle(&host, 1, &result), "settle");
+    ask(tempolemon_release(&host, 1, taken, &result), "release");
 }
 
 static void write_limit(void) {
-    ask(tempolemon_write(&host, 1, BYTES("/a"), BYTES("memory.max"), BYTES("max"), &told), "write");
+    ask(tempolemon_write(&host, 1, BYTES("/a"), BYTES("memory.max"), BYTES("max"), &result), "write");
 }
 
 static void read_usage(void) {
     uint8_t text[160];
-    ask(tempolemon_read(&host, 1, BYTES("/a"), BYTES("memory.current"), text, sizeof text, &told), "read");
+    ask(tempolemon_read(&host, 1, BYTES("/a"), BYTES("memory.current"), text, sizeof text, &result), "read");
 }
 
 static void command(void) {
@@ -73,10 +73,10 @@ int main(void) {
     const tempolemon_sizes sizes = {.frames = 1024, .cpus = 2, .batch = 16, .high = 64, .stock = 32};
     tempolemon_report report;
     ask(tempolemon_boot(&sizes, &host), "boot");
-    ask(tempolemon_mkdir(&host, 1, BYTES("/a"), &told), "mkdir");
-    group = (uint32_t)told.number;
-    ask(tempolemon_alloc(&host, 1, group, 1, &told), "alloc");
-    frame = (uint32_t)told.number;
+    ask(tempolemon_mkdir(&host, 1, BYTES("/a"), &result), "mkdir");
+    group = (uint32_t)result.number;
+    ask(tempolemon_alloc(&host, 1, group, 1, &result), "alloc");
+    frame = (uint32_t)result.number;
     measure("a get and a put", get_and_put);
     measure("an alloc and a release, without the lock", alloc_and_release);
     measure("an alloc, a settle and a release", alloc_settle_and_release);

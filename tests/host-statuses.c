@@ -34,42 +34,42 @@ static void is(const char *what, uint8_t given, uint8_t status) {
 static void live(void) {
     tempolemon_sizes low_high = SIZES;
     tempolemon_handle host = {0};
-    tempolemon_told told;
+    tempolemon_result result;
     tempolemon_report report;
     uint8_t buffer[160] = {0};
     size_t written, first_bad;
     low_high.high = 3;
 
     is("an end of none", tempolemon_end(&host, &report), TEMPOLEMON_NOT_LIVE);
-    is("a call of none", tempolemon_get(&host, 1, 0, &told), TEMPOLEMON_NOT_LIVE);
+    is("a call of none", tempolemon_get(&host, 1, 0, &result), TEMPOLEMON_NOT_LIVE);
     is("an answer of none", tempolemon_answer(&host, buffer, 160, &written), TEMPOLEMON_NOT_LIVE);
     is("a boot with a low high", tempolemon_boot(&low_high, &host), TEMPOLEMON_BAD_CONFIG);
-    is("a call after that", tempolemon_settle(&host, 1, &told), TEMPOLEMON_NOT_LIVE);
+    is("a call after that", tempolemon_settle(&host, 1, &result), TEMPOLEMON_NOT_LIVE);
     is("a boot", tempolemon_boot(&SIZES, &host), TEMPOLEMON_DONE);
     is("a second boot", tempolemon_boot(&SIZES, &host), TEMPOLEMON_IS_LIVE);
-    is("CPU 0", tempolemon_get(&host, 0, 0, &told), TEMPOLEMON_BAD_CPU);
-    is("CPU 3", tempolemon_settle(&host, 3, &told), TEMPOLEMON_BAD_CPU);
-    is("frame 16", tempolemon_get(&host, 1, 16, &told), TEMPOLEMON_BAD_FRAME);
-    is("group 1", tempolemon_alloc(&host, 1, 1, 0, &told), TEMPOLEMON_BAD_GROUP);
-    is("group 64", tempolemon_alloc(&host, 1, 64, 0, &told), TEMPOLEMON_BAD_GROUP);
-    is("a short buffer", tempolemon_read(&host, 1, BYTES("/a"), BYTES("memory.max"), buffer, 159, &told),
+    is("CPU 0", tempolemon_get(&host, 0, 0, &result), TEMPOLEMON_BAD_CPU);
+    is("CPU 3", tempolemon_settle(&host, 3, &result), TEMPOLEMON_BAD_CPU);
+    is("frame 16", tempolemon_get(&host, 1, 16, &result), TEMPOLEMON_BAD_FRAME);
+    is("group 1", tempolemon_alloc(&host, 1, 1, 0, &result), TEMPOLEMON_BAD_GROUP);
+    is("group 64", tempolemon_alloc(&host, 1, 64, 0, &result), TEMPOLEMON_BAD_GROUP);
+    is("a short buffer", tempolemon_read(&host, 1, BYTES("/a"), BYTES("memory.max"), buffer, 159, &result),
        TEMPOLEMON_SMALL_BUFFER);
-    is("a refusal", tempolemon_put(&host, 1, 0, &told), 21);
-    is("its word", told.word, TEMPOLEMON_REFUSED);
+    is("a refusal", tempolemon_put(&host, 1, 0, &result), 21);
+    is("its kind", result.kind, TEMPOLEMON_REFUSED);
     is("a bad line", tempolemon_command(&host, false, BYTES("3 settle\n"), buffer, 160, &written, &first_bad),
        TEMPOLEMON_BAD_LINE);
-    is("a kept answer", tempolemon_command(&host, false, BYTES("1 mkdir /a\n"), buffer, 7, &written, &first_bad),
+    is("an unread answer", tempolemon_command(&host, false, BYTES("1 mkdir /a\n"), buffer, 7, &written, &first_bad),
        TEMPOLEMON_SMALL_BUFFER);
     is("a byte less", tempolemon_answer(&host, buffer, 7, &written), TEMPOLEMON_SMALL_BUFFER);
     is("enough", tempolemon_answer(&host, buffer, 8, &written), TEMPOLEMON_DONE);
     is("the answer", memcmp(buffer, "group 1\n", 8) != 0, 0);
-    is("an alloc", tempolemon_alloc(&host, 1, 1, 0, &told), TEMPOLEMON_DONE);
-    const uint32_t frame = (uint32_t)told.number;
-    is("a get of a fresh frame", tempolemon_get(&host, 2, frame, &told), TEMPOLEMON_DONE);
-    is("its word", told.word, TEMPOLEMON_ZERO);
-    is("a settle", tempolemon_settle(&host, 1, &told), TEMPOLEMON_DONE);
-    is("a get", tempolemon_get(&host, 2, frame, &told), TEMPOLEMON_DONE);
-    is("its word then", told.word, TEMPOLEMON_HELD);
+    is("an alloc", tempolemon_alloc(&host, 1, 1, 0, &result), TEMPOLEMON_DONE);
+    const uint32_t frame = (uint32_t)result.number;
+    is("a get of a fresh frame", tempolemon_get(&host, 2, frame, &result), TEMPOLEMON_DONE);
+    is("its kind", result.kind, TEMPOLEMON_ZERO);
+    is("a settle", tempolemon_settle(&host, 1, &result), TEMPOLEMON_DONE);
+    is("a get", tempolemon_get(&host, 2, frame, &result), TEMPOLEMON_DONE);
+    is("its kind then", result.kind, TEMPOLEMON_HELD);
     is("an end", tempolemon_end(&host, &report), TEMPOLEMON_DONE);
     is("its pins", (uint8_t)report.held, 1);
     is("a second end", tempolemon_end(&host, &report), TEMPOLEMON_NOT_LIVE);

@@ -37,11 +37,11 @@ pub record SameButState (before after : KnownLive) : Type 0 where
   pub sizes : after.sizes ≡ before.sizes
   pub unread_answer : after.unread_answer ≡ before.unread_answer
 
--- the boot with this text kept
+-- the boot with this unread answer
 abbrev pub with_unread_answer : KnownLive → List ℕ → KnownLive
 with_unread_answer live text = record live { unread_answer = text }
 
--- the text that was kept was taken, and none is kept
+-- the unread answer was taken, and none is left
 pub record TakesUnreadAnswer (before after : KnownLive) (text : List ℕ) : Type 0 where
   pub text_is : text ≡ before.unread_answer
   pub after_is : after ≡ with_unread_answer before []

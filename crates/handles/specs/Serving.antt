@@ -9,45 +9,45 @@ use Rattle.load_run.specs.declared.boot_end.BootEnd.{BootEnd}
 use Rattle.handles.specs.Known.{KnownLive}
 use Rattle.handles.specs.Commands.{AnswersScript, RefusesScript, RunsOut, TakesUnreadAnswer, with_unread_answer}
 use Rattle.handles.specs.declared.requests.Request.{Request}
-use Rattle.handles.specs.declared.requests.Request.TheVariants.{Start, Command, Keep, Recall, End}
+use Rattle.handles.specs.declared.requests.Request.TheVariants.{Start, Lines, StoreUnread, TakeUnread, End}
 use Rattle.handles.specs.declared.requests.RequestAnswer.{RequestAnswer}
 use Rattle.handles.specs.declared.requests.RequestAnswer.TheVariants as returned
 
 -- the frames' table after a request: a start brings its own, else it stays
 abbrev pub frames_of : KnownTable → Request → KnownTable
 frames_of frames (Start alloc boot sizes) = boot.frames
-frames_of frames (Command alloc text is_explained) = frames
-frames_of frames (Keep text) = frames
-frames_of frames (Recall alloc) = frames
+frames_of frames (Lines alloc text is_explained) = frames
+frames_of frames (StoreUnread text) = frames
+frames_of frames (TakeUnread alloc) = frames
 frames_of frames (End alloc) = frames
 
 -- the stocks' table after a request
 abbrev pub stocks_of : KnownStockTable → Request → KnownStockTable
 stocks_of stock_table (Start alloc boot sizes) = boot.stocks
-stocks_of stock_table (Command alloc text is_explained) = stock_table
-stocks_of stock_table (Keep text) = stock_table
-stocks_of stock_table (Recall alloc) = stock_table
+stocks_of stock_table (Lines alloc text is_explained) = stock_table
+stocks_of stock_table (StoreUnread text) = stock_table
+stocks_of stock_table (TakeUnread alloc) = stock_table
 stocks_of stock_table (End alloc) = stock_table
 
 -- what may be asked: a start if there is no boot, and the boot has the sizes that are named; all else if there is one
 abbrev pub IsFit : Option KnownLive → Request → Type 0
 IsFit None (Start alloc boot sizes) = boot.sizes ≡ sizes
-IsFit None (Command alloc text is_explained) = ⊥
-IsFit None (Keep text) = ⊥
-IsFit None (Recall alloc) = ⊥
+IsFit None (Lines alloc text is_explained) = ⊥
+IsFit None (StoreUnread text) = ⊥
+IsFit None (TakeUnread alloc) = ⊥
 IsFit None (End alloc) = ⊥
 IsFit (Some live) (Start alloc boot sizes) = ⊥
-IsFit (Some live) (Command alloc text is_explained) = Unit {0}
-IsFit (Some live) (Keep text) = Unit {0}
-IsFit (Some live) (Recall alloc) = Unit {0}
+IsFit (Some live) (Lines alloc text is_explained) = Unit {0}
+IsFit (Some live) (StoreUnread text) = Unit {0}
+IsFit (Some live) (TakeUnread alloc) = Unit {0}
 IsFit (Some live) (End alloc) = Unit {0}
 
 -- a boot that is started has these tables
 abbrev pub IsNamed : KnownTable → KnownStockTable → Request → Type 0
 IsNamed frames stock_table (Start alloc boot sizes) = (boot.frames ≡ frames) × (boot.stocks ≡ stock_table)
-IsNamed frames stock_table (Command alloc text is_explained) = Unit {0}
-IsNamed frames stock_table (Keep text) = Unit {0}
-IsNamed frames stock_table (Recall alloc) = Unit {0}
+IsNamed frames stock_table (Lines alloc text is_explained) = Unit {0}
+IsNamed frames stock_table (StoreUnread text) = Unit {0}
+IsNamed frames stock_table (TakeUnread alloc) = Unit {0}
 IsNamed frames stock_table (End alloc) = Unit {0}
 
 -- what may be asked under the name of these tables
@@ -70,7 +70,7 @@ pub record OnRaw (does : (from to : KnownLive) → Type 0) (old_frames : KnownTa
   pub stocks_are : stock_table ≡ old_stock_table
   pub on_live : OnLive does before after
 
--- a boot of these sizes stands as at first, and no answer is kept
+-- a boot of these sizes stands as at first, and no answer is unread
 pub record Starts (frames : KnownTable) (stock_table : KnownStockTable) (sizes : Config)
     (after : Option KnownLive) : Type 0 where
   pub live : KnownLive
@@ -93,15 +93,15 @@ abbrev pub Serves : KnownTable → KnownStockTable
     (answer : RequestAnswer) → Type 0
 Serves frames stock_table before (Start alloc boot sizes) after returned.Done = Starts frames stock_table sizes after
 Serves frames stock_table before (Start alloc boot sizes) after returned.NoMemory = after ≡ None
-Serves frames stock_table before (Command alloc text is_explained) after (returned.Text answers) =
+Serves frames stock_table before (Lines alloc text is_explained) after (returned.Text answers) =
     OnLive (AnswersScript frames stock_table text.items is_explained answers.items) before after
-Serves frames stock_table before (Command alloc text is_explained) after (returned.BadLine number) =
+Serves frames stock_table before (Lines alloc text is_explained) after (returned.BadLine number) =
     OnLive (RefusesScript text.items number) before after
-Serves frames stock_table before (Command alloc text is_explained) after returned.NoMemory =
+Serves frames stock_table before (Lines alloc text is_explained) after returned.NoMemory =
     OnLive (RunsOut frames stock_table text.items is_explained) before after
-Serves frames stock_table before (Keep text) after returned.Done =
+Serves frames stock_table before (StoreUnread text) after returned.Done =
     OnLive (λ from to. to ≡ with_unread_answer from text.items) before after
-Serves frames stock_table before (Recall alloc) after (returned.Text text) =
+Serves frames stock_table before (TakeUnread alloc) after (returned.Text text) =
     OnLive (λ from to. TakesUnreadAnswer from to text.items) before after
 Serves frames stock_table before (End alloc) after (returned.Ended ended) = Ends frames stock_table before after ended
 Serves frames stock_table before request after answer = ⊥

@@ -82,7 +82,7 @@ impl<N: BootName> Live<N> {
 
     /// Serves the lines of a script, in order, and returns what `replay` answers to them. A fault of the script is
     /// found before the first line is served.
-    pub fn command(
+    pub fn answer_lines(
         &mut self,
         alloc: Global,
         text: &[u8],
@@ -192,15 +192,15 @@ impl<N: BootName> Live<N> {
         }
     }
 
-    /// Keeps this text in place of the one that was kept.
-    pub fn keep_answer(&mut self, text: Vec<u8>)
+    /// Stores this text as the unread answer, in place of the one before.
+    pub fn store_unread(&mut self, text: Vec<u8>)
         ensures { self.new ≡ with_unread_answer self.old text.items }
     {
         self.unread_answer = text;
     }
 
-    /// Returns the text that was kept, and keeps none.
-    pub fn take_answer(&mut self, alloc: Global) -> Vec<u8>
+    /// Returns the unread answer, and leaves none.
+    pub fn take_unread(&mut self, alloc: Global) -> Vec<u8>
         ensures { TakesUnreadAnswer self.old self.new result.items }
     {
         std::mem::replace(&mut self.unread_answer, Vec::new(alloc))

@@ -15,17 +15,17 @@ pub enum Request {
         sizes: Config,
     },
     /// Serve the lines of a script.
-    Command {
+    Lines {
         alloc: Global,
         text: Vec<u8>,
         is_explained: bool,
     },
-    /// Keep an answer that a buffer has no room for.
-    Keep {
+    /// Store an answer that a buffer has no room for, as unread.
+    StoreUnread {
         text: Vec<u8>,
     },
-    /// Return the answer that is kept, and keep none.
-    Recall {
+    /// Return the unread answer, and leave none.
+    TakeUnread {
         alloc: Global,
     },
     /// End the boot.
@@ -37,9 +37,9 @@ pub enum Request {
 /// What a live boot answers.
 #[derive(Drop)]
 pub enum RequestAnswer {
-    /// The boot has started, or the answer is kept.
+    /// The boot has started, or the unread answer is stored.
     Done,
-    /// The answers of a script's lines, or the answer that was kept.
+    /// The answers of a script's lines, or the answer that was unread.
     Text(Vec<u8>),
     /// The number, from 1, of the first line that isn't in the grammar.
     BadLine(usize),

@@ -3,7 +3,7 @@
 ghost use Rattle.std.specs.Prelude.{◌≡◌, IsSome, IsSomeAnd, None};
 ghost use Rattle.handles.specs.Calls.{Calls, HasFile, ShowsFile};
 ghost use Rattle.handles.specs.Serving.{IsAsked, OnLive, Serves};
-ghost use Rattle.handles.specs.declared.requests.Request.TheVariants.{Command, End, Keep, Recall, Start};
+ghost use Rattle.handles.specs.declared.requests.Request.TheVariants.{End, Lines, Start, StoreUnread, TakeUnread};
 
 use crate::calls::{Call, CallAnswer, FileText};
 use crate::live::Live;
@@ -28,13 +28,13 @@ pub fn serve<N: BootName>(
 {
     match request {
         Request::Start { alloc, boot, sizes } => start(pointer, alloc, boot, sizes),
-        Request::Command {
+        Request::Lines {
             alloc,
             text,
             is_explained,
-        } => command(pointer, alloc, text, is_explained),
-        Request::Keep { text } => keep(pointer, text),
-        Request::Recall { alloc } => recall(pointer, alloc),
+        } => answer_lines(pointer, alloc, text, is_explained),
+        Request::StoreUnread { text } => store_unread(pointer, text),
+        Request::TakeUnread { alloc } => take_unread(pointer, alloc),
         Request::End { alloc } => finish(pointer, alloc),
     }
 }
@@ -92,17 +92,17 @@ fn start<N: BootName>(
 }
 
 // Serves the lines of a script.
-fn command<N: BootName>(
+fn answer_lines<N: BootName>(
     pointer: LivePointer<N>,
     alloc: Global,
     text: Vec<u8>,
     is_explained: bool,
 ) -> (LivePointer<N>, RequestAnswer)
     requires some { IsSome pointer.live }
-    ensures serves { Serves N.frames N.stocks pointer.live (Command alloc text is_explained) result.0.live result.1 }
+    ensures serves { Serves N.frames N.stocks pointer.live (Lines alloc text is_explained) result.0.live result.1 }
 {
     let mut live = pointer.into_loose().into_box();
-    let answered = live.command(alloc, &text, is_explained);
+    let answered = live.answer_lines(alloc, &text, is_explained);
     let pointer = LivePointer::of(Loose::of(live));
     match answered {
         Ok(answers) => (pointer, RequestAnswer::Text(answers)),
@@ -111,23 +111,29 @@ fn command<N: BootName>(
     }
 }
 
-// Keeps an answer.
-fn keep<N: BootName>(pointer: LivePointer<N>, text: Vec<u8>) -> (LivePointer<N>, RequestAnswer)
+// Stores an answer that waits for a buffer.
+fn store_unread<N: BootName>(
+    pointer: LivePointer<N>,
+    text: Vec<u8>,
+) -> (LivePointer<N>, RequestAnswer)
     requires some { IsSome pointer.live }
-    ensures serves { Serves N.frames N.stocks pointer.live (Keep text) result.0.live result.1 }
+    ensures serves { Serves N.frames N.stocks pointer.live (StoreUnread text) result.0.live result.1 }
 {
     let mut live = pointer.into_loose().into_box();
-    live.keep_answer(text);
+    live.store_unread(text);
     (LivePointer::of(Loose::of(live)), RequestAnswer::Done)
 }
 
-// Returns the answer that is kept.
-fn recall<N: BootName>(pointer: LivePointer<N>, alloc: Global) -> (LivePointer<N>, RequestAnswer)
+// Returns the unread answer.
+fn take_unread<N: BootName>(
+    pointer: LivePointer<N>,
+    alloc: Global,
+) -> (LivePointer<N>, RequestAnswer)
     requires some { IsSome pointer.live }
-    ensures serves { Serves N.frames N.stocks pointer.live (Recall alloc) result.0.live result.1 }
+    ensures serves { Serves N.frames N.stocks pointer.live (TakeUnread alloc) result.0.live result.1 }
 {
     let mut live = pointer.into_loose().into_box();
-    let text = live.take_answer(alloc);
+    let text = live.take_unread(alloc);
     (LivePointer::of(Loose::of(live)), RequestAnswer::Text(text))
 }
 

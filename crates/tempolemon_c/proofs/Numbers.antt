@@ -9,7 +9,7 @@ use Rattle.mem_system.specs.declared.command.Reply.TheVariants as reply
 use Rattle.reply_texts.specs.Answer.{Answer}
 use Rattle.reply_texts.specs.Answer as answer
 use Rattle.tempolemon_c.specs.Statuses.{most_refusal}
-use Rattle.tempolemon_c.specs.Words.{reply_status, status_of}
+use Rattle.tempolemon_c.specs.Kinds.{reply_status, status_of}
 
 -- the number of a refusal
 pub number_low : (fault : Fault) → number_of fault ≤ 22

@@ -7,14 +7,14 @@ use Rattle.handles.specs.declared.calls.Call.{Call}
 use Rattle.handles.specs.Calls.{IsCpu, NamesNoFrame, RefusesCall}
 use Rattle.handles.specs.Commands.{with_unread_answer}
 use Rattle.handles.specs.Known.{KnownLive}
-use Rattle.tempolemon_c.specs.Calls.{CallsInto, RefusesHost}
+use Rattle.tempolemon_c.specs.Calls.{CallsInto, RefusesBoot}
 use Rattle.tempolemon_c.specs.Handles.{LiveBoot, OnBoot, live_boot}
 use Rattle.tempolemon_c.specs.Statuses.{bad_cpu, bad_frame, not_live}
-use Rattle.tempolemon_c.specs.Words.{nothing_told}
+use Rattle.tempolemon_c.specs.Kinds.{no_result}
 
 module _ (cpu : ℕ) (asked : Call) (buffer : List ℕ) where
   -- there is no boot
-  pub none_called : (before : Option LiveBoot) → before ≡ None → CallsInto cpu asked before before not_live nothing_told buffer buffer
+  pub none_called : (before : Option LiveBoot) → before ≡ None → CallsInto cpu asked before before not_live no_result buffer buffer
   none_called before none = record {
     statuses = inr (0, omega arith, refl);
     none_live = (λ e. none, λ e. refl);
@@ -23,21 +23,21 @@ module _ (cpu : ℕ) (asked : Call) (buffer : List ℕ) where
     no_frame = λ e. absurd (omega (arith, e));
     no_group = λ e. absurd (omega (arith, e));
     stays = λ high. refl;
-    no_word = λ high. refl;
+    no_kind = λ high. refl;
     buffer_stays = λ high. refl;
   }
 
   -- nothing is done, and there is a boot
-  still : (is_missing : KnownLive → Type 0) (before after : Option LiveBoot) → RefusesHost is_missing before after → after ≡ before
+  still : (is_missing : KnownLive → Type 0) (before after : Option LiveBoot) → RefusesBoot is_missing before after → after ≡ before
   still is_missing before after refuses =
       refuses.is ∙ (ap (λ (live : KnownLive). Some (live_boot refuses.frames refuses.stocks live)) refuses.done.stays ∙ sym refuses.was)
 
-  there : (is_missing : KnownLive → Type 0) (before after : Option LiveBoot) → RefusesHost is_missing before after → before ≡ None → ⊥
+  there : (is_missing : KnownLive → Type 0) (before after : Option LiveBoot) → RefusesBoot is_missing before after → before ≡ None → ⊥
   there is_missing before after refuses none = none-some _ (sym none ∙ refuses.was)
 
   -- there is no such CPU
-  pub no_cpu_called : (before after : Option LiveBoot) → RefusesHost (λ from. ¬ IsCpu from.sizes.cpus cpu) before after
-      → CallsInto cpu asked before after bad_cpu nothing_told buffer buffer
+  pub no_cpu_called : (before after : Option LiveBoot) → RefusesBoot (λ from. ¬ IsCpu from.sizes.cpus cpu) before after
+      → CallsInto cpu asked before after bad_cpu no_result buffer buffer
   no_cpu_called before after refuses = record {
     statuses = inr (1, omega arith, refl);
     none_live = (λ e. absurd (omega (arith, e)), λ none. absurd (there (λ from. ¬ IsCpu from.sizes.cpus cpu) before after refuses none));
@@ -46,13 +46,13 @@ module _ (cpu : ℕ) (asked : Call) (buffer : List ℕ) where
     no_frame = λ e. absurd (omega (arith, e));
     no_group = λ e. absurd (omega (arith, e));
     stays = λ high. still (λ from. ¬ IsCpu from.sizes.cpus cpu) before after refuses;
-    no_word = λ high. refl;
+    no_kind = λ high. refl;
     buffer_stays = λ high. refl;
   }
 
   -- there is no such frame
-  pub no_frame_called : (before after : Option LiveBoot) → RefusesHost (λ from. NamesNoFrame from.sizes.frames asked) before after
-      → CallsInto cpu asked before after bad_frame nothing_told buffer buffer
+  pub no_frame_called : (before after : Option LiveBoot) → RefusesBoot (λ from. NamesNoFrame from.sizes.frames asked) before after
+      → CallsInto cpu asked before after bad_frame no_result buffer buffer
   no_frame_called before after refuses = record {
     statuses = inr (2, omega arith, refl);
     none_live = (λ e. absurd (omega (arith, e)), λ none. absurd (there (λ from. NamesNoFrame from.sizes.frames asked) before after refuses none));
@@ -61,6 +61,6 @@ module _ (cpu : ℕ) (asked : Call) (buffer : List ℕ) where
     no_frame = λ e. refuses;
     no_group = λ e. absurd (omega (arith, e));
     stays = λ high. still (λ from. NamesNoFrame from.sizes.frames asked) before after refuses;
-    no_word = λ high. refl;
+    no_kind = λ high. refl;
     buffer_stays = λ high. refl;
   }

@@ -16,22 +16,22 @@ use Rattle.handles.specs.declared.calls.CallAnswer.TheVariants as call
 use Rattle.handles.specs.declared.calls.FileText.{FileText}
 use Rattle.handles.specs.Calls.{Calls, ShowsFile, file_reply}
 use Rattle.handles.specs.Known.{KnownLive}
-use Rattle.tempolemon_c.specs.declared.told.Told.{Told}
+use Rattle.tempolemon_c.specs.declared.typed_result.TypedResult.{TypedResult}
 use Rattle.tempolemon_c.specs.Calls.{CallsInto, HasGroupsBehind, PutsAnswer, ReturnsAnswer, ReturnsValue}
 use Rattle.tempolemon_c.specs.Handles.{LiveBoot, OnBoot, live_boot}
 use Rattle.tempolemon_c.specs.Statuses.{most_refusal}
-use Rattle.tempolemon_c.specs.Words.{status_of, told_of}
+use Rattle.tempolemon_c.specs.Kinds.{result_of, status_of}
 use Rattle.tempolemon_c.proofs.Numbers.{status_low}
 
--- what is told of what isn't a text doesn't depend on the boot
-pub plain_told : (boot : Option LiveBoot) (value : AnswerValue) (status : ℕ) (told : Told) (buffer : List ℕ)
-    → ((ledger : Ledger) → status ≡ status_of (answer_of ledger value)) → ((ledger : Ledger) → told ≡ told_of (answer_of ledger value))
+-- the result of what isn't a text doesn't depend on the boot
+pub plain_result : (boot : Option LiveBoot) (value : AnswerValue) (status : ℕ) (out : TypedResult) (buffer : List ℕ)
+    → ((ledger : Ledger) → status ≡ status_of (answer_of ledger value)) → ((ledger : Ledger) → out ≡ result_of (answer_of ledger value))
     → ((ledger : Ledger) (buffer : List ℕ) → PutsAnswer (answer_of ledger value) buffer buffer)
-    → IfSome boot (ReturnsValue value status told buffer buffer)
-plain_told None value status told buffer status_is told_is no_text = tt
-plain_told (Some boot) value status told buffer status_is told_is no_text = let ledger = boot.live.state.locked.machine.ledger in record {
+    → IfSome boot (ReturnsValue value status out buffer buffer)
+plain_result None value status out buffer status_is out_is no_text = tt
+plain_result (Some boot) value status out buffer status_is out_is no_text = let ledger = boot.live.state.locked.machine.ledger in record {
   status_is = status_is ledger;
-  told_is = told_is ledger;
+  out_is = out_is ledger;
   buffer = no_text ledger buffer;
 }
 
@@ -41,12 +41,12 @@ module _ (group : ℕ) (file : File) (shown : FileText) (before after : Option L
   pub stays : after ≡ before
   stays = on.is ∙ (ap (λ (live : KnownLive). Some (live_boot on.frames on.stocks live)) on.done.stays ∙ sym on.was)
 
-  -- what is told of what a file shows is that of the reply to a read of it
-  pub tells : (status : ℕ) (told : Told) (old new : List ℕ) → ReturnsAnswer (answer.Served (file_reply shown)) status told old new
-      → IfSome before (ReturnsValue (Served (outcome.Text group file)) status told old new)
-  tells status told old new told_so =
-      subst (λ (b : Option LiveBoot). IfSome b (ReturnsValue (Served (outcome.Text group file)) status told old new))
-      (sym on.was) (subst (λ (r : Reply). ReturnsAnswer (answer.Served r) status told old new) on.done.reply_is told_so)
+  -- the result of what a file shows is that of the reply to a read of it
+  pub tells : (status : ℕ) (out : TypedResult) (old new : List ℕ) → ReturnsAnswer (answer.Served (file_reply shown)) status out old new
+      → IfSome before (ReturnsValue (Served (outcome.Text group file)) status out old new)
+  tells status out old new out_so =
+      subst (λ (b : Option LiveBoot). IfSome b (ReturnsValue (Served (outcome.Text group file)) status out old new))
+      (sym on.was) (subst (λ (r : Reply). ReturnsAnswer (answer.Served r) status out old new) on.done.reply_is out_so)
 
 module _ (cpu : ℕ) (asked : Call) (value : AnswerValue) (before mid : Option LiveBoot)
     (on : OnBoot (λ frames stocks from to. Calls frames stocks cpu asked from to (call.Served value)) before mid) where
@@ -54,13 +54,13 @@ module _ (cpu : ℕ) (asked : Call) (value : AnswerValue) (before mid : Option L
   pub groups_there : IsSomeAnd mid (HasGroupsBehind value)
   groups_there = subst (λ (b : Option LiveBoot). IsSomeAnd b (HasGroupsBehind value)) (sym on.is) on.done.tells.is_answer.0
 
-  -- and what is told of it is that of the call's answer
-  pub value_called : (after : Option LiveBoot) (status : ℕ) (told : Told) (old new : List ℕ) → after ≡ mid
-      → IfSome mid (ReturnsValue value status told old new) → CallsInto cpu asked before after status told old new
-  value_called after status told old new same shown =
+  -- and its result is that of the call's answer
+  pub value_called : (after : Option LiveBoot) (status : ℕ) (out : TypedResult) (old new : List ℕ) → after ≡ mid
+      → IfSome mid (ReturnsValue value status out old new) → CallsInto cpu asked before after status out old new
+  value_called after status out old new same shown =
       let answer : Answer = on.done.tells.answer in
-      let shows : ReturnsAnswer (answer_of on.to.state.locked.machine.ledger value) status told old new =
-      subst (λ (b : Option LiveBoot). IfSome b (ReturnsValue value status told old new)) on.is shown in
+      let shows : ReturnsAnswer (answer_of on.to.state.locked.machine.ledger value) status out old new =
+      subst (λ (b : Option LiveBoot). IfSome b (ReturnsValue value status out old new)) on.is shown in
       let status_is : status ≡ status_of answer = shows.status_is ∙ ap status_of (sym on.done.tells.is_answer.1) in
       let low : status ≤ most_refusal = subst (λ (k : ℕ). k ≤ most_refusal) (sym status_is) (status_low answer) in record {
         statuses = inl low;
@@ -77,13 +77,13 @@ module _ (cpu : ℕ) (asked : Call) (value : AnswerValue) (before mid : Option L
             done = record { command = on.done.command; means = on.done.means; serves = on.done.tells.serves };
           };
           status_is = status_is;
-          told_is = shows.told_is ∙ ap told_of (sym on.done.tells.is_answer.1);
+          out_is = shows.out_is ∙ ap result_of (sym on.done.tells.is_answer.1);
           buffer = subst (λ (a : Answer). PutsAnswer a old new) (sym on.done.tells.is_answer.1) shows.buffer;
         };
         no_cpu = λ e. absurd (omega (arith, e, low));
         no_frame = λ e. absurd (omega (arith, e, low));
         no_group = λ e. absurd (omega (arith, e, low));
         stays = λ high. absurd (omega (arith, high, low));
-        no_word = λ high. absurd (omega (arith, high, low));
+        no_kind = λ high. absurd (omega (arith, high, low));
         buffer_stays = λ high. absurd (omega (arith, high, low));
       }

@@ -1,7 +1,7 @@
 -- What a request does to the boot behind a handle, if it neither starts nor ends one.
 use Rattle.std.specs.Prelude.{Option, Some}
 use Rattle.handles.specs.declared.requests.Request.{Request}
-use Rattle.handles.specs.declared.requests.Request.TheVariants.{Start, Command, Keep, Recall, End}
+use Rattle.handles.specs.declared.requests.Request.TheVariants.{Start, Lines, StoreUnread, TakeUnread, End}
 use Rattle.handles.specs.declared.requests.RequestAnswer.{RequestAnswer}
 use Rattle.handles.specs.Serving.{Serves}
 use Rattle.tempolemon_c.specs.Handles.{LiveBoot, OnBoot}
@@ -9,12 +9,12 @@ use Rattle.tempolemon_c.specs.Handles.{LiveBoot, OnBoot}
 -- the request neither starts nor ends a boot
 abbrev pub IsAsk : Request → Type 0
 IsAsk (Start alloc boot sizes) = ⊥
-IsAsk (Command alloc text is_explained) = Unit {0}
-IsAsk (Keep text) = Unit {0}
-IsAsk (Recall alloc) = Unit {0}
+IsAsk (Lines alloc text is_explained) = Unit {0}
+IsAsk (StoreUnread text) = Unit {0}
+IsAsk (TakeUnread alloc) = Unit {0}
 IsAsk (End alloc) = ⊥
 
 -- the request was served with this answer
-abbrev pub ServesBoot : Request → (before after : Option LiveBoot) → RequestAnswer → Type 0
-ServesBoot request before after answer =
+abbrev pub AsksBoot : Request → (before after : Option LiveBoot) → RequestAnswer → Type 0
+AsksBoot request before after answer =
     OnBoot (λ frames stocks from to. Serves frames stocks (Some from) request (Some to) answer) before after

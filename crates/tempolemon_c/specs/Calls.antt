@@ -1,4 +1,4 @@
--- What a typed call does to the boot behind a handle, and what the host is told.
+-- What a typed call does to the boot behind a handle, and what it gives the host.
 use Rattle.std.specs.Prelude.{◌≡◌, ◌⊎◌, ◌↔◌, ℕ, ◌<◌, ◌≤◌, List, [], ◌++◌, Option, None, drop, length}
 use Rattle.frame_word.specs.Seats.{KnownTable}
 use Rattle.stock_word.specs.Stock.{KnownStockTable}
@@ -18,11 +18,11 @@ use Rattle.handles.specs.Known.{KnownLive}
 use Rattle.script_replay.specs.Typed.{NamesItsGroups, answer_of}
 use Rattle.script_replay.specs.declared.answer_value.AnswerValue.{AnswerValue}
 use Rattle.script_replay.specs.declared.answer_value.AnswerValue.TheVariants as value
-use Rattle.tempolemon_c.specs.declared.told.Told.{Told}
+use Rattle.tempolemon_c.specs.declared.typed_result.TypedResult.{TypedResult}
 use Rattle.tempolemon_c.specs.Handles.{LiveBoot, OnBoot}
-use Rattle.tempolemon_c.specs.Statuses.{IsHostStatus, bad_cpu, bad_frame, bad_group, most_refusal}
+use Rattle.tempolemon_c.specs.Kinds.{no_result, result_of, status_of}
+use Rattle.tempolemon_c.specs.Statuses.{IsNotServedStatus, bad_cpu, bad_frame, bad_group, most_refusal}
 use Rattle.tempolemon_c.specs.Statuses.{not_live, small_buffer}
-use Rattle.tempolemon_c.specs.Words.{nothing_told, status_of, told_of}
 
 -- the call was served as the command of a script that it means, with this answer
 pub record AnswersCall (frames : KnownTable) (stock_table : KnownStockTable) (cpu : ℕ) (asked : Call)
@@ -33,8 +33,8 @@ pub record AnswersCall (frames : KnownTable) (stock_table : KnownStockTable) (cp
   pub serves : ServesCommand frames stock_table cpu command from to answer
 
 -- the same of the boot behind a handle
-abbrev pub AnswersHost : (cpu : ℕ) → Call → (before after : Option LiveBoot) → Answer → Type 0
-AnswersHost cpu asked before after answer =
+abbrev pub AnswersBoot : (cpu : ℕ) → Call → (before after : Option LiveBoot) → Answer → Type 0
+AnswersBoot cpu asked before after answer =
     OnBoot (λ frames stock_table from to. AnswersCall frames stock_table cpu asked from to answer) before after
 
 -- the outcome isn't a text
@@ -62,16 +62,16 @@ abbrev pub PutsAnswer : Answer → (old new : List ℕ) → Type 0
 PutsAnswer (answer.Served reply) old new = PutsReply reply old new
 PutsAnswer other old new = new ≡ old
 
--- the status, what is told, and what the buffer gets are those of this answer
-pub record ReturnsAnswer (answer : Answer) (status : ℕ) (told : Told) (old new : List ℕ) : Type 0 where
+-- the status, the result, and what the buffer gets are those of this answer
+pub record ReturnsAnswer (answer : Answer) (status : ℕ) (out : TypedResult) (old new : List ℕ) : Type 0 where
   pub status_is : status ≡ status_of answer
-  pub told_is : told ≡ told_of answer
+  pub out_is : out ≡ result_of answer
   pub buffer : PutsAnswer answer old new
 
 -- the same of the answer that is this value, with the texts that the boot gives it
-abbrev pub ReturnsValue : AnswerValue → (status : ℕ) → Told → (old new : List ℕ) → LiveBoot → Type 0
-ReturnsValue value status told old new boot =
-    ReturnsAnswer (answer_of boot.live.state.locked.machine.ledger value) status told old new
+abbrev pub ReturnsValue : AnswerValue → (status : ℕ) → TypedResult → (old new : List ℕ) → LiveBoot → Type 0
+ReturnsValue value status out old new boot =
+    ReturnsAnswer (answer_of boot.live.state.locked.machine.ledger value) status out old new
 
 -- the boot has the groups whose paths or files are the answer
 abbrev pub HasGroupsBehind : AnswerValue → LiveBoot → Type 0
@@ -81,38 +81,38 @@ HasGroupsBehind value boot = NamesItsGroups boot.live.state.locked.machine.ledge
 abbrev pub HasFileBehind : (group : ℕ) → File → LiveBoot → Type 0
 HasFileBehind group file boot = HasFile group file boot.live
 
--- the call was served: the status, what is told, and what the buffer gets are those of its answer
-pub record ServesHost (cpu : ℕ) (asked : Call) (before after : Option LiveBoot) (status : ℕ) (told : Told)
+-- the call was served: the status, the result, and what the buffer gets are those of its answer
+pub record ServesBoot (cpu : ℕ) (asked : Call) (before after : Option LiveBoot) (status : ℕ) (out : TypedResult)
     (old new : List ℕ) : Type 0 where
   pub answer : Answer
-  pub answers : AnswersHost cpu asked before after answer
+  pub answers : AnswersBoot cpu asked before after answer
   pub status_is : status ≡ status_of answer
-  pub told_is : told ≡ told_of answer
+  pub out_is : out ≡ result_of answer
   pub buffer : PutsAnswer answer old new
 
 -- the call names what the boot doesn't have, and nothing is done
-abbrev pub RefusesHost : (is_missing : KnownLive → Type 0) → (before after : Option LiveBoot) → Type 0
-RefusesHost is_missing before after =
+abbrev pub RefusesBoot : (is_missing : KnownLive → Type 0) → (before after : Option LiveBoot) → Type 0
+RefusesBoot is_missing before after =
     OnBoot (λ frames stock_table from to. RefusesCall (is_missing from) from to) before after
 
 -- What a call with a buffer does, by its status. Up to the greatest number of a refusal it was served; above, nothing
 -- was done
-pub record CallsInto (cpu : ℕ) (asked : Call) (before after : Option LiveBoot) (status : ℕ) (told : Told)
+pub record CallsInto (cpu : ℕ) (asked : Call) (before after : Option LiveBoot) (status : ℕ) (out : TypedResult)
     (old new : List ℕ) : Type 0 where
-  pub statuses : (status ≤ most_refusal) ⊎ IsHostStatus status
+  pub statuses : (status ≤ most_refusal) ⊎ IsNotServedStatus status
   pub none_live : (status ≡ not_live) ↔ (before ≡ None)
-  pub served : status ≤ most_refusal → ServesHost cpu asked before after status told old new
-  pub no_cpu : status ≡ bad_cpu → RefusesHost (λ from. ¬ IsCpu from.sizes.cpus cpu) before after
-  pub no_frame : status ≡ bad_frame → RefusesHost (λ from. NamesNoFrame from.sizes.frames asked) before after
+  pub served : status ≤ most_refusal → ServesBoot cpu asked before after status out old new
+  pub no_cpu : status ≡ bad_cpu → RefusesBoot (λ from. ¬ IsCpu from.sizes.cpus cpu) before after
+  pub no_frame : status ≡ bad_frame → RefusesBoot (λ from. NamesNoFrame from.sizes.frames asked) before after
   pub no_group : status ≡ bad_group
-      → RefusesHost (λ from. NamesNoGroup from.state.locked.machine.ledger.groups asked) before after
+      → RefusesBoot (λ from. NamesNoGroup from.state.locked.machine.ledger.groups asked) before after
   pub stays : most_refusal < status → after ≡ before
-  pub no_word : most_refusal < status → told ≡ nothing_told
+  pub no_kind : most_refusal < status → out ≡ no_result
   pub buffer_stays : most_refusal < status → new ≡ old
 
 -- what a call without a buffer does, by its status
-abbrev pub CallsHost : (cpu : ℕ) → Call → (before after : Option LiveBoot) (status : ℕ) (told : Told) → Type 0
-CallsHost cpu asked before after status told = CallsInto cpu asked before after status told [] []
+abbrev pub CallsBoot : (cpu : ℕ) → Call → (before after : Option LiveBoot) (status : ℕ) (out : TypedResult) → Type 0
+CallsBoot cpu asked before after status out = CallsInto cpu asked before after status out [] []
 
 -- the call makes the group of this path
 abbrev pub IsMkdir : (path : List ℕ) → Call → Type 0
@@ -136,30 +136,31 @@ IsRead path file (call.Read named in_file) = (named.now ≡ path) × (in_file.no
 IsRead path file other = ⊥
 
 -- a call with these texts was made
-pub record CallsPath (is_asked : Call → Type 0) (cpu : ℕ) (before after : Option LiveBoot) (status : ℕ) (told : Told)
-    : Type 0 where
+pub record CallsPath (is_asked : Call → Type 0) (cpu : ℕ) (before after : Option LiveBoot) (status : ℕ)
+    (out : TypedResult) : Type 0 where
   pub asked : Call
   pub is : is_asked asked
-  pub calls : CallsHost cpu asked before after status told
+  pub calls : CallsBoot cpu asked before after status out
 
 -- a read with these texts was made, and the buffer gets the text
-pub record ReadsHost (is_asked : Call → Type 0) (cpu : ℕ) (before after : Option LiveBoot) (status : ℕ)
-    (told : Told) (old new : List ℕ) : Type 0 where
+pub record ReadsBoot (is_asked : Call → Type 0) (cpu : ℕ) (before after : Option LiveBoot) (status : ℕ)
+    (out : TypedResult) (old new : List ℕ) : Type 0 where
   pub asked : Call
   pub is : is_asked asked
-  pub calls : CallsInto cpu asked before after status told old new
+  pub calls : CallsInto cpu asked before after status out old new
 
 -- the buffer is too small for the longest text of a file, and nothing was done
-pub record IsTooSmall (before after : Option LiveBoot) (status : ℕ) (told : Told) (old new : List ℕ) : Type 0 where
+pub record IsTooSmall (before after : Option LiveBoot) (status : ℕ) (out : TypedResult) (old new : List ℕ)
+    : Type 0 where
   pub status_is : status ≡ small_buffer
   pub small : length old < longest_text
   pub stays : after ≡ before
-  pub told_is : told ≡ nothing_told
+  pub out_is : out ≡ no_result
   pub buffer_stays : new ≡ old
 
 -- what a read of a file does
-abbrev pub Reads : (path file : List ℕ) (cpu : ℕ) (before after : Option LiveBoot) (status : ℕ) (told : Told)
+abbrev pub Reads : (path file : List ℕ) (cpu : ℕ) (before after : Option LiveBoot) (status : ℕ) (out : TypedResult)
     (old new : List ℕ) → Type 0
-Reads path file cpu before after status told old new =
-    ReadsHost (IsRead path file) cpu before after status told old new
-    ⊎ IsTooSmall before after status told old new
+Reads path file cpu before after status out old new =
+    ReadsBoot (IsRead path file) cpu before after status out old new
+    ⊎ IsTooSmall before after status out old new

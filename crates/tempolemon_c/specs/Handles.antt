@@ -26,7 +26,7 @@ abbrev pub boot_of : KnownTable → KnownStockTable → Option KnownLive → Opt
 boot_of frames stocks None = None
 boot_of frames stocks (Some live) = Some (live_boot frames stocks live)
 
--- a new boot of these sizes stands behind the handle, and no answer is kept
+-- a new boot of these sizes stands behind the handle, and no answer is unread
 pub record BootsNew (sizes : Config) (after : Option LiveBoot) : Type 0 where
   pub boot : LiveBoot
   pub is : after ≡ Some boot
@@ -47,34 +47,35 @@ pub record OnBoot (does : KnownTable → KnownStockTable → (from to : KnownLiv
   pub done : does frames stocks from to
 
 -- the lines were replayed with these answers
-abbrev pub Commands : (text : List ℕ) (is_explained : Bool) (before after : Option LiveBoot) (answers : List ℕ) → Type 0
-Commands text is_explained before after answers =
+abbrev pub AnswersLines : (text : List ℕ) (is_explained : Bool) (before after : Option LiveBoot) (answers : List ℕ)
+    → Type 0
+AnswersLines text is_explained before after answers =
     OnBoot (λ frames stocks from to. AnswersScript frames stocks text is_explained answers from to) before after
 
--- the lines were replayed with these answers, which the boot keeps now
-pub record CommandsAndKeeps (text : List ℕ) (is_explained : Bool) (before after : Option LiveBoot)
+-- the lines were replayed with these answers, which are the boot's unread answer now
+pub record AnswersAndStoresUnread (text : List ℕ) (is_explained : Bool) (before after : Option LiveBoot)
     (answers : List ℕ) : Type 0 where
   pub between : Option LiveBoot
-  pub commands : Commands text is_explained before between answers
-  pub keeps : OnBoot (λ frames stocks from to. to ≡ with_unread_answer from answers) between after
+  pub lines : AnswersLines text is_explained before between answers
+  pub stores : OnBoot (λ frames stocks from to. to ≡ with_unread_answer from answers) between after
 
 -- this is the first bad line of the text, and nothing is done
-abbrev pub RefusesCommand : (text : List ℕ) (number : ℕ) (before after : Option LiveBoot) → Type 0
-RefusesCommand text number before after =
+abbrev pub RefusesLines : (text : List ℕ) (number : ℕ) (before after : Option LiveBoot) → Type 0
+RefusesLines text number before after =
     OnBoot (λ frames stocks from to. RefusesScript text number from to) before after
 
 -- memory ran out before the first line, or for the answer of a line that was served
-abbrev pub CommandRunsOut : (text : List ℕ) (is_explained : Bool) (before after : Option LiveBoot) → Type 0
-CommandRunsOut text is_explained before after =
+abbrev pub LinesRunOut : (text : List ℕ) (is_explained : Bool) (before after : Option LiveBoot) → Type 0
+LinesRunOut text is_explained before after =
     OnBoot (λ frames stocks from to. RunsOut frames stocks text is_explained from to) before after
 
--- the answer that was kept was taken, and none is kept
-abbrev pub TakesAnswer : (before after : Option LiveBoot) (answer : List ℕ) → Type 0
-TakesAnswer before after answer = OnBoot (λ frames stocks from to. TakesUnreadAnswer from to answer) before after
+-- the unread answer was taken, and none is left
+abbrev pub TakesUnread : (before after : Option LiveBoot) (answer : List ℕ) → Type 0
+TakesUnread before after answer = OnBoot (λ frames stocks from to. TakesUnreadAnswer from to answer) before after
 
--- this answer is kept
-abbrev pub KeepsAnswer : (boot : Option LiveBoot) (answer : List ℕ) → Type 0
-KeepsAnswer boot answer = OnBoot (λ frames stocks from to. from.unread_answer ≡ answer) boot boot
+-- the boot has this unread answer
+abbrev pub StoresUnread : (boot : Option LiveBoot) (answer : List ℕ) → Type 0
+StoresUnread boot answer = OnBoot (λ frames stocks from to. from.unread_answer ≡ answer) boot boot
 
 -- what a host reads of the end of a boot, as the boot told it
 abbrev pub ended_of : Report → BootEnd

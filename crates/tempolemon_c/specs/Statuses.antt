@@ -62,13 +62,13 @@ abbrev pub IsEndStatus : ℕ → Type 0
 IsEndStatus status = Contains (done ∷ not_live ∷ []) status
 
 -- the statuses with which lines of a script are answered
-abbrev pub IsCommandStatus : ℕ → Type 0
-IsCommandStatus status = Contains (done ∷ no_memory ∷ bad_line ∷ small_buffer ∷ not_live ∷ []) status
+abbrev pub IsLinesStatus : ℕ → Type 0
+IsLinesStatus status = Contains (done ∷ no_memory ∷ bad_line ∷ small_buffer ∷ not_live ∷ []) status
 
--- the statuses with which an answer that was kept is fetched
+-- the statuses with which an unread answer is fetched
 abbrev pub IsAnswerStatus : ℕ → Type 0
 IsAnswerStatus status = Contains (done ∷ small_buffer ∷ not_live ∷ []) status
 
--- the statuses above the refusals' numbers with which a call is answered
-abbrev pub IsHostStatus : ℕ → Type 0
-IsHostStatus status = Contains (not_live ∷ bad_cpu ∷ bad_frame ∷ bad_group ∷ []) status
+-- the statuses of a typed call that wasn't served; they are above the refusals' numbers
+abbrev pub IsNotServedStatus : ℕ → Type 0
+IsNotServedStatus status = Contains (not_live ∷ bad_cpu ∷ bad_frame ∷ bad_group ∷ []) status

@@ -4,13 +4,13 @@ ghost use Rattle.std.specs.Prelude.{◌≡◌, IfSome, IsSomeAnd};
 ghost use Rattle.mem_system.specs.declared.outcome.Outcome.TheVariants.{Text};
 ghost use Rattle.script_replay.specs.declared.answer_value.AnswerValue.TheVariants.{Served};
 ghost use Rattle.tempolemon_c.specs.Behind.{behind};
-ghost use Rattle.tempolemon_c.specs.Calls.{CallsHost, CallsInto, HasFileBehind, HasGroupsBehind, ReturnsValue};
+ghost use Rattle.tempolemon_c.specs.Calls.{CallsBoot, CallsInto, HasFileBehind, HasGroupsBehind, ReturnsValue};
 
 use crate::buffers::put_answers;
 use crate::handle::Handle;
+use crate::kinds::{NOTHING, REFUSED, TEXT};
 use crate::status::{BAD_CPU, BAD_FRAME, BAD_GROUP, DONE, NOT_LIVE};
-use crate::told::{Told, tell};
-use crate::words::{NOTHING, REFUSED, TEXT};
+use crate::typed_result::{TypedResult, tell};
 use control_files::file::File;
 use group_tree::group::GroupId;
 use handles::calls::{Call, CallAnswer, FileText};
@@ -27,11 +27,11 @@ pub(crate) fn serve_call(
     handle: &mut Handle,
     cpu: u32,
     call: &Call<'_>,
-    told: &mut Told,
+    out: &mut TypedResult,
 ) -> u8
-    ensures { CallsHost cpu call.now (behind handle.old) (behind handle.new) result told.new }
+    ensures { CallsBoot cpu call.now (behind handle.old) (behind handle.new) result out.new }
 {
-    serve_into(alloc, handle, cpu, call, &mut [], told)
+    serve_into(alloc, handle, cpu, call, &mut [], out)
 }
 
 /// Serves a call as `serve_call` does, and writes the text of a file into the buffer, if that has room for it.
@@ -43,19 +43,19 @@ pub(crate) fn serve_into(
     cpu: u32,
     call: &Call<'_>,
     buffer: &mut [u8],
-    told: &mut Told,
+    out: &mut TypedResult,
 ) -> u8
-    ensures { CallsInto cpu call.now (behind handle.old) (behind handle.new) result told.new buffer.old buffer.new }
+    ensures { CallsInto cpu call.now (behind handle.old) (behind handle.new) result out.new buffer.old buffer.new }
 {
-    *told = Told {
+    *out = TypedResult {
         number: 0,
-        word: NOTHING,
+        kind: NOTHING,
     };
     if !handle.is_live() {
         return NOT_LIVE;
     }
     match handle.call(alloc, cpu, call) {
-        CallAnswer::Served(value) => tell_value(alloc, handle, &value, buffer, told),
+        CallAnswer::Served(value) => tell_value(alloc, handle, &value, buffer, out),
         CallAnswer::NoCpu => BAD_CPU,
         CallAnswer::NoFrame => BAD_FRAME,
         CallAnswer::NoGroup => BAD_GROUP,
@@ -63,28 +63,28 @@ pub(crate) fn serve_into(
 }
 
 // Tells the answer, and writes the text of a file into the buffer, if that has room for it. The fields are written
-// one by one: a whole `Told` is copied with the bytes between its fields, which the CPU has to wait for.
+// one by one: a whole `TypedResult` is copied with the bytes between its fields, which the CPU has to wait for.
 #[inline(always)]
-#[tactic(auto, using(crate::proofs::Showing::plain_told))]
+#[tactic(auto, using(crate::proofs::Showing::plain_result))]
 fn tell_value(
     alloc: Global,
     handle: &mut Handle,
     value: &AnswerValue,
     buffer: &mut [u8],
-    told: &mut Told,
+    out: &mut TypedResult,
 ) -> u8
     requires there { IsSomeAnd (behind handle.old) (HasGroupsBehind value.now) }
     ensures stays { behind handle.new ≡ behind handle.old }
-    ensures told { IfSome (behind handle.old) (ReturnsValue value.now result told.new buffer.old buffer.new) }
+    ensures out { IfSome (behind handle.old) (ReturnsValue value.now result out.new buffer.old buffer.new) }
 {
     match *value {
         AnswerValue::Served(Outcome::Text(group, file)) => {
-            tell_file(alloc, handle, group, file, buffer, told)
+            tell_file(alloc, handle, group, file, buffer, out)
         }
         _ => {
             let answered = tell(value);
-            told.number = answered.told.number;
-            told.word = answered.told.word;
+            out.number = answered.typed.number;
+            out.kind = answered.typed.kind;
             answered.status
         }
     }
@@ -100,27 +100,27 @@ fn tell_file(
     group: GroupId,
     file: File,
     buffer: &mut [u8],
-    told: &mut Told,
+    out: &mut TypedResult,
 ) -> u8
     requires there { IsSomeAnd (behind handle.old) (HasFileBehind group file) }
     ensures stays { behind handle.new ≡ behind handle.old }
-    ensures told { IfSome (behind handle.old)
-        (ReturnsValue (Served (Text group file)) result told.new buffer.old buffer.new) }
+    ensures out { IfSome (behind handle.old)
+        (ReturnsValue (Served (Text group file)) result out.new buffer.old buffer.new) }
 {
     match handle.show(alloc, group, file) {
         FileText::Text(text) => {
             let text = text.as_bytes();
             let _fits = put_answers(text, buffer);
-            *told = Told {
+            *out = TypedResult {
                 number: text.len() as u64,
-                word: TEXT,
+                kind: TEXT,
             };
             DONE
         }
         FileText::Refused(fault) => {
-            *told = Told {
+            *out = TypedResult {
                 number: 0,
-                word: REFUSED,
+                kind: REFUSED,
             };
             fault.number() as u8
         }

@@ -3,11 +3,11 @@
 ghost use Rattle.handles.specs.declared.calls.Call.TheVariants.{Alloc, AtFrame, Settle};
 ghost use Rattle.handles.specs.declared.calls.FrameCall.TheVariants as at;
 ghost use Rattle.tempolemon_c.specs.Behind.{behind};
-ghost use Rattle.tempolemon_c.specs.Calls.{CallsHost};
+ghost use Rattle.tempolemon_c.specs.Calls.{CallsBoot};
 
 use crate::calling::serve_call;
 use crate::handle::Handle;
-use crate::told::Told;
+use crate::typed_result::TypedResult;
 use handles::calls::{Call, FrameCall};
 use std::alloc::Global;
 
@@ -19,11 +19,11 @@ pub extern "C" fn tempolemon_alloc(
     cpu: u32,
     group: u32,
     order: u32,
-    told: &mut Told,
+    out: &mut TypedResult,
 ) -> u8
-    ensures { CallsHost cpu (Alloc group order) (behind handle.old) (behind handle.new) result told.new }
+    ensures { CallsBoot cpu (Alloc group order) (behind handle.old) (behind handle.new) result out.new }
 {
-    serve_call(alloc, handle, cpu, &Call::Alloc { group, order }, told)
+    serve_call(alloc, handle, cpu, &Call::Alloc { group, order }, out)
 }
 
 /// Releases the unit that this frame heads: a fresh frame of the CPU is listed again, or the zone's reference is put.
@@ -33,12 +33,12 @@ pub extern "C" fn tempolemon_release(
     handle: &mut Handle,
     cpu: u32,
     frame: u32,
-    told: &mut Told,
+    out: &mut TypedResult,
 ) -> u8
-    ensures { CallsHost cpu (AtFrame frame at.Release) (behind handle.old) (behind handle.new) result told.new }
+    ensures { CallsBoot cpu (AtFrame frame at.Release) (behind handle.old) (behind handle.new) result out.new }
 {
     let what = FrameCall::Release;
-    serve_call(alloc, handle, cpu, &Call::AtFrame { frame, what }, told)
+    serve_call(alloc, handle, cpu, &Call::AtFrame { frame, what }, out)
 }
 
 /// Pins this frame for the CPU, without the lock.
@@ -48,12 +48,12 @@ pub extern "C" fn tempolemon_get(
     handle: &mut Handle,
     cpu: u32,
     frame: u32,
-    told: &mut Told,
+    out: &mut TypedResult,
 ) -> u8
-    ensures { CallsHost cpu (AtFrame frame at.Get) (behind handle.old) (behind handle.new) result told.new }
+    ensures { CallsBoot cpu (AtFrame frame at.Get) (behind handle.old) (behind handle.new) result out.new }
 {
     let what = FrameCall::Get;
-    serve_call(alloc, handle, cpu, &Call::AtFrame { frame, what }, told)
+    serve_call(alloc, handle, cpu, &Call::AtFrame { frame, what }, out)
 }
 
 /// Puts a pin of the CPU on this frame, without the lock.
@@ -63,12 +63,12 @@ pub extern "C" fn tempolemon_put(
     handle: &mut Handle,
     cpu: u32,
     frame: u32,
-    told: &mut Told,
+    out: &mut TypedResult,
 ) -> u8
-    ensures { CallsHost cpu (AtFrame frame at.Put) (behind handle.old) (behind handle.new) result told.new }
+    ensures { CallsBoot cpu (AtFrame frame at.Put) (behind handle.old) (behind handle.new) result out.new }
 {
     let what = FrameCall::Put;
-    serve_call(alloc, handle, cpu, &Call::AtFrame { frame, what }, told)
+    serve_call(alloc, handle, cpu, &Call::AtFrame { frame, what }, out)
 }
 
 /// Notes that the unit that this frame heads was used.
@@ -78,12 +78,12 @@ pub extern "C" fn tempolemon_touch(
     handle: &mut Handle,
     cpu: u32,
     frame: u32,
-    told: &mut Told,
+    out: &mut TypedResult,
 ) -> u8
-    ensures { CallsHost cpu (AtFrame frame at.Touch) (behind handle.old) (behind handle.new) result told.new }
+    ensures { CallsBoot cpu (AtFrame frame at.Touch) (behind handle.old) (behind handle.new) result out.new }
 {
     let what = FrameCall::Touch;
-    serve_call(alloc, handle, cpu, &Call::AtFrame { frame, what }, told)
+    serve_call(alloc, handle, cpu, &Call::AtFrame { frame, what }, out)
 }
 
 /// Notes that the unit that this frame heads is dirty.
@@ -93,12 +93,12 @@ pub extern "C" fn tempolemon_dirty(
     handle: &mut Handle,
     cpu: u32,
     frame: u32,
-    told: &mut Told,
+    out: &mut TypedResult,
 ) -> u8
-    ensures { CallsHost cpu (AtFrame frame at.Dirty) (behind handle.old) (behind handle.new) result told.new }
+    ensures { CallsBoot cpu (AtFrame frame at.Dirty) (behind handle.old) (behind handle.new) result out.new }
 {
     let what = FrameCall::Dirty;
-    serve_call(alloc, handle, cpu, &Call::AtFrame { frame, what }, told)
+    serve_call(alloc, handle, cpu, &Call::AtFrame { frame, what }, out)
 }
 
 /// Notes that the unit that this frame heads is clean.
@@ -108,12 +108,12 @@ pub extern "C" fn tempolemon_clean(
     handle: &mut Handle,
     cpu: u32,
     frame: u32,
-    told: &mut Told,
+    out: &mut TypedResult,
 ) -> u8
-    ensures { CallsHost cpu (AtFrame frame at.Clean) (behind handle.old) (behind handle.new) result told.new }
+    ensures { CallsBoot cpu (AtFrame frame at.Clean) (behind handle.old) (behind handle.new) result out.new }
 {
     let what = FrameCall::Clean;
-    serve_call(alloc, handle, cpu, &Call::AtFrame { frame, what }, told)
+    serve_call(alloc, handle, cpu, &Call::AtFrame { frame, what }, out)
 }
 
 /// Tells the place of this frame.
@@ -123,12 +123,12 @@ pub extern "C" fn tempolemon_owner(
     handle: &mut Handle,
     cpu: u32,
     frame: u32,
-    told: &mut Told,
+    out: &mut TypedResult,
 ) -> u8
-    ensures { CallsHost cpu (AtFrame frame at.Owner) (behind handle.old) (behind handle.new) result told.new }
+    ensures { CallsBoot cpu (AtFrame frame at.Owner) (behind handle.old) (behind handle.new) result out.new }
 {
     let what = FrameCall::Owner;
-    serve_call(alloc, handle, cpu, &Call::AtFrame { frame, what }, told)
+    serve_call(alloc, handle, cpu, &Call::AtFrame { frame, what }, out)
 }
 
 /// Settles the CPU.
@@ -137,9 +137,9 @@ pub extern "C" fn tempolemon_settle(
     alloc: Global,
     handle: &mut Handle,
     cpu: u32,
-    told: &mut Told,
+    out: &mut TypedResult,
 ) -> u8
-    ensures { CallsHost cpu Settle (behind handle.old) (behind handle.new) result told.new }
+    ensures { CallsBoot cpu Settle (behind handle.old) (behind handle.new) result out.new }
 {
-    serve_call(alloc, handle, cpu, &Call::Settle, told)
+    serve_call(alloc, handle, cpu, &Call::Settle, out)
 }

@@ -5,9 +5,9 @@ ghost use Rattle.tempolemon_c.specs.Calls.{CallsPath, IsMkdir, IsRead, IsRmdir, 
 
 use crate::calling::{serve_call, serve_into};
 use crate::handle::Handle;
+use crate::kinds::NOTHING;
 use crate::status::SMALL_BUFFER;
-use crate::told::Told;
-use crate::words::NOTHING;
+use crate::typed_result::TypedResult;
 use control_files::text::MAX_TEXT;
 use handles::calls::Call;
 use std::alloc::Global;
@@ -19,11 +19,11 @@ pub extern "C" fn tempolemon_mkdir(
     handle: &mut Handle,
     cpu: u32,
     path: &[u8],
-    told: &mut Told,
+    out: &mut TypedResult,
 ) -> u8
-    ensures { CallsPath (IsMkdir path.now) cpu (behind handle.old) (behind handle.new) result told.new }
+    ensures { CallsPath (IsMkdir path.now) cpu (behind handle.old) (behind handle.new) result out.new }
 {
-    serve_call(alloc, handle, cpu, &Call::Mkdir { path }, told)
+    serve_call(alloc, handle, cpu, &Call::Mkdir { path }, out)
 }
 
 /// Removes the group of this path.
@@ -33,11 +33,11 @@ pub extern "C" fn tempolemon_rmdir(
     handle: &mut Handle,
     cpu: u32,
     path: &[u8],
-    told: &mut Told,
+    out: &mut TypedResult,
 ) -> u8
-    ensures { CallsPath (IsRmdir path.now) cpu (behind handle.old) (behind handle.new) result told.new }
+    ensures { CallsPath (IsRmdir path.now) cpu (behind handle.old) (behind handle.new) result out.new }
 {
-    serve_call(alloc, handle, cpu, &Call::Rmdir { path }, told)
+    serve_call(alloc, handle, cpu, &Call::Rmdir { path }, out)
 }
 
 /// Writes a value to a file of the group of this path.
@@ -49,13 +49,13 @@ pub extern "C" fn tempolemon_write(
     path: &[u8],
     file: &[u8],
     value: &[u8],
-    told: &mut Told,
+    out: &mut TypedResult,
 ) -> u8
     ensures { CallsPath (IsWrite path.now file.now value.now) cpu
-        (behind handle.old) (behind handle.new) result told.new }
+        (behind handle.old) (behind handle.new) result out.new }
 {
     let call = Call::Write { path, file, value };
-    serve_call(alloc, handle, cpu, &call, told)
+    serve_call(alloc, handle, cpu, &call, out)
 }
 
 /// Reads a file of the group of this path, and writes its text at the start of the buffer, which has room for at least
@@ -68,16 +68,16 @@ pub extern "C" fn tempolemon_read(
     path: &[u8],
     file: &[u8],
     text: &mut [u8],
-    told: &mut Told,
+    out: &mut TypedResult,
 ) -> u8
-    ensures { Reads path.now file.now cpu (behind handle.old) (behind handle.new) result told.new text.old text.new }
+    ensures { Reads path.now file.now cpu (behind handle.old) (behind handle.new) result out.new text.old text.new }
 {
     if text.len() < MAX_TEXT {
-        *told = Told {
+        *out = TypedResult {
             number: 0,
-            word: NOTHING,
+            kind: NOTHING,
         };
         return SMALL_BUFFER;
     }
-    serve_into(alloc, handle, cpu, &Call::Read { path, file }, text, told)
+    serve_into(alloc, handle, cpu, &Call::Read { path, file }, text, out)
 }

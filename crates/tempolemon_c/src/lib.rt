@@ -18,13 +18,13 @@ mod frames;
 mod groups;
 mod handle;
 mod hosting;
+mod kinds;
 mod living;
 mod replaying;
 mod report;
 mod sizes;
 mod status;
-mod told;
-mod words;
+mod typed_result;
 
 use crate::buffers::put_answers;
 use crate::fault::ReplayFault;

@@ -4,10 +4,10 @@ ghost use Rattle.std.specs.Prelude.{◌≡◌, ◌≢◌, ◌↔◌, None};
 ghost use Rattle.zone_sizes.specs.Config.{IsValidConfig};
 ghost use Rattle.tempolemon_c.specs.Behind.{behind};
 ghost use Rattle.tempolemon_c.specs.Buffers.{ExceedsBuffer, FillsBuffer};
-ghost use Rattle.tempolemon_c.specs.Handles.{BootsNew, CommandRunsOut, Commands, CommandsAndKeeps, EndsBoot};
-ghost use Rattle.tempolemon_c.specs.Handles.{KeepsAnswer, RefusesCommand, TakesAnswer};
+ghost use Rattle.tempolemon_c.specs.Handles.{AnswersAndStoresUnread, AnswersLines, BootsNew, EndsBoot, LinesRunOut};
+ghost use Rattle.tempolemon_c.specs.Handles.{RefusesLines, StoresUnread, TakesUnread};
 ghost use Rattle.tempolemon_c.specs.Replays.{config_of};
-ghost use Rattle.tempolemon_c.specs.Statuses.{IsAnswerStatus, IsBootStatus, IsCommandStatus, IsEndStatus};
+ghost use Rattle.tempolemon_c.specs.Statuses.{IsAnswerStatus, IsBootStatus, IsEndStatus, IsLinesStatus};
 ghost use Rattle.tempolemon_c.specs.Statuses.{bad_config, bad_line, done, is_live, no_memory, not_live, small_buffer};
 
 use crate::buffers::put_answers;
@@ -65,8 +65,8 @@ pub extern "C" fn tempolemon_end(alloc: Global, handle: &mut Handle, report: &mu
 /// found before the first line is served.
 ///
 /// How long an answer is shows only once its line was served, and then it can't be undone. So if the buffer is too
-/// small for the answers, the boot keeps them, and `written` is the length that they need: `tempolemon_answer` fetches
-/// them. They take the place of answers that were kept before.
+/// small for the answers, the boot stores them, and `written` is the length that they need: `tempolemon_answer` fetches
+/// them. They take the place of answers that were unread before.
 #[unsafe(no_mangle)]
 pub extern "C" fn tempolemon_command(
     alloc: Global,
@@ -77,16 +77,18 @@ pub extern "C" fn tempolemon_command(
     written: &mut usize,
     first_bad: &mut usize,
 ) -> u8
-    ensures statuses { IsCommandStatus result }
+    ensures statuses { IsLinesStatus result }
     ensures none_live { (result ≡ not_live) ↔ (behind handle.old ≡ None) }
     ensures answered { result ≡ done → FillsBuffer
-        (Commands script.now is_explained (behind handle.old) (behind handle.new)) answers.old answers.new written.new }
+        (AnswersLines script.now is_explained (behind handle.old) (behind handle.new))
+        answers.old answers.new written.new }
     ensures too_small { result ≡ small_buffer → ExceedsBuffer
-        (CommandsAndKeeps script.now is_explained (behind handle.old) (behind handle.new)) answers.old written.new }
+        (AnswersAndStoresUnread script.now is_explained (behind handle.old) (behind handle.new))
+        answers.old written.new }
     ensures first_bad_line { result ≡ bad_line
-        → RefusesCommand script.now first_bad.new (behind handle.old) (behind handle.new) }
+        → RefusesLines script.now first_bad.new (behind handle.old) (behind handle.new) }
     ensures ran_out { result ≡ no_memory
-        → CommandRunsOut script.now is_explained (behind handle.old) (behind handle.new) }
+        → LinesRunOut script.now is_explained (behind handle.old) (behind handle.new) }
     ensures stays { result ≡ not_live → behind handle.new ≡ behind handle.old }
     ensures buffer_stays { result ≢ done → answers.new ≡ answers.old }
     ensures no_length { result ≢ done → result ≢ small_buffer → written.new ≡ 0 }
@@ -102,7 +104,7 @@ pub extern "C" fn tempolemon_command(
     };
     match handle.ask(
         alloc,
-        Request::Command {
+        Request::Lines {
             alloc,
             text,
             is_explained,
@@ -113,7 +115,7 @@ pub extern "C" fn tempolemon_command(
             if put_answers(&told, answers) {
                 return DONE;
             }
-            let _kept = handle.ask(alloc, Request::Keep { text: told });
+            let _stored = handle.ask(alloc, Request::StoreUnread { text: told });
             SMALL_BUFFER
         }
         RequestAnswer::BadLine(number) => {
@@ -125,8 +127,8 @@ pub extern "C" fn tempolemon_command(
     }
 }
 
-/// Fetches the answers that the boot keeps, because a buffer was too small for them. If this buffer is too small as
-/// well, the boot keeps them still. If it keeps none, it gives an empty text.
+/// Fetches the unread answers, which the boot stores because a buffer was too small for them. If this buffer is too
+/// small as well, they stay unread. If none are unread, it gives an empty text.
 #[unsafe(no_mangle)]
 pub extern "C" fn tempolemon_answer(
     alloc: Global,
@@ -137,9 +139,9 @@ pub extern "C" fn tempolemon_answer(
     ensures statuses { IsAnswerStatus result }
     ensures none_live { (result ≡ not_live) ↔ (behind handle.old ≡ None) }
     ensures fetched { result ≡ done → FillsBuffer
-        (TakesAnswer (behind handle.old) (behind handle.new)) answers.old answers.new written.new }
+        (TakesUnread (behind handle.old) (behind handle.new)) answers.old answers.new written.new }
     ensures too_small { result ≡ small_buffer
-        → ExceedsBuffer (KeepsAnswer (behind handle.old)) answers.old written.new }
+        → ExceedsBuffer (StoresUnread (behind handle.old)) answers.old written.new }
     ensures stays { result ≢ done → behind handle.new ≡ behind handle.old }
     ensures buffer_stays { result ≢ done → answers.new ≡ answers.old }
 {
@@ -147,13 +149,13 @@ pub extern "C" fn tempolemon_answer(
     if !handle.is_live() {
         return NOT_LIVE;
     }
-    match handle.ask(alloc, Request::Recall { alloc }) {
+    match handle.ask(alloc, Request::TakeUnread { alloc }) {
         RequestAnswer::Text(told) => {
             *written = told.len();
             if put_answers(&told, answers) {
                 return DONE;
             }
-            let _still = handle.ask(alloc, Request::Keep { text: told });
+            let _still = handle.ask(alloc, Request::StoreUnread { text: told });
             SMALL_BUFFER
         }
         _ => unreachable!(),

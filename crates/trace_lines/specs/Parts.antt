@@ -59,8 +59,8 @@ spans_of [] = []
 spans_of (number ∷ numbers) = with_number number (spans_of numbers)
 
 -- numbers in their order
-abbrev pub runs_text : List ℕ → List ℕ
-runs_text numbers = codes "[" ++ commas span_text (spans_of numbers) ++ codes "]"
+abbrev pub spans_text : List ℕ → List ℕ
+spans_text numbers = codes "[" ++ commas span_text (spans_of numbers) ++ codes "]"
 
 -- a group that was made, with its path
 abbrev pub made_text : KnownGroup → List ℕ
@@ -88,7 +88,7 @@ name_text (Active group) = codes "a" ++ decimal group
 -- a list that changed: what left it, and what came
 abbrev pub list_change_text : ListChange → List ℕ
 list_change_text change =
-    codes "[\"" ++ name_text change.name ++ codes "\"," ++ runs_text change.left ++ codes "," ++ runs_text change.came
+    codes "[\"" ++ name_text change.name ++ codes "\"," ++ spans_text change.left ++ codes "," ++ spans_text change.came
     ++ codes "]"
 
 -- 1 for dirty, 2 for marked, 3 for both

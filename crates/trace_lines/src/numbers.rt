@@ -4,7 +4,7 @@ ghost use Rattle.std.specs.Prelude.{◌≡◌, ◌+◌, ◌==◌, ◌++◌, IfOk
 ghost use Rattle.std.specs.Fmt.{decimal};
 ghost use Rattle.std.specs.List.{flat_map};
 ghost use Rattle.std.specs.String.{string_bytes};
-ghost use Rattle.trace_lines.specs.Parts.{flag_text, number_text, runs_text, span_text, spans_of, with_number, commas};
+ghost use Rattle.trace_lines.specs.Parts.{flag_text, number_text, span_text, spans_of, spans_text, with_number, commas};
 
 use std::alloc::{AllocError, Global};
 
@@ -46,7 +46,7 @@ pub(crate) fn write_number_spans(
     numbers: &[u32],
     text: &mut String,
 ) -> Result<(), AllocError>
-    ensures { IfOk result (λ _. string_bytes text.new ≡ string_bytes text.old ++ runs_text numbers.now) }
+    ensures { IfOk result (λ _. string_bytes text.new ≡ string_bytes text.old ++ spans_text numbers.now) }
 {
     let spans = spans_of(alloc, numbers)?;
     text.push_str("[")?;

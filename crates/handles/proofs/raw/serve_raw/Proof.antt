@@ -50,7 +50,7 @@ use Rattle.handles.proofs.Moves.{word, ptr_typed, word_typed, both, and_tt, part
 use Rattle.handles.specs.Owned.{brand, marker, live_owns}
 use Rattle.handles.specs.Serving.{IsAsked, IsFit, IsNamed, Serves, frames_of, stocks_of}
 use Rattle.handles.specs.Known.{KnownLive}
-use Rattle.handles.specs.declared.requests.Request.TheVariants.{Start, Command, Keep, Recall, End}
+use Rattle.handles.specs.declared.requests.Request.TheVariants.{Start, Lines, StoreUnread, TakeUnread, End}
 use Rattle.cpu_part.specs.declared.boot_name.BootName.{Ghosts}
 use Rattle.handles.specs.contracts.raw.Raw as Raw
 use Rattle.handles.specs.contracts.live_pointer.LivePointer as LivePointer
@@ -81,9 +81,9 @@ args = bounded (a_type ∷ []) (brand, tt) (dcons none dnil)
 -- the name is that of the request, if it brings a boot
 named : (f : KnownTable) (s : KnownStockTable) (q : Request.the_row.Denot) → IsNamed (frames_of f q) (stocks_of s q) q
 named f s (Start alloc boot sizes) = (refl, refl)
-named f s (Command alloc text is_explained) = tt
-named f s (Keep text) = tt
-named f s (Recall alloc) = tt
+named f s (Lines alloc text is_explained) = tt
+named f s (StoreUnread text) = tt
+named f s (TakeUnread alloc) = tt
 named f s (End alloc) = tt
 
 -- what is owned under the name that is remembered is owned under the one that is picked
@@ -91,9 +91,9 @@ same : (a : Global) (p : Ptr) (f : KnownTable) (s : KnownStockTable) (o : Option
     → live_owns marker f s a p o ≡ live_owns marker (frames_of f q) (stocks_of s q) a p o
 same a p f s None q fit = refl
 same a p f s (Some live) (Start alloc boot sizes) fit = absurd fit
-same a p f s (Some live) (Command alloc text is_explained) fit = refl
-same a p f s (Some live) (Keep text) fit = refl
-same a p f s (Some live) (Recall alloc) fit = refl
+same a p f s (Some live) (Lines alloc text is_explained) fit = refl
+same a p f s (Some live) (StoreUnread text) fit = refl
+same a p f s (Some live) (TakeUnread alloc) fit = refl
 same a p f s (Some live) (End alloc) fit = refl
 
 abbrev From : Slot 0
@@ -105,9 +105,9 @@ Asked = plain (λ _. Request.the_row)
 -- nothing is said of a request that was used up
 asked_blank : (x : Request.the_row.Denot) (f : Last (Request.the_row.exit yes) x) → T (blank (left (Request.the_row.exit yes) x f))
 asked_blank (Start alloc boot sizes) f = tt
-asked_blank (Command alloc text is_explained) f = tt
-asked_blank (Keep text) f = tt
-asked_blank (Recall alloc) f = tt
+asked_blank (Lines alloc text is_explained) f = tt
+asked_blank (StoreUnread text) f = tt
+asked_blank (TakeUnread alloc) f = tt
 asked_blank (End alloc) f = tt
 
 abbrev stayed : Stays (F.ended).signature.params (F.ended).kept

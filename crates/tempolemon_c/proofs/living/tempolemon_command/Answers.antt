@@ -1,4 +1,4 @@
--- Serves the contract of `tempolemon_command`: each status is at its place in the list, and the answers are kept.
+-- Serves the contract of `tempolemon_command`: each status is at its place in the list, and the answers are stored.
 use Rattle.std.proofs.Common.{refl, arith, rules}
 use Rattle.tempolemon_c.specs.Behind.{behind}
 use Rattle.tempolemon_c.proofs.living.tempolemon_command.Goals as goal
@@ -11,8 +11,8 @@ returns-else-put_answers-clause-too_small c = λ e. record {
   text = c.in-Text.told.items;
   is = record {
     between = behind c.ask.new.self;
-    commands = search rules;
-    keeps = search rules;
+    lines = search rules;
+    stores = search rules;
   };
   needed_is = search rules;
   exceeds = search rules;

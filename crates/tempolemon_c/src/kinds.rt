@@ -1,6 +1,6 @@
-//! The words that a host is told. Each is that of the answer to a script's line.
+//! The kinds of what a typed call gives. Each is that of the answer to a script's line.
 
-/// No word.
+/// No kind: the call wasn't served.
 pub const NOTHING: u8 = 0;
 
 /// `ok`: it was done.
@@ -60,5 +60,5 @@ pub const LAST: u8 = 18;
 /// `refused`: the status is the refusal's number. Of 15 this is the group whose limit has no room.
 pub const REFUSED: u8 = 20;
 
-/// There was no frame without the lock. No call is told this.
+/// There was no frame without the lock. No call gives this.
 pub const NOT_FAST: u8 = 21;

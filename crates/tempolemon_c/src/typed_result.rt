@@ -1,60 +1,60 @@
-//! What a host is told by a call.
+//! What a typed call gives its host.
 
 ghost use Rattle.std.specs.Prelude.{◌≡◌, List, ℕ};
 ghost use Rattle.group_charge.specs.Charges.{Ledger};
 ghost use Rattle.mem_system.specs.Outcomes.{reply_of};
 ghost use Rattle.script_replay.specs.Typed.{answer_of};
 ghost use Rattle.tempolemon_c.specs.Calls.{IsPlain, IsPlainOutcome, PutsAnswer, PutsReply};
-ghost use Rattle.tempolemon_c.specs.Words.{fast_told, get_told, put_told, reply_status, reply_told, status_of};
-ghost use Rattle.tempolemon_c.specs.Words.{told, told_of};
+ghost use Rattle.tempolemon_c.specs.Kinds.{fast_result, get_result, put_result, reply_result, reply_status};
+ghost use Rattle.tempolemon_c.specs.Kinds.{result_of, result_with, status_of};
 
-use crate::status::{DONE, OVER_LIMIT};
-use crate::words::{
+use crate::kinds::{
     ACTIVE, CHARGED, CPU, FRAME, FREE, FULL, GROUP, HELD, LAST, LEFT, LISTED, MARKED, NOT_FAST, OK,
     RACED, REFUSED, RETURNED, SETTLED, ZERO,
 };
+use crate::status::{DONE, OVER_LIMIT};
 use cpu_part::Fast;
 use frame_word::{Get, Put};
 use mem_system::Outcome;
 use script_replay::AnswerValue;
 
-/// What a host is told by a call: a word, and the number that goes with it.
+/// What a typed call gives its host: a kind, and the number that goes with it.
 #[repr(C)]
 #[derive(Clone, Copy, Debug, PartialEq, Eq)]
-pub struct Told {
-    /// The number that goes with the word; 0 if none does.
+pub struct TypedResult {
+    /// The number that goes with the kind; 0 if none does.
     pub number: u64,
-    /// The word.
-    pub word: u8,
+    /// The kind.
+    pub kind: u8,
 }
 
-/// The status of a call that was served, and what is told.
+/// The status of a call that was served, and its result.
 #[derive(Clone, Copy, Debug, PartialEq, Eq)]
-pub struct Answered {
+pub struct TypedAnswer {
     /// A refusal's number, or 0.
     pub status: u8,
-    /// What is told.
-    pub told: Told,
+    /// The result.
+    pub typed: TypedResult,
 }
 
-// This word with a number.
-fn with_number(word: u8, number: u64) -> Answered
+// This kind with a number.
+fn with_number(kind: u8, number: u64) -> TypedAnswer
     ensures status { result.status ≡ 0 }
-    ensures told { result.told ≡ told word number }
+    ensures typed { result.typed ≡ result_with kind number }
 {
-    Answered {
+    TypedAnswer {
         status: DONE,
-        told: Told { number, word },
+        typed: TypedResult { number, kind },
     }
 }
 
-/// What is told of an answer that isn't a text. It is inlined with what it calls, so that the answer isn't built in
+/// The result of an answer that isn't a text. It is inlined with what it calls, so that the answer isn't built in
 /// memory.
 #[inline(always)]
-pub(crate) fn tell(value: &AnswerValue) -> Answered
+pub(crate) fn tell(value: &AnswerValue) -> TypedAnswer
     requires { IsPlain value.now }
     ensures status { (ledger : Ledger) → result.status ≡ status_of (answer_of ledger value.now) }
-    ensures told { (ledger : Ledger) → result.told ≡ told_of (answer_of ledger value.now) }
+    ensures typed { (ledger : Ledger) → result.typed ≡ result_of (answer_of ledger value.now) }
     ensures no_text { (ledger : Ledger) (buffer : List ℕ) → PutsAnswer (answer_of ledger value.now) buffer buffer }
 {
     match value {
@@ -67,13 +67,13 @@ pub(crate) fn tell(value: &AnswerValue) -> Answered
     }
 }
 
-// What is told of an outcome that isn't a text.
+// The result of an outcome that isn't a text.
 #[inline(always)]
 #[tactic(auto, using(crate::proofs::Numbers::number_low))]
-fn tell_outcome(outcome: &Outcome) -> Answered
+fn tell_outcome(outcome: &Outcome) -> TypedAnswer
     requires { IsPlainOutcome outcome.now }
     ensures status { (ledger : Ledger) → result.status ≡ reply_status (reply_of ledger outcome.now) }
-    ensures told { (ledger : Ledger) → result.told ≡ reply_told (reply_of ledger outcome.now) }
+    ensures typed { (ledger : Ledger) → result.typed ≡ reply_result (reply_of ledger outcome.now) }
     ensures no_text { (ledger : Ledger) (buffer : List ℕ) → PutsReply (reply_of ledger outcome.now) buffer buffer }
 {
     match *outcome {
@@ -88,28 +88,28 @@ fn tell_outcome(outcome: &Outcome) -> Answered
         Outcome::Active => with_number(ACTIVE, 0),
         Outcome::Left(left) => with_number(LEFT, left),
         Outcome::Returned => with_number(RETURNED, 0),
-        Outcome::OverLimit(group) => Answered {
+        Outcome::OverLimit(group) => TypedAnswer {
             status: OVER_LIMIT,
-            told: Told {
+            typed: TypedResult {
                 number: u64::from(group.number()),
-                word: REFUSED,
+                kind: REFUSED,
             },
         },
-        Outcome::Refused(fault) => Answered {
+        Outcome::Refused(fault) => TypedAnswer {
             status: fault.number() as u8,
-            told: Told {
+            typed: TypedResult {
                 number: 0,
-                word: REFUSED,
+                kind: REFUSED,
             },
         },
     }
 }
 
-// What is told of a frame that was asked for without the lock.
+// The result of a frame that was asked for without the lock.
 #[inline(always)]
-fn tell_fast(fast: &Fast) -> Answered
+fn tell_fast(fast: &Fast) -> TypedAnswer
     ensures status { result.status ≡ 0 }
-    ensures told { result.told ≡ fast_told fast.now }
+    ensures typed { result.typed ≡ fast_result fast.now }
 {
     match *fast {
         Fast::Got(frame) => with_number(FRAME, u64::from(frame.number())),
@@ -121,11 +121,11 @@ fn tell_fast(fast: &Fast) -> Answered
     }
 }
 
-// What is told of a pin that was asked for.
+// The result of a pin that was asked for.
 #[inline(always)]
-fn tell_get(got: &Get) -> Answered
+fn tell_get(got: &Get) -> TypedAnswer
     ensures status { result.status ≡ 0 }
-    ensures told { result.told ≡ get_told got.now }
+    ensures typed { result.typed ≡ get_result got.now }
 {
     match got {
         Get::Held => with_number(HELD, 0),
@@ -135,11 +135,11 @@ fn tell_get(got: &Get) -> Answered
     }
 }
 
-// What is told of a pin that was put.
+// The result of a pin that was put.
 #[inline(always)]
-fn tell_put(put: &Put) -> Answered
+fn tell_put(put: &Put) -> TypedAnswer
     ensures status { result.status ≡ 0 }
-    ensures told { result.told ≡ put_told put.now }
+    ensures typed { result.typed ≡ put_result put.now }
 {
     match put {
         Put::Left(left) => with_number(LEFT, *left),

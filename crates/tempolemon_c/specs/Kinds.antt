@@ -1,0 +1,80 @@
+-- The results of typed calls, with their kinds as the header numbers them.
+use Rattle.std.specs.Prelude.{ℕ, List, length}
+use Rattle.group_tree.specs.Faults.{number_of}
+use Rattle.cpu_part.specs.declared.answers.Fast as fast
+use Rattle.cpu_part.specs.declared.answers.Fast.TheVariants.{Got, FreshFull, ListEmpty, OtherGroup, Drained, NoStock}
+use Rattle.frame_word.specs.declared.answers.Get.{Get}
+use Rattle.frame_word.specs.declared.answers.Get.TheVariants.{Held, Zero, Raced, Full}
+use Rattle.frame_word.specs.declared.answers.Put as word
+use Rattle.frame_word.specs.declared.answers.Put.TheVariants as put
+use Rattle.mem_system.specs.declared.command.Reply.{Reply}
+use Rattle.mem_system.specs.declared.command.Reply.TheVariants as reply
+use Rattle.reply_texts.specs.Answer.{Answer}
+use Rattle.reply_texts.specs.Answer as answer
+use Rattle.tempolemon_c.specs.Statuses.{done, over_limit}
+use Rattle.tempolemon_c.specs.declared.typed_result.TypedResult.{TypedResult}
+
+-- a kind with a number
+abbrev pub result_with : (kind number : ℕ) → TypedResult
+result_with kind number = record { number = number; kind = kind }
+
+-- the result of a call that wasn't served
+abbrev pub no_result : TypedResult
+no_result = result_with 0 0
+
+-- the result of a reply
+abbrev pub reply_result : Reply → TypedResult
+reply_result reply.Done = result_with 1 0
+reply_result (reply.Group group) = result_with 2 group
+reply_result (reply.Frame frame) = result_with 3 frame
+reply_result (reply.Text text) = result_with 4 (length text)
+reply_result reply.Free = result_with 5 0
+reply_result (reply.Lent cpu) = result_with 6 cpu
+reply_result (reply.Charged group path) = result_with 7 group
+reply_result reply.Marked = result_with 8 0
+reply_result reply.Active = result_with 9 0
+reply_result (reply.Left references) = result_with 10 references
+reply_result reply.Returned = result_with 11 0
+reply_result (reply.OverLimit group path) = result_with 20 group
+reply_result (reply.Refused fault) = result_with 20 0
+
+-- the result of a frame that was asked for without the lock
+abbrev pub fast_result : fast.Fast → TypedResult
+fast_result (Got frame) = result_with 3 frame
+fast_result FreshFull = result_with 21 0
+fast_result ListEmpty = result_with 21 0
+fast_result OtherGroup = result_with 21 0
+fast_result Drained = result_with 21 0
+fast_result NoStock = result_with 21 0
+
+-- the result of a pin that was asked for
+abbrev pub get_result : Get → TypedResult
+get_result Held = result_with 14 0
+get_result Zero = result_with 15 0
+get_result (Raced found) = result_with 16 0
+get_result Full = result_with 17 0
+
+-- the result of a pin that was put
+abbrev pub put_result : word.Put → TypedResult
+put_result (put.Left references) = result_with 10 references
+put_result put.Last = result_with 18 0
+
+-- the result of an answer
+abbrev pub result_of : Answer → TypedResult
+result_of (answer.Served reply) = reply_result reply
+result_of answer.Settled = result_with 12 0
+result_of (answer.Fast fast) = fast_result fast
+result_of (answer.Got get) = get_result get
+result_of (answer.Put put) = put_result put
+result_of answer.Listed = result_with 13 0
+
+-- the status of a reply: a refusal's number, or 0
+abbrev pub reply_status : Reply → ℕ
+reply_status (reply.OverLimit group path) = over_limit
+reply_status (reply.Refused fault) = number_of fault
+reply_status other = done
+
+-- the status of an answer
+abbrev pub status_of : Answer → ℕ
+status_of (answer.Served reply) = reply_status reply
+status_of other = done
