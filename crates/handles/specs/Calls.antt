@@ -57,18 +57,18 @@ pub record IsCpu (cpus cpu : ℕ) : Type 0 where
   pub high : cpu ≤ cpus
 
 -- the frame that the call names isn't in the zone
-abbrev pub NamesNoFrame : (frames : ℕ) → Call → Type 0
-NamesNoFrame frames (call.AtFrame frame what) = ¬ (frame < frames)
-NamesNoFrame frames other = ⊥
+abbrev pub NamesMissingFrame : (frames : ℕ) → Call → Type 0
+NamesMissingFrame frames (call.AtFrame frame what) = ¬ (frame < frames)
+NamesMissingFrame frames other = ⊥
 
 -- no group has this number; those of groups are below 64
 abbrev pub HasNoGroup : List Group → ℕ → Type 0
 HasNoGroup groups number = (most_groups ≤ number) ⊎ (has_group groups number ≡ false)
 
 -- no group has the number that the call names
-abbrev pub NamesNoGroup : List Group → Call → Type 0
-NamesNoGroup groups (call.Alloc group order) = HasNoGroup groups group
-NamesNoGroup groups other = ⊥
+abbrev pub NamesMissingGroup : List Group → Call → Type 0
+NamesMissingGroup groups (call.Alloc group order) = HasNoGroup groups group
+NamesMissingGroup groups other = ⊥
 
 -- what a call returned is this answer, with the texts that the ledger after the command gives it
 abbrev pub IsAnswer : Ledger → Answer → CallAnswer → Type 0
@@ -106,9 +106,10 @@ abbrev pub Calls : KnownTable → KnownStockTable → (cpu : ℕ) → Call → (
 Calls frames stock_table cpu asked from to (returned.Served value) =
     ServesCall frames stock_table cpu asked from to (returned.Served value)
 Calls frames stock_table cpu asked from to returned.NoCpu = RefusesCall (¬ IsCpu from.sizes.cpus cpu) from to
-Calls frames stock_table cpu asked from to returned.NoFrame = RefusesCall (NamesNoFrame from.sizes.frames asked) from to
+Calls frames stock_table cpu asked from to returned.NoFrame =
+    RefusesCall (NamesMissingFrame from.sizes.frames asked) from to
 Calls frames stock_table cpu asked from to returned.NoGroup =
-    RefusesCall (NamesNoGroup from.state.locked.machine.ledger.groups asked) from to
+    RefusesCall (NamesMissingGroup from.state.locked.machine.ledger.groups asked) from to
 
 -- the group exists, and isn't the root, which has no files
 abbrev pub HasFile : (group : ℕ) → File → KnownLive → Type 0

@@ -4,7 +4,7 @@ use Rattle.std.specs.Prelude.{Option}
 use Rattle.std.proofs.lemmas.Option.{none-some}
 use Rattle.std.specs.Global.{Global}
 use Rattle.handles.specs.declared.calls.Call.{Call}
-use Rattle.handles.specs.Calls.{IsCpu, NamesNoFrame, RefusesCall}
+use Rattle.handles.specs.Calls.{IsCpu, NamesMissingFrame, RefusesCall}
 use Rattle.handles.specs.Commands.{with_unread_answer}
 use Rattle.handles.specs.Known.{KnownLive}
 use Rattle.tempolemon_c.specs.Calls.{CallsInto, RefusesBoot}
@@ -51,16 +51,16 @@ module _ (cpu : ℕ) (asked : Call) (buffer : List ℕ) where
   }
 
   -- there is no such frame
-  pub no_frame_called : (before after : Option LiveBoot) → RefusesBoot (λ from. NamesNoFrame from.sizes.frames asked) before after
+  pub no_frame_called : (before after : Option LiveBoot) → RefusesBoot (λ from. NamesMissingFrame from.sizes.frames asked) before after
       → CallsInto cpu asked before after bad_frame no_result buffer buffer
   no_frame_called before after refuses = record {
     statuses = inr (2, omega arith, refl);
-    none_live = (λ e. absurd (omega (arith, e)), λ none. absurd (there (λ from. NamesNoFrame from.sizes.frames asked) before after refuses none));
+    none_live = (λ e. absurd (omega (arith, e)), λ none. absurd (there (λ from. NamesMissingFrame from.sizes.frames asked) before after refuses none));
     served = λ low. absurd (omega (arith, low));
     no_cpu = λ e. absurd (omega (arith, e));
     no_frame = λ e. refuses;
     no_group = λ e. absurd (omega (arith, e));
-    stays = λ high. still (λ from. NamesNoFrame from.sizes.frames asked) before after refuses;
+    stays = λ high. still (λ from. NamesMissingFrame from.sizes.frames asked) before after refuses;
     no_kind = λ high. refl;
     buffer_stays = λ high. refl;
   }

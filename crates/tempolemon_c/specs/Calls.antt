@@ -13,7 +13,7 @@ use Rattle.script_lines.specs.declared.line.Command.{Command}
 use Rattle.handles.specs.declared.calls.Call.{Call}
 use Rattle.handles.specs.declared.calls.Call.TheVariants as call
 use Rattle.control_files.specs.declared.file.File.{File}
-use Rattle.handles.specs.Calls.{HasFile, IsCpu, Means, NamesNoFrame, NamesNoGroup, RefusesCall, ServesCommand}
+use Rattle.handles.specs.Calls.{HasFile, IsCpu, Means, NamesMissingFrame, NamesMissingGroup, RefusesCall, ServesCommand}
 use Rattle.handles.specs.Known.{KnownLive}
 use Rattle.script_replay.specs.Typed.{NamesItsGroups, answer_of}
 use Rattle.script_replay.specs.declared.answer_value.AnswerValue.{AnswerValue}
@@ -103,9 +103,9 @@ pub record CallsInto (cpu : ℕ) (asked : Call) (before after : Option LiveBoot)
   pub none_live : (status ≡ not_live) ↔ (before ≡ None)
   pub served : status ≤ most_refusal → ServesBoot cpu asked before after status out old new
   pub no_cpu : status ≡ bad_cpu → RefusesBoot (λ from. ¬ IsCpu from.sizes.cpus cpu) before after
-  pub no_frame : status ≡ bad_frame → RefusesBoot (λ from. NamesNoFrame from.sizes.frames asked) before after
+  pub no_frame : status ≡ bad_frame → RefusesBoot (λ from. NamesMissingFrame from.sizes.frames asked) before after
   pub no_group : status ≡ bad_group
-      → RefusesBoot (λ from. NamesNoGroup from.state.locked.machine.ledger.groups asked) before after
+      → RefusesBoot (λ from. NamesMissingGroup from.state.locked.machine.ledger.groups asked) before after
   pub stays : most_refusal < status → after ≡ before
   pub no_kind : most_refusal < status → out ≡ no_result
   pub buffer_stays : most_refusal < status → new ≡ old
