@@ -7,7 +7,7 @@ use Rattle.handles.specs.declared.calls.Call.{Call}
 use Rattle.handles.specs.Calls.{IsCpu, NamesMissingFrame, RefusesCall}
 use Rattle.handles.specs.Commands.{with_unread_answer}
 use Rattle.handles.specs.Known.{KnownLive}
-use Rattle.tempolemon_c.specs.Calls.{CallsInto, RefusesBoot}
+use Rattle.tempolemon_c.specs.Calls.{CallsInto, RefusesBehind}
 use Rattle.tempolemon_c.specs.Handles.{LiveBoot, OnBoot, live_boot}
 use Rattle.tempolemon_c.specs.Statuses.{bad_cpu, bad_frame, not_live}
 use Rattle.tempolemon_c.specs.Kinds.{no_result}
@@ -28,15 +28,15 @@ module _ (cpu : ℕ) (asked : Call) (buffer : List ℕ) where
   }
 
   -- nothing is done, and there is a boot
-  still : (is_missing : KnownLive → Type 0) (before after : Option LiveBoot) → RefusesBoot is_missing before after → after ≡ before
+  still : (is_missing : KnownLive → Type 0) (before after : Option LiveBoot) → RefusesBehind is_missing before after → after ≡ before
   still is_missing before after refuses =
       refuses.is ∙ (ap (λ (live : KnownLive). Some (live_boot refuses.frames refuses.stocks live)) refuses.done.stays ∙ sym refuses.was)
 
-  there : (is_missing : KnownLive → Type 0) (before after : Option LiveBoot) → RefusesBoot is_missing before after → before ≡ None → ⊥
+  there : (is_missing : KnownLive → Type 0) (before after : Option LiveBoot) → RefusesBehind is_missing before after → before ≡ None → ⊥
   there is_missing before after refuses none = none-some _ (sym none ∙ refuses.was)
 
   -- there is no such CPU
-  pub no_cpu_called : (before after : Option LiveBoot) → RefusesBoot (λ from. ¬ IsCpu from.sizes.cpus cpu) before after
+  pub no_cpu_called : (before after : Option LiveBoot) → RefusesBehind (λ from. ¬ IsCpu from.sizes.cpus cpu) before after
       → CallsInto cpu asked before after bad_cpu no_result buffer buffer
   no_cpu_called before after refuses = record {
     statuses = inr (1, omega arith, refl);
@@ -51,7 +51,7 @@ module _ (cpu : ℕ) (asked : Call) (buffer : List ℕ) where
   }
 
   -- there is no such frame
-  pub no_frame_called : (before after : Option LiveBoot) → RefusesBoot (λ from. NamesMissingFrame from.sizes.frames asked) before after
+  pub no_frame_called : (before after : Option LiveBoot) → RefusesBehind (λ from. NamesMissingFrame from.sizes.frames asked) before after
       → CallsInto cpu asked before after bad_frame no_result buffer buffer
   no_frame_called before after refuses = record {
     statuses = inr (2, omega arith, refl);

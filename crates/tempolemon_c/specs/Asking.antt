@@ -15,6 +15,6 @@ IsAsk (TakeUnread alloc) = Unit {0}
 IsAsk (End alloc) = ⊥
 
 -- the request was served with this answer
-abbrev pub AsksBoot : Request → (before after : Option LiveBoot) → RequestAnswer → Type 0
-AsksBoot request before after answer =
+abbrev pub AsksBehind : Request → (before after : Option LiveBoot) → RequestAnswer → Type 0
+AsksBehind request before after answer =
     OnBoot (λ frames stocks from to. Serves frames stocks (Some from) request (Some to) answer) before after

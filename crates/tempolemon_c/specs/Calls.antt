@@ -33,8 +33,8 @@ pub record AnswersCall (frames : KnownTable) (stock_table : KnownStockTable) (cp
   pub serves : ServesCommand frames stock_table cpu command from to answer
 
 -- the same of the boot behind a handle
-abbrev pub AnswersBoot : (cpu : ℕ) → Call → (before after : Option LiveBoot) → Answer → Type 0
-AnswersBoot cpu asked before after answer =
+abbrev pub AnswersBehind : (cpu : ℕ) → Call → (before after : Option LiveBoot) → Answer → Type 0
+AnswersBehind cpu asked before after answer =
     OnBoot (λ frames stock_table from to. AnswersCall frames stock_table cpu asked from to answer) before after
 
 -- the outcome isn't a text
@@ -82,17 +82,17 @@ abbrev pub HasFileBehind : (group : ℕ) → File → LiveBoot → Type 0
 HasFileBehind group file boot = HasFile group file boot.live
 
 -- the call was served: the status, the result, and what the buffer gets are those of its answer
-pub record ServesBoot (cpu : ℕ) (asked : Call) (before after : Option LiveBoot) (status : ℕ) (out : TypedResult)
+pub record ServesBehind (cpu : ℕ) (asked : Call) (before after : Option LiveBoot) (status : ℕ) (out : TypedResult)
     (old new : List ℕ) : Type 0 where
   pub answer : Answer
-  pub answers : AnswersBoot cpu asked before after answer
+  pub answers : AnswersBehind cpu asked before after answer
   pub status_is : status ≡ status_of answer
   pub out_is : out ≡ result_of answer
   pub buffer : PutsAnswer answer old new
 
 -- the call names what the boot doesn't have, and nothing is done
-abbrev pub RefusesBoot : (is_missing : KnownLive → Type 0) → (before after : Option LiveBoot) → Type 0
-RefusesBoot is_missing before after =
+abbrev pub RefusesBehind : (is_missing : KnownLive → Type 0) → (before after : Option LiveBoot) → Type 0
+RefusesBehind is_missing before after =
     OnBoot (λ frames stock_table from to. RefusesCall (is_missing from) from to) before after
 
 -- What a call with a buffer does, by its status. Up to the greatest number of a refusal it was served; above, nothing
@@ -101,18 +101,18 @@ pub record CallsInto (cpu : ℕ) (asked : Call) (before after : Option LiveBoot)
     (old new : List ℕ) : Type 0 where
   pub statuses : (status ≤ most_refusal) ⊎ IsNotServedStatus status
   pub none_live : (status ≡ not_live) ↔ (before ≡ None)
-  pub served : status ≤ most_refusal → ServesBoot cpu asked before after status out old new
-  pub no_cpu : status ≡ bad_cpu → RefusesBoot (λ from. ¬ IsCpu from.sizes.cpus cpu) before after
-  pub no_frame : status ≡ bad_frame → RefusesBoot (λ from. NamesMissingFrame from.sizes.frames asked) before after
+  pub served : status ≤ most_refusal → ServesBehind cpu asked before after status out old new
+  pub no_cpu : status ≡ bad_cpu → RefusesBehind (λ from. ¬ IsCpu from.sizes.cpus cpu) before after
+  pub no_frame : status ≡ bad_frame → RefusesBehind (λ from. NamesMissingFrame from.sizes.frames asked) before after
   pub no_group : status ≡ bad_group
-      → RefusesBoot (λ from. NamesMissingGroup from.state.locked.machine.ledger.groups asked) before after
+      → RefusesBehind (λ from. NamesMissingGroup from.state.locked.machine.ledger.groups asked) before after
   pub stays : most_refusal < status → after ≡ before
   pub no_kind : most_refusal < status → out ≡ no_result
   pub buffer_stays : most_refusal < status → new ≡ old
 
 -- what a call without a buffer does, by its status
-abbrev pub CallsBoot : (cpu : ℕ) → Call → (before after : Option LiveBoot) (status : ℕ) (out : TypedResult) → Type 0
-CallsBoot cpu asked before after status out = CallsInto cpu asked before after status out [] []
+abbrev pub CallsBehind : (cpu : ℕ) → Call → (before after : Option LiveBoot) (status : ℕ) (out : TypedResult) → Type 0
+CallsBehind cpu asked before after status out = CallsInto cpu asked before after status out [] []
 
 -- the call makes the group of this path
 abbrev pub IsMkdir : (path : List ℕ) → Call → Type 0
@@ -140,10 +140,10 @@ pub record CallsPath (is_asked : Call → Type 0) (cpu : ℕ) (before after : Op
     (out : TypedResult) : Type 0 where
   pub asked : Call
   pub is : is_asked asked
-  pub calls : CallsBoot cpu asked before after status out
+  pub calls : CallsBehind cpu asked before after status out
 
 -- a read with these texts was made, and the buffer gets the text
-pub record ReadsBoot (is_asked : Call → Type 0) (cpu : ℕ) (before after : Option LiveBoot) (status : ℕ)
+pub record ReadsBehind (is_asked : Call → Type 0) (cpu : ℕ) (before after : Option LiveBoot) (status : ℕ)
     (out : TypedResult) (old new : List ℕ) : Type 0 where
   pub asked : Call
   pub is : is_asked asked
@@ -162,5 +162,5 @@ pub record IsTooSmall (before after : Option LiveBoot) (status : ℕ) (out : Typ
 abbrev pub Reads : (path file : List ℕ) (cpu : ℕ) (before after : Option LiveBoot) (status : ℕ) (out : TypedResult)
     (old new : List ℕ) → Type 0
 Reads path file cpu before after status out old new =
-    ReadsBoot (IsRead path file) cpu before after status out old new
+    ReadsBehind (IsRead path file) cpu before after status out old new
     ⊎ IsTooSmall before after status out old new

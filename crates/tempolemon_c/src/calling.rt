@@ -4,7 +4,7 @@ ghost use Rattle.std.specs.Prelude.{◌≡◌, IfSome, IsSomeAnd};
 ghost use Rattle.mem_system.specs.declared.outcome.Outcome.TheVariants.{Text};
 ghost use Rattle.script_replay.specs.declared.answer_value.AnswerValue.TheVariants.{Served};
 ghost use Rattle.tempolemon_c.specs.Behind.{behind};
-ghost use Rattle.tempolemon_c.specs.Calls.{CallsBoot, CallsInto, HasFileBehind, HasGroupsBehind, ReturnsValue};
+ghost use Rattle.tempolemon_c.specs.Calls.{CallsBehind, CallsInto, HasFileBehind, HasGroupsBehind, ReturnsValue};
 
 use crate::buffers::put_answers;
 use crate::handle::Handle;
@@ -29,7 +29,7 @@ pub(crate) fn serve_call(
     call: &Call<'_>,
     out: &mut TypedResult,
 ) -> u8
-    ensures { CallsBoot cpu call.now (behind handle.old) (behind handle.new) result out.new }
+    ensures { CallsBehind cpu call.now (behind handle.old) (behind handle.new) result out.new }
 {
     serve_into(alloc, handle, cpu, call, &mut [], out)
 }

@@ -3,7 +3,7 @@
 ghost use Rattle.handles.specs.declared.calls.Call.TheVariants.{Alloc, AtFrame, Settle};
 ghost use Rattle.handles.specs.declared.calls.FrameCall.TheVariants as at;
 ghost use Rattle.tempolemon_c.specs.Behind.{behind};
-ghost use Rattle.tempolemon_c.specs.Calls.{CallsBoot};
+ghost use Rattle.tempolemon_c.specs.Calls.{CallsBehind};
 
 use crate::calling::serve_call;
 use crate::handle::Handle;
@@ -21,7 +21,7 @@ pub extern "C" fn tempolemon_alloc(
     order: u32,
     out: &mut TypedResult,
 ) -> u8
-    ensures { CallsBoot cpu (Alloc group order) (behind handle.old) (behind handle.new) result out.new }
+    ensures { CallsBehind cpu (Alloc group order) (behind handle.old) (behind handle.new) result out.new }
 {
     serve_call(alloc, handle, cpu, &Call::Alloc { group, order }, out)
 }
@@ -35,7 +35,7 @@ pub extern "C" fn tempolemon_release(
     frame: u32,
     out: &mut TypedResult,
 ) -> u8
-    ensures { CallsBoot cpu (AtFrame frame at.Release) (behind handle.old) (behind handle.new) result out.new }
+    ensures { CallsBehind cpu (AtFrame frame at.Release) (behind handle.old) (behind handle.new) result out.new }
 {
     let what = FrameCall::Release;
     serve_call(alloc, handle, cpu, &Call::AtFrame { frame, what }, out)
@@ -50,7 +50,7 @@ pub extern "C" fn tempolemon_get(
     frame: u32,
     out: &mut TypedResult,
 ) -> u8
-    ensures { CallsBoot cpu (AtFrame frame at.Get) (behind handle.old) (behind handle.new) result out.new }
+    ensures { CallsBehind cpu (AtFrame frame at.Get) (behind handle.old) (behind handle.new) result out.new }
 {
     let what = FrameCall::Get;
     serve_call(alloc, handle, cpu, &Call::AtFrame { frame, what }, out)
@@ -65,7 +65,7 @@ pub extern "C" fn tempolemon_put(
     frame: u32,
     out: &mut TypedResult,
 ) -> u8
-    ensures { CallsBoot cpu (AtFrame frame at.Put) (behind handle.old) (behind handle.new) result out.new }
+    ensures { CallsBehind cpu (AtFrame frame at.Put) (behind handle.old) (behind handle.new) result out.new }
 {
     let what = FrameCall::Put;
     serve_call(alloc, handle, cpu, &Call::AtFrame { frame, what }, out)
@@ -80,7 +80,7 @@ pub extern "C" fn tempolemon_touch(
     frame: u32,
     out: &mut TypedResult,
 ) -> u8
-    ensures { CallsBoot cpu (AtFrame frame at.Touch) (behind handle.old) (behind handle.new) result out.new }
+    ensures { CallsBehind cpu (AtFrame frame at.Touch) (behind handle.old) (behind handle.new) result out.new }
 {
     let what = FrameCall::Touch;
     serve_call(alloc, handle, cpu, &Call::AtFrame { frame, what }, out)
@@ -95,7 +95,7 @@ pub extern "C" fn tempolemon_dirty(
     frame: u32,
     out: &mut TypedResult,
 ) -> u8
-    ensures { CallsBoot cpu (AtFrame frame at.Dirty) (behind handle.old) (behind handle.new) result out.new }
+    ensures { CallsBehind cpu (AtFrame frame at.Dirty) (behind handle.old) (behind handle.new) result out.new }
 {
     let what = FrameCall::Dirty;
     serve_call(alloc, handle, cpu, &Call::AtFrame { frame, what }, out)
@@ -110,7 +110,7 @@ pub extern "C" fn tempolemon_clean(
     frame: u32,
     out: &mut TypedResult,
 ) -> u8
-    ensures { CallsBoot cpu (AtFrame frame at.Clean) (behind handle.old) (behind handle.new) result out.new }
+    ensures { CallsBehind cpu (AtFrame frame at.Clean) (behind handle.old) (behind handle.new) result out.new }
 {
     let what = FrameCall::Clean;
     serve_call(alloc, handle, cpu, &Call::AtFrame { frame, what }, out)
@@ -125,7 +125,7 @@ pub extern "C" fn tempolemon_owner(
     frame: u32,
     out: &mut TypedResult,
 ) -> u8
-    ensures { CallsBoot cpu (AtFrame frame at.Owner) (behind handle.old) (behind handle.new) result out.new }
+    ensures { CallsBehind cpu (AtFrame frame at.Owner) (behind handle.old) (behind handle.new) result out.new }
 {
     let what = FrameCall::Owner;
     serve_call(alloc, handle, cpu, &Call::AtFrame { frame, what }, out)
@@ -139,7 +139,7 @@ pub extern "C" fn tempolemon_settle(
     cpu: u32,
     out: &mut TypedResult,
 ) -> u8
-    ensures { CallsBoot cpu Settle (behind handle.old) (behind handle.new) result out.new }
+    ensures { CallsBehind cpu Settle (behind handle.old) (behind handle.new) result out.new }
 {
     serve_call(alloc, handle, cpu, &Call::Settle, out)
 }
