@@ -51,8 +51,8 @@ IsNamed frames stock_table (TakeUnread alloc) = Unit {0}
 IsNamed frames stock_table (End alloc) = Unit {0}
 
 -- what may be asked under the name of these tables
-abbrev pub IsAsked : KnownTable → KnownStockTable → Option KnownLive → Request → Type 0
-IsAsked frames stock_table live request = IsFit live request × IsNamed frames stock_table request
+abbrev pub MayBeAsked : KnownTable → KnownStockTable → Option KnownLive → Request → Type 0
+MayBeAsked frames stock_table live request = IsFit live request × IsNamed frames stock_table request
 
 -- there is a boot before and after, and `does` leads from one to the other
 pub record OnLive (does : (from to : KnownLive) → Type 0) (before after : Option KnownLive) : Type 0 where

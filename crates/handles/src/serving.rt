@@ -2,7 +2,7 @@
 
 ghost use Rattle.std.specs.Prelude.{◌≡◌, IsSome, IsSomeAnd, None};
 ghost use Rattle.handles.specs.Calls.{Calls, HasFile, ShowsFile};
-ghost use Rattle.handles.specs.Serving.{IsAsked, OnLive, Serves};
+ghost use Rattle.handles.specs.Serving.{MayBeAsked, OnLive, Serves};
 ghost use Rattle.handles.specs.declared.requests.Request.TheVariants.{End, Lines, Start, StoreUnread, TakeUnread};
 
 use crate::calls::{Call, CallAnswer, FileText};
@@ -23,7 +23,7 @@ pub fn serve<N: BootName>(
     pointer: LivePointer<N>,
     request: Request,
 ) -> (LivePointer<N>, RequestAnswer)
-    requires asked { IsAsked N.frames N.stocks pointer.live request }
+    requires asked { MayBeAsked N.frames N.stocks pointer.live request }
     ensures serves { Serves N.frames N.stocks pointer.live request result.0.live result.1 }
 {
     match request {

@@ -7,12 +7,12 @@ use Rattle.handles.specs.Serving.{Serves}
 use Rattle.tempolemon_c.specs.Handles.{LiveBoot, OnBoot}
 
 -- the request neither starts nor ends a boot
-abbrev pub IsAsk : Request → Type 0
-IsAsk (Start alloc boot sizes) = ⊥
-IsAsk (Lines alloc text is_explained) = Unit {0}
-IsAsk (StoreUnread text) = Unit {0}
-IsAsk (TakeUnread alloc) = Unit {0}
-IsAsk (End alloc) = ⊥
+abbrev pub IsBetween : Request → Type 0
+IsBetween (Start alloc boot sizes) = ⊥
+IsBetween (Lines alloc text is_explained) = Unit {0}
+IsBetween (StoreUnread text) = Unit {0}
+IsBetween (TakeUnread alloc) = Unit {0}
+IsBetween (End alloc) = ⊥
 
 -- the request was served with this answer
 abbrev pub AsksBehind : Request → (before after : Option LiveBoot) → RequestAnswer → Type 0

@@ -4,7 +4,7 @@ ghost use Rattle.std.specs.Prelude.{◌≡◌, ◌↔◌, IsSome, IsSomeAnd, IsT
 ghost use Rattle.zone_sizes.specs.Config.{IsValidConfig};
 ghost use Rattle.handles.specs.Calls.{Calls, ShowsFile};
 ghost use Rattle.tempolemon_c.specs.Behind.{behind};
-ghost use Rattle.tempolemon_c.specs.Asking.{AsksBehind, IsAsk};
+ghost use Rattle.tempolemon_c.specs.Asking.{AsksBehind, IsBetween};
 ghost use Rattle.tempolemon_c.specs.Calls.{HasFileBehind};
 ghost use Rattle.tempolemon_c.specs.Handles.{BootsNew, EndsBoot, OnBoot};
 
@@ -45,7 +45,7 @@ impl Handle {
     /// Serves a request that neither starts nor ends a boot.
     pub(crate) fn ask(&mut self, alloc: Global, request: Request) -> RequestAnswer
         requires live { IsSome (behind self.old) }
-        requires ask { IsAsk request }
+        requires between { IsBetween request }
         ensures { AsksBehind request (behind self.old) (behind self.new) result }
     {
         let raw = std::mem::replace(&mut self.raw, Raw::none(alloc));

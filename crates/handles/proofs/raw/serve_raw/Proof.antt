@@ -48,7 +48,7 @@ use Rattle.core.specs.contracts.marker.Brand as Brand
 use Rattle.core.proofs.marker.Brand.TheLaws as brand_row
 use Rattle.handles.proofs.Moves.{word, ptr_typed, word_typed, both, and_tt, parts_out, parts_in, row_tells}
 use Rattle.handles.specs.Owned.{brand, marker, live_owns}
-use Rattle.handles.specs.Serving.{IsAsked, IsFit, IsNamed, Serves, frames_of, stocks_of}
+use Rattle.handles.specs.Serving.{IsFit, IsNamed, MayBeAsked, Serves, frames_of, stocks_of}
 use Rattle.handles.specs.Known.{KnownLive}
 use Rattle.handles.specs.declared.requests.Request.TheVariants.{Start, Lines, StoreUnread, TakeUnread, End}
 use Rattle.cpu_part.specs.declared.boot_name.BootName.{Ghosts}
@@ -150,7 +150,7 @@ module _ {M : Type 1} {𝓤 : Ura M} (𝓛 : Logic 𝓤) (at_mem : Memory → SP
       move ! (0 ∷ 3 ∷ []) $ parts_in (shape (LivePointer.the_type marker g)) ! hv p a F₁ $
       -- [the pointer; the token; the request]
       nothing ! $ move ! (3 ∷ 0 ∷ []) $ fjoin ! $ move ! (1 ∷ 0 ∷ []) $ fjoin ! $ nothing ! $ move ! (2 ∷ 0 ∷ []) $ join ! $ join ! $
-      use0 𝓛 (raw (fact 𝓤 (IsAsked g.frames g.stocks d.live q))) (fact_i 𝓤 (IsAsked g.frames g.stocks d.live q) (emp 𝓤) (fit, named d.frames d.stocks q)) $
+      use0 𝓛 (raw (fact 𝓤 (MayBeAsked g.frames g.stocks d.live q))) (fact_i 𝓤 (MayBeAsked g.frames g.stocks d.live q) (emp 𝓤) (fit, named d.frames d.stocks q)) $
       use0 𝓛 (raw (fact 𝓤 ((α ∷ []) ⊑ brand.lives))) (fact_i 𝓤 ((α ∷ []) ⊑ brand.lives) (emp 𝓤) (⊑_static (α ∷ []))) $ join ! $ move ! (1 ∷ 0 ∷ []) $ join ! $
       let y : (Served g).Ghost = (((α ∷ [], tt), (full_share, tt), tt, (from, (q, tt)), (word p hv ∷ [], (qv ∷ [], tt))), tt) in
       use1 𝓛 (raw ((Served g).pre y)) (id⊢ 𝓤 _) $
