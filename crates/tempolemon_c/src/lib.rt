@@ -11,15 +11,15 @@ ghost use Rattle.tempolemon_c.specs.Buffers.{FillsBuffer, ExceedsBuffer};
 ghost use Rattle.tempolemon_c.specs.Replays.{IsAnswered, config_of};
 ghost use Rattle.tempolemon_c.specs.Statuses.{IsReplayStatus, bad_config, bad_line, done, small_buffer};
 
+mod boots;
 mod buffers;
 mod calling;
 mod fault;
 mod frames;
 mod groups;
 mod handle;
-mod hosting;
+mod handle_calls;
 mod kinds;
-mod living;
 mod replaying;
 mod report;
 mod sizes;

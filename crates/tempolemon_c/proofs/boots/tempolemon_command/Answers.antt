@@ -1,7 +1,7 @@
 -- Serves the contract of `tempolemon_command`: each status is at its place in the list, and the answers are stored.
 use Rattle.std.proofs.Common.{refl, arith, rules}
 use Rattle.tempolemon_c.specs.Behind.{behind}
-use Rattle.tempolemon_c.proofs.living.tempolemon_command.Goals as goal
+use Rattle.tempolemon_c.proofs.boots.tempolemon_command.Goals as goal
 
 pub returns-else-put_answers-clause-statuses : goal.returns-else-put_answers-clause-statuses
 returns-else-put_answers-clause-statuses c = (3, omega arith, refl)
