@@ -74,8 +74,8 @@ abbrev pub TakesUnread : (before after : Option LiveBoot) (answer : List ℕ) �
 TakesUnread before after answer = OnBoot (λ frames stocks from to. TakesUnreadAnswer from to answer) before after
 
 -- the boot has this unread answer
-abbrev pub StoresUnread : (boot : Option LiveBoot) (answer : List ℕ) → Type 0
-StoresUnread boot answer = OnBoot (λ frames stocks from to. from.unread_answer ≡ answer) boot boot
+abbrev pub HasUnread : (boot : Option LiveBoot) (answer : List ℕ) → Type 0
+HasUnread boot answer = OnBoot (λ frames stocks from to. from.unread_answer ≡ answer) boot boot
 
 -- what a host reads of the end of a boot, as the boot told it
 abbrev pub ended_of : Report → BootEnd

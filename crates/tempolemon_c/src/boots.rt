@@ -4,8 +4,8 @@ ghost use Rattle.std.specs.Prelude.{◌≡◌, ◌≢◌, ◌↔◌, None};
 ghost use Rattle.zone_sizes.specs.Config.{IsValidConfig};
 ghost use Rattle.tempolemon_c.specs.Behind.{behind};
 ghost use Rattle.tempolemon_c.specs.Buffers.{ExceedsBuffer, FillsBuffer};
-ghost use Rattle.tempolemon_c.specs.Handles.{AnswersAndStoresUnread, AnswersLines, BootsNew, EndsBoot, LinesRunOut};
-ghost use Rattle.tempolemon_c.specs.Handles.{RefusesLines, StoresUnread, TakesUnread};
+ghost use Rattle.tempolemon_c.specs.Handles.{AnswersAndStoresUnread, AnswersLines, BootsNew, EndsBoot, HasUnread};
+ghost use Rattle.tempolemon_c.specs.Handles.{LinesRunOut, RefusesLines, TakesUnread};
 ghost use Rattle.tempolemon_c.specs.Replays.{config_of};
 ghost use Rattle.tempolemon_c.specs.Statuses.{IsAnswerStatus, IsBootStatus, IsEndStatus, IsLinesStatus};
 ghost use Rattle.tempolemon_c.specs.Statuses.{bad_config, bad_line, done, is_live, no_memory, not_live, small_buffer};
@@ -141,7 +141,7 @@ pub extern "C" fn tempolemon_answer(
     ensures fetched { result ≡ done → FillsBuffer
         (TakesUnread (behind handle.old) (behind handle.new)) answers.old answers.new written.new }
     ensures too_small { result ≡ small_buffer
-        → ExceedsBuffer (StoresUnread (behind handle.old)) answers.old written.new }
+        → ExceedsBuffer (HasUnread (behind handle.old)) answers.old written.new }
     ensures stays { result ≢ done → behind handle.new ≡ behind handle.old }
     ensures buffer_stays { result ≢ done → answers.new ≡ answers.old }
 {
