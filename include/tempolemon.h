@@ -127,7 +127,7 @@ typedef struct {
  *   NO_MEMORY   memory ran out
  *
  * Unless the status is DONE, the handle is unchanged and nothing of the boot stays. A boot takes all memory that it ever
- * needs, except for texts: each call that has a path, a script or an unread answer says so.
+ * needs, except for the lines of tempolemon_command and their answers.
  */
 uint8_t tempolemon_boot(const tempolemon_sizes *sizes, tempolemon_handle *handle);
 
