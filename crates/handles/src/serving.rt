@@ -69,7 +69,6 @@ pub fn show_file<N: BootName>(
     (LivePointer::of(Loose::of(live)), shown)
 }
 
-// Starts a boot.
 fn start<N: BootName>(
     pointer: LivePointer<N>,
     alloc: Global,
@@ -91,7 +90,6 @@ fn start<N: BootName>(
     }
 }
 
-// Serves the lines of a script.
 fn answer_lines<N: BootName>(
     pointer: LivePointer<N>,
     alloc: Global,
@@ -111,7 +109,6 @@ fn answer_lines<N: BootName>(
     }
 }
 
-// Stores an answer that waits for a buffer.
 fn store_unread<N: BootName>(
     pointer: LivePointer<N>,
     text: Vec<u8>,
@@ -124,7 +121,6 @@ fn store_unread<N: BootName>(
     (LivePointer::of(Loose::of(live)), RequestAnswer::Done)
 }
 
-// Returns the unread answer.
 fn take_unread<N: BootName>(
     pointer: LivePointer<N>,
     alloc: Global,
@@ -137,7 +133,6 @@ fn take_unread<N: BootName>(
     (LivePointer::of(Loose::of(live)), RequestAnswer::Text(text))
 }
 
-// Ends the boot.
 fn finish<N: BootName>(pointer: LivePointer<N>, alloc: Global) -> (LivePointer<N>, RequestAnswer)
     requires some { IsSome pointer.live }
     ensures serves { Serves N.frames N.stocks pointer.live (End alloc) result.0.live result.1 }

@@ -37,7 +37,6 @@ pub struct TypedAnswer {
     pub typed: TypedResult,
 }
 
-// This kind with a number.
 fn with_number(kind: u8, number: u64) -> TypedAnswer
     ensures status { result.status ≡ 0 }
     ensures typed { result.typed ≡ result_with kind number }
