@@ -14,7 +14,7 @@ use crate::boot_end::{BootEnd, end_boot};
 use crate::fault::ProgramFault;
 use crate::fault_lines::report_fault;
 use crate::program::write_answers;
-use crate::running::with_end;
+use crate::replaying::with_end;
 use cpu_part::BootName;
 use line_server::{ServeFault, Server};
 use load_options::task::Options;

@@ -9,7 +9,7 @@ ghost use Rattle.load_run.specs.Ending.{EndsAfter};
 ghost use Rattle.load_run.specs.Answers.{AreThreadAnswers, IsQuietSystem};
 
 use crate::boot_end::{BootEnd, end_boot};
-use crate::running::with_end;
+use crate::replaying::with_end;
 use cpu_part::{BootName, Cpu, Tables};
 use mem_system::{Boot, Locked, NoGate, System};
 use script_lines::line::Line;

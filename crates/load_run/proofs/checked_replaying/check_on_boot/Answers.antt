@@ -11,7 +11,7 @@ use Rattle.load_run.specs.Ending.{end_text}
 use Rattle.load_run.proofs.Answering.{at_ok}
 use Rattle.load_run.proofs.Starting.{boot_shown, new_watch, parts_tied, watched_first}
 use Rattle.load_run.proofs.Watched.{saw_more}
-use Rattle.load_run.proofs.checked_running.check_on_boot.Goals as goal
+use Rattle.load_run.proofs.checked_replaying.check_on_boot.Goals as goal
 
 pub check_and_end_boot-answers-requires-clause-lines : goal.check_and_end_boot-answers-requires-clause-lines
 check_and_end_boot-answers-requires-clause-lines g c =

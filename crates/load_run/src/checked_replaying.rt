@@ -11,7 +11,7 @@ ghost use Rattle.load_run.specs.Answers.{AreCheckedAnswers, checked_text};
 ghost use Rattle.load_run.specs.Ending.{EndsSeenAfter};
 
 use crate::boot_end::{BootEnd, CheckedSteps, end_seen_boot};
-use crate::running::with_end;
+use crate::replaying::with_end;
 use cpu_part::{BootName, Cpu, Tables};
 use mem_system::{Boot, Locked};
 use script_lines::line::Line;

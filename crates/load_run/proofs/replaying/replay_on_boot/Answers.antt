@@ -5,7 +5,7 @@ use Rattle.mem_history.proofs.Agreeing.{a_boot_agrees}
 use Rattle.load_run.specs.Ending.{end_text}
 use Rattle.load_run.proofs.Answering.{at_ok, weakened}
 use Rattle.load_run.proofs.Starting.{boot_shown, parts_tied}
-use Rattle.load_run.proofs.running.replay_on_boot.Goals as goal
+use Rattle.load_run.proofs.replaying.replay_on_boot.Goals as goal
 
 pub replay_and_end_boot-answers-requires-clause-lines : goal.replay_and_end_boot-answers-requires-clause-lines
 replay_and_end_boot-answers-requires-clause-lines g c =
