@@ -5,9 +5,9 @@ use Rattle.std.specs.Prelude.{◌⊎◌, ⊤, is_some}
 use Rattle.std.specs.Io.KnownBytes.{Appends}
 use Rattle.std.proofs.KnownBytes.{Appends-nil}
 use Rattle.step_rules.specs.declared.step.Answer.{Answer}
-use Rattle.log_check.specs.declared.end.LogVerdict.{LogVerdict}
-use Rattle.log_check.specs.declared.end.LogVerdict.TheVariants.{BadLine, Legal, NotLegal}
-use Rattle.log_check.specs.Ends.{IsLegalLog, IsLogVerdict, says_legal}
+use Rattle.log_check.specs.declared.verdict.LogVerdict.{LogVerdict}
+use Rattle.log_check.specs.declared.verdict.LogVerdict.TheVariants.{BadLine, Legal, NotLegal}
+use Rattle.log_check.specs.Verdicts.{IsLegalLog, IsLogVerdict, says_legal}
 use Rattle.log_check.specs.Texts.{verdict_text}
 use Rattle.load_options.specs.declared.fault.WordsFault.TheVariants as words
 use Rattle.load_options.specs.declared.task.Options.{Options}
@@ -32,10 +32,10 @@ use Rattle.load_run.proofs.SessionEnds.{drives_failed}
 use Rattle.load_run.proofs.Telling.{version_failed}
 
 -- both are known of the input
-pub end_of : (input : Option (List ℕ)) (end : LogVerdict) → IfSome input (λ text. IsLogVerdict text end)
+pub verdict_of : (input : Option (List ℕ)) (end : LogVerdict) → IfSome input (λ text. IsLogVerdict text end)
     → IfSome input (λ text. IsTrue (says_legal end) ↔ IsLegalLog text) → IsLogVerdictOf input end
-end_of None end is exact = tt
-end_of (Some text) end is exact = (is, exact)
+verdict_of None end is exact = tt
+verdict_of (Some text) end is exact = (is, exact)
 
 -- the log is legal, and that was written
 checks_legal : (input before after faults : Option (List ℕ)) (steps : ℕ) → IsLogVerdictOf input (Legal steps)
@@ -162,7 +162,7 @@ checks_unwritten input before after faults faults_after end fault status is left
   where
     begun : (bytes : Option (List ℕ)) → IsLogVerdictOf bytes end → AppendsBeginning before after (verdict_text end) → IfSome bytes (LeavesReport Output before after)
     begun None is begins = tt
-    begun (Some text) is begins = record { end = end; is = is.0; begun = begins }
+    begun (Some text) is begins = record { verdict = end; is = is.0; begun = begins }
 
     go : (f : ProgramFault) → LeavesLine (verdict_text end) before after f → status ≡ status_of f → AppendsBeginning faults faults_after (fault_text f)
         → Checks input (written before faults) (written after faults_after) status
