@@ -22,7 +22,7 @@ use Rattle.load_run.specs.declared.fault.ProgramFault.TheVariants as kinds
 use Rattle.load_run.specs.declared.boot_end.BootEnd.{BootEnd}
 use Rattle.load_run.specs.Starting.{IsNewBootState}
 use Rattle.load_run.specs.Causes.{written}
-use Rattle.load_run.specs.Ending.{EndsHeld, end_text}
+use Rattle.load_run.specs.Ending.{EndsHeld, boot_end_text}
 use Rattle.load_run.specs.Fault.{fault_text, status_of}
 use Rattle.load_run.specs.Sessions.{BeginsReport, DrivesSession, EndsSession, IsSameFault, IsWorkFault, LeavesSession, ServesInput, StopsSession}
 use Rattle.load_run.specs.Writing.{AppendsBeginning}
@@ -169,7 +169,7 @@ module _ (booted : Config) (options : Options) (is_explained : Bool) (t : KnownT
   -- it served a session, and ended
   pub session_ends : (input before middle : Option (List ℕ)) (end : SystemState) (ended : BootEnd)
       → ServesSession (terms t w is_explained) options.sizes input (system_state locked cpus) end before middle → EndsHeld t w end ended
-      → EndsSession options is_explained input before middle (end_text options.is_audited ended)
+      → EndsSession options is_explained input before middle (boot_end_text options.is_audited ended)
   session_ends input before middle end ended session ends = record {
     frames = t;
     stocks = w;

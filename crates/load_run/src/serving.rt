@@ -6,7 +6,7 @@ ghost use Rattle.std.specs.Io.KnownBytes.{Appends};
 ghost use Rattle.script_lines.specs.Verb.{IsNames};
 ghost use Rattle.load_options.specs.Sizes.{HasSizesInRange};
 ghost use Rattle.load_run.specs.Causes.{written};
-ghost use Rattle.load_run.specs.Ending.{end_text};
+ghost use Rattle.load_run.specs.Ending.{boot_end_text};
 ghost use Rattle.load_run.specs.Sessions.{BeginsReport, DrivesSession, LeavesSession, ServesInput, StopsSession};
 ghost use Rattle.load_run.specs.Sessions.{IsSameFault};
 
@@ -122,9 +122,9 @@ fn write_report<O: Write>(
     output: &mut O,
 ) -> Result<(), ProgramFault>
     ensures written { OnOk result (Appends (O.contents output.old) (O.contents output.new)
-        (end_text is_audited ended)) }
+        (boot_end_text is_audited ended)) }
     ensures begun { IfErr result (BeginsReport (O.contents output.old) (O.contents output.new)
-        (end_text is_audited ended)) }
+        (boot_end_text is_audited ended)) }
 {
     match with_end(alloc, Vec::new(alloc), ended, is_audited) {
         Ok(text) => write_answers(&text, output),
