@@ -24,7 +24,7 @@ use Rattle.load_run.specs.Starting.{IsNewBootState}
 use Rattle.load_run.specs.Causes.{written}
 use Rattle.load_run.specs.Ending.{EndsHeld, boot_end_text}
 use Rattle.load_run.specs.Fault.{fault_text, status_of}
-use Rattle.load_run.specs.Sessions.{BeginsReport, DrivesSession, EndsSession, IsSameFault, IsWorkFault, LeavesSession, ServesInput, StopsSession}
+use Rattle.load_run.specs.Sessions.{DrivesSession, EndsSession, IsSameFault, IsWorkFault, LeavesEnding, LeavesSession, ServesInput, StopsSession}
 use Rattle.load_run.specs.Writing.{AppendsBeginning}
 use Rattle.load_run.proofs.Starting.{boot_shown, parts_tied}
 
@@ -203,26 +203,26 @@ module _ (booted : Config) (options : Options) (is_explained : Bool) (t : KnownT
 
 -- ---- the end
 
--- the report was written
-pub report_written : {T : Type 0} (options : Options) (is_explained : Bool) (input before middle after : Option (List ℕ)) (ending : List ℕ)
+-- the text of the end was written
+pub ending_written : {T : Type 0} (options : Options) (is_explained : Bool) (input before middle after : Option (List ℕ)) (ending : List ℕ)
     (r : Result T ProgramFault) → EndsSession options is_explained input before middle ending → OnOk r (Appends middle after ending)
     → OnOk r (ServesInput options is_explained input before after)
-report_written options is_explained input before middle after ending (Ok x) ends is =
+ending_written options is_explained input before middle after ending (Ok x) ends is =
     record { middle = middle; ending = ending; ends = ends; written = is }
-report_written options is_explained input before middle after ending (Err fault) ends is = tt
+ending_written options is_explained input before middle after ending (Err fault) ends is = tt
 
 -- or not whole
-pub report_begun : {T : Type 0} (options : Options) (is_explained : Bool) (input before middle after : Option (List ℕ)) (ending : List ℕ)
-    (r : Result T ProgramFault) → EndsSession options is_explained input before middle ending → IfErr r (BeginsReport middle after ending)
+pub ending_begun : {T : Type 0} (options : Options) (is_explained : Bool) (input before middle after : Option (List ℕ)) (ending : List ℕ)
+    (r : Result T ProgramFault) → EndsSession options is_explained input before middle ending → IfErr r (LeavesEnding middle after ending)
     → IfErr r (LeavesSession options is_explained input before after)
-report_begun options is_explained input before middle after ending (Ok x) ends is = tt
-report_begun options is_explained input before middle after ending (Err fault) ends is = record {
+ending_begun options is_explained input before middle after ending (Ok x) ends is = tt
+ending_begun options is_explained input before middle after ending (Err fault) ends is = record {
   at_work = is.at_work;
   left = inr (inr (record { middle = middle; ending = ending; ends = ends; begun = is.begun }));
 }
 
--- the output took a beginning of the report
-pub report_unwritten : {T : Type 0} (r : Result T ProgramFault) (before after : Option (List ℕ)) (report : List ℕ) → IfErr r (λ fault. fault ≡ kinds.Output)
-    → AppendsBeginning before after report → IfErr r (BeginsReport before after report)
-report_unwritten (Ok x) before after report is begun = tt
-report_unwritten (Err fault) before after report is begun = record { at_work = subst IsWorkFault (sym is) tt; begun = begun }
+-- the output took a beginning of the text
+pub ending_unwritten : {T : Type 0} (r : Result T ProgramFault) (before after : Option (List ℕ)) (ending : List ℕ) → IfErr r (λ fault. fault ≡ kinds.Output)
+    → AppendsBeginning before after ending → IfErr r (LeavesEnding before after ending)
+ending_unwritten (Ok x) before after ending is begun = tt
+ending_unwritten (Err fault) before after ending is begun = record { at_work = subst IsWorkFault (sym is) tt; begun = begun }

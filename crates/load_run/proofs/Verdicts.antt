@@ -17,7 +17,7 @@ use Rattle.load_run.specs.declared.fault.ProgramFault.{ProgramFault}
 use Rattle.load_run.specs.declared.fault.ProgramFault.TheVariants.{BadConfig, BadLogLine, IllegalEnd, IllegalStep, Input, NoMemory, Output, Script, Words}
 use Rattle.load_run.specs.Answers.{IsOnScript}
 use Rattle.load_run.specs.Causes.{Written, written}
-use Rattle.load_run.specs.Checks.{Checks, FailsToCheck, IsLogVerdictOf, IsVerdict, LeavesLine, LeavesReport}
+use Rattle.load_run.specs.Checks.{Checks, FailsToCheck, IsLogVerdictOf, IsVerdict, LeavesLine, LeavesVerdict}
 use Rattle.load_run.specs.Checks.{ReportsBadLine, ReportsLegal, ReportsNotLegal}
 use Rattle.load_run.specs.Driving.{Drives, DrivesScript, DrivesTask, LintsAsked}
 use Rattle.load_run.specs.Lints.{Lints}
@@ -105,7 +105,7 @@ checks_bad_line input output faults faults_after line status is ended told = rec
 
 -- the check failed, and that was told
 checks_failed : (input before after faults faults_after : Option (List ℕ)) (fault : ProgramFault) (status : ℕ)
-    → IfSome input (LeavesReport fault before after) → status ≡ 1 → AppendsBeginning faults faults_after (fault_text fault)
+    → IfSome input (LeavesVerdict fault before after) → status ≡ 1 → AppendsBeginning faults faults_after (fault_text fault)
     → Checks input (written before faults) (written after faults_after) status
 checks_failed input before after faults faults_after fault status left ended told = record {
   status_at_most = omega (arith, ended);
@@ -116,7 +116,7 @@ checks_failed input before after faults faults_after fault status left ended tol
   bad_line = λ two. absurd (omega (arith, ended, two));
 }
   where
-    go : (bytes : Option (List ℕ)) → IfSome bytes (LeavesReport fault before after)
+    go : (bytes : Option (List ℕ)) → IfSome bytes (LeavesVerdict fault before after)
         → IfSome bytes (λ text. ReportsNotLegal (written before faults) (written after faults_after) text ⊎ FailsToCheck (written before faults) (written after faults_after) text)
     go None left = tt
     go (Some text) left = inr (record { fault = fault; left = left; told = told })
@@ -127,10 +127,10 @@ everywhere (Some text) P all = all text
 
 -- it failed before anything was written
 pub checks_early : (input output faults faults_after : Option (List ℕ)) (fault : ProgramFault) (status : ℕ)
-    → ((text : List ℕ) → LeavesReport fault output output text) → status ≡ 1 → AppendsBeginning faults faults_after (fault_text fault)
+    → ((text : List ℕ) → LeavesVerdict fault output output text) → status ≡ 1 → AppendsBeginning faults faults_after (fault_text fault)
     → Checks input (written output faults) (written output faults_after) status
 checks_early input output faults faults_after fault status left ended told =
-    checks_failed input output output faults faults_after fault status (everywhere input (LeavesReport fault output output) left) ended told
+    checks_failed input output output faults faults_after fault status (everywhere input (LeavesVerdict fault output output) left) ended told
 
 -- a fault that comes before anything is known of the log
 abbrev pub IsEarly : ProgramFault → Type 0
@@ -160,7 +160,7 @@ pub checks_unwritten : (input before after faults faults_after : Option (List �
     → Checks input (written before faults) (written after faults_after) status
 checks_unwritten input before after faults faults_after end fault status is left ended told = go fault left ended told
   where
-    begun : (bytes : Option (List ℕ)) → IsLogVerdictOf bytes end → AppendsBeginning before after (verdict_text end) → IfSome bytes (LeavesReport Output before after)
+    begun : (bytes : Option (List ℕ)) → IsLogVerdictOf bytes end → AppendsBeginning before after (verdict_text end) → IfSome bytes (LeavesVerdict Output before after)
     begun None is begins = tt
     begun (Some text) is begins = record { verdict = end; is = is.0; begun = begins }
 
@@ -168,7 +168,7 @@ checks_unwritten input before after faults faults_after end fault status is left
         → Checks input (written before faults) (written after faults_after) status
     go Output left ended told = checks_failed input before after faults faults_after Output status (begun input is left) ended told
     go (NoMemory e) left ended told =
-        checks_failed input before after faults faults_after (NoMemory e) status (everywhere input (LeavesReport (NoMemory e) before after) (λ text. left)) ended told
+        checks_failed input before after faults faults_after (NoMemory e) status (everywhere input (LeavesVerdict (NoMemory e) before after) (λ text. left)) ended told
     go (Words f) left ended told = absurd left
     go (Script f) left ended told = absurd left
     go (BadLogLine n) left ended told = absurd left

@@ -47,17 +47,17 @@ pub record BeginsVerdict (before after : Option (List ℕ)) (text : List ℕ) : 
 
 -- what a check leaves in the output after a fault of its own: a beginning of its line if the output failed, else
 -- nothing; no other fault is one of a check
-abbrev pub LeavesReport : ProgramFault → (before after : Option (List ℕ)) (text : List ℕ) → Type 0
-LeavesReport (Words (words.NoMemory error)) before after text = after ≡ before
-LeavesReport Input before after text = after ≡ before
-LeavesReport Output before after text = BeginsVerdict before after text
-LeavesReport (NoMemory error) before after text = after ≡ before
-LeavesReport fault before after text = ⊥
+abbrev pub LeavesVerdict : ProgramFault → (before after : Option (List ℕ)) (text : List ℕ) → Type 0
+LeavesVerdict (Words (words.NoMemory error)) before after text = after ≡ before
+LeavesVerdict Input before after text = after ≡ before
+LeavesVerdict Output before after text = BeginsVerdict before after text
+LeavesVerdict (NoMemory error) before after text = after ≡ before
+LeavesVerdict fault before after text = ⊥
 
 -- the check failed at its work; the fault writer got why, as far as it took it
 pub record FailsToCheck (before after : Written) (text : List ℕ) : Type 0 where
   pub fault : ProgramFault
-  pub left : LeavesReport fault before.output after.output text
+  pub left : LeavesVerdict fault before.output after.output text
   pub told : AppendsBeginning before.faults after.faults (fault_text fault)
 
 -- A log was checked, and the program ended with 0, 1 or 2. With 0 the log is a legal run, and no fault is reported;

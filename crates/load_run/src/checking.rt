@@ -82,7 +82,8 @@ fn write_verdict_line<O: Write>(
     output: &mut O,
 ) -> Result<(), ProgramFault>
     ensures written { OnOk result (Appends (O.contents output.old) (O.contents output.new) (verdict_text verdict.now)) }
-    ensures left { IfErr result (LeavesLine (verdict_text verdict.now) (O.contents output.old) (O.contents output.new)) }
+    ensures left { IfErr result
+        (LeavesLine (verdict_text verdict.now) (O.contents output.old) (O.contents output.new)) }
 {
     let mut text = Vec::new(alloc);
     match write_verdict(verdict, &mut text) {

@@ -7,7 +7,7 @@ ghost use Rattle.script_lines.specs.Verb.{IsNames};
 ghost use Rattle.load_options.specs.Sizes.{HasSizesInRange};
 ghost use Rattle.load_run.specs.Causes.{written};
 ghost use Rattle.load_run.specs.Ending.{boot_end_text};
-ghost use Rattle.load_run.specs.Sessions.{BeginsReport, DrivesSession, LeavesSession, ServesInput, StopsSession};
+ghost use Rattle.load_run.specs.Sessions.{DrivesSession, LeavesEnding, LeavesSession, ServesInput, StopsSession};
 ghost use Rattle.load_run.specs.Sessions.{IsSameFault};
 
 use crate::boot_end::{BootEnd, end_boot};
@@ -109,13 +109,13 @@ fn serve_on_boot<N: BootName, I: Read, O: Write>(
     let (locked, tables, cpus) = server.into_parts();
     let ended = end_boot(locked, tables, cpus);
     match served {
-        Ok(()) => write_report(alloc, ended, options.is_audited, output),
+        Ok(()) => write_ending(alloc, ended, options.is_audited, output),
         Err(fault) => Err(fault_of(fault)),
     }
 }
 
-// Writes the report of the end, if that is asked for.
-fn write_report<O: Write>(
+// Writes the text of the end, if that is asked for.
+fn write_ending<O: Write>(
     alloc: Global,
     ended: BootEnd,
     is_audited: bool,
@@ -123,7 +123,7 @@ fn write_report<O: Write>(
 ) -> Result<(), ProgramFault>
     ensures written { OnOk result (Appends (O.contents output.old) (O.contents output.new)
         (boot_end_text is_audited ended)) }
-    ensures begun { IfErr result (BeginsReport (O.contents output.old) (O.contents output.new)
+    ensures begun { IfErr result (LeavesEnding (O.contents output.old) (O.contents output.new)
         (boot_end_text is_audited ended)) }
 {
     match with_end(alloc, Vec::new(alloc), ended, is_audited) {
