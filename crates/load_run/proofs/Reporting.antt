@@ -5,7 +5,7 @@ use Rattle.std.specs.Io.KnownBytes.{Appends}
 use Rattle.zone_sizes.specs.declared.config.Config.{Config}
 use Rattle.load_options.specs.declared.fault.WordsFault.TheVariants as words
 use Rattle.load_run.specs.declared.fault.ProgramFault.{ProgramFault}
-use Rattle.load_run.specs.declared.fault.ProgramFault.TheVariants.{BadConfig, BadLogLine, IllegalEnd, IllegalStep, Input, NoMemory, Output, Script, Words}
+use Rattle.load_run.specs.declared.fault.ProgramFault.TheVariants.{BadConfig, BadLogLine, IllegalEnd, IllegalLine, Input, NoMemory, Output, Script, Words}
 use Rattle.load_run.specs.Answers.{bytes_read}
 use Rattle.load_run.specs.Causes.{written}
 use Rattle.load_run.specs.Fault.{fault_text, status_of}
@@ -106,6 +106,6 @@ lints_early sizes input output faults faults_after (Words (words.BadWords text))
 lints_early sizes input output faults faults_after (Script f) status early ended told = absurd early
 lints_early sizes input output faults faults_after (BadLogLine n) status early ended told = absurd early
 lints_early sizes input output faults faults_after BadConfig status early ended told = absurd early
-lints_early sizes input output faults faults_after (IllegalStep n) status early ended told = absurd early
+lints_early sizes input output faults faults_after (IllegalLine n) status early ended told = absurd early
 lints_early sizes input output faults faults_after IllegalEnd status early ended told = absurd early
 lints_early sizes input output faults faults_after Output status early ended told = absurd early

@@ -38,7 +38,7 @@ work_status (kinds.Words (words.BadWords text)) is = absurd is
 work_status (kinds.Script f) is = absurd is
 work_status (kinds.BadLogLine n) is = absurd is
 work_status kinds.BadConfig is = absurd is
-work_status (kinds.IllegalStep n) is = absurd is
+work_status (kinds.IllegalLine n) is = absurd is
 work_status kinds.IllegalEnd is = absurd is
 
 -- a fault of a session is one at work
@@ -73,9 +73,9 @@ same_at_work why kinds.BadConfig is = absurd (none why is)
     none serve.Input is = is
     none serve.Output is = is
     none serve.NoMemory is = is
-same_at_work why (kinds.IllegalStep n) is = absurd (none why is)
+same_at_work why (kinds.IllegalLine n) is = absurd (none why is)
   where
-    none : (why : ServeFault) → IsSameFault why (kinds.IllegalStep n) → ⊥
+    none : (why : ServeFault) → IsSameFault why (kinds.IllegalLine n) → ⊥
     none serve.Input is = is
     none serve.Output is = is
     none serve.NoMemory is = is

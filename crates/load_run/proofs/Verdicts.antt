@@ -14,7 +14,7 @@ use Rattle.load_options.specs.declared.task.Options.{Options}
 use Rattle.load_options.specs.declared.task.Task.{Task}
 use Rattle.load_options.specs.declared.task.Task.TheVariants.{Check, Lint, Replay, Run, Serve, Steps, Trace, Version}
 use Rattle.load_run.specs.declared.fault.ProgramFault.{ProgramFault}
-use Rattle.load_run.specs.declared.fault.ProgramFault.TheVariants.{BadConfig, BadLogLine, IllegalEnd, IllegalStep, Input, NoMemory, Output, Script, Words}
+use Rattle.load_run.specs.declared.fault.ProgramFault.TheVariants.{BadConfig, BadLogLine, IllegalEnd, IllegalLine, Input, NoMemory, Output, Script, Words}
 use Rattle.load_run.specs.Answers.{IsOnScript}
 use Rattle.load_run.specs.Causes.{Written, written}
 use Rattle.load_run.specs.Checks.{Checks, FailsToCheck, IsLogVerdictOf, IsVerdict, LeavesLine, LeavesVerdict}
@@ -150,7 +150,7 @@ checks_fault input output faults faults_after (Words f) status is ended told = a
 checks_fault input output faults faults_after (Script f) status is ended told = absurd is
 checks_fault input output faults faults_after (BadLogLine n) status is ended told = absurd is
 checks_fault input output faults faults_after BadConfig status is ended told = absurd is
-checks_fault input output faults faults_after (IllegalStep n) status is ended told = absurd is
+checks_fault input output faults faults_after (IllegalLine n) status is ended told = absurd is
 checks_fault input output faults faults_after IllegalEnd status is ended told = absurd is
 checks_fault input output faults faults_after Output status is ended told = absurd is
 
@@ -173,7 +173,7 @@ checks_unwritten input before after faults faults_after end fault status is left
     go (Script f) left ended told = absurd left
     go (BadLogLine n) left ended told = absurd left
     go BadConfig left ended told = absurd left
-    go (IllegalStep n) left ended told = absurd left
+    go (IllegalLine n) left ended told = absurd left
     go IllegalEnd left ended told = absurd left
     go Input left ended told = absurd left
 
@@ -194,7 +194,7 @@ drives_words (Some options) input output faults faults_after fault status is end
     for_check (Script f) is ended told = absurd is
     for_check (BadLogLine n) is ended told = absurd is
     for_check BadConfig is ended told = absurd is
-    for_check (IllegalStep n) is ended told = absurd is
+    for_check (IllegalLine n) is ended told = absurd is
     for_check IllegalEnd is ended told = absurd is
     for_check Input is ended told = absurd is
     for_check Output is ended told = absurd is
@@ -208,7 +208,7 @@ drives_words (Some options) input output faults faults_after fault status is end
     for_lint (Script f) is ended told = absurd is
     for_lint (BadLogLine n) is ended told = absurd is
     for_lint BadConfig is ended told = absurd is
-    for_lint (IllegalStep n) is ended told = absurd is
+    for_lint (IllegalLine n) is ended told = absurd is
     for_lint IllegalEnd is ended told = absurd is
     for_lint Input is ended told = absurd is
     for_lint Output is ended told = absurd is
@@ -222,7 +222,7 @@ drives_words (Some options) input output faults faults_after fault status is end
     for_version (Script f) is ended told = absurd is
     for_version (BadLogLine n) is ended told = absurd is
     for_version BadConfig is ended told = absurd is
-    for_version (IllegalStep n) is ended told = absurd is
+    for_version (IllegalLine n) is ended told = absurd is
     for_version IllegalEnd is ended told = absurd is
     for_version Input is ended told = absurd is
     for_version Output is ended told = absurd is
@@ -238,7 +238,7 @@ drives_words (Some options) input output faults faults_after fault status is end
     for_serve is_explained (Script f) is ended told = absurd is
     for_serve is_explained (BadLogLine n) is ended told = absurd is
     for_serve is_explained BadConfig is ended told = absurd is
-    for_serve is_explained (IllegalStep n) is ended told = absurd is
+    for_serve is_explained (IllegalLine n) is ended told = absurd is
     for_serve is_explained IllegalEnd is ended told = absurd is
     for_serve is_explained Input is ended told = absurd is
     for_serve is_explained Output is ended told = absurd is

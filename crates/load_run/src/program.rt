@@ -281,7 +281,7 @@ fn check_answers<N: BootName>(
     match check_on_boot::<N>(alloc, boot, sizes, lines, form, is_audited) {
         Ok(answers) => Ok(answers),
         Err(CheckFault::NoMemory(error)) => Err(ProgramFault::NoMemory(error)),
-        Err(CheckFault::IllegalLine(line)) => Err(ProgramFault::IllegalStep(line)),
+        Err(CheckFault::IllegalLine(line)) => Err(ProgramFault::IllegalLine(line)),
         Err(CheckFault::IllegalEnd) => Err(ProgramFault::IllegalEnd),
     }
 }
