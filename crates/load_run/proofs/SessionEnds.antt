@@ -179,7 +179,7 @@ module _ (booted : Config) (options : Options) (is_explained : Bool) (t : KnownT
     session = session;
     history = session.holds.replays.history [] (boot_shown booted t w locked.machine cpus sized machine first)
         (parts_tied booted t w locked.machine cpus sized machine first);
-    told = a_boot_agrees t w locked.machine machine;
+    agrees = a_boot_agrees t w locked.machine machine;
     ends = record { ended = ended; ends = ends; text_is = refl };
   }
 

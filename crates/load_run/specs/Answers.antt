@@ -48,7 +48,7 @@ pub record AreReplayAnswers (sizes : Config) (form : Form) (is_audited : Bool) (
   pub first : IsNewBootState sizes frames stocks start
   pub served : ServesAll (form_terms frames stocks form) lines start end answers
   pub history : HasHistory (form_terms frames stocks form) lines (past [] start) end answers
-  pub told : AgreesWithRun frames [] start.locked.machine.ledger
+  pub agrees : AgreesWithRun frames [] start.locked.machine.ledger
   pub ends : WritesEnd frames stocks is_audited end ending
   pub text_is : text ≡ answers ++ ending
 

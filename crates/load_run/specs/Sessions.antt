@@ -35,7 +35,7 @@ pub record EndsSession (options : Options) (is_explained : Bool) (input before m
   pub session : ServesSession (terms frames stocks is_explained) options.sizes input start end before middle
   pub history : HasHistory (terms frames stocks is_explained) (lines_of session.turns) (past [] start) end
       (answers_of session.turns)
-  pub told : AgreesWithRun frames [] start.locked.machine.ledger
+  pub agrees : AgreesWithRun frames [] start.locked.machine.ledger
   pub ends : WritesEnd frames stocks options.is_audited end ending
 
 -- a session ended, and all of the text of its end was written behind its answers

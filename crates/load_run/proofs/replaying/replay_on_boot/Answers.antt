@@ -39,7 +39,7 @@ returns g c =
         history = replays.history [] (boot_shown c.args.boot.sizes t w c.in_ok-locked.locked.machine c.in_ok-locked.cpus.items sized
             c.in_ok-locked.ensures.machine first) (parts_tied c.args.boot.sizes t w c.in_ok-locked.locked.machine c.in_ok-locked.cpus.items sized
             c.in_ok-locked.ensures.machine first);
-        told = a_boot_agrees t w c.in_ok-locked.locked.machine c.in_ok-locked.ensures.machine;
+        agrees = a_boot_agrees t w c.in_ok-locked.locked.machine c.in_ok-locked.ensures.machine;
         ends = record { ended = told; ends = ended.ends; text_is = refl };
         text_is = is;
       }) c.with_end.ensures.told;
