@@ -139,7 +139,7 @@ AreAnswers (Serve is_explained) sizes is_audited is_numbered script lines text =
 AreAnswers Version sizes is_audited is_numbered script lines text = ⊥
 
 -- These options are asked for, a boot takes their sizes, and the input is a script for them. The text is what a boot of
--- these sizes answers to the script for the task of the options. It ends with a report of the end, if they ask for one.
+-- these sizes answers to the script for the task of the options. It ends with the text of the end, if they ask for it.
 pub record IsAnswered (asked : Option Options) (text input : List ℕ) : Type 0 where
   pub options : Options
   pub is_asked : asked ≡ Some options

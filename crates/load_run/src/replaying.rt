@@ -16,7 +16,7 @@ use script_replay::{Form, replay};
 use std::alloc::{AllocError, Global};
 
 /// Replays the lines on a boot under a name of its tables, and ends it. It returns what they are answered in this
-/// form, and the report of the end if that is asked for. `AllocError` means that memory ran out: a boot
+/// form, and the text of the end if that is asked for. `AllocError` means that memory ran out: a boot
 /// that began has ended then too.
 pub fn replay_on_boot<N: BootName>(
     alloc: Global,
@@ -54,7 +54,7 @@ fn replay_and_end_boot<N: BootName>(
     (answers, ended)
 }
 
-/// The answers, and after them the report of the end if that is asked for. `AllocError` means that memory ran out.
+/// The answers, and after them the text of the end if that is asked for. `AllocError` means that memory ran out.
 pub fn with_end(
     alloc: Global,
     mut answers: Vec<u8>,
