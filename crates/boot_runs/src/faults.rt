@@ -192,7 +192,7 @@ fn each_fault_is_printed_as_it_is_displayed(rt: HostRuntime) {
         ProgramFault::Script(ScriptFault::BadLine(65_537)),
         ProgramFault::Script(ScriptFault::NoMemory),
         ProgramFault::BadConfig,
-        ProgramFault::IllegalStep(17),
+        ProgramFault::IllegalLine(17),
         ProgramFault::Input,
         ProgramFault::Output,
         ProgramFault::NoMemory(AllocError),

@@ -10,7 +10,7 @@ use Rattle.zone_sizes.specs.Config.{IsValidConfig}
 use Rattle.load_options.specs.declared.task.Options.{Options}
 use Rattle.load_options.specs.declared.task.Task.{Task}
 use Rattle.load_run.specs.declared.fault.ProgramFault.{ProgramFault}
-use Rattle.load_run.specs.declared.fault.ProgramFault.TheVariants.{Words, Script, BadLogLine, BadConfig, IllegalStep, IllegalEnd, Input, Output, NoMemory}
+use Rattle.load_run.specs.declared.fault.ProgramFault.TheVariants.{Words, Script, BadLogLine, BadConfig, IllegalLine, IllegalEnd, Input, Output, NoMemory}
 use Rattle.load_run.specs.Answers.{IsAnswered, bytes_read}
 use Rattle.load_run.specs.Causes.{FailsAtWork, HasCause, IsMisused, LeavesAnswers, written}
 use Rattle.load_run.specs.Fault.{IsBootFault, IsFailedTask, IsReadFault, IsScriptFault, IsWordsFault, fault_text, status_of}
@@ -30,7 +30,7 @@ words_cause asked (Some bytes) (Words fault) is = is
 words_cause asked (Some bytes) (Script fault) is = absurd is
 words_cause asked (Some bytes) (BadLogLine number) is = absurd is
 words_cause asked (Some bytes) BadConfig is = absurd is
-words_cause asked (Some bytes) (IllegalStep number) is = absurd is
+words_cause asked (Some bytes) (IllegalLine number) is = absurd is
 words_cause asked (Some bytes) IllegalEnd is = absurd is
 words_cause asked (Some bytes) Input is = absurd is
 words_cause asked (Some bytes) Output is = absurd is
@@ -44,7 +44,7 @@ read_cause asked options (Some bytes) (Words fault) is_asked is = absurd is
 read_cause asked options (Some bytes) (Script fault) is_asked is = absurd is
 read_cause asked options (Some bytes) (BadLogLine number) is_asked is = absurd is
 read_cause asked options (Some bytes) BadConfig is_asked is = absurd is
-read_cause asked options (Some bytes) (IllegalStep number) is_asked is = absurd is
+read_cause asked options (Some bytes) (IllegalLine number) is_asked is = absurd is
 read_cause asked options (Some bytes) IllegalEnd is_asked is = absurd is
 read_cause asked options (Some bytes) Input is_asked is = subst IsSome (sym is_asked) refl
 read_cause asked options (Some bytes) Output is_asked is = absurd is
@@ -65,7 +65,7 @@ script_cause asked options (Some bytes) text (Script (script.BadLine n)) is_aske
 script_cause asked options (Some bytes) text (Script script.NoMemory) is_asked in_range read is = subst IsSome (sym is_asked) refl
 script_cause asked options (Some bytes) text (BadLogLine number) is_asked in_range read is = absurd is
 script_cause asked options (Some bytes) text BadConfig is_asked in_range read is = absurd is
-script_cause asked options (Some bytes) text (IllegalStep number) is_asked in_range read is = absurd is
+script_cause asked options (Some bytes) text (IllegalLine number) is_asked in_range read is = absurd is
 script_cause asked options (Some bytes) text IllegalEnd is_asked in_range read is = absurd is
 script_cause asked options (Some bytes) text Input is_asked in_range read is = absurd is
 script_cause asked options (Some bytes) text Output is_asked in_range read is = absurd is
@@ -93,7 +93,7 @@ boot_cause asked options (Some bytes) text lines BadConfig is_asked read script 
         let len : length text ≡ length (take 1048577 bytes) = ap length read in
         let taken = length-take 1048577 bytes in
         take_all 1048577 bytes (omega arith)
-boot_cause asked options (Some bytes) text lines (IllegalStep number) is_asked read script is = record { options = options; is_asked = is_asked; checks = is.0 }
+boot_cause asked options (Some bytes) text lines (IllegalLine number) is_asked read script is = record { options = options; is_asked = is_asked; checks = is.0 }
 boot_cause asked options (Some bytes) text lines IllegalEnd is_asked read script is = record { options = options; is_asked = is_asked; checks = is.0 }
 boot_cause asked options (Some bytes) text lines Input is_asked read script is = absurd is.0
 boot_cause asked options (Some bytes) text lines Output is_asked read script is = absurd is.0
@@ -105,7 +105,7 @@ failed_boot task sizes (Words f) valid is = (is, valid)
 failed_boot task sizes (Script f) valid is = (is, valid)
 failed_boot task sizes (BadLogLine n) valid is = (is, valid)
 failed_boot task sizes BadConfig valid is = absurd is
-failed_boot task sizes (IllegalStep n) valid is = (is, valid)
+failed_boot task sizes (IllegalLine n) valid is = (is, valid)
 failed_boot task sizes IllegalEnd valid is = (is, valid)
 failed_boot task sizes Input valid is = (is, valid)
 failed_boot task sizes Output valid is = (is, valid)
@@ -125,7 +125,7 @@ nothing_left asked input (Words fault) output cause = Keeps-refl output
 nothing_left asked input (Script fault) output cause = Keeps-refl output
 nothing_left asked input (BadLogLine number) output cause = absurd cause
 nothing_left asked input BadConfig output cause = Keeps-refl output
-nothing_left asked input (IllegalStep number) output cause = Keeps-refl output
+nothing_left asked input (IllegalLine number) output cause = Keeps-refl output
 nothing_left asked input IllegalEnd output cause = Keeps-refl output
 nothing_left asked input Input output cause = Keeps-refl output
 nothing_left asked input Output output cause = record { text = cause.text; answered = cause.answered; begun = (0, Appends-nil output) }

@@ -7,7 +7,7 @@ use Rattle.script_lines.specs.declared.fault.ScriptFault.TheVariants as script
 use Rattle.load_options.specs.declared.fault.WordsFault.TheVariants as words
 use Rattle.load_options.specs.declared.task.Options.{Options}
 use Rattle.load_run.specs.declared.fault.ProgramFault.{ProgramFault}
-use Rattle.load_run.specs.declared.fault.ProgramFault.TheVariants.{Words, Script, BadLogLine, BadConfig, IllegalStep, IllegalEnd, Input, Output, NoMemory}
+use Rattle.load_run.specs.declared.fault.ProgramFault.TheVariants.{Words, Script, BadLogLine, BadConfig, IllegalLine, IllegalEnd, Input, Output, NoMemory}
 use Rattle.load_run.specs.Answers.{IsAnswered, IsWritten}
 use Rattle.load_run.specs.Causes.{HasCause, written}
 use Rattle.load_run.specs.Driving.{DrivesScript, IsAnsweredStatus}
@@ -25,7 +25,7 @@ status_low (Script (script.BadLine number)) = omega arith
 status_low (Script script.NoMemory) = omega arith
 status_low (BadLogLine number) = omega arith
 status_low BadConfig = omega arith
-status_low (IllegalStep number) = omega arith
+status_low (IllegalLine number) = omega arith
 status_low IllegalEnd = omega arith
 status_low Input = omega arith
 status_low Output = omega arith
@@ -38,7 +38,7 @@ status_high (Script (script.BadLine number)) = omega arith
 status_high (Script script.NoMemory) = omega arith
 status_high (BadLogLine number) = omega arith
 status_high BadConfig = omega arith
-status_high (IllegalStep number) = omega arith
+status_high (IllegalLine number) = omega arith
 status_high IllegalEnd = omega arith
 status_high Input = omega arith
 status_high Output = omega arith

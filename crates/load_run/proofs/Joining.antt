@@ -14,7 +14,7 @@ use Rattle.script_threads.specs.Each.{AreAllAnswers, workers_from}
 use Rattle.script_threads.specs.Runs.{lines_before_go}
 use Rattle.load_run.specs.declared.boot_end.BootEnd.{BootEnd}
 use Rattle.load_run.specs.Answers.{IsNewBootState}
-use Rattle.load_run.specs.Ending.{EndsAfter, end_text}
+use Rattle.load_run.specs.Ending.{EndsAfter, boot_end_text}
 use Rattle.load_run.specs.Answers.{AreThreadAnswers, IsQuietSystem}
 
 -- all lines name what is there, also as the tables and the parts say it
@@ -44,7 +44,7 @@ pub are_answers : (sizes : Config) (is_numbered is_audited : Bool) (t : KnownTab
     → ServesAll (numbered_terms t w false is_numbered) first_lines start at_go early → HasHistory (numbered_terms t w false is_numbered) first_lines (past [] start) at_go early
     → AreAllAnswers (boot_tables t w) (workers_from 1 at_go.cpus other_lines is_numbered) later
     → EndsAfter t w (IsQuietSystem t w) told
-    → text ≡ (early ++ later) ++ end_text is_audited told → AreThreadAnswers sizes is_numbered is_audited lines text
+    → text ≡ (early ++ later) ++ boot_end_text is_audited told → AreThreadAnswers sizes is_numbered is_audited lines text
 are_answers sizes is_numbered is_audited t w lines first_lines other_lines start at_go early later text told first is_first is_other served history tells
     ended is = record {
       frames = t;
@@ -54,7 +54,7 @@ are_answers sizes is_numbered is_audited t w lines first_lines other_lines start
       end = ended.before;
       early = early;
       later = later;
-      ending = end_text is_audited told;
+      ending = boot_end_text is_audited told;
       first = first;
       served = subst (λ (l : List Line). ServesAll (numbered_terms t w false is_numbered) l start at_go early) is_first served;
       history = subst (λ (l : List Line). HasHistory (numbered_terms t w false is_numbered) l (past [] start) at_go early) is_first history;

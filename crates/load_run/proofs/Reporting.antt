@@ -5,56 +5,56 @@ use Rattle.std.specs.Io.KnownBytes.{Appends}
 use Rattle.zone_sizes.specs.declared.config.Config.{Config}
 use Rattle.load_options.specs.declared.fault.WordsFault.TheVariants as words
 use Rattle.load_run.specs.declared.fault.ProgramFault.{ProgramFault}
-use Rattle.load_run.specs.declared.fault.ProgramFault.TheVariants.{BadConfig, BadLogLine, IllegalEnd, IllegalStep, Input, NoMemory, Output, Script, Words}
+use Rattle.load_run.specs.declared.fault.ProgramFault.TheVariants.{BadConfig, BadLogLine, IllegalEnd, IllegalLine, Input, NoMemory, Output, Script, Words}
 use Rattle.load_run.specs.Answers.{bytes_read}
 use Rattle.load_run.specs.Causes.{written}
 use Rattle.load_run.specs.Fault.{fault_text, status_of}
-use Rattle.load_run.specs.Lints.{FailsToLint, IsEarlyFault, IsReport, LeavesFindings, Lints, ReportsFindings, ReportsNothing, lint_status}
+use Rattle.load_run.specs.Lints.{FailsToLint, IsEarlyFault, IsLintText, LeavesFindings, Lints, ReportsFindings, ReportsNothing, lint_status}
 use Rattle.load_run.specs.Writing.{AppendsBeginning}
 
 -- what is known of what the lint says, if the input's bytes are known
 abbrev pub Reports : Config → Option (List ℕ) → List ℕ → Bool → Type 0
-Reports sizes input text is_clean = IfSome input (λ bytes. IsReport sizes (bytes_read bytes) text is_clean)
+Reports sizes input text is_clean = IfSome input (λ bytes. IsLintText sizes (bytes_read bytes) text is_clean)
 
 -- nothing was found
 lints_clean : (sizes : Config) (input before after faults : Option (List ℕ)) (text given : List ℕ) → Reports sizes input text true
     → given ≡ text → Appends before after given → Lints sizes input (written before faults) (written after faults) 0
-lints_clean sizes input before after faults text given report same whole = record {
+lints_clean sizes input before after faults text given lint same whole = record {
   status_at_most = omega arith;
   silent = λ zero. refl;
-  clean = λ zero. go input report;
+  clean = λ zero. go input lint;
   found = λ one. absurd (omega (arith, one));
 }
   where
     go : (bytes : Option (List ℕ)) → Reports sizes bytes text true → IfSome bytes (ReportsNothing sizes before after)
     go None is = tt
-    go (Some b) is = record { text = text; report = is; written = subst (Appends before after) same whole }
+    go (Some b) is = record { text = text; lint = is; written = subst (Appends before after) same whole }
 
 -- something was
 lints_found : (sizes : Config) (input before after faults : Option (List ℕ)) (text given : List ℕ) → Reports sizes input text false
     → given ≡ text → Appends before after given → Lints sizes input (written before faults) (written after faults) 1
-lints_found sizes input before after faults text given report same whole = record {
+lints_found sizes input before after faults text given lint same whole = record {
   status_at_most = omega arith;
   silent = λ zero. refl;
   clean = λ zero. absurd (omega (arith, zero));
-  found = λ one. go input report;
+  found = λ one. go input lint;
 }
   where
     go : (bytes : Option (List ℕ)) → Reports sizes bytes text false
         → IfSome bytes (λ b. ReportsFindings sizes (written before faults) (written after faults) b ⊎ FailsToLint sizes (written before faults) (written after faults) b)
     go None is = tt
-    go (Some b) is = inl (record { text = text; report = is; written = subst (Appends before after) same whole; silent = refl })
+    go (Some b) is = inl (record { text = text; lint = is; written = subst (Appends before after) same whole; silent = refl })
 
 -- what was found was written, whole
 pub lints_written : (sizes : Config) (input before after faults : Option (List ℕ)) (text given : List ℕ) (is_clean : Bool) (status : ℕ)
     → Reports sizes input text is_clean → given ≡ text → Appends before after given → status ≡ lint_status is_clean
     → Lints sizes input (written before faults) (written after faults) status
-lints_written sizes input before after faults text given true status report same whole is =
+lints_written sizes input before after faults text given true status lint same whole is =
     subst (Lints sizes input (written before faults) (written after faults)) (sym is)
-    (lints_clean sizes input before after faults text given report same whole)
-lints_written sizes input before after faults text given false status report same whole is =
+    (lints_clean sizes input before after faults text given lint same whole)
+lints_written sizes input before after faults text given false status lint same whole is =
     subst (Lints sizes input (written before faults) (written after faults)) (sym is)
-    (lints_found sizes input before after faults text given report same whole)
+    (lints_found sizes input before after faults text given lint same whole)
 
 -- the lint failed
 lints_failed : (sizes : Config) (input before after faults faults_after : Option (List ℕ)) (fault : ProgramFault) (status : ℕ)
@@ -77,13 +77,13 @@ pub lints_short : (sizes : Config) (input before after faults faults_after : Opt
     (fault : ProgramFault) (status : ℕ) → Reports sizes input text is_clean → given ≡ text → AppendsBeginning before after given
     → fault ≡ Output → status ≡ status_of fault → AppendsBeginning faults faults_after (fault_text fault)
     → Lints sizes input (written before faults) (written after faults_after) status
-lints_short sizes input before after faults faults_after text given is_clean fault status report same begun is status_is told =
+lints_short sizes input before after faults faults_after text given is_clean fault status lint same begun is status_is told =
     lints_failed sizes input before after faults faults_after fault status
-    (subst (λ (f : ProgramFault). IfSome input (LeavesFindings sizes f before after)) (sym is) (go input report)) (status_is ∙ ap status_of is) told
+    (subst (λ (f : ProgramFault). IfSome input (LeavesFindings sizes f before after)) (sym is) (go input lint)) (status_is ∙ ap status_of is) told
   where
     go : (bytes : Option (List ℕ)) → Reports sizes bytes text is_clean → IfSome bytes (LeavesFindings sizes Output before after)
-    go None report = tt
-    go (Some b) report = record { text = text; is_clean = is_clean; report = report; begun = subst (AppendsBeginning before after) same begun }
+    go None lint = tt
+    go (Some b) lint = record { text = text; is_clean = is_clean; lint = lint; begun = subst (AppendsBeginning before after) same begun }
 
 everywhere : (bytes : Option (List ℕ)) (P : List ℕ → Type 0) → ((text : List ℕ) → P text) → IfSome bytes P
 everywhere None P all = tt
@@ -106,6 +106,6 @@ lints_early sizes input output faults faults_after (Words (words.BadWords text))
 lints_early sizes input output faults faults_after (Script f) status early ended told = absurd early
 lints_early sizes input output faults faults_after (BadLogLine n) status early ended told = absurd early
 lints_early sizes input output faults faults_after BadConfig status early ended told = absurd early
-lints_early sizes input output faults faults_after (IllegalStep n) status early ended told = absurd early
+lints_early sizes input output faults faults_after (IllegalLine n) status early ended told = absurd early
 lints_early sizes input output faults faults_after IllegalEnd status early ended told = absurd early
 lints_early sizes input output faults faults_after Output status early ended told = absurd early

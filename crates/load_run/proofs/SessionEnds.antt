@@ -22,9 +22,9 @@ use Rattle.load_run.specs.declared.fault.ProgramFault.TheVariants as kinds
 use Rattle.load_run.specs.declared.boot_end.BootEnd.{BootEnd}
 use Rattle.load_run.specs.Starting.{IsNewBootState}
 use Rattle.load_run.specs.Causes.{written}
-use Rattle.load_run.specs.Ending.{EndsHeld, end_text}
+use Rattle.load_run.specs.Ending.{EndsHeld, boot_end_text}
 use Rattle.load_run.specs.Fault.{fault_text, status_of}
-use Rattle.load_run.specs.Sessions.{BeginsReport, DrivesSession, EndsSession, IsSameFault, IsWorkFault, LeavesSession, ServesInput, StopsSession}
+use Rattle.load_run.specs.Sessions.{DrivesSession, EndsSession, IsSameFault, IsWorkFault, LeavesEnding, LeavesSession, ServesInput, StopsSession}
 use Rattle.load_run.specs.Writing.{AppendsBeginning}
 use Rattle.load_run.proofs.Starting.{boot_shown, parts_tied}
 
@@ -38,7 +38,7 @@ work_status (kinds.Words (words.BadWords text)) is = absurd is
 work_status (kinds.Script f) is = absurd is
 work_status (kinds.BadLogLine n) is = absurd is
 work_status kinds.BadConfig is = absurd is
-work_status (kinds.IllegalStep n) is = absurd is
+work_status (kinds.IllegalLine n) is = absurd is
 work_status kinds.IllegalEnd is = absurd is
 
 -- a fault of a session is one at work
@@ -73,9 +73,9 @@ same_at_work why kinds.BadConfig is = absurd (none why is)
     none serve.Input is = is
     none serve.Output is = is
     none serve.NoMemory is = is
-same_at_work why (kinds.IllegalStep n) is = absurd (none why is)
+same_at_work why (kinds.IllegalLine n) is = absurd (none why is)
   where
-    none : (why : ServeFault) → IsSameFault why (kinds.IllegalStep n) → ⊥
+    none : (why : ServeFault) → IsSameFault why (kinds.IllegalLine n) → ⊥
     none serve.Input is = is
     none serve.Output is = is
     none serve.NoMemory is = is
@@ -169,7 +169,7 @@ module _ (booted : Config) (options : Options) (is_explained : Bool) (t : KnownT
   -- it served a session, and ended
   pub session_ends : (input before middle : Option (List ℕ)) (end : SystemState) (ended : BootEnd)
       → ServesSession (terms t w is_explained) options.sizes input (system_state locked cpus) end before middle → EndsHeld t w end ended
-      → EndsSession options is_explained input before middle (end_text options.is_audited ended)
+      → EndsSession options is_explained input before middle (boot_end_text options.is_audited ended)
   session_ends input before middle end ended session ends = record {
     frames = t;
     stocks = w;
@@ -179,7 +179,7 @@ module _ (booted : Config) (options : Options) (is_explained : Bool) (t : KnownT
     session = session;
     history = session.holds.replays.history [] (boot_shown booted t w locked.machine cpus sized machine first)
         (parts_tied booted t w locked.machine cpus sized machine first);
-    told = a_boot_agrees t w locked.machine machine;
+    agrees = a_boot_agrees t w locked.machine machine;
     ends = record { ended = ended; ends = ends; text_is = refl };
   }
 
@@ -203,26 +203,26 @@ module _ (booted : Config) (options : Options) (is_explained : Bool) (t : KnownT
 
 -- ---- the end
 
--- the report was written
-pub report_written : {T : Type 0} (options : Options) (is_explained : Bool) (input before middle after : Option (List ℕ)) (ending : List ℕ)
+-- the text of the end was written
+pub ending_written : {T : Type 0} (options : Options) (is_explained : Bool) (input before middle after : Option (List ℕ)) (ending : List ℕ)
     (r : Result T ProgramFault) → EndsSession options is_explained input before middle ending → OnOk r (Appends middle after ending)
     → OnOk r (ServesInput options is_explained input before after)
-report_written options is_explained input before middle after ending (Ok x) ends is =
+ending_written options is_explained input before middle after ending (Ok x) ends is =
     record { middle = middle; ending = ending; ends = ends; written = is }
-report_written options is_explained input before middle after ending (Err fault) ends is = tt
+ending_written options is_explained input before middle after ending (Err fault) ends is = tt
 
 -- or not whole
-pub report_begun : {T : Type 0} (options : Options) (is_explained : Bool) (input before middle after : Option (List ℕ)) (ending : List ℕ)
-    (r : Result T ProgramFault) → EndsSession options is_explained input before middle ending → IfErr r (BeginsReport middle after ending)
+pub ending_begun : {T : Type 0} (options : Options) (is_explained : Bool) (input before middle after : Option (List ℕ)) (ending : List ℕ)
+    (r : Result T ProgramFault) → EndsSession options is_explained input before middle ending → IfErr r (LeavesEnding middle after ending)
     → IfErr r (LeavesSession options is_explained input before after)
-report_begun options is_explained input before middle after ending (Ok x) ends is = tt
-report_begun options is_explained input before middle after ending (Err fault) ends is = record {
+ending_begun options is_explained input before middle after ending (Ok x) ends is = tt
+ending_begun options is_explained input before middle after ending (Err fault) ends is = record {
   at_work = is.at_work;
   left = inr (inr (record { middle = middle; ending = ending; ends = ends; begun = is.begun }));
 }
 
--- the output took a beginning of the report
-pub report_unwritten : {T : Type 0} (r : Result T ProgramFault) (before after : Option (List ℕ)) (report : List ℕ) → IfErr r (λ fault. fault ≡ kinds.Output)
-    → AppendsBeginning before after report → IfErr r (BeginsReport before after report)
-report_unwritten (Ok x) before after report is begun = tt
-report_unwritten (Err fault) before after report is begun = record { at_work = subst IsWorkFault (sym is) tt; begun = begun }
+-- the output took a beginning of the text
+pub ending_unwritten : {T : Type 0} (r : Result T ProgramFault) (before after : Option (List ℕ)) (ending : List ℕ) → IfErr r (λ fault. fault ≡ kinds.Output)
+    → AppendsBeginning before after ending → IfErr r (LeavesEnding before after ending)
+ending_unwritten (Ok x) before after ending is begun = tt
+ending_unwritten (Err fault) before after ending is begun = record { at_work = subst IsWorkFault (sym is) tt; begun = begun }

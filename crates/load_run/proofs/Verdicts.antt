@@ -5,19 +5,19 @@ use Rattle.std.specs.Prelude.{◌⊎◌, ⊤, is_some}
 use Rattle.std.specs.Io.KnownBytes.{Appends}
 use Rattle.std.proofs.KnownBytes.{Appends-nil}
 use Rattle.step_rules.specs.declared.step.Answer.{Answer}
-use Rattle.log_check.specs.declared.end.LogVerdict.{LogVerdict}
-use Rattle.log_check.specs.declared.end.LogVerdict.TheVariants.{BadLine, Legal, NotLegal}
-use Rattle.log_check.specs.Ends.{IsLegalLog, IsLogVerdict, says_legal}
+use Rattle.log_check.specs.declared.verdict.LogVerdict.{LogVerdict}
+use Rattle.log_check.specs.declared.verdict.LogVerdict.TheVariants.{BadLine, Legal, NotLegal}
+use Rattle.log_check.specs.Verdicts.{IsLegalLog, IsLogVerdict, says_legal}
 use Rattle.log_check.specs.Texts.{verdict_text}
 use Rattle.load_options.specs.declared.fault.WordsFault.TheVariants as words
 use Rattle.load_options.specs.declared.task.Options.{Options}
 use Rattle.load_options.specs.declared.task.Task.{Task}
 use Rattle.load_options.specs.declared.task.Task.TheVariants.{Check, Lint, Replay, Run, Serve, Steps, Trace, Version}
 use Rattle.load_run.specs.declared.fault.ProgramFault.{ProgramFault}
-use Rattle.load_run.specs.declared.fault.ProgramFault.TheVariants.{BadConfig, BadLogLine, IllegalEnd, IllegalStep, Input, NoMemory, Output, Script, Words}
+use Rattle.load_run.specs.declared.fault.ProgramFault.TheVariants.{BadConfig, BadLogLine, IllegalEnd, IllegalLine, Input, NoMemory, Output, Script, Words}
 use Rattle.load_run.specs.Answers.{IsOnScript}
 use Rattle.load_run.specs.Causes.{Written, written}
-use Rattle.load_run.specs.Checks.{Checks, FailsToCheck, IsLogVerdictOf, IsVerdict, LeavesLine, LeavesReport}
+use Rattle.load_run.specs.Checks.{Checks, FailsToCheck, IsLogVerdictOf, IsVerdict, LeavesLine, LeavesVerdict}
 use Rattle.load_run.specs.Checks.{ReportsBadLine, ReportsLegal, ReportsNotLegal}
 use Rattle.load_run.specs.Driving.{Drives, DrivesScript, DrivesTask, LintsAsked}
 use Rattle.load_run.specs.Lints.{Lints}
@@ -32,10 +32,10 @@ use Rattle.load_run.proofs.SessionEnds.{drives_failed}
 use Rattle.load_run.proofs.Telling.{version_failed}
 
 -- both are known of the input
-pub end_of : (input : Option (List ℕ)) (end : LogVerdict) → IfSome input (λ text. IsLogVerdict text end)
+pub verdict_of : (input : Option (List ℕ)) (end : LogVerdict) → IfSome input (λ text. IsLogVerdict text end)
     → IfSome input (λ text. IsTrue (says_legal end) ↔ IsLegalLog text) → IsLogVerdictOf input end
-end_of None end is exact = tt
-end_of (Some text) end is exact = (is, exact)
+verdict_of None end is exact = tt
+verdict_of (Some text) end is exact = (is, exact)
 
 -- the log is legal, and that was written
 checks_legal : (input before after faults : Option (List ℕ)) (steps : ℕ) → IsLogVerdictOf input (Legal steps)
@@ -105,7 +105,7 @@ checks_bad_line input output faults faults_after line status is ended told = rec
 
 -- the check failed, and that was told
 checks_failed : (input before after faults faults_after : Option (List ℕ)) (fault : ProgramFault) (status : ℕ)
-    → IfSome input (LeavesReport fault before after) → status ≡ 1 → AppendsBeginning faults faults_after (fault_text fault)
+    → IfSome input (LeavesVerdict fault before after) → status ≡ 1 → AppendsBeginning faults faults_after (fault_text fault)
     → Checks input (written before faults) (written after faults_after) status
 checks_failed input before after faults faults_after fault status left ended told = record {
   status_at_most = omega (arith, ended);
@@ -116,7 +116,7 @@ checks_failed input before after faults faults_after fault status left ended tol
   bad_line = λ two. absurd (omega (arith, ended, two));
 }
   where
-    go : (bytes : Option (List ℕ)) → IfSome bytes (LeavesReport fault before after)
+    go : (bytes : Option (List ℕ)) → IfSome bytes (LeavesVerdict fault before after)
         → IfSome bytes (λ text. ReportsNotLegal (written before faults) (written after faults_after) text ⊎ FailsToCheck (written before faults) (written after faults_after) text)
     go None left = tt
     go (Some text) left = inr (record { fault = fault; left = left; told = told })
@@ -127,10 +127,10 @@ everywhere (Some text) P all = all text
 
 -- it failed before anything was written
 pub checks_early : (input output faults faults_after : Option (List ℕ)) (fault : ProgramFault) (status : ℕ)
-    → ((text : List ℕ) → LeavesReport fault output output text) → status ≡ 1 → AppendsBeginning faults faults_after (fault_text fault)
+    → ((text : List ℕ) → LeavesVerdict fault output output text) → status ≡ 1 → AppendsBeginning faults faults_after (fault_text fault)
     → Checks input (written output faults) (written output faults_after) status
 checks_early input output faults faults_after fault status left ended told =
-    checks_failed input output output faults faults_after fault status (everywhere input (LeavesReport fault output output) left) ended told
+    checks_failed input output output faults faults_after fault status (everywhere input (LeavesVerdict fault output output) left) ended told
 
 -- a fault that comes before anything is known of the log
 abbrev pub IsEarly : ProgramFault → Type 0
@@ -150,7 +150,7 @@ checks_fault input output faults faults_after (Words f) status is ended told = a
 checks_fault input output faults faults_after (Script f) status is ended told = absurd is
 checks_fault input output faults faults_after (BadLogLine n) status is ended told = absurd is
 checks_fault input output faults faults_after BadConfig status is ended told = absurd is
-checks_fault input output faults faults_after (IllegalStep n) status is ended told = absurd is
+checks_fault input output faults faults_after (IllegalLine n) status is ended told = absurd is
 checks_fault input output faults faults_after IllegalEnd status is ended told = absurd is
 checks_fault input output faults faults_after Output status is ended told = absurd is
 
@@ -160,20 +160,20 @@ pub checks_unwritten : (input before after faults faults_after : Option (List �
     → Checks input (written before faults) (written after faults_after) status
 checks_unwritten input before after faults faults_after end fault status is left ended told = go fault left ended told
   where
-    begun : (bytes : Option (List ℕ)) → IsLogVerdictOf bytes end → AppendsBeginning before after (verdict_text end) → IfSome bytes (LeavesReport Output before after)
+    begun : (bytes : Option (List ℕ)) → IsLogVerdictOf bytes end → AppendsBeginning before after (verdict_text end) → IfSome bytes (LeavesVerdict Output before after)
     begun None is begins = tt
-    begun (Some text) is begins = record { end = end; is = is.0; begun = begins }
+    begun (Some text) is begins = record { verdict = end; is = is.0; begun = begins }
 
     go : (f : ProgramFault) → LeavesLine (verdict_text end) before after f → status ≡ status_of f → AppendsBeginning faults faults_after (fault_text f)
         → Checks input (written before faults) (written after faults_after) status
     go Output left ended told = checks_failed input before after faults faults_after Output status (begun input is left) ended told
     go (NoMemory e) left ended told =
-        checks_failed input before after faults faults_after (NoMemory e) status (everywhere input (LeavesReport (NoMemory e) before after) (λ text. left)) ended told
+        checks_failed input before after faults faults_after (NoMemory e) status (everywhere input (LeavesVerdict (NoMemory e) before after) (λ text. left)) ended told
     go (Words f) left ended told = absurd left
     go (Script f) left ended told = absurd left
     go (BadLogLine n) left ended told = absurd left
     go BadConfig left ended told = absurd left
-    go (IllegalStep n) left ended told = absurd left
+    go (IllegalLine n) left ended told = absurd left
     go IllegalEnd left ended told = absurd left
     go Input left ended told = absurd left
 
@@ -194,7 +194,7 @@ drives_words (Some options) input output faults faults_after fault status is end
     for_check (Script f) is ended told = absurd is
     for_check (BadLogLine n) is ended told = absurd is
     for_check BadConfig is ended told = absurd is
-    for_check (IllegalStep n) is ended told = absurd is
+    for_check (IllegalLine n) is ended told = absurd is
     for_check IllegalEnd is ended told = absurd is
     for_check Input is ended told = absurd is
     for_check Output is ended told = absurd is
@@ -208,7 +208,7 @@ drives_words (Some options) input output faults faults_after fault status is end
     for_lint (Script f) is ended told = absurd is
     for_lint (BadLogLine n) is ended told = absurd is
     for_lint BadConfig is ended told = absurd is
-    for_lint (IllegalStep n) is ended told = absurd is
+    for_lint (IllegalLine n) is ended told = absurd is
     for_lint IllegalEnd is ended told = absurd is
     for_lint Input is ended told = absurd is
     for_lint Output is ended told = absurd is
@@ -222,7 +222,7 @@ drives_words (Some options) input output faults faults_after fault status is end
     for_version (Script f) is ended told = absurd is
     for_version (BadLogLine n) is ended told = absurd is
     for_version BadConfig is ended told = absurd is
-    for_version (IllegalStep n) is ended told = absurd is
+    for_version (IllegalLine n) is ended told = absurd is
     for_version IllegalEnd is ended told = absurd is
     for_version Input is ended told = absurd is
     for_version Output is ended told = absurd is
@@ -238,7 +238,7 @@ drives_words (Some options) input output faults faults_after fault status is end
     for_serve is_explained (Script f) is ended told = absurd is
     for_serve is_explained (BadLogLine n) is ended told = absurd is
     for_serve is_explained BadConfig is ended told = absurd is
-    for_serve is_explained (IllegalStep n) is ended told = absurd is
+    for_serve is_explained (IllegalLine n) is ended told = absurd is
     for_serve is_explained IllegalEnd is ended told = absurd is
     for_serve is_explained Input is ended told = absurd is
     for_serve is_explained Output is ended told = absurd is

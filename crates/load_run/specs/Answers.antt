@@ -48,7 +48,7 @@ pub record AreReplayAnswers (sizes : Config) (form : Form) (is_audited : Bool) (
   pub first : IsNewBootState sizes frames stocks start
   pub served : ServesAll (form_terms frames stocks form) lines start end answers
   pub history : HasHistory (form_terms frames stocks form) lines (past [] start) end answers
-  pub told : AgreesWithRun frames [] start.locked.machine.ledger
+  pub agrees : AgreesWithRun frames [] start.locked.machine.ledger
   pub ends : WritesEnd frames stocks is_audited end ending
   pub text_is : text ≡ answers ++ ending
 
@@ -139,7 +139,7 @@ AreAnswers (Serve is_explained) sizes is_audited is_numbered script lines text =
 AreAnswers Version sizes is_audited is_numbered script lines text = ⊥
 
 -- These options are asked for, a boot takes their sizes, and the input is a script for them. The text is what a boot of
--- these sizes answers to the script for the task of the options. It ends with a report of the end, if they ask for one.
+-- these sizes answers to the script for the task of the options. It ends with the text of the end, if they ask for it.
 pub record IsAnswered (asked : Option Options) (text input : List ℕ) : Type 0 where
   pub options : Options
   pub is_asked : asked ≡ Some options

@@ -10,7 +10,7 @@ use Rattle.load_options.specs.Sizes.{HasSizesInRange}
 use Rattle.load_options.specs.Words.{GivesOptions}
 use Rattle.load_run.specs.declared.fault.ProgramFault.{ProgramFault}
 use Rattle.load_run.specs.declared.fault.ProgramFault.TheVariants.{Words, Script, BadLogLine, BadConfig}
-use Rattle.load_run.specs.declared.fault.ProgramFault.TheVariants.{IllegalStep, IllegalEnd, Input, Output, NoMemory}
+use Rattle.load_run.specs.declared.fault.ProgramFault.TheVariants.{IllegalLine, IllegalEnd, Input, Output, NoMemory}
 use Rattle.load_run.specs.Answers.{IsAnswered, bytes_read}
 use Rattle.load_run.specs.Fault.{checks_steps, fault_text, status_of}
 use Rattle.load_run.specs.Writing.{AppendsBeginning}
@@ -51,7 +51,7 @@ HasCause asked (Script (script.BadLine number)) input = IsBadAt asked number inp
 HasCause asked (Script script.NoMemory) input = IsSome asked
 HasCause asked (BadLogLine number) input = ⊥
 HasCause asked BadConfig input = IsRefused asked input
-HasCause asked (IllegalStep number) input = AsksForCheck asked
+HasCause asked (IllegalLine number) input = AsksForCheck asked
 HasCause asked IllegalEnd input = AsksForCheck asked
 HasCause asked Input input = IsSome asked
 HasCause asked Output input = HasAnswers asked input

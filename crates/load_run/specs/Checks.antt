@@ -3,9 +3,9 @@ use Rattle.std.specs.Prelude.{◌≡◌, ◌⊎◌, ◌↔◌, ℕ, ◌≤◌, L
 use Rattle.std.specs.Io.KnownBytes.{Appends}
 use Rattle.step_rules.specs.declared.step.Answer.{Answer}
 use Rattle.log_lines.specs.Log.{IsFirstBadLine}
-use Rattle.log_check.specs.declared.end.LogVerdict.{LogVerdict}
-use Rattle.log_check.specs.declared.end.LogVerdict.TheVariants.{BadLine, Legal, NotLegal}
-use Rattle.log_check.specs.Ends.{BreaksRules, IsLegalLog, IsLogVerdict, KeepsPromise, says_legal}
+use Rattle.log_check.specs.declared.verdict.LogVerdict.{LogVerdict}
+use Rattle.log_check.specs.declared.verdict.LogVerdict.TheVariants.{BadLine, Legal, NotLegal}
+use Rattle.log_check.specs.Verdicts.{BreaksRules, IsLegalLog, IsLogVerdict, KeepsPromise, says_legal}
 use Rattle.log_check.specs.Texts.{verdict_text}
 use Rattle.load_options.specs.declared.fault.WordsFault.TheVariants as words
 use Rattle.load_run.specs.declared.fault.ProgramFault.{ProgramFault}
@@ -41,23 +41,23 @@ pub record ReportsBadLine (before after : Option (List ℕ)) (text : List ℕ) :
 
 -- the output got a beginning of the line that says what the text is
 pub record BeginsVerdict (before after : Option (List ℕ)) (text : List ℕ) : Type 0 where
-  pub end : LogVerdict
-  pub is : IsLogVerdict text end
-  pub begun : AppendsBeginning before after (verdict_text end)
+  pub verdict : LogVerdict
+  pub is : IsLogVerdict text verdict
+  pub begun : AppendsBeginning before after (verdict_text verdict)
 
 -- what a check leaves in the output after a fault of its own: a beginning of its line if the output failed, else
 -- nothing; no other fault is one of a check
-abbrev pub LeavesReport : ProgramFault → (before after : Option (List ℕ)) (text : List ℕ) → Type 0
-LeavesReport (Words (words.NoMemory error)) before after text = after ≡ before
-LeavesReport Input before after text = after ≡ before
-LeavesReport Output before after text = BeginsVerdict before after text
-LeavesReport (NoMemory error) before after text = after ≡ before
-LeavesReport fault before after text = ⊥
+abbrev pub LeavesVerdict : ProgramFault → (before after : Option (List ℕ)) (text : List ℕ) → Type 0
+LeavesVerdict (Words (words.NoMemory error)) before after text = after ≡ before
+LeavesVerdict Input before after text = after ≡ before
+LeavesVerdict Output before after text = BeginsVerdict before after text
+LeavesVerdict (NoMemory error) before after text = after ≡ before
+LeavesVerdict fault before after text = ⊥
 
 -- the check failed at its work; the fault writer got why, as far as it took it
 pub record FailsToCheck (before after : Written) (text : List ℕ) : Type 0 where
   pub fault : ProgramFault
-  pub left : LeavesReport fault before.output after.output text
+  pub left : LeavesVerdict fault before.output after.output text
   pub told : AppendsBeginning before.faults after.faults (fault_text fault)
 
 -- A log was checked, and the program ended with 0, 1 or 2. With 0 the log is a legal run, and no fault is reported;
@@ -75,7 +75,8 @@ pub record Checks (input : Option (List ℕ)) (before after : Written) (status :
 
 -- the log is this, and it is called legal exactly if it is
 abbrev pub IsLogVerdictOf : Option (List ℕ) → LogVerdict → Type 0
-IsLogVerdictOf input end = IfSome input (λ text. IsLogVerdict text end × (IsTrue (says_legal end) ↔ IsLegalLog text))
+IsLogVerdictOf input verdict =
+    IfSome input (λ text. IsLogVerdict text verdict × (IsTrue (says_legal verdict) ↔ IsLegalLog text))
 
 -- this is a log, and has this status: 0 if it is legal, 1 if it isn't
 abbrev pub IsVerdict : LogVerdict → ℕ → Type 0

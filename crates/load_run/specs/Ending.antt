@@ -128,13 +128,13 @@ abbrev pub held_text : ℕ → List ℕ
 held_text held = if held == 0 then [] else codes "held " ++ decimal held ++ codes "\n"
 
 -- what is written about the end: the pins that were held and the audit, if the run is audited
-abbrev pub end_text : Bool → BootEnd → List ℕ
-end_text true ended = held_text ended.held ++ audit_text ended.audit
-end_text false ended = []
+abbrev pub boot_end_text : Bool → BootEnd → List ℕ
+boot_end_text true ended = held_text ended.held ++ audit_text ended.audit
+boot_end_text false ended = []
 
 -- a boot ended from this state, and the text is what is written about that
 pub record WritesEnd (table : KnownTable) (stock_table : KnownStockTable) (is_audited : Bool) (before : SystemState)
     (text : List ℕ) : Type 0 where
   pub ended : BootEnd
   pub ends : EndsHeld table stock_table before ended
-  pub text_is : text ≡ end_text is_audited ended
+  pub text_is : text ≡ boot_end_text is_audited ended

@@ -12,7 +12,7 @@ use Rattle.load_options.specs.declared.task.Task.TheVariants.{Replay, Steps, Tra
 use Rattle.load_options.specs.Words.{GivesOptions}
 use Rattle.load_run.specs.declared.fault.ProgramFault.{ProgramFault}
 use Rattle.load_run.specs.declared.fault.ProgramFault.TheVariants.{Words, Script, BadLogLine, BadConfig}
-use Rattle.load_run.specs.declared.fault.ProgramFault.TheVariants.{IllegalStep, IllegalEnd, Input, Output, NoMemory}
+use Rattle.load_run.specs.declared.fault.ProgramFault.TheVariants.{IllegalLine, IllegalEnd, Input, Output, NoMemory}
 
 -- 2 if the program was misused, 1 if it failed at its work
 abbrev pub status_of : ProgramFault → ℕ
@@ -22,7 +22,7 @@ status_of (Script (script.BadLine number)) = 2
 status_of (Script script.NoMemory) = 1
 status_of (BadLogLine number) = 2
 status_of BadConfig = 2
-status_of (IllegalStep number) = 1
+status_of (IllegalLine number) = 1
 status_of IllegalEnd = 1
 status_of Input = 1
 status_of Output = 1
@@ -33,8 +33,8 @@ abbrev pub bad_line_text : ℕ → List ℕ
 bad_line_text number = codes "bad line " ++ decimal number ++ codes "\n"
 
 -- the text that says that a step of the line of this number isn't legal
-abbrev pub illegal_step_text : ℕ → List ℕ
-illegal_step_text number = codes "line " ++ decimal number ++ codes ": a step is not legal\n"
+abbrev pub illegal_line_text : ℕ → List ℕ
+illegal_line_text number = codes "line " ++ decimal number ++ codes ": a step is not legal\n"
 
 -- the text of a fault: one line, or clap's text about the words
 abbrev pub fault_text : ProgramFault → List ℕ
@@ -44,7 +44,7 @@ fault_text (Script (script.BadLine number)) = bad_line_text number
 fault_text (Script script.NoMemory) = codes "no memory\n"
 fault_text (BadLogLine number) = bad_line_text number
 fault_text BadConfig = codes "refused 14 BadConfig\n"
-fault_text (IllegalStep number) = illegal_step_text number
+fault_text (IllegalLine number) = illegal_line_text number
 fault_text IllegalEnd = codes "end: a step is not legal\n"
 fault_text Input = codes "input failed\n"
 fault_text Output = codes "output failed\n"
@@ -79,7 +79,7 @@ checks_steps Version = false
 
 -- a boot that took its sizes failed at this task: memory ran out, or a step isn't legal, if the task checks each step
 abbrev pub IsFailedTask : Task → ProgramFault → Type 0
-IsFailedTask task (IllegalStep number) = IsTrue (checks_steps task)
+IsFailedTask task (IllegalLine number) = IsTrue (checks_steps task)
 IsFailedTask task IllegalEnd = IsTrue (checks_steps task)
 IsFailedTask task (NoMemory error) = ⊤
 IsFailedTask task fault = ⊥

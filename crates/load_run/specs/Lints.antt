@@ -20,7 +20,7 @@ pub record IsClean (sizes : Config) (findings : List Finding) : Type 0 where
   pub sizes_fit : sizes.batch ≤ sizes.high
 
 -- the text says which lines of the script are bad, and whether the sizes are; it is clean exactly if nothing is found
-pub record IsReport (sizes : Config) (script text : List ℕ) (is_clean : Bool) : Type 0 where
+pub record IsLintText (sizes : Config) (script text : List ℕ) (is_clean : Bool) : Type 0 where
   pub findings : List Finding
   pub linted : IsLinted sizes script findings
   pub text_is : text ≡ flat_map (finding_text (codes "-") sizes) findings ++ sizes_text sizes
@@ -35,13 +35,13 @@ lint_status false = 1
 -- nothing is found in what is read, and nothing is written
 pub record ReportsNothing (sizes : Config) (before after : Option (List ℕ)) (bytes : List ℕ) : Type 0 where
   pub text : List ℕ
-  pub report : IsReport sizes (bytes_read bytes) text true
+  pub lint : IsLintText sizes (bytes_read bytes) text true
   pub written : Appends before after text
 
 -- something is found in what is read, and written; no fault is reported
 pub record ReportsFindings (sizes : Config) (before after : Written) (bytes : List ℕ) : Type 0 where
   pub text : List ℕ
-  pub report : IsReport sizes (bytes_read bytes) text false
+  pub lint : IsLintText sizes (bytes_read bytes) text false
   pub written : Appends before.output after.output text
   pub silent : after.faults ≡ before.faults
 
@@ -49,7 +49,7 @@ pub record ReportsFindings (sizes : Config) (before after : Written) (bytes : Li
 pub record BeginsFindings (sizes : Config) (before after : Option (List ℕ)) (bytes : List ℕ) : Type 0 where
   pub text : List ℕ
   pub is_clean : Bool
-  pub report : IsReport sizes (bytes_read bytes) text is_clean
+  pub lint : IsLintText sizes (bytes_read bytes) text is_clean
   pub begun : AppendsBeginning before after text
 
 -- a fault before anything is written

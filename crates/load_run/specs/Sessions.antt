@@ -22,7 +22,7 @@ use Rattle.load_run.specs.Fault.{fault_text}
 use Rattle.load_run.specs.Writing.{AppendsBeginning}
 
 -- A new boot served a session on an input, and ended. `middle` is what the output holds after the session, and `ending`
--- the report of the end, if the options ask for one. All steps of the lines that were served are one run from the boot
+-- the text of the end, if the options ask for one. All steps of the lines that were served are one run from the boot
 -- on. Its history says of each line that the promise is kept after it, if the run is legal. The ledger of the boot is
 -- that of a run without steps.
 pub record EndsSession (options : Options) (is_explained : Bool) (input before middle : Option (List ℕ))
@@ -35,17 +35,17 @@ pub record EndsSession (options : Options) (is_explained : Bool) (input before m
   pub session : ServesSession (terms frames stocks is_explained) options.sizes input start end before middle
   pub history : HasHistory (terms frames stocks is_explained) (lines_of session.turns) (past [] start) end
       (answers_of session.turns)
-  pub told : AgreesWithRun frames [] start.locked.machine.ledger
+  pub agrees : AgreesWithRun frames [] start.locked.machine.ledger
   pub ends : WritesEnd frames stocks options.is_audited end ending
 
--- a session ended, and all of the report was written behind its answers
+-- a session ended, and all of the text of its end was written behind its answers
 pub record ServesInput (options : Options) (is_explained : Bool) (input before after : Option (List ℕ)) : Type 0 where
   pub middle : Option (List ℕ)
   pub ending : List ℕ
   pub ends : EndsSession options is_explained input before middle ending
   pub written : Appends middle after ending
 
--- a session ended, and a beginning of the report was written behind its answers
+-- a session ended, and a beginning of the text of its end was written behind its answers
 pub record BeginsEnding (options : Options) (is_explained : Bool) (input before after : Option (List ℕ)) : Type 0 where
   pub middle : Option (List ℕ)
   pub ending : List ℕ
@@ -79,13 +79,13 @@ IsWorkFault (kinds.NoMemory error) = ⊤
 IsWorkFault (kinds.Words (words.NoMemory error)) = ⊤
 IsWorkFault fault = ⊥
 
--- a report wasn't written, or a beginning of it was
-pub record BeginsReport (before after : Option (List ℕ)) (report : List ℕ) (fault : ProgramFault) : Type 0 where
+-- the text of an end wasn't written, or a beginning of it was
+pub record LeavesEnding (before after : Option (List ℕ)) (ending : List ℕ) (fault : ProgramFault) : Type 0 where
   pub at_work : IsWorkFault fault
-  pub begun : AppendsBeginning before after report
+  pub begun : AppendsBeginning before after ending
 
 -- What a fault at work leaves: nothing is written, and no line was read; or the session failed; or it ended, and the
--- report of the end wasn't written whole.
+-- text of its end wasn't written whole.
 pub record LeavesSession (options : Options) (is_explained : Bool) (input before after : Option (List ℕ))
     (fault : ProgramFault) : Type 0 where
   pub at_work : IsWorkFault fault

@@ -123,9 +123,9 @@ pub fn end_seen_boot<N: BootName>(
     (BootEnd { held, audit }, seen)
 }
 
-/// Adds the report of the end: the pins that were held, if there were any, and the counts. It fails only if memory runs
+/// Adds the text of the end: the pins that were held, if there were any, and the counts. It fails only if memory runs
 /// out.
-pub fn write_end(ended: &BootEnd, text: &mut String) -> Result<(), AllocError>
+pub fn write_boot_end(ended: &BootEnd, text: &mut String) -> Result<(), AllocError>
     ensures told { OnOk result (string_bytes text.new
         ≡ string_bytes text.old ++ (held_text ended.now.held ++ audit_text ended.now.audit)) }
 {

@@ -9,8 +9,8 @@ ghost use Rattle.load_run.specs.Checks.{Checks, IsLogVerdictOf, IsVerdict, Leave
 use crate::fault::ProgramFault;
 use crate::fault_lines::report_fault;
 use crate::program::write_answers;
-use log_check::end::{LogFault, LogVerdict};
-use log_check::{check_log, write_end};
+use log_check::verdict::{LogFault, LogVerdict};
+use log_check::{check_log, write_verdict};
 use std::alloc::{AllocError, Global};
 use std::io::{Read, Write};
 
@@ -20,7 +20,7 @@ use std::io::{Read, Write};
 /// status is 0. If a step isn't legal, the output gets its line, its number and the answer that was due, and the status
 /// is 1. A bad line is a fault of status 2. If the input can't be read, the output can't be written, or memory runs
 /// out, that is a fault of status 1.
-#[tactic(auto, using(crate::proofs::Verdicts::end_of, crate::proofs::Verdicts::checks_fault))]
+#[tactic(auto, using(crate::proofs::Verdicts::verdict_of, crate::proofs::Verdicts::checks_fault))]
 pub fn drive_check<I: Read, O: Write, F: Write>(
     alloc: Global,
     input: &mut I,
@@ -31,7 +31,7 @@ pub fn drive_check<I: Read, O: Write, F: Write>(
         (written (O.contents output.new) (F.contents faults.new)) result }
 {
     match check_log(alloc, input) {
-        Ok(end) => report_end(alloc, &end, output, faults),
+        Ok(verdict) => report_log(alloc, &verdict, output, faults),
         Err(LogFault::Input) => report_fault(&ProgramFault::Input, faults),
         Err(LogFault::NoMemory) => report_fault(&ProgramFault::NoMemory(AllocError), faults),
     }
@@ -39,19 +39,19 @@ pub fn drive_check<I: Read, O: Write, F: Write>(
 
 // Reports what the log is.
 #[tactic(auto, using(crate::proofs::Verdicts::checks_bad_line))]
-fn report_end<O: Write, F: Write>(
+fn report_log<O: Write, F: Write>(
     alloc: Global,
-    end: &LogVerdict,
+    verdict: &LogVerdict,
     output: &mut O,
     faults: &mut F,
 ) -> u8
-    ensures checks { (input : Option (List ℕ)) → IsLogVerdictOf input end.now
+    ensures checks { (input : Option (List ℕ)) → IsLogVerdictOf input verdict.now
         → Checks input (written (O.contents output.old) (F.contents faults.old))
         (written (O.contents output.new) (F.contents faults.new)) result }
 {
-    match end {
-        LogVerdict::Legal { .. } => report_verdict(alloc, end, 0, output, faults),
-        LogVerdict::NotLegal { .. } => report_verdict(alloc, end, 1, output, faults),
+    match verdict {
+        LogVerdict::Legal { .. } => report_verdict(alloc, verdict, 0, output, faults),
+        LogVerdict::NotLegal { .. } => report_verdict(alloc, verdict, 1, output, faults),
         LogVerdict::BadLine { line } => report_fault(&ProgramFault::BadLogLine(*line), faults),
     }
 }
@@ -60,32 +60,33 @@ fn report_end<O: Write, F: Write>(
 #[tactic(auto, using(crate::proofs::Verdicts::checks_written, crate::proofs::Verdicts::checks_unwritten))]
 fn report_verdict<O: Write, F: Write>(
     alloc: Global,
-    end: &LogVerdict,
+    verdict: &LogVerdict,
     status: u8,
     output: &mut O,
     faults: &mut F,
 ) -> u8
-    ensures checks { (input : Option (List ℕ)) → IsLogVerdictOf input end.now → IsVerdict end.now status
+    ensures checks { (input : Option (List ℕ)) → IsLogVerdictOf input verdict.now → IsVerdict verdict.now status
         → Checks input (written (O.contents output.old) (F.contents faults.old))
         (written (O.contents output.new) (F.contents faults.new)) result }
 {
-    match write_verdict(alloc, end, output) {
+    match write_verdict_line(alloc, verdict, output) {
         Ok(()) => status,
         Err(unwritten) => report_fault(&unwritten, faults),
     }
 }
 
 // Writes the line that says what the log is.
-fn write_verdict<O: Write>(
+fn write_verdict_line<O: Write>(
     alloc: Global,
-    end: &LogVerdict,
+    verdict: &LogVerdict,
     output: &mut O,
 ) -> Result<(), ProgramFault>
-    ensures written { OnOk result (Appends (O.contents output.old) (O.contents output.new) (verdict_text end.now)) }
-    ensures left { IfErr result (LeavesLine (verdict_text end.now) (O.contents output.old) (O.contents output.new)) }
+    ensures written { OnOk result (Appends (O.contents output.old) (O.contents output.new) (verdict_text verdict.now)) }
+    ensures left { IfErr result
+        (LeavesLine (verdict_text verdict.now) (O.contents output.old) (O.contents output.new)) }
 {
     let mut text = Vec::new(alloc);
-    match write_end(end, &mut text) {
+    match write_verdict(verdict, &mut text) {
         Ok(()) => write_answers(&text, output),
         Err(error) => Err(ProgramFault::NoMemory(error)),
     }

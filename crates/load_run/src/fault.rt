@@ -24,7 +24,7 @@ pub enum ProgramFault {
     BadConfig,
     /// A step of the line of this number, counted from 1, isn't legal.
     #[error("line {0}: a step is not legal")]
-    IllegalStep(usize),
+    IllegalLine(usize),
     /// A step of the boot's end isn't legal.
     #[error("end: a step is not legal")]
     IllegalEnd,
@@ -53,7 +53,7 @@ impl ProgramFault {
             | ProgramFault::BadConfig => 2,
             ProgramFault::Words(WordsFault::NoMemory(_))
             | ProgramFault::Script(ScriptFault::NoMemory)
-            | ProgramFault::IllegalStep(_)
+            | ProgramFault::IllegalLine(_)
             | ProgramFault::IllegalEnd
             | ProgramFault::Input
             | ProgramFault::Output

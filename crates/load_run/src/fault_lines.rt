@@ -34,7 +34,7 @@ fn write_fault<F: Write>(fault: &ProgramFault, faults: &mut F) -> io::Result<()>
             write_numbered("bad line ", *number as u64, "\n", faults)
         }
         ProgramFault::BadLogLine(number) => write_numbered("bad line ", *number, "\n", faults),
-        ProgramFault::IllegalStep(number) => {
+        ProgramFault::IllegalLine(number) => {
             write_numbered("line ", *number as u64, ": a step is not legal\n", faults)
         }
         ProgramFault::IllegalEnd => write_whole("end: a step is not legal\n".as_bytes(), faults),

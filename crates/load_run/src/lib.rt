@@ -6,7 +6,7 @@
 #![tactic(auto)]
 
 pub mod boot_end;
-pub mod checked_running;
+pub mod checked_replaying;
 pub mod checking;
 mod comments;
 pub mod fault;
@@ -16,7 +16,7 @@ pub mod logging;
 pub mod program;
 pub mod reading;
 mod refusals;
-pub mod running;
+pub mod replaying;
 pub mod serving;
 pub mod thread_running;
 pub mod tracing;

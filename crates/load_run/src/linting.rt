@@ -5,7 +5,7 @@ ghost use Rattle.std.specs.String.{string_bytes};
 ghost use Rattle.load_options.specs.Sizes.{HasSizesInRange};
 ghost use Rattle.load_run.specs.Answers.{bytes_read};
 ghost use Rattle.load_run.specs.Causes.{written};
-ghost use Rattle.load_run.specs.Lints.{IsClean, IsEarlyFault, IsReport, Lints, lint_status};
+ghost use Rattle.load_run.specs.Lints.{IsClean, IsEarlyFault, IsLintText, Lints, lint_status};
 
 use crate::fault::ProgramFault;
 use crate::fault_lines::report_fault;
@@ -22,7 +22,7 @@ const NAME: &str = "-";
 
 // What the lint of a script says.
 #[derive(Drop)]
-struct Report {
+struct LintText {
     // A line for each finding.
     text: String,
     // Whether there is no finding.
@@ -43,9 +43,9 @@ pub fn drive_lint<I: Read, O: Write, F: Write>(
     ensures lints { Lints sizes.now (I.remaining input.old) (written (O.contents output.old) (F.contents faults.old))
         (written (O.contents output.new) (F.contents faults.new)) result }
 {
-    match report_of(alloc, sizes, input) {
-        Ok(report) => match write_answers(report.text.as_bytes(), output) {
-            Ok(()) => status_of(report.is_clean),
+    match lint_text_of(alloc, sizes, input) {
+        Ok(lint) => match write_answers(lint.text.as_bytes(), output) {
+            Ok(()) => status_of(lint.is_clean),
             Err(unwritten) => report_fault(&unwritten, faults),
         },
         Err(fault) => report_fault(&fault, faults),
@@ -60,30 +60,34 @@ fn status_of(is_clean: bool) -> u8
 }
 
 // What the lint says of the script that the input holds.
-fn report_of<I: Read>(alloc: Global, sizes: &Config, input: &mut I) -> Result<Report, ProgramFault>
+fn lint_text_of<I: Read>(
+    alloc: Global,
+    sizes: &Config,
+    input: &mut I,
+) -> Result<LintText, ProgramFault>
     requires in_range { HasSizesInRange sizes.now }
-    ensures report { IfOk result (λ report. IfSome (I.remaining input.old)
-        (λ bytes. IsReport sizes.now (bytes_read bytes) (string_bytes report.text) report.is_clean)) }
+    ensures lint { IfOk result (λ lint. IfSome (I.remaining input.old)
+        (λ bytes. IsLintText sizes.now (bytes_read bytes) (string_bytes lint.text) lint.is_clean)) }
     ensures fault { IfErr result IsEarlyFault }
 {
     let script = read_script(alloc, input)?;
-    match report_on(alloc, sizes, &script) {
-        Ok(report) => Ok(report),
+    match lint_text_on(alloc, sizes, &script) {
+        Ok(lint) => Ok(lint),
         Err(error) => Err(ProgramFault::NoMemory(error)),
     }
 }
 
 // What the lint says of the script.
-fn report_on(alloc: Global, sizes: &Config, script: &[u8]) -> Result<Report, AllocError>
+fn lint_text_on(alloc: Global, sizes: &Config, script: &[u8]) -> Result<LintText, AllocError>
     requires in_range { HasSizesInRange sizes.now }
-    ensures report { IfOk result (λ report. IsReport sizes.now script.now (string_bytes report.text) report.is_clean) }
+    ensures lint { IfOk result (λ lint. IsLintText sizes.now script.now (string_bytes lint.text) lint.is_clean) }
 {
     let findings = lint_script(alloc, script, sizes)?;
     let mut text = String::new(alloc);
     write_findings(NAME, &findings, sizes, &mut text)?;
     write_sizes(sizes, &mut text)?;
     let is_clean = is_clean(&findings, sizes);
-    Ok(Report { text, is_clean })
+    Ok(LintText { text, is_clean })
 }
 
 // Whether nothing is found.

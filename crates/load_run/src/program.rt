@@ -16,7 +16,7 @@ ghost use Rattle.load_run.specs.Driving.{AnswersTo, Drives, DrivesScript};
 ghost use Rattle.load_run.specs.Fault.{IsBootFault, IsFailedTask, IsScriptFault, IsWordsFault};
 ghost use Rattle.load_run.specs.Writing.{AppendsBeginning};
 
-use crate::checked_running::{CheckFault, check_on_boot};
+use crate::checked_replaying::{CheckFault, check_on_boot};
 use crate::checking::drive_check;
 use crate::fault::ProgramFault;
 use crate::fault_lines::report_fault;
@@ -24,7 +24,7 @@ use crate::linting::drive_lint;
 use crate::logging::steps_on_boot;
 use crate::reading::read_script;
 use crate::refusals::answered_status;
-use crate::running::replay_on_boot;
+use crate::replaying::replay_on_boot;
 use crate::serving::drive_serve;
 use crate::thread_running::run_by_threads;
 use crate::tracing::trace_on_boot;
@@ -281,7 +281,7 @@ fn check_answers<N: BootName>(
     match check_on_boot::<N>(alloc, boot, sizes, lines, form, is_audited) {
         Ok(answers) => Ok(answers),
         Err(CheckFault::NoMemory(error)) => Err(ProgramFault::NoMemory(error)),
-        Err(CheckFault::IllegalLine(line)) => Err(ProgramFault::IllegalStep(line)),
+        Err(CheckFault::IllegalLine(line)) => Err(ProgramFault::IllegalLine(line)),
         Err(CheckFault::IllegalEnd) => Err(ProgramFault::IllegalEnd),
     }
 }

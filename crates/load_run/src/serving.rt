@@ -6,15 +6,15 @@ ghost use Rattle.std.specs.Io.KnownBytes.{Appends};
 ghost use Rattle.script_lines.specs.Verb.{IsNames};
 ghost use Rattle.load_options.specs.Sizes.{HasSizesInRange};
 ghost use Rattle.load_run.specs.Causes.{written};
-ghost use Rattle.load_run.specs.Ending.{end_text};
-ghost use Rattle.load_run.specs.Sessions.{BeginsReport, DrivesSession, LeavesSession, ServesInput, StopsSession};
+ghost use Rattle.load_run.specs.Ending.{boot_end_text};
+ghost use Rattle.load_run.specs.Sessions.{DrivesSession, LeavesEnding, LeavesSession, ServesInput, StopsSession};
 ghost use Rattle.load_run.specs.Sessions.{IsSameFault};
 
 use crate::boot_end::{BootEnd, end_boot};
 use crate::fault::ProgramFault;
 use crate::fault_lines::report_fault;
 use crate::program::write_answers;
-use crate::running::with_end;
+use crate::replaying::with_end;
 use cpu_part::BootName;
 use line_server::{ServeFault, Server};
 use load_options::task::Options;
@@ -109,22 +109,22 @@ fn serve_on_boot<N: BootName, I: Read, O: Write>(
     let (locked, tables, cpus) = server.into_parts();
     let ended = end_boot(locked, tables, cpus);
     match served {
-        Ok(()) => write_report(alloc, ended, options.is_audited, output),
+        Ok(()) => write_ending(alloc, ended, options.is_audited, output),
         Err(fault) => Err(fault_of(fault)),
     }
 }
 
-// Writes the report of the end, if that is asked for.
-fn write_report<O: Write>(
+// Writes the text of the end, if that is asked for.
+fn write_ending<O: Write>(
     alloc: Global,
     ended: BootEnd,
     is_audited: bool,
     output: &mut O,
 ) -> Result<(), ProgramFault>
     ensures written { OnOk result (Appends (O.contents output.old) (O.contents output.new)
-        (end_text is_audited ended)) }
-    ensures begun { IfErr result (BeginsReport (O.contents output.old) (O.contents output.new)
-        (end_text is_audited ended)) }
+        (boot_end_text is_audited ended)) }
+    ensures begun { IfErr result (LeavesEnding (O.contents output.old) (O.contents output.new)
+        (boot_end_text is_audited ended)) }
 {
     match with_end(alloc, Vec::new(alloc), ended, is_audited) {
         Ok(text) => write_answers(&text, output),

@@ -9,7 +9,7 @@ ghost use Rattle.load_run.specs.Ending.{EndsAfter};
 ghost use Rattle.load_run.specs.Answers.{AreThreadAnswers, IsQuietSystem};
 
 use crate::boot_end::{BootEnd, end_boot};
-use crate::running::with_end;
+use crate::replaying::with_end;
 use cpu_part::{BootName, Cpu, Tables};
 use mem_system::{Boot, Locked, NoGate, System};
 use script_lines::line::Line;
@@ -20,7 +20,7 @@ use std::sync::Wait;
 use std::thread::Threads;
 
 /// Runs the lines on a boot under a name of its tables, and ends it. It returns what they are answered, with the
-/// numbers of the lines or without, and the report of the end if that is asked for. The lines before `go` are served
+/// numbers of the lines or without, and the text of the end if that is asked for. The lines before `go` are served
 /// one after the other, as `replay` does, and those from it on by a thread for each CPU, as `run_each` does; if there
 /// is no `go`, all lines run in threads. `AllocError` means that memory ran out or a thread can't be started: the boot
 /// has ended then too, and each thread that was started.

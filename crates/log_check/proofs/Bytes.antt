@@ -17,12 +17,12 @@ use Rattle.log_lines.proofs.BadLines.{same_first}
 use Rattle.log_lines.proofs.Lines.{same_line}
 use Rattle.log_lines.proofs.Logs.{ended}
 use Rattle.log_check.specs.declared.reader.LogReader.{LogReader}
-use Rattle.log_check.specs.declared.end.LogVerdict.{LogVerdict}
-use Rattle.log_check.specs.declared.end.LogVerdict.TheVariants as kinds
+use Rattle.log_check.specs.declared.verdict.LogVerdict.{LogVerdict}
+use Rattle.log_check.specs.declared.verdict.LogVerdict.TheVariants as kinds
 use Rattle.log_check.specs.declared.progress.Progress.{Progress}
 use Rattle.log_check.specs.declared.progress.Taken.{Taken}
 use Rattle.log_check.specs.declared.progress.Taken.TheVariants.{GoesOn, NotLegal, Bad}
-use Rattle.log_check.specs.Ends.{BreaksRules, IsLogVerdict, KeepsPromise, zone_in}
+use Rattle.log_check.specs.Verdicts.{BreaksRules, IsLogVerdict, KeepsPromise, zone_in}
 use Rattle.log_check.specs.Taking.{AreWholeLines, CountsSteps, EndsIllegally, HasChecked, HasRead, HasTaken, Reads, StepsAre, Takes}
 
 abbrev NoFeed : List ℕ → Type 0

@@ -14,9 +14,9 @@ use Rattle.log_lines.specs.declared.line.LogLine.TheVariants as kinds
 use Rattle.log_lines.specs.Log.{IsLog, WholeLog, says_something}
 use Rattle.log_lines.proofs.BadLines.{bad_line_is_no_log, continues, filter_append, says_both}
 use Rattle.log_lines.proofs.Logs.{ended, line_of_entry, same_entry}
-use Rattle.log_check.specs.declared.end.LogVerdict.{LogVerdict}
-use Rattle.log_check.specs.declared.end.LogVerdict.TheVariants.{Legal, NotLegal, BadLine}
-use Rattle.log_check.specs.Ends.{BreaksRules, IsLegalLog, IsLogVerdict, says_legal, zone_in}
+use Rattle.log_check.specs.declared.verdict.LogVerdict.{LogVerdict}
+use Rattle.log_check.specs.declared.verdict.LogVerdict.TheVariants.{Legal, NotLegal, BadLine}
+use Rattle.log_check.specs.Verdicts.{BreaksRules, IsLegalLog, IsLogVerdict, says_legal, zone_in}
 
 steps_begin : (run all : List (Step × Answer)) (back : List LogLine) → map line_of_entry run ++ back ≡ map line_of_entry all
     → (more : List (Step × Answer)) × (all ≡ run ++ more)

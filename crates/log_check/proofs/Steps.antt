@@ -18,7 +18,7 @@ use Rattle.log_lines.specs.declared.line.LogLine.TheVariants as kinds
 use Rattle.log_lines.specs.Log.{MayBegin, SayInOrder, WholeLog, says_something}
 use Rattle.log_lines.proofs.BadLines.{filter_append}
 use Rattle.log_lines.proofs.Logs.{line_of_entry}
-use Rattle.log_check.specs.Ends.{zone_in}
+use Rattle.log_check.specs.Verdicts.{zone_in}
 use Rattle.log_check.specs.Taking.{EndsIllegally, HasChecked}
 
 -- the log with one step more

@@ -1,3 +1,3 @@
-pub mod Ends
 pub mod Taking
 pub mod Texts
+pub mod Verdicts

@@ -10,12 +10,12 @@ use Rattle.log_lines.specs.declared.line.LogLine.{LogLine}
 use Rattle.log_lines.specs.declared.line.LogLine.TheVariants as kinds
 use Rattle.log_lines.specs.Line.{IsLineText, IsZone}
 use Rattle.log_lines.specs.Log.{AreLinesOf, MayBegin, SayInOrder, WholeLog, says_something}
-use Rattle.log_check.specs.declared.end.LogVerdict.{LogVerdict}
+use Rattle.log_check.specs.declared.verdict.LogVerdict.{LogVerdict}
 use Rattle.log_check.specs.declared.progress.Progress.{Progress}
 use Rattle.log_check.specs.declared.progress.Taken.{Taken}
 use Rattle.log_check.specs.declared.progress.Taken.TheVariants.{GoesOn, NotLegal, Bad}
 use Rattle.log_check.specs.declared.reader.LogReader.{LogReader}
-use Rattle.log_check.specs.Ends.{IsLogVerdict, zone_in}
+use Rattle.log_check.specs.Verdicts.{IsLogVerdict, zone_in}
 
 -- the sizes of a zone are in their ranges
 abbrev pub IsInRange : LogLine → Type 0
@@ -87,4 +87,4 @@ pub record HasRead (text : List ℕ) (r : LogReader) : Type 0 where
 -- the text was read; or the answer is known for every text that begins with it
 abbrev pub Reads : List ℕ → LogReader → Option LogVerdict → Type 0
 Reads text r None = HasRead text r
-Reads text r (Some end) = (rest : List ℕ) → IsLogVerdict (text ++ rest) end
+Reads text r (Some verdict) = (rest : List ℕ) → IsLogVerdict (text ++ rest) verdict

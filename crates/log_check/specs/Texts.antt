@@ -2,8 +2,8 @@
 use Rattle.std.specs.Prelude.{ℕ, List, ◌++◌, codes, decimal}
 use Rattle.step_rules.specs.declared.step.Answer.{Answer}
 use Rattle.log_lines.specs.Words.{answer_words, spaced}
-use Rattle.log_check.specs.declared.end.LogVerdict.{LogVerdict}
-use Rattle.log_check.specs.declared.end.LogVerdict.TheVariants.{Legal, NotLegal, BadLine}
+use Rattle.log_check.specs.declared.verdict.LogVerdict.{LogVerdict}
+use Rattle.log_check.specs.declared.verdict.LogVerdict.TheVariants.{Legal, NotLegal, BadLine}
 
 -- the line and the number of a step
 abbrev pub place_text : (line step : ℕ) → List ℕ

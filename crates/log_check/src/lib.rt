@@ -2,11 +2,11 @@
 //! checked as soon as it ends.
 #![tactic(auto)]
 
-pub mod end;
 mod progress;
 mod reader;
 mod reading;
 mod text;
+pub mod verdict;
 
 pub use reading::check_log;
-pub use text::write_end;
+pub use text::write_verdict;

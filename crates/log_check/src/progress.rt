@@ -6,7 +6,7 @@ ghost use Rattle.log_lines.specs.declared.line.LogLine.TheVariants as kinds;
 ghost use Rattle.log_lines.specs.Line.{IsZone};
 ghost use Rattle.log_check.specs.Taking.{CountsSteps, HasChecked, IsInRange, Takes};
 
-use crate::end::LogFault;
+use crate::verdict::LogFault;
 use log_lines::line::LogLine;
 use mem_core::checker::Checker;
 use std::alloc::Global;

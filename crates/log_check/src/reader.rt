@@ -2,10 +2,10 @@
 
 ghost use Rattle.std.specs.Prelude.{ℕ, ◌+◌, ◌^◌, ◌<◌, [], ◌∷◌, ◌++◌, IfOk, List};
 ghost use Rattle.log_check.specs.Taking.{Fits, HasRead, Reads};
-ghost use Rattle.log_check.specs.Ends.{IsLogVerdict};
+ghost use Rattle.log_check.specs.Verdicts.{IsLogVerdict};
 
-use crate::end::{LogFault, LogVerdict};
 use crate::progress::{Progress, Taken};
+use crate::verdict::{LogFault, LogVerdict};
 use log_lines::parse_line;
 use std::alloc::Global;
 
@@ -43,8 +43,8 @@ impl LogReader {
         bytes: &[u8],
     ) -> Result<Option<LogVerdict>, LogFault>
         requires fits { Fits self.old }
-        ensures read { IfOk result (λ end.
-            (before : List ℕ) → HasRead before self.old → Reads (before ++ bytes.now) self.new end) }
+        ensures read { IfOk result (λ verdict.
+            (before : List ℕ) → HasRead before self.old → Reads (before ++ bytes.now) self.new verdict) }
         ensures fits { Fits self.new }
     {
         for byte in bytes {
@@ -74,8 +74,8 @@ impl LogReader {
 
     fn take_byte(&mut self, alloc: Global, byte: u8) -> Result<Option<LogVerdict>, LogFault>
         requires fits { Fits self.old }
-        ensures read { IfOk result (λ end.
-            (before : List ℕ) → HasRead before self.old → Reads (before ++ byte ∷ []) self.new end) }
+        ensures read { IfOk result (λ verdict.
+            (before : List ℕ) → HasRead before self.old → Reads (before ++ byte ∷ []) self.new verdict) }
         ensures fits { Fits self.new }
     {
         if self.lines == u64::MAX - 1 {
@@ -98,8 +98,8 @@ impl LogReader {
     fn end_line(&mut self, alloc: Global) -> Result<Option<LogVerdict>, LogFault>
         requires fits { Fits self.old }
         requires few { self.old.lines + 2 < 2 ^ 64 }
-        ensures read { IfOk result (λ end.
-            (before : List ℕ) → HasRead before self.old → Reads (before ++ 10 ∷ []) self.new end) }
+        ensures read { IfOk result (λ verdict.
+            (before : List ℕ) → HasRead before self.old → Reads (before ++ 10 ∷ []) self.new verdict) }
         ensures fits { Fits self.new }
     {
         self.lines += 1;

@@ -1,10 +1,10 @@
 //! Reads a log piece by piece.
 
 ghost use Rattle.std.specs.Prelude.{◌↔◌, IfOk, IfSome, IsTrue};
-ghost use Rattle.log_check.specs.Ends.{IsLegalLog, IsLogVerdict, says_legal};
+ghost use Rattle.log_check.specs.Verdicts.{IsLegalLog, IsLogVerdict, says_legal};
 
-use crate::end::{LogFault, LogVerdict};
 use crate::reader::LogReader;
+use crate::verdict::{LogFault, LogVerdict};
 use std::alloc::Global;
 use std::io::{ErrorKind, Read};
 
@@ -19,9 +19,9 @@ const PIECE: usize = 4_096;
 /// interrupted. Any other error of the reader is `Input`, even if it says that memory ran out. `NoMemory` means that
 /// an allocation failed here.
 pub fn check_log<I: Read>(alloc: Global, input: &mut I) -> Result<LogVerdict, LogFault>
-    ensures end { IfOk result (λ end. IfSome (I.remaining input.old) (λ text. IsLogVerdict text end)) }
-    ensures exact { IfOk result (λ end. IfSome (I.remaining input.old)
-        (λ text. IsTrue (says_legal end) ↔ IsLegalLog text)) }
+    ensures verdict { IfOk result (λ verdict. IfSome (I.remaining input.old) (λ text. IsLogVerdict text verdict)) }
+    ensures exact { IfOk result (λ verdict. IfSome (I.remaining input.old)
+        (λ text. IsTrue (says_legal verdict) ↔ IsLegalLog text)) }
 {
     let mut log = LogReader::new(alloc);
     let mut piece = [0; PIECE];

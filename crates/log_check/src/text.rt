@@ -1,20 +1,20 @@
 //! The result of a check as text.
 
 ghost use Rattle.std.specs.Prelude.{◌≡◌, ◌++◌, IfOk, decimal};
-ghost use Rattle.log_check.specs.declared.end.LogVerdict.TheVariants.{BadLine, Legal, NotLegal};
+ghost use Rattle.log_check.specs.declared.verdict.LogVerdict.TheVariants.{BadLine, Legal, NotLegal};
 ghost use Rattle.log_check.specs.Texts.{due_text, place_text, verdict_text};
 
-use crate::end::LogVerdict;
+use crate::verdict::LogVerdict;
 use itoa::Buffer;
 use log_lines::write_answer;
 use std::alloc::AllocError;
 use step_rules::step::Answer;
 
 /// Appends the line that says what a log is. It fails only if memory runs out.
-pub fn write_end(end: &LogVerdict, text: &mut Vec<u8>) -> Result<(), AllocError>
-    ensures { IfOk result (λ _. text.new.items ≡ text.old.items ++ verdict_text end.now) }
+pub fn write_verdict(verdict: &LogVerdict, text: &mut Vec<u8>) -> Result<(), AllocError>
+    ensures { IfOk result (λ _. text.new.items ≡ text.old.items ++ verdict_text verdict.now) }
 {
-    match *end {
+    match *verdict {
         LogVerdict::Legal { steps } => write_legal(steps, text),
         LogVerdict::NotLegal {
             line,

@@ -6,7 +6,7 @@ ghost use Rattle.tempolemon_c.specs.Replays.{HasCause, IsAnswered};
 
 use crate::fault::ReplayFault;
 use load_run::Form;
-use load_run::running::replay_on_boot;
+use load_run::replaying::replay_on_boot;
 use mem_system::{Boot, BootFault, boot};
 use script_lines::fault::ScriptFault;
 use script_lines::script::parse_script;

@@ -4,6 +4,6 @@ use Rattle.load_run.proofs.checking.report_verdict.Goals as goal
 
 pub returns-in-Err : goal.returns-in-Err
 returns-in-Err g c = record {
-  checks = λ input is verdict. checks_unwritten input _ _ _ _ c.args.end.now c.in-Err.unwritten _ is c.in-Err.ensures.left
+  checks = λ input is verdict. checks_unwritten input _ _ _ _ c.args.verdict.now c.in-Err.unwritten _ is c.in-Err.ensures.left
       c.report_fault.ensures.status c.report_fault.ensures.told;
 }

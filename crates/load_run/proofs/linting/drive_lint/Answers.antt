@@ -5,13 +5,13 @@ use Rattle.load_run.proofs.linting.drive_lint.Goals as goal
 
 pub returns-in-Ok-write_answers : goal.returns-in-Ok-write_answers
 returns-in-Ok-write_answers g c = record {
-  lints = lints_written _ _ _ _ _ (string_bytes c.in-Ok.report.text) _ c.in-Ok.report.is_clean _ c.in-Ok.ensures.report
+  lints = lints_written _ _ _ _ _ (string_bytes c.in-Ok.lint.text) _ c.in-Ok.lint.is_clean _ c.in-Ok.ensures.lint
       c.as_bytes.ensures.value c.in-Ok-write_answers.ensures.written c.status_of.ensures;
 }
 
 pub returns-in-Ok : goal.returns-in-Ok
 returns-in-Ok g c = record {
-  lints = lints_short _ _ _ _ _ _ (string_bytes c.in-Ok.report.text) _ c.in-Ok.report.is_clean _ _ c.in-Ok.ensures.report
+  lints = lints_short _ _ _ _ _ _ (string_bytes c.in-Ok.lint.text) _ c.in-Ok.lint.is_clean _ _ c.in-Ok.ensures.lint
       c.as_bytes.ensures.value c.write_answers.ensures.beginning
       c.in-Err-write_answers.ensures.fault c.report_fault.ensures.status c.report_fault.ensures.told;
 }

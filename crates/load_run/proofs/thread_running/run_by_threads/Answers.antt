@@ -8,7 +8,7 @@ use Rattle.script_replay.specs.Lines.{SystemState, system_state}
 use Rattle.script_replay.specs.Terms.{boot_tables, numbered_terms}
 use Rattle.script_threads.specs.Each.{AreAllAnswers, workers_from}
 use Rattle.script_threads.proofs.Going.{go_least}
-use Rattle.load_run.specs.Ending.{end_text}
+use Rattle.load_run.specs.Ending.{boot_end_text}
 use Rattle.load_run.proofs.Answering.{at_ok, first_long, weakened}
 use Rattle.load_run.proofs.Starting.{boot_shown, parts_tied}
 use Rattle.load_run.proofs.Joining.{are_answers, early_there, later_there}
@@ -76,5 +76,5 @@ returns g c =
             cpus = firsts;
           }) (c.split_at.ensures.front ∙ ap (λ (n : ℕ). take n lines) c.before_go.ensures)
           (c.split_at.ensures.back ∙ ap (λ (n : ℕ). drop n lines) c.before_go.ensures) replays.served history tells c.serve_and_end-told.ensures.ends
-          (is ∙ ap (λ (l : List ℕ). l ++ end_text c.args.is_audited ended) joined)) c.with_end.ensures.told;
+          (is ∙ ap (λ (l : List ℕ). l ++ boot_end_text c.args.is_audited ended) joined)) c.with_end.ensures.told;
     }

@@ -1,7 +1,7 @@
 -- Serves the contract of `check_log`: each read takes one more piece, up to the end or until the answer is known.
 use Rattle.std.proofs.Common.{◌<◌, ◌++◌, ℕ, Option, length, rules, subst, sym, take}
 use Rattle.std.specs.Io.KnownBytes.{Consumes}
-use Rattle.log_check.specs.declared.end.LogVerdict.{LogVerdict}
+use Rattle.log_check.specs.declared.verdict.LogVerdict.{LogVerdict}
 use Rattle.log_check.specs.declared.reader.LogReader.{LogReader}
 use Rattle.log_check.specs.Taking.{Fits, Reads}
 use Rattle.log_check.proofs.Exact.{exact_if}
@@ -9,8 +9,8 @@ use Rattle.log_check.proofs.Parts.{IsReadTo, all_read, ended, kept, more}
 use Rattle.log_check.proofs.reading.check_log.Goals.{in-Ok+in_ok-end-in-Ok+in_default, in-Err}
 use Rattle.log_check.proofs.reading.check_log.Goals as goal
 
-pub returns-in-Ok-eq0-clause-end : goal.returns-in-Ok-eq0-clause-end
-returns-in-Ok-eq0-clause-end g c =
+pub returns-in-Ok-eq0-clause-verdict : goal.returns-in-Ok-eq0-clause-verdict
+returns-in-Ok-eq0-clause-verdict g c =
     let before = g.I.Read.remaining c.loop.input in
     let after = g.I.Read.remaining c.read.new.self in
     let buf = c.read.new.buf in
@@ -20,17 +20,17 @@ returns-in-Ok-eq0-clause-end g c =
     (subst (λ (n : ℕ). Consumes before after (take n buf)) c.in-Ok-eq0.field-0-test bytes.0) (bytes.1 c.in-Ok-eq0.field-0-test some) c.end.ensures
 
 pub returns-in-Ok-eq0-clause-exact : goal.returns-in-Ok-eq0-clause-exact
-returns-in-Ok-eq0-clause-exact g c = exact_if (g.I.Read.remaining c.args.input.now) c.end.result (returns-in-Ok-eq0-clause-end g c)
+returns-in-Ok-eq0-clause-exact g c = exact_if (g.I.Read.remaining c.args.input.now) c.end.result (returns-in-Ok-eq0-clause-verdict g c)
 
-pub returns-in-Some-clause-end : goal.returns-in-Some-clause-end
-returns-in-Some-clause-end g c =
+pub returns-in-Some-clause-verdict : goal.returns-in-Some-clause-verdict
+returns-in-Some-clause-verdict g c =
     let piece = take c.in-Ok.n c.read.new.buf in
     ended (g.I.Read.remaining c.args.input.now) (g.I.Read.remaining c.loop.input) (g.I.Read.remaining c.read.new.self) c.loop.log c.take_bytes.new.self
     piece c.in-Some.end c.loop.invariant.1 c.in-Ok.ensures.bytes.0
     (λ before h. subst (λ (e : Option LogVerdict). Reads (before ++ piece) c.take_bytes.new.self e) c.in-Some.is (c.in_ok-end-in-Ok.ensures.read before h))
 
 pub returns-in-Some-clause-exact : goal.returns-in-Some-clause-exact
-returns-in-Some-clause-exact g c = exact_if (g.I.Read.remaining c.args.input.now) c.in-Some.end (returns-in-Some-clause-end g c)
+returns-in-Some-clause-exact g c = exact_if (g.I.Read.remaining c.args.input.now) c.in-Some.end (returns-in-Some-clause-verdict g c)
 
 pub loop-preserved : goal.loop-preserved
 loop-preserved g c =

@@ -2,10 +2,10 @@ use Rattle.std.proofs.Common.{ℕ, [], All, sym, subst, refl}
 use Rattle.script_replay.specs.Lines.{system_state}
 use Rattle.script_replay.specs.Ranges.{LineInRange}
 use Rattle.mem_history.proofs.Agreeing.{a_boot_agrees}
-use Rattle.load_run.specs.Ending.{end_text}
+use Rattle.load_run.specs.Ending.{boot_end_text}
 use Rattle.load_run.proofs.Answering.{at_ok, weakened}
 use Rattle.load_run.proofs.Starting.{boot_shown, parts_tied}
-use Rattle.load_run.proofs.running.replay_on_boot.Goals as goal
+use Rattle.load_run.proofs.replaying.replay_on_boot.Goals as goal
 
 pub replay_and_end_boot-answers-requires-clause-lines : goal.replay_and_end_boot-answers-requires-clause-lines
 replay_and_end_boot-answers-requires-clause-lines g c =
@@ -28,7 +28,7 @@ returns g c =
         start = system_state c.in_ok-locked.locked c.in_ok-locked.cpus.items;
         end = ended.before;
         answers = c.in_ok-answers.field-0.items;
-        ending = end_text c.args.is_audited told;
+        ending = boot_end_text c.args.is_audited told;
         first = record {
           sized = sized;
           machine = c.in_ok-locked.ensures.machine;
@@ -39,7 +39,7 @@ returns g c =
         history = replays.history [] (boot_shown c.args.boot.sizes t w c.in_ok-locked.locked.machine c.in_ok-locked.cpus.items sized
             c.in_ok-locked.ensures.machine first) (parts_tied c.args.boot.sizes t w c.in_ok-locked.locked.machine c.in_ok-locked.cpus.items sized
             c.in_ok-locked.ensures.machine first);
-        told = a_boot_agrees t w c.in_ok-locked.locked.machine c.in_ok-locked.ensures.machine;
+        agrees = a_boot_agrees t w c.in_ok-locked.locked.machine c.in_ok-locked.ensures.machine;
         ends = record { ended = told; ends = ended.ends; text_is = refl };
         text_is = is;
       }) c.with_end.ensures.told;

@@ -6,8 +6,8 @@ use Rattle.step_rules.specs.After.{IsLegalRun}
 use Rattle.mem_core.specs.Checked.{IsFirstIllegal}
 use Rattle.mem_core.specs.Promise.{AlwaysKeepsPromise}
 use Rattle.log_lines.specs.Log.{IsFirstBadLine, IsLog, WholeLog}
-use Rattle.log_check.specs.declared.end.LogVerdict.{LogVerdict}
-use Rattle.log_check.specs.declared.end.LogVerdict.TheVariants.{Legal, NotLegal, BadLine}
+use Rattle.log_check.specs.declared.verdict.LogVerdict.{LogVerdict}
+use Rattle.log_check.specs.declared.verdict.LogVerdict.TheVariants.{Legal, NotLegal, BadLine}
 
 -- the zone of a log
 abbrev pub zone_in : WholeLog → Zone

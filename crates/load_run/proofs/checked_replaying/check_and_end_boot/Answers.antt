@@ -6,7 +6,7 @@ use Rattle.script_replay.specs.Lines.{system_state}
 use Rattle.script_replay.specs.Ranges.{LineInRange}
 use Rattle.script_replay.specs.Terms.{form_terms}
 use Rattle.load_run.specs.Ending.{EndsSeen}
-use Rattle.load_run.proofs.checked_running.check_and_end_boot.Goals as goal
+use Rattle.load_run.proofs.checked_replaying.check_and_end_boot.Goals as goal
 
 pub replay_checked-answers-requires-clause-there : goal.replay_checked-answers-requires-clause-there
 replay_checked-answers-requires-clause-there g c =

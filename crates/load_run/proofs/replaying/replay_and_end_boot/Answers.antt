@@ -6,7 +6,7 @@ use Rattle.script_replay.specs.Lines.{system_state}
 use Rattle.script_replay.specs.Ranges.{LineInRange}
 use Rattle.script_replay.specs.Terms.{form_terms}
 use Rattle.load_run.specs.Ending.{EndsHeld}
-use Rattle.load_run.proofs.running.replay_and_end_boot.Goals as goal
+use Rattle.load_run.proofs.replaying.replay_and_end_boot.Goals as goal
 
 pub replay-answers-requires : goal.replay-answers-requires
 replay-answers-requires g c =

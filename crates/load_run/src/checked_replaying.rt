@@ -11,7 +11,7 @@ ghost use Rattle.load_run.specs.Answers.{AreCheckedAnswers, checked_text};
 ghost use Rattle.load_run.specs.Ending.{EndsSeenAfter};
 
 use crate::boot_end::{BootEnd, CheckedSteps, end_seen_boot};
-use crate::running::with_end;
+use crate::replaying::with_end;
 use cpu_part::{BootName, Cpu, Tables};
 use mem_system::{Boot, Locked};
 use script_lines::line::Line;
@@ -47,7 +47,7 @@ impl From<Stopped> for CheckFault {
 }
 
 /// Replays the lines as `replay_on_boot` does, with a check of each step that they and the end make. What they are
-/// answered is followed by the report of the end, if that is asked for, and by the number of all steps. The replay
+/// answered is followed by the text of the end, if that is asked for, and by the number of all steps. The replay
 /// stops after the first line with a step that isn't legal, or if memory runs out: a boot that began has ended then
 /// too.
 pub fn check_on_boot<N: BootName>(

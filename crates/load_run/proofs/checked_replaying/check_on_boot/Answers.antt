@@ -7,11 +7,11 @@ use Rattle.script_replay.specs.Lines.{system_state}
 use Rattle.script_replay.specs.Ranges.{LineInRange}
 use Rattle.mem_history.proofs.Agreeing.{a_boot_agrees}
 use Rattle.load_run.specs.Answers.{checked_text}
-use Rattle.load_run.specs.Ending.{end_text}
+use Rattle.load_run.specs.Ending.{boot_end_text}
 use Rattle.load_run.proofs.Answering.{at_ok}
 use Rattle.load_run.proofs.Starting.{boot_shown, new_watch, parts_tied, watched_first}
 use Rattle.load_run.proofs.Watched.{saw_more}
-use Rattle.load_run.proofs.checked_running.check_on_boot.Goals as goal
+use Rattle.load_run.proofs.checked_replaying.check_on_boot.Goals as goal
 
 pub check_and_end_boot-answers-requires-clause-lines : goal.check_and_end_boot-answers-requires-clause-lines
 check_and_end_boot-answers-requires-clause-lines g c =
@@ -46,7 +46,7 @@ returns g c =
     let told = c.check_and_end_boot-answers.result.1 in
     let steps = c.check_and_end_boot-answers.result.2.steps in
     let answers = c.in_ok-answers.answers.items in
-    let ending = end_text c.args.is_audited told in
+    let ending = boot_end_text c.args.is_audited told in
     record {
       answers = record {
         frames = t;

@@ -6,9 +6,9 @@ ghost use Rattle.script_replay.specs.Lines.{system_state};
 ghost use Rattle.script_replay.specs.Ranges.{LineInRange};
 ghost use Rattle.script_replay.specs.Terms.{form_terms};
 ghost use Rattle.load_run.specs.Answers.{AreReplayAnswers};
-ghost use Rattle.load_run.specs.Ending.{EndsAfter, end_text};
+ghost use Rattle.load_run.specs.Ending.{EndsAfter, boot_end_text};
 
-use crate::boot_end::{BootEnd, end_boot, write_end};
+use crate::boot_end::{BootEnd, end_boot, write_boot_end};
 use cpu_part::{BootName, Cpu, Tables};
 use mem_system::{Boot, Locked};
 use script_lines::line::Line;
@@ -16,7 +16,7 @@ use script_replay::{Form, replay};
 use std::alloc::{AllocError, Global};
 
 /// Replays the lines on a boot under a name of its tables, and ends it. It returns what they are answered in this
-/// form, and the report of the end if that is asked for. `AllocError` means that memory ran out: a boot
+/// form, and the text of the end if that is asked for. `AllocError` means that memory ran out: a boot
 /// that began has ended then too.
 pub fn replay_on_boot<N: BootName>(
     alloc: Global,
@@ -54,18 +54,18 @@ fn replay_and_end_boot<N: BootName>(
     (answers, ended)
 }
 
-/// The answers, and after them the report of the end if that is asked for. `AllocError` means that memory ran out.
+/// The answers, and after them the text of the end if that is asked for. `AllocError` means that memory ran out.
 pub fn with_end(
     alloc: Global,
     mut answers: Vec<u8>,
     ended: BootEnd,
     is_audited: bool,
 ) -> Result<Vec<u8>, AllocError>
-    ensures told { IfOk result (λ text. text.items ≡ answers.items ++ end_text is_audited ended) }
+    ensures told { IfOk result (λ text. text.items ≡ answers.items ++ boot_end_text is_audited ended) }
 {
     if is_audited {
         let mut told = String::new(alloc);
-        write_end(&ended, &mut told)?;
+        write_boot_end(&ended, &mut told)?;
         answers.extend_from_slice(told.as_bytes())?;
     }
     Ok(answers)
