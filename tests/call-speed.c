@@ -53,7 +53,8 @@ static void read_usage(void) {
 static void command(void) {
     uint8_t answers[64];
     size_t written, first_bad;
-    ask(tempolemon_command(&host, false, BYTES("1 settle\n"), answers, sizeof answers, &written, &first_bad), "command");
+    ask(tempolemon_command(&host, false, BYTES("1 settle\n"), answers, sizeof answers, &written, &first_bad),
+        "command");
 }
 
 static void measure(const char *what, void (*round)(void)) {

@@ -16,8 +16,10 @@ static void expect(const char *what, tempolemon_sizes sizes, const char *script,
     memcpy(wanted, answers, strlen(answers));
     uint8_t given = tempolemon_replay(&sizes, false, false, (const uint8_t *)script, strlen(script),
                                       buffer, room, &given_written, &given_bad);
-    if (given != status || given_written != written || given_bad != first_bad || memcmp(buffer, wanted, sizeof buffer) != 0) {
-        printf("%s: status %u, %zu written, bad line %zu, %.64s\n", what, given, given_written, given_bad, (char *)buffer);
+    if (given != status || given_written != written || given_bad != first_bad
+        || memcmp(buffer, wanted, sizeof buffer) != 0) {
+        printf("%s: status %u, %zu written, bad line %zu, %.64s\n",
+               what, given, given_written, given_bad, (char *)buffer);
         failures++;
     }
 }

@@ -1,4 +1,5 @@
-/* Measures round trips of a session over a pipe: cc -O2 -o serve-rate tests/serve-rate.c && ./serve-rate PROGRAM [COUNT]
+/* Measures round trips of a session over a pipe:
+       cc -O2 -o serve-rate tests/serve-rate.c && ./serve-rate PROGRAM [COUNT]
    Each trip writes one line and reads its answer up to the empty line. */
 #define _GNU_SOURCE
 #include <stdio.h>
