@@ -125,9 +125,26 @@ impl<N: BootName> Live<N> {
         }
     }
 
-    // Serves a command of a CPU that is there, as is all that the command names.
-    #[inline(always)]
+    // Serves a command of a CPU that is there, as is all that the command names. It isn't inlined, so that `call` stays
+    // small enough to be.
+    #[inline(never)]
     fn serve(&mut self, cpu: u32, command: &Command<'_>) -> CallAnswer
+        requires there { CpuCommandInRange N.frames.frames (length self.old.state.cpus) cpu command.now }
+        requires short { IsShort (work_of command.now) }
+        ensures { ReturnsCommandAnswer N.frames N.stocks cpu command.now self.old self.new result }
+    {
+        CallAnswer::Served(serve_typed(
+            &mut self.locked,
+            &self.tables,
+            &mut self.cpus,
+            cpu,
+            command,
+        ))
+    }
+
+    // Does the same for a command that names a frame. It is inlined, since a get and a put have few steps.
+    #[inline(always)]
+    fn serve_inlined(&mut self, cpu: u32, command: &Command<'_>) -> CallAnswer
         requires there { CpuCommandInRange N.frames.frames (length self.old.state.cpus) cpu command.now }
         requires short { IsShort (work_of command.now) }
         ensures { ReturnsCommandAnswer N.frames N.stocks cpu command.now self.old self.new result }
@@ -150,7 +167,7 @@ impl<N: BootName> Live<N> {
         if frame >= self.sizes.frames {
             return CallAnswer::NoFrame;
         }
-        self.serve(cpu, &what.command(frame))
+        self.serve_inlined(cpu, &what.command(frame))
     }
 
     // Takes a block for the group of this number, at a CPU that is there.
