@@ -5,7 +5,7 @@ use Rattle.std.proofs.lemmas.List.{length-take, map_more, set-get_or}
 use Rattle.stock_word.specs.declared.view.Stock.{Stock}
 use Rattle.stock_word.specs.Calls.{with_view}
 use Rattle.cpu_part.specs.Cpus.{KnownCpu}
-use Rattle.trace_lines.specs.declared.place.Place.{Place}
+use Rattle.trace_lines.specs.declared.place.ShownPlace.{ShownPlace}
 use Rattle.trace_lines.specs.declared.shown.Flags.{Flags}
 use Rattle.trace_lines.specs.declared.shown.Counts.{Counts}
 use Rattle.trace_lines.specs.Shown as shown
@@ -52,7 +52,7 @@ shown_again machine now cpus others looked same =
 
 -- the parts that were shown after the looks make up the state that was there before
 pub shown_whole : (machine now : KnownMachine) (cpus others : List KnownCpu) → now ≡ with_looks machine (length cpus) → others ≡ cpus
-    → (places : List Place) (flags : List Flags) (groups : List shown.KnownGroup) (seen : List shown.KnownCpu) (counts : Counts)
+    → (places : List ShownPlace) (flags : List Flags) (groups : List shown.KnownGroup) (seen : List shown.KnownCpu) (counts : Counts)
     → places ≡ places_shown now others → flags ≡ flags_shown now → groups ≡ groups_shown now → seen ≡ cpus_shown machine cpus
     → counts ≡ counts_shown machine cpus
     → record { places = places; flags = flags; groups = groups; cpus = seen; counts = counts } ≡ shown_state machine cpus

@@ -5,8 +5,8 @@ use Rattle.lru_lists.specs.declared.record.Link.{Link}
 use Rattle.stock_word.specs.declared.view.Stock.{Stock}
 use Rattle.stock_word.specs.declared.view.Stock.TheVariants.{NoGroup, HeldBy, DrainedOf}
 use Rattle.cpu_part.specs.Cpus.{KnownCpu}
-use Rattle.trace_lines.specs.declared.place.Place.{Place}
-use Rattle.trace_lines.specs.declared.place.Place.TheVariants.{Charged}
+use Rattle.trace_lines.specs.declared.place.ShownPlace.{ShownPlace}
+use Rattle.trace_lines.specs.declared.place.ShownPlace.TheVariants.{Charged}
 use Rattle.trace_lines.specs.declared.place.TracedFrame.{TracedFrame}
 use Rattle.trace_lines.specs.declared.place.TracedFrame.TheVariants as recorded
 use Rattle.trace_lines.specs.declared.shown.Flags.{Flags}
@@ -24,25 +24,25 @@ record_of (Head unit) = recorded.Head unit.group unit.order
 record_of (Tail group) = recorded.Tail group
 
 -- the places with each of these frames in a unit of its own, charged to this group
-abbrev pub with_singles : (group : ℕ) → List Place → (frames : List ℕ) → List Place
+abbrev pub with_singles : (group : ℕ) → List ShownPlace → (frames : List ℕ) → List ShownPlace
 with_singles group places [] = places
 with_singles group places (frame ∷ frames) =
     with_singles group (slice_set places frame (Charged group 0)) frames
 
 -- the places with the fresh frames of a CPU whose stock this is: they are charged to the group of the stock, which paid
 -- for them
-abbrev pub with_fresh_of : Stock → List Place → (fresh : List ℕ) → List Place
+abbrev pub with_fresh_of : Stock → List ShownPlace → (fresh : List ℕ) → List ShownPlace
 with_fresh_of NoGroup places fresh = places
 with_fresh_of (HeldBy group pages) places fresh = with_singles group places fresh
 with_fresh_of (DrainedOf group) places fresh = with_singles group places fresh
 
 -- the places with the fresh frames of these CPUs
-abbrev pub with_fresh : List Place → List KnownCpu → List Place
+abbrev pub with_fresh : List ShownPlace → List KnownCpu → List ShownPlace
 with_fresh places [] = places
 with_fresh places (cpu ∷ cpus) = with_fresh (with_fresh_of cpu.stock_seat.view.last places cpu.fresh) cpus
 
 -- the place of each frame; for the zone a fresh frame is lent to its CPU, but here it is charged
-abbrev pub places_shown : KnownMachine → List KnownCpu → List Place
+abbrev pub places_shown : KnownMachine → List KnownCpu → List ShownPlace
 places_shown machine cpus = with_fresh (places_of (map record_of machine.frame_states)) cpus
 
 -- the flags of the unit with this link, or none if it isn't kept

@@ -1,7 +1,7 @@
 //! The places of the frames.
 
 ghost use Rattle.std.specs.Prelude.{◌≡◌, IfOk, map, slice_set};
-ghost use Rattle.trace_lines.specs.declared.place.Place.TheVariants.{Charged};
+ghost use Rattle.trace_lines.specs.declared.place.ShownPlace.TheVariants.{Charged};
 ghost use Rattle.trace_lines.specs.Places.{places_of};
 ghost use Rattle.shown_states.specs.Frames.{places_shown, record_of, with_fresh, with_fresh_of, with_singles};
 
@@ -10,14 +10,14 @@ use frame_word::Frame;
 use mem_machine::{FrameState, Machine};
 use std::alloc::{AllocError, Global};
 use stock_word::Stock;
-use trace_lines::place::{Place, TracedFrame, places};
+use trace_lines::place::{ShownPlace, TracedFrame, places};
 
 // The place of each frame. For the zone a fresh frame is lent to its CPU, but here it is charged.
 pub(crate) fn show_places<N: BootName>(
     alloc: Global,
     machine: &Machine<N>,
     cpus: &[Cpu<N>],
-) -> Result<Vec<Place>, AllocError>
+) -> Result<Vec<ShownPlace>, AllocError>
     ensures { IfOk result (λ places. places.items ≡ places_shown machine.now cpus.now) }
 {
     let mut places = recorded_places(alloc, machine)?;
@@ -29,7 +29,7 @@ pub(crate) fn show_places<N: BootName>(
 fn recorded_places<N: BootName>(
     alloc: Global,
     machine: &Machine<N>,
-) -> Result<Vec<Place>, AllocError>
+) -> Result<Vec<ShownPlace>, AllocError>
     ensures { IfOk result (λ places. places.items ≡ places_of (map record_of machine.now.frame_states)) }
 {
     let frame_states = machine.frame_states();
@@ -41,7 +41,7 @@ fn recorded_places<N: BootName>(
 }
 
 // Sets the places of the fresh frames of these CPUs.
-fn set_fresh<N: BootName>(cpus: &[Cpu<N>], places: &mut [Place])
+fn set_fresh<N: BootName>(cpus: &[Cpu<N>], places: &mut [ShownPlace])
     ensures { places.new ≡ with_fresh places.old cpus.now }
 {
     for cpu in cpus {
@@ -50,7 +50,7 @@ fn set_fresh<N: BootName>(cpus: &[Cpu<N>], places: &mut [Place])
 }
 
 // Sets the places of the fresh frames of a CPU whose stock this is.
-fn set_fresh_of(stock: Stock, fresh: &[Frame], places: &mut [Place])
+fn set_fresh_of(stock: Stock, fresh: &[Frame], places: &mut [ShownPlace])
     ensures { places.new ≡ with_fresh_of stock places.old fresh.now }
 {
     match stock {
@@ -61,7 +61,7 @@ fn set_fresh_of(stock: Stock, fresh: &[Frame], places: &mut [Place])
 }
 
 // Puts each of these frames in a unit of its own, charged to this group.
-fn set_singles(group: u32, frames: &[Frame], places: &mut [Place])
+fn set_singles(group: u32, frames: &[Frame], places: &mut [ShownPlace])
     ensures { places.new ≡ with_singles group places.old frames.now }
 {
     for frame in frames {
@@ -71,11 +71,11 @@ fn set_singles(group: u32, frames: &[Frame], places: &mut [Place])
 
 // Puts this frame in a unit of its own, charged to this group.
 #[tactic(auto, using(crate::proofs::FreshSet::single_past))]
-fn set_single(group: u32, frame: usize, places: &mut [Place])
+fn set_single(group: u32, frame: usize, places: &mut [ShownPlace])
     ensures { places.new ≡ slice_set places.old frame (Charged group 0) }
 {
     if frame < places.len() {
-        places[frame] = Place::Charged { group, order: 0 };
+        places[frame] = ShownPlace::Charged { group, order: 0 };
     }
 }
 

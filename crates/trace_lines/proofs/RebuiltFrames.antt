@@ -2,8 +2,8 @@
 use Rattle.std.proofs.Common.{◌≡◌, ◌∙◌, ℕ, zero, suc, ◌+◌, ◌<◌, ◌≤◌, Bool, true, false, List, [], ◌∷◌, ◌++◌, length, get_or, arith, ap, sym, refl}
 use Rattle.std.specs.Prelude.{◌&&◌, ◌==◌, nat_le, ⊤, if◌then◌else◌}
 use Rattle.std.proofs.lemmas.Bool.{and_parts, eqb-true, eq-eqb, cond-true, cond-false}
-use Rattle.trace_lines.specs.declared.place.Place.{Place}
-use Rattle.trace_lines.specs.declared.place.Place.TheVariants.{Free}
+use Rattle.trace_lines.specs.declared.place.ShownPlace.{ShownPlace}
+use Rattle.trace_lines.specs.declared.place.ShownPlace.TheVariants.{Free}
 use Rattle.trace_lines.specs.declared.shown.Flags.{Flags}
 use Rattle.trace_lines.specs.declared.frames.FrameSpan.{FrameSpan}
 use Rattle.trace_lines.specs.Places.{is_same_place}
@@ -20,7 +20,7 @@ from_less : (m n : ℕ) (spans : List FrameSpan) → m ≤ n → AreFrom n spans
 from_less m n [] le all = tt
 from_less m n (span ∷ spans) le all = (omega (arith, all.0), all.1, from_less m n spans le all.2)
 
-joined_by : (b : Bool) (frame : ℕ) (p : Place) (span : FrameSpan) (spans : List FrameSpan) → AreFrom (frame + 1) (span ∷ spans)
+joined_by : (b : Bool) (frame : ℕ) (p : ShownPlace) (span : FrameSpan) (spans : List FrameSpan) → AreFrom (frame + 1) (span ∷ spans)
     → AreFrom frame (if b then record { first = frame; last = span.last; place = p } ∷ spans else record { first = frame; last = frame; place = p } ∷ span ∷ spans)
 joined_by true frame p span spans all =
     let first = all.0 in
@@ -29,39 +29,39 @@ joined_by true frame p span spans all =
 joined_by false frame p span spans all =
     (omega arith, omega arith, from_less frame (frame + 1) (span ∷ spans) (omega arith) all)
 
-joined_from : (frame : ℕ) (p : Place) (spans : List FrameSpan) → AreFrom (frame + 1) spans → AreFrom frame (joined frame p spans)
+joined_from : (frame : ℕ) (p : ShownPlace) (spans : List FrameSpan) → AreFrom (frame + 1) spans → AreFrom frame (joined frame p spans)
 joined_from frame p [] all = (omega arith, omega arith, tt)
 joined_from frame p (span ∷ spans) all = joined_by (span.first == frame + 1 && is_same_place span.place p) frame p span spans all
 
-runs_by : (b : Bool) (frame : ℕ) (p : Place) (spans : List FrameSpan) → AreFrom (frame + 1) spans → AreFrom frame (if b then spans else joined frame p spans)
+runs_by : (b : Bool) (frame : ℕ) (p : ShownPlace) (spans : List FrameSpan) → AreFrom (frame + 1) spans → AreFrom frame (if b then spans else joined frame p spans)
 runs_by true frame p spans all = from_less frame (frame + 1) spans (omega arith) all
 runs_by false frame p spans all = joined_from frame p spans all
 
-runs_from : (frame : ℕ) (before after : List Place) → AreFrom frame (frame_spans frame before after)
+runs_from : (frame : ℕ) (before after : List ShownPlace) → AreFrom frame (frame_spans frame before after)
 runs_from frame [] after = tt
 runs_from frame (o ∷ before) [] = tt
 runs_from frame (o ∷ before) (n ∷ after) =
     runs_by (is_same_place o n) frame n (frame_spans (frame + 1) before after) (runs_from (frame + 1) before after)
 
 -- a span that doesn't have the frame doesn't change it
-outside : (first last k : ℕ) (p q : Place) → k < first → (if nat_le first k && nat_le k last then p else q) ≡ q
+outside : (first last k : ℕ) (p q : ShownPlace) → k < first → (if nat_le first k && nat_le k last then p else q) ≡ q
 outside first last k p q lt = cond-false (nat_le first k && nat_le k last) p q (grind arith)
 
-outside_last : (first last k : ℕ) (p q : Place) → last < k → (if nat_le first k && nat_le k last then p else q) ≡ q
+outside_last : (first last k : ℕ) (p q : ShownPlace) → last < k → (if nat_le first k && nat_le k last then p else q) ≡ q
 outside_last first last k p q lt = cond-false (nat_le first k && nat_le k last) p q (grind arith)
 
-inside : (first last k : ℕ) (p q : Place) → first ≤ k → k ≤ last → (if nat_le first k && nat_le k last then p else q) ≡ p
+inside : (first last k : ℕ) (p q : ShownPlace) → first ≤ k → k ≤ last → (if nat_le first k && nat_le k last then p else q) ≡ p
 inside first last k p q le lt = cond-true (nat_le first k && nat_le k last) p q (grind arith)
 
 -- frames before all spans keep their place
-earlier : (n k : ℕ) (spans : List FrameSpan) (old : Place) → AreFrom n spans → k < n → place_after spans k old ≡ old
+earlier : (n k : ℕ) (spans : List FrameSpan) (old : ShownPlace) → AreFrom n spans → k < n → place_after spans k old ≡ old
 earlier n k [] old all lt = refl
 earlier n k (span ∷ spans) old all lt =
     let first = all.0 in
     outside span.first span.last k span.place (place_after spans k old) (omega arith) ∙ earlier n k spans old all.2 lt
 
 -- what a frame that was put before the spans becomes
-at_joined : (b : Bool) (frame : ℕ) (p : Place) (span : FrameSpan) (spans : List FrameSpan) (old : Place) → AreFrom (frame + 1) (span ∷ spans)
+at_joined : (b : Bool) (frame : ℕ) (p : ShownPlace) (span : FrameSpan) (spans : List FrameSpan) (old : ShownPlace) → AreFrom (frame + 1) (span ∷ spans)
     → place_after (if b then record { first = frame; last = span.last; place = p } ∷ spans else record { first = frame; last = frame; place = p } ∷ span ∷ spans) frame old ≡ p
 at_joined true frame p span spans old all =
     let first = all.0 in
@@ -69,20 +69,20 @@ at_joined true frame p span spans old all =
     inside frame span.last frame p (place_after spans frame old) (omega arith) (omega arith)
 at_joined false frame p span spans old all = inside frame frame frame p (place_after (span ∷ spans) frame old) (omega arith) (omega arith)
 
-at_frame : (frame : ℕ) (p : Place) (spans : List FrameSpan) (old : Place) → AreFrom (frame + 1) spans → place_after (joined frame p spans) frame old ≡ p
+at_frame : (frame : ℕ) (p : ShownPlace) (spans : List FrameSpan) (old : ShownPlace) → AreFrom (frame + 1) spans → place_after (joined frame p spans) frame old ≡ p
 at_frame frame p [] old all = inside frame frame frame p old (omega arith) (omega arith)
 at_frame frame p (span ∷ spans) old all = at_joined (span.first == frame + 1 && is_same_place span.place p) frame p span spans old all
 
 -- later frames become what they become by the spans
-longer : (first last k : ℕ) (p q r : Place) → first ≤ k → p ≡ q → (first' : ℕ) → first' ≤ k
+longer : (first last k : ℕ) (p q r : ShownPlace) → first ≤ k → p ≡ q → (first' : ℕ) → first' ≤ k
     → (if nat_le first k && nat_le k last then p else r) ≡ (if nat_le first' k && nat_le k last then q else r)
 longer first last k p q r le e first' le' =
     let one : nat_le first k ≡ true = grind arith in
     let two : nat_le first' k ≡ true = grind arith in
     ap (λ (b : Bool). if b && nat_le k last then p else r) (one ∙ sym two)
-    ∙ ap (λ (x : Place). if nat_le first' k && nat_le k last then x else r) e
+    ∙ ap (λ (x : ShownPlace). if nat_le first' k && nat_le k last then x else r) e
 
-behind_joined : (b : Bool) (frame k : ℕ) (p : Place) (span : FrameSpan) (spans : List FrameSpan) (old : Place) → frame < k
+behind_joined : (b : Bool) (frame k : ℕ) (p : ShownPlace) (span : FrameSpan) (spans : List FrameSpan) (old : ShownPlace) → frame < k
     → b ≡ (span.first == frame + 1 && is_same_place span.place p)
     → place_after (if b then record { first = frame; last = span.last; place = p } ∷ spans else record { first = frame; last = frame; place = p } ∷ span ∷ spans) k old
     ≡ place_after (span ∷ spans) k old
@@ -92,22 +92,22 @@ behind_joined true frame k p span spans old lt e =
     longer frame span.last k p span.place (place_after spans k old) (omega arith) (sym (same_place span.place p parts.1)) span.first (omega arith)
 behind_joined false frame k p span spans old lt e = outside_last frame frame k p (place_after (span ∷ spans) k old) (omega arith)
 
-behind : (frame k : ℕ) (p : Place) (spans : List FrameSpan) (old : Place) → frame < k → place_after (joined frame p spans) k old ≡ place_after spans k old
+behind : (frame k : ℕ) (p : ShownPlace) (spans : List FrameSpan) (old : ShownPlace) → frame < k → place_after (joined frame p spans) k old ≡ place_after spans k old
 behind frame k p [] old lt = outside_last frame frame k p old (omega arith)
 behind frame k p (span ∷ spans) old lt = behind_joined (span.first == frame + 1 && is_same_place span.place p) frame k p span spans old lt refl
 
 -- the first frame of those that are compared
-first_place : (b : Bool) (frame k : ℕ) (o n : Place) (spans : List FrameSpan) → AreFrom (frame + 1) spans → b ≡ is_same_place o n → k ≡ frame
+first_place : (b : Bool) (frame k : ℕ) (o n : ShownPlace) (spans : List FrameSpan) → AreFrom (frame + 1) spans → b ≡ is_same_place o n → k ≡ frame
     → place_after (if b then spans else joined frame n spans) k o ≡ n
 first_place true frame k o n spans all e is = earlier (frame + 1) k spans o all (omega arith) ∙ same_place o n (sym e)
 first_place false frame k o n spans all e is = ap (λ (m : ℕ). place_after (joined frame n spans) m o) is ∙ at_frame frame n spans o all
 
-later_place : (b : Bool) (frame k : ℕ) (n : Place) (spans : List FrameSpan) (old : Place) → frame < k
+later_place : (b : Bool) (frame k : ℕ) (n : ShownPlace) (spans : List FrameSpan) (old : ShownPlace) → frame < k
     → place_after (if b then spans else joined frame n spans) k old ≡ place_after spans k old
 later_place true frame k n spans old lt = refl
 later_place false frame k n spans old lt = behind frame k n spans old lt
 
-places_from : (frame i : ℕ) (before after : List Place) → length before ≡ length after
+places_from : (frame i : ℕ) (before after : List ShownPlace) → length before ≡ length after
     → place_after (frame_spans frame before after) (frame + i) (get_or before i Free) ≡ get_or after i Free
 places_from frame i [] [] same = refl
 places_from frame i [] (n ∷ after) same = absurd (omega arith)
@@ -120,7 +120,7 @@ places_from frame (suc i) (o ∷ before) (n ∷ after) same =
     ∙ ap (λ (k : ℕ). place_after (frame_spans (frame + 1) before after) k (get_or before i Free)) e
     ∙ places_from (frame + 1) i before after (omega arith)
 
-pub places_rebuilt : (frame : ℕ) (before after : List Place) → length before ≡ length after
+pub places_rebuilt : (frame : ℕ) (before after : List ShownPlace) → length before ≡ length after
     → place_after (frame_spans 0 before after) frame (get_or before frame Free) ≡ get_or after frame Free
 places_rebuilt frame before after same =
     let e : frame ≡ 0 + frame = omega arith in

@@ -2,8 +2,8 @@
 use Rattle.std.proofs.Common.{◌≡◌, ℕ, Bool, true, false, Option, Some, None, ap, refl}
 use Rattle.std.specs.Prelude.{◌&&◌, ◌==◌}
 use Rattle.std.proofs.lemmas.Bool.{and_parts, eqb-true, false≢true}
-use Rattle.trace_lines.specs.declared.place.Place.{Place}
-use Rattle.trace_lines.specs.declared.place.Place.TheVariants.{Free, Lent, Charged}
+use Rattle.trace_lines.specs.declared.place.ShownPlace.{ShownPlace}
+use Rattle.trace_lines.specs.declared.place.ShownPlace.TheVariants.{Free, Listed, Charged}
 use Rattle.trace_lines.specs.declared.shown.Events.{Events}
 use Rattle.trace_lines.specs.declared.shown.Row.{Row}
 use Rattle.trace_lines.specs.declared.shown.Flags.{Flags}
@@ -12,15 +12,15 @@ use Rattle.trace_lines.specs.declared.shown.Counts.{Counts}
 use Rattle.trace_lines.specs.Places.{is_same_place}
 use Rattle.trace_lines.specs.Changes.{are_same_counts, are_same_events, are_same_flags, is_same_flag, is_same_limit, is_same_row, is_same_stock}
 
-pub same_place : (p q : Place) → is_same_place p q ≡ true → p ≡ q
+pub same_place : (p q : ShownPlace) → is_same_place p q ≡ true → p ≡ q
 same_place Free Free e = refl
-same_place Free (Lent n) e = absurd (false≢true e)
+same_place Free (Listed n) e = absurd (false≢true e)
 same_place Free (Charged g o) e = absurd (false≢true e)
-same_place (Lent m) Free e = absurd (false≢true e)
-same_place (Lent m) (Lent n) e = ap Lent (eqb-true m n e)
-same_place (Lent m) (Charged g o) e = absurd (false≢true e)
+same_place (Listed m) Free e = absurd (false≢true e)
+same_place (Listed m) (Listed n) e = ap Listed (eqb-true m n e)
+same_place (Listed m) (Charged g o) e = absurd (false≢true e)
 same_place (Charged g o) Free e = absurd (false≢true e)
-same_place (Charged g o) (Lent n) e = absurd (false≢true e)
+same_place (Charged g o) (Listed n) e = absurd (false≢true e)
 same_place (Charged g o) (Charged h p) e =
     let parts = and_parts (g == h) (o == p) e in
     λ k. Charged (eqb-true g h parts.0 k) (eqb-true o p parts.1 k)

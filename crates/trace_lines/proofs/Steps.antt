@@ -15,7 +15,7 @@ use Rattle.trace_lines.specs.Changes.{active_of, came_of, changed_list, group_li
 use Rattle.trace_lines.specs.Parts.{list_change_text, part_text}
 use Rattle.trace_lines.specs.Writing.{AddsLists, AddsPins, KeepsOne, count_changes, stop_text}
 use Rattle.std.specs.Str.{bytes_eq}
-use Rattle.trace_lines.specs.declared.place.Place.{Place}
+use Rattle.trace_lines.specs.declared.place.ShownPlace.{ShownPlace}
 use Rattle.trace_lines.specs.Changes.{frame_spans}
 use Rattle.std.proofs.lemmas.Slice.Eq.{bytes_eq-Decides}
 use Rattle.trace_lines.proofs.Items.{adds_both, part_ok}
@@ -380,15 +380,15 @@ pins_equal q frames b a e =
 
 -- ---- frames
 
-frames_none : (k : ℕ) (b : List Place) → frame_spans k b [] ≡ []
+frames_none : (k : ℕ) (b : List ShownPlace) → frame_spans k b [] ≡ []
 frames_none k [] = refl
 frames_none k (o ∷ b) = refl
 
 -- behind the last frame there is no span
-pub frames_end : (k i : ℕ) (b a : List Place) → min (length b) (length a) ≤ i → frame_spans k (drop i b) (drop i a) ≡ []
+pub frames_end : (k i : ℕ) (b a : List ShownPlace) → min (length b) (length a) ≤ i → frame_spans k (drop i b) (drop i a) ≡ []
 frames_end k i b a le = elim (either_ends (length b) (length a) i le) [
-  | inl lb ↦ ap (λ (l : List Place). frame_spans k l (drop i a)) (no_more b i lb)
-  | inr la ↦ ap (λ (l : List Place). frame_spans k (drop i b) l) (no_more a i la) ∙ frames_none k (drop i b)
+  | inl lb ↦ ap (λ (l : List ShownPlace). frame_spans k l (drop i a)) (no_more b i lb)
+  | inr la ↦ ap (λ (l : List ShownPlace). frame_spans k (drop i b) l) (no_more a i la) ∙ frames_none k (drop i b)
 ]
 
 -- ---- numbers that no group has

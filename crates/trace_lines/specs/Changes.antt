@@ -3,7 +3,7 @@ use Rattle.std.specs.Prelude.{ℕ, ◌+◌, ◌==◌, ◌&&◌, ◌||◌, Bool, 
 use Rattle.std.specs.Prelude.{Option, Some, None, List, [], ◌∷◌, ◌++◌, length}
 use Rattle.std.specs.List.{filter, find, flat_map, list_any, range_with_len, sum_by}
 use Rattle.std.specs.Str.{bytes_eq}
-use Rattle.trace_lines.specs.declared.place.Place.{Place}
+use Rattle.trace_lines.specs.declared.place.ShownPlace.{ShownPlace}
 use Rattle.trace_lines.specs.declared.shown.Events.{Events}
 use Rattle.trace_lines.specs.declared.shown.Row.{Row}
 use Rattle.trace_lines.specs.declared.shown.Flags.{Flags}
@@ -111,7 +111,7 @@ numbers_of (group ∷ groups) = group.number ∷ numbers_of groups
 -- ---- frames
 
 -- a frame at a place before these spans: it begins the first span if that has the same place and follows the frame
-abbrev pub joined : ℕ → Place → List FrameSpan → List FrameSpan
+abbrev pub joined : ℕ → ShownPlace → List FrameSpan → List FrameSpan
 joined frame place [] = record { first = frame; last = frame; place = place } ∷ []
 joined frame place (span ∷ spans) =
     if span.first == frame + 1 && is_same_place span.place place
@@ -119,7 +119,7 @@ joined frame place (span ∷ spans) =
     else record { first = frame; last = frame; place = place } ∷ span ∷ spans
 
 -- the longest spans of frames, from this one on, that have another place after than before
-abbrev pub frame_spans : ℕ → (before after : List Place) → List FrameSpan
+abbrev pub frame_spans : ℕ → (before after : List ShownPlace) → List FrameSpan
 frame_spans frame [] after = []
 frame_spans frame (old ∷ before) [] = []
 frame_spans frame (old ∷ before) (new ∷ after) =

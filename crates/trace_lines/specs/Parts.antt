@@ -3,8 +3,8 @@ use Rattle.std.specs.Prelude.{ℕ, ◌+◌, ◌==◌, Bool, true, false, if◌th
 use Rattle.std.specs.Prelude.{codes}
 use Rattle.std.specs.List.{join_by}
 use Rattle.std.specs.Fmt.{decimal}
-use Rattle.trace_lines.specs.declared.place.Place.{Place}
-use Rattle.trace_lines.specs.declared.place.Place.TheVariants.{Free, Lent, Charged}
+use Rattle.trace_lines.specs.declared.place.ShownPlace.{ShownPlace}
+use Rattle.trace_lines.specs.declared.place.ShownPlace.TheVariants.{Free, Listed, Charged}
 use Rattle.trace_lines.specs.declared.shown.Events.{Events}
 use Rattle.trace_lines.specs.declared.shown.Row.{Row}
 use Rattle.trace_lines.specs.declared.shown.Flags.{Flags}
@@ -67,9 +67,9 @@ abbrev pub made_text : KnownGroup → List ℕ
 made_text group = codes "[" ++ decimal group.number ++ codes "," ++ string_text group.path ++ codes "]"
 
 -- where frames are: free, on the list of a CPU, or in units of a group, with their order
-abbrev pub place_text : Place → List ℕ
+abbrev pub place_text : ShownPlace → List ℕ
 place_text Free = codes "\"f\""
-place_text (Lent cpu) = codes "\"c" ++ decimal cpu ++ codes "\""
+place_text (Listed cpu) = codes "\"c" ++ decimal cpu ++ codes "\""
 place_text (Charged group order) = codes "\"g" ++ decimal group ++ codes "\"," ++ decimal order
 
 -- a span of frames, and their place

@@ -3,8 +3,8 @@ use Rattle.std.specs.Prelude.{◌≡◌, ℕ, ◌+◌, ◌<◌, ◌≤◌, ◌==
 use Rattle.std.specs.Prelude.{Option, Some, None, IsSome, List, [], ◌∷◌, ◌++◌, length, get_or}
 use Rattle.std.specs.List.{list_any}
 use Rattle.std.specs.Option.{option_map}
-use Rattle.trace_lines.specs.declared.place.Place.{Place}
-use Rattle.trace_lines.specs.declared.place.Place.TheVariants.{Free}
+use Rattle.trace_lines.specs.declared.place.ShownPlace.{ShownPlace}
+use Rattle.trace_lines.specs.declared.place.ShownPlace.TheVariants.{Free}
 use Rattle.trace_lines.specs.declared.shown.Row.{Row}
 use Rattle.trace_lines.specs.declared.shown.Flags.{Flags}
 use Rattle.trace_lines.specs.declared.shown.ShownStock.{ShownStock}
@@ -20,7 +20,7 @@ use Rattle.trace_lines.specs.Changes.{changes, group_numbered, inactive_of, acti
 
 -- All that a state says: of each frame, of each group's number, of each list, and of each CPU.
 pub record State : Type 0 where
-  pub place : ℕ → Place
+  pub place : ℕ → ShownPlace
   pub flags : ℕ → Flags
   pub path : ℕ → Option (List ℕ)
   pub row : ℕ → Option Row
@@ -78,7 +78,7 @@ state_of shown = record {
 -- ---- how changes are applied
 
 -- the place of a frame: that of the span which has it, else the old one
-abbrev pub place_after : List FrameSpan → ℕ → Place → Place
+abbrev pub place_after : List FrameSpan → ℕ → ShownPlace → ShownPlace
 place_after [] frame old = old
 place_after (span ∷ spans) frame old =
     if nat_le span.first frame && nat_le frame span.last then span.place else place_after spans frame old

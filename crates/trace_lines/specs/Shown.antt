@@ -1,6 +1,6 @@
 -- What is shown of a state, as plain values.
 use Rattle.std.specs.Prelude.{ℕ, Option, List}
-use Rattle.trace_lines.specs.declared.place.Place.{Place}
+use Rattle.trace_lines.specs.declared.place.ShownPlace.{ShownPlace}
 use Rattle.trace_lines.specs.declared.shown.Row.{Row}
 use Rattle.trace_lines.specs.declared.shown.Flags.{Flags}
 use Rattle.trace_lines.specs.declared.shown.ShownStock.{ShownStock}
@@ -25,7 +25,7 @@ pub record KnownCpu : Type 0 where
 
 -- All that is shown: a place and flags for each frame, the groups, the CPUs from 1 on, and the counts.
 pub record KnownShown : Type 0 where
-  pub places : List Place
+  pub places : List ShownPlace
   pub flags : List Flags
   pub groups : List KnownGroup
   pub cpus : List KnownCpu

@@ -7,7 +7,7 @@ ghost use Rattle.trace_lines.specs.Parts.{frame_span_text, part_text, place_text
 ghost use Rattle.trace_lines.specs.Writing.{AddsFrames};
 
 use crate::parts::{push_start, push_stop};
-use crate::place::{Place, is_same_place};
+use crate::place::{ShownPlace, is_same_place};
 use std::alloc::{AllocError, Global};
 
 /// The frames from the first to the last are now at this place.
@@ -15,14 +15,14 @@ use std::alloc::{AllocError, Global};
 pub struct FrameSpan {
     pub first: usize,
     pub last: usize,
-    pub place: Place,
+    pub place: ShownPlace,
 }
 
 // Adds the part that tells of frames.
 pub(crate) fn write_frames(
     alloc: Global,
-    before: &[Place],
-    after: &[Place],
+    before: &[ShownPlace],
+    after: &[ShownPlace],
     text: &mut String,
 ) -> Result<(), AllocError>
     ensures { IfOk result (λ _. string_bytes text.new
@@ -35,8 +35,8 @@ pub(crate) fn write_frames(
 // The longest spans of frames that have another place after than before.
 fn frame_spans(
     alloc: Global,
-    before: &[Place],
-    after: &[Place],
+    before: &[ShownPlace],
+    after: &[ShownPlace],
 ) -> Result<Vec<FrameSpan>, AllocError>
     ensures { IfOk result (λ spans. spans.items ≡ frame_spans 0 before.now after.now) }
 {
@@ -53,7 +53,7 @@ fn frame_spans(
 }
 
 // Puts a frame at a place before these spans, of which the last is the first in order.
-fn push_frame(frame: usize, place: Place, spans: &mut Vec<FrameSpan>) -> Result<(), AllocError>
+fn push_frame(frame: usize, place: ShownPlace, spans: &mut Vec<FrameSpan>) -> Result<(), AllocError>
     requires { frame + 1 < 2 ^ 64 }
     ensures { IfOk result (λ _. reverse spans.new.items ≡ joined frame place (reverse spans.old.items)) }
 {
@@ -115,12 +115,12 @@ fn write_frame_span(span: &FrameSpan, text: &mut String) -> Result<(), AllocErro
 }
 
 // Adds a place.
-fn write_place(place: Place, text: &mut String) -> Result<(), AllocError>
+fn write_place(place: ShownPlace, text: &mut String) -> Result<(), AllocError>
     ensures { IfOk result (λ _. string_bytes text.new ≡ string_bytes text.old ++ place_text place) }
 {
     match place {
-        Place::Free => text.push_str("\"f\""),
-        Place::Lent { cpu } => write!(text, "\"c{cpu}\""),
-        Place::Charged { group, order } => write!(text, "\"g{group}\",{order}"),
+        ShownPlace::Free => text.push_str("\"f\""),
+        ShownPlace::Listed { cpu } => write!(text, "\"c{cpu}\""),
+        ShownPlace::Charged { group, order } => write!(text, "\"g{group}\",{order}"),
     }
 }

@@ -8,7 +8,7 @@ use std::alloc::{AllocError, Global};
 /// Where a frame is. A frame of a unit has the unit's order, so its first frame follows: a unit begins at a multiple of
 /// its size.
 #[derive(Clone, Copy, Debug, PartialEq, Eq)]
-pub enum Place {
+pub enum ShownPlace {
     /// In the zone's free areas.
     Free,
     /// On the list of this CPU, 1 to 64.
@@ -31,18 +31,18 @@ pub enum TracedFrame {
 }
 
 // Whether the two places are the same.
-pub(crate) fn is_same_place(one: Place, other: Place) -> bool
+pub(crate) fn is_same_place(one: ShownPlace, other: ShownPlace) -> bool
     ensures { result ≡ is_same_place one other }
 {
     match (one, other) {
-        (Place::Free, Place::Free) => true,
-        (Place::Lent { cpu: one }, Place::Lent { cpu: other }) => one == other,
+        (ShownPlace::Free, ShownPlace::Free) => true,
+        (ShownPlace::Listed { cpu: one }, ShownPlace::Listed { cpu: other }) => one == other,
         (
-            Place::Charged {
+            ShownPlace::Charged {
                 group: one,
                 order: one_order,
             },
-            Place::Charged {
+            ShownPlace::Charged {
                 group: other,
                 order: other_order,
             },
@@ -52,14 +52,14 @@ pub(crate) fn is_same_place(one: Place, other: Place) -> bool
 }
 
 /// The place of a frame with this record, if `order` is the order of the last head before it.
-pub fn place_in(order: u32, frame: TracedFrame) -> Place
+pub fn place_in(order: u32, frame: TracedFrame) -> ShownPlace
     ensures { result ≡ place_in order frame }
 {
     match frame {
-        TracedFrame::Free => Place::Free,
-        TracedFrame::Lent { cpu } => Place::Lent { cpu },
-        TracedFrame::Head { group, order } => Place::Charged { group, order },
-        TracedFrame::Tail { group } => Place::Charged { group, order },
+        TracedFrame::Free => ShownPlace::Free,
+        TracedFrame::Lent { cpu } => ShownPlace::Listed { cpu },
+        TracedFrame::Head { group, order } => ShownPlace::Charged { group, order },
+        TracedFrame::Tail { group } => ShownPlace::Charged { group, order },
     }
 }
 
@@ -74,7 +74,7 @@ pub fn order_after(order: u32, frame: TracedFrame) -> u32
 }
 
 /// The places of frames with these records. `AllocError` if memory runs out.
-pub fn places(alloc: Global, frames: &[TracedFrame]) -> Result<Vec<Place>, AllocError>
+pub fn places(alloc: Global, frames: &[TracedFrame]) -> Result<Vec<ShownPlace>, AllocError>
     ensures { IfOk result (λ places. places.items ≡ places_of frames.now) }
 {
     let mut places = Vec::with_capacity(alloc, frames.len())?;

@@ -3,7 +3,7 @@
 ghost use Rattle.std.specs.Prelude.{◌≡◌};
 ghost use Rattle.trace_lines.specs.Shown.{KnownShown, KnownGroup, KnownCpu};
 
-use crate::place::Place;
+use crate::place::ShownPlace;
 use group_tree::path::PathText;
 use std::marker::Model;
 
@@ -203,7 +203,7 @@ impl ShownCpu {
 /// there. The groups ascend by their numbers, and CPU 1 is the first of the CPUs.
 #[derive(Drop)]
 pub struct Shown {
-    pub(crate) places: Vec<Place>,
+    pub(crate) places: Vec<ShownPlace>,
     pub(crate) flags: Vec<Flags>,
     pub(crate) groups: Vec<ShownGroup>,
     pub(crate) cpus: Vec<ShownCpu>,
@@ -225,7 +225,7 @@ impl Model for Shown {
 impl Shown {
     /// What is shown of a state with these parts.
     pub fn new(
-        places: Vec<Place>,
+        places: Vec<ShownPlace>,
         flags: Vec<Flags>,
         groups: Vec<ShownGroup>,
         cpus: Vec<ShownCpu>,
@@ -249,7 +249,7 @@ impl Shown {
     }
 
     // The places of the frames.
-    pub(crate) fn places(&self) -> &[Place]
+    pub(crate) fn places(&self) -> &[ShownPlace]
         ensures { result.now ≡ self.now.places }
     {
         &self.places

@@ -1,6 +1,6 @@
 use Rattle.std.proofs.Common.{◌∙◌, ap, ℕ}
 use Rattle.std.specs.Prelude.{slice_set}
-use Rattle.trace_lines.specs.declared.place.Place.TheVariants.{Charged}
+use Rattle.trace_lines.specs.declared.place.ShownPlace.TheVariants.{Charged}
 use Rattle.shown_states.proofs.FreshSet.{singles_more}
 use Rattle.shown_states.proofs.frames.set_singles.Goals as goal
 
