@@ -16,7 +16,7 @@ use Rattle.shown_states.specs.Cpus.{locked_with_looks}
 use Rattle.shown_states.specs.States.{shown_state}
 use Rattle.trace_lines.specs.declared.objects.LineFacts.{LineFacts}
 use Rattle.trace_lines.specs.Objects.{object_text}
-use Rattle.trace_lines.specs.Shown.{KnownShown}
+use Rattle.trace_lines.specs.Shown.{KnownTraceState}
 use Rattle.script_traces.specs.Commands.{command_at}
 use Rattle.script_traces.specs.Traces.{GrowsBy, TracesLine, line_facts, looked, notes_on, system_shown}
 
@@ -27,7 +27,7 @@ unfolding system_shown
 shown_as locked cpus = refl
 
 -- what was shown before the looks is shown after them
-pub shown_after : (shown : KnownShown) (locked after : KnownLocked) (cpus others : List KnownCpu) → shown ≡ shown_state locked.machine cpus
+pub shown_after : (shown : KnownTraceState) (locked after : KnownLocked) (cpus others : List KnownCpu) → shown ≡ shown_state locked.machine cpus
     → shown_state after.machine others ≡ shown_state locked.machine cpus → shown ≡ system_shown (system_state after others)
 shown_after shown locked after cpus others is again = is ∙ sym again ∙ shown_as after others
 
@@ -38,7 +38,7 @@ state_looked locked after cpus others looks same = λ i. system_state (looks i) 
 -- ---- one line
 
 -- the same object, of equal parts
-pub object_same : (facts facts_are : LineFacts) (command command_is answer answer_is : List ℕ) (before before_is after after_is : KnownShown)
+pub object_same : (facts facts_are : LineFacts) (command command_is answer answer_is : List ℕ) (before before_is after after_is : KnownTraceState)
     (notes notes_are : List Note) (more more_is : ℕ) (old new : List ℕ)
     → new ≡ old ++ object_text facts command answer before after notes more
     → facts ≡ facts_are → command ≡ command_is → answer ≡ answer_is → before ≡ before_is → after ≡ after_is → notes ≡ notes_are → more ≡ more_is

@@ -15,10 +15,10 @@ use Rattle.script_replay.specs.Terms.{BootTables}
 use Rattle.shown_states.specs.Cpus.{with_looks}
 use Rattle.shown_states.specs.States.{shown_state}
 use Rattle.trace_lines.specs.declared.objects.LineFacts.{LineFacts}
-use Rattle.trace_lines.specs.declared.objects.FastMiss.{FastMiss}
-use Rattle.trace_lines.specs.declared.objects.FastMiss.TheVariants as miss
+use Rattle.trace_lines.specs.declared.objects.FastFailure.{FastFailure}
+use Rattle.trace_lines.specs.declared.objects.FastFailure.TheVariants as miss
 use Rattle.trace_lines.specs.Objects.{object_text}
-use Rattle.trace_lines.specs.Shown.{KnownShown}
+use Rattle.trace_lines.specs.Shown.{KnownTraceState}
 use Rattle.script_traces.specs.Commands.{command_at}
 
 -- ---- how a line was served
@@ -31,7 +31,7 @@ took_lock Locked = true
 took_lock (LockedAfter reason) = true
 
 -- why the fast path got no frame; None if it got one
-abbrev pub miss_of : Fast → Option FastMiss
+abbrev pub miss_of : Fast → Option FastFailure
 miss_of (fast.Got frame) = None
 miss_of fast.FreshFull = Some miss.FreshFull
 miss_of fast.ListEmpty = Some miss.ListEmpty
@@ -40,7 +40,7 @@ miss_of fast.Drained = Some miss.Drained
 miss_of fast.NoStock = Some miss.NoStock
 
 -- of a line that took the lock after the fast path: why that got no frame
-abbrev pub route_miss : Route → Option FastMiss
+abbrev pub route_miss : Route → Option FastFailure
 route_miss (LockedAfter reason) = miss_of reason
 route_miss other = None
 
@@ -62,7 +62,7 @@ notes_on other notes = no_notes
 -- ---- states
 
 -- what is shown of a state
-unfoldable pub system_shown : SystemState → KnownShown
+unfoldable pub system_shown : SystemState → KnownTraceState
 system_shown state = shown_state state.locked.machine state.cpus
 
 -- The state after each CPU's stock was looked at once. The zone's seat made as many steps, and nothing else changed. So

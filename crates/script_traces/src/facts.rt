@@ -7,7 +7,7 @@ use cpu_part::{BootName, Fast};
 use kill_notes::note::Note;
 use mem_machine::Machine;
 use script_replay::Route;
-use trace_lines::{FastMiss, LineFacts};
+use trace_lines::{FastFailure, LineFacts};
 
 // The number and the CPU of a line, and what its route says.
 pub(crate) fn line_facts(number: usize, cpu: u32, route: &Route) -> LineFacts
@@ -34,7 +34,7 @@ fn took_lock(route: &Route) -> bool
 }
 
 // Of a line that took the lock after the fast path: why that got no frame.
-fn route_miss(route: &Route) -> Option<FastMiss>
+fn route_miss(route: &Route) -> Option<FastFailure>
     ensures { result ≡ route_miss route.now }
 {
     match route {
@@ -44,16 +44,16 @@ fn route_miss(route: &Route) -> Option<FastMiss>
 }
 
 // Why the fast path got no frame; None if it got one.
-fn miss_of(fast: &Fast) -> Option<FastMiss>
+fn miss_of(fast: &Fast) -> Option<FastFailure>
     ensures { result ≡ miss_of fast.now }
 {
     match fast {
         Fast::Got(_) => None,
-        Fast::FreshFull => Some(FastMiss::FreshFull),
-        Fast::ListEmpty => Some(FastMiss::ListEmpty),
-        Fast::OtherGroup => Some(FastMiss::OtherGroup),
-        Fast::Drained => Some(FastMiss::Drained),
-        Fast::NoStock => Some(FastMiss::NoStock),
+        Fast::FreshFull => Some(FastFailure::FreshFull),
+        Fast::ListEmpty => Some(FastFailure::ListEmpty),
+        Fast::OtherGroup => Some(FastFailure::OtherGroup),
+        Fast::Drained => Some(FastFailure::Drained),
+        Fast::NoStock => Some(FastFailure::NoStock),
     }
 }
 

@@ -8,9 +8,9 @@ use Rattle.trace_lines.specs.Rebuilding.{cpu_from, no_cpu}
 all_behind : (P : KnownCpu → Type 0) (cpu : KnownCpu) (cpus : List KnownCpu) → All P (cpu ∷ cpus) → All P cpus
 all_behind P cpu cpus all = λ k any inside. all (suc k) any (omega (arith, inside))
 
-module _ (show : KnownCpu → shown.KnownCpu) (number : ℕ) where
+module _ (show : KnownCpu → shown.KnownShownCpu) (number : ℕ) where
   -- what holds of an empty CPU and of each that is shown holds of the one of this number
-  pub of_one : (P : shown.KnownCpu → Type 0) (from : ℕ) (cpus : List KnownCpu) → P no_cpu → All (λ cpu. P (show cpu)) cpus
+  pub of_one : (P : shown.KnownShownCpu → Type 0) (from : ℕ) (cpus : List KnownCpu) → P no_cpu → All (λ cpu. P (show cpu)) cpus
       → P (cpu_from from (map show cpus) number)
   of_one P from [] none all = none
   of_one P from (cpu ∷ cpus) none all = elim (cases_eq from number) [

@@ -11,7 +11,7 @@ use Rattle.group_tree.specs.Groups.{path_of}
 use Rattle.lru_lists.specs.declared.record.Entry.{Entry}
 use Rattle.lru_lists.specs.declared.record.LruList.{LruList}
 use Rattle.lru_lists.specs.declared.record.LruList.TheVariants as lru
-use Rattle.trace_lines.specs.Shown.{KnownGroup}
+use Rattle.trace_lines.specs.Shown.{KnownShownGroup}
 use Rattle.trace_lines.specs.Changes.{active_of, group_numbered, inactive_of}
 use Rattle.trace_lines.specs.Rebuilding.{AreDistinct, AreNumbered, has_number}
 use Rattle.mem_machine.specs.Machines.{KnownMachine, IsConsistent, entries_in}
@@ -20,8 +20,8 @@ use Rattle.shown_states.specs.Groups.{group_if_there, group_shown, groups_below,
 
 -- ---- one group among all
 
-module _ (P : Option KnownGroup → Type 0) (machine : KnownMachine) (number : ℕ) (none : P None) where
-  or_case : (one other : Option KnownGroup) → P one → P other → P (option_or one other)
+module _ (P : Option KnownShownGroup → Type 0) (machine : KnownMachine) (number : ℕ) (none : P None) where
+  or_case : (one other : Option KnownShownGroup) → P one → P other → P (option_or one other)
   or_case None other first second = second
   or_case (Some group) other first second = first
 
@@ -38,7 +38,7 @@ module _ (P : Option KnownGroup → Type 0) (machine : KnownMachine) (number : �
       → P (group_numbered (groups_below machine count) number)
   of_group zero shown = none
   of_group (suc count) shown =
-      let test : KnownGroup → Bool = λ group. group.number == number in
+      let test : KnownShownGroup → Bool = λ group. group.number == number in
       subst P (sym (find-append test (groups_below machine count) (group_if_there machine count)))
       (or_case _ _ (of_group count (λ group text below. shown group text (omega (arith, below))))
       (of_path count (path_of machine.ledger.groups count) (λ text. shown count text (omega arith))))
@@ -49,7 +49,7 @@ module _ (P : Option KnownGroup → Type 0) (machine : KnownMachine) (number : �
 pub none_from : (machine : KnownMachine) (count number : ℕ) → count ≤ number → group_numbered (groups_below machine count) number ≡ None
 none_from machine zero number above = refl
 none_from machine (suc count) number above =
-    let test : KnownGroup → Bool = λ group. group.number == number in
+    let test : KnownShownGroup → Bool = λ group. group.number == number in
     find-append test (groups_below machine count) (group_if_there machine count)
     ∙ (λ i. option_or (none_from machine count number (omega (arith, above)) i) (group_numbered (group_if_there machine count) number))
     ∙ other (path_of machine.ledger.groups count)
@@ -59,14 +59,14 @@ none_from machine (suc count) number above =
     other (Some text) = cond-false (count == number) (Some (group_shown machine count text)) None (ne_eqb count number (λ same. omega (arith, same, above)))
 
 -- one more group, whose number none of them has
-numbered_more : (groups : List KnownGroup) (group : KnownGroup) → AreNumbered groups → group_numbered groups group.number ≡ None
+numbered_more : (groups : List KnownShownGroup) (group : KnownShownGroup) → AreNumbered groups → group_numbered groups group.number ≡ None
     → group.number < 64 → AreNumbered (groups ++ group ∷ [])
 numbered_more [] group numbered fresh below = (refl, below, tt)
 numbered_more (first ∷ groups) group numbered fresh below = elim (cases_eq first.number group.number) [
   | inl same ↦
       absurd (none-some first (sym fresh ∙ cond-true (first.number == group.number) (Some first) (group_numbered groups group.number) (eq-eqb first.number group.number same)))
   | inr other ↦
-      let test : KnownGroup → Bool = λ each. each.number == first.number in
+      let test : KnownShownGroup → Bool = λ each. each.number == first.number in
       let rest = sym (cond-false (first.number == group.number) (Some first) (group_numbered groups group.number) (ne_eqb first.number group.number other)) ∙ fresh in
       let last : group_numbered (group ∷ []) first.number ≡ None =
       cond-false (group.number == first.number) (Some group) None (ne_eqb group.number first.number (λ same. other (sym same))) in (

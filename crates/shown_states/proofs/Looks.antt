@@ -52,7 +52,7 @@ shown_again machine now cpus others looked same =
 
 -- the parts that were shown after the looks make up the state that was there before
 pub shown_whole : (machine now : KnownMachine) (cpus others : List KnownCpu) → now ≡ with_looks machine (length cpus) → others ≡ cpus
-    → (places : List ShownPlace) (flags : List Flags) (groups : List shown.KnownGroup) (seen : List shown.KnownCpu) (counts : Counts)
+    → (places : List ShownPlace) (flags : List Flags) (groups : List shown.KnownShownGroup) (seen : List shown.KnownShownCpu) (counts : Counts)
     → places ≡ places_shown now others → flags ≡ flags_shown now → groups ≡ groups_shown now → seen ≡ cpus_shown machine cpus
     → counts ≡ counts_shown machine cpus
     → record { places = places; flags = flags; groups = groups; cpus = seen; counts = counts } ≡ shown_state machine cpus
@@ -61,9 +61,9 @@ shown_whole machine now cpus others looked same places flags groups seen counts 
     let before = shown_the_same machine (length cpus) cpus in
     let at_places : places ≡ state.places = same_places ∙ (λ i. places_shown (looked i) (same i)) in
     let at_flags : flags ≡ state.flags =
-    same_flags ∙ ap flags_shown looked ∙ ap (λ (s : shown.KnownShown). s.flags) before in
+    same_flags ∙ ap flags_shown looked ∙ ap (λ (s : shown.KnownTraceState). s.flags) before in
     let at_groups : groups ≡ state.groups =
-    same_groups ∙ ap groups_shown looked ∙ ap (λ (s : shown.KnownShown). s.groups) before in
+    same_groups ∙ ap groups_shown looked ∙ ap (λ (s : shown.KnownTraceState). s.groups) before in
     λ i. record { places = at_places i; flags = at_flags i; groups = at_groups i; cpus = same_cpus i; counts = same_counts i }
 
 -- ---- one CPU more

@@ -18,7 +18,7 @@ stock_shown (HeldBy group pages) = Some (record { group = group; pages = Some pa
 stock_shown (DrainedOf group) = Some (record { group = group; pages = None })
 
 -- the CPU, with this stock
-abbrev pub cpu_with_stock : KnownCpu → Stock → shown.KnownCpu
+abbrev pub cpu_with_stock : KnownCpu → Stock → shown.KnownShownCpu
 cpu_with_stock cpu stock = record {
   list = cpu.list;
   fresh = cpu.fresh;
@@ -28,11 +28,11 @@ cpu_with_stock cpu stock = record {
 }
 
 -- the CPU, with its stock as it is now
-abbrev pub cpu_shown : KnownMachine → KnownCpu → shown.KnownCpu
+abbrev pub cpu_shown : KnownMachine → KnownCpu → shown.KnownShownCpu
 cpu_shown machine cpu = cpu_with_stock cpu (stock_now (visit_state machine cpu))
 
 -- all CPUs
-abbrev pub cpus_shown : KnownMachine → List KnownCpu → List shown.KnownCpu
+abbrev pub cpus_shown : KnownMachine → List KnownCpu → List shown.KnownShownCpu
 cpus_shown machine cpus = map (cpu_shown machine) cpus
 
 -- the machine after the zone's seat looked at stocks this many times: as many more steps of the seat, and nothing else

@@ -8,7 +8,7 @@ use Rattle.group_charge.specs.Charges.{current_of, events_local_of, events_of, p
 use Rattle.lru_lists.specs.declared.record.Entry.{Entry}
 use Rattle.trace_lines.specs.declared.shown.Events.{Events}
 use Rattle.trace_lines.specs.declared.shown.Row.{Row}
-use Rattle.trace_lines.specs.Shown.{KnownGroup}
+use Rattle.trace_lines.specs.Shown.{KnownShownGroup}
 use Rattle.mem_machine.specs.Machines.{KnownMachine, active_in, inactive_in, is_killed}
 
 -- how often each kind of event was counted
@@ -37,7 +37,7 @@ abbrev pub numbers_of : List Entry → List ℕ
 numbers_of entries = map (λ entry. entry.number) entries
 
 -- the group of this number and path
-abbrev pub group_shown : KnownMachine → (group : ℕ) (path : List ℕ) → KnownGroup
+abbrev pub group_shown : KnownMachine → (group : ℕ) (path : List ℕ) → KnownShownGroup
 group_shown machine group path = record {
   number = group;
   path = path;
@@ -47,15 +47,15 @@ group_shown machine group path = record {
 }
 
 -- the group of this number, if there is one
-abbrev pub group_if_there : KnownMachine → ℕ → List KnownGroup
+abbrev pub group_if_there : KnownMachine → ℕ → List KnownShownGroup
 group_if_there machine group =
     option_to_list (option_map (group_shown machine group) (path_of machine.ledger.groups group))
 
 -- the groups whose number is below `count`, by their numbers
-abbrev pub groups_below : KnownMachine → (count : ℕ) → List KnownGroup
+abbrev pub groups_below : KnownMachine → (count : ℕ) → List KnownShownGroup
 groups_below machine zero = []
 groups_below machine (suc count) = groups_below machine count ++ group_if_there machine count
 
 -- all groups, by their numbers
-unfoldable pub groups_shown : KnownMachine → List KnownGroup
+unfoldable pub groups_shown : KnownMachine → List KnownShownGroup
 groups_shown machine = groups_below machine most_groups

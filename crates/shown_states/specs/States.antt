@@ -3,7 +3,7 @@ use Rattle.std.specs.Prelude.{ℕ, ◌+◌, List, length, min, sum_by}
 use Rattle.group_tree.specs.Room.{max_count}
 use Rattle.cpu_part.specs.Cpus.{KnownCpu}
 use Rattle.trace_lines.specs.declared.shown.Counts.{Counts}
-use Rattle.trace_lines.specs.Shown.{KnownShown}
+use Rattle.trace_lines.specs.Shown.{KnownTraceState}
 use Rattle.mem_machine.specs.Machines.{KnownMachine}
 use Rattle.shown_states.specs.Frames.{flags_shown, places_shown}
 use Rattle.shown_states.specs.Groups.{groups_shown}
@@ -30,7 +30,7 @@ counts_shown machine cpus = record {
 }
 
 -- what is shown of the machine and of these CPUs, of which the first is CPU 1
-abbrev pub shown_state : KnownMachine → List KnownCpu → KnownShown
+abbrev pub shown_state : KnownMachine → List KnownCpu → KnownTraceState
 shown_state machine cpus = record {
   places = places_shown machine cpus;
   flags = flags_shown machine;

@@ -1,7 +1,7 @@
 //! What is shown of the CPUs.
 
 ghost use Rattle.std.specs.Prelude.{◌≡◌, ◌++◌, ◌∷◌, [], IfOk, List, length};
-ghost use Rattle.trace_lines.specs.Shown.{KnownCpu};
+ghost use Rattle.trace_lines.specs.Shown.{KnownShownCpu};
 ghost use Rattle.shown_states.specs.Cpus.{cpu_with_stock, cpus_shown, locked_with_looks, stock_shown};
 
 use crate::lists::frame_numbers;
@@ -37,7 +37,7 @@ fn with_next(
     shown: Result<Vec<ShownCpu>, AllocError>,
     next: Result<ShownCpu, AllocError>,
 ) -> Result<Vec<ShownCpu>, AllocError>
-    ensures { (before : List KnownCpu) (last : KnownCpu) → IfOk shown (λ cpus. cpus.items ≡ before)
+    ensures { (before : List KnownShownCpu) (last : KnownShownCpu) → IfOk shown (λ cpus. cpus.items ≡ before)
         → IfOk next (λ cpu. cpu ≡ last) → IfOk result (λ cpus. cpus.items ≡ before ++ last ∷ []) }
 {
     let mut shown = shown?;

@@ -4,7 +4,7 @@ use Rattle.std.specs.Prelude.{◌≢◌, ◌&&◌, ◌==◌, IsSome, if◌then�
 use Rattle.std.specs.List.{flat_map, list_any, range_with_len}
 use Rattle.std.proofs.lemmas.Bool.{eqb-true, eq-eqb, cond-true, cond-false, cases_lt, false≢true, true≢false}
 use Rattle.trace_lines.specs.declared.shown.ShownStock.{ShownStock}
-use Rattle.trace_lines.specs.Shown.{KnownCpu}
+use Rattle.trace_lines.specs.Shown.{KnownShownCpu}
 use Rattle.trace_lines.specs.Changes.{PinChange, StockChange, cpus_pin_changes, is_same_stock, pin_change, pin_changes, pins_on, stock_change, stock_changes}
 use Rattle.trace_lines.specs.Rebuilding.{cpu_from, pins_after, stock_after}
 use Rattle.trace_lines.proofs.Same.{same_stock}
@@ -87,7 +87,7 @@ range_is q f b a m (suc k) le lt = either (m == f)
 cpu_isnt : (q c frames f : ℕ) (b a : List ℕ) → (q == c) ≡ false → has_pin (pin_changes q frames b a) c f ≡ false
 cpu_isnt q c frames f b a e = range_isnt q c f b a 0 frames (λ g le lt. apart_left (q == c) (g == f) e)
 
-later_cpus : (q c frames f : ℕ) (before after : List KnownCpu) → c < q → has_pin (cpus_pin_changes q frames before after) c f ≡ false
+later_cpus : (q c frames f : ℕ) (before after : List KnownShownCpu) → c < q → has_pin (cpus_pin_changes q frames before after) c f ≡ false
 later_cpus q c frames f [] after lt = refl
 later_cpus q c frames f (o ∷ before) [] lt = refl
 later_cpus q c frames f (o ∷ before) (n ∷ after) lt =
@@ -95,7 +95,7 @@ later_cpus q c frames f (o ∷ before) (n ∷ after) lt =
     (cpu_isnt q c frames f o.pins n.pins (en_tests q c lt)) (later_cpus (q + 1) c frames f before after (omega arith))
 
 -- a frame beyond the zone
-cpus_beyond : (q c frames f : ℕ) (before after : List KnownCpu) → frames ≤ f → has_pin (cpus_pin_changes q frames before after) c f ≡ false
+cpus_beyond : (q c frames f : ℕ) (before after : List KnownShownCpu) → frames ≤ f → has_pin (cpus_pin_changes q frames before after) c f ≡ false
 cpus_beyond q c frames f [] after le = refl
 cpus_beyond q c frames f (o ∷ before) [] le = refl
 cpus_beyond q c frames f (o ∷ before) (n ∷ after) le =
@@ -103,7 +103,7 @@ cpus_beyond q c frames f (o ∷ before) (n ∷ after) le =
     (range_isnt q c f o.pins n.pins 0 frames (λ g less lt. apart_right (q == c) (g == f) (ne_tests g f (omega arith))))
     (cpus_beyond (q + 1) c frames f before after le)
 
-pins_within : (q c frames f : ℕ) (before after : List KnownCpu) → length before ≡ length after → f < frames
+pins_within : (q c frames f : ℕ) (before after : List KnownShownCpu) → length before ≡ length after → f < frames
     → pins_after (cpus_pin_changes q frames before after) c f (pins_on f (cpu_from q before c).pins) ≡ pins_on f (cpu_from q after c).pins
 pins_within q c frames f [] [] same lt = refl
 pins_within q c frames f [] (n ∷ after) same lt = absurd (omega arith)
@@ -113,22 +113,22 @@ pins_within q c frames f (o ∷ before) (n ∷ after) same lt = either (q == c)
     let old : cpu_from q (o ∷ before) c ≡ o = cond-true (q == c) o (cpu_from (q + 1) before c) here in
     let new : cpu_from q (n ∷ after) c ≡ n = cond-true (q == c) n (cpu_from (q + 1) after c) here in
     let number : q ≡ c = eqb-true q c here in
-    ap (λ (k : KnownCpu). pins_after (cpus_pin_changes q frames (o ∷ before) (n ∷ after)) c f (pins_on f k.pins)) old
+    ap (λ (k : KnownShownCpu). pins_after (cpus_pin_changes q frames (o ∷ before) (n ∷ after)) c f (pins_on f k.pins)) old
     ∙ stop (pin_changes q frames o.pins n.pins) (cpus_pin_changes (q + 1) frames before after) c f (pins_on f o.pins)
     (later_cpus (q + 1) c frames f before after (omega arith))
     ∙ ap (λ (x : ℕ). pins_after (pin_changes q frames o.pins n.pins) x f (pins_on f o.pins)) (sym number)
     ∙ range_is q f o.pins n.pins 0 frames (omega arith) (omega arith)
-    ∙ sym (ap (λ (k : KnownCpu). pins_on f k.pins) new))
+    ∙ sym (ap (λ (k : KnownShownCpu). pins_on f k.pins) new))
     (λ there.
     let old : cpu_from q (o ∷ before) c ≡ cpu_from (q + 1) before c = cond-false (q == c) o (cpu_from (q + 1) before c) there in
     let new : cpu_from q (n ∷ after) c ≡ cpu_from (q + 1) after c = cond-false (q == c) n (cpu_from (q + 1) after c) there in
-    ap (λ (k : KnownCpu). pins_after (cpus_pin_changes q frames (o ∷ before) (n ∷ after)) c f (pins_on f k.pins)) old
+    ap (λ (k : KnownShownCpu). pins_after (cpus_pin_changes q frames (o ∷ before) (n ∷ after)) c f (pins_on f k.pins)) old
     ∙ pass (pin_changes q frames o.pins n.pins) (cpus_pin_changes (q + 1) frames before after) c f (pins_on f (cpu_from (q + 1) before c).pins)
     (cpu_isnt q c frames f o.pins n.pins there)
     ∙ pins_within (q + 1) c frames f before after (omega arith) lt
-    ∙ sym (ap (λ (k : KnownCpu). pins_on f k.pins) new))
+    ∙ sym (ap (λ (k : KnownShownCpu). pins_on f k.pins) new))
 
-pub pins_rebuilt : (c frames f : ℕ) (before after : List KnownCpu) → length before ≡ length after
+pub pins_rebuilt : (c frames f : ℕ) (before after : List KnownShownCpu) → length before ≡ length after
     → (frames ≤ f → pins_on f (cpu_from 1 before c).pins ≡ 0) → (frames ≤ f → pins_on f (cpu_from 1 after c).pins ≡ 0)
     → pins_after (cpus_pin_changes 1 frames before after) c f (pins_on f (cpu_from 1 before c).pins) ≡ pins_on f (cpu_from 1 after c).pins
 pins_rebuilt c frames f before after same none_before none_after = elim (cases_lt f frames) [
@@ -185,14 +185,14 @@ stock_isnt q c o None e = refl
 stock_isnt q c None (Some n) e = both_false (q == c) false e refl
 stock_isnt q c (Some o) (Some n) e = other_stock (is_same_stock o n) q c n e
 
-later_stocks : (q c : ℕ) (before after : List KnownCpu) → c < q → has_stock (stock_changes q before after) c ≡ false
+later_stocks : (q c : ℕ) (before after : List KnownShownCpu) → c < q → has_stock (stock_changes q before after) c ≡ false
 later_stocks q c [] after lt = refl
 later_stocks q c (o ∷ before) [] lt = refl
 later_stocks q c (o ∷ before) (n ∷ after) lt =
     stock_in_both (stock_change q o.stock n.stock) (stock_changes (q + 1) before after) c
     (stock_isnt q c o.stock n.stock (en_tests q c lt)) (later_stocks (q + 1) c before after (omega arith))
 
-pub stocks_rebuilt : (q c : ℕ) (before after : List KnownCpu) → length before ≡ length after
+pub stocks_rebuilt : (q c : ℕ) (before after : List KnownShownCpu) → length before ≡ length after
     → (IsSome (cpu_from q before c).stock → IsSome (cpu_from q after c).stock)
     → stock_after (stock_changes q before after) c (cpu_from q before c).stock ≡ (cpu_from q after c).stock
 stocks_rebuilt q c [] [] same stays = refl
@@ -204,17 +204,17 @@ stocks_rebuilt q c (o ∷ before) (n ∷ after) same stays = either (q == c)
     let new : cpu_from q (n ∷ after) c ≡ n = cond-true (q == c) n (cpu_from (q + 1) after c) here in
     let number : q ≡ c = eqb-true q c here in
     let still : IsSome o.stock → IsSome n.stock = λ some.
-    subst (λ (k : KnownCpu). IsSome k.stock) new (stays (subst (λ (k : KnownCpu). IsSome k.stock) (sym old) some)) in
-    ap (λ (k : KnownCpu). stock_after (stock_changes q (o ∷ before) (n ∷ after)) c k.stock) old
+    subst (λ (k : KnownShownCpu). IsSome k.stock) new (stays (subst (λ (k : KnownShownCpu). IsSome k.stock) (sym old) some)) in
+    ap (λ (k : KnownShownCpu). stock_after (stock_changes q (o ∷ before) (n ∷ after)) c k.stock) old
     ∙ stop_stock (stock_change q o.stock n.stock) (stock_changes (q + 1) before after) c o.stock (later_stocks (q + 1) c before after (omega arith))
     ∙ ap (λ (x : ℕ). stock_after (stock_change q o.stock n.stock) x o.stock) (sym number)
     ∙ stock_is q o.stock n.stock still
-    ∙ sym (ap (λ (k : KnownCpu). k.stock) new))
+    ∙ sym (ap (λ (k : KnownShownCpu). k.stock) new))
     (λ there.
     let old : cpu_from q (o ∷ before) c ≡ cpu_from (q + 1) before c = cond-false (q == c) o (cpu_from (q + 1) before c) there in
     let new : cpu_from q (n ∷ after) c ≡ cpu_from (q + 1) after c = cond-false (q == c) n (cpu_from (q + 1) after c) there in
-    ap (λ (k : KnownCpu). stock_after (stock_changes q (o ∷ before) (n ∷ after)) c k.stock) old
+    ap (λ (k : KnownShownCpu). stock_after (stock_changes q (o ∷ before) (n ∷ after)) c k.stock) old
     ∙ pass_stock (stock_change q o.stock n.stock) (stock_changes (q + 1) before after) c (cpu_from (q + 1) before c).stock (stock_isnt q c o.stock n.stock there)
     ∙ stocks_rebuilt (q + 1) c before after (omega arith)
-    (λ some. subst (λ (k : KnownCpu). IsSome k.stock) new (stays (subst (λ (k : KnownCpu). IsSome k.stock) (sym old) some)))
-    ∙ sym (ap (λ (k : KnownCpu). k.stock) new))
+    (λ some. subst (λ (k : KnownShownCpu). IsSome k.stock) new (stays (subst (λ (k : KnownShownCpu). IsSome k.stock) (sym old) some)))
+    ∙ sym (ap (λ (k : KnownShownCpu). k.stock) new))

@@ -6,7 +6,7 @@ use Rattle.std.proofs.lemmas.List.{append-nil}
 use Rattle.std.proofs.lemmas.Bool.{eqb-true, eq-eqb, cond-true, cond-false, cases_lt, true≢false}
 use Rattle.trace_lines.specs.declared.lists.ListName.{ListName}
 use Rattle.trace_lines.specs.declared.lists.ListName.TheVariants.{Listed, Fresh, Back, Inactive, Active}
-use Rattle.trace_lines.specs.Shown.{KnownShown, KnownGroup, KnownCpu}
+use Rattle.trace_lines.specs.Shown.{KnownTraceState, KnownShownGroup, KnownShownCpu}
 use Rattle.trace_lines.specs.Changes.{ListChange, active_of, came_of, cpu_list_changes, cpus_list_changes, group_list_changes, group_numbered}
 use Rattle.trace_lines.specs.Changes.{groups_list_changes, has_entry, inactive_of, left_of, list_change, list_changes}
 use Rattle.trace_lines.specs.Rebuilding.{AreDistinct, AreNumbered, cpu_from, has_number, is_same_name, kept_of, list_after, list_named}
@@ -134,17 +134,17 @@ three : (xs ys zs : List ListChange) (name : ListName) → has_name xs name ≡ 
 three xs ys zs name e f g = name_in_both xs (ys ++ zs) name e (name_in_both ys zs name f g)
 
 -- the first, the second or the third list of a CPU, by its kind of name
-module _ (mk : ℕ → ListName) (pr : KnownCpu → List ℕ)
-    (isnt : (q c : ℕ) (o n : KnownCpu) → (q == c) ≡ false → has_name (cpu_list_changes q o n) (mk c) ≡ false)
-    (is : (q : ℕ) (o n : KnownCpu) → AreDistinct (pr o) → list_after (cpu_list_changes q o n) (mk q) (pr o) ≡ pr n) where
-  later_cpus : (q c : ℕ) (before after : List KnownCpu) → c < q → has_name (cpus_list_changes q before after) (mk c) ≡ false
+module _ (mk : ℕ → ListName) (pr : KnownShownCpu → List ℕ)
+    (isnt : (q c : ℕ) (o n : KnownShownCpu) → (q == c) ≡ false → has_name (cpu_list_changes q o n) (mk c) ≡ false)
+    (is : (q : ℕ) (o n : KnownShownCpu) → AreDistinct (pr o) → list_after (cpu_list_changes q o n) (mk q) (pr o) ≡ pr n) where
+  later_cpus : (q c : ℕ) (before after : List KnownShownCpu) → c < q → has_name (cpus_list_changes q before after) (mk c) ≡ false
   later_cpus q c [] after lt = refl
   later_cpus q c (o ∷ before) [] lt = refl
   later_cpus q c (o ∷ before) (n ∷ after) lt =
       name_in_both (cpu_list_changes q o n) (cpus_list_changes (q + 1) before after) (mk c)
       (isnt q c o n (en_tests q c lt)) (later_cpus (q + 1) c before after (omega arith))
 
-  pub cpus_rebuilt : (q c : ℕ) (before after : List KnownCpu) → length before ≡ length after → AreDistinct (pr (cpu_from q before c))
+  pub cpus_rebuilt : (q c : ℕ) (before after : List KnownShownCpu) → length before ≡ length after → AreDistinct (pr (cpu_from q before c))
       → list_after (cpus_list_changes q before after) (mk c) (pr (cpu_from q before c)) ≡ pr (cpu_from q after c)
   cpus_rebuilt q c [] [] same all = refl
   cpus_rebuilt q c [] (n ∷ after) same all = absurd (omega arith)
@@ -156,49 +156,49 @@ module _ (mk : ℕ → ListName) (pr : KnownCpu → List ℕ)
       let number : q ≡ c = eqb-true q c here in
       let own : list_after (cpu_list_changes q o n) (mk c) (pr o) ≡ pr n =
       subst (λ (m : ℕ). list_after (cpu_list_changes q o n) (mk m) (pr o) ≡ pr n) number
-      (is q o n (subst (λ (k : KnownCpu). AreDistinct (pr k)) old all)) in
-      ap (λ (k : KnownCpu). list_after (cpus_list_changes q (o ∷ before) (n ∷ after)) (mk c) (pr k)) old
+      (is q o n (subst (λ (k : KnownShownCpu). AreDistinct (pr k)) old all)) in
+      ap (λ (k : KnownShownCpu). list_after (cpus_list_changes q (o ∷ before) (n ∷ after)) (mk c) (pr k)) old
       ∙ stop (cpu_list_changes q o n) (cpus_list_changes (q + 1) before after) (mk c) (pr o) (later_cpus (q + 1) c before after (omega arith))
       ∙ own
       ∙ sym (ap pr new))
       (λ there.
       let old : cpu_from q (o ∷ before) c ≡ cpu_from (q + 1) before c = cond-false (q == c) o (cpu_from (q + 1) before c) there in
       let new : cpu_from q (n ∷ after) c ≡ cpu_from (q + 1) after c = cond-false (q == c) n (cpu_from (q + 1) after c) there in
-      ap (λ (k : KnownCpu). list_after (cpus_list_changes q (o ∷ before) (n ∷ after)) (mk c) (pr k)) old
+      ap (λ (k : KnownShownCpu). list_after (cpus_list_changes q (o ∷ before) (n ∷ after)) (mk c) (pr k)) old
       ∙ pass (cpu_list_changes q o n) (cpus_list_changes (q + 1) before after) (mk c) (pr (cpu_from (q + 1) before c)) (isnt q c o n there)
-      ∙ cpus_rebuilt (q + 1) c before after (omega arith) (subst (λ (k : KnownCpu). AreDistinct (pr k)) old all)
+      ∙ cpus_rebuilt (q + 1) c before after (omega arith) (subst (λ (k : KnownShownCpu). AreDistinct (pr k)) old all)
       ∙ sym (ap pr new))
 
-listed_isnt : (q c : ℕ) (o n : KnownCpu) → (q == c) ≡ false → has_name (cpu_list_changes q o n) (Listed c) ≡ false
+listed_isnt : (q c : ℕ) (o n : KnownShownCpu) → (q == c) ≡ false → has_name (cpu_list_changes q o n) (Listed c) ≡ false
 listed_isnt q c o n e =
     three (list_change (Listed q) o.list n.list) (list_change (Fresh q) o.fresh n.fresh) (list_change (Back q) o.back n.back) (Listed c)
     (change_isnt (Listed q) (Listed c) o.list n.list e) (change_isnt (Fresh q) (Listed c) o.fresh n.fresh refl) (change_isnt (Back q) (Listed c) o.back n.back refl)
 
-fresh_isnt : (q c : ℕ) (o n : KnownCpu) → (q == c) ≡ false → has_name (cpu_list_changes q o n) (Fresh c) ≡ false
+fresh_isnt : (q c : ℕ) (o n : KnownShownCpu) → (q == c) ≡ false → has_name (cpu_list_changes q o n) (Fresh c) ≡ false
 fresh_isnt q c o n e =
     three (list_change (Listed q) o.list n.list) (list_change (Fresh q) o.fresh n.fresh) (list_change (Back q) o.back n.back) (Fresh c)
     (change_isnt (Listed q) (Fresh c) o.list n.list refl) (change_isnt (Fresh q) (Fresh c) o.fresh n.fresh e) (change_isnt (Back q) (Fresh c) o.back n.back refl)
 
-back_isnt : (q c : ℕ) (o n : KnownCpu) → (q == c) ≡ false → has_name (cpu_list_changes q o n) (Back c) ≡ false
+back_isnt : (q c : ℕ) (o n : KnownShownCpu) → (q == c) ≡ false → has_name (cpu_list_changes q o n) (Back c) ≡ false
 back_isnt q c o n e =
     three (list_change (Listed q) o.list n.list) (list_change (Fresh q) o.fresh n.fresh) (list_change (Back q) o.back n.back) (Back c)
     (change_isnt (Listed q) (Back c) o.list n.list refl) (change_isnt (Fresh q) (Back c) o.fresh n.fresh refl) (change_isnt (Back q) (Back c) o.back n.back e)
 
-listed_is : (q : ℕ) (o n : KnownCpu) → AreDistinct o.list → list_after (cpu_list_changes q o n) (Listed q) o.list ≡ n.list
+listed_is : (q : ℕ) (o n : KnownShownCpu) → AreDistinct o.list → list_after (cpu_list_changes q o n) (Listed q) o.list ≡ n.list
 listed_is q o n all =
     stop (list_change (Listed q) o.list n.list) (list_change (Fresh q) o.fresh n.fresh ++ list_change (Back q) o.back n.back) (Listed q) o.list
     (name_in_both (list_change (Fresh q) o.fresh n.fresh) (list_change (Back q) o.back n.back) (Listed q)
     (change_isnt (Fresh q) (Listed q) o.fresh n.fresh refl) (change_isnt (Back q) (Listed q) o.back n.back refl))
     ∙ change_is (Listed q) o.list n.list (eq-eqb q q refl) all
 
-fresh_is : (q : ℕ) (o n : KnownCpu) → AreDistinct o.fresh → list_after (cpu_list_changes q o n) (Fresh q) o.fresh ≡ n.fresh
+fresh_is : (q : ℕ) (o n : KnownShownCpu) → AreDistinct o.fresh → list_after (cpu_list_changes q o n) (Fresh q) o.fresh ≡ n.fresh
 fresh_is q o n all =
     pass (list_change (Listed q) o.list n.list) (list_change (Fresh q) o.fresh n.fresh ++ list_change (Back q) o.back n.back) (Fresh q) o.fresh
     (change_isnt (Listed q) (Fresh q) o.list n.list refl)
     ∙ stop (list_change (Fresh q) o.fresh n.fresh) (list_change (Back q) o.back n.back) (Fresh q) o.fresh (change_isnt (Back q) (Fresh q) o.back n.back refl)
     ∙ change_is (Fresh q) o.fresh n.fresh (eq-eqb q q refl) all
 
-back_is : (q : ℕ) (o n : KnownCpu) → AreDistinct o.back → list_after (cpu_list_changes q o n) (Back q) o.back ≡ n.back
+back_is : (q : ℕ) (o n : KnownShownCpu) → AreDistinct o.back → list_after (cpu_list_changes q o n) (Back q) o.back ≡ n.back
 back_is q o n all =
     pass (list_change (Listed q) o.list n.list) (list_change (Fresh q) o.fresh n.fresh ++ list_change (Back q) o.back n.back) (Back q) o.back
     (change_isnt (Listed q) (Back q) o.list n.list refl)
@@ -206,7 +206,7 @@ back_is q o n all =
     ∙ change_is (Back q) o.back n.back (eq-eqb q q refl) all
 
 -- a CPU's changes have no list of a group
-cpus_other : (name : ListName) (q : ℕ) (before after : List KnownCpu)
+cpus_other : (name : ListName) (q : ℕ) (before after : List KnownShownCpu)
     → ((p : ℕ) → (is_same_name (Listed p) name ≡ false) × (is_same_name (Fresh p) name ≡ false) × (is_same_name (Back p) name ≡ false))
     → has_name (cpus_list_changes q before after) name ≡ false
 cpus_other name q [] after isnt = refl
@@ -220,18 +220,18 @@ cpus_other name q (o ∷ before) (n ∷ after) isnt =
 
 -- ---- the lists of groups
 
-abbrev lists_at : (before after : List KnownGroup) → ℕ → List ListChange
+abbrev lists_at : (before after : List KnownShownGroup) → ℕ → List ListChange
 lists_at before after number = group_list_changes number (group_numbered before number) (group_numbered after number)
 
 -- the changes of numbers of which none has the name
-range_isnt : (before after : List KnownGroup) (name : ListName) (m k : ℕ) → ((p : ℕ) → m ≤ p → has_name (lists_at before after p) name ≡ false)
+range_isnt : (before after : List KnownShownGroup) (name : ListName) (m k : ℕ) → ((p : ℕ) → m ≤ p → has_name (lists_at before after p) name ≡ false)
     → has_name (flat_map (lists_at before after) (range_with_len m k)) name ≡ false
 range_isnt before after name m zero isnt = refl
 range_isnt before after name m (suc k) isnt =
     name_in_both (lists_at before after m) (flat_map (lists_at before after) (range_with_len (m + 1) k)) name
     (isnt m (omega arith)) (range_isnt before after name (m + 1) k (λ p le. isnt p (omega arith)))
 
-module _ (before after : List KnownGroup) (mk : ℕ → ListName) (pr : Option KnownGroup → List ℕ) (n : ℕ)
+module _ (before after : List KnownShownGroup) (mk : ℕ → ListName) (pr : Option KnownShownGroup → List ℕ) (n : ℕ)
     (isnt : (p : ℕ) → (p == n) ≡ false → has_name (lists_at before after p) (mk n) ≡ false)
     (is : list_after (lists_at before after n) (mk n) (pr (group_numbered before n)) ≡ pr (group_numbered after n)) where
   pub groups_rebuilt : (m k : ℕ) → m ≤ n → n < m + k
@@ -249,37 +249,37 @@ module _ (before after : List KnownGroup) (mk : ℕ → ListName) (pr : Option K
       pass (lists_at before after m) (flat_map (lists_at before after) (range_with_len (m + 1) k)) (mk n) (pr (group_numbered before n)) (isnt m there)
       ∙ groups_rebuilt (m + 1) k (omega arith) (omega arith))
 
-inactive_isnt : (p n : ℕ) (b a : Option KnownGroup) → (p == n) ≡ false → has_name (group_list_changes p b a) (Inactive n) ≡ false
+inactive_isnt : (p n : ℕ) (b a : Option KnownShownGroup) → (p == n) ≡ false → has_name (group_list_changes p b a) (Inactive n) ≡ false
 inactive_isnt p n b a e =
     name_in_both (list_change (Inactive p) (inactive_of b) (inactive_of a)) (list_change (Active p) (active_of b) (active_of a)) (Inactive n)
     (change_isnt (Inactive p) (Inactive n) (inactive_of b) (inactive_of a) e) (change_isnt (Active p) (Inactive n) (active_of b) (active_of a) refl)
 
-active_isnt : (p n : ℕ) (b a : Option KnownGroup) → (p == n) ≡ false → has_name (group_list_changes p b a) (Active n) ≡ false
+active_isnt : (p n : ℕ) (b a : Option KnownShownGroup) → (p == n) ≡ false → has_name (group_list_changes p b a) (Active n) ≡ false
 active_isnt p n b a e =
     name_in_both (list_change (Inactive p) (inactive_of b) (inactive_of a)) (list_change (Active p) (active_of b) (active_of a)) (Active n)
     (change_isnt (Inactive p) (Active n) (inactive_of b) (inactive_of a) refl) (change_isnt (Active p) (Active n) (active_of b) (active_of a) e)
 
-inactive_is : (n : ℕ) (b a : Option KnownGroup) → AreDistinct (inactive_of b) → list_after (group_list_changes n b a) (Inactive n) (inactive_of b) ≡ inactive_of a
+inactive_is : (n : ℕ) (b a : Option KnownShownGroup) → AreDistinct (inactive_of b) → list_after (group_list_changes n b a) (Inactive n) (inactive_of b) ≡ inactive_of a
 inactive_is n b a all =
     stop (list_change (Inactive n) (inactive_of b) (inactive_of a)) (list_change (Active n) (active_of b) (active_of a)) (Inactive n) (inactive_of b)
     (change_isnt (Active n) (Inactive n) (active_of b) (active_of a) refl)
     ∙ change_is (Inactive n) (inactive_of b) (inactive_of a) (eq-eqb n n refl) all
 
-active_is : (n : ℕ) (b a : Option KnownGroup) → AreDistinct (active_of b) → list_after (group_list_changes n b a) (Active n) (active_of b) ≡ active_of a
+active_is : (n : ℕ) (b a : Option KnownShownGroup) → AreDistinct (active_of b) → list_after (group_list_changes n b a) (Active n) (active_of b) ≡ active_of a
 active_is n b a all =
     pass (list_change (Inactive n) (inactive_of b) (inactive_of a)) (list_change (Active n) (active_of b) (active_of a)) (Active n) (active_of b)
     (change_isnt (Inactive n) (Active n) (inactive_of b) (inactive_of a) refl)
     ∙ change_is (Active n) (active_of b) (active_of a) (eq-eqb n n refl) all
 
 -- groups have numbers below 64
-none_beyond : (gs : List KnownGroup) (n : ℕ) → AreNumbered gs → 64 ≤ n → group_numbered gs n ≡ None
+none_beyond : (gs : List KnownShownGroup) (n : ℕ) → AreNumbered gs → 64 ≤ n → group_numbered gs n ≡ None
 none_beyond [] n all le = refl
 none_beyond (g ∷ gs) n all le =
     let below = all.1 in
     head_isnt g gs n (ne_tests g.number n (omega arith)) ∙ none_beyond gs n all.2 le
 
 -- changes of groups have no list of a CPU
-groups_other : (before after : List KnownGroup) (name : ListName)
+groups_other : (before after : List KnownShownGroup) (name : ListName)
     → ((p : ℕ) → (is_same_name (Inactive p) name ≡ false) × (is_same_name (Active p) name ≡ false))
     → has_name (groups_list_changes before after) name ≡ false
 groups_other before after name isnt =
@@ -290,7 +290,7 @@ groups_other before after name isnt =
     (change_isnt (Active p) name (active_of (group_numbered before p)) (active_of (group_numbered after p)) (isnt p).1))
 
 -- changes of numbers below 64 have no list of a group with a greater number
-range_below : (before after : List KnownGroup) (name : ListName) (n : ℕ) → 64 ≤ n
+range_below : (before after : List KnownShownGroup) (name : ListName) (n : ℕ) → 64 ≤ n
     → ((p : ℕ) → (p == n) ≡ false → has_name (lists_at before after p) name ≡ false) → (m k : ℕ) → m + k ≤ 64
     → has_name (flat_map (lists_at before after) (range_with_len m k)) name ≡ false
 range_below before after name n le isnt m zero all = refl
@@ -306,7 +306,7 @@ within_or n far near = elim (cases_lt n 64) [
 
 -- ---- all lists
 
-module _ (before after : KnownShown) (cpus : length before.cpus ≡ length after.cpus)
+module _ (before after : KnownTraceState) (cpus : length before.cpus ≡ length after.cpus)
     (good_before : AreNumbered before.groups) (good_after : AreNumbered after.groups)
     (distinct : (name : ListName) → AreDistinct (list_named before name)) where
   abbrev cpus_part : List ListChange
@@ -316,7 +316,7 @@ module _ (before after : KnownShown) (cpus : length before.cpus ≡ length after
   groups_part = groups_list_changes before.groups after.groups
 
   -- a group whose number is too great
-  beyond : (n : ℕ) (name : ListName) (pr : Option KnownGroup → List ℕ) → pr None ≡ [] → 64 ≤ n
+  beyond : (n : ℕ) (name : ListName) (pr : Option KnownShownGroup → List ℕ) → pr None ≡ [] → 64 ≤ n
       → ((p : ℕ) → (p == n) ≡ false → has_name (lists_at before.groups after.groups p) name ≡ false)
       → list_after groups_part name (pr (group_numbered before.groups n)) ≡ pr (group_numbered after.groups n)
   beyond n name pr none le isnt =

@@ -4,13 +4,13 @@ use Rattle.std.specs.Prelude.{◌⊎◌, ◌==◌, not, if◌then◌else◌}
 use Rattle.std.specs.List.{flat_map, fold, range_with_len}
 use Rattle.std.proofs.Math.Seq.{drop-cons}
 use Rattle.std.proofs.lemmas.Bool.{cases_lt, cond-true, cond-false, eq-eqb, ne_eqb}
-use Rattle.trace_lines.specs.Shown.{KnownGroup, KnownCpu}
+use Rattle.trace_lines.specs.Shown.{KnownShownGroup, KnownShownCpu}
 use Rattle.trace_lines.specs.declared.shown.Flags.{Flags}
 use Rattle.std.specs.Prelude.{codes}
 use Rattle.std.proofs.Common.{Option, Some, None, max, subst}
 use Rattle.trace_lines.specs.declared.lists.ListName.{ListName}
 use Rattle.trace_lines.specs.declared.lists.ListName.TheVariants.{Listed, Fresh, Back, Inactive, Active}
-use Rattle.trace_lines.specs.Shown.{KnownShown}
+use Rattle.trace_lines.specs.Shown.{KnownTraceState}
 use Rattle.trace_lines.specs.Changes.{active_of, came_of, changed_list, group_list_changes, group_numbered, groups_list_changes, inactive_of, left_of, list_change, list_changes}
 use Rattle.trace_lines.specs.Parts.{list_change_text, part_text}
 use Rattle.trace_lines.specs.Writing.{AddsLists, AddsPins, KeepsOne, count_changes, stop_text}
@@ -37,37 +37,37 @@ no_more (x ∷ xs) (suc i) le = no_more xs i (omega arith)
 -- ---- groups
 
 -- one group, kept or not, and others
-kept_cons : (b : Bool) (g : KnownGroup) (gs : List KnownGroup) → cond b (g ∷ gs) gs ≡ cond b (g ∷ []) [] ++ gs
+kept_cons : (b : Bool) (g : KnownShownGroup) (gs : List KnownShownGroup) → cond b (g ∷ gs) gs ≡ cond b (g ∷ []) [] ++ gs
 kept_cons true g gs = refl
 kept_cons false g gs = refl
 
-number_cons : (b : Bool) (g : KnownGroup) (gs : List KnownGroup) → numbers_of (cond b (g ∷ gs) gs) ≡ numbers_of (cond b (g ∷ []) []) ++ numbers_of gs
+number_cons : (b : Bool) (g : KnownShownGroup) (gs : List KnownShownGroup) → numbers_of (cond b (g ∷ gs) gs) ≡ numbers_of (cond b (g ∷ []) []) ++ numbers_of gs
 number_cons true g gs = refl
 number_cons false g gs = refl
 
-pub gone_step : (a b : List KnownGroup) (i : ℕ) (g : KnownGroup) → i < length b → g ≡ get_or b i g
+pub gone_step : (a b : List KnownShownGroup) (i : ℕ) (g : KnownShownGroup) → i < length b → g ≡ get_or b i g
     → numbers_of (groups_beyond a (drop i b)) ≡ numbers_of (groups_beyond a (g ∷ [])) ++ numbers_of (groups_beyond a (drop (i + 1) b))
 gone_step a b i g lt is =
-    ap (λ (l : List KnownGroup). numbers_of (groups_beyond a l)) (at_item b i g lt is)
+    ap (λ (l : List KnownShownGroup). numbers_of (groups_beyond a l)) (at_item b i g lt is)
     ∙ number_cons (not (has_group a g)) g (groups_beyond a (drop (i + 1) b))
 
-pub made_step : (a b : List KnownGroup) (i : ℕ) (g : KnownGroup) → i < length b → g ≡ get_or b i g
+pub made_step : (a b : List KnownShownGroup) (i : ℕ) (g : KnownShownGroup) → i < length b → g ≡ get_or b i g
     → groups_beyond a (drop i b) ≡ groups_beyond a (g ∷ []) ++ groups_beyond a (drop (i + 1) b)
 made_step a b i g lt is =
-    ap (λ (l : List KnownGroup). groups_beyond a l) (at_item b i g lt is)
+    ap (λ (l : List KnownShownGroup). groups_beyond a l) (at_item b i g lt is)
     ∙ kept_cons (not (has_group a g)) g (groups_beyond a (drop (i + 1) b))
 
-pub row_step : (a b : List KnownGroup) (i : ℕ) (g : KnownGroup) → i < length b → g ≡ get_or b i g
+pub row_step : (a b : List KnownShownGroup) (i : ℕ) (g : KnownShownGroup) → i < length b → g ≡ get_or b i g
     → rows_beyond a (drop i b) ≡ rows_beyond a (g ∷ []) ++ rows_beyond a (drop (i + 1) b)
 row_step a b i g lt is =
-    ap (λ (l : List KnownGroup). rows_beyond a l) (at_item b i g lt is)
+    ap (λ (l : List KnownShownGroup). rows_beyond a l) (at_item b i g lt is)
     ∙ kept_cons (not (has_row a g)) g (rows_beyond a (drop (i + 1) b))
 
 -- a group that isn't kept, and one that is
-pub not_kept : (b : Bool) (g : KnownGroup) → b ≡ true → cond (not b) (g ∷ []) [] ≡ []
+pub not_kept : (b : Bool) (g : KnownShownGroup) → b ≡ true → cond (not b) (g ∷ []) [] ≡ []
 not_kept b g e = ap (λ (c : Bool). cond (not c) (g ∷ []) []) e
 
-pub is_kept : (b : Bool) (g : KnownGroup) → b ≡ false → cond (not b) (g ∷ []) [] ≡ g ∷ []
+pub is_kept : (b : Bool) (g : KnownShownGroup) → b ≡ false → cond (not b) (g ∷ []) [] ≡ g ∷ []
 is_kept b g e = ap (λ (c : Bool). cond (not c) (g ∷ []) []) e
 
 -- ---- two lists, side by side
@@ -78,13 +78,13 @@ flags_step k i b a o n lb la ob na =
     ap (λ (l : List Flags). flag_changes k l (drop i a)) (at_item b i o lb ob)
     ∙ ap (λ (l : List Flags). flag_changes k (o ∷ drop (i + 1) b) l) (at_item a i n la na)
 
-pub cpus_step : {X : Type 0} (f : ℕ → KnownCpu → KnownCpu → List X) (all : ℕ → List KnownCpu → List KnownCpu → List X)
-    → ((q : ℕ) (o n : KnownCpu) (b a : List KnownCpu) → all q (o ∷ b) (n ∷ a) ≡ f q o n ++ all (q + 1) b a)
-    → (k i : ℕ) (b a : List KnownCpu) (o n : KnownCpu) → i < length b → i < length a → o ≡ get_or b i o → n ≡ get_or a i n
+pub cpus_step : {X : Type 0} (f : ℕ → KnownShownCpu → KnownShownCpu → List X) (all : ℕ → List KnownShownCpu → List KnownShownCpu → List X)
+    → ((q : ℕ) (o n : KnownShownCpu) (b a : List KnownShownCpu) → all q (o ∷ b) (n ∷ a) ≡ f q o n ++ all (q + 1) b a)
+    → (k i : ℕ) (b a : List KnownShownCpu) (o n : KnownShownCpu) → i < length b → i < length a → o ≡ get_or b i o → n ≡ get_or a i n
     → all k (drop i b) (drop i a) ≡ f k o n ++ all (k + 1) (drop (i + 1) b) (drop (i + 1) a)
 cpus_step f all both k i b a o n lb la ob na =
-    ap (λ (l : List KnownCpu). all k l (drop i a)) (at_item b i o lb ob)
-    ∙ ap (λ (l : List KnownCpu). all k (o ∷ drop (i + 1) b) l) (at_item a i n la na)
+    ap (λ (l : List KnownShownCpu). all k l (drop i a)) (at_item b i o lb ob)
+    ∙ ap (λ (l : List KnownShownCpu). all k (o ∷ drop (i + 1) b) l) (at_item a i n la na)
     ∙ both k o n (drop (i + 1) b) (drop (i + 1) a)
 
 -- where one of the two lists ends, nothing is left
@@ -126,23 +126,23 @@ flags_end k i b a le = elim (either_ends (length b) (length a) i le) [
 
 -- ---- the rest of two lists of CPUs
 
-pub cpus_end : {X : Type 0} (all : ℕ → List KnownCpu → List KnownCpu → List X)
-    → ((q : ℕ) (a : List KnownCpu) → all q [] a ≡ []) → ((q : ℕ) (b : List KnownCpu) → all q b [] ≡ [])
-    → (k i : ℕ) (b a : List KnownCpu) → min (length b) (length a) ≤ i → all k (drop i b) (drop i a) ≡ []
+pub cpus_end : {X : Type 0} (all : ℕ → List KnownShownCpu → List KnownShownCpu → List X)
+    → ((q : ℕ) (a : List KnownShownCpu) → all q [] a ≡ []) → ((q : ℕ) (b : List KnownShownCpu) → all q b [] ≡ [])
+    → (k i : ℕ) (b a : List KnownShownCpu) → min (length b) (length a) ≤ i → all k (drop i b) (drop i a) ≡ []
 cpus_end all first second k i b a le = elim (either_ends (length b) (length a) i le) [
-  | inl lb ↦ ap (λ (l : List KnownCpu). all k l (drop i a)) (no_more b i lb) ∙ first k (drop i a)
-  | inr la ↦ ap (λ (l : List KnownCpu). all k (drop i b) l) (no_more a i la) ∙ second k (drop i b)
+  | inl lb ↦ ap (λ (l : List KnownShownCpu). all k l (drop i a)) (no_more b i lb) ∙ first k (drop i a)
+  | inr la ↦ ap (λ (l : List KnownShownCpu). all k (drop i b) l) (no_more a i la) ∙ second k (drop i b)
 ]
 
-pub lists_none : (q : ℕ) (b : List KnownCpu) → cpus_list_changes q b [] ≡ []
+pub lists_none : (q : ℕ) (b : List KnownShownCpu) → cpus_list_changes q b [] ≡ []
 lists_none q [] = refl
 lists_none q (o ∷ b) = refl
 
-pub pins_none : (frames q : ℕ) (b : List KnownCpu) → cpus_pin_changes q frames b [] ≡ []
+pub pins_none : (frames q : ℕ) (b : List KnownShownCpu) → cpus_pin_changes q frames b [] ≡ []
 pins_none frames q [] = refl
 pins_none frames q (o ∷ b) = refl
 
-pub stocks_none : (q : ℕ) (b : List KnownCpu) → stock_changes q b [] ≡ []
+pub stocks_none : (q : ℕ) (b : List KnownShownCpu) → stock_changes q b [] ≡ []
 stocks_none q [] = refl
 stocks_none q (o ∷ b) = refl
 
@@ -188,7 +188,7 @@ lists_same : (name : ListName) (x x' y y' : List ℕ) → x ≡ x' → y ≡ y' 
 lists_same name x x' y y' e f = ap (λ (l : List ℕ). list_change name l y) e ∙ ap (λ (l : List ℕ). list_change name x' l) f
 
 -- the changes of the lists of a CPU, each of which was written
-pub cpu_lists_ok : {T E : Type 0} (r : Result T E) (q : ℕ) (o n : KnownCpu) (b b1 b2 b3 : Bool) (old t1 t2 new l l' f f' k k' : List ℕ)
+pub cpu_lists_ok : {T E : Type 0} (r : Result T E) (q : ℕ) (o n : KnownShownCpu) (b b1 b2 b3 : Bool) (old t1 t2 new l l' f f' k k' : List ℕ)
     → l ≡ o.list → l' ≡ n.list → f ≡ o.fresh → f' ≡ n.fresh → k ≡ o.back → k' ≡ n.back
     → AddsLists b b1 old t1 (list_change (Listed q) l l') → AddsLists b1 b2 t1 t2 (list_change (Fresh q) f f')
     → IfOk r (λ _. AddsLists b2 b3 t2 new (list_change (Back q) k k')) → IfOk r (λ _. AddsLists b b3 old new (cpu_list_changes q o n))
@@ -202,7 +202,7 @@ cpu_lists_ok (Ok x) q o n b b1 b2 b3 old t1 t2 new l l' f f' k k' el el' ef ef' 
     (subst (λ (c : List ListChange). AddsLists b2 b3 t2 new c) (lists_same (Back q) k o.back k' n.back ek ek') three))
 
 -- the changes of the lists of a group, each of which was written
-pub group_lists_ok : {T E : Type 0} (r : Result T E) (p : ℕ) (o n : Option KnownGroup) (b b1 b2 : Bool) (old t1 new l l' k k' : List ℕ)
+pub group_lists_ok : {T E : Type 0} (r : Result T E) (p : ℕ) (o n : Option KnownShownGroup) (b b1 b2 : Bool) (old t1 new l l' k k' : List ℕ)
     → l ≡ inactive_of o → l' ≡ inactive_of n → k ≡ active_of o → k' ≡ active_of n
     → AddsLists b b1 old t1 (list_change (Inactive p) l l')
     → IfOk r (λ _. AddsLists b1 b2 t1 new (list_change (Active p) k k')) → IfOk r (λ _. AddsLists b b2 old new (group_list_changes p o n))
@@ -213,24 +213,24 @@ group_lists_ok (Ok x) p o n b b1 b2 old t1 new l l' k k' el el' ek ek' one two =
     (subst (λ (c : List ListChange). AddsLists b1 b2 t1 new c) (lists_same (Active p) k (active_of o) k' (active_of n) ek ek') two)
 
 -- a group's changes, by the groups of its number
-pub group_at : (p : ℕ) (o o' n n' : Option KnownGroup) (b b1 : Bool) (old new : List ℕ) → o ≡ o' → n ≡ n'
+pub group_at : (p : ℕ) (o o' n n' : Option KnownShownGroup) (b b1 : Bool) (old new : List ℕ) → o ≡ o' → n ≡ n'
     → AddsLists b b1 old new (group_list_changes p o n) → AddsLists b b1 old new (group_list_changes p o' n')
 group_at p o o' n n' b b1 old new e f one =
-    subst (λ (x : Option KnownGroup). AddsLists b b1 old new (group_list_changes p o' x)) f
-    (subst (λ (x : Option KnownGroup). AddsLists b b1 old new (group_list_changes p x n)) e one)
+    subst (λ (x : Option KnownShownGroup). AddsLists b b1 old new (group_list_changes p o' x)) f
+    (subst (λ (x : Option KnownShownGroup). AddsLists b b1 old new (group_list_changes p x n)) e one)
 
 -- all lists
-pub lists_ok : {T E : Type 0} (r : Result T E) (s s' : KnownShown) (b1 b2 : Bool) (old t1 t2 new : List ℕ) (cs cs' : List KnownCpu) (gs gs' : List KnownGroup)
+pub lists_ok : {T E : Type 0} (r : Result T E) (s s' : KnownTraceState) (b1 b2 : Bool) (old t1 t2 new : List ℕ) (cs cs' : List KnownShownCpu) (gs gs' : List KnownShownGroup)
     → cs ≡ s.cpus → cs' ≡ s'.cpus → gs ≡ s.groups → gs' ≡ s'.groups
     → AddsLists true b1 old t1 (cpus_list_changes 1 cs cs') → AddsLists b1 b2 t1 t2 (groups_list_changes gs gs')
     → IfOk r (λ _. new ≡ t2 ++ stop_text b2) → IfOk r (λ _. new ≡ old ++ part_text (codes "lists") list_change_text (list_changes s s'))
 lists_ok r s s' b1 b2 old t1 t2 new cs cs' gs gs' ec ec' eg eg' one two stops =
     part_ok r (codes "lists") list_change_text b2 old t2 new (list_changes s s')
     (adds_both (codes "lists") list_change_text true b1 b2 old t1 t2 (cpus_list_changes 1 s.cpus s'.cpus) (groups_list_changes s.groups s'.groups)
-    (subst (λ (x : List KnownCpu). AddsLists true b1 old t1 (cpus_list_changes 1 s.cpus x)) ec'
-    (subst (λ (x : List KnownCpu). AddsLists true b1 old t1 (cpus_list_changes 1 x cs')) ec one))
-    (subst (λ (x : List KnownGroup). AddsLists b1 b2 t1 t2 (groups_list_changes s.groups x)) eg'
-    (subst (λ (x : List KnownGroup). AddsLists b1 b2 t1 t2 (groups_list_changes x gs')) eg two)))
+    (subst (λ (x : List KnownShownCpu). AddsLists true b1 old t1 (cpus_list_changes 1 s.cpus x)) ec'
+    (subst (λ (x : List KnownShownCpu). AddsLists true b1 old t1 (cpus_list_changes 1 x cs')) ec one))
+    (subst (λ (x : List KnownShownGroup). AddsLists b1 b2 t1 t2 (groups_list_changes s.groups x)) eg'
+    (subst (λ (x : List KnownShownGroup). AddsLists b1 b2 t1 t2 (groups_list_changes x gs')) eg two)))
     stops
 
 -- one list: what left it, and what came
@@ -393,19 +393,19 @@ frames_end k i b a le = elim (either_ends (length b) (length a) i le) [
 
 -- ---- numbers that no group has
 
-abbrev lists_at : (before after : List KnownGroup) → ℕ → List ListChange
+abbrev lists_at : (before after : List KnownShownGroup) → ℕ → List ListChange
 lists_at before after number = group_list_changes number (group_numbered before number) (group_numbered after number)
 
 -- the lists of numbers that no group has don't change
-lists_quiet : (b a : List KnownGroup) (n k : ℕ) → ((m : ℕ) → n ≤ m → group_numbered b m ≡ None) → ((m : ℕ) → n ≤ m → group_numbered a m ≡ None)
+lists_quiet : (b a : List KnownShownGroup) (n k : ℕ) → ((m : ℕ) → n ≤ m → group_numbered b m ≡ None) → ((m : ℕ) → n ≤ m → group_numbered a m ≡ None)
     → flat_map (lists_at b a) (range_with_len n k) ≡ []
 lists_quiet b a n zero before after = refl
 lists_quiet b a n (suc k) before after =
-    ap (λ (o : Option KnownGroup). group_list_changes n o (group_numbered a n) ++ flat_map (lists_at b a) (range_with_len (n + 1) k)) (before n (omega arith))
-    ∙ ap (λ (o : Option KnownGroup). group_list_changes n None o ++ flat_map (lists_at b a) (range_with_len (n + 1) k)) (after n (omega arith))
+    ap (λ (o : Option KnownShownGroup). group_list_changes n o (group_numbered a n) ++ flat_map (lists_at b a) (range_with_len (n + 1) k)) (before n (omega arith))
+    ∙ ap (λ (o : Option KnownShownGroup). group_list_changes n None o ++ flat_map (lists_at b a) (range_with_len (n + 1) k)) (after n (omega arith))
     ∙ lists_quiet b a (n + 1) k (λ m le. before m (omega arith)) (λ m le. after m (omega arith))
 
-pub lists_end : (b a : List KnownGroup) (n e1 e2 : ℕ) → ((m : ℕ) → e1 ≤ m → group_numbered b m ≡ None) → ((m : ℕ) → e2 ≤ m → group_numbered a m ≡ None)
+pub lists_end : (b a : List KnownShownGroup) (n e1 e2 : ℕ) → ((m : ℕ) → e1 ≤ m → group_numbered b m ≡ None) → ((m : ℕ) → e2 ≤ m → group_numbered a m ≡ None)
     → min (max e1 e2) 64 ≤ n → flat_map (lists_at b a) (range_with_len n (64 - n)) ≡ []
 lists_end b a n e1 e2 before after le = elim (cases_lt n 64) [
   | inl lt ↦ lists_quiet b a n (64 - n) (λ m more. before m (omega arith)) (λ m more. after m (omega arith))
@@ -413,8 +413,8 @@ lists_end b a n e1 e2 before after le = elim (cases_lt n 64) [
 ]
 
 -- a group's number isn't a greater one
-pub number_passed : (gs : List KnownGroup) (i m : ℕ) (g : KnownGroup) → i < length gs → g ≡ get_or gs i g → g.number < m
+pub number_passed : (gs : List KnownShownGroup) (i m : ℕ) (g : KnownShownGroup) → i < length gs → g ≡ get_or gs i g → g.number < m
     → group_numbered (drop i gs) m ≡ group_numbered (drop (i + 1) gs) m
 number_passed gs i m g lt is less =
-    ap (λ (l : List KnownGroup). group_numbered l m) (at_item gs i g lt is)
+    ap (λ (l : List KnownShownGroup). group_numbered l m) (at_item gs i g lt is)
     ∙ cond-false (g.number == m) (Some g) (group_numbered (drop (i + 1) gs) m) (grind (arith, less))

@@ -13,7 +13,7 @@ use Rattle.trace_lines.specs.declared.frames.FrameSpan.{FrameSpan}
 use Rattle.trace_lines.specs.declared.lists.ListName.{ListName}
 use Rattle.trace_lines.specs.declared.lists.ListName.TheVariants.{Listed, Fresh, Back, Inactive, Active}
 use Rattle.trace_lines.specs.Places.{is_same_place}
-use Rattle.trace_lines.specs.Shown.{KnownShown, KnownGroup, KnownCpu}
+use Rattle.trace_lines.specs.Shown.{KnownTraceState, KnownShownGroup, KnownShownCpu}
 
 -- ---- the kinds of change
 
@@ -42,19 +42,19 @@ pub record StockChange : Type 0 where
 -- All that differs. Of groups that were made the path counts, of those whose numbers changed the row.
 pub record Changes : Type 0 where
   pub gone : List ℕ
-  pub made : List KnownGroup
+  pub made : List KnownShownGroup
   pub frames : List FrameSpan
   pub lists : List ListChange
   pub flags : List FlagChange
   pub pins : List PinChange
   pub stocks : List StockChange
-  pub groups : List KnownGroup
+  pub groups : List KnownShownGroup
   pub counts : Option Counts
 
 -- ---- groups
 
 -- whether the two groups have the same number and path
-abbrev pub is_same_group : KnownGroup → KnownGroup → Bool
+abbrev pub is_same_group : KnownShownGroup → KnownShownGroup → Bool
 is_same_group one other = one.number == other.number && bytes_eq one.path other.path
 
 -- whether the two limits are the same
@@ -84,27 +84,27 @@ is_same_row one other =
     && (is_same_flag one.is_killed other.is_killed && is_same_flag one.oom_group other.oom_group))
 
 -- whether a group with this number and path is among these
-abbrev pub has_group : List KnownGroup → KnownGroup → Bool
+abbrev pub has_group : List KnownShownGroup → KnownShownGroup → Bool
 has_group groups group = list_any (λ other. is_same_group other group) groups
 
 -- whether the two groups have the same number, path and row
-abbrev pub is_unchanged : KnownGroup → KnownGroup → Bool
+abbrev pub is_unchanged : KnownShownGroup → KnownShownGroup → Bool
 is_unchanged one other = one.number == other.number && (bytes_eq one.path other.path && is_same_row one.row other.row)
 
 -- whether a group with this number, path and row is among these
-abbrev pub has_row : List KnownGroup → KnownGroup → Bool
+abbrev pub has_row : List KnownShownGroup → KnownShownGroup → Bool
 has_row groups group = list_any (λ other. is_unchanged other group) groups
 
 -- those of the groups that aren't among these
-abbrev pub groups_beyond : List KnownGroup → List KnownGroup → List KnownGroup
+abbrev pub groups_beyond : List KnownShownGroup → List KnownShownGroup → List KnownShownGroup
 groups_beyond these groups = filter (λ group. not (has_group these group)) groups
 
 -- those of the groups that aren't among these with the same row
-abbrev pub rows_beyond : List KnownGroup → List KnownGroup → List KnownGroup
+abbrev pub rows_beyond : List KnownShownGroup → List KnownShownGroup → List KnownShownGroup
 rows_beyond these groups = filter (λ group. not (has_row these group)) groups
 
 -- the numbers of groups
-abbrev pub numbers_of : List KnownGroup → List ℕ
+abbrev pub numbers_of : List KnownShownGroup → List ℕ
 numbers_of [] = []
 numbers_of (group ∷ groups) = group.number ∷ numbers_of groups
 
@@ -174,34 +174,34 @@ list_change name before after =
     changed_list (record { name = name; left = left_of before after; came = came_of before after })
 
 -- the changes of a CPU's lists
-abbrev pub cpu_list_changes : ℕ → KnownCpu → KnownCpu → List ListChange
+abbrev pub cpu_list_changes : ℕ → KnownShownCpu → KnownShownCpu → List ListChange
 cpu_list_changes cpu before after =
     list_change (Listed cpu) before.list after.list
     ++ (list_change (Fresh cpu) before.fresh after.fresh ++ list_change (Back cpu) before.back after.back)
 
 -- the changes of the lists of the CPUs from this one on
-abbrev pub cpus_list_changes : ℕ → (before after : List KnownCpu) → List ListChange
+abbrev pub cpus_list_changes : ℕ → (before after : List KnownShownCpu) → List ListChange
 cpus_list_changes cpu [] after = []
 cpus_list_changes cpu (old ∷ before) [] = []
 cpus_list_changes cpu (old ∷ before) (new ∷ after) = cpu_list_changes cpu old new
     ++ cpus_list_changes (cpu + 1) before after
 
 -- the group of this number
-abbrev pub group_numbered : List KnownGroup → ℕ → Option KnownGroup
+abbrev pub group_numbered : List KnownShownGroup → ℕ → Option KnownShownGroup
 group_numbered groups number = find (λ group. group.number == number) groups
 
 -- a group's inactive units; none if there is no such group
-abbrev pub inactive_of : Option KnownGroup → List ℕ
+abbrev pub inactive_of : Option KnownShownGroup → List ℕ
 inactive_of None = []
 inactive_of (Some group) = group.inactive
 
 -- a group's active units; none if there is no such group
-abbrev pub active_of : Option KnownGroup → List ℕ
+abbrev pub active_of : Option KnownShownGroup → List ℕ
 active_of None = []
 active_of (Some group) = group.active
 
 -- the changes of the lists of the group of this number, as it was before and is after
-abbrev pub group_list_changes : ℕ → (before after : Option KnownGroup) → List ListChange
+abbrev pub group_list_changes : ℕ → (before after : Option KnownShownGroup) → List ListChange
 group_list_changes number before after =
     list_change (Inactive number) (inactive_of before) (inactive_of after)
     ++ list_change (Active number) (active_of before) (active_of after)
@@ -211,13 +211,13 @@ abbrev pub most_groups : ℕ
 most_groups = 64
 
 -- the changes of the lists of all groups, by number
-abbrev pub groups_list_changes : (before after : List KnownGroup) → List ListChange
+abbrev pub groups_list_changes : (before after : List KnownShownGroup) → List ListChange
 groups_list_changes before after =
     flat_map (λ number. group_list_changes number (group_numbered before number) (group_numbered after number))
     (range_with_len 0 most_groups)
 
 -- the changes of all lists: first those of the CPUs, then those of the groups
-abbrev pub list_changes : KnownShown → KnownShown → List ListChange
+abbrev pub list_changes : KnownTraceState → KnownTraceState → List ListChange
 list_changes before after =
     cpus_list_changes 1 before.cpus after.cpus ++ groups_list_changes before.groups after.groups
 
@@ -238,7 +238,7 @@ pin_changes cpu frames before after =
     flat_map (λ frame. pin_change cpu frame (pins_on frame before) (pins_on frame after)) (range_with_len 0 frames)
 
 -- the changes of the pins of the CPUs from this one on
-abbrev pub cpus_pin_changes : (cpu frames : ℕ) → (before after : List KnownCpu) → List PinChange
+abbrev pub cpus_pin_changes : (cpu frames : ℕ) → (before after : List KnownShownCpu) → List PinChange
 cpus_pin_changes cpu frames [] after = []
 cpus_pin_changes cpu frames (old ∷ before) [] = []
 cpus_pin_changes cpu frames (old ∷ before) (new ∷ after) =
@@ -255,7 +255,7 @@ stock_change cpu None (Some new) = record { cpu = cpu; stock = new } ∷ []
 stock_change cpu (Some old) (Some new) = if is_same_stock old new then [] else record { cpu = cpu; stock = new } ∷ []
 
 -- the changes of the stocks of the CPUs from this one on
-abbrev pub stock_changes : ℕ → (before after : List KnownCpu) → List StockChange
+abbrev pub stock_changes : ℕ → (before after : List KnownShownCpu) → List StockChange
 stock_changes cpu [] after = []
 stock_changes cpu (old ∷ before) [] = []
 stock_changes cpu (old ∷ before) (new ∷ after) = stock_change cpu old.stock new.stock
@@ -275,7 +275,7 @@ abbrev pub count_change : Counts → Counts → Option Counts
 count_change before after = if are_same_counts before after then None else Some after
 
 -- all that differs between the state before and the state after
-abbrev pub changes : KnownShown → KnownShown → Changes
+abbrev pub changes : KnownTraceState → KnownTraceState → Changes
 changes before after = record {
   gone = numbers_of (groups_beyond after.groups before.groups);
   made = groups_beyond before.groups after.groups;

@@ -4,10 +4,10 @@ use Rattle.std.specs.Fmt.{decimal}
 use Rattle.kill_notes.specs.declared.note.Note.{Note}
 use Rattle.trace_lines.specs.declared.objects.Header.{Header}
 use Rattle.trace_lines.specs.declared.objects.LineFacts.{LineFacts}
-use Rattle.trace_lines.specs.declared.objects.FastMiss.{FastMiss}
-use Rattle.trace_lines.specs.declared.objects.FastMiss.TheVariants.{ListEmpty, FreshFull, NoStock, Drained, OtherGroup}
+use Rattle.trace_lines.specs.declared.objects.FastFailure.{FastFailure}
+use Rattle.trace_lines.specs.declared.objects.FastFailure.TheVariants.{ListEmpty, FreshFull, NoStock, Drained, OtherGroup}
 use Rattle.trace_lines.specs.declared.objects.End.{End}
-use Rattle.trace_lines.specs.Shown.{KnownShown}
+use Rattle.trace_lines.specs.Shown.{KnownTraceState}
 use Rattle.trace_lines.specs.Changes.{changes}
 use Rattle.trace_lines.specs.Strings.{string_text}
 use Rattle.trace_lines.specs.Parts.{changes_text, counts_part, opening}
@@ -49,7 +49,7 @@ lock_word true = codes "true"
 lock_word false = codes "false"
 
 -- why no frame could be taken without the lock
-abbrev pub reason_text : FastMiss → List ℕ
+abbrev pub reason_text : FastFailure → List ℕ
 reason_text ListEmpty = codes "list-empty"
 reason_text FreshFull = codes "fresh-full"
 reason_text NoStock = codes "no-stock"
@@ -57,12 +57,12 @@ reason_text Drained = codes "drained"
 reason_text OtherGroup = codes "other-group"
 
 -- the part that tells why, if it is told
-unfoldable pub miss_text : Option FastMiss → List ℕ
+unfoldable pub miss_text : Option FastFailure → List ℕ
 miss_text None = []
 miss_text (Some miss) = codes ",\"miss\":\"" ++ reason_text miss ++ codes "\""
 
 -- whether the line took the lock, and why no frame could be taken without it
-unfoldable pub lock_text : Bool → Option FastMiss → List ℕ
+unfoldable pub lock_text : Bool → Option FastFailure → List ℕ
 lock_text took_lock miss = codes ",\"lock\":" ++ lock_word took_lock ++ miss_text miss
 
 -- a line's number
@@ -78,7 +78,7 @@ line_text line command answer =
 
 -- The object of a line: the line itself, what it changed in the state before it, the notes with the frames that they
 -- leave out, and the counts.
-abbrev pub object_text : LineFacts → (command answer : List ℕ) → (before after : KnownShown) → List Note → ℕ → List ℕ
+abbrev pub object_text : LineFacts → (command answer : List ℕ) → (before after : KnownTraceState) → List Note → ℕ → List ℕ
 object_text line command answer before after notes left_out =
     line_text line command answer ++ changes_text (changes before after) ++ notes_text notes left_out
     ++ counts_part (changes before after).counts ++ codes "}\n"

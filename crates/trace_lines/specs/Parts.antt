@@ -13,7 +13,7 @@ use Rattle.trace_lines.specs.declared.numbers.Span.{Span}
 use Rattle.trace_lines.specs.declared.frames.FrameSpan.{FrameSpan}
 use Rattle.trace_lines.specs.declared.lists.ListName.{ListName}
 use Rattle.trace_lines.specs.declared.lists.ListName.TheVariants.{Listed, Fresh, Back, Inactive, Active}
-use Rattle.trace_lines.specs.Shown.{KnownGroup}
+use Rattle.trace_lines.specs.Shown.{KnownShownGroup}
 use Rattle.trace_lines.specs.Changes.{Changes, ListChange, FlagChange, PinChange, StockChange}
 use Rattle.trace_lines.specs.Strings.{string_text}
 
@@ -63,7 +63,7 @@ abbrev pub spans_text : List ℕ → List ℕ
 spans_text numbers = codes "[" ++ commas span_text (spans_of numbers) ++ codes "]"
 
 -- a group that was made, with its path
-abbrev pub made_text : KnownGroup → List ℕ
+abbrev pub made_text : KnownShownGroup → List ℕ
 made_text group = codes "[" ++ decimal group.number ++ codes "," ++ string_text group.path ++ codes "]"
 
 -- where frames are: free, on the list of a CPU, or in units of a group, with their order
@@ -132,12 +132,12 @@ group_kills_text row =
     ++ codes "]"
 
 -- the front of a group's row: its number, what it uses, and the events below it
-unfoldable pub row_front_text : KnownGroup → List ℕ
+unfoldable pub row_front_text : KnownShownGroup → List ℕ
 row_front_text group =
     codes "[" ++ decimal group.number ++ usage_text group.row ++ events_text group.row.events
 
 -- a group's row: its numbers in the order of the header
-abbrev pub row_text : KnownGroup → List ℕ
+abbrev pub row_text : KnownShownGroup → List ℕ
 row_text group =
     row_front_text group ++ events_text group.row.events_local ++ marks_text group.row ++ group_kills_text group.row
 

@@ -12,7 +12,7 @@ use Rattle.trace_lines.specs.declared.shown.Counts.{Counts}
 use Rattle.trace_lines.specs.declared.frames.FrameSpan.{FrameSpan}
 use Rattle.trace_lines.specs.declared.lists.ListName.{ListName}
 use Rattle.trace_lines.specs.declared.lists.ListName.TheVariants.{Listed, Fresh, Back, Inactive, Active}
-use Rattle.trace_lines.specs.Shown.{KnownShown, KnownGroup, KnownCpu}
+use Rattle.trace_lines.specs.Shown.{KnownTraceState, KnownShownGroup, KnownShownCpu}
 use Rattle.trace_lines.specs.Changes.{Changes, ListChange, FlagChange, PinChange, StockChange}
 use Rattle.trace_lines.specs.Changes.{changes, group_numbered, inactive_of, active_of, most_groups, pins_on}
 
@@ -34,28 +34,28 @@ abbrev pub no_flags : Flags
 no_flags = record { is_dirty = false; is_marked = false }
 
 -- a CPU without anything
-abbrev pub no_cpu : KnownCpu
+abbrev pub no_cpu : KnownShownCpu
 no_cpu = record { list = []; fresh = []; back = []; pins = []; stock = None }
 
 -- the CPU of this number, if the first of the CPUs has the number `from`
-abbrev pub cpu_from : (from : ℕ) → List KnownCpu → ℕ → KnownCpu
+abbrev pub cpu_from : (from : ℕ) → List KnownShownCpu → ℕ → KnownShownCpu
 cpu_from from [] cpu = no_cpu
 cpu_from from (known ∷ cpus) cpu = if from == cpu then known else cpu_from (from + 1) cpus cpu
 
 -- the CPU of this number
-abbrev pub cpu_numbered : List KnownCpu → ℕ → KnownCpu
+abbrev pub cpu_numbered : List KnownShownCpu → ℕ → KnownShownCpu
 cpu_numbered cpus cpu = cpu_from 1 cpus cpu
 
 -- the path of a group
-abbrev pub path_of : Option KnownGroup → Option (List ℕ)
+abbrev pub path_of : Option KnownShownGroup → Option (List ℕ)
 path_of group = option_map (λ known. known.path) group
 
 -- the row of a group
-abbrev pub row_of : Option KnownGroup → Option Row
+abbrev pub row_of : Option KnownShownGroup → Option Row
 row_of group = option_map (λ known. known.row) group
 
 -- the list of this name
-abbrev pub list_named : KnownShown → ListName → List ℕ
+abbrev pub list_named : KnownTraceState → ListName → List ℕ
 list_named shown (Listed cpu) = (cpu_numbered shown.cpus cpu).list
 list_named shown (Fresh cpu) = (cpu_numbered shown.cpus cpu).fresh
 list_named shown (Back cpu) = (cpu_numbered shown.cpus cpu).back
@@ -63,7 +63,7 @@ list_named shown (Inactive group) = inactive_of (group_numbered shown.groups gro
 list_named shown (Active group) = active_of (group_numbered shown.groups group)
 
 -- what is shown, as a state
-abbrev pub state_of : KnownShown → State
+abbrev pub state_of : KnownTraceState → State
 state_of shown = record {
   place = λ frame. get_or shown.places frame Free;
   flags = λ frame. get_or shown.flags frame no_flags;
@@ -164,7 +164,7 @@ pub record SaySame (one other : State) : Type 0 where
   pub counts : one.counts ≡ other.counts
 
 -- no two groups have the same number, and each number is below `most_groups`
-abbrev pub AreNumbered : List KnownGroup → Type 0
+abbrev pub AreNumbered : List KnownShownGroup → Type 0
 AreNumbered [] = ⊤
 AreNumbered (group ∷ groups) = (group_numbered groups group.number ≡ None) × (group.number < most_groups)
     × AreNumbered groups
@@ -176,7 +176,7 @@ AreDistinct (number ∷ numbers) = (has_number numbers number ≡ false) × AreD
 
 -- Two states of one boot, of which the second comes later: they have the same frames and CPUs, all that they say of
 -- frames is of the zone's, and a stock that was filled has a group from then on.
-pub record AreOfOneBoot (before after : KnownShown) : Type 0 where
+pub record AreOfOneBoot (before after : KnownTraceState) : Type 0 where
   pub places : length before.places ≡ length after.places
   pub flags : length before.flags ≡ length after.flags
   pub cpus : length before.cpus ≡ length after.cpus
@@ -190,5 +190,5 @@ pub record AreOfOneBoot (before after : KnownShown) : Type 0 where
 
 -- Nothing that is shown is lost: the changes, applied to the state before, are the state after.
 abbrev pub ChangesRebuild : Type 0
-ChangesRebuild = (before after : KnownShown) → AreOfOneBoot before after
+ChangesRebuild = (before after : KnownTraceState) → AreOfOneBoot before after
     → SaySame (applied (changes before after) (state_of before)) (state_of after)

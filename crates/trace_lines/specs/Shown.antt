@@ -7,7 +7,7 @@ use Rattle.trace_lines.specs.declared.shown.ShownStock.{ShownStock}
 use Rattle.trace_lines.specs.declared.shown.Counts.{Counts}
 
 -- a group: its number, its path, its row, and its two lists of units, the oldest first
-pub record KnownGroup : Type 0 where
+pub record KnownShownGroup : Type 0 where
   pub number : ℕ
   pub path : List ℕ
   pub row : Row
@@ -16,7 +16,7 @@ pub record KnownGroup : Type 0 where
 
 -- What a CPU has: the frames on its list, its fresh frames, its units whose last reference it put, an entry for each of
 -- its pins, and its stock, if that was filled once.
-pub record KnownCpu : Type 0 where
+pub record KnownShownCpu : Type 0 where
   pub list : List ℕ
   pub fresh : List ℕ
   pub back : List ℕ
@@ -24,9 +24,9 @@ pub record KnownCpu : Type 0 where
   pub stock : Option ShownStock
 
 -- All that is shown: a place and flags for each frame, the groups, the CPUs from 1 on, and the counts.
-pub record KnownShown : Type 0 where
+pub record KnownTraceState : Type 0 where
   pub places : List ShownPlace
   pub flags : List Flags
-  pub groups : List KnownGroup
-  pub cpus : List KnownCpu
+  pub groups : List KnownShownGroup
+  pub cpus : List KnownShownCpu
   pub counts : Counts

@@ -1,7 +1,7 @@
 -- How an optional part is written, an item at a time.
 use Rattle.std.specs.Prelude.{◌≡◌, ◌+◌, ◌≤◌, drop, length, ℕ, Bool, true, false, List, [], ◌∷◌, ◌++◌, codes}
 use Rattle.trace_lines.specs.Changes.{FlagChange, ListChange, PinChange, StockChange, came_of, left_of, pin_change}
-use Rattle.trace_lines.specs.Shown.{KnownGroup}
+use Rattle.trace_lines.specs.Shown.{KnownShownGroup}
 use Rattle.trace_lines.specs.declared.frames.FrameSpan.{FrameSpan}
 use Rattle.std.specs.Fmt.{decimal}
 use Rattle.trace_lines.specs.Parts.{flag_change_text, frame_span_text, list_change_text, made_text, opening}
@@ -38,7 +38,7 @@ abbrev pub AddsGone : (before after : Bool) (old new : List ℕ) → List ℕ �
 AddsGone before after old new items = Adds (codes "gone") decimal before after old new items
 
 -- groups that were made were added
-abbrev pub AddsMade : (before after : Bool) (old new : List ℕ) → List KnownGroup → Type 0
+abbrev pub AddsMade : (before after : Bool) (old new : List ℕ) → List KnownShownGroup → Type 0
 AddsMade before after old new items = Adds (codes "made") made_text before after old new items
 
 -- spans of frames were added
@@ -62,7 +62,7 @@ abbrev pub AddsStocks : (before after : Bool) (old new : List ℕ) → List Stoc
 AddsStocks before after old new items = Adds (codes "stocks") stock_change_text before after old new items
 
 -- rows of groups were added
-abbrev pub AddsRows : (before after : Bool) (old new : List ℕ) → List KnownGroup → Type 0
+abbrev pub AddsRows : (before after : Bool) (old new : List ℕ) → List KnownShownGroup → Type 0
 AddsRows before after old new items = Adds (codes "groups") row_text before after old new items
 
 -- texts of notes were added

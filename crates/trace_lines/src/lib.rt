@@ -17,4 +17,4 @@ pub mod shown;
 mod strings;
 
 pub use laws::changes_rebuild;
-pub use objects::{End, FastMiss, Header, LineFacts, write_end, write_header, write_object};
+pub use objects::{End, FastFailure, Header, LineFacts, write_end, write_header, write_object};

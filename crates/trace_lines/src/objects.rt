@@ -33,7 +33,7 @@ pub struct Header {
 
 /// Why no frame could be taken without the lock.
 #[derive(Clone, Copy, Debug, PartialEq, Eq)]
-pub enum FastMiss {
+pub enum FastFailure {
     ListEmpty,
     FreshFull,
     NoStock,
@@ -51,7 +51,7 @@ pub struct LineFacts {
     /// Whether it took the lock.
     pub took_lock: bool,
     /// Of an `alloc PATH 0` that took the lock: why no frame could be taken without it.
-    pub miss: Option<FastMiss>,
+    pub miss: Option<FastFailure>,
 }
 
 /// The sums at the end.
@@ -189,7 +189,7 @@ fn write_line_number(number: u64, text: &mut String) -> Result<(), AllocError>
 
 // Adds whether the line took the lock, and why no frame could be taken without it, if that is told.
 #[tactic(auto, unfolding(crate::specs::Objects::lock_text))]
-fn write_lock(took_lock: bool, miss: Option<FastMiss>, text: &mut String) -> Result<(), AllocError>
+fn write_lock(took_lock: bool, miss: Option<FastFailure>, text: &mut String) -> Result<(), AllocError>
     ensures { IfOk result (λ _. string_bytes text.new ≡ string_bytes text.old ++ lock_text took_lock miss) }
 {
     text.push_str(",\"lock\":")?;
@@ -206,7 +206,7 @@ fn lock_word(took_lock: bool) -> &'static str
 
 // Adds why no frame could be taken without the lock, if that is told.
 #[tactic(auto, unfolding(crate::specs::Objects::miss_text))]
-fn write_miss(miss: Option<FastMiss>, text: &mut String) -> Result<(), AllocError>
+fn write_miss(miss: Option<FastFailure>, text: &mut String) -> Result<(), AllocError>
     ensures { IfOk result (λ _. string_bytes text.new ≡ string_bytes text.old ++ miss_text miss) }
 {
     let Some(miss) = miss else {
@@ -218,15 +218,15 @@ fn write_miss(miss: Option<FastMiss>, text: &mut String) -> Result<(), AllocErro
 }
 
 // The word for why no frame could be taken without the lock.
-fn reason(miss: FastMiss) -> &'static str
+fn reason(miss: FastFailure) -> &'static str
     ensures { result.now ≡ reason_text miss }
 {
     match miss {
-        FastMiss::ListEmpty => "list-empty",
-        FastMiss::FreshFull => "fresh-full",
-        FastMiss::NoStock => "no-stock",
-        FastMiss::Drained => "drained",
-        FastMiss::OtherGroup => "other-group",
+        FastFailure::ListEmpty => "list-empty",
+        FastFailure::FreshFull => "fresh-full",
+        FastFailure::NoStock => "no-stock",
+        FastFailure::Drained => "drained",
+        FastFailure::OtherGroup => "other-group",
     }
 }
 

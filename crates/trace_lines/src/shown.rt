@@ -1,7 +1,7 @@
 //! What is shown of a state.
 
 ghost use Rattle.std.specs.Prelude.{◌≡◌};
-ghost use Rattle.trace_lines.specs.Shown.{KnownShown, KnownGroup, KnownCpu};
+ghost use Rattle.trace_lines.specs.Shown.{KnownTraceState, KnownShownGroup, KnownShownCpu};
 
 use crate::place::ShownPlace;
 use group_tree::path::PathText;
@@ -76,7 +76,7 @@ pub struct ShownGroup {
 }
 
 impl Model for ShownGroup {
-    ghost Value = { KnownGroup };
+    ghost Value = { KnownShownGroup };
 
     ghost view = { λ g. record {
       number = g.number;
@@ -126,7 +126,7 @@ pub struct ShownCpu {
 }
 
 impl Model for ShownCpu {
-    ghost Value = { KnownCpu };
+    ghost Value = { KnownShownCpu };
 
     ghost view = { λ c. record {
       list = c.list.items;
@@ -211,7 +211,7 @@ pub struct Shown {
 }
 
 impl Model for Shown {
-    ghost Value = { KnownShown };
+    ghost Value = { KnownTraceState };
 
     ghost view = { λ s. record {
       places = s.places.items;

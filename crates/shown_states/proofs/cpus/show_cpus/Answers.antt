@@ -30,9 +30,9 @@ loop-cpu-preserved g c =
     c.stock_now-stock.ensures.stock ∙ ap (λ (cpu : KnownCpu). stock_now (visit_state machine cpu)) (sym is) in
     let count = length (take at cpus) in
     let one = one_shown before cpus now at machine item new same inside is stays count looked c.stock_now-stock.result found in
-    let next = subst (λ (last : shown.KnownCpu). IfOk c.show_cpu-next.result (λ cpu. cpu ≡ last)) one c.show_cpu-next.ensures in
+    let next = subst (λ (last : shown.KnownShownCpu). IfOk c.show_cpu-next.result (λ cpu. cpu ≡ last)) one c.show_cpu-next.ensures in
     let all = c.with_next-shown.ensures (cpus_shown before (take at cpus)) (cpu_shown before (get_or cpus at item)) c.loop-cpu.invariant.0 next in (
-      subst (λ (l : List shown.KnownCpu). IfOk c.with_next-shown.result (λ shown. shown.items ≡ l))
+      subst (λ (l : List shown.KnownShownCpu). IfOk c.with_next-shown.result (λ shown. shown.items ≡ l))
           (cpus_more before cpus now at machine item new same inside is stays count looked) all,
       locked_one_more c.args.locked.now c.loop-cpu.locked c.stock_now-stock.new.self cpus at
           (inside_all before cpus now at machine item new same inside is stays count looked) c.loop-cpu.invariant.1 c.stock_now-stock.ensures.locked,

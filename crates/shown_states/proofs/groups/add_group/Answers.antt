@@ -2,7 +2,7 @@ use Rattle.std.proofs.Common.{◌≡◌, false, List, ◌++◌, append-nil, sym,
 use Rattle.group_tree.specs.declared.group.Group.{Group}
 use Rattle.group_tree.specs.Groups.{has_group}
 use Rattle.group_charge.specs.Charges.{Ledger}
-use Rattle.trace_lines.specs.Shown.{KnownGroup}
+use Rattle.trace_lines.specs.Shown.{KnownShownGroup}
 use Rattle.shown_states.proofs.Numbered.{none_there}
 use Rattle.shown_states.proofs.groups.add_group.Goals as goal
 
@@ -12,5 +12,5 @@ returns-then-not-contains g c =
     let none : c.contains.result ≡ false = search rules in
     let groups = c.tree.ensures.tree ∙ ap (λ (ledger : Ledger). ledger.groups) c.charges.ensures in
     let gone = sym (c.contains.ensures ∙ ap (λ (rows : List Group). has_group rows c.args.group) groups) ∙ none in
-    let old : List KnownGroup = c.args.groups.now.items in
-    sym (ap (λ (l : List KnownGroup). old ++ l) (none_there machine c.args.group gone) ∙ append-nil old)
+    let old : List KnownShownGroup = c.args.groups.now.items in
+    sym (ap (λ (l : List KnownShownGroup). old ++ l) (none_there machine c.args.group gone) ∙ append-nil old)

@@ -1,5 +1,5 @@
 use Rattle.std.proofs.Common.{◌∙◌, ℕ, [], ◌∷◌, ap, sym}
-use Rattle.trace_lines.specs.Shown.{KnownGroup}
+use Rattle.trace_lines.specs.Shown.{KnownShownGroup}
 use Rattle.trace_lines.specs.Changes.{numbers_of}
 use Rattle.trace_lines.proofs.Items.{adds_none, one_ok}
 use Rattle.trace_lines.proofs.Steps.{is_kept, not_kept}
@@ -11,5 +11,5 @@ returns-then-has_group c = adds_none _ _ _ _ _ (ap numbers_of (not_kept _ c.args
 pub returns : goal.returns
 returns c = one_ok _ _ _ _ _ _ _ _ c.from.result _
     (ap numbers_of (is_kept _ c.args.group.now (sym c.has_group.ensures ∙ c.if-has_group.false))
-    ∙ ap (λ (n : ℕ). n ∷ []) (sym (c.from.ensures ∙ ap (λ (g : KnownGroup). g.number) c.group.view_is)))
+    ∙ ap (λ (n : ℕ). n ∷ []) (sym (c.from.ensures ∙ ap (λ (g : KnownShownGroup). g.number) c.group.view_is)))
     c.in_ok-push_start.ensures.text c.in_ok-push_start.ensures.first c.push_count.ensures
