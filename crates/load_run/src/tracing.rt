@@ -90,7 +90,7 @@ fn end_of(ended: &BootEnd) -> End
         frames: ended.audit.frames,
         free: ended.audit.free,
         charged: ended.audit.charged,
-        puts: ended.audit.last_puts,
+        last_puts: ended.audit.last_puts,
         freezes: ended.audit.freezes,
         drops: ended.audit.drops,
         returns: ended.audit.returns,

@@ -7,7 +7,7 @@ use Rattle.stock_word.specs.Calls.{with_view}
 use Rattle.cpu_part.specs.Cpus.{KnownCpu}
 use Rattle.trace_lines.specs.declared.place.ShownPlace.{ShownPlace}
 use Rattle.trace_lines.specs.declared.shown.Flags.{Flags}
-use Rattle.trace_lines.specs.declared.shown.Counts.{Counts}
+use Rattle.trace_lines.specs.declared.shown.ShownCounts.{ShownCounts}
 use Rattle.trace_lines.specs.Shown as shown
 use Rattle.mem_machine.specs.Machines.{KnownMachine, visit_state}
 use Rattle.mem_machine.specs.Stocks.{with_look}
@@ -52,7 +52,7 @@ shown_again machine now cpus others looked same =
 
 -- the parts that were shown after the looks make up the state that was there before
 pub shown_whole : (machine now : KnownMachine) (cpus others : List KnownCpu) → now ≡ with_looks machine (length cpus) → others ≡ cpus
-    → (places : List ShownPlace) (flags : List Flags) (groups : List shown.KnownShownGroup) (seen : List shown.KnownShownCpu) (counts : Counts)
+    → (places : List ShownPlace) (flags : List Flags) (groups : List shown.KnownShownGroup) (seen : List shown.KnownShownCpu) (counts : ShownCounts)
     → places ≡ places_shown now others → flags ≡ flags_shown now → groups ≡ groups_shown now → seen ≡ cpus_shown machine cpus
     → counts ≡ counts_shown machine cpus
     → record { places = places; flags = flags; groups = groups; cpus = seen; counts = counts } ≡ shown_state machine cpus

@@ -2,7 +2,7 @@
 use Rattle.std.specs.Prelude.{ℕ, ◌+◌, List, length, min, sum_by}
 use Rattle.group_tree.specs.Room.{max_count}
 use Rattle.cpu_part.specs.Cpus.{KnownCpu}
-use Rattle.trace_lines.specs.declared.shown.Counts.{Counts}
+use Rattle.trace_lines.specs.declared.shown.ShownCounts.{ShownCounts}
 use Rattle.trace_lines.specs.Shown.{KnownTraceState}
 use Rattle.mem_machine.specs.Machines.{KnownMachine}
 use Rattle.shown_states.specs.Frames.{flags_shown, places_shown}
@@ -20,9 +20,9 @@ drops_of cpus = sum_by (λ cpu. cpu.drops) cpus
 -- The counts since the boot. The machine counts the last put of a unit when it frees the unit, so those of back units
 -- are added. A fresh frame that a CPU put back on its own list is a drop and a return. A count stays at its greatest
 -- value.
-abbrev pub counts_shown : KnownMachine → List KnownCpu → Counts
+abbrev pub counts_shown : KnownMachine → List KnownCpu → ShownCounts
 counts_shown machine cpus = record {
-  puts = min (machine.counts.last_puts + back_of cpus) max_count;
+  last_puts = min (machine.counts.last_puts + back_of cpus) max_count;
   freezes = machine.counts.freezes;
   drops = min (machine.counts.drops + drops_of cpus) max_count;
   returns = min (machine.counts.returns + drops_of cpus) max_count;

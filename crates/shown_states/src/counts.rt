@@ -6,16 +6,16 @@ ghost use Rattle.shown_states.specs.States.{back_of, counts_shown, drops_of};
 
 use cpu_part::{BootName, Cpu};
 use mem_machine::Machine;
-use trace_lines::shown::Counts;
+use trace_lines::shown::ShownCounts;
 
 // The counts of the machine and of the CPUs together.
-pub(crate) fn show_counts<N: BootName>(machine: &Machine<N>, cpus: &[Cpu<N>]) -> Counts
+pub(crate) fn show_counts<N: BootName>(machine: &Machine<N>, cpus: &[Cpu<N>]) -> ShownCounts
     ensures { result ≡ counts_shown machine.now cpus.now }
 {
     let counts = machine.counts();
     let drops = count_drops(cpus);
-    Counts {
-        puts: counts.last_puts.saturating_add(count_back(cpus)),
+    ShownCounts {
+        last_puts: counts.last_puts.saturating_add(count_back(cpus)),
         freezes: counts.freezes,
         drops: counts.drops.saturating_add(drops),
         returns: counts.returns.saturating_add(drops),

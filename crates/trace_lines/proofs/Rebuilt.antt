@@ -4,7 +4,7 @@ use Rattle.std.specs.Prelude.{◌&&◌, if◌then◌else◌}
 use Rattle.std.specs.Str.{bytes_eq}
 use Rattle.std.proofs.lemmas.Bool.{and_parts}
 use Rattle.std.proofs.lemmas.Slice.Eq.{bytes_eq-Decides}
-use Rattle.trace_lines.specs.declared.shown.Counts.{Counts}
+use Rattle.trace_lines.specs.declared.shown.ShownCounts.{ShownCounts}
 use Rattle.trace_lines.specs.Changes.{are_same_counts, is_same_row}
 use Rattle.trace_lines.specs.Rebuilding.{ChangesRebuild, counts_after}
 use Rattle.trace_lines.proofs.Same.{same_counts, same_row}
@@ -19,10 +19,10 @@ same_bytes xs ys e = (bytes_eq-Decides xs ys).0 e
 equal_bytes : (xs ys : List ℕ) → xs ≡ ys → bytes_eq xs ys ≡ true
 equal_bytes xs ys e = (bytes_eq-Decides xs ys).1 e
 
-abbrev count_change_by : Bool → Counts → Option Counts
+abbrev count_change_by : Bool → ShownCounts → Option ShownCounts
 count_change_by b new = if b then None else Some new
 
-counts_by : (b : Bool) (old new : Counts) → b ≡ are_same_counts old new → counts_after (count_change_by b new) old ≡ new
+counts_by : (b : Bool) (old new : ShownCounts) → b ≡ are_same_counts old new → counts_after (count_change_by b new) old ≡ new
 counts_by true old new e = same_counts old new (sym e)
 counts_by false old new e = refl
 

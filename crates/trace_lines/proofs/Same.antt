@@ -8,7 +8,7 @@ use Rattle.trace_lines.specs.declared.shown.Events.{Events}
 use Rattle.trace_lines.specs.declared.shown.Row.{Row}
 use Rattle.trace_lines.specs.declared.shown.Flags.{Flags}
 use Rattle.trace_lines.specs.declared.shown.ShownStock.{ShownStock}
-use Rattle.trace_lines.specs.declared.shown.Counts.{Counts}
+use Rattle.trace_lines.specs.declared.shown.ShownCounts.{ShownCounts}
 use Rattle.trace_lines.specs.Places.{is_same_place}
 use Rattle.trace_lines.specs.Changes.{are_same_counts, are_same_events, are_same_flags, is_same_flag, is_same_limit, is_same_row, is_same_stock}
 
@@ -79,14 +79,14 @@ same_stock f g e =
     let parts = and_parts (f.group == g.group) (is_same_limit f.pages g.pages) e in
     λ k. record { group = eqb-true f.group g.group parts.0 k; pages = same_limit f.pages g.pages parts.1 k }
 
-pub same_counts : (f g : Counts) → are_same_counts f g ≡ true → f ≡ g
+pub same_counts : (f g : ShownCounts) → are_same_counts f g ≡ true → f ≡ g
 same_counts f g e =
-    let parts = and_parts ((f.puts == g.puts && f.freezes == g.freezes) && (f.drops == g.drops && f.returns == g.returns)) (f.misses == g.misses) e in
-    let both = and_parts (f.puts == g.puts && f.freezes == g.freezes) (f.drops == g.drops && f.returns == g.returns) parts.0 in
-    let one = and_parts (f.puts == g.puts) (f.freezes == g.freezes) both.0 in
+    let parts = and_parts ((f.last_puts == g.last_puts && f.freezes == g.freezes) && (f.drops == g.drops && f.returns == g.returns)) (f.misses == g.misses) e in
+    let both = and_parts (f.last_puts == g.last_puts && f.freezes == g.freezes) (f.drops == g.drops && f.returns == g.returns) parts.0 in
+    let one = and_parts (f.last_puts == g.last_puts) (f.freezes == g.freezes) both.0 in
     let two = and_parts (f.drops == g.drops) (f.returns == g.returns) both.1 in
     λ k. record {
-      puts = eqb-true f.puts g.puts one.0 k;
+      last_puts = eqb-true f.last_puts g.last_puts one.0 k;
       freezes = eqb-true f.freezes g.freezes one.1 k;
       drops = eqb-true f.drops g.drops two.0 k;
       returns = eqb-true f.returns g.returns two.1 k;

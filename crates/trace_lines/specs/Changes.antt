@@ -8,7 +8,7 @@ use Rattle.trace_lines.specs.declared.shown.Events.{Events}
 use Rattle.trace_lines.specs.declared.shown.Row.{Row}
 use Rattle.trace_lines.specs.declared.shown.Flags.{Flags}
 use Rattle.trace_lines.specs.declared.shown.ShownStock.{ShownStock}
-use Rattle.trace_lines.specs.declared.shown.Counts.{Counts}
+use Rattle.trace_lines.specs.declared.shown.ShownCounts.{ShownCounts}
 use Rattle.trace_lines.specs.declared.frames.FrameSpan.{FrameSpan}
 use Rattle.trace_lines.specs.declared.lists.ListName.{ListName}
 use Rattle.trace_lines.specs.declared.lists.ListName.TheVariants.{Listed, Fresh, Back, Inactive, Active}
@@ -49,7 +49,7 @@ pub record Changes : Type 0 where
   pub pins : List PinChange
   pub stocks : List StockChange
   pub groups : List KnownShownGroup
-  pub counts : Option Counts
+  pub counts : Option ShownCounts
 
 -- ---- groups
 
@@ -264,14 +264,14 @@ stock_changes cpu (old ∷ before) (new ∷ after) = stock_change cpu old.stock 
 -- ---- all
 
 -- whether the two counts are the same
-abbrev pub are_same_counts : Counts → Counts → Bool
+abbrev pub are_same_counts : ShownCounts → ShownCounts → Bool
 are_same_counts one other =
-    ((one.puts == other.puts && one.freezes == other.freezes)
+    ((one.last_puts == other.last_puts && one.freezes == other.freezes)
     && (one.drops == other.drops && one.returns == other.returns))
     && one.misses == other.misses
 
 -- the counts, if they changed
-abbrev pub count_change : Counts → Counts → Option Counts
+abbrev pub count_change : ShownCounts → ShownCounts → Option ShownCounts
 count_change before after = if are_same_counts before after then None else Some after
 
 -- all that differs between the state before and the state after

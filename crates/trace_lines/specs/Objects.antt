@@ -96,7 +96,7 @@ frame_sums_text end =
 -- the sums of units at the end
 unfoldable pub unit_sums_text : End → List ℕ
 unit_sums_text end =
-    keyed_text (codes "puts") end.puts ++ keyed_text (codes "freezes") end.freezes
+    keyed_text (codes "puts") end.last_puts ++ keyed_text (codes "freezes") end.freezes
     ++ keyed_text (codes "drops") end.drops ++ keyed_text (codes "returns") end.returns ++ codes "}\n"
 
 -- the end

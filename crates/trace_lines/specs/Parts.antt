@@ -8,7 +8,7 @@ use Rattle.trace_lines.specs.declared.place.ShownPlace.TheVariants.{Free, Listed
 use Rattle.trace_lines.specs.declared.shown.Events.{Events}
 use Rattle.trace_lines.specs.declared.shown.Row.{Row}
 use Rattle.trace_lines.specs.declared.shown.Flags.{Flags}
-use Rattle.trace_lines.specs.declared.shown.Counts.{Counts}
+use Rattle.trace_lines.specs.declared.shown.ShownCounts.{ShownCounts}
 use Rattle.trace_lines.specs.declared.numbers.Span.{Span}
 use Rattle.trace_lines.specs.declared.frames.FrameSpan.{FrameSpan}
 use Rattle.trace_lines.specs.declared.lists.ListName.{ListName}
@@ -142,18 +142,18 @@ row_text group =
     row_front_text group ++ events_text group.row.events_local ++ marks_text group.row ++ group_kills_text group.row
 
 -- the counts of what ended units
-unfoldable pub ends_text : Counts → List ℕ
+unfoldable pub ends_text : ShownCounts → List ℕ
 ends_text counts =
-    opening (codes "counts") ++ decimal counts.puts ++ (codes "," ++ decimal counts.freezes)
+    opening (codes "counts") ++ decimal counts.last_puts ++ (codes "," ++ decimal counts.freezes)
     ++ (codes "," ++ decimal counts.drops)
 
 -- the five counts
-unfoldable pub counts_text : Counts → List ℕ
+unfoldable pub counts_text : ShownCounts → List ℕ
 counts_text counts =
     ends_text counts ++ (codes "," ++ decimal counts.returns) ++ (codes "," ++ decimal counts.misses) ++ codes "]"
 
 -- the counts, if they changed
-unfoldable pub counts_part : Option Counts → List ℕ
+unfoldable pub counts_part : Option ShownCounts → List ℕ
 counts_part None = []
 counts_part (Some counts) = counts_text counts
 

@@ -8,7 +8,7 @@ use Rattle.trace_lines.specs.declared.place.ShownPlace.TheVariants.{Free}
 use Rattle.trace_lines.specs.declared.shown.Row.{Row}
 use Rattle.trace_lines.specs.declared.shown.Flags.{Flags}
 use Rattle.trace_lines.specs.declared.shown.ShownStock.{ShownStock}
-use Rattle.trace_lines.specs.declared.shown.Counts.{Counts}
+use Rattle.trace_lines.specs.declared.shown.ShownCounts.{ShownCounts}
 use Rattle.trace_lines.specs.declared.frames.FrameSpan.{FrameSpan}
 use Rattle.trace_lines.specs.declared.lists.ListName.{ListName}
 use Rattle.trace_lines.specs.declared.lists.ListName.TheVariants.{Listed, Fresh, Back, Inactive, Active}
@@ -27,7 +27,7 @@ pub record State : Type 0 where
   pub listed : ListName → List ℕ
   pub pins : (cpu frame : ℕ) → ℕ
   pub stock : ℕ → Option ShownStock
-  pub counts : Counts
+  pub counts : ShownCounts
 
 -- the flags of a unit that isn't kept
 abbrev pub no_flags : Flags
@@ -131,7 +131,7 @@ stock_after [] cpu old = old
 stock_after (change ∷ changes) cpu old = if change.cpu == cpu then Some change.stock else stock_after changes cpu old
 
 -- the counts: those that changed, else the old ones
-abbrev pub counts_after : Option Counts → Counts → Counts
+abbrev pub counts_after : Option ShownCounts → ShownCounts → ShownCounts
 counts_after None old = old
 counts_after (Some counts) old = counts
 

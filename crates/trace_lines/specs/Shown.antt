@@ -4,7 +4,7 @@ use Rattle.trace_lines.specs.declared.place.ShownPlace.{ShownPlace}
 use Rattle.trace_lines.specs.declared.shown.Row.{Row}
 use Rattle.trace_lines.specs.declared.shown.Flags.{Flags}
 use Rattle.trace_lines.specs.declared.shown.ShownStock.{ShownStock}
-use Rattle.trace_lines.specs.declared.shown.Counts.{Counts}
+use Rattle.trace_lines.specs.declared.shown.ShownCounts.{ShownCounts}
 
 -- a group: its number, its path, its row, and its two lists of units, the oldest first
 pub record KnownShownGroup : Type 0 where
@@ -29,4 +29,4 @@ pub record KnownTraceState : Type 0 where
   pub flags : List Flags
   pub groups : List KnownShownGroup
   pub cpus : List KnownShownCpu
-  pub counts : Counts
+  pub counts : ShownCounts

@@ -65,7 +65,7 @@ pub struct End {
     pub free: u32,
     /// The frames that are charged.
     pub charged: u32,
-    pub puts: u64,
+    pub last_puts: u64,
     pub freezes: u64,
     pub drops: u64,
     pub returns: u64,
@@ -263,7 +263,7 @@ fn write_end_front(text: &mut String) -> Result<(), AllocError>
 fn write_unit_sums(end: &End, text: &mut String) -> Result<(), AllocError>
     ensures { IfOk result (λ _. string_bytes text.new ≡ string_bytes text.old ++ unit_sums_text end.now) }
 {
-    push_keyed("puts", end.puts, text)?;
+    push_keyed("puts", end.last_puts, text)?;
     push_keyed("freezes", end.freezes, text)?;
     push_keyed("drops", end.drops, text)?;
     push_keyed("returns", end.returns, text)?;

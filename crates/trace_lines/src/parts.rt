@@ -13,7 +13,7 @@ use crate::frames::write_frames;
 use crate::groups::{write_gone, write_made, write_rows};
 use crate::lists::write_lists;
 use crate::numbers::push_count;
-use crate::shown::{Counts, Shown};
+use crate::shown::{ShownCounts, Shown};
 use std::alloc::{AllocError, Global};
 
 // Adds what goes before an item: the part's key, if it is the first, else a comma.
@@ -124,10 +124,10 @@ pub(crate) fn write_counts(
 }
 
 // Whether the two counts are the same.
-fn are_same_counts(one: Counts, other: Counts) -> bool
+fn are_same_counts(one: ShownCounts, other: ShownCounts) -> bool
     ensures { result ≡ are_same_counts one other }
 {
-    one.puts == other.puts
+    one.last_puts == other.last_puts
         && one.freezes == other.freezes
         && (one.drops == other.drops && one.returns == other.returns)
         && one.misses == other.misses
@@ -135,7 +135,7 @@ fn are_same_counts(one: Counts, other: Counts) -> bool
 
 // Adds the five counts.
 #[tactic(auto, unfolding(crate::specs::Parts::counts_text))]
-fn push_counts(counts: Counts, text: &mut String) -> Result<(), AllocError>
+fn push_counts(counts: ShownCounts, text: &mut String) -> Result<(), AllocError>
     ensures { IfOk result (λ _. string_bytes text.new ≡ string_bytes text.old ++ counts_text counts) }
 {
     push_ends(counts, text)?;
@@ -146,11 +146,11 @@ fn push_counts(counts: Counts, text: &mut String) -> Result<(), AllocError>
 
 // Adds the counts of what ended units.
 #[tactic(auto, unfolding(crate::specs::Parts::ends_text))]
-fn push_ends(counts: Counts, text: &mut String) -> Result<(), AllocError>
+fn push_ends(counts: ShownCounts, text: &mut String) -> Result<(), AllocError>
     ensures { IfOk result (λ _. string_bytes text.new ≡ string_bytes text.old ++ ends_text counts) }
 {
     push_opening("counts", text)?;
-    push_count("", counts.puts, text)?;
+    push_count("", counts.last_puts, text)?;
     push_count(",", counts.freezes, text)?;
     push_count(",", counts.drops, text)
 }

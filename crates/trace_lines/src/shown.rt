@@ -57,8 +57,8 @@ pub struct ShownStock {
 
 /// How many units ended, were freed, or were missed since the boot.
 #[derive(Clone, Copy, Debug, PartialEq, Eq)]
-pub struct Counts {
-    pub puts: u64,
+pub struct ShownCounts {
+    pub last_puts: u64,
     pub freezes: u64,
     pub drops: u64,
     pub returns: u64,
@@ -207,7 +207,7 @@ pub struct Shown {
     pub(crate) flags: Vec<Flags>,
     pub(crate) groups: Vec<ShownGroup>,
     pub(crate) cpus: Vec<ShownCpu>,
-    pub(crate) counts: Counts,
+    pub(crate) counts: ShownCounts,
 }
 
 impl Model for Shown {
@@ -229,7 +229,7 @@ impl Shown {
         flags: Vec<Flags>,
         groups: Vec<ShownGroup>,
         cpus: Vec<ShownCpu>,
-        counts: Counts,
+        counts: ShownCounts,
     ) -> Shown
         ensures { result ≡ record {
           places = places.items;
@@ -277,7 +277,7 @@ impl Shown {
     }
 
     // The counts.
-    pub(crate) fn counts(&self) -> Counts
+    pub(crate) fn counts(&self) -> ShownCounts
         ensures { result ≡ self.now.counts }
     {
         self.counts
