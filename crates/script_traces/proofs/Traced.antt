@@ -16,7 +16,7 @@ use Rattle.shown_states.specs.Cpus.{locked_with_looks}
 use Rattle.shown_states.specs.States.{shown_state}
 use Rattle.trace_lines.specs.declared.objects.LineFacts.{LineFacts}
 use Rattle.trace_lines.specs.Objects.{object_text}
-use Rattle.trace_lines.specs.Shown.{KnownTraceState}
+use Rattle.trace_lines.specs.TraceState.{KnownTraceState}
 use Rattle.script_traces.specs.Commands.{command_at}
 use Rattle.script_traces.specs.Traces.{GrowsBy, TracesLine, line_facts, looked, notes_on, system_shown}
 

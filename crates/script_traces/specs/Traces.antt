@@ -18,7 +18,7 @@ use Rattle.trace_lines.specs.declared.objects.LineFacts.{LineFacts}
 use Rattle.trace_lines.specs.declared.objects.FastFailure.{FastFailure}
 use Rattle.trace_lines.specs.declared.objects.FastFailure.TheVariants as miss
 use Rattle.trace_lines.specs.Objects.{object_text}
-use Rattle.trace_lines.specs.Shown.{KnownTraceState}
+use Rattle.trace_lines.specs.TraceState.{KnownTraceState}
 use Rattle.script_traces.specs.Commands.{command_at}
 
 -- ---- how a line was served

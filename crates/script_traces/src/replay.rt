@@ -16,7 +16,7 @@ use script_lines::line::Line;
 use script_replay::serve_traced_line;
 use shown_states::show;
 use std::alloc::{AllocError, Global};
-use trace_lines::shown::Shown;
+use trace_lines::trace_state::TraceState;
 use trace_lines::write_object;
 
 /// Serves the lines one after the other, each for the CPU that it names, and adds the object of each to the trace.
@@ -48,7 +48,7 @@ fn trace_each<N: BootName>(
     cpus: &mut [Cpu<N>],
     lines: &[Line<'_>],
     texts: &[&[u8]],
-    shown: &mut Shown,
+    shown: &mut TraceState,
     trace: &mut String,
 ) -> Result<(), AllocError>
     requires there { All (LineInRange N.frames.frames (length cpus.old)) lines.now }
@@ -71,7 +71,7 @@ fn trace_line<N: BootName>(
     cpus: &mut [Cpu<N>],
     line: &Line<'_>,
     texts: &[&[u8]],
-    shown: &mut Shown,
+    shown: &mut TraceState,
     trace: &mut String,
 ) -> Result<(), AllocError>
     requires there { LineInRange N.frames.frames (length cpus.old) line.now }

@@ -2,7 +2,7 @@
 use Rattle.std.proofs.Common.{◌≡◌, ℕ, suc, ◌+◌, ◌==◌, true, false, List, [], ◌∷◌, All, map, inl, inr, eq-eqb, arith}
 use Rattle.std.proofs.lemmas.Bool.{cases_eq, ne_eqb}
 use Rattle.cpu_part.specs.Cpus.{KnownCpu}
-use Rattle.trace_lines.specs.Shown as shown
+use Rattle.trace_lines.specs.TraceState as shown
 use Rattle.trace_lines.specs.Rebuilding.{cpu_from, no_cpu}
 
 all_behind : (P : KnownCpu → Type 0) (cpu : KnownCpu) (cpus : List KnownCpu) → All P (cpu ∷ cpus) → All P cpus

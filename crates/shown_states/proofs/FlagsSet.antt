@@ -6,7 +6,7 @@ use Rattle.frame_word.specs.Seats.{KnownTable}
 use Rattle.stock_word.specs.Stock.{KnownStockTable}
 use Rattle.lru_lists.specs.declared.record.Entry.{Entry}
 use Rattle.lru_lists.specs.declared.record.LruList.{LruList}
-use Rattle.trace_lines.specs.declared.shown.Flags.{Flags}
+use Rattle.trace_lines.specs.declared.trace_state.Flags.{Flags}
 use Rattle.mem_machine.specs.Machines.{KnownMachine, IsConsistent, entries_in}
 use Rattle.mem_machine.proofs.Listing.{has_mid, has_unit, home_inside, listed_is}
 use Rattle.shown_states.specs.Frames.{flags_of, kept_below, kept_in, with_flags}

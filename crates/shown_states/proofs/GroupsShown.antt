@@ -11,7 +11,7 @@ use Rattle.group_tree.specs.Groups.{path_of}
 use Rattle.lru_lists.specs.declared.record.Entry.{Entry}
 use Rattle.lru_lists.specs.declared.record.LruList.{LruList}
 use Rattle.lru_lists.specs.declared.record.LruList.TheVariants as lru
-use Rattle.trace_lines.specs.Shown.{KnownShownGroup}
+use Rattle.trace_lines.specs.TraceState.{KnownShownGroup}
 use Rattle.trace_lines.specs.Changes.{active_of, group_numbered, inactive_of}
 use Rattle.trace_lines.specs.Rebuilding.{AreDistinct, AreNumbered, has_number}
 use Rattle.mem_machine.specs.Machines.{KnownMachine, IsConsistent, entries_in}

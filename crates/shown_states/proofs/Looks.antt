@@ -6,9 +6,9 @@ use Rattle.stock_word.specs.declared.view.Stock.{Stock}
 use Rattle.stock_word.specs.Calls.{with_view}
 use Rattle.cpu_part.specs.Cpus.{KnownCpu}
 use Rattle.trace_lines.specs.declared.place.ShownPlace.{ShownPlace}
-use Rattle.trace_lines.specs.declared.shown.Flags.{Flags}
-use Rattle.trace_lines.specs.declared.shown.ShownCounts.{ShownCounts}
-use Rattle.trace_lines.specs.Shown as shown
+use Rattle.trace_lines.specs.declared.trace_state.Flags.{Flags}
+use Rattle.trace_lines.specs.declared.trace_state.ShownCounts.{ShownCounts}
+use Rattle.trace_lines.specs.TraceState as shown
 use Rattle.mem_machine.specs.Machines.{KnownMachine, visit_state}
 use Rattle.mem_machine.specs.Stocks.{with_look}
 use Rattle.mem_machine.specs.Showing.{stock_now}

@@ -5,8 +5,8 @@ use Rattle.stock_word.specs.declared.view.Stock.TheVariants.{NoGroup, HeldBy, Dr
 use Rattle.stock_word.specs.Kinds.{with_steps}
 use Rattle.stock_word.specs.Calls.{with_view}
 use Rattle.cpu_part.specs.Cpus.{KnownCpu}
-use Rattle.trace_lines.specs.declared.shown.ShownStock.{ShownStock}
-use Rattle.trace_lines.specs.Shown as shown
+use Rattle.trace_lines.specs.declared.trace_state.ShownStock.{ShownStock}
+use Rattle.trace_lines.specs.TraceState as shown
 use Rattle.mem_machine.specs.Machines.{KnownMachine, visit_state}
 use Rattle.mem_machine.specs.Showing.{stock_now}
 use Rattle.mem_system.specs.Locked.{KnownLocked}

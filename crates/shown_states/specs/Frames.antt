@@ -9,7 +9,7 @@ use Rattle.trace_lines.specs.declared.place.ShownPlace.{ShownPlace}
 use Rattle.trace_lines.specs.declared.place.ShownPlace.TheVariants.{Charged}
 use Rattle.trace_lines.specs.declared.place.TracedFrame.{TracedFrame}
 use Rattle.trace_lines.specs.declared.place.TracedFrame.TheVariants as recorded
-use Rattle.trace_lines.specs.declared.shown.Flags.{Flags}
+use Rattle.trace_lines.specs.declared.trace_state.Flags.{Flags}
 use Rattle.trace_lines.specs.Places.{places_of}
 use Rattle.trace_lines.specs.Rebuilding.{no_flags}
 use Rattle.mem_machine.specs.declared.frame_state.FrameState.{FrameState}

@@ -6,9 +6,9 @@ use Rattle.group_tree.specs.Events.{EventCounts, count_of}
 use Rattle.group_tree.specs.Groups.{is_oom_group, limit_of, path_of}
 use Rattle.group_charge.specs.Charges.{current_of, events_local_of, events_of, peak_of}
 use Rattle.lru_lists.specs.declared.record.Entry.{Entry}
-use Rattle.trace_lines.specs.declared.shown.Events.{Events}
-use Rattle.trace_lines.specs.declared.shown.Row.{Row}
-use Rattle.trace_lines.specs.Shown.{KnownShownGroup}
+use Rattle.trace_lines.specs.declared.trace_state.Events.{Events}
+use Rattle.trace_lines.specs.declared.trace_state.Row.{Row}
+use Rattle.trace_lines.specs.TraceState.{KnownShownGroup}
 use Rattle.mem_machine.specs.Machines.{KnownMachine, active_in, inactive_in, is_killed}
 
 -- how often each kind of event was counted

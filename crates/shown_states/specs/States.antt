@@ -2,8 +2,8 @@
 use Rattle.std.specs.Prelude.{ℕ, ◌+◌, List, length, min, sum_by}
 use Rattle.group_tree.specs.Room.{max_count}
 use Rattle.cpu_part.specs.Cpus.{KnownCpu}
-use Rattle.trace_lines.specs.declared.shown.ShownCounts.{ShownCounts}
-use Rattle.trace_lines.specs.Shown.{KnownTraceState}
+use Rattle.trace_lines.specs.declared.trace_state.ShownCounts.{ShownCounts}
+use Rattle.trace_lines.specs.TraceState.{KnownTraceState}
 use Rattle.mem_machine.specs.Machines.{KnownMachine}
 use Rattle.shown_states.specs.Frames.{flags_shown, places_shown}
 use Rattle.shown_states.specs.Groups.{groups_shown}

@@ -6,7 +6,7 @@ ghost use Rattle.shown_states.specs.States.{back_of, counts_shown, drops_of};
 
 use cpu_part::{BootName, Cpu};
 use mem_machine::Machine;
-use trace_lines::shown::ShownCounts;
+use trace_lines::trace_state::ShownCounts;
 
 // The counts of the machine and of the CPUs together.
 pub(crate) fn show_counts<N: BootName>(machine: &Machine<N>, cpus: &[Cpu<N>]) -> ShownCounts

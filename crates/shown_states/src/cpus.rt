@@ -1,7 +1,7 @@
 //! What is shown of the CPUs.
 
 ghost use Rattle.std.specs.Prelude.{◌≡◌, ◌++◌, ◌∷◌, [], IfOk, List, length};
-ghost use Rattle.trace_lines.specs.Shown.{KnownShownCpu};
+ghost use Rattle.trace_lines.specs.TraceState.{KnownShownCpu};
 ghost use Rattle.shown_states.specs.Cpus.{cpu_with_stock, cpus_shown, locked_with_looks, stock_shown};
 
 use crate::lists::frame_numbers;
@@ -9,7 +9,7 @@ use cpu_part::{BootName, Cpu, Tables};
 use mem_system::Locked;
 use std::alloc::{AllocError, Global};
 use stock_word::Stock;
-use trace_lines::shown::{ShownCpu, ShownStock};
+use trace_lines::trace_state::{ShownCpu, ShownStock};
 
 // All CPUs, each with its stock as one look at the stock's word finds it. If memory runs out, the stocks of all CPUs
 // are looked at all the same.

@@ -10,7 +10,7 @@ use group_tree::group::{GroupId, MAX_GROUPS};
 use lru_lists::record::LruList;
 use mem_machine::Machine;
 use std::alloc::{AllocError, Global};
-use trace_lines::shown::Flags;
+use trace_lines::trace_state::Flags;
 
 // The flags of each frame: those of the kept unit that begins there, or none.
 pub(crate) fn show_flags<N: BootName>(

@@ -11,7 +11,7 @@ use group_tree::group::{GroupId, MAX_GROUPS};
 use lru_lists::record::LruList;
 use mem_machine::Machine;
 use std::alloc::{AllocError, Global};
-use trace_lines::shown::{Events, Row, ShownGroup};
+use trace_lines::trace_state::{Events, Row, ShownGroup};
 
 // All groups, by their numbers.
 pub(crate) fn show_groups<N: BootName>(

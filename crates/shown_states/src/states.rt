@@ -12,7 +12,7 @@ use crate::groups::show_groups;
 use cpu_part::{BootName, Cpu, Tables};
 use mem_system::Locked;
 use std::alloc::{AllocError, Global};
-use trace_lines::shown::Shown;
+use trace_lines::trace_state::TraceState;
 
 /// What is shown of the machine and of these CPUs, of which the first is CPU 1. Another CPU's visit may have drained a
 /// CPU's stock since the CPU last saw it, so this looks once at the stock word of each. The zone's seat counts each
@@ -23,7 +23,7 @@ pub fn show<N: BootName>(
     locked: &mut Locked<N>,
     tables: &Tables<N>,
     cpus: &mut [Cpu<N>],
-) -> Result<Shown, AllocError>
+) -> Result<TraceState, AllocError>
     ensures shown { IfOk result (λ shown. shown ≡ shown_state locked.old.machine cpus.old) }
     ensures looked { locked.new ≡ locked_with_looks locked.old (length cpus.old) }
     ensures cpus { cpus.new ≡ cpus.old }
@@ -36,5 +36,5 @@ pub fn show<N: BootName>(
     let places = show_places(alloc, machine, cpus)?;
     let flags = show_flags(alloc, machine)?;
     let groups = show_groups(alloc, machine)?;
-    Ok(Shown::new(places, flags, groups, shown_cpus, counts))
+    Ok(TraceState::new(places, flags, groups, shown_cpus, counts))
 }

@@ -4,7 +4,7 @@ use Rattle.std.specs.Prelude.{◌&&◌, if◌then◌else◌}
 use Rattle.std.specs.Str.{bytes_eq}
 use Rattle.std.proofs.lemmas.Bool.{and_parts}
 use Rattle.std.proofs.lemmas.Slice.Eq.{bytes_eq-Decides}
-use Rattle.trace_lines.specs.declared.shown.ShownCounts.{ShownCounts}
+use Rattle.trace_lines.specs.declared.trace_state.ShownCounts.{ShownCounts}
 use Rattle.trace_lines.specs.Changes.{are_same_counts, is_same_row}
 use Rattle.trace_lines.specs.Rebuilding.{ChangesRebuild, counts_after}
 use Rattle.trace_lines.proofs.Same.{same_counts, same_row}

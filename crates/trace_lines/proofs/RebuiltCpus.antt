@@ -3,8 +3,8 @@ use Rattle.std.proofs.Common.{◌≡◌, ◌∙◌, ℕ, zero, suc, ◌+◌, ◌
 use Rattle.std.specs.Prelude.{◌≢◌, ◌&&◌, ◌==◌, IsSome, if◌then◌else◌}
 use Rattle.std.specs.List.{flat_map, list_any, range_with_len}
 use Rattle.std.proofs.lemmas.Bool.{eqb-true, eq-eqb, cond-true, cond-false, cases_lt, false≢true, true≢false}
-use Rattle.trace_lines.specs.declared.shown.ShownStock.{ShownStock}
-use Rattle.trace_lines.specs.Shown.{KnownShownCpu}
+use Rattle.trace_lines.specs.declared.trace_state.ShownStock.{ShownStock}
+use Rattle.trace_lines.specs.TraceState.{KnownShownCpu}
 use Rattle.trace_lines.specs.Changes.{PinChange, StockChange, cpus_pin_changes, is_same_stock, pin_change, pin_changes, pins_on, stock_change, stock_changes}
 use Rattle.trace_lines.specs.Rebuilding.{cpu_from, pins_after, stock_after}
 use Rattle.trace_lines.proofs.Same.{same_stock}

@@ -5,7 +5,7 @@ use Rattle.std.specs.List.{filter, list_any}
 use Rattle.std.specs.Option.{option_map, option_map_or, unwrap_or}
 use Rattle.std.specs.Str.{bytes_eq}
 use Rattle.std.proofs.lemmas.Bool.{eqb-true, cond-true, cond-false, true≢false}
-use Rattle.trace_lines.specs.Shown.{KnownShownGroup}
+use Rattle.trace_lines.specs.TraceState.{KnownShownGroup}
 use Rattle.trace_lines.specs.Changes.{group_numbered, groups_beyond, has_group, numbers_of}
 use Rattle.trace_lines.specs.Rebuilding.{AreNumbered, has_number, said_after}
 

@@ -6,7 +6,7 @@ use Rattle.std.proofs.lemmas.List.{append-nil}
 use Rattle.std.proofs.lemmas.Bool.{eqb-true, eq-eqb, cond-true, cond-false, cases_lt, true≢false}
 use Rattle.trace_lines.specs.declared.lists.ListName.{ListName}
 use Rattle.trace_lines.specs.declared.lists.ListName.TheVariants.{Listed, Fresh, Back, Inactive, Active}
-use Rattle.trace_lines.specs.Shown.{KnownTraceState, KnownShownGroup, KnownShownCpu}
+use Rattle.trace_lines.specs.TraceState.{KnownTraceState, KnownShownGroup, KnownShownCpu}
 use Rattle.trace_lines.specs.Changes.{ListChange, active_of, came_of, cpu_list_changes, cpus_list_changes, group_list_changes, group_numbered}
 use Rattle.trace_lines.specs.Changes.{groups_list_changes, has_entry, inactive_of, left_of, list_change, list_changes}
 use Rattle.trace_lines.specs.Rebuilding.{AreDistinct, AreNumbered, cpu_from, has_number, is_same_name, kept_of, list_after, list_named}

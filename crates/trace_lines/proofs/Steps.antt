@@ -4,13 +4,13 @@ use Rattle.std.specs.Prelude.{◌⊎◌, ◌==◌, not, if◌then◌else◌}
 use Rattle.std.specs.List.{flat_map, fold, range_with_len}
 use Rattle.std.proofs.Math.Seq.{drop-cons}
 use Rattle.std.proofs.lemmas.Bool.{cases_lt, cond-true, cond-false, eq-eqb, ne_eqb}
-use Rattle.trace_lines.specs.Shown.{KnownShownGroup, KnownShownCpu}
-use Rattle.trace_lines.specs.declared.shown.Flags.{Flags}
+use Rattle.trace_lines.specs.TraceState.{KnownShownGroup, KnownShownCpu}
+use Rattle.trace_lines.specs.declared.trace_state.Flags.{Flags}
 use Rattle.std.specs.Prelude.{codes}
 use Rattle.std.proofs.Common.{Option, Some, None, max, subst}
 use Rattle.trace_lines.specs.declared.lists.ListName.{ListName}
 use Rattle.trace_lines.specs.declared.lists.ListName.TheVariants.{Listed, Fresh, Back, Inactive, Active}
-use Rattle.trace_lines.specs.Shown.{KnownTraceState}
+use Rattle.trace_lines.specs.TraceState.{KnownTraceState}
 use Rattle.trace_lines.specs.Changes.{active_of, came_of, changed_list, group_list_changes, group_numbered, groups_list_changes, inactive_of, left_of, list_change, list_changes}
 use Rattle.trace_lines.specs.Parts.{list_change_text, part_text}
 use Rattle.trace_lines.specs.Writing.{AddsLists, AddsPins, KeepsOne, count_changes, stop_text}

@@ -4,16 +4,16 @@ use Rattle.std.specs.Prelude.{Option, Some, None, List, [], ◌∷◌, ◌++◌,
 use Rattle.std.specs.List.{filter, find, flat_map, list_any, range_with_len, sum_by}
 use Rattle.std.specs.Str.{bytes_eq}
 use Rattle.trace_lines.specs.declared.place.ShownPlace.{ShownPlace}
-use Rattle.trace_lines.specs.declared.shown.Events.{Events}
-use Rattle.trace_lines.specs.declared.shown.Row.{Row}
-use Rattle.trace_lines.specs.declared.shown.Flags.{Flags}
-use Rattle.trace_lines.specs.declared.shown.ShownStock.{ShownStock}
-use Rattle.trace_lines.specs.declared.shown.ShownCounts.{ShownCounts}
+use Rattle.trace_lines.specs.declared.trace_state.Events.{Events}
+use Rattle.trace_lines.specs.declared.trace_state.Row.{Row}
+use Rattle.trace_lines.specs.declared.trace_state.Flags.{Flags}
+use Rattle.trace_lines.specs.declared.trace_state.ShownStock.{ShownStock}
+use Rattle.trace_lines.specs.declared.trace_state.ShownCounts.{ShownCounts}
 use Rattle.trace_lines.specs.declared.frames.FrameSpan.{FrameSpan}
 use Rattle.trace_lines.specs.declared.lists.ListName.{ListName}
 use Rattle.trace_lines.specs.declared.lists.ListName.TheVariants.{Listed, Fresh, Back, Inactive, Active}
 use Rattle.trace_lines.specs.Places.{is_same_place}
-use Rattle.trace_lines.specs.Shown.{KnownTraceState, KnownShownGroup, KnownShownCpu}
+use Rattle.trace_lines.specs.TraceState.{KnownTraceState, KnownShownGroup, KnownShownCpu}
 
 -- ---- the kinds of change
 

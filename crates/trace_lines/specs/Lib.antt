@@ -1,5 +1,5 @@
 pub mod Places
-pub mod Shown
+pub mod TraceState
 pub mod Changes
 pub mod Strings
 pub mod Parts

@@ -7,7 +7,7 @@ use Rattle.trace_lines.specs.declared.objects.LineFacts.{LineFacts}
 use Rattle.trace_lines.specs.declared.objects.FastFailure.{FastFailure}
 use Rattle.trace_lines.specs.declared.objects.FastFailure.TheVariants.{ListEmpty, FreshFull, NoStock, Drained, OtherGroup}
 use Rattle.trace_lines.specs.declared.objects.End.{End}
-use Rattle.trace_lines.specs.Shown.{KnownTraceState}
+use Rattle.trace_lines.specs.TraceState.{KnownTraceState}
 use Rattle.trace_lines.specs.Changes.{changes}
 use Rattle.trace_lines.specs.Strings.{string_text}
 use Rattle.trace_lines.specs.Parts.{changes_text, counts_part, opening}

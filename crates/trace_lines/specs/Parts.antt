@@ -5,15 +5,15 @@ use Rattle.std.specs.List.{join_by}
 use Rattle.std.specs.Fmt.{decimal}
 use Rattle.trace_lines.specs.declared.place.ShownPlace.{ShownPlace}
 use Rattle.trace_lines.specs.declared.place.ShownPlace.TheVariants.{Free, Listed, Charged}
-use Rattle.trace_lines.specs.declared.shown.Events.{Events}
-use Rattle.trace_lines.specs.declared.shown.Row.{Row}
-use Rattle.trace_lines.specs.declared.shown.Flags.{Flags}
-use Rattle.trace_lines.specs.declared.shown.ShownCounts.{ShownCounts}
+use Rattle.trace_lines.specs.declared.trace_state.Events.{Events}
+use Rattle.trace_lines.specs.declared.trace_state.Row.{Row}
+use Rattle.trace_lines.specs.declared.trace_state.Flags.{Flags}
+use Rattle.trace_lines.specs.declared.trace_state.ShownCounts.{ShownCounts}
 use Rattle.trace_lines.specs.declared.numbers.Span.{Span}
 use Rattle.trace_lines.specs.declared.frames.FrameSpan.{FrameSpan}
 use Rattle.trace_lines.specs.declared.lists.ListName.{ListName}
 use Rattle.trace_lines.specs.declared.lists.ListName.TheVariants.{Listed, Fresh, Back, Inactive, Active}
-use Rattle.trace_lines.specs.Shown.{KnownShownGroup}
+use Rattle.trace_lines.specs.TraceState.{KnownShownGroup}
 use Rattle.trace_lines.specs.Changes.{Changes, ListChange, FlagChange, PinChange, StockChange}
 use Rattle.trace_lines.specs.Strings.{string_text}
 

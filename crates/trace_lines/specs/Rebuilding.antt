@@ -5,14 +5,14 @@ use Rattle.std.specs.List.{list_any}
 use Rattle.std.specs.Option.{option_map}
 use Rattle.trace_lines.specs.declared.place.ShownPlace.{ShownPlace}
 use Rattle.trace_lines.specs.declared.place.ShownPlace.TheVariants.{Free}
-use Rattle.trace_lines.specs.declared.shown.Row.{Row}
-use Rattle.trace_lines.specs.declared.shown.Flags.{Flags}
-use Rattle.trace_lines.specs.declared.shown.ShownStock.{ShownStock}
-use Rattle.trace_lines.specs.declared.shown.ShownCounts.{ShownCounts}
+use Rattle.trace_lines.specs.declared.trace_state.Row.{Row}
+use Rattle.trace_lines.specs.declared.trace_state.Flags.{Flags}
+use Rattle.trace_lines.specs.declared.trace_state.ShownStock.{ShownStock}
+use Rattle.trace_lines.specs.declared.trace_state.ShownCounts.{ShownCounts}
 use Rattle.trace_lines.specs.declared.frames.FrameSpan.{FrameSpan}
 use Rattle.trace_lines.specs.declared.lists.ListName.{ListName}
 use Rattle.trace_lines.specs.declared.lists.ListName.TheVariants.{Listed, Fresh, Back, Inactive, Active}
-use Rattle.trace_lines.specs.Shown.{KnownTraceState, KnownShownGroup, KnownShownCpu}
+use Rattle.trace_lines.specs.TraceState.{KnownTraceState, KnownShownGroup, KnownShownCpu}
 use Rattle.trace_lines.specs.Changes.{Changes, ListChange, FlagChange, PinChange, StockChange}
 use Rattle.trace_lines.specs.Changes.{changes, group_numbered, inactive_of, active_of, most_groups, pins_on}
 

@@ -1,7 +1,7 @@
 -- How an optional part is written, an item at a time.
 use Rattle.std.specs.Prelude.{◌≡◌, ◌+◌, ◌≤◌, drop, length, ℕ, Bool, true, false, List, [], ◌∷◌, ◌++◌, codes}
 use Rattle.trace_lines.specs.Changes.{FlagChange, ListChange, PinChange, StockChange, came_of, left_of, pin_change}
-use Rattle.trace_lines.specs.Shown.{KnownShownGroup}
+use Rattle.trace_lines.specs.TraceState.{KnownShownGroup}
 use Rattle.trace_lines.specs.declared.frames.FrameSpan.{FrameSpan}
 use Rattle.std.specs.Fmt.{decimal}
 use Rattle.trace_lines.specs.Parts.{flag_change_text, frame_span_text, list_change_text, made_text, opening}

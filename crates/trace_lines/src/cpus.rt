@@ -12,7 +12,7 @@ ghost use Rattle.std.specs.Str.{bytes_eq};
 use crate::groups::is_same_limit;
 use crate::numbers::{push_count, write_number};
 use crate::parts::{push_start, push_stop};
-use crate::shown::{ShownCpu, ShownStock};
+use crate::trace_state::{ShownCpu, ShownStock};
 use std::alloc::{AllocError, Global};
 
 // Adds the part that tells of pins on frames below this many.

@@ -7,7 +7,7 @@ ghost use Rattle.trace_lines.specs.Parts.{flag_change_text, flags_number, part_t
 ghost use Rattle.trace_lines.specs.Writing.{AddsFlags};
 
 use crate::parts::{push_start, push_stop};
-use crate::shown::Flags;
+use crate::trace_state::Flags;
 use std::alloc::AllocError;
 
 // Adds the part that tells of flags.

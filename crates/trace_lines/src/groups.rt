@@ -12,7 +12,7 @@ ghost use Rattle.trace_lines.specs.Writing.{AddsGone, AddsMade, AddsRows};
 
 use crate::numbers::{flag_word, push_count, write_number};
 use crate::parts::{push_start, push_stop};
-use crate::shown::{Events, Row, ShownGroup};
+use crate::trace_state::{Events, Row, ShownGroup};
 use crate::strings::write_string;
 use std::alloc::AllocError;
 

@@ -13,7 +13,7 @@ pub mod numbers;
 mod objects;
 mod parts;
 pub mod place;
-pub mod shown;
+pub mod trace_state;
 mod strings;
 
 pub use laws::changes_rebuild;

@@ -11,7 +11,7 @@ ghost use Rattle.trace_lines.specs.Writing.{AddsLists, KeepsOne};
 
 use crate::numbers::write_number_spans;
 use crate::parts::{push_start, push_stop};
-use crate::shown::{Shown, ShownCpu, ShownGroup};
+use crate::trace_state::{TraceState, ShownCpu, ShownGroup};
 use std::alloc::{AllocError, Global};
 
 // How many numbers groups have at most.
@@ -35,8 +35,8 @@ pub enum ListName {
 // Adds the part that tells which lists changed: first those of the CPUs, then those of the groups, by number.
 pub(crate) fn write_lists(
     alloc: Global,
-    before: &Shown,
-    after: &Shown,
+    before: &TraceState,
+    after: &TraceState,
     text: &mut String,
 ) -> Result<(), AllocError>
     ensures { IfOk result (λ _. string_bytes text.new ≡ string_bytes text.old

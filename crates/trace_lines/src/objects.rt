@@ -11,7 +11,7 @@ ghost use Rattle.trace_lines.specs.Parts.{opening};
 use crate::notes::write_notes;
 use crate::numbers::push_count;
 use crate::parts::{push_opening, write_changes, write_counts};
-use crate::shown::Shown;
+use crate::trace_state::Shown;
 use crate::strings::write_string;
 use kill_notes::note::Note;
 use std::alloc::{AllocError, Global};
@@ -145,8 +145,8 @@ pub fn write_object(
     line: &LineFacts,
     command: &[u8],
     answer: &[u8],
-    before: &Shown,
-    after: &Shown,
+    before: &TraceState,
+    after: &TraceState,
     notes: &[Note],
     left_out: u64,
     text: &mut String,

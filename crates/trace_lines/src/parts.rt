@@ -13,7 +13,7 @@ use crate::frames::write_frames;
 use crate::groups::{write_gone, write_made, write_rows};
 use crate::lists::write_lists;
 use crate::numbers::push_count;
-use crate::shown::{ShownCounts, Shown};
+use crate::trace_state::{ShownCounts, TraceState};
 use std::alloc::{AllocError, Global};
 
 // Adds what goes before an item: the part's key, if it is the first, else a comma.
@@ -56,8 +56,8 @@ pub(crate) fn push_stop(is_first: bool, text: &mut String) -> Result<(), AllocEr
 #[tactic(auto, unfolding(crate::specs::Parts::changes_text))]
 pub(crate) fn write_changes(
     alloc: Global,
-    before: &Shown,
-    after: &Shown,
+    before: &TraceState,
+    after: &TraceState,
     text: &mut String,
 ) -> Result<(), AllocError>
     ensures { IfOk result (λ _. string_bytes text.new
@@ -72,8 +72,8 @@ pub(crate) fn write_changes(
 #[tactic(auto, unfolding(crate::specs::Parts::first_parts_text))]
 fn write_first_parts(
     alloc: Global,
-    before: &Shown,
-    after: &Shown,
+    before: &TraceState,
+    after: &TraceState,
     text: &mut String,
 ) -> Result<(), AllocError>
     ensures { IfOk result (λ _. string_bytes text.new
@@ -89,8 +89,8 @@ fn write_first_parts(
 #[tactic(auto, unfolding(crate::specs::Parts::last_parts_text))]
 fn write_last_parts(
     alloc: Global,
-    before: &Shown,
-    after: &Shown,
+    before: &TraceState,
+    after: &TraceState,
     text: &mut String,
 ) -> Result<(), AllocError>
     ensures { IfOk result (λ _. string_bytes text.new
@@ -110,8 +110,8 @@ fn write_last_parts(
 // Adds the counts, if they changed.
 #[tactic(auto, unfolding(crate::specs::Parts::counts_part))]
 pub(crate) fn write_counts(
-    before: &Shown,
-    after: &Shown,
+    before: &TraceState,
+    after: &TraceState,
     text: &mut String,
 ) -> Result<(), AllocError>
     ensures { IfOk result (λ _. string_bytes text.new

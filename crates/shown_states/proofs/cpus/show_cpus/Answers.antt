@@ -1,7 +1,7 @@
 use Rattle.std.proofs.Common.{◌≡◌, ◌<◌, ◌≤◌, IfOk, List, length, get_or, take, refl, ap, sym, ◌∙◌, subst, rules}
 use Rattle.std.proofs.lemmas.List.{take_all}
 use Rattle.cpu_part.specs.Cpus.{KnownCpu}
-use Rattle.trace_lines.specs.Shown as shown
+use Rattle.trace_lines.specs.TraceState as shown
 use Rattle.mem_machine.specs.Machines.{visit_state}
 use Rattle.mem_machine.specs.Showing.{stock_now}
 use Rattle.mem_system.specs.Locked.{KnownLocked}

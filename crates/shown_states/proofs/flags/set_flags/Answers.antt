@@ -2,7 +2,7 @@ use Rattle.std.proofs.Common.{◌<◌, List, [], ◌∷◌, ◌++◌, refl, ap, 
 use Rattle.std.specs.Prelude.{slice_set}
 use Rattle.std.proofs.lemmas.List.{length-set}
 use Rattle.lru_lists.specs.declared.record.Entry.{Entry}
-use Rattle.trace_lines.specs.declared.shown.Flags.{Flags}
+use Rattle.trace_lines.specs.declared.trace_state.Flags.{Flags}
 use Rattle.shown_states.specs.Frames.{flags_of, with_flags}
 use Rattle.shown_states.proofs.FlagsSet.{flags_both, unit_inside}
 use Rattle.shown_states.proofs.flags.set_flags.Goals as goal

@@ -1,5 +1,5 @@
 use Rattle.std.proofs.Common.{List, sym, ap, ◌∙◌}
-use Rattle.trace_lines.specs.declared.shown.Flags.{Flags}
+use Rattle.trace_lines.specs.declared.trace_state.Flags.{Flags}
 use Rattle.mem_machine.specs.Machines.{active_in, inactive_in}
 use Rattle.shown_states.specs.Frames.{with_flags}
 use Rattle.shown_states.proofs.FlagsSet.{flags_both}

@@ -1,7 +1,7 @@
 use Rattle.std.proofs.Common.{◌≡◌, ℕ, List, length, ap, ◌∙◌, arith, rules}
 use Rattle.std.specs.Prelude.{replicate}
 use Rattle.std.proofs.lemmas.List.{with_items_is}
-use Rattle.trace_lines.specs.declared.shown.Flags.{Flags}
+use Rattle.trace_lines.specs.declared.trace_state.Flags.{Flags}
 use Rattle.trace_lines.specs.Rebuilding.{no_flags}
 use Rattle.shown_states.specs.Frames.{kept_below, kept_in, with_flags}
 use Rattle.shown_states.proofs.FlagsKept.{flags_are}

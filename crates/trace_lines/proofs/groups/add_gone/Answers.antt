@@ -1,5 +1,5 @@
 use Rattle.std.proofs.Common.{◌∙◌, ℕ, [], ◌∷◌, ap, sym}
-use Rattle.trace_lines.specs.Shown.{KnownShownGroup}
+use Rattle.trace_lines.specs.TraceState.{KnownShownGroup}
 use Rattle.trace_lines.specs.Changes.{numbers_of}
 use Rattle.trace_lines.proofs.Items.{adds_none, one_ok}
 use Rattle.trace_lines.proofs.Steps.{is_kept, not_kept}

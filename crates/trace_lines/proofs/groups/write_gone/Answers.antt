@@ -1,5 +1,5 @@
 use Rattle.std.proofs.Common.{ap, refl}
-use Rattle.trace_lines.specs.Shown.{KnownShownGroup}
+use Rattle.trace_lines.specs.TraceState.{KnownShownGroup}
 use Rattle.std.proofs.Common.{List}
 use Rattle.trace_lines.specs.Changes.{groups_beyond, numbers_of}
 use Rattle.trace_lines.proofs.Steps.{gone_step, no_more}

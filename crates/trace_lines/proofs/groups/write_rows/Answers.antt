@@ -1,5 +1,5 @@
 use Rattle.std.proofs.Common.{ap, refl}
-use Rattle.trace_lines.specs.Shown.{KnownShownGroup}
+use Rattle.trace_lines.specs.TraceState.{KnownShownGroup}
 use Rattle.std.proofs.Common.{List}
 use Rattle.trace_lines.specs.Changes.{rows_beyond}
 use Rattle.trace_lines.proofs.Steps.{row_step, no_more}

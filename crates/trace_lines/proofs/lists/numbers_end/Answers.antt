@@ -1,5 +1,5 @@
 use Rattle.std.proofs.Common.{◌∙◌, ap, arith}
-use Rattle.trace_lines.specs.Shown.{KnownShownGroup}
+use Rattle.trace_lines.specs.TraceState.{KnownShownGroup}
 use Rattle.std.proofs.Common.{List}
 use Rattle.trace_lines.specs.Changes.{group_numbered}
 use Rattle.trace_lines.proofs.Steps.{no_more, number_passed}

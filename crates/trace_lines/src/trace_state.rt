@@ -1,7 +1,7 @@
 //! What is shown of a state.
 
 ghost use Rattle.std.specs.Prelude.{◌≡◌};
-ghost use Rattle.trace_lines.specs.Shown.{KnownTraceState, KnownShownGroup, KnownShownCpu};
+ghost use Rattle.trace_lines.specs.TraceState.{KnownTraceState, KnownShownGroup, KnownShownCpu};
 
 use crate::place::ShownPlace;
 use group_tree::path::PathText;
@@ -202,7 +202,7 @@ impl ShownCpu {
 /// All that is shown of a state. There is a place and there are flags for each frame, those of the unit that begins
 /// there. The groups ascend by their numbers, and CPU 1 is the first of the CPUs.
 #[derive(Drop)]
-pub struct Shown {
+pub struct TraceState {
     pub(crate) places: Vec<ShownPlace>,
     pub(crate) flags: Vec<Flags>,
     pub(crate) groups: Vec<ShownGroup>,
@@ -210,7 +210,7 @@ pub struct Shown {
     pub(crate) counts: ShownCounts,
 }
 
-impl Model for Shown {
+impl Model for TraceState {
     ghost Value = { KnownTraceState };
 
     ghost view = { λ s. record {
@@ -222,7 +222,7 @@ impl Model for Shown {
     } };
 }
 
-impl Shown {
+impl TraceState {
     /// What is shown of a state with these parts.
     pub fn new(
         places: Vec<ShownPlace>,
@@ -230,7 +230,7 @@ impl Shown {
         groups: Vec<ShownGroup>,
         cpus: Vec<ShownCpu>,
         counts: ShownCounts,
-    ) -> Shown
+    ) -> TraceState
         ensures { result ≡ record {
           places = places.items;
           flags = flags.items;
@@ -239,7 +239,7 @@ impl Shown {
           counts = counts;
         } }
     {
-        Shown {
+        TraceState {
             places,
             flags,
             groups,

@@ -1,10 +1,10 @@
 -- What is shown of a state, as plain values.
 use Rattle.std.specs.Prelude.{ℕ, Option, List}
 use Rattle.trace_lines.specs.declared.place.ShownPlace.{ShownPlace}
-use Rattle.trace_lines.specs.declared.shown.Row.{Row}
-use Rattle.trace_lines.specs.declared.shown.Flags.{Flags}
-use Rattle.trace_lines.specs.declared.shown.ShownStock.{ShownStock}
-use Rattle.trace_lines.specs.declared.shown.ShownCounts.{ShownCounts}
+use Rattle.trace_lines.specs.declared.trace_state.Row.{Row}
+use Rattle.trace_lines.specs.declared.trace_state.Flags.{Flags}
+use Rattle.trace_lines.specs.declared.trace_state.ShownStock.{ShownStock}
+use Rattle.trace_lines.specs.declared.trace_state.ShownCounts.{ShownCounts}
 
 -- a group: its number, its path, its row, and its two lists of units, the oldest first
 pub record KnownShownGroup : Type 0 where
