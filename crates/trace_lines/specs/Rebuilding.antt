@@ -19,7 +19,7 @@ use Rattle.trace_lines.specs.Changes.{changes, group_numbered, inactive_of, acti
 -- ---- what a state says
 
 -- All that a state says: of each frame, of each group's number, of each list, and of each CPU.
-pub record State : Type 0 where
+pub record Facts : Type 0 where
   pub place : ℕ → ShownPlace
   pub flags : ℕ → Flags
   pub path : ℕ → Option (List ℕ)
@@ -63,8 +63,8 @@ list_named shown (Inactive group) = inactive_of (group_numbered shown.groups gro
 list_named shown (Active group) = active_of (group_numbered shown.groups group)
 
 -- what is shown, as a state
-abbrev pub state_of : KnownTraceState → State
-state_of shown = record {
+abbrev pub facts_of : KnownTraceState → Facts
+facts_of shown = record {
   place = λ frame. get_or shown.places frame Free;
   flags = λ frame. get_or shown.flags frame no_flags;
   path = λ number. path_of (group_numbered shown.groups number);
@@ -136,7 +136,7 @@ counts_after None old = old
 counts_after (Some counts) old = counts
 
 -- the state after these changes
-abbrev pub applied : Changes → State → State
+abbrev pub applied : Changes → Facts → Facts
 applied changes state = record {
   place = λ frame. place_after changes.frames frame (state.place frame);
   flags = λ frame. flags_after changes.flags frame (state.flags frame);
@@ -153,7 +153,7 @@ applied changes state = record {
 -- ---- the law
 
 -- the two states say the same
-pub record SaySame (one other : State) : Type 0 where
+pub record SaySame (one other : Facts) : Type 0 where
   pub place : (frame : ℕ) → one.place frame ≡ other.place frame
   pub flags : (frame : ℕ) → one.flags frame ≡ other.flags frame
   pub path : (number : ℕ) → one.path number ≡ other.path number
@@ -191,4 +191,4 @@ pub record AreOfOneBoot (before after : KnownTraceState) : Type 0 where
 -- Nothing that is shown is lost: the changes, applied to the state before, are the state after.
 abbrev pub ChangesRebuild : Type 0
 ChangesRebuild = (before after : KnownTraceState) → AreOfOneBoot before after
-    → SaySame (applied (changes before after) (state_of before)) (state_of after)
+    → SaySame (applied (changes before after) (facts_of before)) (facts_of after)
