@@ -16,7 +16,7 @@ use Rattle.shown_states.specs.Cpus.{with_looks}
 use Rattle.shown_states.specs.States.{shown_state}
 use Rattle.trace_lines.specs.declared.objects.LineFacts.{LineFacts}
 use Rattle.trace_lines.specs.declared.objects.FastFailure.{FastFailure}
-use Rattle.trace_lines.specs.declared.objects.FastFailure.TheVariants as miss
+use Rattle.trace_lines.specs.declared.objects.FastFailure.TheVariants as failure
 use Rattle.trace_lines.specs.Objects.{object_text}
 use Rattle.trace_lines.specs.TraceState.{KnownTraceState}
 use Rattle.script_traces.specs.Commands.{command_at}
@@ -31,18 +31,18 @@ took_lock Locked = true
 took_lock (LockedAfter reason) = true
 
 -- why the fast path got no frame; None if it got one
-abbrev pub miss_of : Fast → Option FastFailure
-miss_of (fast.Got frame) = None
-miss_of fast.FreshFull = Some miss.FreshFull
-miss_of fast.ListEmpty = Some miss.ListEmpty
-miss_of fast.OtherGroup = Some miss.OtherGroup
-miss_of fast.Drained = Some miss.Drained
-miss_of fast.NoStock = Some miss.NoStock
+abbrev pub failure_of : Fast → Option FastFailure
+failure_of (fast.Got frame) = None
+failure_of fast.FreshFull = Some failure.FreshFull
+failure_of fast.ListEmpty = Some failure.ListEmpty
+failure_of fast.OtherGroup = Some failure.OtherGroup
+failure_of fast.Drained = Some failure.Drained
+failure_of fast.NoStock = Some failure.NoStock
 
 -- of a line that took the lock after the fast path: why that got no frame
-abbrev pub route_miss : Route → Option FastFailure
-route_miss (LockedAfter reason) = miss_of reason
-route_miss other = None
+abbrev pub route_failure : Route → Option FastFailure
+route_failure (LockedAfter reason) = failure_of reason
+route_failure other = None
 
 -- the number and the CPU of a line, and what its route says
 abbrev pub line_facts : (number cpu : ℕ) → Route → LineFacts
@@ -50,7 +50,7 @@ line_facts number cpu route = record {
   number = number;
   cpu = cpu;
   took_lock = took_lock route;
-  miss = route_miss route;
+  failure = route_failure route;
 }
 
 -- the notes of a line on this route: those of the machine, if the line's command was served under the lock

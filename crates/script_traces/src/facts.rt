@@ -1,7 +1,7 @@
 //! How a line was served, as a trace tells it.
 
 ghost use Rattle.std.specs.Prelude.{◌≡◌};
-ghost use Rattle.script_traces.specs.Traces.{line_facts, miss_of, notes_on, route_miss, took_lock};
+ghost use Rattle.script_traces.specs.Traces.{line_facts, failure_of, notes_on, route_failure, took_lock};
 
 use cpu_part::{BootName, Fast};
 use kill_notes::note::Note;
@@ -17,7 +17,7 @@ pub(crate) fn line_facts(number: usize, cpu: u32, route: &Route) -> LineFacts
         number: number as u64,
         cpu,
         took_lock: took_lock(route),
-        miss: route_miss(route),
+        failure: route_failure(route),
     }
 }
 
@@ -34,18 +34,18 @@ fn took_lock(route: &Route) -> bool
 }
 
 // Of a line that took the lock after the fast path: why that got no frame.
-fn route_miss(route: &Route) -> Option<FastFailure>
-    ensures { result ≡ route_miss route.now }
+fn route_failure(route: &Route) -> Option<FastFailure>
+    ensures { result ≡ route_failure route.now }
 {
     match route {
-        Route::LockedAfter(reason) => miss_of(reason),
+        Route::LockedAfter(reason) => failure_of(reason),
         _ => None,
     }
 }
 
 // Why the fast path got no frame; None if it got one.
-fn miss_of(fast: &Fast) -> Option<FastFailure>
-    ensures { result ≡ miss_of fast.now }
+fn failure_of(fast: &Fast) -> Option<FastFailure>
+    ensures { result ≡ failure_of fast.now }
 {
     match fast {
         Fast::Got(_) => None,

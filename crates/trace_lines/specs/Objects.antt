@@ -57,13 +57,13 @@ reason_text Drained = codes "drained"
 reason_text OtherGroup = codes "other-group"
 
 -- the part that tells why, if it is told
-unfoldable pub miss_text : Option FastFailure → List ℕ
-miss_text None = []
-miss_text (Some miss) = codes ",\"miss\":\"" ++ reason_text miss ++ codes "\""
+unfoldable pub failure_text : Option FastFailure → List ℕ
+failure_text None = []
+failure_text (Some failure) = codes ",\"miss\":\"" ++ reason_text failure ++ codes "\""
 
 -- whether the line took the lock, and why no frame could be taken without it
 unfoldable pub lock_text : Bool → Option FastFailure → List ℕ
-lock_text took_lock miss = codes ",\"lock\":" ++ lock_word took_lock ++ miss_text miss
+lock_text took_lock failure = codes ",\"lock\":" ++ lock_word took_lock ++ failure_text failure
 
 -- a line's number
 unfoldable pub line_number_text : ℕ → List ℕ
@@ -74,7 +74,7 @@ unfoldable pub line_text : LineFacts → (command answer : List ℕ) → List �
 line_text line command answer =
     line_number_text line.number ++ keyed_text (codes "cpu") line.cpu
     ++ keyed_string (codes "command") command ++ keyed_string (codes "answer") answer
-    ++ lock_text line.took_lock line.miss
+    ++ lock_text line.took_lock line.failure
 
 -- The object of a line: the line itself, what it changed in the state before it, the notes with the frames that they
 -- leave out, and the counts.

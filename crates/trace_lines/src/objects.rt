@@ -4,7 +4,7 @@ ghost use Rattle.std.specs.Prelude.{◌≡◌, ◌++◌, IfOk};
 ghost use Rattle.std.specs.String.{string_bytes};
 ghost use Rattle.trace_lines.specs.Objects.{end_front, end_text, frame_sums_text, header_front, header_text};
 ghost use Rattle.trace_lines.specs.Objects.{keyed_string, keyed_text, line_number_text, line_text, lock_text};
-ghost use Rattle.trace_lines.specs.Objects.{lock_word, miss_text, object_text, reason_text, row_names, sizes_text};
+ghost use Rattle.trace_lines.specs.Objects.{lock_word, failure_text, object_text, reason_text, row_names, sizes_text};
 ghost use Rattle.trace_lines.specs.Objects.{unit_sums_text};
 ghost use Rattle.trace_lines.specs.Parts.{opening};
 
@@ -51,7 +51,7 @@ pub struct LineFacts {
     /// Whether it took the lock.
     pub took_lock: bool,
     /// Of an `alloc PATH 0` that took the lock: why no frame could be taken without it.
-    pub miss: Option<FastFailure>,
+    pub failure: Option<FastFailure>,
 }
 
 /// The sums at the end.
@@ -176,7 +176,7 @@ fn write_line(
     push_keyed("cpu", u64::from(line.cpu), text)?;
     push_keyed_string("command", command, text)?;
     push_keyed_string("answer", answer, text)?;
-    write_lock(line.took_lock, line.miss, text)
+    write_lock(line.took_lock, line.failure, text)
 }
 
 // Adds the line's number.
@@ -189,12 +189,12 @@ fn write_line_number(number: u64, text: &mut String) -> Result<(), AllocError>
 
 // Adds whether the line took the lock, and why no frame could be taken without it, if that is told.
 #[tactic(auto, unfolding(crate::specs::Objects::lock_text))]
-fn write_lock(took_lock: bool, miss: Option<FastFailure>, text: &mut String) -> Result<(), AllocError>
-    ensures { IfOk result (λ _. string_bytes text.new ≡ string_bytes text.old ++ lock_text took_lock miss) }
+fn write_lock(took_lock: bool, failure: Option<FastFailure>, text: &mut String) -> Result<(), AllocError>
+    ensures { IfOk result (λ _. string_bytes text.new ≡ string_bytes text.old ++ lock_text took_lock failure) }
 {
     text.push_str(",\"lock\":")?;
     text.push_str(lock_word(took_lock))?;
-    write_miss(miss, text)
+    write_failure(failure, text)
 }
 
 // Whether the line took the lock, as a word.
@@ -205,23 +205,23 @@ fn lock_word(took_lock: bool) -> &'static str
 }
 
 // Adds why no frame could be taken without the lock, if that is told.
-#[tactic(auto, unfolding(crate::specs::Objects::miss_text))]
-fn write_miss(miss: Option<FastFailure>, text: &mut String) -> Result<(), AllocError>
-    ensures { IfOk result (λ _. string_bytes text.new ≡ string_bytes text.old ++ miss_text miss) }
+#[tactic(auto, unfolding(crate::specs::Objects::failure_text))]
+fn write_failure(failure: Option<FastFailure>, text: &mut String) -> Result<(), AllocError>
+    ensures { IfOk result (λ _. string_bytes text.new ≡ string_bytes text.old ++ failure_text failure) }
 {
-    let Some(miss) = miss else {
+    let Some(failure) = failure else {
         return Ok(());
     };
     text.push_str(",\"miss\":\"")?;
-    text.push_str(reason(miss))?;
+    text.push_str(reason(failure))?;
     text.push_str("\"")
 }
 
 // The word for why no frame could be taken without the lock.
-fn reason(miss: FastFailure) -> &'static str
-    ensures { result.now ≡ reason_text miss }
+fn reason(failure: FastFailure) -> &'static str
+    ensures { result.now ≡ reason_text failure }
 {
-    match miss {
+    match failure {
         FastFailure::ListEmpty => "list-empty",
         FastFailure::FreshFull => "fresh-full",
         FastFailure::NoStock => "no-stock",
