@@ -13,7 +13,7 @@ use Rattle.script_replay.specs.Routes.{ServesByRoute}
 use Rattle.script_replay.specs.Terms.{BootTables}
 use Rattle.script_replay.proofs.InOrder.{in_order_line}
 use Rattle.shown_states.specs.Cpus.{locked_with_looks}
-use Rattle.shown_states.specs.States.{shown_state}
+use Rattle.shown_states.specs.States.{trace_state_of}
 use Rattle.trace_lines.specs.declared.objects.LineFacts.{LineFacts}
 use Rattle.trace_lines.specs.Objects.{object_text}
 use Rattle.trace_lines.specs.TraceState.{KnownTraceState}
@@ -22,13 +22,13 @@ use Rattle.script_traces.specs.Traces.{GrowsBy, TracesLine, line_facts, looked, 
 
 -- ---- states
 
-pub shown_as : (locked : KnownLocked) (cpus : List KnownCpu) → shown_state locked.machine cpus ≡ system_shown (system_state locked cpus)
+pub shown_as : (locked : KnownLocked) (cpus : List KnownCpu) → trace_state_of locked.machine cpus ≡ system_shown (system_state locked cpus)
 unfolding system_shown
 shown_as locked cpus = refl
 
 -- what was shown before the looks is shown after them
-pub shown_after : (shown : KnownTraceState) (locked after : KnownLocked) (cpus others : List KnownCpu) → shown ≡ shown_state locked.machine cpus
-    → shown_state after.machine others ≡ shown_state locked.machine cpus → shown ≡ system_shown (system_state after others)
+pub shown_after : (shown : KnownTraceState) (locked after : KnownLocked) (cpus others : List KnownCpu) → shown ≡ trace_state_of locked.machine cpus
+    → trace_state_of after.machine others ≡ trace_state_of locked.machine cpus → shown ≡ system_shown (system_state after others)
 shown_after shown locked after cpus others is again = is ∙ sym again ∙ shown_as after others
 
 pub state_looked : (locked after : KnownLocked) (cpus others : List KnownCpu) → after ≡ locked_with_looks locked (length cpus) → others ≡ cpus

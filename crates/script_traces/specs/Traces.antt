@@ -13,7 +13,7 @@ use Rattle.script_replay.specs.Lines.{InOrder, SystemState, system_state}
 use Rattle.script_replay.specs.Routes.{ServesByRoute}
 use Rattle.script_replay.specs.Terms.{BootTables}
 use Rattle.shown_states.specs.Cpus.{with_looks}
-use Rattle.shown_states.specs.States.{shown_state}
+use Rattle.shown_states.specs.States.{trace_state_of}
 use Rattle.trace_lines.specs.declared.objects.LineFacts.{LineFacts}
 use Rattle.trace_lines.specs.declared.objects.FastFailure.{FastFailure}
 use Rattle.trace_lines.specs.declared.objects.FastFailure.TheVariants as failure
@@ -63,7 +63,7 @@ notes_on other notes = no_notes
 
 -- what is shown of a state
 unfoldable pub system_shown : SystemState → KnownTraceState
-system_shown state = shown_state state.locked.machine state.cpus
+system_shown state = trace_state_of state.locked.machine state.cpus
 
 -- The state after each CPU's stock was looked at once. The zone's seat made as many steps, and nothing else changed. So
 -- the same is shown of it.

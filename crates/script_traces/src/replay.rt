@@ -14,7 +14,7 @@ use cpu_part::{BootName, Cpu, Tables};
 use mem_system::Locked;
 use script_lines::line::Line;
 use script_replay::serve_traced_line;
-use shown_states::show;
+use shown_states::trace_state;
 use std::alloc::{AllocError, Global};
 use trace_lines::trace_state::TraceState;
 use trace_lines::write_object;
@@ -36,7 +36,7 @@ pub fn replay_traced<N: BootName>(
         lines.now (system_state locked.old cpus.old) (system_state locked.new cpus.new))
         (string_bytes trace.old) (string_bytes trace.new)) }
 {
-    let mut shown = show(alloc, locked, tables, cpus)?;
+    let mut shown = trace_state(alloc, locked, tables, cpus)?;
     trace_each(alloc, locked, tables, cpus, lines, texts, &mut shown, trace)
 }
 
@@ -86,7 +86,7 @@ fn trace_line<N: BootName>(
     };
     let mut answer = String::new(alloc);
     let route = serve_traced_line(locked, tables, cpus, line, &mut answer)?;
-    let now = show(alloc, locked, tables, cpus)?;
+    let now = trace_state(alloc, locked, tables, cpus)?;
     let (notes, more) = notes_on(&route, locked.machine());
     let facts = line_facts(*number, *cpu, &route);
     let command = command_at(texts, *number);

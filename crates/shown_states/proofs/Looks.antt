@@ -16,7 +16,7 @@ use Rattle.mem_system.specs.Locked.{KnownLocked}
 use Rattle.shown_states.specs.Frames.{flags_shown, places_shown}
 use Rattle.shown_states.specs.Groups.{groups_shown}
 use Rattle.shown_states.specs.Cpus.{cpu_shown, cpu_with_stock, cpus_shown, locked_with_looks, with_looks}
-use Rattle.shown_states.specs.States.{counts_shown, shown_state}
+use Rattle.shown_states.specs.States.{counts_shown, trace_state_of}
 
 -- ---- how many looks
 
@@ -41,23 +41,23 @@ looks_more machine count =
 
 -- a look changes nothing that is shown
 pub shown_the_same : (machine : KnownMachine) (count : ℕ) (cpus : List KnownCpu)
-    → shown_state (with_looks machine count) cpus ≡ shown_state machine cpus
+    → trace_state_of (with_looks machine count) cpus ≡ trace_state_of machine cpus
 unfolding flags_shown groups_shown
 shown_the_same machine count cpus = refl
 
 pub shown_again : (machine now : KnownMachine) (cpus others : List KnownCpu) → now ≡ with_looks machine (length cpus)
-    → others ≡ cpus → shown_state now others ≡ shown_state machine cpus
+    → others ≡ cpus → trace_state_of now others ≡ trace_state_of machine cpus
 shown_again machine now cpus others looked same =
-    (λ i. shown_state (looked i) (same i)) ∙ shown_the_same machine (length cpus) cpus
+    (λ i. trace_state_of (looked i) (same i)) ∙ shown_the_same machine (length cpus) cpus
 
 -- the parts that were shown after the looks make up the state that was there before
 pub shown_whole : (machine now : KnownMachine) (cpus others : List KnownCpu) → now ≡ with_looks machine (length cpus) → others ≡ cpus
     → (places : List ShownPlace) (flags : List Flags) (groups : List shown.KnownShownGroup) (seen : List shown.KnownShownCpu) (counts : ShownCounts)
     → places ≡ places_shown now others → flags ≡ flags_shown now → groups ≡ groups_shown now → seen ≡ cpus_shown machine cpus
     → counts ≡ counts_shown machine cpus
-    → record { places = places; flags = flags; groups = groups; cpus = seen; counts = counts } ≡ shown_state machine cpus
+    → record { places = places; flags = flags; groups = groups; cpus = seen; counts = counts } ≡ trace_state_of machine cpus
 shown_whole machine now cpus others looked same places flags groups seen counts same_places same_flags same_groups same_cpus same_counts =
-    let state = shown_state machine cpus in
+    let state = trace_state_of machine cpus in
     let before = shown_the_same machine (length cpus) cpus in
     let at_places : places ≡ state.places = same_places ∙ (λ i. places_shown (looked i) (same i)) in
     let at_flags : flags ≡ state.flags =

@@ -17,7 +17,7 @@ use Rattle.mem_machine.specs.Stocks.{stock_group}
 use Rattle.mem_machine.specs.Showing.{stock_as}
 use Rattle.shown_states.specs.Frames.{flags_in, flags_shown, places_shown, record_of}
 use Rattle.shown_states.specs.Cpus.{cpu_shown, cpus_shown, stock_shown}
-use Rattle.shown_states.specs.States.{shown_state}
+use Rattle.shown_states.specs.States.{trace_state_of}
 use Rattle.shown_states.specs.Laws.{AreSound, StatesAreOfOneBoot, StayFilled, numbers_in}
 use Rattle.shown_states.proofs.Distinct.{distinct_by_times}
 use Rattle.shown_states.proofs.CpusShown.{of_one}
@@ -42,7 +42,7 @@ module _ (t : KnownTable) (w : KnownStockTable) (machine : KnownMachine) (cpus :
 
   -- ---- what the CPUs have
 
-  lists_distinct : (name : ListName) → AreDistinct (list_named (shown_state machine cpus) name)
+  lists_distinct : (name : ListName) → AreDistinct (list_named (trace_state_of machine cpus) name)
   lists_distinct (Listed cpu) = of_one (cpu_shown machine) cpu (λ one. AreDistinct one.list) 1 cpus tt
       (λ k any inside. distinct_by_times (get_or cpus k any).list
       (λ frame. let once = ((sound.tied k any inside).noted frame).once in omega (arith, once)))

@@ -8,7 +8,7 @@ use Rattle.step_rules.specs.After.{Run}
 use Rattle.mem_machine.specs.Local.{MakesAs, VisitState}
 use Rattle.mem_machine.specs.Machines.{KnownMachine, IsConsistent}
 use Rattle.mem_machine.specs.Stocks.{stock_group}
-use Rattle.shown_states.specs.States.{shown_state}
+use Rattle.shown_states.specs.States.{trace_state_of}
 
 -- a machine and its CPUs, as they always are: the machine is consistent, and the lists and pins of each CPU agree with
 -- what its seats know
@@ -37,4 +37,4 @@ StatesAreOfOneBoot = (table : KnownTable) (stock_table : KnownStockTable) (befor
     (earlier later : List KnownCpu)
     → AreSound table stock_table before earlier → AreSound table stock_table after later
     → numbers_in earlier ≡ numbers_in later → StayFilled before after
-    → AreOfOneBoot (shown_state before earlier) (shown_state after later)
+    → AreOfOneBoot (trace_state_of before earlier) (trace_state_of after later)

@@ -30,8 +30,8 @@ counts_shown machine cpus = record {
 }
 
 -- what is shown of the machine and of these CPUs, of which the first is CPU 1
-abbrev pub shown_state : KnownMachine → List KnownCpu → KnownTraceState
-shown_state machine cpus = record {
+abbrev pub trace_state_of : KnownMachine → List KnownCpu → KnownTraceState
+trace_state_of machine cpus = record {
   places = places_shown machine cpus;
   flags = flags_shown machine;
   groups = groups_shown machine;

@@ -12,4 +12,4 @@ mod lists;
 mod states;
 
 pub use laws::{states_are_of_one_boot, steps_keep_stocks};
-pub use states::show;
+pub use states::trace_state;

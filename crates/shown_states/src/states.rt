@@ -2,7 +2,7 @@
 
 ghost use Rattle.std.specs.Prelude.{◌≡◌, IfOk, length};
 ghost use Rattle.shown_states.specs.Cpus.{locked_with_looks};
-ghost use Rattle.shown_states.specs.States.{shown_state};
+ghost use Rattle.shown_states.specs.States.{trace_state_of};
 
 use crate::counts::show_counts;
 use crate::cpus::show_cpus;
@@ -18,16 +18,16 @@ use trace_lines::trace_state::TraceState;
 /// CPU's stock since the CPU last saw it, so this looks once at the stock word of each. The zone's seat counts each
 /// look as a step, and nothing that is shown depends on these steps. It fails only if memory runs out; it has looked
 /// then all the same.
-pub fn show<N: BootName>(
+pub fn trace_state<N: BootName>(
     alloc: Global,
     locked: &mut Locked<N>,
     tables: &Tables<N>,
     cpus: &mut [Cpu<N>],
 ) -> Result<TraceState, AllocError>
-    ensures shown { IfOk result (λ shown. shown ≡ shown_state locked.old.machine cpus.old) }
+    ensures shown { IfOk result (λ shown. shown ≡ trace_state_of locked.old.machine cpus.old) }
     ensures looked { locked.new ≡ locked_with_looks locked.old (length cpus.old) }
     ensures cpus { cpus.new ≡ cpus.old }
-    ensures again { shown_state locked.new.machine cpus.new ≡ shown_state locked.old.machine cpus.old }
+    ensures again { trace_state_of locked.new.machine cpus.new ≡ trace_state_of locked.old.machine cpus.old }
 {
     let counts = show_counts(locked.machine(), cpus);
     // The looks come first, and alone change the machine: so they are made even if memory runs out.

@@ -12,9 +12,9 @@ use Rattle.script_traces.proofs.replay.replay_traced.Goals as goal
 pub trace_each-requires : goal.trace_each-requires
 trace_each-requires g c = record {
   there = subst (λ (n : ℕ). All (LineInRange g.N.BootName.frames.frames n) c.args.lines.now)
-      (sym (ap (λ (l : List KnownCpu). length l) c.show.ensures.cpus)) c.requires.there;
-  shown = shown_after c.in_ok-shown.shown c.args.locked.now c.show.new.locked c.args.cpus.now c.show.new.cpus c.in_ok-shown.ensures.shown
-      c.show.ensures.again;
+      (sym (ap (λ (l : List KnownCpu). length l) c.trace_state.ensures.cpus)) c.requires.there;
+  shown = shown_after c.in_ok-shown.shown c.args.locked.now c.trace_state.new.locked c.args.cpus.now c.trace_state.new.cpus c.in_ok-shown.ensures.shown
+      c.trace_state.ensures.again;
 }
 
 pub returns : goal.returns
@@ -22,7 +22,7 @@ returns g c =
     let tables = boot_tables g.N.BootName.frames g.N.BootName.stocks in
     let texts = map (λ (text : Bor (List ℕ)). text.now) c.args.texts.now in
     let end : SystemState = system_state c.trace_each.new.locked c.trace_each.new.cpus in
-    let start = state_looked c.args.locked.now c.show.new.locked c.args.cpus.now c.show.new.cpus c.show.ensures.looked c.show.ensures.cpus in
+    let start = state_looked c.args.locked.now c.trace_state.new.locked c.args.cpus.now c.trace_state.new.cpus c.trace_state.ensures.looked c.trace_state.ensures.cpus in
     record {
       traced = subst (λ (s : SystemState). OnOk c.trace_each.result (GrowsBy (InOrder (TracesLine tables texts) c.args.lines.now s end)
           (string_bytes c.args.trace.now) (string_bytes c.trace_each.new.trace))) start c.trace_each.ensures.traced;

@@ -15,8 +15,8 @@ use Rattle.script_traces.proofs.replay.trace_line.Goals as goal
 
 pub returns-clause-shown : goal.returns-clause-shown
 returns-clause-shown g c =
-    shown_after c.in_ok-now.now c.serve_traced_line.new.locked c.show.new.locked c.serve_traced_line.new.cpus c.show.new.cpus
-    c.in_ok-now.ensures.shown c.show.ensures.again
+    shown_after c.in_ok-now.now c.serve_traced_line.new.locked c.trace_state.new.locked c.serve_traced_line.new.cpus c.trace_state.new.cpus
+    c.in_ok-now.ensures.shown c.trace_state.ensures.again
 
 pub returns-clause-traced : goal.returns-clause-traced
 returns-clause-traced g c =
@@ -26,7 +26,7 @@ returns-clause-traced g c =
     let left = c.serve_traced_line.new in
     let before : SystemState = system_state c.args.locked.now c.args.cpus.now in
     let served : SystemState = system_state left.locked left.cpus in
-    let after : SystemState = system_state c.show.new.locked c.show.new.cpus in
+    let after : SystemState = system_state c.trace_state.new.locked c.trace_state.new.cpus in
     let number = c.in-At.number in
     let cpu = c.in-At.cpu in
     let command = c.in-At.command in
@@ -38,7 +38,7 @@ returns-clause-traced g c =
     let serves : ServesByRoute t line before served route answer =
     subst (λ (r : Route). ServesByRoute t line before served r answer) (sym by.returned)
     (subst (λ (l : Line). ServesByRoute t l before served by.taken answer) is by.so.serves) in
-    let looks = c.show.ensures.looked in
+    let looks = c.trace_state.ensures.looked in
     let machine : c.machine.result.now.notes ≡ left.locked.machine.notes =
     ap (λ (m : KnownMachine). m.notes) c.machine.ensures.machine ∙ ap (λ (l : KnownLocked). l.machine.notes) looks in
     let notes : KnownNotes = notes_on route left.locked.machine.notes in
@@ -51,5 +51,5 @@ returns-clause-traced g c =
     (c.notes_on-more.ensures.notes ∙ ap (λ (n : KnownNotes). n.list) are) (c.notes_on-more.ensures.more ∙ ap (λ (n : KnownNotes). n.left_out) are) in
     subst (λ (l : Line). GrowsBy (TracesLine tables texts l before after) (string_bytes c.args.trace.now) (string_bytes c.write_object.new.text)) (sym is)
     (line_traced tables texts number cpu command route answer before served after notes (string_bytes c.args.trace.now)
-    (string_bytes c.write_object.new.text) serves (state_looked left.locked c.show.new.locked left.cpus c.show.new.cpus looks c.show.ensures.cpus)
+    (string_bytes c.write_object.new.text) serves (state_looked left.locked c.trace_state.new.locked left.cpus c.trace_state.new.cpus looks c.trace_state.ensures.cpus)
     (λ i. notes) object)
