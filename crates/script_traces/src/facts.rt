@@ -1,7 +1,7 @@
 //! How a line was served, as a trace tells it.
 
 ghost use Rattle.std.specs.Prelude.{◌≡◌};
-ghost use Rattle.script_traces.specs.Traces.{line_facts, failure_of, notes_on, route_failure, took_lock};
+ghost use Rattle.script_traces.specs.Traces.{failure_of, line_facts, notes_on, route_failure, took_lock};
 
 use cpu_part::{BootName, Fast};
 use kill_notes::note::Note;

@@ -5,7 +5,8 @@ use Rattle.kill_notes.specs.declared.note.Note.{Note}
 use Rattle.trace_lines.specs.declared.objects.Header.{Header}
 use Rattle.trace_lines.specs.declared.objects.LineFacts.{LineFacts}
 use Rattle.trace_lines.specs.declared.objects.FastFailure.{FastFailure}
-use Rattle.trace_lines.specs.declared.objects.FastFailure.TheVariants.{ListEmpty, FreshFull, NoStock, Drained, OtherGroup}
+use Rattle.trace_lines.specs.declared.objects.FastFailure.TheVariants.{ListEmpty, FreshFull, NoStock, Drained}
+use Rattle.trace_lines.specs.declared.objects.FastFailure.TheVariants.{OtherGroup}
 use Rattle.trace_lines.specs.declared.objects.End.{End}
 use Rattle.trace_lines.specs.TraceState.{KnownTraceState}
 use Rattle.trace_lines.specs.Changes.{changes}
@@ -78,7 +79,8 @@ line_text line command answer =
 
 -- The object of a line: the line itself, what it changed in the state before it, the notes with the frames that they
 -- leave out, and the counts.
-abbrev pub object_text : LineFacts → (command answer : List ℕ) → (before after : KnownTraceState) → List Note → ℕ → List ℕ
+abbrev pub object_text : LineFacts → (command answer : List ℕ) → (before after : KnownTraceState) → List Note
+    → ℕ → List ℕ
 object_text line command answer before after notes left_out =
     line_text line command answer ++ changes_text (changes before after) ++ notes_text notes left_out
     ++ counts_part (changes before after).counts ++ codes "}\n"

@@ -12,8 +12,8 @@ ghost use Rattle.trace_lines.specs.Writing.{AddsGone, AddsMade, AddsRows};
 
 use crate::numbers::{flag_word, push_count, write_number};
 use crate::parts::{push_start, push_stop};
-use crate::trace_state::{Events, Row, ShownGroup};
 use crate::strings::write_string;
+use crate::trace_state::{Events, Row, ShownGroup};
 use std::alloc::AllocError;
 
 // Adds the part that tells which groups are gone.

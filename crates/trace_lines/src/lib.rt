@@ -13,8 +13,8 @@ pub mod numbers;
 mod objects;
 mod parts;
 pub mod place;
-pub mod trace_state;
 mod strings;
+pub mod trace_state;
 
 pub use laws::changes_rebuild;
 pub use objects::{End, FastFailure, Header, LineFacts, write_end, write_header, write_object};

@@ -11,7 +11,7 @@ ghost use Rattle.trace_lines.specs.Writing.{AddsLists, KeepsOne};
 
 use crate::numbers::write_number_spans;
 use crate::parts::{push_start, push_stop};
-use crate::trace_state::{TraceState, ShownCpu, ShownGroup};
+use crate::trace_state::{ShownCpu, ShownGroup, TraceState};
 use std::alloc::{AllocError, Global};
 
 // How many numbers groups have at most.

@@ -4,15 +4,15 @@ ghost use Rattle.std.specs.Prelude.{◌≡◌, ◌++◌, IfOk};
 ghost use Rattle.std.specs.String.{string_bytes};
 ghost use Rattle.trace_lines.specs.Objects.{end_front, end_text, frame_sums_text, header_front, header_text};
 ghost use Rattle.trace_lines.specs.Objects.{keyed_string, keyed_text, line_number_text, line_text, lock_text};
-ghost use Rattle.trace_lines.specs.Objects.{lock_word, failure_text, object_text, reason_text, row_names, sizes_text};
+ghost use Rattle.trace_lines.specs.Objects.{failure_text, lock_word, object_text, reason_text, row_names, sizes_text};
 ghost use Rattle.trace_lines.specs.Objects.{unit_sums_text};
 ghost use Rattle.trace_lines.specs.Parts.{opening};
 
 use crate::notes::write_notes;
 use crate::numbers::push_count;
 use crate::parts::{push_opening, write_changes, write_counts};
-use crate::trace_state::Shown;
 use crate::strings::write_string;
+use crate::trace_state::Shown;
 use kill_notes::note::Note;
 use std::alloc::{AllocError, Global};
 
@@ -189,7 +189,11 @@ fn write_line_number(number: u64, text: &mut String) -> Result<(), AllocError>
 
 // Adds whether the line took the lock, and why no frame could be taken without it, if that is told.
 #[tactic(auto, unfolding(crate::specs::Objects::lock_text))]
-fn write_lock(took_lock: bool, failure: Option<FastFailure>, text: &mut String) -> Result<(), AllocError>
+fn write_lock(
+    took_lock: bool,
+    failure: Option<FastFailure>,
+    text: &mut String,
+) -> Result<(), AllocError>
     ensures { IfOk result (λ _. string_bytes text.new ≡ string_bytes text.old ++ lock_text took_lock failure) }
 {
     text.push_str(",\"lock\":")?;

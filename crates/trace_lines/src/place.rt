@@ -22,7 +22,7 @@ pub enum ShownPlace {
 pub enum TracedFrame {
     /// In the zone's free areas.
     Free,
-    /// On the list of this CPU, 1 to 64.
+    /// Lent to this CPU, 1 to 64: on its list, or one of its fresh frames.
     Lent { cpu: u32 },
     /// The first frame of a unit of 2^order frames that is charged to this group.
     Head { group: u32, order: u32 },

@@ -1,7 +1,7 @@
 //! What is shown of a state.
 
 ghost use Rattle.std.specs.Prelude.{◌≡◌};
-ghost use Rattle.trace_lines.specs.TraceState.{KnownTraceState, KnownShownGroup, KnownShownCpu};
+ghost use Rattle.trace_lines.specs.TraceState.{KnownShownCpu, KnownShownGroup, KnownTraceState};
 
 use crate::place::ShownPlace;
 use group_tree::path::PathText;
