@@ -12,7 +12,7 @@ use crate::notes::write_notes;
 use crate::numbers::push_count;
 use crate::parts::{push_opening, write_changes, write_counts};
 use crate::strings::write_string;
-use crate::trace_state::Shown;
+use crate::trace_state::TraceState;
 use kill_notes::note::Note;
 use std::alloc::{AllocError, Global};
 
