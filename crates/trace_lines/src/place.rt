@@ -12,7 +12,7 @@ pub enum ShownPlace {
     /// In the zone's free areas.
     Free,
     /// On the list of this CPU, 1 to 64.
-    Lent { cpu: u32 },
+    Listed { cpu: u32 },
     /// In a unit of 2^order frames that is charged to this group. A fresh frame is a unit of order 0.
     Charged { group: u32, order: u32 },
 }
