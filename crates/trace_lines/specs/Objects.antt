@@ -77,13 +77,18 @@ line_text line command answer =
     ++ keyed_string (codes "command") command ++ keyed_string (codes "answer") answer
     ++ lock_text line.took_lock line.failure
 
+-- the object of a line, with these texts of what it changed and of the counts
+abbrev pub object_with : LineFacts → (command answer changes : List ℕ) → List Note → ℕ → (counts : List ℕ) → List ℕ
+object_with line command answer changes notes left_out counts =
+    line_text line command answer ++ changes ++ notes_text notes left_out ++ counts ++ codes "}\n"
+
 -- The object of a line: the line itself, what it changed in the state before it, the notes with the frames that they
 -- leave out, and the counts.
 abbrev pub object_text : LineFacts → (command answer : List ℕ) → (before after : KnownTraceState) → List Note
     → ℕ → List ℕ
 object_text line command answer before after notes left_out =
-    line_text line command answer ++ changes_text (changes before after) ++ notes_text notes left_out
-    ++ counts_part (changes before after).counts ++ codes "}\n"
+    object_with line command answer (changes_text (changes before after)) notes left_out
+    (counts_part (changes before after).counts)
 
 -- the front of the end
 unfoldable pub end_front : List ℕ

@@ -55,19 +55,43 @@ fn write_cpu_pins(
     ensures { IfOk result (λ _. AddsPins is_first.old is_first.new (string_bytes text.old) (string_bytes text.new)
         (pin_changes cpu frames before.now.pins after.now.pins)) }
 {
-    if have_same_pins(before, after) {
+    add_pin_changes(
+        alloc,
+        cpu,
+        frames,
+        before.pins(),
+        after.pins(),
+        is_first,
+        text,
+    )
+}
+
+/// Adds the changes of one CPU's pins, from these to those, on frames below this many.
+pub fn add_pin_changes(
+    alloc: Global,
+    cpu: usize,
+    frames: usize,
+    before: &[u32],
+    after: &[u32],
+    is_first: &mut bool,
+    text: &mut String,
+) -> Result<(), AllocError>
+    ensures { IfOk result (λ _. AddsPins is_first.old is_first.new (string_bytes text.old) (string_bytes text.new)
+        (pin_changes cpu frames before.now after.now)) }
+{
+    if are_same_pins(before, after) {
         return Ok(());
     }
-    let old = count_pins(alloc, frames, before.pins())?;
-    let new = count_pins(alloc, frames, after.pins())?;
+    let old = count_pins(alloc, frames, before)?;
+    let new = count_pins(alloc, frames, after)?;
     add_counts(cpu, &old, &new, is_first, text)
 }
 
-// Whether the two have the same pins, in the same order.
-fn have_same_pins(one: &ShownCpu, other: &ShownCpu) -> bool
-    ensures { result ≡ bytes_eq one.now.pins other.now.pins }
+// Whether the two are the same pins, in the same order.
+fn are_same_pins(one: &[u32], other: &[u32]) -> bool
+    ensures { result ≡ bytes_eq one.now other.now }
 {
-    one.pins() == other.pins()
+    one == other
 }
 
 // Adds a CPU's pins on each frame, if their number changed.
@@ -182,8 +206,8 @@ fn write_cpu_stock(
     add_stock(cpu, before.stock(), after.stock(), is_first, text)
 }
 
-// Adds a stock, if it isn't the one before.
-fn add_stock(
+/// Adds a CPU's stock to the part, if it isn't the one before.
+pub fn add_stock(
     cpu: usize,
     before: Option<ShownStock>,
     after: Option<ShownStock>,

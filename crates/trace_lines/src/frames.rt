@@ -18,8 +18,8 @@ pub struct FrameSpan {
     pub place: ShownPlace,
 }
 
-// Adds the part that tells of frames.
-pub(crate) fn write_frames(
+/// Adds the part that tells which frames have another place after than before.
+pub fn write_frames(
     alloc: Global,
     before: &[ShownPlace],
     after: &[ShownPlace],

@@ -111,6 +111,18 @@ fn add_row(
     if has_row(before, group) {
         return Ok(());
     }
+    add_group_row(group, is_first, text)
+}
+
+/// Adds the group's row to the part.
+pub fn add_group_row(
+    group: &ShownGroup,
+    is_first: &mut bool,
+    text: &mut String,
+) -> Result<(), AllocError>
+    ensures { IfOk result (λ _. AddsRows is_first.old is_first.new (string_bytes text.old) (string_bytes text.new)
+        (group.now ∷ [])) }
+{
     push_start("groups", is_first, text)?;
     write_row(group, text)
 }
@@ -144,8 +156,8 @@ fn is_same_group(one: &ShownGroup, other: &ShownGroup) -> bool
     one.number == other.number && one.path.as_bytes() == other.path.as_bytes()
 }
 
-// Whether the two rows have the same numbers.
-fn is_same_row(one: &Row, other: &Row) -> bool
+/// Whether the two rows have the same numbers.
+pub fn is_same_row(one: &Row, other: &Row) -> bool
     ensures { result ≡ is_same_row one.now other.now }
 {
     is_same_limit(one.max, other.max)

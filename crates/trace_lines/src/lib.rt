@@ -2,19 +2,21 @@
 //! machine: a state is shown as plain values.
 #![tactic(auto)]
 
-mod cpus;
-mod flags;
+pub mod cpus;
+pub mod flags;
 pub mod frames;
-mod groups;
+pub mod groups;
 mod laws;
 pub mod lists;
 mod notes;
 pub mod numbers;
 mod objects;
-mod parts;
+pub mod parts;
 pub mod place;
 mod strings;
 pub mod trace_state;
 
 pub use laws::changes_rebuild;
-pub use objects::{End, FastFailure, Header, LineFacts, write_end, write_header, write_object};
+pub use objects::{
+    End, FastFailure, Header, LineFacts, write_end, write_header, write_object, write_object_of,
+};

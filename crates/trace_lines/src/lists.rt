@@ -189,8 +189,8 @@ fn active_of(group: Option<&ShownGroup>) -> &[u32]
     }
 }
 
-// Adds the change of one list, if it changed.
-fn write_list(
+/// Adds the change of the list of this name to the part, if it changed.
+pub fn write_list(
     alloc: Global,
     name: ListName,
     before: &[u32],

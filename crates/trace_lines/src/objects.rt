@@ -4,7 +4,7 @@ ghost use Rattle.std.specs.Prelude.{◌≡◌, ◌++◌, IfOk};
 ghost use Rattle.std.specs.String.{string_bytes};
 ghost use Rattle.trace_lines.specs.Objects.{end_front, end_text, frame_sums_text, header_front, header_text};
 ghost use Rattle.trace_lines.specs.Objects.{keyed_string, keyed_text, line_number_text, line_text, lock_text};
-ghost use Rattle.trace_lines.specs.Objects.{failure_text, lock_word, object_text, reason_text, row_names, sizes_text};
+ghost use Rattle.trace_lines.specs.Objects.{failure_text, lock_word, object_text, object_with, reason_text, row_names, sizes_text};
 ghost use Rattle.trace_lines.specs.Objects.{unit_sums_text};
 ghost use Rattle.trace_lines.specs.Parts.{opening};
 
@@ -157,7 +157,29 @@ pub fn write_object(
     write_line(line, command, answer, text)?;
     write_changes(alloc, before, after, text)?;
     write_notes(notes, left_out, text)?;
-    write_counts(before, after, text)?;
+    write_counts(before.counts(), after.counts(), text)?;
+    text.push_str("}\n")
+}
+
+/// Adds the object of a line: the line with its command and answer, the text of what it changed, its notes, which leave
+/// out `left_out` frames, and the text of the counts. It fails only if memory runs out.
+pub fn write_object_of(
+    line: &LineFacts,
+    command: &[u8],
+    answer: &[u8],
+    changes: &str,
+    notes: &[Note],
+    left_out: u64,
+    counts: &str,
+    text: &mut String,
+) -> Result<(), AllocError>
+    ensures { IfOk result (λ _. string_bytes text.new ≡ string_bytes text.old
+        ++ object_with line.now command.now answer.now changes.now notes.now left_out counts.now) }
+{
+    write_line(line, command, answer, text)?;
+    text.push_str(changes)?;
+    write_notes(notes, left_out, text)?;
+    text.push_str(counts)?;
     text.push_str("}\n")
 }
 

@@ -42,8 +42,8 @@ pub(crate) fn push_opening(key: &str, text: &mut String) -> Result<(), AllocErro
     text.push_str("\":[")
 }
 
-// Adds what goes behind the last item, if there was one.
-pub(crate) fn push_stop(is_first: bool, text: &mut String) -> Result<(), AllocError>
+/// Adds what goes behind the last item of a part, if there was one.
+pub fn push_stop(is_first: bool, text: &mut String) -> Result<(), AllocError>
     ensures { IfOk result (λ _. string_bytes text.new ≡ string_bytes text.old ++ stop_text is_first) }
 {
     if is_first {
@@ -52,9 +52,9 @@ pub(crate) fn push_stop(is_first: bool, text: &mut String) -> Result<(), AllocEr
     text.push_str("]")
 }
 
-// Adds what differs between the two states, but the counts.
+/// Adds what differs between the two states, but the counts.
 #[tactic(auto, unfolding(crate::specs::Parts::changes_text))]
-pub(crate) fn write_changes(
+pub fn write_changes(
     alloc: Global,
     before: &TraceState,
     after: &TraceState,
@@ -107,20 +107,20 @@ fn write_last_parts(
     write_rows(before.groups(), after.groups(), text)
 }
 
-// Adds the counts, if they changed.
+/// Adds the counts, if they changed.
 #[tactic(auto, unfolding(crate::specs::Parts::counts_part))]
-pub(crate) fn write_counts(
-    before: &TraceState,
-    after: &TraceState,
+pub fn write_counts(
+    before: ShownCounts,
+    after: ShownCounts,
     text: &mut String,
 ) -> Result<(), AllocError>
     ensures { IfOk result (λ _. string_bytes text.new
-        ≡ string_bytes text.old ++ counts_part (count_change before.now.counts after.now.counts)) }
+        ≡ string_bytes text.old ++ counts_part (count_change before after)) }
 {
-    if are_same_counts(before.counts(), after.counts()) {
+    if are_same_counts(before, after) {
         return Ok(());
     }
-    push_counts(after.counts(), text)
+    push_counts(after, text)
 }
 
 // Whether the two counts are the same.

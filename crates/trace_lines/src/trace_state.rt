@@ -6,6 +6,7 @@ ghost use Rattle.trace_lines.specs.TraceState.{KnownShownCpu, KnownShownGroup, K
 use crate::place::ShownPlace;
 use group_tree::path::PathText;
 use std::marker::Model;
+use std::mem;
 
 /// How often each kind of event was counted for a group.
 #[derive(Clone, Copy, Debug, PartialEq, Eq)]
@@ -112,6 +113,64 @@ impl ShownGroup {
             active,
         }
     }
+
+    /// Its number.
+    pub fn number(&self) -> u32
+        ensures { result ≡ self.now.number }
+    {
+        self.number
+    }
+
+    /// Its path.
+    pub fn path(&self) -> &[u8]
+        ensures { result.now ≡ self.now.path }
+    {
+        self.path.as_bytes()
+    }
+
+    /// Its numbers.
+    pub fn row(&self) -> &Row
+        ensures { result.now ≡ self.now.row }
+    {
+        &self.row
+    }
+
+    /// Its inactive units, the oldest first.
+    pub fn inactive(&self) -> &[u32]
+        ensures { result.now ≡ self.now.inactive }
+    {
+        &self.inactive
+    }
+
+    /// Its active units, the oldest first.
+    pub fn active(&self) -> &[u32]
+        ensures { result.now ≡ self.now.active }
+    {
+        &self.active
+    }
+
+    /// Sets its numbers.
+    pub fn set_row(&mut self, row: Row)
+        ensures { self.new ≡ record self.old { row = row } }
+    {
+        self.row = row;
+    }
+
+    /// Swaps its inactive units for these.
+    pub fn swap_inactive(&mut self, units: &mut Vec<u32>)
+        ensures group { self.new ≡ record self.old { inactive = units.old.items } }
+        ensures units { units.new.items ≡ self.old.inactive }
+    {
+        mem::swap(&mut self.inactive, units);
+    }
+
+    /// Swaps its active units for these.
+    pub fn swap_active(&mut self, units: &mut Vec<u32>)
+        ensures group { self.new ≡ record self.old { active = units.old.items } }
+        ensures units { units.new.items ≡ self.old.active }
+    {
+        mem::swap(&mut self.active, units);
+    }
 }
 
 /// What a CPU has: the frames on its list, its fresh frames, its units whose last reference it put, an entry for each
@@ -163,39 +222,78 @@ impl ShownCpu {
         }
     }
 
-    // The frames on its list.
-    pub(crate) fn list(&self) -> &[u32]
+    /// The frames on its list.
+    pub fn list(&self) -> &[u32]
         ensures { result.now ≡ self.now.list }
     {
         &self.list
     }
 
-    // The fresh frames.
-    pub(crate) fn fresh(&self) -> &[u32]
+    /// The fresh frames.
+    pub fn fresh(&self) -> &[u32]
         ensures { result.now ≡ self.now.fresh }
     {
         &self.fresh
     }
 
-    // The units whose last reference it put.
-    pub(crate) fn back(&self) -> &[u32]
+    /// The units whose last reference it put.
+    pub fn back(&self) -> &[u32]
         ensures { result.now ≡ self.now.back }
     {
         &self.back
     }
 
-    // An entry for each of its pins.
-    pub(crate) fn pins(&self) -> &[u32]
+    /// An entry for each of its pins.
+    pub fn pins(&self) -> &[u32]
         ensures { result.now ≡ self.now.pins }
     {
         &self.pins
     }
 
-    // The stock.
-    pub(crate) fn stock(&self) -> Option<ShownStock>
+    /// The stock.
+    pub fn stock(&self) -> Option<ShownStock>
         ensures { result ≡ self.now.stock }
     {
         self.stock
+    }
+
+    /// Swaps the frames on its list for these.
+    pub fn swap_list(&mut self, frames: &mut Vec<u32>)
+        ensures cpu { self.new ≡ record self.old { list = frames.old.items } }
+        ensures frames { frames.new.items ≡ self.old.list }
+    {
+        mem::swap(&mut self.list, frames);
+    }
+
+    /// Swaps its fresh frames for these.
+    pub fn swap_fresh(&mut self, frames: &mut Vec<u32>)
+        ensures cpu { self.new ≡ record self.old { fresh = frames.old.items } }
+        ensures frames { frames.new.items ≡ self.old.fresh }
+    {
+        mem::swap(&mut self.fresh, frames);
+    }
+
+    /// Swaps its units whose last reference it put for these.
+    pub fn swap_back(&mut self, frames: &mut Vec<u32>)
+        ensures cpu { self.new ≡ record self.old { back = frames.old.items } }
+        ensures frames { frames.new.items ≡ self.old.back }
+    {
+        mem::swap(&mut self.back, frames);
+    }
+
+    /// Swaps its pins for these.
+    pub fn swap_pins(&mut self, frames: &mut Vec<u32>)
+        ensures cpu { self.new ≡ record self.old { pins = frames.old.items } }
+        ensures frames { frames.new.items ≡ self.old.pins }
+    {
+        mem::swap(&mut self.pins, frames);
+    }
+
+    /// Sets its stock.
+    pub fn set_stock(&mut self, stock: Option<ShownStock>)
+        ensures { self.new ≡ record self.old { stock = stock } }
+    {
+        self.stock = stock;
     }
 }
 
@@ -248,38 +346,77 @@ impl TraceState {
         }
     }
 
-    // The places of the frames.
-    pub(crate) fn places(&self) -> &[ShownPlace]
+    /// The places of the frames.
+    pub fn places(&self) -> &[ShownPlace]
         ensures { result.now ≡ self.now.places }
     {
         &self.places
     }
 
-    // The flags of the frames.
-    pub(crate) fn flags(&self) -> &[Flags]
+    /// The flags of the frames.
+    pub fn flags(&self) -> &[Flags]
         ensures { result.now ≡ self.now.flags }
     {
         &self.flags
     }
 
-    // The groups.
-    pub(crate) fn groups(&self) -> &[ShownGroup]
+    /// The groups.
+    pub fn groups(&self) -> &[ShownGroup]
         ensures { result.now ≡ self.now.groups }
     {
         &self.groups
     }
 
-    // The CPUs.
-    pub(crate) fn cpus(&self) -> &[ShownCpu]
+    /// The CPUs.
+    pub fn cpus(&self) -> &[ShownCpu]
         ensures { result.now ≡ self.now.cpus }
     {
         &self.cpus
     }
 
-    // The counts.
-    pub(crate) fn counts(&self) -> ShownCounts
+    /// The counts.
+    pub fn counts(&self) -> ShownCounts
         ensures { result ≡ self.now.counts }
     {
         self.counts
+    }
+
+    /// Swaps the places of the frames for these.
+    pub fn swap_places(&mut self, places: &mut Vec<ShownPlace>)
+        ensures state { self.new ≡ record self.old { places = places.old.items } }
+        ensures places { places.new.items ≡ self.old.places }
+    {
+        mem::swap(&mut self.places, places);
+    }
+
+    /// Swaps the flags of the frames for these.
+    pub fn swap_flags(&mut self, flags: &mut Vec<Flags>)
+        ensures state { self.new ≡ record self.old { flags = flags.old.items } }
+        ensures flags { flags.new.items ≡ self.old.flags }
+    {
+        mem::swap(&mut self.flags, flags);
+    }
+
+    /// Swaps the groups for these.
+    pub fn swap_groups(&mut self, groups: &mut Vec<ShownGroup>)
+        ensures state { self.new ≡ record self.old { groups = groups.old.items } }
+        ensures groups { groups.new.items ≡ self.old.groups }
+    {
+        mem::swap(&mut self.groups, groups);
+    }
+
+    /// Swaps the CPUs for these.
+    pub fn swap_cpus(&mut self, cpus: &mut Vec<ShownCpu>)
+        ensures state { self.new ≡ record self.old { cpus = cpus.old.items } }
+        ensures cpus { cpus.new.items ≡ self.old.cpus }
+    {
+        mem::swap(&mut self.cpus, cpus);
+    }
+
+    /// Sets the counts.
+    pub fn set_counts(&mut self, counts: ShownCounts)
+        ensures { self.new ≡ record self.old { counts = counts } }
+    {
+        self.counts = counts;
     }
 }
