@@ -37,7 +37,7 @@ kills_come_last MayAsk t start cpu steps before rest made g none is kills =
             let counted = may.tied.misses f in
             omega (arith, rose, counted);
         chosen = may.chosen;
-        head_is = may.head_is;
+        killed_root_is = may.killed_root_is;
       };
       set_is = after.set_is;
     }

@@ -22,7 +22,7 @@ use Rattle.mem_machine.specs.Local.{MakesForAny, visit_state}
 use Rattle.mem_machine.specs.Steps.{note_oom_steps}
 use Rattle.mem_reclaim.specs.declared.sets.Killed.{Killed}
 use Rattle.mem_reclaim.specs.Killing.{IsKilledBy, OnlyDrains, OnlyReleases, with_all_killed}
-use Rattle.mem_reclaim.specs.Sets.{IsHead, kill_set}
+use Rattle.mem_reclaim.specs.Sets.{IsKilledRoot, kill_set}
 use Rattle.mem_reclaim.specs.Victim.{IsVictim}
 use Rattle.mem_reclaim.proofs.Choosing.{chosen_there}
 use Rattle.mem_reclaim.proofs.Dying.{victims_die}
@@ -146,7 +146,7 @@ all_marked (x ∷ groups) marks v (suc k) inside low is =
     all_marked groups (slice_set marks x true) v k (omega (arith, inside, long)) (omega (arith, low)) is
 
 pub fewer_alive : (t : KnownTable) (w : KnownStockTable) (m n : KnownMachine) (g : ℕ) (killed : Killed) → IsConsistent t w m → AreCharges m.ledger
-    → IsVictim m g (Some killed.victim) → IsHead m.ledger.groups g killed → n.killed ≡ with_all_killed m.killed (kill_set m killed)
+    → IsVictim m g (Some killed.victim) → IsKilledRoot m.ledger.groups g killed → n.killed ≡ with_all_killed m.killed (kill_set m killed)
     → count_alive n < count_alive m
 fewer_alive t w m n g killed whole charges most head marked =
     let v = killed.victim in
@@ -156,7 +156,7 @@ fewer_alive t w m n g killed whole charges most head marked =
     let many = whole.sizes.killed in
     let inside : v < length m.killed = omega (arith, low, many) in
     let alive : is_killed m.killed v ≡ false = not-true (is_killed m.killed v) (and_parts (in_subtree m.ledger.groups g v) _ most.chosen).1 in
-    let dies = victims_die m g killed (record { groups = charges.groups; chosen = most; head_is = head }) in
+    let dies = victims_die m g killed (record { groups = charges.groups; chosen = most; killed_root_is = head }) in
     let dead : is_killed now v ≡ true = all_marked groups m.killed v dies.0 inside dies.1 dies.2 in
     subst (λ (k : List Bool). sum_to 64 (alive_at k) < count_alive m) (sym marked)
     (sum_less 64 (alive_at now) (alive_at m.killed) v low

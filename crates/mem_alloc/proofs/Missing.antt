@@ -55,7 +55,7 @@ pub counts_as : (t : KnownTable) (m n : KnownMachine) (steps told : Run) → ste
 counts_as t m n steps told is h = subst (λ (k : Run). CountsMisses (transition t m k n)) (sym is) h
 
 abbrev pub calm : AreQuiet []
-calm = record { quiet = refl; no_miss = λ f. refl }
+calm = record { no_kill = refl; no_miss = λ f. refl }
 
 pub counts_rest : (t : KnownTable) (m n : KnownMachine) (steps : Run) → n ≡ m → steps ≡ [] → CountsMisses (transition t m steps n)
 counts_rest t m n steps same none =
@@ -94,7 +94,7 @@ counts_kills r t g pages m n steps k = elim (cases_Bool (has_room_at m.ledger g 
       let h = k.over over in
       let x = with_watch (with_oom_noted_at m g) h.seen in
       counts_as t m n steps (note_oom_steps g ++ h.killing) h.steps_are (counts_both t m x n (note_oom_steps g) h.killing
-      (counts_same t m x (note_oom_steps g) (record { quiet = refl; no_miss = λ f. refl }) refl) (counts_each r t g pages h.victims x n h.killing h.kills))
+      (counts_same t m x (note_oom_steps g) (record { no_kill = refl; no_miss = λ f. refl }) refl) (counts_each r t g pages h.victims x n h.killing h.kills))
 ]
 
 counts_few : (t : KnownTable) (r g pages : ℕ) (m n : KnownMachine) (steps : Run) → KillsForFewPages r g pages (transition t m steps n) → CountsMisses (transition t m steps n)
@@ -108,7 +108,7 @@ counts_few t r g pages m n steps k = elim (cases_lt 8 pages) [
 counts_clear : (t : KnownTable) (g pages : ℕ) (m n : KnownMachine) (steps : Run) → ClearsBelow g pages (transition t m steps n) → CountsMisses (transition t m steps n)
 counts_clear t g pages m n steps h =
     let x = with_watch (with_max_noted_at m g pages) h.seen in
-    let note = counts_same t m x (note_max_steps g) (record { quiet = refl; no_miss = λ f. refl }) refl in
+    let note = counts_same t m x (note_max_steps g) (record { no_kill = refl; no_miss = λ f. refl }) refl in
     counts_as t m n steps (note_max_steps g ++ drain_stocks_steps h.drains) h.steps_are
     (counts_both t m x n (note_max_steps g) (drain_stocks_steps h.drains) note (counts_drains t g t.cpus x n h.drains h.all))
 
@@ -124,7 +124,7 @@ counts_relief t r g pages m n steps h =
     (counts_both t x y n next.earlier next.later next.first.moves.misses (counts_few t r g pages y n next.later next.second))))
 
 over_counts : (t : KnownTable) (g pages over : ℕ) (m : KnownMachine) (w : KnownWatch) → CountsMisses (transition t m (over_steps g pages over) (with_watch m w))
-over_counts t g pages over m w = counts_same t m (with_watch m w) (over_steps g pages over) (record { quiet = refl; no_miss = λ f. refl }) refl
+over_counts t g pages over m w = counts_same t m (with_watch m w) (over_steps g pages over) (record { no_kill = refl; no_miss = λ f. refl }) refl
 
 counts_refused : (t : KnownTable) (g pages over : ℕ) (answer : Result (Unit {0}) AllocFault) (m n : KnownMachine) (steps : Run)
     → IsRefusedAt g over pages answer (transition t m steps n) → CountsMisses (transition t m steps n)
@@ -144,11 +144,11 @@ counts_room t g pages (over ∷ later) m n steps h =
 
 pub refill_calm : (p : ℕ) (frames : List ℕ) → AreQuiet (refill_steps p frames)
 refill_calm p [] = calm
-refill_calm p (f ∷ frames) = quiet_both (lend_steps p f) (refill_steps p frames) (record { quiet = refl; no_miss = λ g. refl }) (refill_calm p frames)
+refill_calm p (f ∷ frames) = quiet_both (lend_steps p f) (refill_steps p frames) (record { no_kill = refl; no_miss = λ g. refl }) (refill_calm p frames)
 
 pub back_calm : (p : ℕ) (frames : List ℕ) → AreQuiet (drain_list_steps p frames)
 back_calm p [] = calm
-back_calm p (f ∷ frames) = quiet_both (unlist_steps p f) (drain_list_steps p frames) (record { quiet = refl; no_miss = λ g. refl }) (back_calm p frames)
+back_calm p (f ∷ frames) = quiet_both (unlist_steps p f) (drain_list_steps p frames) (record { no_kill = refl; no_miss = λ g. refl }) (back_calm p frames)
 
 lent_same : (frames : List ℕ) (m n : VisitState) → LendsMany frames m n → (g : ℕ) → misses_of n.machine.frame_seat g ≡ misses_of m.machine.frame_seat g
 lent_same [] m n h g = ap (λ (x : KnownMachine). misses_of x.frame_seat g) h.machine
@@ -264,7 +264,7 @@ stock_counts : (g pages : ℕ) → AllCounted (FillsStock g pages)
 stock_counts g pages call h =
     let last = fill_steps call.before.cpu.number g pages in
     counts_as call.table call.before.machine call.after.machine call.steps last h.steps_are
-    (counts_same call.table call.before.machine call.after.machine last (record { quiet = refl; no_miss = λ f. refl })
+    (counts_same call.table call.before.machine call.after.machine last (record { no_kill = refl; no_miss = λ f. refl })
     (ap (λ (x : KnownMachine). x.frame_seat) h.fills.machine))
 
 one_counts : (g : ℕ) (answer : Result (Unit {0}) AllocFault) → AllCounted (ChargesOne g answer)
@@ -310,7 +310,7 @@ frame_counts sizes g (Ok f) call all =
     counts_as t m n call.steps (h.paying ++ (h.filling ++ last)) h.steps_are (counts_both t m x n h.paying (h.filling ++ last)
     (pays_count sizes g (Ok tt) (transition t call.before h.paying h.paid) h.pays) (counts_both t x y n h.filling last
     (fills_count sizes (Ok tt) (transition t h.paid h.filling h.filled) h.fills)
-    (counts_same t y n last (record { quiet = refl; no_miss = λ f. refl }) (ap (λ (k : KnownMachine). k.frame_seat) h.takes.machine))))
+    (counts_same t y n last (record { no_kill = refl; no_miss = λ f. refl }) (ap (λ (k : KnownMachine). k.frame_seat) h.takes.machine))))
 frame_counts sizes g (Err (Over over)) call h = pays_count sizes g (Err (Over over)) call h.does
 frame_counts sizes g (Err NoFrames) call h =
     counts_turns (PaysForFrame sizes g (Ok tt)) (FillsList sizes (Err NoFrames)) (pays_count sizes g (Ok tt))
@@ -322,7 +322,7 @@ frame_counts sizes g (Err RequesterKilled) call (inr h) = pays_count sizes g (Er
 
 taken_counts : (t : KnownTable) (g k head : ℕ) (m n : KnownMachine) → ((f : ℕ) → misses_of n.frame_seat f ≡ misses_of m.frame_seat f)
     → CountsMisses (transition t m (taken_steps g k head) n)
-taken_counts t g k head m n same = counts_none t m n (taken_steps g k head) (record { quiet = refl; no_miss = λ f. refl }) same
+taken_counts t g k head m n same = counts_none t m n (taken_steps g k head) (record { no_kill = refl; no_miss = λ f. refl }) same
 
 takes_count : (g k head : ℕ) → AllCounted (TakesFreeBlock g k head)
 takes_count g k head call h =
@@ -336,7 +336,7 @@ finds_none_counts g k call h =
     let m = call.before.machine in
     let n = call.after.machine in
     counts_as call.table m n call.steps (unplaced_steps g k) h.steps_are
-    (counts_same call.table m n (unplaced_steps g k) (record { quiet = refl; no_miss = λ f. refl }) (ap (λ (x : KnownMachine). x.frame_seat) h.none.machine))
+    (counts_same call.table m n (unplaced_steps g k) (record { no_kill = refl; no_miss = λ f. refl }) (ap (λ (x : KnownMachine). x.frame_seat) h.none.machine))
 
 take_rounds_count : (g k : ℕ) (answer : Result ℕ AllocFault) → AllCounted (MakesTakeRounds g k answer)
 take_rounds_count g k (Ok head) call h =

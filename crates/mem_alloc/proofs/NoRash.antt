@@ -29,7 +29,7 @@ use Rattle.mem_machine.proofs.Reaching.{run_both}
 use Rattle.mem_reclaim.specs.declared.sets.Killed.{Killed}
 use Rattle.mem_reclaim.specs.Moves.{has_kill, is_kill, killed_by, kills_in, missed_in}
 use Rattle.mem_reclaim.specs.Staying.{Keeps, MissedAll}
-use Rattle.mem_reclaim.specs.Killing.{IsKilledBy, KillsGroups, KillsHeadOrVictim, OnlyDrains, OnlyReleases}
+use Rattle.mem_reclaim.specs.Killing.{IsKilledBy, KillsGroups, KillsRootOrVictim, OnlyDrains, OnlyReleases}
 use Rattle.mem_reclaim.specs.Sets.{alive_below, group_kill_note, kill_set}
 use Rattle.mem_reclaim.specs.Victim.{victim_note}
 use Rattle.mem_reclaim.proofs.KillSets.{kills_both, missed_both}
@@ -127,10 +127,10 @@ subtree_first t g head (v ∷ groups) m steps n h =
     inr (begins_longer steps (note_group_kill_steps head) all)
 
 set_first : (flag : Bool) (t : KnownTable) (g : ℕ) (killed : Killed) (m : KnownMachine) (steps : Run) (n : KnownMachine)
-    → KillsHeadOrVictim flag t g killed m steps n → KillsFirst steps
+    → KillsRootOrVictim flag t g killed m steps n → KillsFirst steps
 set_first true t g killed m steps n h =
     subst (λ (k : Run). KillsFirst k) (sym h.steps_are)
-    (subtree_first t g killed.head (alive_below m killed.head) (with_note m (group_kill_note m killed.head)) h.killing h.between h.kills)
+    (subtree_first t g killed.killed_root (alive_below m killed.killed_root) (with_note m (group_kill_note m killed.killed_root)) h.killing h.between h.kills)
 set_first false t g killed m steps n h = inr (ap begins_with_kill h.kills.steps_are)
 
 -- ---- lists of local steps
@@ -407,7 +407,7 @@ module _ (t : KnownTable) (MayAsk : List Group → ℕ → ℕ → Type 0) (s : 
     drained = ready.drained;
     missed = ready.missed;
     chosen = one.chosen;
-    head_is = one.kills.head_is;
+    killed_root_is = one.kills.killed_root_is;
     stock_table = one.stock_table;
     consistent = one.consistent;
     charges = one.charges;
@@ -418,7 +418,7 @@ module _ (t : KnownTable) (MayAsk : List Group → ℕ → ℕ → Type 0) (s : 
       → MayAsk m.ledger.groups g pages → Ready g made m → KillsOneVictim r g pages killed (transition t m steps n) → Tame made m steps n
   tame_one r g pages killed made m steps n asked ready one =
       let may = may_kill r g pages killed made m steps n asked ready one in
-      let first = set_first (is_oom_group m.ledger.groups killed.head) t g killed (with_note m (victim_note m g killed.victim one.kills.next))
+      let first = set_first (is_oom_group m.ledger.groups killed.killed_root) t g killed (with_note m (victim_note m g killed.victim one.kills.next))
       one.kills.steps n one.kills.kills in
       subst (λ (k : Run). Tame made m k n) (sym one.steps_are) (record {
         rash = rash_set made one.kills.steps m killed ready.since.runs may first one.kills.these.killed;
@@ -442,7 +442,7 @@ module _ (t : KnownTable) (MayAsk : List Group → ℕ → ℕ → Type 0) (s : 
       → Passes t c s made m → AreDrained g t.cpus m → MissedAll g s m → KillsUntilRoom r g pages (transition t m steps n) → Tame made m steps n
   tame_victims r g pages made m steps n asked since drained missed h =
       let x = with_watch (with_oom_noted_at m g) h.seen in
-      let note = passes_same t c m x (note_oom_steps g) (h.notes c).leads refl refl (record { quiet = refl; no_miss = λ f. refl }) in
+      let note = passes_same t c m x (note_oom_steps g) (h.notes c).leads refl refl (record { no_kill = refl; no_miss = λ f. refl }) in
       let ready : Ready g (made ++ note_oom_steps g) x = record {
         since = passes_both t c s m x made (note_oom_steps g) since note;
         noted = noted_last g made (note_oom_steps g) (or_left (g == g) false (eq-eqb g g refl));
@@ -478,14 +478,14 @@ module _ (t : KnownTable) (MayAsk : List Group → ℕ → ℕ → Type 0) (s : 
   clears_tame : (g pages : ℕ) (made : Run) (m : KnownMachine) (steps : Run) (n : KnownMachine) → ClearsBelow g pages (transition t m steps n) → Tame made m steps n
   clears_tame g pages made m steps n h =
       let same = all_same g t.cpus (with_watch (with_max_noted_at m g pages) h.seen) n h.drains h.all in
-      let quiet = quiet_both (note_max_steps g) (drain_stocks_steps h.drains) (record { quiet = refl; no_miss = λ f. refl }) (quiet_drains h.drains) in
+      let quiet = quiet_both (note_max_steps g) (drain_stocks_steps h.drains) (record { no_kill = refl; no_miss = λ f. refl }) (quiet_drains h.drains) in
       let here = subst AreQuiet (sym h.steps_are) quiet in
-      tame_quiet made m steps n (passes_same t c m n steps (h.runs c).leads same.frame_seat same.links here) same.groups here.quiet
+      tame_quiet made m steps n (passes_same t c m n steps (h.runs c).leads same.frame_seat same.links here) same.groups here.no_kill
 
   reclaims_tame : (g pages : ℕ) (made : Run) (m : KnownMachine) (steps : Run) (n : KnownMachine) → ReclaimsFor g pages (transition t m steps n)
       → Tame made m steps n
   reclaims_tame g pages made m steps n h =
-      tame_quiet made m steps n (keeps_pass t c m n steps h.moves.runs h.keeps h.moves.misses) h.keeps.groups h.moves.quiet
+      tame_quiet made m steps n (keeps_pass t c m n steps h.moves.runs h.keeps h.moves.misses) h.keeps.groups h.moves.no_kill
 
   few_tame : (r g pages : ℕ) (made : Run) (m : KnownMachine) (steps : Run) (n : KnownMachine) → (pages ≤ 8 → MayAsk m.ledger.groups g pages)
       → Passes t c s made m → AreDrained g t.cpus m → (has_room_at m.ledger g pages ≡ false → MissedAll g s m)
@@ -524,7 +524,7 @@ module _ (t : KnownTable) (MayAsk : List Group → ℕ → ℕ → Type 0) (s : 
         let grant = over_runs c.number g pages over (h.relieving ++ rest) (local_of t m c) z
         (subst (λ (k : Run). IsLocalRun c.number (local_of t m c) (k ++ rest) z) h.steps_are whole) in
         let x = with_watch m h.seen in
-        let refused = passes_same t c m x first grant refl refl (record { quiet = refl; no_miss = λ f. refl }) in
+        let refused = passes_same t c m x first grant refl refl (record { no_kill = refl; no_miss = λ f. refl }) in
         let here : in_subtree base over g ≡ true = ap (λ (l : List Group). in_subtree l over g) (sym is) ∙ h.lowest.on_path in
         let asked = λ (few : pages ≤ 8). subst (λ (l : List Group). MayAsk l over pages) (sym is) (asks over here few) in
         let relieved = relieves_tame g over pages (made ++ first) x h.relieving n asked (passes_both t c s m x made first since refused) h.relieves in

@@ -50,7 +50,7 @@ module _ (want : ℕ) (Fails : Transition VisitState → Type 0) (failing : AllQ
   round_quiet : (number freed : ℕ) (Tries : Transition VisitState → Type 0) → AllQuiet Tries → (call : Transition VisitState)
       → MakesRound number want freed Tries call → has_kill call.steps ≡ false
   round_quiet number freed Tries trying call h =
-      ap has_kill h.steps_are ∙ no_kill_both h.reclaiming h.trying h.moves.quiet
+      ap has_kill h.steps_are ∙ no_kill_both h.reclaiming h.trying h.moves.no_kill
       (trying (transition call.table (visit_state h.reclaimed call.before.cpu) h.trying call.after) h.tries)
 
   gives_quiet : (number : ℕ) → AllQuiet (FreesInRound number want Fails)
@@ -77,14 +77,14 @@ noted_quiet order Does quiet call h =
 -- ---- a frame of the list
 
 lends_quiet : (batch : ℕ) → AllQuiet (LendsBatch batch)
-lends_quiet batch call h = ap has_kill h.steps_are ∙ (refill_calm call.before.cpu.number h.frames).quiet
+lends_quiet batch call h = ap has_kill h.steps_are ∙ (refill_calm call.before.cpu.number h.frames).no_kill
 
 lends_none_quiet : AllQuiet LendsNoFrame
 lends_none_quiet call h = ap has_kill h.does.steps_are
 
 drains_quiet : AllQuiet DrainsStock
 drains_quiet call h =
-    ap has_kill h.steps_are ∙ (quiet_drain call.before.cpu.number (stock_group call.before.machine call.before.cpu.number) h.drained).quiet
+    ap has_kill h.steps_are ∙ (quiet_drain call.before.cpu.number (stock_group call.before.machine call.before.cpu.number) h.drained).no_kill
 
 refills_quiet : (batch : ℕ) (filled : Bool) → AllQuiet (RefillsInRounds batch filled)
 refills_quiet batch true = noted_quiet 0 (MakesRefillRounds batch true) (succeeds_quiet 1 LendsNoFrame lends_none_quiet 16 (LendsBatch batch) (lends_quiet batch))
@@ -129,7 +129,7 @@ or_reclaims_quiet g k answer call (inr h) =
 drained_quiet : (g k : ℕ) (answer : Result ℕ AllocFault) → AllQuiet (TakesAfterDrain g k answer)
 drained_quiet g k answer call h =
     ap has_kill h.steps_are ∙ no_kill_both (drain_list_steps call.before.cpu.number call.before.cpu.list) h.later
-    (back_calm call.before.cpu.number call.before.cpu.list).quiet
+    (back_calm call.before.cpu.number call.before.cpu.list).no_kill
     (or_reclaims_quiet g k answer (transition call.table (visit_state h.drained call.after.cpu) h.later call.after) h.takes)
 
 -- ---- the whole of an allocation
@@ -160,7 +160,7 @@ module _ (t : KnownTable) (MayAsk : List Group → ℕ → ℕ → Type 0) (s : 
         let all = subst (λ (k : Run). IsLocalRun c.number (local_of t x c) (k ++ rest) z) h.steps_are whole in
         let grant = over_runs c.number g sizes.stock h.over (h.later ++ rest) (local_of t x c) z all in
         let y = with_watch x h.seen in
-        let refused = passes_same t c x y first grant refl refl (record { quiet = refl; no_miss = λ f. refl }) in
+        let refused = passes_same t c x y first grant refl refl (record { no_kill = refl; no_miss = λ f. refl }) in
         let on = run_rest c.number first (h.later ++ rest) (local_of t x c) (local_of t x c) z grant all in
         subst (λ (k : Run). RashFree t MayAsk s c made k) (sym h.steps_are) (rash_both t MayAsk s c made first h.later
         (rash_quiet t MayAsk s c made first refl)

@@ -17,7 +17,7 @@ use Rattle.mem_machine.specs.Local.{IsLocalRun, VisitState, local_of}
 use Rattle.mem_machine.specs.Stocks.{AreDrained}
 use Rattle.mem_reclaim.specs.declared.sets.Killed.{Killed}
 use Rattle.mem_reclaim.specs.Moves.{kills_in, missed_in}
-use Rattle.mem_reclaim.specs.Sets.{IsHead, kill_set}
+use Rattle.mem_reclaim.specs.Sets.{IsKilledRoot, kill_set}
 use Rattle.mem_reclaim.specs.Victim.{IsVictim}
 use Rattle.mem_alloc.specs.Frames.{HasNoFreeFrame, LendsBatch}
 use Rattle.mem_alloc.specs.Kills.{IsAlive, KillsForRoom, has_room_at}
@@ -27,7 +27,7 @@ use Rattle.mem_alloc.specs.Stepping.{Transition}
 -- By these first steps of a call, everything else was tried for the limit of the group `limited`, which has no room.
 -- The steps lead to a consistent machine. One of them notes `oom` there, and each stock of the subtree is drained. For
 -- each clean unit that the subtree still keeps, one of these steps is a freeze that missed. `killed` is the victim for
--- this limit, with its head.
+-- this limit, with its killed root.
 pub record WasLast (MayAsk : List Group → ℕ → ℕ → Type 0) (table : KnownTable) (start : KnownMachine) (cpu : KnownCpu)
     (tried : Run) (killed : Killed) : Type 0 where
   pub now : KnownMachine
@@ -44,7 +44,7 @@ pub record WasLast (MayAsk : List Group → ℕ → ℕ → Type 0) (table : Kno
   pub frozen : (frame : ℕ) (home : Home) → in_subtree now.ledger.groups limited home.owner ≡ true
       → home_of now.links frame ≡ Some home → (link_at now.links frame).is_dirty ≡ false → 1 ≤ missed_in frame tried
   pub chosen : IsVictim now limited (Some killed.victim)
-  pub head_is : IsHead now.ledger.groups limited killed
+  pub killed_root_is : IsKilledRoot now.ledger.groups limited killed
 
 -- The group dies with a victim, after these steps of a call. The steps `tried` came before the first kill of the set,
 -- when everything else was tried. The groups killed since are the beginning of the set, and this group is next.

@@ -20,7 +20,7 @@ use Rattle.mem_machine.specs.Local.{IsLocalRun, local_of}
 use Rattle.mem_machine.specs.Stocks.{AreDrained}
 use Rattle.mem_reclaim.specs.declared.sets.Killed.{Killed}
 use Rattle.mem_reclaim.specs.Moves.{is_kill, kills_in}
-use Rattle.mem_reclaim.specs.Sets.{IsHead, kill_set}
+use Rattle.mem_reclaim.specs.Sets.{IsKilledRoot, kill_set}
 use Rattle.mem_reclaim.specs.Staying.{MissedAll}
 use Rattle.mem_reclaim.specs.Victim.{IsVictim}
 use Rattle.mem_alloc.specs.Kills.{has_room_at, most_killed_for}
@@ -55,8 +55,8 @@ pub record IsChargedBelow (group pages : ℕ) (groups : List Group) (limited nee
 -- After these steps of a call, the victim and all groups that die with it may be killed for the limit of the group
 -- `limited`. The limit has no room for the needed pages, and a step noted `oom` there. Each stock of the subtree is
 -- drained. Since the call began, a freeze of each clean unit that the subtree still keeps missed. `killed` is the
--- victim for this limit, with its head. The machine is consistent, its charges add up, and it is the one that the steps
--- left.
+-- victim for this limit, with its killed root. The machine is consistent, its charges add up, and it is the one that
+-- the steps left.
 pub record MayKill (MayAsk : List Group → ℕ → ℕ → Type 0) (call : Transition KnownMachine)
     (killed : Killed) : Type 0 where
   pub limited : ℕ
@@ -67,7 +67,7 @@ pub record MayKill (MayAsk : List Group → ℕ → ℕ → Type 0) (call : Tran
   pub drained : AreDrained limited call.table.cpus call.after
   pub missed : MissedAll limited call.before call.after
   pub chosen : IsVictim call.after limited (Some killed.victim)
-  pub head_is : IsHead call.after.ledger.groups limited killed
+  pub killed_root_is : IsKilledRoot call.after.ledger.groups limited killed
   pub stock_table : KnownStockTable
   pub consistent : IsConsistent call.table stock_table call.after
   pub charges : AreCharges call.after.ledger

@@ -11,47 +11,47 @@ use Rattle.mem_reclaim.specs.Victim.{may_be_killed}
 
 -- those with a number below k
 abbrev pub alive_to : KnownMachine → ℕ → ℕ → List ℕ
-alive_to m head k = filter (may_be_killed m head) (range_with_len 0 k)
+alive_to m root k = filter (may_be_killed m root) (range_with_len 0 k)
 
-pub alive_next : (m : KnownMachine) (head k : ℕ) → alive_to m head (k + 1) ≡ alive_to m head k ++ cond (may_be_killed m head k) (k ∷ []) []
-alive_next m head k =
-    let p = may_be_killed m head in
+pub alive_next : (m : KnownMachine) (root k : ℕ) → alive_to m root (k + 1) ≡ alive_to m root k ++ cond (may_be_killed m root k) (k ∷ []) []
+alive_next m root k =
+    let p = may_be_killed m root in
     sym (ap (filter p) (map-id (range_with_len 0 (k + 1))))
     ∙ filter_of_map_range_with_len_more p (λ (x : ℕ). x) 0 k k (omega arith)
     ∙ ap (λ (l : List ℕ). filter p l ++ cond (p k) (k ∷ []) []) (map-id (range_with_len 0 k))
 
 -- group k is one of them
-pub alive_more : (m : KnownMachine) (head k : ℕ) → may_be_killed m head k ≡ true → alive_to m head (k + 1) ≡ alive_to m head k ++ k ∷ []
-alive_more m head k is =
-    alive_next m head k ∙ ap (λ (l : List ℕ). alive_to m head k ++ l) (cond-true (may_be_killed m head k) (k ∷ []) [] is)
+pub alive_more : (m : KnownMachine) (root k : ℕ) → may_be_killed m root k ≡ true → alive_to m root (k + 1) ≡ alive_to m root k ++ k ∷ []
+alive_more m root k is =
+    alive_next m root k ∙ ap (λ (l : List ℕ). alive_to m root k ++ l) (cond-true (may_be_killed m root k) (k ∷ []) [] is)
 
 -- group k isn't
-pub alive_same : (m : KnownMachine) (head k : ℕ) → may_be_killed m head k ≡ false → alive_to m head (k + 1) ≡ alive_to m head k
-alive_same m head k is =
-    alive_next m head k ∙ ap (λ (l : List ℕ). alive_to m head k ++ l) (cond-false (may_be_killed m head k) (k ∷ []) [] is)
-    ∙ append-nil (alive_to m head k)
+pub alive_same : (m : KnownMachine) (root k : ℕ) → may_be_killed m root k ≡ false → alive_to m root (k + 1) ≡ alive_to m root k
+alive_same m root k is =
+    alive_next m root k ∙ ap (λ (l : List ℕ). alive_to m root k ++ l) (cond-false (may_be_killed m root k) (k ∷ []) [] is)
+    ∙ append-nil (alive_to m root k)
 
 -- ---- how many they are
 
-pub record AliveTo (m : KnownMachine) (head k count : ℕ) : Type 0 where
-  pub all : count ≡ length (alive_to m head k)
+pub record AliveTo (m : KnownMachine) (root k count : ℕ) : Type 0 where
+  pub all : count ≡ length (alive_to m root k)
   pub few : count ≤ k
 
-pub alive_none : (m : KnownMachine) (head : ℕ) → AliveTo m head 0 0
-alive_none m head = record { all = refl; few = omega arith }
+pub alive_none : (m : KnownMachine) (root : ℕ) → AliveTo m root 0 0
+alive_none m root = record { all = refl; few = omega arith }
 
-pub alive_counted : (m : KnownMachine) (head k count : ℕ) → AliveTo m head k count → may_be_killed m head k ≡ true → AliveTo m head (k + 1) (count + 1)
-alive_counted m head k count so is =
+pub alive_counted : (m : KnownMachine) (root k count : ℕ) → AliveTo m root k count → may_be_killed m root k ≡ true → AliveTo m root (k + 1) (count + 1)
+alive_counted m root k count so is =
     let all = so.all in
     let few = so.few in
-    let more = ap length (alive_more m head k is) in
-    let sum = length-append (alive_to m head k) (k ∷ []) in
+    let more = ap length (alive_more m root k is) in
+    let sum = length-append (alive_to m root k) (k ∷ []) in
     record { all = omega (arith, all, more, sum); few = omega (arith, few) }
 
-pub alive_skipped : (m : KnownMachine) (head k count : ℕ) → AliveTo m head k count → may_be_killed m head k ≡ false → AliveTo m head (k + 1) count
-alive_skipped m head k count so is =
+pub alive_skipped : (m : KnownMachine) (root k count : ℕ) → AliveTo m root k count → may_be_killed m root k ≡ false → AliveTo m root (k + 1) count
+alive_skipped m root k count so is =
     let few = so.few in
-    record { all = so.all ∙ sym (ap length (alive_same m head k is)); few = omega (arith, few) }
+    record { all = so.all ∙ sym (ap length (alive_same m root k is)); few = omega (arith, few) }
 
-pub alive_all : (m : KnownMachine) (head k count : ℕ) → AliveTo m head k count → k ≡ 64 → count ≡ length (alive_below m head)
-alive_all m head k count so all = so.all ∙ ap (λ (x : ℕ). length (alive_to m head x)) all
+pub alive_all : (m : KnownMachine) (root k count : ℕ) → AliveTo m root k count → k ≡ 64 → count ≡ length (alive_below m root)
+alive_all m root k count so all = so.all ∙ ap (λ (x : ℕ). length (alive_to m root x)) all

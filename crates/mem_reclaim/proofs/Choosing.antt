@@ -1,5 +1,5 @@
 -- Who has the most frames among the group numbers below some number, and how many may be killed. Serves `most_charged`,
--- `victim`, `next_after`, `candidates`.
+-- `victim`, `next_after`, `count_candidates`.
 use Rattle.std.proofs.Common.{◌≡◌, ℕ, suc, ◌+◌, ◌<◌, ◌≤◌, Bool, true, false, Option, Some, None, IsTrue, refl, ap, ◌∙◌, subst, arith}
 use Rattle.std.proofs.lemmas.Bool.{and_parts}
 use Rattle.std.specs.Prelude.{not}

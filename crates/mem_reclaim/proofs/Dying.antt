@@ -11,38 +11,38 @@ use Rattle.group_charge.proofs.KeptLemmas.{number_below}
 use Rattle.mem_machine.specs.Machines.{KnownMachine, is_killed}
 use Rattle.mem_reclaim.specs.declared.sets.Killed.{Killed}
 use Rattle.mem_reclaim.specs.Laws.{FlaggedGroupsDieWhole, IsChosen, IsWhole, OnlyTheLivingDie, VictimsDie}
-use Rattle.mem_reclaim.specs.Sets.{HasNoFlagged, IsHead, IsHighestFlagged, alive_below, kill_set}
+use Rattle.mem_reclaim.specs.Sets.{HasNoFlagged, IsKilledRoot, IsHighestFlagged, alive_below, kill_set}
 use Rattle.mem_reclaim.specs.Victim.{may_be_killed}
 use Rattle.mem_reclaim.proofs.Alive.{alive_more, alive_next, alive_to}
-use Rattle.mem_reclaim.proofs.Heads.{on_path_is, victim_unflagged}
+use Rattle.mem_reclaim.proofs.KilledRoots.{on_path_is, victim_unflagged}
 use Rattle.mem_reclaim.proofs.KillSets.{all_one}
 
 -- ---- the groups of a subtree that aren't killed
 
-alive_in : (m : KnownMachine) (head k j : ℕ) → j < k → may_be_killed m head j ≡ true → Contains (alive_to m head k) j
-alive_in m head zero j lt is = absurd (omega (arith, lt))
-alive_in m head (suc k) j lt is =
+alive_in : (m : KnownMachine) (root k j : ℕ) → j < k → may_be_killed m root j ≡ true → Contains (alive_to m root k) j
+alive_in m root zero j lt is = absurd (omega (arith, lt))
+alive_in m root (suc k) j lt is =
     let next : k + 1 ≡ suc k = omega arith in
-    subst (λ (n : ℕ). Contains (alive_to m head n) j) next (elim (cases_eq j k) [
+    subst (λ (n : ℕ). Contains (alive_to m root n) j) next (elim (cases_eq j k) [
       | inl e ↦
-          subst (λ (x : ℕ). Contains (alive_to m head (k + 1)) x) (sym e)
-          (subst (λ (l : List ℕ). Contains l k) (sym (alive_more m head k (subst (λ (x : ℕ). may_be_killed m head x ≡ true) e is)))
-          (Contains-push (alive_to m head k) k))
+          subst (λ (x : ℕ). Contains (alive_to m root (k + 1)) x) (sym e)
+          (subst (λ (l : List ℕ). Contains l k) (sym (alive_more m root k (subst (λ (x : ℕ). may_be_killed m root x ≡ true) e is)))
+          (Contains-push (alive_to m root k) k))
       | inr ne ↦
-          subst (λ (l : List ℕ). Contains l j) (sym (alive_next m head k))
-          (Contains-append_left (alive_to m head k) (cond (may_be_killed m head k) (k ∷ []) []) j (alive_in m head k j (omega (arith, lt, ne)) is))
+          subst (λ (l : List ℕ). Contains l j) (sym (alive_next m root k))
+          (Contains-append_left (alive_to m root k) (cond (may_be_killed m root k) (k ∷ []) []) j (alive_in m root k j (omega (arith, lt, ne)) is))
     ])
 
 module _ (m : KnownMachine) (limited : ℕ) (killed : Killed) (is : IsChosen m limited killed) where
-  low : (head j : ℕ) → may_be_killed m head j ≡ true → j < 64
-  low head j may = number_below m.ledger.groups j is.groups (in_subtree-below m.ledger.groups head j (and_parts (in_subtree m.ledger.groups head j) _ may).0)
+  low : (root j : ℕ) → may_be_killed m root j ≡ true → j < 64
+  low root j may = number_below m.ledger.groups j is.groups (in_subtree-below m.ledger.groups root j (and_parts (in_subtree m.ledger.groups root j) _ may).0)
 
-  in_set : (head j : ℕ) → may_be_killed m head j ≡ true → Contains (alive_below m head) j
-  in_set head j may = alive_in m head 64 j (low head j may) may
+  in_set : (root j : ℕ) → may_be_killed m root j ≡ true → Contains (alive_below m root) j
+  in_set root j may = alive_in m root 64 j (low root j may) may
 
-  of_set : (head j : ℕ) → Contains (alive_below m head) j → may_be_killed m head j ≡ true
-  of_set head j there =
-      All-contains (λ (x : ℕ). may_be_killed m head x ≡ true) (alive_below m head) j (filter_passes (may_be_killed m head) (range_with_len 0 64)) there
+  of_set : (root j : ℕ) → Contains (alive_below m root) j → may_be_killed m root j ≡ true
+  of_set root j there =
+      All-contains (λ (x : ℕ). may_be_killed m root x ≡ true) (alive_below m root) j (filter_passes (may_be_killed m root) (range_with_len 0 64)) there
 
   -- whoever may be killed for the lower of two groups may be killed for the higher one
   may_above : (g h j : ℕ) → in_subtree m.ledger.groups g h ≡ true → may_be_killed m h j ≡ true → may_be_killed m g j ≡ true
@@ -52,59 +52,61 @@ module _ (m : KnownMachine) (limited : ℕ) (killed : Killed) (is : IsChosen m l
 
   -- ---- with a flag
 
-  module _ (high : IsHighestFlagged m.ledger.groups limited killed.victim killed.head) where
-    set_all : kill_set m killed ≡ alive_below m killed.head
+  module _ (high : IsHighestFlagged m.ledger.groups limited killed.victim killed.killed_root) where
+    set_all : kill_set m killed ≡ alive_below m killed.killed_root
     set_all =
-        cond-true (is_oom_group m.ledger.groups killed.head) (alive_below m killed.head) (killed.victim ∷ [])
-        (on_path_is m.ledger.groups limited killed.victim killed.head high.between).flag
+        cond-true (is_oom_group m.ledger.groups killed.killed_root) (alive_below m killed.killed_root) (killed.victim ∷ [])
+        (on_path_is m.ledger.groups limited killed.victim killed.killed_root high.between).flag
 
-    whole_inside : (g : ℕ) → in_subtree m.ledger.groups killed.head g ≡ true → IsWhole m g (kill_set m killed)
+    whole_inside : (g : ℕ) → in_subtree m.ledger.groups killed.killed_root g ≡ true → IsWhole m g (kill_set m killed)
     whole_inside g inside = inl (λ other may.
-        subst (λ (l : List ℕ). Contains l other) (sym set_all) (in_set killed.head other (may_above killed.head g other inside may)))
+        subst (λ (l : List ℕ). Contains l other) (sym set_all) (in_set killed.killed_root other (may_above killed.killed_root g other inside may)))
 
     whole_outside : (g : ℕ) → in_subtree m.ledger.groups limited g ≡ true → is_oom_group m.ledger.groups g ≡ true
-        → in_subtree m.ledger.groups killed.head g ≡ false → IsWhole m g (kill_set m killed)
+        → in_subtree m.ledger.groups killed.killed_root g ≡ false → IsWhole m g (kill_set m killed)
     whole_outside g below flag outside = inr (λ other may there.
-        let dies = of_set killed.head other (subst (λ (l : List ℕ). Contains l other) set_all there) in
-        let under_head = (and_parts (in_subtree m.ledger.groups killed.head other) _ dies).0 in
+        let dies = of_set killed.killed_root other (subst (λ (l : List ℕ). Contains l other) set_all there) in
+        let under_root = (and_parts (in_subtree m.ledger.groups killed.killed_root other) _ dies).0 in
         let under_g = (and_parts (in_subtree m.ledger.groups g other) _ may).0 in
-        let inside : in_subtree m.ledger.groups killed.head g ≡ true = elim (either_above m.ledger.groups killed.head g other under_head under_g) [
+        let inside : in_subtree m.ledger.groups killed.killed_root g ≡ true = elim (either_above m.ledger.groups killed.killed_root g other under_root
+        under_g) [
           | inl is_inside ↦ is_inside
           | inr above ↦
-              let path = on_path_is m.ledger.groups limited killed.victim killed.head high.between in
+              let path = on_path_is m.ledger.groups limited killed.victim killed.killed_root high.between in
               high.highest g (and_from (in_subtree m.ledger.groups limited g && in_subtree m.ledger.groups g killed.victim) (is_oom_group m.ledger.groups g)
               (and_from (in_subtree m.ledger.groups limited g) (in_subtree m.ledger.groups g killed.victim) below
-              (in_subtree-trans m.ledger.groups g killed.head killed.victim above path.above)) flag)
+              (in_subtree-trans m.ledger.groups g killed.killed_root killed.victim above path.above)) flag)
         ] in
         true≢false (sym inside ∙ outside))
 
     flagged_whole : (g : ℕ) → in_subtree m.ledger.groups limited g ≡ true → is_oom_group m.ledger.groups g ≡ true → IsWhole m g (kill_set m killed)
-    flagged_whole g below flag = elim (cases_Bool (in_subtree m.ledger.groups killed.head g)) [
+    flagged_whole g below flag = elim (cases_Bool (in_subtree m.ledger.groups killed.killed_root g)) [
       | inl inside ↦ whole_inside g inside
       | inr outside ↦ whole_outside g below flag outside
     ]
 
     flagged_victim : Contains (kill_set m killed) killed.victim
     flagged_victim =
-        let path = on_path_is m.ledger.groups limited killed.victim killed.head high.between in
+        let path = on_path_is m.ledger.groups limited killed.victim killed.killed_root high.between in
         let may = and_parts (in_subtree m.ledger.groups limited killed.victim) (not (is_killed m.killed killed.victim)) is.chosen.chosen in
         subst (λ (l : List ℕ). Contains l killed.victim) (sym set_all)
-        (in_set killed.head killed.victim (and_from (in_subtree m.ledger.groups killed.head killed.victim) (not (is_killed m.killed killed.victim)) path.above may.1))
+        (in_set killed.killed_root killed.victim (and_from (in_subtree m.ledger.groups killed.killed_root killed.victim)
+        (not (is_killed m.killed killed.victim)) path.above may.1))
 
     flagged_living : (g : ℕ) → Contains (kill_set m killed) g → may_be_killed m limited g ≡ true
     flagged_living g there =
-        may_above limited killed.head g (on_path_is m.ledger.groups limited killed.victim killed.head high.between).below
-        (of_set killed.head g (subst (λ (l : List ℕ). Contains l g) set_all there))
+        may_above limited killed.killed_root g (on_path_is m.ledger.groups limited killed.victim killed.killed_root high.between).below
+        (of_set killed.killed_root g (subst (λ (l : List ℕ). Contains l g) set_all there))
 
   -- ---- without a flag
 
-  module _ (none : HasNoFlagged m.ledger.groups limited killed.victim) (itself : killed.head ≡ killed.victim) where
+  module _ (none : HasNoFlagged m.ledger.groups limited killed.victim) (itself : killed.killed_root ≡ killed.victim) where
     victim_below : in_subtree m.ledger.groups limited killed.victim ≡ true
     victim_below = (and_parts (in_subtree m.ledger.groups limited killed.victim) (not (is_killed m.killed killed.victim)) is.chosen.chosen).0
 
     set_alone : kill_set m killed ≡ killed.victim ∷ []
     set_alone =
-        cond-false (is_oom_group m.ledger.groups killed.head) (alive_below m killed.head) (killed.victim ∷ [])
+        cond-false (is_oom_group m.ledger.groups killed.killed_root) (alive_below m killed.killed_root) (killed.victim ∷ [])
         (ap (is_oom_group m.ledger.groups) itself ∙ victim_unflagged m.ledger.groups limited killed.victim victim_below none)
 
     only_victim : (g : ℕ) → Contains (kill_set m killed) g → g ≡ killed.victim
@@ -127,26 +129,26 @@ module _ (m : KnownMachine) (limited : ℕ) (killed : Killed) (is : IsChosen m l
 
 -- ---- the laws
 
-whole_by : (m : KnownMachine) (limited : ℕ) (killed : Killed) → IsChosen m limited killed → IsHead m.ledger.groups limited killed
+whole_by : (m : KnownMachine) (limited : ℕ) (killed : Killed) → IsChosen m limited killed → IsKilledRoot m.ledger.groups limited killed
     → (g : ℕ) → in_subtree m.ledger.groups limited g ≡ true → is_oom_group m.ledger.groups g ≡ true → IsWhole m g (kill_set m killed)
 whole_by m limited killed is (inl high) g below flag = flagged_whole m limited killed is high g below flag
 whole_by m limited killed is (inr alone) g below flag = alone_whole m limited killed is alone.0 alone.1 g below flag
 
-victim_by : (m : KnownMachine) (limited : ℕ) (killed : Killed) → IsChosen m limited killed → IsHead m.ledger.groups limited killed
+victim_by : (m : KnownMachine) (limited : ℕ) (killed : Killed) → IsChosen m limited killed → IsKilledRoot m.ledger.groups limited killed
     → Contains (kill_set m killed) killed.victim
 victim_by m limited killed is (inl high) = flagged_victim m limited killed is high
 victim_by m limited killed is (inr alone) = alone_victim m limited killed is alone.0 alone.1
 
-living_by : (m : KnownMachine) (limited : ℕ) (killed : Killed) → IsChosen m limited killed → IsHead m.ledger.groups limited killed
+living_by : (m : KnownMachine) (limited : ℕ) (killed : Killed) → IsChosen m limited killed → IsKilledRoot m.ledger.groups limited killed
     → (g : ℕ) → Contains (kill_set m killed) g → may_be_killed m limited g ≡ true
 living_by m limited killed is (inl high) g there = flagged_living m limited killed is high g there
 living_by m limited killed is (inr alone) g there = alone_living m limited killed is alone.0 alone.1 g there
 
 pub flagged_die_whole : FlaggedGroupsDieWhole
-flagged_die_whole m limited killed is g below flag = whole_by m limited killed is is.head_is g below flag
+flagged_die_whole m limited killed is g below flag = whole_by m limited killed is is.killed_root_is g below flag
 
 pub victims_die : VictimsDie
-victims_die m limited killed is = victim_by m limited killed is is.head_is
+victims_die m limited killed is = victim_by m limited killed is is.killed_root_is
 
 pub only_the_living : OnlyTheLivingDie
-only_the_living m limited killed is g there = living_by m limited killed is is.head_is g there
+only_the_living m limited killed is g there = living_by m limited killed is is.killed_root_is g there

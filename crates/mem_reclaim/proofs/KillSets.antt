@@ -24,14 +24,15 @@ use Rattle.mem_machine.specs.Stocks.{AreOwnDrained}
 use Rattle.mem_machine.proofs.Followed.{makes_both, makes_none}
 use Rattle.mem_reclaim.specs.declared.noting.GroupSnapshot.{GroupSnapshot}
 use Rattle.mem_reclaim.specs.declared.sets.Killed.{Killed}
-use Rattle.mem_reclaim.specs.Killing.{HasNoKeptUnit, IsKilledBy, KillsGroups, KillsHeadOrVictim, KillsGroupBySteps, KillsGroupNoted, KillsGroupsBySteps, KillsSubtree, AreKillsOf}
+use Rattle.mem_reclaim.specs.Killing.{HasNoKeptUnit, IsKilledBy, KillsGroups, KillsRootOrVictim, KillsGroupBySteps, KillsGroupNoted, KillsGroupsBySteps}
+use Rattle.mem_reclaim.specs.Killing.{KillsSubtree, AreKillsOf}
 use Rattle.mem_reclaim.specs.Killing.{OnlyDrains, OnlyReleases, snapshot_of, killed_note, with_all_killed}
 use Rattle.mem_reclaim.specs.KillNotes.{NotesVictim}
 use Rattle.mem_reclaim.specs.Moves.{Rises, has_kill, is_kill, is_miss, killed_by, kills_in, missed_in, returned_in}
-use Rattle.mem_reclaim.specs.Sets.{HasNoFlagged, IsHead, IsHighestFlagged, alive_below, group_kill_note, kill_set}
+use Rattle.mem_reclaim.specs.Sets.{HasNoFlagged, IsKilledRoot, IsHighestFlagged, alive_below, group_kill_note, kill_set}
 use Rattle.mem_reclaim.specs.Staying.{OnlyLeave}
 use Rattle.mem_reclaim.specs.Victim.{may_be_killed, victim_note}
-use Rattle.mem_reclaim.proofs.Heads.{on_path_is, victim_unflagged}
+use Rattle.mem_reclaim.proofs.KilledRoots.{on_path_is, victim_unflagged}
 use Rattle.mem_reclaim.proofs.Alive.{alive_more, alive_same, alive_to}
 use Rattle.mem_reclaim.proofs.LettingGo.{only_lets_both, only_lets_none, only_lets_same}
 use Rattle.mem_reclaim.proofs.Rising.{returned_both, rises_both, rises_none}
@@ -151,7 +152,7 @@ one_killed t limited g m b n had had_is kills marked drained stocks none_kept ke
         kills = record { killed = b; kills = kills.kills; noted = refl };
         runs = λ c. record { leads = (kills.runs c).leads; follows = (kills.runs c).follows; counts = (kills.runs c).counts; watched = (kills.runs c).watched };
         these = record {
-          killed = ap kills_in once.front ∙ ap (λ (l : List ℕ). g ∷ l) (quiet_kills once.later once.quiet);
+          killed = ap kills_in once.front ∙ ap (λ (l : List ℕ). g ∷ l) (quiet_kills once.later once.no_kill);
           no_miss = λ f.
               let front : missed_in f kills.steps ≡ missed_in f (kill_steps g ++ once.later) = ap (missed_in f) once.front in
               let parts = missed_both f (kill_steps g) once.later in
@@ -228,87 +229,87 @@ set_more t limited groups g m b n so one = record {
 -- ---- the groups of a subtree, by ascending number
 
 -- those with a number below k were killed; the others are marked or not as they were
-pub record KilledSoFar (t : KnownTable) (limited head : ℕ) (m : KnownMachine) (k : ℕ) (now : KnownMachine) : Type 0 where
-  pub so : KilledSo t (alive_to m head k) (KillsGroups t limited (alive_to m head k)) m now
+pub record KilledSoFar (t : KnownTable) (limited root : ℕ) (m : KnownMachine) (k : ℕ) (now : KnownMachine) : Type 0 where
+  pub so : KilledSo t (alive_to m root k) (KillsGroups t limited (alive_to m root k)) m now
   pub alive : (j : ℕ) → k ≤ j → is_killed now.killed j ≡ is_killed m.killed j
 
-pub below_first : (t : KnownTable) (limited head : ℕ) (m : KnownMachine) → KilledSoFar t limited head m 0 m
-below_first t limited head m = record { so = set_none t limited m; alive = λ j le. refl }
+pub below_first : (t : KnownTable) (limited root : ℕ) (m : KnownMachine) → KilledSoFar t limited root m 0 m
+below_first t limited root m = record { so = set_none t limited m; alive = λ j le. refl }
 
-may_still : (t : KnownTable) (limited head : ℕ) (m : KnownMachine) (k : ℕ) (now : KnownMachine) → KilledSoFar t limited head m k now
-    → may_be_killed m head k ≡ may_be_killed now head k
-may_still t limited head m k now s =
+may_still : (t : KnownTable) (limited root : ℕ) (m : KnownMachine) (k : ℕ) (now : KnownMachine) → KilledSoFar t limited root m k now
+    → may_be_killed m root k ≡ may_be_killed now root k
+may_still t limited root m k now s =
     let alive = s.alive k (omega arith) in
     let groups = s.so.keeps.groups in
-    (λ i. in_subtree (sym groups i) head k && not (sym alive i))
+    (λ i. in_subtree (sym groups i) root k && not (sym alive i))
 
 -- group k isn't there, is outside or is killed
-pub below_same : (t : KnownTable) (limited head : ℕ) (m : KnownMachine) (k : ℕ) (now : KnownMachine) → KilledSoFar t limited head m k now
-    → may_be_killed now head k ≡ false → KilledSoFar t limited head m (k + 1) now
-below_same t limited head m k now s dead =
-    let same = alive_same m head k (may_still t limited head m k now s ∙ dead) in
+pub below_same : (t : KnownTable) (limited root : ℕ) (m : KnownMachine) (k : ℕ) (now : KnownMachine) → KilledSoFar t limited root m k now
+    → may_be_killed now root k ≡ false → KilledSoFar t limited root m (k + 1) now
+below_same t limited root m k now s dead =
+    let same = alive_same m root k (may_still t limited root m k now s ∙ dead) in
     record {
       so = subst (λ (l : List ℕ). KilledSo t l (KillsGroups t limited l) m now) (sym same) s.so;
       alive = λ j le. s.alive j (omega (arith, le));
     }
 
 -- group k is killed
-pub below_more : (t : KnownTable) (limited head : ℕ) (m : KnownMachine) (k : ℕ) (now : KnownMachine) → KilledSoFar t limited head m k now
-    → may_be_killed now head k ≡ true → (n : KnownMachine) → OneKilled t limited k now n → KilledSoFar t limited head m (k + 1) n
-below_more t limited head m k now s may n one =
-    let more = alive_more m head k (may_still t limited head m k now s ∙ may) in
+pub below_more : (t : KnownTable) (limited root : ℕ) (m : KnownMachine) (k : ℕ) (now : KnownMachine) → KilledSoFar t limited root m k now
+    → may_be_killed now root k ≡ true → (n : KnownMachine) → OneKilled t limited k now n → KilledSoFar t limited root m (k + 1) n
+below_more t limited root m k now s may n one =
+    let more = alive_more m root k (may_still t limited root m k now s ∙ may) in
     record {
       so = subst (λ (l : List ℕ). KilledSo t l (KillsGroups t limited l) m n) (sym more)
-          (set_more t limited (alive_to m head k) k m now n s.so (one_so t limited k now n one));
+          (set_more t limited (alive_to m root k) k m now n s.so (one_so t limited k now n one));
       alive = λ j le.
           ap (λ (l : List Bool). is_killed l j) one.marked
           ∙ get_or-set_other now.killed k j true false (λ e. absurd (omega (arith, le, e)))
           ∙ s.alive j (omega (arith, le));
     }
 
-pub below_all : (t : KnownTable) (limited head : ℕ) (m : KnownMachine) (k : ℕ) (now : KnownMachine) → KilledSoFar t limited head m k now → k ≡ 64
-    → KilledSo t (alive_below m head) (KillsGroups t limited (alive_below m head)) m now
-below_all t limited head m k now s all = subst (λ (x : ℕ). KilledSo t (alive_to m head x) (KillsGroups t limited (alive_to m head x)) m now) all s.so
+pub below_all : (t : KnownTable) (limited root : ℕ) (m : KnownMachine) (k : ℕ) (now : KnownMachine) → KilledSoFar t limited root m k now → k ≡ 64
+    → KilledSo t (alive_below m root) (KillsGroups t limited (alive_below m root)) m now
+below_all t limited root m k now s all = subst (λ (x : ℕ). KilledSo t (alive_to m root x) (KillsGroups t limited (alive_to m root x)) m now) all s.so
 
 -- ---- a subtree between its note and its count
 
-pub subtree_killed : (t : KnownTable) (limited head : ℕ) (m a b n : KnownMachine) → a ≡ with_note m (group_kill_note m head)
-    → KilledSo t (alive_below a head) (KillsGroups t limited (alive_below a head)) a b
-    → n ≡ record b { ledger = with_group_kill_noted b.ledger head; watch = n.watch } → ((g : ℕ) → current_of n.ledger g ≡ current_of b.ledger g)
-    → MakesForAny t b (note_group_kill_steps head) n → KilledSo t (alive_below m head) (KillsSubtree t limited head) m n
-subtree_killed t limited head m a b n noted so_a counted usage runs =
-    let note : Note = group_kill_note m head in
-    let so : KilledSo t (alive_below m head) (KillsGroups t limited (alive_below m head)) (with_note m note) b =
-    subst (λ (x : KnownMachine). KilledSo t (alive_below x head) (KillsGroups t limited (alive_below x head)) x b) noted so_a in
+pub subtree_killed : (t : KnownTable) (limited root : ℕ) (m a b n : KnownMachine) → a ≡ with_note m (group_kill_note m root)
+    → KilledSo t (alive_below a root) (KillsGroups t limited (alive_below a root)) a b
+    → n ≡ record b { ledger = with_group_kill_noted b.ledger root; watch = n.watch } → ((g : ℕ) → current_of n.ledger g ≡ current_of b.ledger g)
+    → MakesForAny t b (note_group_kill_steps root) n → KilledSo t (alive_below m root) (KillsSubtree t limited root) m n
+subtree_killed t limited root m a b n noted so_a counted usage runs =
+    let note : Note = group_kill_note m root in
+    let so : KilledSo t (alive_below m root) (KillsGroups t limited (alive_below m root)) (with_note m note) b =
+    subst (λ (x : KnownMachine). KilledSo t (alive_below x root) (KillsGroups t limited (alive_below x root)) x b) noted so_a in
     let killing : Run = so.kills.steps in
     let these = so.kills.these in
     record {
       kills = record {
-        steps = killing ++ note_group_kill_steps head;
+        steps = killing ++ note_group_kill_steps root;
         kills = record { between = b; killing = killing; kills = so.kills.kills; counted = counted; steps_are = refl };
         runs = λ c.
-            makes_both t c.number killing (note_group_kill_steps head) (visit_state m c) (visit_state b c) (visit_state n c)
+            makes_both t c.number killing (note_group_kill_steps root) (visit_state m c) (visit_state b c) (visit_state n c)
             (record { leads = (so.kills.runs c).leads; follows = (so.kills.runs c).follows; counts = (so.kills.runs c).counts; watched = (so.kills.runs c).watched }) (runs c);
         these = record {
-          killed = kills_both killing (note_group_kill_steps head) ∙ append-nil (kills_in killing) ∙ these.killed;
+          killed = kills_both killing (note_group_kill_steps root) ∙ append-nil (kills_in killing) ∙ these.killed;
           no_miss = λ f.
               let x = these.no_miss f in
-              let y : missed_in f (note_group_kill_steps head) ≡ 0 = refl in
-              let z = missed_both f killing (note_group_kill_steps head) in
+              let y : missed_in f (note_group_kill_steps root) ≡ 0 = refl in
+              let z = missed_both f killing (note_group_kill_steps root) in
               omega (arith, x, y, z);
           returned =
-              let y : returned_in (note_group_kill_steps head) ≡ 0 = refl in
-              let z = returned_both killing (note_group_kill_steps head) in
-              let all : returned_in killing ≡ returned_in (killing ++ note_group_kill_steps head) = omega (arith, y, z) in
-              subst (λ (x : KnownMachine). Rises m.counts.last_puts (returned_in (killing ++ note_group_kill_steps head)) x.counts.last_puts) (sym counted)
+              let y : returned_in (note_group_kill_steps root) ≡ 0 = refl in
+              let z = returned_both killing (note_group_kill_steps root) in
+              let all : returned_in killing ≡ returned_in (killing ++ note_group_kill_steps root) = omega (arith, y, z) in
+              subst (λ (x : KnownMachine). Rises m.counts.last_puts (returned_in (killing ++ note_group_kill_steps root)) x.counts.last_puts) (sym counted)
               (subst (λ (k : ℕ). Rises m.counts.last_puts k b.counts.last_puts) all these.returned);
         };
       };
       marked = ap (λ (x : KnownMachine). x.killed) counted ∙ so.marked;
-      drained = subst (λ (x : KnownMachine). All (λ (g : ℕ). AreOwnDrained g t.cpus x) (alive_below m head)) (sym counted)
+      drained = subst (λ (x : KnownMachine). All (λ (g : ℕ). AreOwnDrained g t.cpus x) (alive_below m root)) (sym counted)
           (λ k d lt. so.drained k d lt);
       stocks = subst (λ (x : KnownMachine). OnlyDrains m x) (sym counted) (record { of = so.stocks.of; drained = so.stocks.drained });
-      none_kept = subst (λ (x : KnownMachine). All (λ (g : ℕ). HasNoKeptUnit g x) (alive_below m head)) (sym counted)
+      none_kept = subst (λ (x : KnownMachine). All (λ (g : ℕ). HasNoKeptUnit g x) (alive_below m root)) (sym counted)
           (λ k d lt. so.none_kept k d lt);
       keeps = only_lets_both t m b n (lets_after_note t m b note so.keeps)
           (only_lets_same t b n (ap (λ (x : KnownMachine). x.ledger.groups) counted) (λ g. let e = usage g in omega (arith, e))
@@ -319,7 +320,7 @@ subtree_killed t limited head m a b n noted so_a counted usage runs =
 
 -- who is killed, by whether a flag applies
 abbrev pub set_if : Bool → KnownMachine → Killed → List ℕ
-set_if flag machine killed = cond flag (alive_below machine killed.head) (killed.victim ∷ [])
+set_if flag machine killed = cond flag (alive_below machine killed.killed_root) (killed.victim ∷ [])
 
 pub record VictimKilled (t : KnownTable) (limited : ℕ) (killed : Killed) (m n : KnownMachine) : Type 0 where
   pub kills : IsKilledBy t limited killed m n
@@ -330,20 +331,20 @@ pub record VictimKilled (t : KnownTable) (limited : ℕ) (killed : Killed) (m n 
   pub keeps : OnlyReleases t m n
 
 pub victim_killed : (t : KnownTable) (limited : ℕ) (killed : Killed) (m a n : KnownMachine) → NotesVictim limited killed.victim m a
-    → IsHead a.ledger.groups limited killed → (flag : Bool) → is_oom_group a.ledger.groups killed.head ≡ flag
-    → KilledSo t (set_if flag a killed) (KillsHeadOrVictim flag t limited killed) a n → VictimKilled t limited killed m n
+    → IsKilledRoot a.ledger.groups limited killed → (flag : Bool) → is_oom_group a.ledger.groups killed.killed_root ≡ flag
+    → KilledSo t (set_if flag a killed) (KillsRootOrVictim flag t limited killed) a n → VictimKilled t limited killed m n
 victim_killed t limited killed m a n told head_a flag flag_a so_flag =
     let note : Note = victim_note m limited killed.victim told.next in
-    let so_a : KilledSo t (kill_set a killed) (KillsHeadOrVictim (is_oom_group a.ledger.groups killed.head) t limited killed) a n =
-    subst (λ (b : Bool). KilledSo t (set_if b a killed) (KillsHeadOrVictim b t limited killed) a n) (sym flag_a) so_flag in
-    let so : KilledSo t (kill_set m killed) (KillsHeadOrVictim (is_oom_group m.ledger.groups killed.head) t limited killed) (with_note m note) n =
-    subst (λ (x : KnownMachine). KilledSo t (kill_set x killed) (KillsHeadOrVictim (is_oom_group x.ledger.groups killed.head) t limited killed) x n)
+    let so_a : KilledSo t (kill_set a killed) (KillsRootOrVictim (is_oom_group a.ledger.groups killed.killed_root) t limited killed) a n =
+    subst (λ (b : Bool). KilledSo t (set_if b a killed) (KillsRootOrVictim b t limited killed) a n) (sym flag_a) so_flag in
+    let so : KilledSo t (kill_set m killed) (KillsRootOrVictim (is_oom_group m.ledger.groups killed.killed_root) t limited killed) (with_note m note) n =
+    subst (λ (x : KnownMachine). KilledSo t (kill_set x killed) (KillsRootOrVictim (is_oom_group x.ledger.groups killed.killed_root) t limited killed) x n)
     told.machine so_a in
     record {
       kills = record {
         next = told.next;
         follows = told.follows;
-        head_is = subst (λ (x : KnownMachine). IsHead x.ledger.groups limited killed) told.machine head_a;
+        killed_root_is = subst (λ (x : KnownMachine). IsKilledRoot x.ledger.groups limited killed) told.machine head_a;
         steps = so.kills.steps;
         kills = so.kills.kills;
         runs = λ c. record { leads = (so.kills.runs c).leads; follows = (so.kills.runs c).follows; counts = (so.kills.runs c).counts; watched = (so.kills.runs c).watched };
@@ -358,15 +359,15 @@ victim_killed t limited killed m a n told head_a flag flag_a so_flag =
 
 -- without a flag the victim is killed alone
 pub alone_killed : (t : KnownTable) (limited v : ℕ) (m a n : KnownMachine) → may_be_killed m limited v ≡ true → NotesVictim limited v m a
-    → HasNoFlagged a.ledger.groups limited v → OneKilled t limited v a n → VictimKilled t limited (record { victim = v; head = v }) m n
+    → HasNoFlagged a.ledger.groups limited v → OneKilled t limited v a n → VictimKilled t limited (record { victim = v; killed_root = v }) m n
 alone_killed t limited v m a n may told none one =
     let below : in_subtree a.ledger.groups limited v ≡ true =
     ap (λ (x : KnownMachine). in_subtree x.ledger.groups limited v) told.machine ∙ (and_parts (in_subtree m.ledger.groups limited v) _ may).0 in
-    victim_killed t limited (record { victim = v; head = v }) m a n told (inr (none, refl)) false (victim_unflagged a.ledger.groups limited v below none)
+    victim_killed t limited (record { victim = v; killed_root = v }) m a n told (inr (none, refl)) false (victim_unflagged a.ledger.groups limited v below none)
     (one_so t limited v a n one)
 
 -- with one the highest flagged group dies with its subtree
 pub head_killed : (t : KnownTable) (limited v h : ℕ) (m a n : KnownMachine) → NotesVictim limited v m a → IsHighestFlagged a.ledger.groups limited v h
-    → KilledSo t (alive_below a h) (KillsSubtree t limited h) a n → VictimKilled t limited (record { victim = v; head = h }) m n
+    → KilledSo t (alive_below a h) (KillsSubtree t limited h) a n → VictimKilled t limited (record { victim = v; killed_root = h }) m n
 head_killed t limited v h m a n told high so =
-    victim_killed t limited (record { victim = v; head = h }) m a n told (inl high) true (on_path_is a.ledger.groups limited v h high.between).flag so
+    victim_killed t limited (record { victim = v; killed_root = h }) m a n told (inl high) true (on_path_is a.ledger.groups limited v h high.between).flag so

@@ -368,7 +368,7 @@ drains_leave test (suc k) m n drains h =
 
 -- none of the steps is a kill, and none is a freeze that missed
 pub record AreQuiet (steps : Run) : Type 0 where
-  pub quiet : has_kill steps ≡ false
+  pub no_kill : has_kill steps ≡ false
   pub no_miss : (f : ℕ) → missed_in f steps ≡ 0
 
 both_false : (a b : Bool) → a ≡ false → b ≡ false → (a || b) ≡ false
@@ -376,7 +376,7 @@ both_false a b x y = rw x y
 
 pub quiet_both : (one two : Run) → AreQuiet one → AreQuiet two → AreQuiet (one ++ two)
 quiet_both one two p q = record {
-  quiet = list_any-append (λ (e : Step × Answer). is_kill e.0.action) one two ∙ both_false (has_kill one) (has_kill two) p.quiet q.quiet;
+  no_kill = list_any-append (λ (e : Step × Answer). is_kill e.0.action) one two ∙ both_false (has_kill one) (has_kill two) p.no_kill q.no_kill;
   no_miss = λ f.
       let x = p.no_miss f in
       let y = q.no_miss f in
@@ -386,22 +386,22 @@ quiet_both one two p q = record {
 }
 
 quiet_release : (f : ℕ) (left : Released) → AreQuiet (release_steps f left)
-quiet_release f (Left left) = record { quiet = refl; no_miss = λ g. refl }
-quiet_release f Returned = record { quiet = refl; no_miss = λ g. refl }
+quiet_release f (Left left) = record { no_kill = refl; no_miss = λ g. refl }
+quiet_release f Returned = record { no_kill = refl; no_miss = λ g. refl }
 
 quiet_units : (units : List Entry) (m : KnownMachine) (steps : Run) (n : KnownMachine) → ReleasesUnits units m steps n → AreQuiet steps
-quiet_units [] m steps n all = subst AreQuiet (sym all.1) (record { quiet = refl; no_miss = λ f. refl })
+quiet_units [] m steps n all = subst AreQuiet (sym all.1) (record { no_kill = refl; no_miss = λ f. refl })
 quiet_units (u ∷ rest) m steps n all =
     subst AreQuiet (sym all.steps_are)
     (quiet_both (release_steps u.number all.left) all.later (quiet_release u.number all.left) (quiet_units rest all.between all.later n all.others))
 
 pub quiet_drain : (q : ℕ) (o : Option ℕ) (pages : ℕ) → AreQuiet (drain_steps q o pages)
-quiet_drain q None pages = record { quiet = refl; no_miss = λ f. refl }
-quiet_drain q (Some g) zero = record { quiet = refl; no_miss = λ f. refl }
-quiet_drain q (Some g) (suc n) = record { quiet = refl; no_miss = λ f. refl }
+quiet_drain q None pages = record { no_kill = refl; no_miss = λ f. refl }
+quiet_drain q (Some g) zero = record { no_kill = refl; no_miss = λ f. refl }
+quiet_drain q (Some g) (suc n) = record { no_kill = refl; no_miss = λ f. refl }
 
 pub quiet_drains : (drains : List Drain) → AreQuiet (drain_stocks_steps drains)
-quiet_drains [] = record { quiet = refl; no_miss = λ f. refl }
+quiet_drains [] = record { no_kill = refl; no_miss = λ f. refl }
 quiet_drains (d ∷ rest) = quiet_both (drain_steps d.cpu d.group d.pages) (drain_stocks_steps rest) (quiet_drain d.cpu d.group d.pages) (quiet_drains rest)
 
 -- ---- a group is killed
@@ -481,7 +481,7 @@ all_killed t w v fits m a d b n is usage killed pages drains drained first first
         once = record {
           later = later;
           front = refl;
-          quiet = quiet.quiet;
+          no_kill = quiet.no_kill;
           no_miss = quiet.no_miss;
           returned = last_puts_rise v m a d b n is unit.counts drains.drains first.steps last.steps
               (units_rise (entries_in d v Inactive) d first.steps b first.releases) (units_rise (entries_in b v Active) b last.steps n last.releases);

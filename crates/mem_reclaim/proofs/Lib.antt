@@ -7,7 +7,7 @@ pub mod Passing
 pub mod Rounding
 pub mod Choosing
 pub mod LettingGo
-pub mod Heads
+pub mod KilledRoots
 pub mod Alive
 pub mod KillSets
 pub mod Dying

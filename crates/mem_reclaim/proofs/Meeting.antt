@@ -27,28 +27,29 @@ use Rattle.mem_reclaim.proofs.Wanting.{rested}
 
 -- ---- the three cases
 
-pub meets_dirty : (t : KnownTable) (marks_count : Bool) (g : ℕ) (e : Entry) (m : KnownMachine) → e.is_dirty ≡ true
-    → FreesBySteps t 0 m m (TriesReclaim marks_count g e 1)
-meets_dirty t marks_count g e m dirty = record {
+pub meets_dirty : (t : KnownTable) (spares_marked : Bool) (g : ℕ) (e : Entry) (m : KnownMachine) → e.is_dirty ≡ true
+    → FreesBySteps t 0 m m (TriesReclaim spares_marked g e 1)
+meets_dirty t spares_marked g e m dirty = record {
   steps = [];
-  does = subst (λ (d : Bool). TriesReclaimAs d (marks_count && e.is_marked) g e.number (progress 0 m [] m)) (sym dirty) (rested m);
+  does = subst (λ (d : Bool). TriesReclaimAs d (spares_marked && e.is_marked) g e.number (progress 0 m [] m)) (sym dirty) (rested m);
   moves = moves_rest t m;
 }
 
-pub meets_spared : (t : KnownTable) (marks_count : Bool) (g f : ℕ) (e : Entry) (m n : KnownMachine) → e.is_dirty ≡ false → (marks_count && e.is_marked) ≡ true
-    → e.number ≡ f → RenewsUnit g f m n → MakesForAny t m [] n → FreesBySteps t 0 m n (TriesReclaim marks_count g e 1)
-meets_spared t marks_count g f e m n clean spared is renews runs = record {
+pub meets_spared : (t : KnownTable) (spares_marked : Bool) (g f : ℕ) (e : Entry) (m n : KnownMachine) → e.is_dirty ≡ false
+    → (spares_marked && e.is_marked) ≡ true
+    → e.number ≡ f → RenewsUnit g f m n → MakesForAny t m [] n → FreesBySteps t 0 m n (TriesReclaim spares_marked g e 1)
+meets_spared t spares_marked g f e m n clean spared is renews runs = record {
   steps = [];
   does = subst (λ (x : Bool × Bool × ℕ). TriesReclaimAs x.0 x.1 g x.2 (progress 0 m [] n)) (λ i. (sym clean i, sym spared i, sym is i))
       (record { no_page = refl; renews = renews; no_step = refl });
   moves = moves_none t m n runs (ap (λ (x : KnownMachine). x.frame_seat) renews.machine) (ap (λ (x : KnownMachine). x.counts) renews.machine);
 }
 
-pub meets_tried : (t : KnownTable) (marks_count : Bool) (g f : ℕ) (e : Entry) (m n : KnownMachine) (answer : Option ℕ) (freed : ℕ) → e.is_dirty ≡ false
-    → (marks_count && e.is_marked) ≡ false → e.number ≡ f → Evicts f answer m n → MakesForAny t m (evict_steps f answer) n → freed ≡ unwrap_or answer 0
-    → FreesBySteps t freed m n (TriesReclaim marks_count g e 1)
-meets_tried t marks_count g f e m n answer freed clean spared is evicts runs pages =
-    subst (λ (p : ℕ). FreesBySteps t p m n (TriesReclaim marks_count g e 1)) (sym pages) (record {
+pub meets_tried : (t : KnownTable) (spares_marked : Bool) (g f : ℕ) (e : Entry) (m n : KnownMachine) (answer : Option ℕ) (freed : ℕ) → e.is_dirty ≡ false
+    → (spares_marked && e.is_marked) ≡ false → e.number ≡ f → Evicts f answer m n → MakesForAny t m (evict_steps f answer) n → freed ≡ unwrap_or answer 0
+    → FreesBySteps t freed m n (TriesReclaim spares_marked g e 1)
+meets_tried t spares_marked g f e m n answer freed clean spared is evicts runs pages =
+    subst (λ (p : ℕ). FreesBySteps t p m n (TriesReclaim spares_marked g e 1)) (sym pages) (record {
       steps = evict_steps f answer;
       does = subst (λ (x : Bool × Bool × ℕ). TriesReclaimAs x.0 x.1 g x.2 (progress (unwrap_or answer 0) m (evict_steps f answer) n)) (λ i. (sym clean i, sym spared i, sym is i))
           (record { answer = answer; evicts = evicts; pages = refl; tries = refl });
@@ -87,8 +88,9 @@ met_as false true m n g f freed steps list is inactive home =
     subst (λ (l : LruList). MetList g l f m n) (sym (inactive refl)) (inr (marked false (entry_of m.links f) ∷ [], is.renews.inactive))
 met_as false false m n g f freed steps list is inactive home = tried_list m n g f list is.answer is.evicts home
 
-pub met_list : (marks_count : Bool) (m n : KnownMachine) (g want freed : ℕ) (e : Entry) (steps : Run) (list : LruList) → TriesReclaim marks_count g e want (progress freed m steps n)
-    → (marks_count ≡ true → list ≡ Inactive) → home_of m.links e.number ≡ Some (record { owner = g; list = list }) → MetList g list e.number m n
+pub met_list : (spares_marked : Bool) (m n : KnownMachine) (g want freed : ℕ) (e : Entry) (steps : Run) (list : LruList)
+    → TriesReclaim spares_marked g e want (progress freed m steps n)
+    → (spares_marked ≡ true → list ≡ Inactive) → home_of m.links e.number ≡ Some (record { owner = g; list = list }) → MetList g list e.number m n
 met_list true m n g want freed e steps list is inactive home = met_as e.is_dirty e.is_marked m n g e.number freed steps list is (λ i. inactive refl) home
 met_list false m n g want freed e steps list is inactive home = met_as e.is_dirty false m n g e.number freed steps list is (λ i. absurd (true≢false (sym i))) home
 

@@ -54,7 +54,7 @@ pub moves_none : (t : KnownTable) (m n : KnownMachine) → MakesForAny t m [] n 
 moves_none t m n runs seat counts = record {
   runs = runs;
   pages = λ c. refl;
-  quiet = refl;
+  no_kill = refl;
   misses = λ f. let e = ap (λ (s : KnownSeat). misses_of s f) seat in omega (arith, e);
   returned = rises_none m.counts.freezes n.counts.freezes (ap (λ (k : Counts). k.freezes) counts);
   missed = rises_none m.counts.misses n.counts.misses (ap (λ (k : Counts). k.misses) counts);
@@ -71,7 +71,7 @@ moves_both t a b c some more one two first second = record {
       let x = pages_both p.number one two (local_of t a p) (local_of t b p) (first.runs p).leads in
       let y = first.pages p in let z = second.pages p in
       omega (arith, x, y, z);
-  quiet = list_any-append (λ (e : Step × Answer). is_kill e.0.action) one two ∙ both_false (has_kill one) (has_kill two) first.quiet second.quiet;
+  no_kill = list_any-append (λ (e : Step × Answer). is_kill e.0.action) one two ∙ both_false (has_kill one) (has_kill two) first.no_kill second.no_kill;
   misses = λ f.
       let x = first.misses f in let y = second.misses f in
       let z : missed_in f (one ++ two) ≡ missed_in f one + missed_in f two =
@@ -133,7 +133,7 @@ pub moves_try : (t : KnownTable) (m n : KnownMachine) (f : ℕ) (answer : Option
 moves_try t m n f None is runs = record {
   runs = runs;
   pages = λ c. refl;
-  quiet = refl;
+  no_kill = refl;
   misses = λ g. let a = misses_rose m n f is g in let b = missed_here f g in omega (arith, a, b);
   returned = rises_none m.counts.freezes n.counts.freezes (ap (λ (x : KnownMachine). x.counts.freezes) is.machine);
   missed = rises_one m.counts.misses n.counts.misses (ap (λ (x : KnownMachine). x.counts.misses) is.machine);
@@ -145,7 +145,7 @@ moves_try t m n f (Some pages) is runs = record {
       ap unit_size (unit_frozen t m f is.unit is.heads c) in
       let given = is.size in
       omega (arith, size, given);
-  quiet = refl;
+  no_kill = refl;
   misses = λ g. let a = misses_stay m n f pages is g in omega (arith, a);
   returned = rises_one m.counts.freezes n.counts.freezes (ap (λ (x : KnownMachine). x.counts.freezes) is.machine);
   missed = rises_none m.counts.misses n.counts.misses (ap (λ (x : KnownMachine). x.counts.misses) is.machine);

@@ -4,7 +4,7 @@ use Rattle.group_tree.specs.Room.{max_count}
 use Rattle.group_charge.specs.Charges.{current_of}
 use Rattle.kill_notes.specs.declared.note.Note.TheVariants as note
 use Rattle.mem_machine.specs.Machines.{KnownMachine, with_note}
-use Rattle.mem_reclaim.specs.Killing.{KillsHeadOrVictim, KillsGroupNoted, kept_units}
+use Rattle.mem_reclaim.specs.Killing.{KillsRootOrVictim, KillsGroupNoted, kept_units}
 use Rattle.mem_reclaim.specs.Laws.{LoneKillsAreNotedAsMade, MissedUnitsWereTried, RoundsAreNotedAsMade, TheVictimIsOne}
 use Rattle.mem_reclaim.specs.Moves.{Rises, all_missed_in, returned_in}
 use Rattle.mem_reclaim.specs.Victim.{own_frames, victim_note}
@@ -51,7 +51,7 @@ pub lone_kills_are_noted_as_made : LoneKillsAreNotedAsMade
 lone_kills_are_noted_as_made t limited killed before after kill alone few =
     let told = with_note before (victim_note before limited killed.victim kill.next) in
     let kills : KillsGroupNoted t limited killed.victim told kill.steps after =
-    subst (λ (b : Bool). KillsHeadOrVictim b t limited killed told kill.steps after) alone kill.kills in
+    subst (λ (b : Bool). KillsRootOrVictim b t limited killed told kill.steps after) alone kill.kills in
     let x = kills.killed in
     let v = killed.victim in
     let puts : after.counts.last_puts ≡ x.counts.last_puts = ap (λ (m : KnownMachine). m.counts.last_puts) kills.noted in

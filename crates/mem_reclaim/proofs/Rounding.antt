@@ -59,7 +59,7 @@ leads_after_note t freed m n note Does leads =
       moves = record {
         runs = λ c. let r = k.runs c in record { leads = r.leads; follows = r.follows; counts = r.counts; watched = r.watched };
         pages = k.pages;
-        quiet = k.quiet;
+        no_kill = k.no_kill;
         misses = k.misses;
         returned = k.returned;
         missed = k.missed;
@@ -110,7 +110,7 @@ round_noted t g number want m freed x n leads keeps noted =
         moves = record {
           runs = λ c. record { leads = (leads.moves.runs c).leads; follows = (leads.moves.runs c).follows; counts = (leads.moves.runs c).counts; watched = (leads.moves.runs c).watched };
           pages = leads.moves.pages;
-          quiet = leads.moves.quiet;
+          no_kill = leads.moves.no_kill;
           misses = leads.moves.misses;
           returned = leads.moves.returned;
           missed = leads.moves.missed;

@@ -36,7 +36,7 @@ MissedOrLeft m g list now todo = (f : ℕ) → home_of now.links f ≡ Some (rec
     → (has_unit f todo ≡ true) ⊎ (misses_of m.frame_seat f < misses_of now.frame_seat f)
 
 -- Some units stayed, some are still to be met, and some moved behind them
-pub record ScanSoFar (t : KnownTable) (marks_count : Bool) (g : ℕ) (list : LruList) (want : ℕ) (m : KnownMachine) (i freed : ℕ) (next : Option Entry)
+pub record ScanSoFar (t : KnownTable) (spares_marked : Bool) (g : ℕ) (list : LruList) (want : ℕ) (m : KnownMachine) (i freed : ℕ) (next : Option Entry)
     (now : KnownMachine) : Type 0 where
   pub stayed : List Entry
   pub todo : List Entry
@@ -44,27 +44,28 @@ pub record ScanSoFar (t : KnownTable) (marks_count : Bool) (g : ℕ) (list : Lru
   pub are : entries_in now g list ≡ stayed ++ (todo ++ moved)
   pub left : length todo + i ≡ length (entries_in m g list)
   pub next_is : IsNext next todo
-  pub so_far : SoFar t (TriesReclaim marks_count g) (entries_in m g list) want m todo freed now
+  pub so_far : SoFar t (TriesReclaim spares_marked g) (entries_in m g list) want m todo freed now
   pub keeps : Keeps t m now
   pub usage : (x : ℕ) → in_subtree m.ledger.groups x g ≡ true → current_of now.ledger x + freed ≡ current_of m.ledger x
   pub few : freed < want + 2 ^ 32
-  pub leaves : marks_count ≡ false → OnlyLeave m now
-  pub missed : marks_count ≡ false → MissedOrLeft m g list now todo
+  pub leaves : spares_marked ≡ false → OnlyLeave m now
+  pub missed : spares_marked ≡ false → MissedOrLeft m g list now todo
 
 first_is_next : (next : Option Entry) (entries : List Entry) → next ≡ first_entry entries → IsNext next entries
 first_is_next next [] is = tt
 first_is_next next (e ∷ es) is = is
 
-pub scan_first : (t : KnownTable) (w : KnownStockTable) (m : KnownMachine) → IsConsistent t w m → (marks_count : Bool) (g : ℕ) → g < 64 → (list : LruList) (want : ℕ)
-    (next : Option Entry) → next ≡ first_entry (entries_in m g list) → ScanSoFar t marks_count g list want m 0 0 next m
-scan_first t w m ok marks_count g fits list want next is = record {
+pub scan_first : (t : KnownTable) (w : KnownStockTable) (m : KnownMachine) → IsConsistent t w m → (spares_marked : Bool) (g : ℕ) → g < 64
+    → (list : LruList) (want : ℕ)
+    (next : Option Entry) → next ≡ first_entry (entries_in m g list) → ScanSoFar t spares_marked g list want m 0 0 next m
+scan_first t w m ok spares_marked g fits list want next is = record {
   stayed = [];
   todo = entries_in m g list;
   moved = [];
   are = sym (append-nil (entries_in m g list));
   left = omega arith;
   next_is = first_is_next next (entries_in m g list) is;
-  so_far = so_far_none t (TriesReclaim marks_count g) (entries_in m g list) want m;
+  so_far = so_far_none t (TriesReclaim spares_marked g) (entries_in m g list) want m;
   keeps = keeps_none t m;
   usage = λ x below. omega arith;
   few = omega arith;
@@ -95,8 +96,8 @@ pub some_next : (next : Option Entry) (todo : List Entry) (i n : ℕ) → IsNext
 some_next next [] i n is left lt none = omega (arith, left, lt)
 some_next next (e ∷ es) i n is left lt none = none-some e (sym none ∙ is)
 
-module _ (t : KnownTable) (w : KnownStockTable) (marks_count : Bool) (g : ℕ) (fits : g < 64) (list : LruList) (want : ℕ) (m : KnownMachine) (i freed : ℕ)
-    (next : Option Entry) (now : KnownMachine) (ok : IsConsistent t w now) (s : ScanSoFar t marks_count g list want m i freed next now)
+module _ (t : KnownTable) (w : KnownStockTable) (spares_marked : Bool) (g : ℕ) (fits : g < 64) (list : LruList) (want : ℕ) (m : KnownMachine) (i freed : ℕ)
+    (next : Option Entry) (now : KnownMachine) (ok : IsConsistent t w now) (s : ScanSoFar t spares_marked g list want m i freed next now)
     (units : ℕ) (counted : units ≡ length (entries_in m g list)) (left : i < units) (u : Entry) (some : next ≡ Some u) where
   entries_are : (rest : List Entry) → s.todo ≡ u ∷ rest → entries_in now g list ≡ s.stayed ++ u ∷ (rest ++ s.moved)
   entries_are rest ahead = s.are ∙ ap (λ (l : List Entry). s.stayed ++ (l ++ s.moved)) ahead
@@ -119,8 +120,8 @@ module _ (t : KnownTable) (w : KnownStockTable) (marks_count : Bool) (g : ℕ) (
   abbrev here : Here t g list now s.stayed s.todo u
   here = scan_here
 
-  module _ (r : ℕ) (then : KnownMachine) (inactive : marks_count ≡ true → list ≡ Inactive) (wanted : freed < want) (small : r < 2 ^ 32)
-      (leads : FreesBySteps t r now then (TriesReclaim marks_count g u 1)) (keeps : Keeps t now then)
+  module _ (r : ℕ) (then : KnownMachine) (inactive : spares_marked ≡ true → list ≡ Inactive) (wanted : freed < want) (small : r < 2 ^ 32)
+      (leads : FreesBySteps t r now then (TriesReclaim spares_marked g u 1)) (keeps : Keeps t now then)
       (usage : (x : ℕ) → in_subtree now.ledger.groups x g ≡ true → current_of then.ledger x + r ≡ current_of now.ledger x)
       (newer : Option Entry) (f : ℕ) (at : f ≡ u.number) (newer_is : newer ≡ entry_after f (entries_in now g list)) where
     now_are : entries_in now g list ≡ s.stayed ++ u ∷ (here.rest ++ s.moved)
@@ -142,7 +143,7 @@ module _ (t : KnownTable) (w : KnownStockTable) (marks_count : Bool) (g : ℕ) (
     next_of [] moved is = tt
     next_of (e ∷ es) moved is = is
 
-    then_missed : marks_count ≡ false → MissedOrLeft m g list then here.rest
+    then_missed : spares_marked ≡ false → MissedOrLeft m g list then here.rest
     then_missed off f home clean =
         let does : TriesReclaim false g u 1 (progress r now leads.steps then) = subst (λ (b : Bool). TriesReclaim b g u 1 (progress r now leads.steps then)) off leads.does in
         let was = met_leaves now then g 1 r u leads.steps does f (record { owner = g; list = list }) home in
@@ -164,9 +165,9 @@ module _ (t : KnownTable) (w : KnownStockTable) (marks_count : Bool) (g : ℕ) (
           | inr rose ↦ inr (omega (arith, b, rose))
         ]
 
-    pub scan_more : ScanSoFar t marks_count g list want m (i + 1) (freed + r) newer then
+    pub scan_more : ScanSoFar t spares_marked g list want m (i + 1) (freed + r) newer then
     scan_more =
-        let parts = split (met_list marks_count now then g 1 r u leads.steps list leads.does inactive here.home) in
+        let parts = split (met_list spares_marked now then g 1 r u leads.steps list leads.does inactive here.home) in
         let groups = s.keeps.groups in
         record {
           stayed = parts.0;
@@ -175,8 +176,8 @@ module _ (t : KnownTable) (w : KnownStockTable) (marks_count : Bool) (g : ℕ) (
           are = parts.2;
           left = let a = s.left in let b : length s.todo ≡ length (u ∷ here.rest) = ap length here.ahead in omega (arith, a, b);
           next_is = next_of here.rest s.moved (newer_is ∙ ap (λ (x : ℕ). entry_after x (entries_in now g list)) at ∙ ap (entry_after u.number) now_are ∙ after_mid s.stayed (here.rest ++ s.moved) u here.front);
-          so_far = so_far_more t (TriesReclaim marks_count g) (entries_in m g list) want m u here.rest freed now
-              (subst (λ (l : List Entry). SoFar t (TriesReclaim marks_count g) (entries_in m g list) want m l freed now) here.ahead s.so_far) wanted r then
+          so_far = so_far_more t (TriesReclaim spares_marked g) (entries_in m g list) want m u here.rest freed now
+              (subst (λ (l : List Entry). SoFar t (TriesReclaim spares_marked g) (entries_in m g list) want m l freed now) here.ahead s.so_far) wanted r then
               (record { steps = leads.steps; does = leads.does; moves = leads.moves });
           keeps = keeps_both t m now then s.keeps keeps;
           usage = λ x below.
@@ -191,27 +192,31 @@ module _ (t : KnownTable) (w : KnownStockTable) (marks_count : Bool) (g : ℕ) (
 
 -- ---- the end
 
-pub record ScanEnds (t : KnownTable) (marks_count : Bool) (g : ℕ) (list : LruList) (want : ℕ) (m : KnownMachine) (freed : ℕ) (now : KnownMachine) : Type 0 where
-  pub scans : FreesBySteps t freed m now (ScansList marks_count g list want)
-  pub missed : marks_count ≡ false → freed < want → (f : ℕ) → IsMissed m now f (record { owner = g; list = list })
+pub record ScanEnds (t : KnownTable) (spares_marked : Bool) (g : ℕ) (list : LruList) (want : ℕ) (m : KnownMachine) (freed : ℕ) (now : KnownMachine) :
+    Type 0 where
+  pub scans : FreesBySteps t freed m now (ScansList spares_marked g list want)
+  pub missed : spares_marked ≡ false → freed < want → (f : ℕ) → IsMissed m now f (record { owner = g; list = list })
 
 none_left : (todo : List Entry) (i n : ℕ) → length todo + i ≡ n → n ≤ i → todo ≡ []
 none_left [] i n left all = refl
 none_left (e ∷ es) i n left all = absurd (let a : length (e ∷ es) + i ≡ n = left in omega (arith, a, all))
 
 -- the units are those of the list in the first machine
-of_list : (t : KnownTable) (marks_count : Bool) (g : ℕ) (list : LruList) (want freed : ℕ) (m now : KnownMachine)
-    → FreesBySteps t freed m now (WhileWanted (TriesReclaim marks_count g) (entries_in m g list) want) → FreesBySteps t freed m now (ScansList marks_count g list want)
-of_list t marks_count g list want freed m now h = record { steps = h.steps; does = h.does; moves = h.moves }
+of_list : (t : KnownTable) (spares_marked : Bool) (g : ℕ) (list : LruList) (want freed : ℕ) (m now : KnownMachine)
+    → FreesBySteps t freed m now (WhileWanted (TriesReclaim spares_marked g) (entries_in m g list) want)
+    → FreesBySteps t freed m now (ScansList spares_marked g list want)
+of_list t spares_marked g list want freed m now h = record { steps = h.steps; does = h.does; moves = h.moves }
 
 -- all were met
-pub scan_done : (t : KnownTable) (marks_count : Bool) (g : ℕ) (list : LruList) (want : ℕ) (m : KnownMachine) (i freed : ℕ) (next : Option Entry) (now : KnownMachine)
-    → ScanSoFar t marks_count g list want m i freed next now → (units : ℕ) → units ≡ length (entries_in m g list) → units ≤ i → ScanEnds t marks_count g list want m freed now
-scan_done t marks_count g list want m i freed next now s units counted all =
+pub scan_done : (t : KnownTable) (spares_marked : Bool) (g : ℕ) (list : LruList) (want : ℕ) (m : KnownMachine) (i freed : ℕ) (next : Option Entry)
+    (now : KnownMachine)
+    → ScanSoFar t spares_marked g list want m i freed next now → (units : ℕ) → units ≡ length (entries_in m g list) → units ≤ i
+    → ScanEnds t spares_marked g list want m freed now
+scan_done t spares_marked g list want m i freed next now s units counted all =
     let none : s.todo ≡ [] = none_left s.todo i units (s.left ∙ sym counted) all in
     record {
-      scans = of_list t marks_count g list want freed m now (so_far_done t (TriesReclaim marks_count g) (entries_in m g list) want m freed now
-          (subst (λ (l : List Entry). SoFar t (TriesReclaim marks_count g) (entries_in m g list) want m l freed now) none s.so_far));
+      scans = of_list t spares_marked g list want freed m now (so_far_done t (TriesReclaim spares_marked g) (entries_in m g list) want m freed now
+          (subst (λ (l : List Entry). SoFar t (TriesReclaim spares_marked g) (entries_in m g list) want m l freed now) none s.so_far));
       missed = λ off less f home clean. elim (s.missed off f home clean) [
         | inl to ↦ absurd (false≢true (sym (ap (has_unit f) none) ∙ to))
         | inr rose ↦ rose
@@ -219,10 +224,11 @@ scan_done t marks_count g list want m i freed next now s units counted all =
     }
 
 -- enough pages were freed
-pub scan_enough : (t : KnownTable) (marks_count : Bool) (g : ℕ) (list : LruList) (want : ℕ) (m : KnownMachine) (i freed : ℕ) (next : Option Entry) (now : KnownMachine)
-    → ScanSoFar t marks_count g list want m i freed next now → want ≤ freed → ScanEnds t marks_count g list want m freed now
-scan_enough t marks_count g list want m i freed next now s enough = record {
-  scans = of_list t marks_count g list want freed m now
-      (so_far_enough t (TriesReclaim marks_count g) (entries_in m g list) want m s.todo freed now s.so_far enough);
+pub scan_enough : (t : KnownTable) (spares_marked : Bool) (g : ℕ) (list : LruList) (want : ℕ) (m : KnownMachine) (i freed : ℕ) (next : Option Entry)
+    (now : KnownMachine)
+    → ScanSoFar t spares_marked g list want m i freed next now → want ≤ freed → ScanEnds t spares_marked g list want m freed now
+scan_enough t spares_marked g list want m i freed next now s enough = record {
+  scans = of_list t spares_marked g list want freed m now
+      (so_far_enough t (TriesReclaim spares_marked g) (entries_in m g list) want m s.todo freed now s.so_far enough);
   missed = λ off less f home clean. absurd (omega (arith, less, enough));
 }

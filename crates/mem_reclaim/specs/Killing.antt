@@ -24,7 +24,7 @@ use Rattle.mem_machine.specs.Stocks.{DrainsAllIf, IsDrained, of_group, stock_gro
 use Rattle.mem_reclaim.specs.Moves.{Rises, has_kill, kills_in, missed_in, returned_in}
 use Rattle.mem_reclaim.specs.declared.noting.GroupSnapshot.{GroupSnapshot}
 use Rattle.mem_reclaim.specs.declared.sets.Killed.{Killed}
-use Rattle.mem_reclaim.specs.Sets.{IsHead, alive_below, group_kill_note, kill_set}
+use Rattle.mem_reclaim.specs.Sets.{IsKilledRoot, alive_below, group_kill_note, kill_set}
 use Rattle.mem_reclaim.specs.Staying.{OnlyLeave}
 use Rattle.mem_reclaim.specs.Victim.{IsNext, own_frames, victim_note}
 
@@ -78,7 +78,7 @@ pub record KillsGroup (table : KnownTable) (group : ℕ) (before : KnownMachine)
 pub record HasOneKillStep (group : ℕ) (before : KnownMachine) (steps : Run) (after : KnownMachine) : Type 0 where
   pub later : Run
   pub front : steps ≡ kill_steps group ++ later
-  pub quiet : has_kill later ≡ false
+  pub no_kill : has_kill later ≡ false
   pub no_miss : (frame : ℕ) → missed_in frame later ≡ 0
   pub returned : Rises before.counts.last_puts (returned_in later) after.counts.last_puts
 
@@ -133,14 +133,19 @@ KillsGroups table limited (group ∷ others) before steps after =
 
 -- A group is killed as a whole for the group `limited`. A note says how many groups die. Each group of its subtree that
 -- isn't killed is killed, by ascending number. Then one `oom_group_kill` is noted at it.
-pub record KillsSubtree (table : KnownTable) (limited head : ℕ) (before : KnownMachine) (steps : Run)
+pub record KillsSubtree (table : KnownTable) (limited killed_root : ℕ) (before : KnownMachine) (steps : Run)
     (after : KnownMachine) : Type 0 where
   pub between : KnownMachine
   pub killing : Run
-  pub kills : KillsGroups table limited (alive_below before head) (with_note before (group_kill_note before head))
+  pub kills : KillsGroups table limited (alive_below before killed_root)
+      (with_note before (group_kill_note before killed_root))
       killing between
-  pub counted : after ≡ record between { ledger = with_group_kill_noted between.ledger head; watch = after.watch }
-  pub steps_are : steps ≡ killing ++ note_group_kill_steps head
+  pub counted : after ≡ record between {
+    ledger = with_group_kill_noted between.ledger killed_root;
+    watch =
+        after.watch;
+  }
+  pub steps_are : steps ≡ killing ++ note_group_kill_steps killed_root
 
 -- these steps kill exactly these groups, in this order; none of them is a freeze that missed; and the machine's last
 -- puts rose by the units that they return
@@ -158,21 +163,21 @@ pub record KillsGroupsBySteps (table : KnownTable) (groups : List ℕ)
   pub runs : MakesForAny table before steps after
   pub these : AreKillsOf groups before steps after
 
--- what is done with a victim and its head: if the head's flag is on, the head is killed as a whole; else only the
+-- what is done with a victim and its killed root: if its flag is on, the whole subtree is killed; else only the
 -- victim is killed
-abbrev pub KillsHeadOrVictim : Bool → KnownTable → ℕ → Killed → KnownMachine → Run → KnownMachine → Type 0
-KillsHeadOrVictim true table limited killed = KillsSubtree table limited killed.head
-KillsHeadOrVictim false table limited killed = KillsGroupNoted table limited killed.victim
+abbrev pub KillsRootOrVictim : Bool → KnownTable → ℕ → Killed → KnownMachine → Run → KnownMachine → Type 0
+KillsRootOrVictim true table limited killed = KillsSubtree table limited killed.killed_root
+KillsRootOrVictim false table limited killed = KillsGroupNoted table limited killed.victim
 
 -- A victim and all groups that die with it are killed for the group `limited`, by some steps, whichever CPU holds the
--- lock. First a note says who is the victim and why. Then the head is killed as a whole if its flag is on, else the
+-- lock. First a note says who is the victim and why. Then the whole subtree is killed if its flag is on, else the
 -- victim alone.
 pub record IsKilledBy (table : KnownTable) (limited : ℕ) (killed : Killed) (before after : KnownMachine) : Type 0 where
   pub next : ℕ
   pub follows : IsNext before limited killed.victim next
-  pub head_is : IsHead before.ledger.groups limited killed
+  pub killed_root_is : IsKilledRoot before.ledger.groups limited killed
   pub steps : Run
-  pub kills : KillsHeadOrVictim (is_oom_group before.ledger.groups killed.head) table limited killed
+  pub kills : KillsRootOrVictim (is_oom_group before.ledger.groups killed.killed_root) table limited killed
       (with_note before (victim_note before limited killed.victim next)) steps after
   pub runs : MakesForAny table before steps after
   pub these : AreKillsOf (kill_set before killed) before steps after

@@ -14,16 +14,16 @@ use Rattle.mem_reclaim.specs.declared.sets.Killed.{Killed}
 use Rattle.mem_reclaim.specs.Killing.{IsKilledBy, kept_units}
 use Rattle.mem_reclaim.specs.Moves.{FreesPages, all_missed_in, missed_in, returned_in}
 use Rattle.mem_reclaim.specs.Rounds.{ReclaimsRound}
-use Rattle.mem_reclaim.specs.Sets.{IsHead, kill_set}
+use Rattle.mem_reclaim.specs.Sets.{IsKilledRoot, kill_set}
 use Rattle.mem_reclaim.specs.Staying.{MissedAll}
 use Rattle.mem_reclaim.specs.Victim.{IsVictim, may_be_killed, own_frames}
 use Rattle.mem_reclaim.specs.Wanted.{Progress}
 
--- `killed` is the victim for the group `limited` in this machine, with its head
+-- `killed` is the victim for the group `limited` in this machine, with its killed root
 pub record IsChosen (machine : KnownMachine) (limited : ℕ) (killed : Killed) : Type 0 where
   pub groups : AreGroups machine.ledger.groups
   pub chosen : IsVictim machine limited (Some killed.victim)
-  pub head_is : IsHead machine.ledger.groups limited killed
+  pub killed_root_is : IsKilledRoot machine.ledger.groups limited killed
 
 -- of the groups of the subtree that aren't killed, all are in the set, or none is
 abbrev pub IsWhole : KnownMachine → ℕ → List ℕ → Type 0
@@ -91,5 +91,6 @@ pub record NotesKill (limited group : ℕ) (before : KnownMachine) (steps : Run)
 abbrev pub LoneKillsAreNotedAsMade : Type 0
 LoneKillsAreNotedAsMade =
     (table : KnownTable) (limited : ℕ) (killed : Killed) (before after : KnownMachine)
-    → (kill : IsKilledBy table limited killed before after) → is_oom_group before.ledger.groups killed.head ≡ false
+    → (kill : IsKilledBy table limited killed before after) → is_oom_group before.ledger.groups
+    killed.killed_root ≡ false
     → after.counts.last_puts < max_count → NotesKill limited killed.victim before kill.steps after

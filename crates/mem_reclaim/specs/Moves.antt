@@ -83,7 +83,7 @@ pub record FreesPages (table : KnownTable) (before : KnownMachine) (freed : ℕ)
     (after : KnownMachine) : Type 0 where
   pub runs : MakesForAny table before steps after
   pub pages : (cpu : KnownCpu) → pages_returned (local_of table before cpu) steps ≡ freed
-  pub quiet : has_kill steps ≡ false
+  pub no_kill : has_kill steps ≡ false
   pub misses : (frame : ℕ)
       → misses_of after.frame_seat frame ≡ misses_of before.frame_seat frame + missed_in frame steps
   pub returned : Rises before.counts.freezes (returned_in steps) after.counts.freezes

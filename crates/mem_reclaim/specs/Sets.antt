@@ -18,10 +18,10 @@ is_flagged_between groups limited victim group =
 
 -- the highest flagged group on the path from the victim up to `limited`: all flagged groups of the path are in its
 -- subtree
-pub record IsHighestFlagged (groups : List Group) (limited victim head : ℕ) : Type 0 where
-  pub between : is_flagged_between groups limited victim head ≡ true
+pub record IsHighestFlagged (groups : List Group) (limited victim killed_root : ℕ) : Type 0 where
+  pub between : is_flagged_between groups limited victim killed_root ≡ true
   pub highest : (other : ℕ) → is_flagged_between groups limited victim other ≡ true
-      → in_subtree groups head other ≡ true
+      → in_subtree groups killed_root other ≡ true
 
 -- no group on the path from the victim up to `limited` is flagged
 abbrev pub HasNoFlagged : List Group → (limited victim : ℕ) → Type 0
@@ -29,28 +29,28 @@ HasNoFlagged groups limited victim = (other : ℕ) → is_flagged_between groups
 
 -- the highest flagged group on the path from the victim up to `limited`; None if there is none
 abbrev pub IsFlaggedAbove : List Group → (limited victim : ℕ) → Option ℕ → Type 0
-IsFlaggedAbove groups limited victim (Some head) = IsHighestFlagged groups limited victim head
+IsFlaggedAbove groups limited victim (Some killed_root) = IsHighestFlagged groups limited victim killed_root
 IsFlaggedAbove groups limited victim None = HasNoFlagged groups limited victim
 
--- the head of a kill: the highest flagged group on the path from the victim up to `limited`, or the victim itself if
+-- the killed root: the highest flagged group on the path from the victim up to `limited`, or the victim itself if
 -- there is none
-abbrev pub IsHead : List Group → (limited : ℕ) → Killed → Type 0
-IsHead groups limited killed =
-    IsHighestFlagged groups limited killed.victim killed.head
-    ⊎ (HasNoFlagged groups limited killed.victim × (killed.head ≡ killed.victim))
+abbrev pub IsKilledRoot : List Group → (limited : ℕ) → Killed → Type 0
+IsKilledRoot groups limited killed =
+    IsHighestFlagged groups limited killed.victim killed.killed_root
+    ⊎ (HasNoFlagged groups limited killed.victim × (killed.killed_root ≡ killed.victim))
 
--- the groups of the head's subtree that aren't killed, by ascending number
+-- the groups of the subtree that aren't killed, by ascending number
 abbrev pub alive_below : KnownMachine → ℕ → List ℕ
-alive_below machine head = filter (may_be_killed machine head) (range_with_len 0 most_groups)
+alive_below machine killed_root = filter (may_be_killed machine killed_root) (range_with_len 0 most_groups)
 
--- which groups are killed, in this order: if the head's flag is on, all groups of its subtree that aren't killed; else
--- the victim alone
+-- which groups are killed, in this order: if the killed root's flag is on, all groups of its subtree that aren't
+-- killed; else the victim alone
 abbrev pub kill_set : KnownMachine → Killed → List ℕ
 kill_set machine killed =
-    if is_oom_group machine.ledger.groups killed.head
-    then alive_below machine killed.head
+    if is_oom_group machine.ledger.groups killed.killed_root
+    then alive_below machine killed.killed_root
     else killed.victim ∷ []
 
 -- the note before a group is killed as a whole: how many groups of its subtree die
 abbrev pub group_kill_note : KnownMachine → ℕ → Note
-group_kill_note machine head = note.GroupKill head (length (alive_below machine head))
+group_kill_note machine killed_root = note.GroupKill killed_root (length (alive_below machine killed_root))

@@ -27,10 +27,10 @@ TriesReclaimAs false false group frame = TriesUnit frame
 
 -- what is done with a unit of the group while pages are wanted; a marked unit is spared if marks count
 abbrev pub TriesReclaim : Bool → ℕ → Entry → ℕ → Reclaiming
-TriesReclaim marks_count group unit want = TriesReclaimAs unit.is_dirty (marks_count && unit.is_marked) group
+TriesReclaim spares_marked group unit want = TriesReclaimAs unit.is_dirty (spares_marked && unit.is_marked) group
     unit.number
 
 -- what is done with the units that are on one of the group's lists now, the oldest first
 abbrev pub ScansList : Bool → ℕ → LruList → ℕ → Reclaiming
-ScansList marks_count group list want done =
-    WhileWanted (TriesReclaim marks_count group) (entries_in done.before group list) want done
+ScansList spares_marked group list want done =
+    WhileWanted (TriesReclaim spares_marked group) (entries_in done.before group list) want done

@@ -86,54 +86,56 @@ fn kill_noted<N: BootName>(
     note_killed(machine, limited, group, had);
 }
 
-// Kills the groups of the head's subtree that aren't killed, by ascending number, for the group `limited`.
+// Kills the groups of this subtree that aren't killed, by ascending number, for the group `limited`.
 fn kill_below<N: BootName>(
     machine: &mut Machine<N>,
     tables: &Tables<N>,
     limited: GroupId,
-    head: GroupId,
+    killed_root: GroupId,
 )
     requires limited { IsTrue (has_group machine.old.ledger.groups limited) }
-    requires head { IsTrue (has_group machine.old.ledger.groups head) }
-    ensures kills { KillsGroupsBySteps N.frames (alive_below machine.old head)
-        (KillsGroups N.frames limited (alive_below machine.old head)) machine.old machine.new }
-    ensures marked { machine.new.killed ≡ with_all_killed machine.old.killed (alive_below machine.old head) }
-    ensures drained { All (λ group. AreOwnDrained group N.frames.cpus machine.new) (alive_below machine.old head) }
+    requires killed_root { IsTrue (has_group machine.old.ledger.groups killed_root) }
+    ensures kills { KillsGroupsBySteps N.frames (alive_below machine.old killed_root)
+        (KillsGroups N.frames limited (alive_below machine.old killed_root)) machine.old machine.new }
+    ensures marked { machine.new.killed ≡ with_all_killed machine.old.killed (alive_below machine.old killed_root) }
+    ensures drained { All (λ group. AreOwnDrained group N.frames.cpus machine.new)
+        (alive_below machine.old killed_root) }
     ensures stocks { OnlyDrains machine.old machine.new }
-    ensures none_kept { All (λ group. HasNoKeptUnit group machine.new) (alive_below machine.old head) }
+    ensures none_kept { All (λ group. HasNoKeptUnit group machine.new) (alive_below machine.old killed_root) }
     ensures keeps { OnlyReleases N.frames machine.old machine.new }
 {
     for number in 0..MAX_GROUPS as u32 {
         let Some(turn) = GroupId::of(number) else {
             unreachable!()
         };
-        if may_be_killed(machine, head, turn) {
+        if may_be_killed(machine, killed_root, turn) {
             kill_noted(machine, tables, limited, turn);
         }
     }
 }
 
-// Kills the head as a whole, for the group `limited`: a flagged group dies with its whole subtree.
+// Kills a flagged group with its whole subtree, for the group `limited`.
 fn kill_subtree<N: BootName>(
     machine: &mut Machine<N>,
     tables: &Tables<N>,
     limited: GroupId,
-    head: GroupId,
+    killed_root: GroupId,
 )
     requires limited { IsTrue (has_group machine.old.ledger.groups limited) }
-    requires head { IsTrue (has_group machine.old.ledger.groups head) }
-    requires below_root { head ≢ 0 }
-    ensures kills { KillsGroupsBySteps N.frames (alive_below machine.old head)
-        (KillsSubtree N.frames limited head) machine.old machine.new }
-    ensures marked { machine.new.killed ≡ with_all_killed machine.old.killed (alive_below machine.old head) }
-    ensures drained { All (λ group. AreOwnDrained group N.frames.cpus machine.new) (alive_below machine.old head) }
+    requires killed_root { IsTrue (has_group machine.old.ledger.groups killed_root) }
+    requires below_root { killed_root ≢ 0 }
+    ensures kills { KillsGroupsBySteps N.frames (alive_below machine.old killed_root)
+        (KillsSubtree N.frames limited killed_root) machine.old machine.new }
+    ensures marked { machine.new.killed ≡ with_all_killed machine.old.killed (alive_below machine.old killed_root) }
+    ensures drained { All (λ group. AreOwnDrained group N.frames.cpus machine.new)
+        (alive_below machine.old killed_root) }
     ensures stocks { OnlyDrains machine.old machine.new }
-    ensures none_kept { All (λ group. HasNoKeptUnit group machine.new) (alive_below machine.old head) }
+    ensures none_kept { All (λ group. HasNoKeptUnit group machine.new) (alive_below machine.old killed_root) }
     ensures keeps { OnlyReleases N.frames machine.old machine.new }
 {
-    note_subtree(machine, head);
-    kill_below(machine, tables, limited, head);
-    machine.note_group_kill(head);
+    note_subtree(machine, killed_root);
+    kill_below(machine, tables, limited, killed_root);
+    machine.note_group_kill(killed_root);
 }
 
 /// Kills the victim of a group, and reports what was killed; None if there is no victim, and then nothing has changed.
@@ -142,8 +144,8 @@ fn kill_subtree<N: BootName>(
 ///
 /// Nothing can be charged to a killed group until it is removed. It has no stock and keeps no unit: units without a pin
 /// are freed and uncharged, dirty ones included, and the others stay charged until their last put is settled. Events
-/// (memory.events) are `oom_kill` at each group that is killed, and one `oom_group_kill` at the head. Notes say why
-/// this is the victim, how many groups die by a flag, and what became of each group's units.
+/// (memory.events) are `oom_kill` at each group that is killed, and one `oom_group_kill` at the killed root. Notes say
+/// why this is the victim, how many groups die by a flag, and what became of each group's units.
 pub fn kill<N: BootName>(
     machine: &mut Machine<N>,
     tables: &Tables<N>,
@@ -165,15 +167,18 @@ pub fn kill<N: BootName>(
     note_victim(machine, group, victim);
     let tree = machine.charges().tree();
     match highest_flagged(tree, group, victim) {
-        Some(head) => {
-            kill_subtree(machine, tables, group, head);
-            Some(Killed { victim, head })
+        Some(killed_root) => {
+            kill_subtree(machine, tables, group, killed_root);
+            Some(Killed {
+                victim,
+                killed_root,
+            })
         }
         None => {
             kill_noted(machine, tables, group, victim);
             Some(Killed {
                 victim,
-                head: victim,
+                killed_root: victim,
             })
         }
     }

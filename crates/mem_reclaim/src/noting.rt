@@ -7,7 +7,7 @@ ghost use Rattle.mem_reclaim.specs.Killing.{killed_note, snapshot_of};
 ghost use Rattle.mem_reclaim.specs.KillNotes.{NotesVictim};
 ghost use Rattle.mem_reclaim.specs.Sets.{group_kill_note};
 
-use crate::victims::{candidates, count_alive, next_after};
+use crate::victims::{count_alive, count_candidates, next_after};
 use cpu_part::BootName;
 use group_tree::group::GroupId;
 use kill_notes::note::{Candidate, Note};
@@ -48,7 +48,7 @@ pub(crate) fn note_victim<N: BootName>(machine: &mut Machine<N>, group: GroupId,
             group: victim,
             frames: machine.frames_of(victim),
         },
-        candidates: candidates(machine, group),
+        candidates: count_candidates(machine, group),
         next: Candidate {
             group: next,
             frames: machine.frames_of(next),
@@ -58,13 +58,13 @@ pub(crate) fn note_victim<N: BootName>(machine: &mut Machine<N>, group: GroupId,
 }
 
 /// Notes that a group is killed as a whole, and how many groups die.
-pub(crate) fn note_subtree<N: BootName>(machine: &mut Machine<N>, head: GroupId)
-    requires { IsTrue (has_group machine.old.ledger.groups head) }
-    ensures { machine.new ≡ with_note machine.old (group_kill_note machine.old head) }
+pub(crate) fn note_subtree<N: BootName>(machine: &mut Machine<N>, killed_root: GroupId)
+    requires { IsTrue (has_group machine.old.ledger.groups killed_root) }
+    ensures { machine.new ≡ with_note machine.old (group_kill_note machine.old killed_root) }
 {
     let note = Note::GroupKill {
-        group: head,
-        groups: count_alive(machine, head),
+        group: killed_root,
+        groups: count_alive(machine, killed_root),
     };
     machine.note(note);
 }

@@ -21,16 +21,16 @@ pub(crate) fn scan<N: BootName>(
     group: GroupId,
     list: LruList,
     want: u64,
-    marks_count: bool,
+    spares_marked: bool,
 ) -> u64
     requires there { IsTrue (has_group machine.old.ledger.groups group) }
-    requires inactive { IsTrue marks_count → list ≡ Inactive }
-    ensures scans { FreesBySteps N.frames result machine.old machine.new (ScansList marks_count group list want) }
+    requires inactive { IsTrue spares_marked → list ≡ Inactive }
+    ensures scans { FreesBySteps N.frames result machine.old machine.new (ScansList spares_marked group list want) }
     ensures keeps { Keeps N.frames machine.old machine.new }
     ensures usage { UsageFalls group result machine.old machine.new }
     ensures few { result < want + 2 ^ 32 }
-    ensures leaves { marks_count ≡ false → OnlyLeave machine.old machine.new }
-    ensures missed { marks_count ≡ false → result < want → MissedOnList group list machine.old machine.new }
+    ensures leaves { spares_marked ≡ false → OnlyLeave machine.old machine.new }
+    ensures missed { spares_marked ≡ false → result < want → MissedOnList group list machine.old machine.new }
 {
     let _frame_states = machine.frame_states(); // Called for its contract.
     let _usage = machine.current(group); // At most this much is freed, so no sum overflows.
@@ -47,7 +47,7 @@ pub(crate) fn scan<N: BootName>(
             unreachable!()
         };
         next = machine.newer(group, list, frame);
-        freed += u64::from(try_reclaim(machine, tables, group, list, unit, frame, marks_count));
+        freed += u64::from(try_reclaim(machine, tables, group, list, unit, frame, spares_marked));
     }
     freed
 }

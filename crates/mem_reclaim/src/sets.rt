@@ -14,7 +14,7 @@ pub struct Killed {
     /// The victim.
     pub victim: GroupId,
     /// The group whose whole subtree was killed, the victim included; the victim itself if no flag applies.
-    pub head: GroupId,
+    pub killed_root: GroupId,
 }
 
 /// The highest group with memory.oom.group on, from the victim up to the group `limited`, both included; None if none
@@ -22,17 +22,17 @@ pub struct Killed {
 pub(crate) fn highest_flagged(tree: &Tree, limited: GroupId, victim: GroupId) -> Option<GroupId>
     requires { IsTrue (in_subtree tree.now limited victim) }
     ensures highest { IsFlaggedAbove tree.now limited victim result }
-    ensures below_root { IfSome result (λ head. head ≢ 0) }
+    ensures below_root { IfSome result (λ killed_root. killed_root ≢ 0) }
 {
     let _groups = tree.groups(); // Called for its contract.
-    let mut head = None;
+    let mut killed_root = None;
     for above in tree.ancestors(victim) {
         if tree.oom_group(above) {
-            head = Some(above);
+            killed_root = Some(above);
         }
         if above == limited {
-            return head;
+            return killed_root;
         }
     }
-    head
+    killed_root
 }

@@ -15,10 +15,10 @@ use lru_lists::record::{Entry, LruList};
 use mem_machine::Machine;
 
 // Whether the unit is spared: it is marked, and marks count.
-fn is_spared(unit: Entry, marks_count: bool) -> bool
-    ensures { result ≡ (marks_count && unit.is_marked) }
+fn is_spared(unit: Entry, spares_marked: bool) -> bool
+    ensures { result ≡ (spares_marked && unit.is_marked) }
 {
-    marks_count && unit.is_marked
+    spares_marked && unit.is_marked
 }
 
 /// Handles one unit of a group's list: a dirty unit is left alone, a marked one is renewed if marks count, and any
@@ -30,20 +30,20 @@ pub(crate) fn try_reclaim<N: BootName>(
     list: LruList,
     unit: Entry,
     frame: Frame,
-    marks_count: bool,
+    spares_marked: bool,
 ) -> u32
     requires frame { frame < N.frames.frames }
     requires unit { unit ≡ entry_of machine.old.links frame }
     requires home { home_of machine.old.links frame ≡ Some (record { owner = group; list = list }) }
-    requires inactive { IsTrue marks_count → list ≡ Inactive }
-    ensures attempts { FreesBySteps N.frames result machine.old machine.new (TriesReclaim marks_count group unit 1) }
+    requires inactive { IsTrue spares_marked → list ≡ Inactive }
+    ensures attempts { FreesBySteps N.frames result machine.old machine.new (TriesReclaim spares_marked group unit 1) }
     ensures keeps { Keeps N.frames machine.old machine.new }
     ensures usage { UsageFalls group result machine.old machine.new }
 {
     if unit.is_dirty {
         return 0;
     }
-    if is_spared(unit, marks_count) {
+    if is_spared(unit, spares_marked) {
         machine.renew(group, frame);
         return 0;
     }

@@ -110,7 +110,7 @@ fn is_candidate<N: BootName>(machine: &Machine<N>, group: GroupId, other: GroupI
 }
 
 /// How many groups may be killed for a group and have frames of their own.
-pub(crate) fn candidates<N: BootName>(machine: &Machine<N>, group: GroupId) -> u32
+pub(crate) fn count_candidates<N: BootName>(machine: &Machine<N>, group: GroupId) -> u32
     requires { IsTrue (has_group machine.now.ledger.groups group) }
     ensures { result ≡ candidates machine.now group }
 {

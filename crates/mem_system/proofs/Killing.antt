@@ -57,7 +57,7 @@ makes_quiet path other call h = absurd h
 lowers_quiet : (g limit : ℕ) (call : Transition KnownMachine) → LowersUsage g limit call → has_kill call.steps ≡ false
 lowers_quiet g limit call h =
     ap has_kill h.steps_are
-    ∙ no_kill_both (drain_stocks_steps h.drains) h.reclaims.steps (quiet_drains h.drains).quiet h.reclaims.moves.quiet
+    ∙ no_kill_both (drain_stocks_steps h.drains) h.reclaims.steps (quiet_drains h.drains).no_kill h.reclaims.moves.no_kill
 
 removes_quiet : (path : List ℕ) (said : Reply) (call : Transition KnownMachine) → Removes path said call → has_kill call.steps ≡ false
 removes_quiet path reply.Done call h =
@@ -79,7 +79,7 @@ notes_quiet is_dirty f (reply.Refused fault.NotKept) call h = ap has_kill h.stay
 notes_quiet is_dirty f other call h = absurd h
 
 cuts_quiet : (sizes : Config) (call : Transition VisitState) → CutsList sizes call → has_kill call.steps ≡ false
-cuts_quiet sizes call h = ap has_kill h.steps_are ∙ (back_calm call.before.cpu.number h.cut).quiet
+cuts_quiet sizes call h = ap has_kill h.steps_are ∙ (back_calm call.before.cpu.number h.cut).no_kill
 
 lists_quiet : (sizes : Config) (f : ℕ) (call : Transition VisitState) → ListsFrame sizes f call → has_kill call.steps ≡ false
 lists_quiet sizes f call h =
@@ -155,7 +155,7 @@ module _ (t : KnownTable) (MayAsk : List Group → ℕ → ℕ → Type 0) (s : 
       let x = with_watch (with_limit_of s g of) h.seen in
       let first = set_max_steps g of in
       let all = subst (λ (k : Run). IsLocalRun c.number (local_of t s c) k z) h.steps_are whole in
-      let set = passes_same t c s x first (all.0, refl) refl refl (record { quiet = refl; no_miss = λ f. refl }) in
+      let set = passes_same t c s x first (all.0, refl) refl refl (record { no_kill = refl; no_miss = λ f. refl }) in
       subst (λ (k : Run). RashFree t MayAsk s c [] k) (sym h.steps_are) (rash_both t MayAsk s c [] first h.lowering
       (rash_quiet t MayAsk s c [] first refl)
       (keeps_rash g of first x h.lowering n (limit_of-limited s.ledger.groups g of there) asked set h.keeps))
@@ -174,7 +174,7 @@ set_no_rash t cmd path name value g Max s c steps n z is asks whole h =
 set_no_rash t cmd path name value g OomGroup s c steps n z is asks whole h =
     rash_quiet t (MayAskFor cmd s.ledger.groups) s c [] steps (ap has_kill h.sets.steps_are)
 set_no_rash t cmd path name value g Reclaim s c steps n z is asks whole h =
-    rash_quiet t (MayAskFor cmd s.ledger.groups) s c [] steps (ap has_kill h.steps_are ∙ h.reclaims.moves.quiet)
+    rash_quiet t (MayAskFor cmd s.ledger.groups) s c [] steps (ap has_kill h.steps_are ∙ h.reclaims.moves.no_kill)
 set_no_rash t cmd path name value g file s c steps n z is asks whole h = absurd h
 
 writes_no_rash : (t : KnownTable) (cmd : Cmd) (path name value : List ℕ) (said : Reply) (s : KnownMachine) (c : KnownCpu) (steps : Run) (n : KnownMachine)
@@ -188,7 +188,7 @@ writes_no_rash t cmd path name value (reply.Refused fault) s c steps n z asks wh
   | inl r ↦ rash_quiet t (MayAskFor cmd s.ledger.groups) s c [] steps (ap has_kill r.1.steps_are)
   | inr short ↦
       let frees = short.falls.frees in
-      rash_quiet t (MayAskFor cmd s.ledger.groups) s c [] steps (ap has_kill frees.steps_are ∙ frees.reclaims.moves.quiet)
+      rash_quiet t (MayAskFor cmd s.ledger.groups) s c [] steps (ap has_kill frees.steps_are ∙ frees.reclaims.moves.no_kill)
 ]
 writes_no_rash t cmd path name value other s c steps n z asks whole h = absurd h
 

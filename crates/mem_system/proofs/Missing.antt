@@ -35,7 +35,7 @@ use Rattle.mem_system.specs.Commands.{Executes}
 makes_counts : (path : List ℕ) (said : Reply) (call : Transition KnownMachine) → MakesGroup path said call → CountsMisses call
 makes_counts path (reply.Group n) call h =
     counts_as call.table call.before call.after call.steps (make_steps path n) h.steps_are
-    (counts_same call.table call.before call.after (make_steps path n) (record { quiet = refl; no_miss = λ f. refl })
+    (counts_same call.table call.before call.after (make_steps path n) (record { no_kill = refl; no_miss = λ f. refl })
     (ap (λ (x : KnownMachine). x.frame_seat) h.adds.machine))
 makes_counts path (reply.Refused fault) call h = counts_rest call.table call.before call.after call.steps h.1.machine h.1.steps_are
 makes_counts path other call h = absurd h
@@ -53,7 +53,7 @@ removes_counts path reply.Done call h =
     counts_as t call.before call.after call.steps (h.lowering ++ remove_steps h.group) h.steps_are
     (counts_both t call.before h.emptied call.after h.lowering (remove_steps h.group)
     (lowers_counts h.group 0 (transition t call.before h.lowering h.emptied) h.lowers)
-    (counts_same t h.emptied call.after (remove_steps h.group) (record { quiet = refl; no_miss = λ f. refl })
+    (counts_same t h.emptied call.after (remove_steps h.group) (record { no_kill = refl; no_miss = λ f. refl })
     (ap (λ (x : KnownMachine). x.frame_seat) h.machine)))
 removes_counts path (reply.Refused fault.Busy) call h = lowers_counts h.group 0 call h.lowers
 removes_counts path (reply.Refused other) call h = counts_rest call.table call.before call.after call.steps h.1.machine h.1.steps_are
@@ -79,7 +79,7 @@ sets_counts g of call h =
     let x = with_watch (with_limit_of call.before g of) h.seen in
     counts_as t call.before call.after call.steps (set_max_steps g of ++ h.lowering) h.steps_are
     (counts_both t call.before x call.after (set_max_steps g of) h.lowering
-    (counts_same t call.before x (set_max_steps g of) (record { quiet = refl; no_miss = λ f. refl }) refl)
+    (counts_same t call.before x (set_max_steps g of) (record { no_kill = refl; no_miss = λ f. refl }) refl)
     (keeps_counts g of (transition t x h.lowering call.after) h.keeps))
 
 set_counts : (file : File) (value : List ℕ) (g : ℕ) (call : Transition KnownMachine) → SetsFile file value g call → CountsMisses call
@@ -87,7 +87,7 @@ set_counts Max value g call h = sets_counts g h.limit call h.sets
 set_counts OomGroup value g call h =
     let steps = set_oom_group_steps g h.flag in
     counts_as call.table call.before call.after call.steps steps h.sets.steps_are
-    (counts_same call.table call.before call.after steps (record { quiet = refl; no_miss = λ f. refl })
+    (counts_same call.table call.before call.after steps (record { no_kill = refl; no_miss = λ f. refl })
     (ap (λ (x : KnownMachine). x.frame_seat) h.sets.machine))
 set_counts Reclaim value g call h =
     counts_as call.table call.before call.after call.steps h.reclaims.steps h.steps_are h.reclaims.moves.misses
@@ -110,7 +110,7 @@ heads_none f call h = counts_rest call.table call.before call.after call.steps h
 seat_stays : (call : Transition KnownMachine) → call.after.frame_seat ≡ call.before.frame_seat → call.steps ≡ [] → CountsMisses call
 seat_stays call same none =
     counts_as call.table call.before call.after call.steps [] none
-    (counts_same call.table call.before call.after [] (record { quiet = refl; no_miss = λ f. refl }) same)
+    (counts_same call.table call.before call.after [] (record { no_kill = refl; no_miss = λ f. refl }) same)
 
 touches_counts : (f : ℕ) (said : Reply) (call : Transition KnownMachine) → TouchesFrame f said call → CountsMisses call
 touches_counts f reply.Marked call h = seat_stays call (ap (λ (x : KnownMachine). x.frame_seat) h.0.machine) h.1
@@ -134,7 +134,7 @@ lists_counts sizes f call h =
     let cuts = counts_as t m x h.cutting cut h.cuts.steps_are
     (counts_none t m x cut (back_calm p h.cuts.cut) (back_same h.cuts.cut call.before h.mid h.cuts.takes)) in
     counts_as t m n call.steps (h.cutting ++ lend_steps p f) h.steps_are (counts_both t m x n h.cutting (lend_steps p f) cuts
-    (counts_none t x n (lend_steps p f) (record { quiet = refl; no_miss = λ g. refl })
+    (counts_none t x n (lend_steps p f) (record { no_kill = refl; no_miss = λ g. refl })
     (λ g. ap (λ (k : KnownMachine). misses_of k.frame_seat g) h.lends.machine ∙ misses_put x.frame_seat f g (passed_out_to h.mid.cpu.number) (λ k. refl))))
 
 returns_counts : (sizes : Config) (f : ℕ) (call : Transition VisitState) → ReturnsFrames sizes f call → CountsMisses (of_machine call)
@@ -143,7 +143,7 @@ returns_counts sizes f call h =
     let m = call.before.machine in
     let n = call.after.machine in
     let first = release_steps f released.Returned in
-    let back = counts_none t m h.freed first (record { quiet = refl; no_miss = λ g. refl })
+    let back = counts_none t m h.freed first (record { no_kill = refl; no_miss = λ g. refl })
     (λ g. ap (λ (k : KnownMachine). misses_of k.frame_seat g) h.returns.machine ∙ misses_put m.frame_seat f g dropped_last (λ k. refl)) in
     let listed : CountsMisses (transition t h.freed h.listing n) = elim (cases_eq h.returns.unit.order 0) [
       | inl single ↦ lists_counts sizes f (transition t (visit_state h.freed call.before.cpu) h.listing call.after) (h.single single)
@@ -156,7 +156,7 @@ releases_counts sizes f (reply.Left left) call h =
     let m = call.before.machine in
     let n = call.after.machine in
     let steps = release_steps f (released.Left left) in
-    counts_as call.table m n call.steps steps h.steps_are (counts_none call.table m n steps (record { quiet = refl; no_miss = λ g. refl })
+    counts_as call.table m n call.steps steps h.steps_are (counts_none call.table m n steps (record { no_kill = refl; no_miss = λ g. refl })
     (λ g. ap (λ (k : KnownMachine). misses_of k.frame_seat g) h.leaves.machine ∙ misses_put m.frame_seat f g (dropped_one left) (λ k. refl)))
 releases_counts sizes f reply.Returned call h = returns_counts sizes f call h
 releases_counts sizes f (reply.Refused fault.NotKept) call h = heads_none f (of_machine call) h.does

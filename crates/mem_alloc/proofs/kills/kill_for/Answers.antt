@@ -57,7 +57,7 @@ kills-smaller g c =
     let kills : IsKilledBy t c.args.limited killed x n = subst (λ (o : Option Killed). KillsVictim t c.args.limited o x n) c.in-Some.is c.kill.ensures.kills in
     let marked : n.killed ≡ with_all_killed x.killed (kill_set x killed) =
     subst (λ (o : Option Killed). IfSome o (λ k. n.killed ≡ with_all_killed x.killed (kill_set x k))) c.in-Some.is c.kill.ensures.marked in
-    fewer_alive t g.N.BootName.stocks x n c.args.limited killed c.frame_states-frame_states.ensures.consistent charges most kills.head_is marked
+    fewer_alive t g.N.BootName.stocks x n c.args.limited killed c.frame_states-frame_states.ensures.consistent charges most kills.killed_root_is marked
 
 pub kills-preserved : goal.kills-preserved
 kills-preserved g c =

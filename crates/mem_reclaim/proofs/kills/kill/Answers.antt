@@ -6,15 +6,15 @@ use Rattle.mem_machine.specs.Machines.{KnownMachine}
 use Rattle.mem_reclaim.specs.Sets.{HasNoFlagged, IsHighestFlagged, alive_below}
 use Rattle.mem_reclaim.specs.Killing.{KillsSubtree}
 use Rattle.mem_reclaim.proofs.Choosing.{chosen_there}
-use Rattle.mem_reclaim.proofs.Heads.{on_path_there}
+use Rattle.mem_reclaim.proofs.KilledRoots.{on_path_there}
 use Rattle.mem_reclaim.proofs.KillSets.{KilledSo, OneKilled, alone_killed, head_killed}
 use Rattle.mem_reclaim.proofs.kills.kill.Goals as goal
 
-pub kill_subtree-requires-clause-head : goal.kill_subtree-requires-clause-head
-kill_subtree-requires-clause-head g c =
+pub kill_subtree-requires-clause-killed_root : goal.kill_subtree-requires-clause-killed_root
+kill_subtree-requires-clause-killed_root g c =
     let groups : c.tree-tree.result.now ≡ c.note_victim.new.machine.ledger.groups = c.tree-tree.ensures.tree ∙ ap (λ (l : Ledger). l.groups) c.charges.ensures in
-    on_path_there c.note_victim.new.machine.ledger.groups c.args.group c.in_ok-victim.victim c.in-Some.head
-    (subst (λ (l : List Group). IsHighestFlagged l c.args.group c.in_ok-victim.victim c.in-Some.head) groups c.in-Some.ensures.highest).between
+    on_path_there c.note_victim.new.machine.ledger.groups c.args.group c.in_ok-victim.victim c.in-Some.killed_root
+    (subst (λ (l : List Group). IsHighestFlagged l c.args.group c.in_ok-victim.victim c.in-Some.killed_root) groups c.in-Some.ensures.highest).between
 
 pub kill_noted-requires-clause-there : goal.kill_noted-requires-clause-there
 kill_noted-requires-clause-there g c =
@@ -27,7 +27,7 @@ returns-in-Some g c =
     let a = c.note_victim.new.machine in
     let n = c.kill_subtree.new.machine in
     let v = c.in_ok-victim.victim in
-    let h = c.in-Some.head in
+    let h = c.in-Some.killed_root in
     let e = c.kill_subtree.ensures in
     let so : KilledSo t (alive_below a h) (KillsSubtree t c.args.group h) a n =
     record { kills = e.kills; marked = e.marked; drained = e.drained; stocks = e.stocks; none_kept = e.none_kept; keeps = e.keeps } in

@@ -7,9 +7,11 @@ pub returns : goal.returns
 returns g c =
     let t = g.N.BootName.frames in
     let e = c.kill_below.ensures in
-    let below : KilledSo t (alive_below c.note_subtree.new.machine c.args.head) (KillsGroups t c.args.limited (alive_below c.note_subtree.new.machine c.args.head))
+    let below : KilledSo t (alive_below c.note_subtree.new.machine c.args.killed_root) (KillsGroups t c.args.limited
+    (alive_below c.note_subtree.new.machine c.args.killed_root))
     c.note_subtree.new.machine c.kill_below.new.machine =
     record { kills = e.kills; marked = e.marked; drained = e.drained; stocks = e.stocks; none_kept = e.none_kept; keeps = e.keeps } in
-    let so = subtree_killed t c.args.limited c.args.head c.args.machine.now c.note_subtree.new.machine c.kill_below.new.machine c.note_group_kill.new.self
+    let so = subtree_killed t c.args.limited c.args.killed_root c.args.machine.now c.note_subtree.new.machine c.kill_below.new.machine
+    c.note_group_kill.new.self
     c.note_subtree.ensures below c.note_group_kill.ensures.machine c.note_group_kill.ensures.usage c.note_group_kill.ensures.steps in
     record { kills = so.kills; marked = so.marked; drained = so.drained; stocks = so.stocks; none_kept = so.none_kept; keeps = so.keeps }

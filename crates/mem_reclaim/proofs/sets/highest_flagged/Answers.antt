@@ -2,7 +2,7 @@ use Rattle.std.proofs.Common.{◌≡◌, ℕ, Bool, Option, sym, ap, ◌∙◌, 
 use Rattle.std.proofs.lemmas.Bool.{eqb-false, eqb-true}
 use Rattle.group_tree.proofs.CallerLemmas.{in_subtree-below}
 use Rattle.mem_reclaim.specs.Sets.{IsFlaggedAbove}
-use Rattle.mem_reclaim.proofs.Heads.{HeadSoFar, head_after, head_end, head_first, head_on, head_turn, never_past, never_root}
+use Rattle.mem_reclaim.proofs.KilledRoots.{RootSoFar, root_after, root_end, head_first, root_on, root_turn, never_past, never_root}
 use Rattle.mem_reclaim.proofs.sets.highest_flagged.Goals as goal
 use Rattle.mem_reclaim.proofs.sets.highest_flagged.Goals.{then-oom_group, else-oom_group}
 
@@ -17,7 +17,7 @@ loop-above-init c =
 
 pub oom_group-requires : goal.oom_group-requires
 oom_group-requires c =
-    (head_turn c.args.tree.now c.groups-groups.ensures.legal c.args.limited c.args.victim c.in-Some.above c.loop-above.head c.loop-above.above-iterator
+    (root_turn c.args.tree.now c.groups-groups.ensures.legal c.args.limited c.args.victim c.in-Some.above c.loop-above.killed_root c.loop-above.above-iterator
     c.next.new.self c.loop-above.invariant c.in-Some.ensures.steps).turn.there
 
 pub loop-above-preserved : goal.loop-above-preserved
@@ -25,14 +25,14 @@ loop-above-preserved c =
     let groups = c.args.tree.now in
     let facts = c.groups-groups.ensures.legal in
     let m = c.in-Some.above in
-    let t = head_turn groups facts c.args.limited c.args.victim m c.loop-above.head c.loop-above.above-iterator c.next.new.self c.loop-above.invariant
+    let t = root_turn groups facts c.args.limited c.args.victim m c.loop-above.killed_root c.loop-above.above-iterator c.next.new.self c.loop-above.invariant
     c.in-Some.ensures.steps in
-    let head : head_after c.oom_group.result m c.loop-above.head ≡ c.if-oom_group.head = elim c.if-oom_group.branch [
-      | then-oom_group w ↦ ap (λ (b : Bool). head_after b m c.loop-above.head) w.if-oom_group.true ∙ sym w.head-is
-      | else-oom_group w ↦ ap (λ (b : Bool). head_after b m c.loop-above.head) w.if-oom_group.false ∙ sym w.head-is
+    let root : root_after c.oom_group.result m c.loop-above.killed_root ≡ c.if-oom_group.killed_root = elim c.if-oom_group.branch [
+      | then-oom_group w ↦ ap (λ (b : Bool). root_after b m c.loop-above.killed_root) w.if-oom_group.true ∙ sym w.killed_root-is
+      | else-oom_group w ↦ ap (λ (b : Bool). root_after b m c.loop-above.killed_root) w.if-oom_group.false ∙ sym w.killed_root-is
     ] in
-    subst (λ (h : Option ℕ). HeadSoFar groups c.args.limited c.args.victim h c.next.new.self) head
-    (head_on groups facts c.args.limited c.args.victim m c.loop-above.head c.next.new.self t c.oom_group.result (sym c.oom_group.ensures)
+    subst (λ (h : Option ℕ). RootSoFar groups c.args.limited c.args.victim h c.next.new.self) root
+    (root_on groups facts c.args.limited c.args.victim m c.loop-above.killed_root c.next.new.self t c.oom_group.result (sym c.oom_group.ensures)
     (eqb-false m c.args.limited (sym c.eq.ensures ∙ c.if-eq.false)))
 
 pub returns-then-eq : goal.returns-then-eq
@@ -40,19 +40,20 @@ returns-then-eq c =
     let groups = c.args.tree.now in
     let facts = c.groups-groups.ensures.legal in
     let m = c.in-Some.above in
-    let t = head_turn groups facts c.args.limited c.args.victim m c.loop-above.head c.loop-above.above-iterator c.next.new.self c.loop-above.invariant
+    let t = root_turn groups facts c.args.limited c.args.victim m c.loop-above.killed_root c.loop-above.above-iterator c.next.new.self c.loop-above.invariant
     c.in-Some.ensures.steps in
-    let head : head_after c.oom_group.result m c.loop-above.head ≡ c.if-oom_group.head = elim c.if-oom_group.branch [
-      | then-oom_group w ↦ ap (λ (b : Bool). head_after b m c.loop-above.head) w.if-oom_group.true ∙ sym w.head-is
-      | else-oom_group w ↦ ap (λ (b : Bool). head_after b m c.loop-above.head) w.if-oom_group.false ∙ sym w.head-is
+    let root : root_after c.oom_group.result m c.loop-above.killed_root ≡ c.if-oom_group.killed_root = elim c.if-oom_group.branch [
+      | then-oom_group w ↦ ap (λ (b : Bool). root_after b m c.loop-above.killed_root) w.if-oom_group.true ∙ sym w.killed_root-is
+      | else-oom_group w ↦ ap (λ (b : Bool). root_after b m c.loop-above.killed_root) w.if-oom_group.false ∙ sym w.killed_root-is
     ] in
-    let highest : IsFlaggedAbove groups c.args.limited c.args.victim c.if-oom_group.head =
-    subst (λ (h : Option ℕ). IsFlaggedAbove groups c.args.limited c.args.victim h) head
-    (head_end groups facts c.args.limited c.args.victim m c.loop-above.head c.next.new.self t c.oom_group.result (sym c.oom_group.ensures)
+    let highest : IsFlaggedAbove groups c.args.limited c.args.victim c.if-oom_group.killed_root =
+    subst (λ (h : Option ℕ). IsFlaggedAbove groups c.args.limited c.args.victim h) root
+    (root_end groups facts c.args.limited c.args.victim m c.loop-above.killed_root c.next.new.self t c.oom_group.result (sym c.oom_group.ensures)
     (eqb-true m c.args.limited (sym c.eq.ensures ∙ c.if-eq.true))) in
-    record { highest = highest; below_root = never_root groups facts c.args.limited c.args.victim c.if-oom_group.head highest }
+    record { highest = highest; below_root = never_root groups facts c.args.limited c.args.victim c.if-oom_group.killed_root highest }
 
 pub returns : goal.returns
 returns c =
-    absurd (never_past c.args.tree.now c.groups-groups.ensures.legal c.args.limited c.args.victim c.loop-above.head c.loop-above.above-iterator c.loop-above.invariant
+    absurd (never_past c.args.tree.now c.groups-groups.ensures.legal c.args.limited c.args.victim c.loop-above.killed_root c.loop-above.above-iterator
+    c.loop-above.invariant
     c.in-None.ensures.steps.0 c.requires)

@@ -6,7 +6,7 @@ use Rattle.mem_reclaim.proofs.try_reclaim.try_reclaim.Goals as goal
 
 pub returns-clause-attempts : goal.returns-clause-attempts
 returns-clause-attempts g c =
-    meets_tried g.N.BootName.frames c.args.marks_count c.args.group c.args.frame c.args.unit _ _ c.evict.result c.unwrap_or.result c.if-unit.false
+    meets_tried g.N.BootName.frames c.args.spares_marked c.args.group c.args.frame c.args.unit _ _ c.evict.result c.unwrap_or.result c.if-unit.false
     (sym c.is_spared.ensures ∙ c.if-is_spared.false) (ap (λ (x : Entry). x.number) c.requires.unit) c.evict.ensures.evicts c.evict.ensures.steps
     c.unwrap_or.ensures
 
@@ -17,9 +17,9 @@ returns-clause-keeps g c =
 
 pub returns-then-is_spared-clause-attempts : goal.returns-then-is_spared-clause-attempts
 returns-then-is_spared-clause-attempts g c =
-    meets_spared g.N.BootName.frames c.args.marks_count c.args.group c.args.frame c.args.unit c.args.machine.now c.renew.new.self c.if-unit.false
+    meets_spared g.N.BootName.frames c.args.spares_marked c.args.group c.args.frame c.args.unit c.args.machine.now c.renew.new.self c.if-unit.false
     (sym c.is_spared.ensures ∙ c.if-is_spared.true) (ap (λ (x : Entry). x.number) c.requires.unit) c.renew.ensures.renews c.renew.ensures.steps
 
 pub returns-then-unit-clause-attempts : goal.returns-then-unit-clause-attempts
 returns-then-unit-clause-attempts g c =
-    meets_dirty g.N.BootName.frames c.args.marks_count c.args.group c.args.unit c.args.machine.now c.if-unit.true
+    meets_dirty g.N.BootName.frames c.args.spares_marked c.args.group c.args.unit c.args.machine.now c.if-unit.true

@@ -30,28 +30,28 @@ on_path_there groups limited victim group is = in_subtree-below groups limited g
 -- ---- as far as the walk up has come
 
 -- of the flagged groups that the walk has passed this one is the highest
-pub record HighestPassed (groups : List Group) (victim : ℕ) (next : Option ℕ) (head : ℕ) : Type 0 where
-  pub flag : is_oom_group groups head ≡ true
-  pub passed : is_passed groups victim next head ≡ true
-  pub highest : (k : ℕ) → is_passed groups victim next k ≡ true → is_oom_group groups k ≡ true → in_subtree groups head k ≡ true
+pub record HighestPassed (groups : List Group) (victim : ℕ) (next : Option ℕ) (root : ℕ) : Type 0 where
+  pub flag : is_oom_group groups root ≡ true
+  pub passed : is_passed groups victim next root ≡ true
+  pub highest : (k : ℕ) → is_passed groups victim next k ≡ true → is_oom_group groups k ≡ true → in_subtree groups root k ≡ true
 
 -- the highest of them, or there is none
 abbrev pub HighestSoFar : List Group → (victim : ℕ) (next : Option ℕ) → Option ℕ → Type 0
 HighestSoFar groups victim next None = (k : ℕ) → is_passed groups victim next k ≡ true → is_oom_group groups k ≡ false
-HighestSoFar groups victim next (Some head) = HighestPassed groups victim next head
+HighestSoFar groups victim next (Some root) = HighestPassed groups victim next root
 
 -- the group isn't this one
 abbrev pub is_other : ℕ → ℕ → Bool
 is_other limited k = not (k == limited)
 
 -- the walk up from the victim, which hasn't passed the group `limited` yet
-pub record HeadSoFar (groups : List Group) (limited victim : ℕ) (head : Option ℕ) (left : List ℕ) : Type 0 where
+pub record RootSoFar (groups : List Group) (limited victim : ℕ) (root : Option ℕ) (left : List ℕ) : Type 0 where
   pub next : Option ℕ
   pub walk : WalkAt groups (is_other limited) victim next left
-  pub so : HighestSoFar groups victim next head
+  pub so : HighestSoFar groups victim next root
 
 pub head_first : (groups : List Group) (limited victim : ℕ) (left : List ℕ) → has_group groups victim ≡ true → left ≡ ancestors_of groups victim
-    → HeadSoFar groups limited victim None left
+    → RootSoFar groups limited victim None left
 head_first groups limited victim left there is = record {
   next = Some victim;
   walk = at_start groups (is_other limited) victim left there is;
@@ -59,15 +59,16 @@ head_first groups limited victim left there is = record {
 }
 
 -- the turn of group m, at which the walk has come
-pub record HeadTurn (groups : List Group) (limited victim m : ℕ) (head : Option ℕ) (rest : List ℕ) : Type 0 where
+pub record RootTurn (groups : List Group) (limited victim m : ℕ) (root : Option ℕ) (rest : List ℕ) : Type 0 where
   pub turn : TurnAt groups (is_other limited) victim m rest
-  pub so : HighestSoFar groups victim (Some m) head
+  pub so : HighestSoFar groups victim (Some m) root
 
-pub head_turn : (groups : List Group) → AreGroups groups → (limited victim m : ℕ) (head : Option ℕ) (left rest : List ℕ) → HeadSoFar groups limited victim head left
-    → left ≡ m ∷ rest → HeadTurn groups limited victim m head rest
-head_turn groups facts limited victim m head left rest s is = record {
+pub root_turn : (groups : List Group) → AreGroups groups → (limited victim m : ℕ) (root : Option ℕ) (left rest : List ℕ)
+    → RootSoFar groups limited victim root left
+    → left ≡ m ∷ rest → RootTurn groups limited victim m root rest
+root_turn groups facts limited victim m root left rest s is = record {
   turn = at_turn groups (is_other limited) victim m s.next left rest facts s.walk is;
-  so = subst (λ (o : Option ℕ). HighestSoFar groups victim o head) (at_next groups (is_other limited) victim m s.next left rest facts s.walk is) s.so;
+  so = subst (λ (o : Option ℕ). HighestSoFar groups victim o root) (at_next groups (is_other limited) victim m s.next left rest facts s.walk is) s.so;
 }
 
 -- who was passed on the way to m, and isn't m
@@ -97,8 +98,8 @@ module _ (groups : List Group) (facts : AreGroups groups) (victim m : ℕ) (ther
     ];
   }
 
-  turn_plain : (head : Option ℕ) → HighestSoFar groups victim (Some m) head → is_oom_group groups m ≡ false
-      → HighestSoFar groups victim (parent_of groups m) head
+  turn_plain : (root : Option ℕ) → HighestSoFar groups victim (Some m) root → is_oom_group groups m ≡ false
+      → HighestSoFar groups victim (parent_of groups m) root
   turn_plain None so flag = λ k passed. elim (cases_eq k m) [
     | inl e ↦ ap (is_oom_group groups) e ∙ flag
     | inr ne ↦ so k (passed_before k ne passed)
@@ -132,8 +133,8 @@ module _ (groups : List Group) (facts : AreGroups groups) (victim m : ℕ) (ther
   ]
 
   -- so if m is the group `limited`, this is the highest flagged group on the path
-  pub passed_limited : in_subtree groups m victim ≡ true → (head : Option ℕ) → HighestSoFar groups victim (parent_of groups m) head
-      → IsFlaggedAbove groups m victim head
+  pub passed_limited : in_subtree groups m victim ≡ true → (root : Option ℕ) → HighestSoFar groups victim (parent_of groups m) root
+      → IsFlaggedAbove groups m victim root
   passed_limited on None so = λ k. elim (cases_Bool (is_flagged_between groups m victim k)) [
     | inl is ↦
         let p = on_path_is groups m victim k is in
@@ -148,41 +149,43 @@ module _ (groups : List Group) (facts : AreGroups groups) (victim m : ℕ) (ther
   }
 
 -- the highest flagged group after the turn of m, by whether m is flagged
-abbrev pub head_after : Bool → ℕ → Option ℕ → Option ℕ
-head_after true m head = Some m
-head_after false m head = head
+abbrev pub root_after : Bool → ℕ → Option ℕ → Option ℕ
+root_after true m root = Some m
+root_after false m root = root
 
-pub turn_after : (groups : List Group) → AreGroups groups → (limited victim m : ℕ) (head : Option ℕ) (rest : List ℕ) → HeadTurn groups limited victim m head rest
-    → (flag : Bool) → is_oom_group groups m ≡ flag → HighestSoFar groups victim (parent_of groups m) (head_after flag m head)
-turn_after groups facts limited victim m head rest t true is = turn_flagged groups facts victim m t.turn.there t.turn.walked.on_path is
-turn_after groups facts limited victim m head rest t false is = turn_plain groups facts victim m t.turn.there head t.so is
+pub turn_after : (groups : List Group) → AreGroups groups → (limited victim m : ℕ) (root : Option ℕ) (rest : List ℕ)
+    → RootTurn groups limited victim m root rest
+    → (flag : Bool) → is_oom_group groups m ≡ flag → HighestSoFar groups victim (parent_of groups m) (root_after flag m root)
+turn_after groups facts limited victim m root rest t true is = turn_flagged groups facts victim m t.turn.there t.turn.walked.on_path is
+turn_after groups facts limited victim m root rest t false is = turn_plain groups facts victim m t.turn.there root t.so is
 
 -- the walk goes on
-pub head_on : (groups : List Group) → AreGroups groups → (limited victim m : ℕ) (head : Option ℕ) (rest : List ℕ) → HeadTurn groups limited victim m head rest
-    → (flag : Bool) → is_oom_group groups m ≡ flag → m ≢ limited → HeadSoFar groups limited victim (head_after flag m head) rest
-head_on groups facts limited victim m head rest t flag is other = record {
+pub root_on : (groups : List Group) → AreGroups groups → (limited victim m : ℕ) (root : Option ℕ) (rest : List ℕ) → RootTurn groups limited victim m root rest
+    → (flag : Bool) → is_oom_group groups m ≡ flag → m ≢ limited → RootSoFar groups limited victim (root_after flag m root) rest
+root_on groups facts limited victim m root rest t flag is other = record {
   next = parent_of groups m;
   walk = at_on groups (is_other limited) victim m rest facts t.turn (not_from_false (m == limited) (ne_eqb m limited other));
-  so = turn_after groups facts limited victim m head rest t flag is;
+  so = turn_after groups facts limited victim m root rest t flag is;
 }
 
 -- it has come to the group `limited`
-pub head_end : (groups : List Group) → AreGroups groups → (limited victim m : ℕ) (head : Option ℕ) (rest : List ℕ) → HeadTurn groups limited victim m head rest
-    → (flag : Bool) → is_oom_group groups m ≡ flag → m ≡ limited → IsFlaggedAbove groups limited victim (head_after flag m head)
-head_end groups facts limited victim m head rest t flag is same =
-    subst (λ (x : ℕ). IsFlaggedAbove groups x victim (head_after flag m head)) same
-    (passed_limited groups facts victim m t.turn.there t.turn.walked.on_path (head_after flag m head) (turn_after groups facts limited victim m head rest t flag is))
+pub root_end : (groups : List Group) → AreGroups groups → (limited victim m : ℕ) (root : Option ℕ) (rest : List ℕ) → RootTurn groups limited victim m root rest
+    → (flag : Bool) → is_oom_group groups m ≡ flag → m ≡ limited → IsFlaggedAbove groups limited victim (root_after flag m root)
+root_end groups facts limited victim m root rest t flag is same =
+    subst (λ (x : ℕ). IsFlaggedAbove groups x victim (root_after flag m root)) same
+    (passed_limited groups facts victim m t.turn.there t.turn.walked.on_path (root_after flag m root)
+    (turn_after groups facts limited victim m root rest t flag is))
 
 -- it comes to it, since that is on the path
-pub never_past : (groups : List Group) → AreGroups groups → (limited victim : ℕ) (head : Option ℕ) (left : List ℕ) → HeadSoFar groups limited victim head left
+pub never_past : (groups : List Group) → AreGroups groups → (limited victim : ℕ) (root : Option ℕ) (left : List ℕ) → RootSoFar groups limited victim root left
     → left ≡ [] → in_subtree groups limited victim ≡ true → ⊥
-never_past groups facts limited victim head left s none below =
+never_past groups facts limited victim root left s none below =
     let odd = at_end_passed groups (is_other limited) victim s.next left facts s.walk none limited below in
     true≢false (sym (eq-eqb limited limited refl) ∙ not-true (limited == limited) odd)
 
 -- the root has no flag
-pub never_root : (groups : List Group) → AreGroups groups → (limited victim : ℕ) (head : Option ℕ) → IsFlaggedAbove groups limited victim head
-    → IfSome head (λ h. h ≢ 0)
+pub never_root : (groups : List Group) → AreGroups groups → (limited victim : ℕ) (root : Option ℕ) → IsFlaggedAbove groups limited victim root
+    → IfSome root (λ h. h ≢ 0)
 never_root groups facts limited victim None so = tt
 never_root groups facts limited victim (Some h) so = λ e.
     true≢false (sym (on_path_is groups limited victim h so.between).flag ∙ ap (is_oom_group groups) e ∙ facts.root_flag)

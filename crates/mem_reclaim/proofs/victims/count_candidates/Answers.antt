@@ -1,8 +1,8 @@
 use Rattle.std.proofs.Common.{◌≡◌, ◌+◌, ℕ, true, false, sym, ap, ◌∙◌, subst, rules}
 use Rattle.mem_reclaim.specs.Victim.{is_candidate}
 use Rattle.mem_reclaim.proofs.Choosing.{CountedTo, counted_none, counted_more}
-use Rattle.mem_reclaim.proofs.victims.candidates.Goals as goal
-use Rattle.mem_reclaim.proofs.victims.candidates.Goals.{then-is_candidate, else-is_candidate}
+use Rattle.mem_reclaim.proofs.victims.count_candidates.Goals as goal
+use Rattle.mem_reclaim.proofs.victims.count_candidates.Goals.{then-is_candidate, else-is_candidate}
 
 pub loop-number-init : goal.loop-number-init
 loop-number-init g c = counted_none c.args.machine.now c.args.group
