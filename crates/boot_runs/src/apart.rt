@@ -30,8 +30,8 @@ fn sees<N: BootName, R: Wait + Abort>(
     let cpu = cpus.first_mut().expect(rt, "a CPU");
     let path: &[u8] = b"/a";
     Seen {
-        frames: system.show(rt, alloc, cpu).expect(rt, "memory"),
-        blocks: system.blocks(rt, alloc, cpu).expect(rt, "memory"),
+        frames: system.show_text(rt, alloc, cpu).expect(rt, "memory"),
+        blocks: system.blocks_text(rt, alloc, cpu).expect(rt, "memory"),
         group: system.find(rt, path),
     }
 }

@@ -102,12 +102,12 @@ fn tells<N: BootName, R: Wait + Abort>(
     system: &System<N>,
     cpu: &mut Cpu<N>,
 ) {
-    let shown = system.show(rt, alloc, cpu).expect(rt, "memory");
+    let shown = system.show_text(rt, alloc, cpu).expect(rt, "memory");
     expect_true(
         rt,
         shown.as_slice() == b"0-15 free\ncurrent /a 0\n".as_slice(),
     );
-    let blocks = system.blocks(rt, alloc, cpu).expect(rt, "memory");
+    let blocks = system.blocks_text(rt, alloc, cpu).expect(rt, "memory");
     expect_true(rt, blocks.as_slice() == b"4:0\n".as_slice());
 }
 

@@ -45,8 +45,8 @@ fn tells_both<N: BootName, R: Wait>(
     cpus: &mut [Cpu<N>],
 ) -> Option<(Vec<u8>, Vec<u8>)> {
     let cpu = cpus.first_mut()?;
-    let frames = system.show(rt, alloc, cpu).ok()?;
-    let blocks = system.blocks(rt, alloc, cpu).ok()?;
+    let frames = system.show_text(rt, alloc, cpu).ok()?;
+    let blocks = system.blocks_text(rt, alloc, cpu).ok()?;
     Some((frames, blocks))
 }
 

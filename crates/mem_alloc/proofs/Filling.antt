@@ -1,4 +1,4 @@
--- What is kept on the way to a frame, and how the parts of an allocation fit together. Serves `charge_frame`,
+-- What is kept on the way to a frame, and how the parts of an allocation fit together. Serves `fill_drained_stock`,
 -- `pay_for_frame`, `fill_list` and `alloc_frame`.
 use Rattle.std.proofs.Common.{◌≡◌, ℕ, zero, suc, ◌+◌, ◌<◌, ◌≤◌, true, false, List, [], ◌∷◌, ◌++◌, length, refl, sym, ap, ◌∙◌, subst, inl, inr}
 use Rattle.std.proofs.Common.{arith, length-append}
@@ -26,7 +26,7 @@ use Rattle.mem_alloc.specs.declared.faults.AllocFault.{AllocFault}
 use Rattle.mem_alloc.specs.declared.faults.AllocFault.TheVariants.{Over, NoFrames, RequesterKilled}
 use Rattle.mem_alloc.specs.Stepping.{BySteps, Finds, InTurn, OfMachineAlone, Transition, transition}
 use Rattle.mem_alloc.specs.Room.{AfterRoom, IsRefusedAt, IsRefusedFor, IsRefusedAtSome, MakesRoom}
-use Rattle.mem_alloc.specs.Charging.{ChargesAfterDrain, ChargesFrame, ChargesOne, DrainsStock, FillsStock, AfterBatchRefused, PaysForFrame}
+use Rattle.mem_alloc.specs.Charging.{ChargesAfterDrain, FillsDrainedStock, ChargesOne, DrainsStock, FillsStock, AfterBatchRefused, PaysForFrame}
 use Rattle.mem_alloc.specs.Rounds.{FailsInRounds}
 use Rattle.mem_alloc.specs.Frames.{AllocatesFrame, FillsList, HasNoFreeFrame, LendsBatch, LendsNoFrame, RefillsInRounds, RefillsList}
 use Rattle.mem_alloc.proofs.Making.{answer_is}
@@ -105,7 +105,7 @@ one_keeps t g (Ok v) m n c d steps h =
 one_keeps t g (Err e) m n c d steps h = refusal_keeps t g 1 e m n c d steps h
 
 charges_keep : (t : KnownTable) (sizes : Config) (g : ℕ) (r : Result (Unit {0}) AllocFault) (m n : KnownMachine) (c d : KnownCpu) (steps : Run)
-    → ChargesFrame sizes g r (transition t (visit_state m c) steps (visit_state n d)) → KeepsPart m c n d
+    → FillsDrainedStock sizes g r (transition t (visit_state m c) steps (visit_state n d)) → KeepsPart m c n d
 charges_keep t sizes g (Ok v) m n c d steps (inl h) = fills_keep g sizes.stock m n c d h.fills
 charges_keep t sizes g (Ok v) m n c d steps (inr h) =
     let x = with_watch m h.seen in
@@ -144,7 +144,8 @@ filled_page g k m n c d f some none =
     record { group = ap (λ (a : StockAccount). a.group) at; held = ap (λ (a : StockAccount). a.filled) at; some = omega (arith, book, fresh, some) }
 
 pub charged_page : (t : KnownTable) (sizes : Config) (g : ℕ) (r : Result (Unit {0}) AllocFault) (m n : KnownMachine) (c d : KnownCpu) (steps : Run)
-    → IsValidConfig sizes → ChargesFrame sizes g r (transition t (visit_state m c) steps (visit_state n d)) → c.fresh ≡ [] → OnOk r (HoldsPage (visit_state n d) g)
+    → IsValidConfig sizes → FillsDrainedStock sizes g r (transition t (visit_state m c) steps (visit_state n d)) → c.fresh ≡ []
+    → OnOk r (HoldsPage (visit_state n d) g)
 charged_page t sizes g (Ok v) m n c d steps valid (inl h) none = filled_page g sizes.stock m n c d h.fills valid.stock_low none
 charged_page t sizes g (Ok v) m n c d steps valid (inr h) none =
     filled_page g 1 h.does.cleared n c d h.does.does.fills (omega arith) none
@@ -217,7 +218,8 @@ lent_page frames g m n c d lends page =
 
 -- the batch fits
 pub batch_fits : (t : KnownTable) (sizes : Config) (g : ℕ) (m n : KnownMachine) (c d : KnownCpu) → Fills g sizes.stock (visit_state m c) (visit_state n d)
-    → MakesAs t c.number (visit_state m c) (fill_steps c.number g sizes.stock) (visit_state n d) → BySteps t (ChargesFrame sizes g (Ok tt)) (visit_state m c) (visit_state n d)
+    → MakesAs t c.number (visit_state m c) (fill_steps c.number g sizes.stock) (visit_state n d)
+    → BySteps t (FillsDrainedStock sizes g (Ok tt)) (visit_state m c) (visit_state n d)
 batch_fits t sizes g m n c d fills steps = record { steps = fill_steps c.number g sizes.stock; does = inl (record { fills = fills; steps_are = refl }); makes = steps }
 
 -- the batch doesn't fit, and then one page is charged, or is refused
@@ -236,7 +238,7 @@ module _ (t : KnownTable) (sizes : Config) (g over : ℕ) (m x n : KnownMachine)
       }
 
   pub one_charged : (r : Result (Unit {0}) AllocFault) → BySteps t (ChargesOne g r) (visit_state x y) (visit_state n d)
-      → BySteps t (ChargesFrame sizes g r) (visit_state m c) (visit_state n d)
+      → BySteps t (FillsDrainedStock sizes g r) (visit_state m c) (visit_state n d)
   one_charged (Ok v) b = let l = lacks (Ok v) b in record { steps = l.steps; does = inr l.does; makes = l.makes }
   one_charged (Err e) b = lacks (Err e) b
 
@@ -269,10 +271,10 @@ module _ (t : KnownTable) (pages q : ℕ) (m k x : KnownMachine) (c e : KnownCpu
   -- after a look, which showed no page of the group
   module _ (sizes : Config) (g : ℕ) (n : KnownMachine) (d : KnownCpu) (start : KnownMachine) (seen : m ≡ with_look start)
       (lacks : ¬ HoldsPage (visit_state start c) g) where
-    charges_anew : (r : Result (Unit {0}) AllocFault) → BySteps t (ChargesFrame sizes g r) (visit_state x e) (visit_state n d)
+    charges_anew : (r : Result (Unit {0}) AllocFault) → BySteps t (FillsDrainedStock sizes g r) (visit_state x e) (visit_state n d)
         → BySteps t (ChargesAfterDrain sizes g r) (visit_state start c) (visit_state n d)
     charges_anew r b =
-        let here = subst (λ (z : KnownCpu). BySteps t (ChargesFrame sizes g r) (visit_state x z) (visit_state n d)) mine b in
+        let here = subst (λ (z : KnownCpu). BySteps t (FillsDrainedStock sizes g r) (visit_state x z) (visit_state n d)) mine b in
         let all = own_steps ++ here.steps in
         let made = makes_both t c.number own_steps here.steps (visit_state m c) (visit_state x c) (visit_state n d) by_drain here.makes in
         let looked : MakesAs t c.number (visit_state (with_look start) c) all (visit_state n d) =
@@ -280,19 +282,20 @@ module _ (t : KnownTable) (pages q : ℕ) (m k x : KnownMachine) (c e : KnownCpu
           steps = all;
           does = record {
             is = lacks;
-            does = subst (λ (z : KnownMachine). InTurn DrainsStock (ChargesFrame sizes g r) (transition t (visit_state z c) all (visit_state n d))) seen (record {
-              between = visit_state x c;
-              earlier = own_steps;
-              later = here.steps;
-              first = drains_own;
-              second = here.does;
-              steps_are = refl;
-            });
+            does = subst (λ (z : KnownMachine). InTurn DrainsStock (FillsDrainedStock sizes g r) (transition t (visit_state z c) all (visit_state n d))) seen
+                (record {
+                  between = visit_state x c;
+                  earlier = own_steps;
+                  later = here.steps;
+                  first = drains_own;
+                  second = here.does;
+                  steps_are = refl;
+                });
           };
           makes = record { leads = looked.leads; follows = looked.follows; counts = looked.counts; watched = looked.watched };
         }
 
-    pub pays_anew : (r : Result (Unit {0}) AllocFault) → BySteps t (ChargesFrame sizes g r) (visit_state x e) (visit_state n d)
+    pub pays_anew : (r : Result (Unit {0}) AllocFault) → BySteps t (FillsDrainedStock sizes g r) (visit_state x e) (visit_state n d)
         → BySteps t (PaysForFrame sizes g r) (visit_state start c) (visit_state n d)
     pays_anew (Ok v) b = let h = charges_anew (Ok v) b in record { steps = h.steps; does = inr h.does; makes = h.makes }
     pays_anew (Err cause) b = charges_anew (Err cause) b

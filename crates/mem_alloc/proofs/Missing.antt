@@ -21,7 +21,7 @@ use Rattle.mem_alloc.specs.declared.faults.AllocFault.TheVariants.{Over, NoFrame
 use Rattle.mem_alloc.specs.Stepping.{CountsMisses, Finds, InTurn, OfMachineAlone, Stays, Transition, of_machine, transition}
 use Rattle.mem_alloc.specs.Kills.{KillsVictims, KillsForRoom, KillsOneVictim, has_room_at, with_oom_noted_at}
 use Rattle.mem_alloc.specs.Room.{AfterRoom, ClearsBelow, IsRefusedAt, IsRefusedFor, IsRefusedAtSome, KillsForFewPages, MakesRoom, RelievesLimit, with_max_noted_at}
-use Rattle.mem_alloc.specs.Charging.{ChargesAfterDrain, ChargesFrame, ChargesOne, DrainsStock, FillsStock, AfterBatchRefused, PaysForFrame}
+use Rattle.mem_alloc.specs.Charging.{ChargesAfterDrain, FillsDrainedStock, ChargesOne, DrainsStock, FillsStock, AfterBatchRefused, PaysForFrame}
 use Rattle.mem_alloc.specs.Rounds.{AfterZoneNote, FailsInRounds, FreesInRound, MakesRound, SucceedsInRounds}
 use Rattle.mem_alloc.specs.Frames.{AllocatesFrame, FillsList, HasNoFreeFrame, LendsBatch, LendsNoFrame, MakesRefillRounds, RefillsInRounds}
 use Rattle.mem_alloc.specs.Blocks.{AllocatesBlock, ChargesBlock, FindsNoBlock, MakesTakeRounds, RetriesBlock, TakesAfterDrain, TakesFreeBlock, TakesInRounds, TakesOrReclaims}
@@ -280,7 +280,7 @@ lacks_counts sizes g answer call h =
     (over_counts t g sizes.stock h.over m h.seen)
     (one_counts g answer (transition t (visit_state (with_watch m h.seen) call.before.cpu) h.later call.after) h.does))
 
-charges_count : (sizes : Config) (g : ℕ) (answer : Result (Unit {0}) AllocFault) → AllCounted (ChargesFrame sizes g answer)
+charges_count : (sizes : Config) (g : ℕ) (answer : Result (Unit {0}) AllocFault) → AllCounted (FillsDrainedStock sizes g answer)
 charges_count sizes g (Ok v) call (inl h) = stock_counts g sizes.stock call h
 charges_count sizes g (Ok v) call (inr h) = lacks_counts sizes g (Ok v) call h
 charges_count sizes g (Err cause) call h = lacks_counts sizes g (Err cause) call h
@@ -291,7 +291,7 @@ looked_call call = transition call.table (visit_state (with_look call.before.mac
 
 anew_counts : (sizes : Config) (g : ℕ) (answer : Result (Unit {0}) AllocFault) → AllCounted (ChargesAfterDrain sizes g answer)
 anew_counts sizes g answer call h =
-    counts_turns DrainsStock (ChargesFrame sizes g answer) drains_count (charges_count sizes g answer) (looked_call call) h.does
+    counts_turns DrainsStock (FillsDrainedStock sizes g answer) drains_count (charges_count sizes g answer) (looked_call call) h.does
 
 pays_count : (sizes : Config) (g : ℕ) (answer : Result (Unit {0}) AllocFault) → AllCounted (PaysForFrame sizes g answer)
 pays_count sizes g (Ok v) call (inl h) = counts_stay (looked_call call) h.does

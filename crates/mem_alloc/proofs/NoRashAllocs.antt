@@ -22,7 +22,7 @@ use Rattle.mem_reclaim.proofs.LettingGo.{quiet_drain}
 use Rattle.mem_alloc.specs.declared.faults.AllocFault.{AllocFault}
 use Rattle.mem_alloc.specs.declared.faults.AllocFault.TheVariants.{Over, NoFrames, RequesterKilled}
 use Rattle.mem_alloc.specs.Stepping.{Finds, InTurn, Transition, transition}
-use Rattle.mem_alloc.specs.Charging.{ChargesAfterDrain, ChargesFrame, ChargesOne, DrainsStock, FillsStock, AfterBatchRefused, PaysForFrame}
+use Rattle.mem_alloc.specs.Charging.{ChargesAfterDrain, FillsDrainedStock, ChargesOne, DrainsStock, FillsStock, AfterBatchRefused, PaysForFrame}
 use Rattle.mem_alloc.specs.Rounds.{AfterZoneNote, FailsInRounds, FreesInRound, MakesRound, SucceedsInRounds}
 use Rattle.mem_alloc.specs.Frames.{AllocatesFrame, FillsList, HasNoFreeFrame, LendsBatch, LendsNoFrame, MakesRefillRounds, RefillsInRounds}
 use Rattle.mem_alloc.specs.Blocks.{AllocatesBlock, ChargesBlock, FindsNoBlock, MakesTakeRounds, RetriesBlock, TakesAfterDrain, TakesFreeBlock, TakesInRounds, TakesOrReclaims}
@@ -168,7 +168,7 @@ module _ (t : KnownTable) (MayAsk : List Group → ℕ → ℕ → Type 0) (s : 
 
     charges_rash : (sizes : Config) (answer : Result (Unit {0}) AllocFault) (made : Run) (x : KnownMachine) (steps rest : Run) (n : VisitState) (z : State)
         → x.ledger.groups ≡ s.ledger.groups → Passes t c s made x → IsLocalRun c.number (local_of t x c) (steps ++ rest) z
-        → ChargesFrame sizes g answer (transition t (visit_state x c) steps n) → RashFree t MayAsk s c made steps
+        → FillsDrainedStock sizes g answer (transition t (visit_state x c) steps n) → RashFree t MayAsk s c made steps
     charges_rash sizes (Ok v) made x steps rest n z is since whole (inl h) = rash_quiet t MayAsk s c made steps (ap has_kill h.steps_are)
     charges_rash sizes (Ok v) made x steps rest n z is since whole (inr h) = lacks_rash sizes (Ok v) made x steps rest n z is since whole h
     charges_rash sizes (Err cause) made x steps rest n z is since whole h = lacks_rash sizes (Err cause) made x steps rest n z is since whole h
@@ -194,7 +194,7 @@ module _ (t : KnownTable) (MayAsk : List Group → ℕ → ℕ → Type 0) (s : 
         whole in
         let passes = drain_passes x h.earlier h.first in
         let on = run_rest c.number h.earlier (h.later ++ rest) (local_of t s c) (local_of t x.machine c) z passes.runs told in
-        let charges = subst (λ (y : KnownCpu). ChargesFrame sizes g answer (transition t (visit_state x.machine y) h.later n)) h.first.cpu h.second in
+        let charges = subst (λ (y : KnownCpu). FillsDrainedStock sizes g answer (transition t (visit_state x.machine y) h.later n)) h.first.cpu h.second in
         subst (λ (k : Run). RashFree t MayAsk s c [] k) (sym h.steps_are) (rash_both t MayAsk s c [] h.earlier h.later
         (rash_quiet t MayAsk s c [] h.earlier (drains_quiet (transition t (visit_state (with_look s) c) h.earlier x) h.first))
         (charges_rash sizes answer h.earlier x.machine h.later rest n z (drain_same (with_look s) x.machine c.number h.first.drained h.first.drains).groups passes on charges))

@@ -37,10 +37,10 @@ pub record AfterBatchRefused (sizes : Config) (group : ℕ) (Does : Transition V
 
 -- The CPU's drained stock is filled with `sizes.stock` pages or, if a limit has no room for them, with one. Or the
 -- charge of that one page is refused.
-abbrev pub ChargesFrame : Config → ℕ → Result (Unit {0}) AllocFault → Transition VisitState → Type 0
-ChargesFrame sizes group (Ok done) call =
+abbrev pub FillsDrainedStock : Config → ℕ → Result (Unit {0}) AllocFault → Transition VisitState → Type 0
+FillsDrainedStock sizes group (Ok done) call =
     FillsStock group sizes.stock call ⊎ AfterBatchRefused sizes group (ChargesOne group (Ok done)) call
-ChargesFrame sizes group (Err cause) call = AfterBatchRefused sizes group (ChargesOne group (Err cause)) call
+FillsDrainedStock sizes group (Err cause) call = AfterBatchRefused sizes group (ChargesOne group (Err cause)) call
 
 -- the CPU's own stock is drained of `drained` pages, which are uncharged from their group
 pub record DrainsStock (call : Transition VisitState) : Type 0 where
@@ -60,7 +60,7 @@ AfterLook Does call =
 -- charged.
 abbrev pub ChargesAfterDrain : Config → ℕ → Result (Unit {0}) AllocFault → Transition VisitState → Type 0
 ChargesAfterDrain sizes group answer call =
-    Finds (λ now. ¬ HoldsPage now group) (AfterLook (InTurn DrainsStock (ChargesFrame sizes group answer))) call
+    Finds (λ now. ¬ HoldsPage now group) (AfterLook (InTurn DrainsStock (FillsDrainedStock sizes group answer))) call
 
 -- The CPU's stock has a page of the group: a look shows that it had one before, or one is charged. Or that charge is
 -- refused.

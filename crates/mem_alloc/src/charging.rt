@@ -7,7 +7,7 @@ ghost use Rattle.mem_machine.specs.Machines.{Visits, is_killed};
 ghost use Rattle.mem_machine.specs.Paying.{HoldsPage, IsOfSize, MayCharge};
 ghost use Rattle.mem_machine.specs.Stocks.{IsDrained, with_look};
 ghost use Rattle.mem_alloc.specs.Stepping.{BySteps};
-ghost use Rattle.mem_alloc.specs.Charging.{ChargesFrame, ChargesOne, PaysForFrame};
+ghost use Rattle.mem_alloc.specs.Charging.{ChargesOne, FillsDrainedStock, PaysForFrame};
 ghost use Rattle.mem_machine.specs.Local.{visit_state};
 
 use crate::faults::AllocFault;
@@ -61,7 +61,7 @@ fn fill_one<N: BootName>(
 
 // Charges pages to the group and fills the CPU's drained stock with them: `sizes.stock` pages if every limit has room
 // for them, else one.
-fn charge_frame<N: BootName>(
+fn fill_drained_stock<N: BootName>(
     machine: &mut Machine<N>,
     tables: &Tables<N>,
     cpu: &mut Cpu<N>,
@@ -75,7 +75,7 @@ fn charge_frame<N: BootName>(
     requires alive { is_killed machine.old.killed group ≡ false }
     requires none_fresh { cpu.old.fresh ≡ [] }
     requires drained { IsDrained machine.old cpu.old.number }
-    ensures charges { BySteps N.frames (ChargesFrame sizes group result)
+    ensures charges { BySteps N.frames (FillsDrainedStock sizes group result)
         (visit_state machine.old cpu.old) (visit_state machine.new cpu.new) }
     ensures visit { Visits N.frames (visit_state machine.new cpu.new) }
 {
@@ -110,5 +110,5 @@ pub(crate) fn pay_for_frame<N: BootName>(
     }
     let cpu_number = cpu.number();
     machine.drain_stock(tables, cpu_number);
-    charge_frame(machine, tables, cpu, sizes, group)
+    fill_drained_stock(machine, tables, cpu, sizes, group)
 }

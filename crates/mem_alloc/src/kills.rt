@@ -80,7 +80,7 @@ pub fn kill_for<N: BootName>(
 }
 
 // Kills for a limit as `kill_for` does, if `requester` asks for at most 8 pages; for more, nobody is killed.
-pub(crate) fn kill_for_few<N: BootName>(
+pub(crate) fn kill_for_few_pages<N: BootName>(
     machine: &mut Machine<N>,
     tables: &Tables<N>,
     requester: GroupId,

@@ -7,7 +7,7 @@ ghost use Rattle.mem_alloc.specs.Stepping.{ByStepsOfAny};
 ghost use Rattle.mem_alloc.specs.Room.{IsRoomAnswer, ReclaimsFor, RelievesLimit, with_limit_noted};
 
 use crate::faults::AllocFault;
-use crate::kills::{has_room_at, kill_for_few};
+use crate::kills::{has_room_at, kill_for_few_pages};
 use cpu_part::{BootName, Tables};
 use group_tree::group::GroupId;
 use kill_notes::note::Note;
@@ -74,7 +74,7 @@ pub(crate) fn make_room<N: BootName>(
     machine.note_max(limited);
     machine.drain_stocks(tables, limited);
     reclaim_for(machine, tables, limited, pages);
-    kill_for_few(machine, tables, requester, limited, pages);
+    kill_for_few_pages(machine, tables, requester, limited, pages);
     if machine.is_killed(requester) {
         return Err(AllocFault::RequesterKilled);
     }

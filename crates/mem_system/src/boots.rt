@@ -88,7 +88,7 @@ impl Boot {
         } = self;
         let tables = Tables::<N>::new(frames, stocks);
         let machine = Machine::<N>::new(alloc, &tables, frame_seat, stock_seat)?;
-        let locked = lock_up(alloc, sizes, machine)?;
+        let locked = new_locked(alloc, sizes, machine)?;
         let cpus = make_cpus(alloc, sizes.cpus, frame_seats, stock_seats)?;
         Ok((locked, tables, cpus))
     }
@@ -108,7 +108,7 @@ impl Boot {
 }
 
 // What first lies behind the lock: the machine, the sizes, and room for the CPUs' seats at the end.
-fn lock_up<N: BootName>(
+fn new_locked<N: BootName>(
     alloc: Global,
     sizes: Config,
     machine: Machine<N>,

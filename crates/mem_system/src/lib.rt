@@ -42,6 +42,6 @@ pub use shown::{write_own_stock, write_units_at};
 pub use spent::Spent;
 pub use system::System;
 pub use system_end::Held;
-pub use texts::{blocks, show};
+pub use texts::{blocks_text, show_text};
 pub use visits::{serve, serve_frame_outcome, serve_outcome, settle};
 pub use zone_sizes::config::Config;

@@ -19,7 +19,7 @@ use std::sync::Wait;
 /// Serves `Settle`, and then writes a line for each longest run of frames with equal place, and a line for each group
 /// except the root with its usage in bytes. `AllocError` is returned if memory runs out: the CPU stays settled, and
 /// nothing else changed.
-pub fn show<N: BootName>(
+pub fn show_text<N: BootName>(
     alloc: Global,
     locked: &mut Locked<N>,
     tables: &Tables<N>,
@@ -38,7 +38,7 @@ pub fn show<N: BootName>(
 
 /// Serves `Settle`, and then writes a line for each free block, with its order and its first frame, or `none`.
 /// `AllocError` is returned if memory runs out: the CPU stays settled, and nothing else changed.
-pub fn blocks<N: BootName>(
+pub fn blocks_text<N: BootName>(
     alloc: Global,
     locked: &mut Locked<N>,
     tables: &Tables<N>,
@@ -56,9 +56,9 @@ pub fn blocks<N: BootName>(
 }
 
 impl<N: BootName> System<N> {
-    /// What `show` returns, under the lock. No clause can name what lies behind the lock. So the contract says that
-    /// some value was there, that the CPU was settled in it, and that the text is that of what was left.
-    pub fn show<R: Wait>(
+    /// What `show_text` returns, under the lock. No clause can name what lies behind the lock. So the contract says
+    /// that some value was there, that the CPU was settled in it, and that the text is that of what was left.
+    pub fn show_text<R: Wait>(
         &self,
         rt: &R,
         alloc: Global,
@@ -73,8 +73,8 @@ impl<N: BootName> System<N> {
         Ok(text.into_bytes())
     }
 
-    /// What `blocks` returns, under the lock, as with `show`.
-    pub fn blocks<R: Wait>(
+    /// What `blocks_text` returns, under the lock, as with `show_text`.
+    pub fn blocks_text<R: Wait>(
         &self,
         rt: &R,
         alloc: Global,
@@ -89,7 +89,7 @@ impl<N: BootName> System<N> {
         Ok(text.into_bytes())
     }
 
-    /// Adds what `System::show` returns to a text, which may have a part of it if memory runs out.
+    /// Adds what `System::show_text` returns to a text, which may have a part of it if memory runs out.
     pub fn show_into<R: Wait>(
         &self,
         rt: &R,
@@ -108,7 +108,7 @@ impl<N: BootName> System<N> {
         write_show(&locked.machine, text)
     }
 
-    /// Adds what `System::blocks` returns to a text, which may have a part of it if memory runs out.
+    /// Adds what `System::blocks_text` returns to a text, which may have a part of it if memory runs out.
     pub fn blocks_into<R: Wait>(
         &self,
         rt: &R,

@@ -17,33 +17,33 @@ returns-then-holds_page g c =
       page = looked_page t _ _ _ _ looked.machine looked.cpu c.args.group page;
     }
 
-pub charge_frame-requires-clause-visit : goal.charge_frame-requires-clause-visit
-charge_frame-requires-clause-visit g c =
+pub fill_drained_stock-requires-clause-visit : goal.fill_drained_stock-requires-clause-visit
+fill_drained_stock-requires-clause-visit g c =
     let t = g.N.BootName.frames in
     emptied_visits _ _ _ _ _ c.number-cpu_number.ensures.number c.drain_stock.ensures.drains t _
     (looked_visit t _ _ _ _ c.holds_page.ensures.machine c.holds_page.ensures.cpu c.requires.visit)
 
-pub charge_frame-requires-clause-there : goal.charge_frame-requires-clause-there
-charge_frame-requires-clause-there g c =
+pub fill_drained_stock-requires-clause-there : goal.fill_drained_stock-requires-clause-there
+fill_drained_stock-requires-clause-there g c =
     emptied_has _ _ _ _ _ c.number-cpu_number.ensures.number c.drain_stock.ensures.drains c.args.group
     (ap (λ (x : KnownMachine). has_group x.ledger.groups c.args.group) c.holds_page.ensures.machine ∙ c.requires.there)
 
-pub charge_frame-requires-clause-alive : goal.charge_frame-requires-clause-alive
-charge_frame-requires-clause-alive g c =
+pub fill_drained_stock-requires-clause-alive : goal.fill_drained_stock-requires-clause-alive
+fill_drained_stock-requires-clause-alive g c =
     emptied_alive _ _ _ _ _ c.number-cpu_number.ensures.number c.drain_stock.ensures.drains c.args.group
     (ap (λ (x : KnownMachine). is_killed x.killed c.args.group) c.holds_page.ensures.machine ∙ c.requires.alive)
 
-pub charge_frame-requires-clause-drained : goal.charge_frame-requires-clause-drained
-charge_frame-requires-clause-drained g c = emptied_drained _ _ _ _ _ c.number-cpu_number.ensures.number c.drain_stock.ensures.drains
+pub fill_drained_stock-requires-clause-drained : goal.fill_drained_stock-requires-clause-drained
+fill_drained_stock-requires-clause-drained g c = emptied_drained _ _ _ _ _ c.number-cpu_number.ensures.number c.drain_stock.ensures.drains
 
 pub returns-clause-pays : goal.returns-clause-pays
 returns-clause-pays g c =
     pays_anew g.N.BootName.frames c.drain_stock.result c.number-cpu_number.result _ _ _ _ _ c.holds_page.ensures.machine
     c.holds_page.ensures.cpu c.number-cpu_number.ensures.number c.drain_stock.ensures.drains c.drain_stock.ensures.steps c.args.sizes c.args.group _ _ _ refl
-    (λ page. false≢true (sym c.if-holds_page.false ∙ c.holds_page.ensures.holds.1 page)) c.charge_frame.result c.charge_frame.ensures.charges
+    (λ page. false≢true (sym c.if-holds_page.false ∙ c.holds_page.ensures.holds.1 page)) c.fill_drained_stock.result c.fill_drained_stock.ensures.charges
 
 pub returns-clause-page : goal.returns-clause-page
 returns-clause-page g c =
-    let b = c.charge_frame.ensures.charges in
-    charged_page g.N.BootName.frames c.args.sizes c.args.group c.charge_frame.result _ _ _ _ b.steps c.requires.sizes b.does
+    let b = c.fill_drained_stock.ensures.charges in
+    charged_page g.N.BootName.frames c.args.sizes c.args.group c.fill_drained_stock.result _ _ _ _ b.steps c.requires.sizes b.does
     (ap (λ e. e.fresh) c.holds_page.ensures.cpu ∙ c.requires.none_fresh)

@@ -19,8 +19,8 @@ reclaim_for-requires g c =
     let lowers = lowers_both g.N.BootName.frames _ _ _ noted (all_lower g.N.BootName.frames c.args.limited g.N.BootName.frames.cpus _ _ sub.drains sub.all) in
     lowered_there g.N.BootName.frames _ _ c.args.limited lowers c.requires
 
-pub kill_for_few-requires : goal.kill_for_few-requires
-kill_for_few-requires g c =
+pub kill_for_few_pages-requires : goal.kill_for_few_pages-requires
+kill_for_few_pages-requires g c =
     let sub = c.drain_stocks.ensures.drains in
     let noted : Lowers g.N.BootName.frames c.args.machine.now c.note_max.new.self =
     subst (λ (y : KnownMachine). Lowers g.N.BootName.frames c.args.machine.now y)
@@ -41,34 +41,35 @@ has_room_at-requires g c =
     let there : has_group c.reclaim_for.new.machine.ledger.groups c.args.limited ≡ true =
     ap (λ (x : List Group). has_group x c.args.limited) c.reclaim_for.ensures.reclaims.does.keeps.groups
     ∙ lowered_there g.N.BootName.frames _ _ c.args.limited lowers c.requires in
-    let killed = c.kill_for_few.ensures in
+    let killed = c.kill_for_few_pages.ensures in
     subst (λ (l : Ledger). has_group l.groups c.args.limited ≡ true) (sym c.charges.ensures)
     (lowered_there g.N.BootName.frames _ _ c.args.limited
-    (few_lower g.N.BootName.frames c.args.requester c.args.limited c.args.pages c.reclaim_for.new.machine c.kill_for_few.new.machine killed.steps killed.does) there)
+    (few_lower g.N.BootName.frames c.args.requester c.args.limited c.args.pages c.reclaim_for.new.machine c.kill_for_few_pages.new.machine killed.steps
+    killed.does) there)
 
 pub returns-then-is_killed-clause-relieves : goal.returns-then-is_killed-clause-relieves
 returns-then-is_killed-clause-relieves g c =
     relieves_by g.N.BootName.frames c.args.requester c.args.limited c.args.pages c.args.machine.now c.drain_stocks.new.self c.reclaim_for.new.machine
-    c.kill_for_few.new.machine
+    c.kill_for_few_pages.new.machine
     (clears_by g.N.BootName.frames c.args.limited c.args.pages c.drain_stocks.result c.args.machine.now c.note_limit.new.machine c.note_max.new.self
     c.drain_stocks.new.self c.note_limit.ensures c.note_max.ensures.machine c.note_max.ensures.steps c.drain_stocks.ensures.drains c.drain_stocks.ensures.drained)
-    c.reclaim_for.ensures.reclaims c.kill_for_few.ensures
+    c.reclaim_for.ensures.reclaims c.kill_for_few_pages.ensures
 
 pub returns-then-has_room_at-clause-relieves : goal.returns-then-has_room_at-clause-relieves
 returns-then-has_room_at-clause-relieves g c =
     relieves_by g.N.BootName.frames c.args.requester c.args.limited c.args.pages c.args.machine.now c.drain_stocks.new.self c.reclaim_for.new.machine
-    c.kill_for_few.new.machine
+    c.kill_for_few_pages.new.machine
     (clears_by g.N.BootName.frames c.args.limited c.args.pages c.drain_stocks.result c.args.machine.now c.note_limit.new.machine c.note_max.new.self
     c.drain_stocks.new.self c.note_limit.ensures c.note_max.ensures.machine c.note_max.ensures.steps c.drain_stocks.ensures.drains c.drain_stocks.ensures.drained)
-    c.reclaim_for.ensures.reclaims c.kill_for_few.ensures
+    c.reclaim_for.ensures.reclaims c.kill_for_few_pages.ensures
 
 pub returns-else-has_room_at-clause-relieves : goal.returns-else-has_room_at-clause-relieves
 returns-else-has_room_at-clause-relieves g c =
     relieves_by g.N.BootName.frames c.args.requester c.args.limited c.args.pages c.args.machine.now c.drain_stocks.new.self c.reclaim_for.new.machine
-    c.kill_for_few.new.machine
+    c.kill_for_few_pages.new.machine
     (clears_by g.N.BootName.frames c.args.limited c.args.pages c.drain_stocks.result c.args.machine.now c.note_limit.new.machine c.note_max.new.self
     c.drain_stocks.new.self c.note_limit.ensures c.note_max.ensures.machine c.note_max.ensures.steps c.drain_stocks.ensures.drains c.drain_stocks.ensures.drained)
-    c.reclaim_for.ensures.reclaims c.kill_for_few.ensures
+    c.reclaim_for.ensures.reclaims c.kill_for_few_pages.ensures
 
 pub returns-then-is_killed-clause-room : goal.returns-then-is_killed-clause-room
 returns-then-is_killed-clause-room g c = sym c.is_killed.ensures ∙ c.if-is_killed.true

@@ -1,6 +1,6 @@
 use Rattle.std.proofs.Common.{◌∙◌, ◌++◌, List, ℕ, ap, rules}
 use Rattle.machine_texts.specs.Show.{show_text}
-use Rattle.mem_system.proofs.system.System.show.Goals as goal
+use Rattle.mem_system.proofs.system.System.show_text.Goals as goal
 
 pub returns-in_err-show_into-clause-told : goal.returns-in_err-show_into-clause-told
 returns-in_err-show_into-clause-told g c =

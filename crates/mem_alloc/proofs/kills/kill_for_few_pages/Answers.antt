@@ -1,5 +1,5 @@
 use Rattle.mem_alloc.proofs.Killing.{few_kills, many_rest}
-use Rattle.mem_alloc.proofs.kills.kill_for_few.Goals as goal
+use Rattle.mem_alloc.proofs.kills.kill_for_few_pages.Goals as goal
 
 pub returns-then-pages-le-MOST_KILLED_FOR : goal.returns-then-pages-le-MOST_KILLED_FOR
 returns-then-pages-le-MOST_KILLED_FOR g c =

@@ -1,5 +1,5 @@
 use Rattle.std.proofs.Common.{rules}
-use Rattle.mem_system.proofs.texts.blocks.Goals as goal
+use Rattle.mem_system.proofs.texts.show_text.Goals as goal
 
 pub returns-clause-text : goal.returns-clause-text
 returns-clause-text g c = search rules

@@ -2,7 +2,7 @@ use Rattle.std.proofs.Common.{sym, subst, rules, arith}
 use Rattle.mem_machine.specs.Machines.{KnownMachine}
 use Rattle.mem_machine.specs.Paying.{MayCharge}
 use Rattle.mem_alloc.proofs.Filling.{batch_fits, one_charged}
-use Rattle.mem_alloc.proofs.charging.charge_frame.Goals as goal
+use Rattle.mem_alloc.proofs.charging.fill_drained_stock.Goals as goal
 
 pub fill_stock-requires-clause-charges : goal.fill_stock-requires-clause-charges
 fill_stock-requires-clause-charges g c =

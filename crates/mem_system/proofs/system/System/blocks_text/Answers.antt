@@ -1,6 +1,6 @@
 use Rattle.std.proofs.Common.{◌∙◌, ◌++◌, List, ℕ, ap, rules}
 use Rattle.machine_texts.specs.Blocks.{blocks_text}
-use Rattle.mem_system.proofs.system.System.blocks.Goals as goal
+use Rattle.mem_system.proofs.system.System.blocks_text.Goals as goal
 
 pub returns-in_err-blocks_into-clause-told : goal.returns-in_err-blocks_into-clause-told
 returns-in_err-blocks_into-clause-told g c =
