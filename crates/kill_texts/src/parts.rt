@@ -43,9 +43,9 @@ pub(crate) fn push_group(
 {
     text.push_str(word)?;
     if tree.contains(group) {
-        push_characters(text, tree.path_of(group).as_bytes())
+        push_characters(tree.path_of(group).as_bytes(), text)
     } else {
-        push_characters(text, gone)
+        push_characters(gone, text)
     }
 }
 

@@ -7,7 +7,7 @@ use Rattle.frame_word.specs.Seats.{KnownTable}
 use Rattle.stock_word.specs.Stock.{KnownStockTable}
 use Rattle.step_rules.specs.After.{Run}
 use Rattle.step_watch.specs.Watched.{KnownWatch, Watches, has_whole_log, log_text, steps_text}
-use Rattle.mem_system.specs.Ends.{KnownSpent}
+use Rattle.mem_system.specs.Ends.{KnownEmptiedBoot}
 use Rattle.script_lines.specs.declared.line.Line.{Line}
 use Rattle.script_replay.specs.Lines.{InOrder, ServesAll, ServesLine, SystemState}
 use Rattle.script_replay.specs.Terms.{Terms, terms}
@@ -87,15 +87,16 @@ logs_more on texts lines i default s m e old mid new inside so_far one = record 
 
 -- ---- the end
 
-pub end_logged : (t : KnownTable) (w : KnownStockTable) (texts : List (List ℕ)) (lines : List Line) (s e : SystemState) (held : ℕ) (spent : KnownSpent) (seen : ℕ)
-    (old mid new : List ℕ) → LeavesNothing t w e held spent → seen ≡ length (log_text e.locked.machine.watch) → has_whole_log spent.machine.watch ≡ true
-    → new ≡ mid ++ (codes "# end\n" ++ drop seen (log_text spent.machine.watch)) → GrowsBy (LogsAll (terms t w false) texts lines s e) old mid
+pub end_logged : (t : KnownTable) (w : KnownStockTable) (texts : List (List ℕ)) (lines : List Line) (s e : SystemState) (held : ℕ) (emptied : KnownEmptiedBoot)
+    (seen : ℕ)
+    (old mid new : List ℕ) → LeavesNothing t w e held emptied → seen ≡ length (log_text e.locked.machine.watch) → has_whole_log emptied.machine.watch ≡ true
+    → new ≡ mid ++ (codes "# end\n" ++ drop seen (log_text emptied.machine.watch)) → GrowsBy (LogsAll (terms t w false) texts lines s e) old mid
     → GrowsBy (LogsAllAndEnd t w texts lines s) old new
-end_logged t w texts lines s e held spent seen old mid new leaves at whole added served =
+end_logged t w texts lines s e held emptied seen old mid new leaves at whole added served =
     let front = codes "# end\n" in
-    let behind : drop seen (log_text spent.machine.watch) ≡ steps_text leaves.steps =
-    ap (λ (n : ℕ). drop n (log_text spent.machine.watch)) at
-    ∙ wrote_behind e.locked.machine.watch leaves.steps spent.machine.watch leaves.watched whole in
+    let behind : drop seen (log_text emptied.machine.watch) ≡ steps_text leaves.steps =
+    ap (λ (n : ℕ). drop n (log_text emptied.machine.watch)) at
+    ∙ wrote_behind e.locked.machine.watch leaves.steps emptied.machine.watch leaves.watched whole in
     let ending = front ++ steps_text leaves.steps in
     record {
       text = served.text ++ ending;
@@ -104,7 +105,7 @@ end_logged t w texts lines s e held spent seen old mid new leaves at whole added
         served_log = served.text;
         served = served.is;
         ending = ending;
-        ends = record { held = held; spent = spent; leaves = leaves; log_is = refl };
+        ends = record { held = held; emptied = emptied; leaves = leaves; log_is = refl };
         log_is = refl;
       };
       added = added ∙ ap (λ (l : List ℕ). mid ++ (front ++ l)) behind ∙ ap (λ (l : List ℕ). l ++ ending) served.added ∙ append_assoc old served.text ending;

@@ -13,7 +13,7 @@ use Rattle.step_watch.specs.Watched.{Watches, cpu_makes}
 use Rattle.step_watch.proofs.Watching.{watches_both, watches_none}
 use Rattle.mem_machine.specs.Machines.{KnownMachine, VisitState, visit_state}
 use Rattle.mem_history.specs.Leading.{put_answer}
-use Rattle.mem_system.specs.Ends.{ForEachCpu, KnownSpent, MakesLastVisits, pins_of}
+use Rattle.mem_system.specs.Ends.{ForEachCpu, KnownEmptiedBoot, MakesLastVisits, pins_of}
 use Rattle.mem_system.specs.Locked.{KnownLocked}
 use Rattle.script_replay.specs.Lines.{SystemState, system_state}
 use Rattle.load_run.specs.Ending.{LeavesNothing, PutsAllPins, PutsEach, PutsPin, steps_of_all_puts, steps_of_puts}
@@ -100,10 +100,11 @@ puts_watched m (c ∷ cpus) n (d ∷ left) puts =
 
 -- ---- nothing is left
 
-pub leaves_nothing : (t : KnownTable) (w : KnownStockTable) (before : SystemState) (held : ℕ) (spent : KnownSpent) (locked : KnownLocked) (cpus : List KnownCpu)
+pub leaves_nothing : (t : KnownTable) (w : KnownStockTable) (before : SystemState) (held : ℕ) (emptied : KnownEmptiedBoot) (locked : KnownLocked)
+    (cpus : List KnownCpu)
     → held ≡ pins_of before.cpus → ForEachCpu PutsAllPins before.locked.machine before.cpus locked.machine cpus → locked.sizes ≡ before.locked.sizes
-    → (held ≡ 0 → system_state locked cpus ≡ before) → MakesLastVisits t w locked cpus spent → LeavesNothing t w before held spent
-leaves_nothing t w before held spent locked cpus held_are puts sizes free visits =
+    → (held ≡ 0 → system_state locked cpus ≡ before) → MakesLastVisits t w locked cpus emptied → LeavesNothing t w before held emptied
+leaves_nothing t w before held emptied locked cpus held_are puts sizes free visits =
     let putting = steps_of_all_puts before.locked.machine before.cpus locked.machine cpus puts in
     record {
       held_are = held_are;
@@ -115,13 +116,14 @@ leaves_nothing t w before held spent locked cpus held_are puts sizes free visits
       visits = visits;
       steps = putting ++ visits.steps;
       steps_are = refl;
-      watched = watches_both before.locked.machine.watch putting locked.machine.watch visits.steps spent.machine.watch
+      watched = watches_both before.locked.machine.watch putting locked.machine.watch visits.steps emptied.machine.watch
           (puts_watched before.locked.machine before.cpus locked.machine cpus puts) visits.watched;
     }
 
 -- no pin was held
-pub leaves_free : (t : KnownTable) (w : KnownStockTable) (before : SystemState) (spent : KnownSpent) → MakesLastVisits t w before.locked before.cpus spent
-    → LeavesNothing t w before 0 spent
-leaves_free t w before spent visits =
-    leaves_nothing t w before 0 spent before.locked before.cpus (sym visits.no_pin) (none_put before.locked.machine before.cpus visits.no_pin) refl
+pub leaves_free : (t : KnownTable) (w : KnownStockTable) (before : SystemState) (emptied : KnownEmptiedBoot)
+    → MakesLastVisits t w before.locked before.cpus emptied
+    → LeavesNothing t w before 0 emptied
+leaves_free t w before emptied visits =
+    leaves_nothing t w before 0 emptied before.locked before.cpus (sym visits.no_pin) (none_put before.locked.machine before.cpus visits.no_pin) refl
     (λ none. refl) visits

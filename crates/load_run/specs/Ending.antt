@@ -12,7 +12,7 @@ use Rattle.step_watch.specs.Watched.{Watches, cpu_makes, has_legal_steps, steps_
 use Rattle.mem_machine.specs.Machines.{KnownMachine, VisitState, visit_state, with_watch}
 use Rattle.mem_history.specs.Leading.{put_answer}
 use Rattle.mem_system.specs.declared.audit.Audit.{Audit}
-use Rattle.mem_system.specs.Ends.{Closes, ForEachCpu, KnownSpent, MakesLastVisits, pins_of}
+use Rattle.mem_system.specs.Ends.{Closes, ForEachCpu, KnownEmptiedBoot, MakesLastVisits, pins_of}
 use Rattle.mem_system.specs.Locked.{KnownLocked}
 use Rattle.script_replay.specs.Lines.{SystemState, system_state}
 use Rattle.load_run.specs.declared.boot_end.BootEnd.{BootEnd}
@@ -63,26 +63,26 @@ steps_of_all_puts before (cpu ∷ cpus) after (cpu_left ∷ left) puts =
 -- Nothing is left at any CPU, after so many pins were held. Every pin is put, one CPU after the other, and then the
 -- last visits are made. These are all steps, in order, and the machine's watch took them.
 pub record LeavesNothing (table : KnownTable) (stock_table : KnownStockTable) (before : SystemState) (held : ℕ)
-    (spent : KnownSpent) : Type 0 where
+    (emptied : KnownEmptiedBoot) : Type 0 where
   pub held_are : held ≡ pins_of before.cpus
   pub locked : KnownLocked
   pub cpus : List KnownCpu
   pub puts : ForEachCpu PutsAllPins before.locked.machine before.cpus locked.machine cpus
   pub sizes : locked.sizes ≡ before.locked.sizes
   pub free : held ≡ 0 → system_state locked cpus ≡ before
-  pub visits : MakesLastVisits table stock_table locked cpus spent
+  pub visits : MakesLastVisits table stock_table locked cpus emptied
   pub steps : Run
   pub steps_are : steps
       ≡ steps_of_all_puts before.locked.machine before.cpus locked.machine cpus puts ++ visits.steps
-  pub watched : Watches before.locked.machine.watch steps spent.machine.watch
+  pub watched : Watches before.locked.machine.watch steps emptied.machine.watch
 
 -- The boot ended, and says how many pins were held. Every pin was put, the last visits were made, and then the tables
 -- were closed.
 pub record EndsHeld (table : KnownTable) (stock_table : KnownStockTable) (before : SystemState)
     (ended : BootEnd) : Type 0 where
-  pub spent : KnownSpent
-  pub leaves : LeavesNothing table stock_table before ended.held spent
-  pub closes : Closes table stock_table spent ended.audit
+  pub emptied : KnownEmptiedBoot
+  pub leaves : LeavesNothing table stock_table before ended.held emptied
+  pub closes : Closes table stock_table emptied ended.audit
 
 -- this is so of some state, and the boot ended from that state
 pub record EndsAfter (table : KnownTable) (stock_table : KnownStockTable) (is_so : SystemState → Type 0)
@@ -96,8 +96,8 @@ pub record EndsSeen (table : KnownTable) (stock_table : KnownStockTable) (before
     (seen : CheckedSteps)
     : Type 0 where
   pub ends : EndsHeld table stock_table before ended
-  pub is_legal : seen.is_legal ≡ has_legal_steps ends.spent.machine.watch
-  pub steps : seen.steps ≡ steps_seen ends.spent.machine.watch
+  pub is_legal : seen.is_legal ≡ has_legal_steps ends.emptied.machine.watch
+  pub steps : seen.steps ≡ steps_seen ends.emptied.machine.watch
 
 -- this is so of some state, and the boot ended from that state; this is what the watch saw
 pub record EndsSeenAfter (table : KnownTable) (stock_table : KnownStockTable) (is_so : SystemState → Type 0)

@@ -6,7 +6,7 @@ use Rattle.stock_word.specs.Stock.{KnownStockTable}
 use Rattle.zone_sizes.specs.declared.config.Config.{Config}
 use Rattle.step_watch.specs.Watched.{steps_text}
 use Rattle.log_lines.specs.Line.{longest_line, zone_text}
-use Rattle.mem_system.specs.Ends.{KnownSpent}
+use Rattle.mem_system.specs.Ends.{KnownEmptiedBoot}
 use Rattle.script_lines.specs.declared.line.Line.{Line}
 use Rattle.script_lines.specs.declared.line.Line.TheVariants.{Go, At}
 use Rattle.script_lines.specs.Script.{texts_of}
@@ -54,8 +54,8 @@ pub record GrowsBy (is_log : List ℕ → Type 0) (before after : List ℕ) : Ty
 pub record LogsEnd (table : KnownTable) (stock_table : KnownStockTable) (before : SystemState)
     (log : List ℕ) : Type 0 where
   pub held : ℕ
-  pub spent : KnownSpent
-  pub leaves : LeavesNothing table stock_table before held spent
+  pub emptied : KnownEmptiedBoot
+  pub leaves : LeavesNothing table stock_table before held emptied
   pub log_is : log ≡ codes "# end\n" ++ steps_text leaves.steps
 
 -- the log of lines that are served one after the other, and then of the end

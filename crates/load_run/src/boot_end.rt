@@ -11,7 +11,7 @@ ghost use Rattle.load_run.specs.Ending.{audit_counts_text, audit_places_text, au
 
 use cpu_part::{BootName, Cpu, Tables};
 use frame_word::{Frame, Put};
-use mem_system::{Audit, Locked, Pinned, Spent, make_last_visits};
+use mem_system::{Audit, EmptiedBoot, Locked, Pinned, make_last_visits};
 use std::alloc::AllocError;
 use step_rules::step::{Action, Answer};
 
@@ -73,12 +73,12 @@ pub(crate) fn leave_nothing<N: BootName>(
     locked: Locked<N>,
     tables: Tables<N>,
     cpus: Vec<Cpu<N>>,
-) -> (u64, Spent<N>)
+) -> (u64, EmptiedBoot<N>)
     requires count { length cpus.items ≡ N.frames.cpus }
     ensures leaves { LeavesNothing N.frames N.stocks (system_state locked cpus.items) result.0 result.1 }
 {
     match make_last_visits(locked, tables, cpus) {
-        Ok(spent) => (0, spent),
+        Ok(emptied) => (0, emptied),
         Err(pinned) => {
             let Pinned {
                 tables,
@@ -88,7 +88,7 @@ pub(crate) fn leave_nothing<N: BootName>(
             } = pinned;
             put_all_pins(&mut locked, &tables, &mut cpus);
             match make_last_visits(locked, tables, cpus) {
-                Ok(spent) => (pins, spent),
+                Ok(emptied) => (pins, emptied),
                 Err(_) => unreachable!(),
             }
         }
@@ -100,8 +100,8 @@ pub fn end_boot<N: BootName>(locked: Locked<N>, tables: Tables<N>, cpus: Vec<Cpu
     requires count { length cpus.items ≡ N.frames.cpus }
     ensures ends { EndsHeld N.frames N.stocks (system_state locked cpus.items) result }
 {
-    let (held, spent) = leave_nothing(locked, tables, cpus);
-    let audit = spent.close();
+    let (held, emptied) = leave_nothing(locked, tables, cpus);
+    let audit = emptied.close();
     BootEnd { held, audit }
 }
 
@@ -114,12 +114,12 @@ pub fn end_seen_boot<N: BootName>(
     requires count { length cpus.items ≡ N.frames.cpus }
     ensures ends { EndsSeen N.frames N.stocks (system_state locked cpus.items) result.0 result.1 }
 {
-    let (held, spent) = leave_nothing(locked, tables, cpus);
+    let (held, emptied) = leave_nothing(locked, tables, cpus);
     let seen = CheckedSteps {
-        is_legal: spent.watch().is_legal(),
-        steps: spent.watch().steps(),
+        is_legal: emptied.watch().is_legal(),
+        steps: emptied.watch().steps(),
     };
-    let audit = spent.close();
+    let audit = emptied.close();
     (BootEnd { held, audit }, seen)
 }
 

@@ -108,9 +108,9 @@ fn log_and_end_boot<N: BootName>(
 {
     let served = log_lines(alloc, &mut locked, &tables, &mut cpus, lines, texts, log);
     let seen = locked.watch().log().len();
-    let (_held, spent) = leave_nothing(locked, tables, cpus);
-    let ended = log_end(spent.watch(), seen, log);
-    let _audit = spent.close();
+    let (_held, emptied) = leave_nothing(locked, tables, cpus);
+    let ended = log_end(emptied.watch(), seen, log);
+    let _audit = emptied.close();
     served?;
     ended
 }

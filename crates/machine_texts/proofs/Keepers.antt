@@ -13,16 +13,16 @@ use Rattle.mem_machine.specs.declared.frame_state.Place.TheVariants.{Free, Lent,
 use Rattle.mem_machine.specs.FrameStates.{place_of}
 use Rattle.mem_machine.specs.Machines.{KnownMachine, IsConsistent}
 use Rattle.mem_machine.proofs.Keepers.{keeper_there}
-use Rattle.machine_texts.specs.Places.{KeeperIsThere, FrameStateIsThere}
+use Rattle.machine_texts.specs.Places.{PlaceGroupExists, FrameGroupExists}
 
 -- a place whose group, if there is one, is there
-there_by : (groups : List Group) (p : Place) → ((g : ℕ) → p ≡ Charged g → has_group groups g ≡ true) → KeeperIsThere groups p
+there_by : (groups : List Group) (p : Place) → ((g : ℕ) → p ≡ Charged g → has_group groups g ≡ true) → PlaceGroupExists groups p
 there_by groups Free known = tt
 there_by groups (Lent q) known = tt
 there_by groups (Charged g) known = known g refl
 
 pub frame_states_there : (t : KnownTable) (w : KnownStockTable) (m : KnownMachine) → IsConsistent t w m → AreCharges m.ledger
-    → (k : ℕ) (d : FrameState) → k < length m.frame_states → FrameStateIsThere m.ledger.groups (get_or m.frame_states k d)
+    → (k : ℕ) (d : FrameState) → k < length m.frame_states → FrameGroupExists m.ledger.groups (get_or m.frame_states k d)
 frame_states_there t w m good legal k d inside =
     let same : get_or m.frame_states k d ≡ get_or m.frame_states k frame_state.Free = get_or_default m.frame_states k d frame_state.Free inside in
     there_by m.ledger.groups (place_of (get_or m.frame_states k d)) λ g is.

@@ -39,14 +39,14 @@ pub record IsFirstElsewhere (place : Place) (frame_states : List FrameState) (at
   pub before : All (IsAt place) (take at frame_states)
 
 -- the group that is charged for frames at this place, if any, exists
-abbrev pub KeeperIsThere : List Group → Place → Type 0
-KeeperIsThere groups (Charged group) = has_group groups group ≡ true
-KeeperIsThere groups Free = Unit {0}
-KeeperIsThere groups (Lent cpu) = Unit {0}
+abbrev pub PlaceGroupExists : List Group → Place → Type 0
+PlaceGroupExists groups (Charged group) = has_group groups group ≡ true
+PlaceGroupExists groups Free = Unit {0}
+PlaceGroupExists groups (Lent cpu) = Unit {0}
 
 -- the group that is charged for a frame with this record, if any, exists
-abbrev pub FrameStateIsThere : List Group → FrameState → Type 0
-FrameStateIsThere groups frame_state = KeeperIsThere groups (place_of frame_state)
+abbrev pub FrameGroupExists : List Group → FrameState → Type 0
+FrameGroupExists groups frame_state = PlaceGroupExists groups (place_of frame_state)
 
 -- the place of a frame: in the free areas, lent to this CPU, or charged to the group of this path
 abbrev pub place_text : List Group → Place → List ℕ

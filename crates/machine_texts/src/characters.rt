@@ -9,7 +9,7 @@ ghost use Rattle.machine_texts.specs.Characters.{characters};
 use std::alloc::AllocError;
 
 /// Adds the characters that have these codes to a text. It fails only if memory runs out.
-pub fn push_characters(text: &mut String, codes: &[u8]) -> Result<(), AllocError>
+pub fn push_characters(codes: &[u8], text: &mut String) -> Result<(), AllocError>
     ensures { IfOk result (λ _. string_bytes text.new ≡ string_bytes text.old ++ characters codes.now) }
 {
     match str::from_utf8(codes) {

@@ -4,7 +4,8 @@ ghost use Rattle.std.specs.Prelude.{◌≡◌, ◌++◌, All, IfOk, MatchOption}
 ghost use Rattle.std.specs.String.{string_bytes};
 ghost use Rattle.mem_machine.specs.declared.frame_state.Place.TheVariants as place;
 ghost use Rattle.mem_machine.specs.FrameStates.{place_of};
-ghost use Rattle.machine_texts.specs.Places.{KeeperIsThere, FrameStateIsThere, frames_text, is_same_place, place_text};
+ghost use Rattle.machine_texts.specs.Places.{PlaceGroupExists, FrameGroupExists, frames_text, is_same_place};
+ghost use Rattle.machine_texts.specs.Places.{place_text};
 ghost use Rattle.machine_texts.specs.Places.{places_text, run_text, IsAt, IsFirstElsewhere, run_length};
 
 use crate::characters::push_characters;
@@ -19,7 +20,7 @@ pub(crate) fn write_places(
     tree: &Tree,
     text: &mut String,
 ) -> Result<(), AllocError>
-    requires { All (FrameStateIsThere tree.now) frame_states.now }
+    requires { All (FrameGroupExists tree.now) frame_states.now }
     ensures { IfOk result (λ _. string_bytes text.new
         ≡ string_bytes text.old ++ places_text tree.now frame_states.now) }
 {
@@ -97,7 +98,7 @@ fn write_run(
     tree: &Tree,
     text: &mut String,
 ) -> Result<(), AllocError>
-    requires { KeeperIsThere tree.now place.now }
+    requires { PlaceGroupExists tree.now place.now }
     ensures { IfOk result (λ _. string_bytes text.new
         ≡ string_bytes text.old ++ run_text tree.now first last place.now) }
 {
@@ -119,12 +120,12 @@ fn write_frames(first: usize, last: usize, text: &mut String) -> Result<(), Allo
 
 // The place itself. For frames that are charged it is the path of their group, which exists.
 fn write_place(place: &Place, tree: &Tree, text: &mut String) -> Result<(), AllocError>
-    requires { KeeperIsThere tree.now place.now }
+    requires { PlaceGroupExists tree.now place.now }
     ensures { IfOk result (λ _. string_bytes text.new ≡ string_bytes text.old ++ place_text tree.now place.now) }
 {
     match *place {
         Place::Free => text.push_str("free"),
         Place::Lent(cpu) => write!(text, "cpu {cpu}"),
-        Place::Charged(group) => push_characters(text, tree.path_of(group).as_bytes()),
+        Place::Charged(group) => push_characters(tree.path_of(group).as_bytes(), text),
     }
 }

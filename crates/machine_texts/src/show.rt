@@ -39,7 +39,7 @@ fn write_usage(charges: &Charges, group: &Group, text: &mut String) -> Result<()
     }
     let bytes = bytes_used(charges, group.number);
     text.push_str("current ")?;
-    push_characters(text, group.path.as_bytes())?;
+    push_characters(group.path.as_bytes(), text)?;
     writeln!(text, " {bytes}")
 }
 

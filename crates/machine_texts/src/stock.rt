@@ -55,7 +55,7 @@ fn write_owner(tree: &Tree, number: u32, text: &mut String) -> Result<(), AllocE
     ensures { IfOk result (λ _. string_bytes text.new ≡ string_bytes text.old ++ owner_text tree.now number) }
 {
     match group_of(tree, number) {
-        Some(group) => push_characters(text, tree.path_of(group).as_bytes()),
+        Some(group) => push_characters(tree.path_of(group).as_bytes(), text),
         None => text.push_str("-"),
     }
 }

@@ -31,7 +31,7 @@ pub fn write_units<N: BootName>(
     }
     let inactive = write_list(machine, tables, group, LruList::Inactive, text);
     let active = write_list(machine, tables, group, LruList::Active, text);
-    both(inactive, active)
+    first_error(inactive, active)
 }
 
 // Whether the group keeps no unit.
@@ -69,13 +69,16 @@ fn write_list<N: BootName>(
         let order = order_of(machine, head);
         let pins = machine.pins_on(tables, head);
         let line = write_unit(list, &entry, order, pins, text);
-        written = both(written, line);
+        written = first_error(written, line);
     }
     written
 }
 
 // The first of the two errors, if there is one.
-fn both(first: Result<(), AllocError>, second: Result<(), AllocError>) -> Result<(), AllocError>
+fn first_error(
+    first: Result<(), AllocError>,
+    second: Result<(), AllocError>,
+) -> Result<(), AllocError>
     ensures first { IfOk result (λ _. IsOk first) }
     ensures second { IfOk result (λ _. IsOk second) }
 {

@@ -24,7 +24,8 @@ use Rattle.mem_machine.proofs.NoneLent.{lent_to_cpu, each_is_placed}
 use Rattle.mem_system.specs.declared.audit.Audit.{Audit}
 use Rattle.mem_system.specs.Locked.{KnownLocked, IsQuiet, AllShut}
 use Rattle.mem_machine.specs.Local.{VisitState}
-use Rattle.mem_system.specs.Ends.{ForEachCpu, SettlesInVisit, VisitsUnderLock, Empties, IsSpent, IsAuditOf, IsClosed, HasNoPage, KnownSpent, MakesLastVisits}
+use Rattle.mem_system.specs.Ends.{ForEachCpu, SettlesInVisit, VisitsUnderLock, Empties, IsEmptied, IsAuditOf, IsClosed, HasNoPage, KnownEmptiedBoot}
+use Rattle.mem_system.specs.Ends.{MakesLastVisits}
 use Rattle.mem_system.specs.Ends.{Closes, frame_seat_of, stock_seat_of, steps_of_visits, drops_of, pins_of}
 use Rattle.step_watch.proofs.Watching.{watches_both}
 use Rattle.mem_system.proofs.Locking.{visits_watched}
@@ -43,17 +44,17 @@ written_back k new old long all =
     ap (λ (l : List KnownCpu). take k (new ++ l)) (drop_all (length new) old (omega (arith, long))) ∙ ap (λ (l : List KnownCpu). take k l) (append-nil new)
     ∙ take_all k new (omega (arith, long, all))
 
-pub idle_all : (t : KnownTable) (w : KnownStockTable) (m : KnownMachine) (cpus : List KnownCpu) → All (λ c. IsSpent t w m c) cpus → All IsIdle cpus
+pub idle_all : (t : KnownTable) (w : KnownStockTable) (m : KnownMachine) (cpus : List KnownCpu) → All (λ c. IsEmptied t w m c) cpus → All IsIdle cpus
 idle_all t w m cpus all = λ k any inside. (all k any inside).idle
 
 -- the seats of the CPUs are at the tables
-pub frame_seats_at : (t : KnownTable) (w : KnownStockTable) (m : KnownMachine) (cpus : List KnownCpu) → All (λ c. IsSpent t w m c) cpus
+pub frame_seats_at : (t : KnownTable) (w : KnownStockTable) (m : KnownMachine) (cpus : List KnownCpu) → All (λ c. IsEmptied t w m c) cpus
     → AreSeatsAt t.table (map frame_seat_of cpus)
 frame_seats_at t w m [] all = tt
 frame_seats_at t w m (c ∷ cpus) all =
     ((all 0 c (omega arith)).tied.seats.frame_table, frame_seats_at t w m cpus (λ k any inside. all (suc k) any (omega (arith, inside))))
 
-pub stock_seats_at : (t : KnownTable) (w : KnownStockTable) (m : KnownMachine) (cpus : List KnownCpu) → All (λ c. IsSpent t w m c) cpus
+pub stock_seats_at : (t : KnownTable) (w : KnownStockTable) (m : KnownMachine) (cpus : List KnownCpu) → All (λ c. IsEmptied t w m c) cpus
     → AreOf w.table (map stock_seat_of cpus)
 stock_seats_at t w m [] all = tt
 stock_seats_at t w m (c ∷ cpus) all =
@@ -86,7 +87,7 @@ not_held (HeldBy g n) is = absurd (false≢true (sym is))
 not_held (DrainedOf g) is = refl
 
 -- a machine all of whose visits are shut, and CPUs that have nothing left, with their seats at the closed tables
-module _ (t : KnownTable) (w : KnownStockTable) (m : KnownMachine) (cpus : List KnownCpu) (shut : AllShut m) (all : All (λ c. IsSpent t w m c) cpus)
+module _ (t : KnownTable) (w : KnownStockTable) (m : KnownMachine) (cpus : List KnownCpu) (shut : AllShut m) (all : All (λ c. IsEmptied t w m c) cpus)
     (closed : IsClosed t w m (map frame_seat_of cpus) (map stock_seat_of cpus)) where
   ok : IsConsistent t w m
   ok = closed.consistent
@@ -137,7 +138,7 @@ module _ (t : KnownTable) (w : KnownStockTable) (m : KnownMachine) (cpus : List 
       ]
 
   -- each CPU's part is one of them
-  found : (p : ℕ) → 1 ≤ p → p ≤ t.cpus → (c : KnownCpu) × (c.number ≡ p) × IsSpent t w m c × HasNoPage m closed.stock_words p
+  found : (p : ℕ) → 1 ≤ p → p ≤ t.cpus → (c : KnownCpu) × (c.number ≡ p) × IsEmptied t w m c × HasNoPage m closed.stock_words p
   found p some within =
       let same = ok.sizes.cpus in
       let at = closed.each p some (omega (arith, within, same)) in
@@ -147,19 +148,19 @@ module _ (t : KnownTable) (w : KnownStockTable) (m : KnownMachine) (cpus : List 
       let any : KnownCpu = record { number = 0; list = []; fresh = []; back = []; pins = []; frame_seat = m.frame_seat; stock_seat = m.stock_seat; drops = 0 } in
       let c = get_or cpus k any in
       let there : k < length cpus = omega (arith, long, inside) in
-      let spent = all k any there in
+      let emptied = all k any there in
       let view = view_at cpus k any there in
-      let number : c.number ≡ p = sym spent.tied.seats.stock_number ∙ sym (ap (λ v. v.number) view) ∙ at.number in
+      let number : c.number ≡ p = sym emptied.tied.seats.stock_number ∙ sym (ap (λ v. v.number) view) ∙ at.number in
       let words = closed.stocks k inside in
-      let drained = ap (λ (q : ℕ). (account_of m.stock_seat.view q).filled) (at.number ∙ sym number) ∙ spent.drained in
+      let drained = ap (λ (q : ℕ). (account_of m.stock_seat.view q).filled) (at.number ∙ sym number) ∙ emptied.drained in
       let empty : pages_of words.stock ≡ 0 = not_held words.stock (words.held ∙ drained) in
-      let fresh : (view_in (map stock_seat_of cpus) k).fresh ≡ 0 = ap (λ v. v.fresh) view ∙ spent.tied.within.pages_are ∙ ap length spent.idle.1 in
+      let fresh : (view_in (map stock_seat_of cpus) k).fresh ≡ 0 = ap (λ v. v.fresh) view ∙ emptied.tied.within.pages_are ∙ ap length emptied.idle.1 in
       let noted = words.reported ∙ ok.absorbed (view_in (map stock_seat_of cpus) k).number in
       let balanced = words.balanced in
       let book : (account_of m.stock_seat.view (view_in (map stock_seat_of cpus) k).number).book ≡ 0 = omega (arith, balanced, empty, fresh, noted) in (
         c,
         number,
-        spent,
+        emptied,
         subst (λ (q : ℕ). HasNoPage m closed.stock_words q) at.number
             (record { stock = words.stock; encoded = words.encoded; empty = empty; none_reported = noted; book = book }),
       )
@@ -185,7 +186,8 @@ drops_join : (a b c k most : ℕ) → min (min (a + b + c) most + k) most ≡ mi
 drops_join a b c k most = omega arith
 
 -- the last visits, from their two rounds
-pub all_visits : (t : KnownTable) (w : KnownStockTable) (l : KnownLocked) (cpus : List KnownCpu) (x : KnownMachine) (rested : List KnownCpu) (k : KnownSpent)
+pub all_visits : (t : KnownTable) (w : KnownStockTable) (l : KnownLocked) (cpus : List KnownCpu) (x : KnownMachine) (rested : List KnownCpu)
+    (k : KnownEmptiedBoot)
     → IsQuiet t w l → pins_of cpus ≡ 0 → k.drops ≡ min (drops_of cpus) max_count
     → ForEachCpu (VisitsUnderLock t SettlesInVisit) l.machine cpus x rested → ForEachCpu (VisitsUnderLock t Empties) x rested k.machine k.cpus
     → MakesLastVisits t w l cpus k
@@ -205,8 +207,8 @@ all_visits t w l cpus x rested k quiet no_pin drops rests empties = record {
 }
 
 -- the tables are closed
-pub all_closes : (t : KnownTable) (w : KnownStockTable) (k : KnownSpent) (a : Audit) (frame_seats : List KnownSeat) (stock_seats : List KnownStockSeat)
-    → AllShut k.machine → All (λ c. IsSpent t w k.machine c) k.cpus
+pub all_closes : (t : KnownTable) (w : KnownStockTable) (k : KnownEmptiedBoot) (a : Audit) (frame_seats : List KnownSeat) (stock_seats : List KnownStockSeat)
+    → AllShut k.machine → All (λ c. IsEmptied t w k.machine c) k.cpus
     → (((p : ℕ) → NoneLentTo p k.machine.frame_states) → IsAuditOf t k.machine k.drops a)
     → IsClosed t w k.machine frame_seats stock_seats → frame_seats ≡ map frame_seat_of k.cpus → stock_seats ≡ map stock_seat_of k.cpus → Closes t w k a
 all_closes t w k a frame_seats stock_seats shut all tells_then closing frames stocks =
@@ -221,7 +223,7 @@ all_closes t w k a frame_seats stock_seats shut all tells_then closing frames st
     let charged = tells.charged in
     let count = tells.frames in
     record {
-      all_spent = all;
+      all_emptied = all;
       none_lent = none;
       no_page = λ p some within. (found t w y k.cpus shut all closed p some within).3;
       stock_words = closed.stock_words;

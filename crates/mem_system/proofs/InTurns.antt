@@ -8,7 +8,7 @@ use Rattle.frame_word.specs.Seats.{KnownTable}
 use Rattle.stock_word.specs.Stock.{KnownStockTable}
 use Rattle.cpu_part.specs.Cpus.{KnownCpu}
 use Rattle.mem_machine.specs.Machines.{KnownMachine}
-use Rattle.mem_system.specs.Ends.{ForEachCpu, IsSpent, LendsAndFillsNone, pins_of}
+use Rattle.mem_system.specs.Ends.{ForEachCpu, IsEmptied, LendsAndFillsNone, pins_of}
 use Rattle.mem_machine.specs.Local.{VisitState, visit_state}
 
 -- the visits of the first i CPUs lead from the first machine to this one, and the others are as they were
@@ -70,9 +70,15 @@ no_pin_at cpus now i any inside long left none =
     let part = get_or-le-sum_by (λ (c : KnownCpu). length c.pins) cpus i any within in
     ap (λ (l : List KnownCpu). (get_or l 0 any).pins) (same_next i cpus now any within long left) ∙ nothing_left _ (omega (arith, part, none))
 
-pub spent_still : (t : KnownTable) (w : KnownStockTable) (x y : KnownMachine) → LendsAndFillsNone x y → (c : KnownCpu) → IsSpent t w x c → IsSpent t w y c
-spent_still t w x y alone c spent =
-    record { tied = spent.tied; idle = spent.idle; none_lent = alone.none_lent c.number spent.none_lent; drained = alone.drained c.number spent.drained }
+pub emptied_still : (t : KnownTable) (w : KnownStockTable) (x y : KnownMachine) → LendsAndFillsNone x y → (c : KnownCpu) → IsEmptied t w x c → IsEmptied t w y c
+emptied_still t w x y alone c emptied =
+    record {
+      tied = emptied.tied;
+      idle = emptied.idle;
+      none_lent = alone.none_lent c.number emptied.none_lent;
+      drained = alone.drained c.number
+          emptied.drained;
+    }
 
 all_of_one : (P : KnownCpu → Type 0) (d : KnownCpu) → P d → All P (d ∷ [])
 all_of_one P d one zero any inside = one

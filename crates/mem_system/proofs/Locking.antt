@@ -12,7 +12,7 @@ use Rattle.mem_machine.specs.Local.{VisitState, visit_state}
 use Rattle.mem_machine.specs.Steps.{cpu_makes}
 use Rattle.mem_system.specs.Commands.{Transition, BySteps}
 use Rattle.mem_system.specs.Locked.{AllShut}
-use Rattle.mem_system.specs.Ends.{ForEachCpu, IsSpent, LendsAndFillsNone, VisitsUnderLock, between_locks, steps_of_visits}
+use Rattle.mem_system.specs.Ends.{ForEachCpu, IsEmptied, LendsAndFillsNone, VisitsUnderLock, between_locks, steps_of_visits}
 
 -- a visit between the Lock and the Unlock that the watch takes
 pub locked_visit : (t : KnownTable) (Does : Transition VisitState → Type 0) (m m1 n1 n : KnownMachine) (c d : KnownCpu) (p : ℕ) → p ≡ c.number
@@ -33,9 +33,10 @@ locked_visit t Does m m1 n1 n c d p named found lock visit left unlock = record 
 pub shut_seen : (m n : KnownMachine) (w : KnownWatch) → n ≡ with_watch m w → AllShut m → AllShut n
 shut_seen m n w is shut = subst AllShut (sym is) shut
 
-pub spent_seen : (t : KnownTable) (s : KnownStockTable) (m n : KnownMachine) (w : KnownWatch) (c : KnownCpu) → n ≡ with_watch m w → IsSpent t s m c → IsSpent t s n c
-spent_seen t s m n w c is spent = subst (λ (k : KnownMachine). IsSpent t s k c) (sym is)
-    (record { tied = spent.tied; idle = spent.idle; none_lent = spent.none_lent; drained = spent.drained })
+pub emptied_seen : (t : KnownTable) (s : KnownStockTable) (m n : KnownMachine) (w : KnownWatch) (c : KnownCpu) → n ≡ with_watch m w → IsEmptied t s m c
+    → IsEmptied t s n c
+emptied_seen t s m n w c is emptied = subst (λ (k : KnownMachine). IsEmptied t s k c) (sym is)
+    (record { tied = emptied.tied; idle = emptied.idle; none_lent = emptied.none_lent; drained = emptied.drained })
 
 pub alone_seen : (m m1 n1 n : KnownMachine) (v w : KnownWatch) → m1 ≡ with_watch m v → n ≡ with_watch n1 w → LendsAndFillsNone m1 n1 → LendsAndFillsNone m n
 alone_seen m m1 n1 n v w first last alone =

@@ -106,7 +106,7 @@ pub record IsSettledUnpinned (cpu : KnownCpu) : Type 0 where
   pub no_pin : cpu.pins ≡ []
 
 -- the CPU has no frame on any of its lists and no pin, no frame is lent to it, and its stock is drained
-pub record IsSpent (table : KnownTable) (stock_table : KnownStockTable) (machine : KnownMachine)
+pub record IsEmptied (table : KnownTable) (stock_table : KnownStockTable) (machine : KnownMachine)
     (cpu : KnownCpu) : Type 0 where
   pub tied : IsTied table stock_table cpu
   pub idle : IsIdle cpu
@@ -188,7 +188,7 @@ pub record HasNoPage (machine : KnownMachine) (stock_words : List ℕ) (cpu : �
 
 -- a boot whose last visits are made: its machine, the CPUs' parts, and how many fresh frames the CPUs put back on their
 -- own lists
-pub record KnownSpent : Type 0 where
+pub record KnownEmptiedBoot : Type 0 where
   pub machine : KnownMachine
   pub cpus : List KnownCpu
   pub drops : ℕ
@@ -198,38 +198,39 @@ pub record KnownSpent : Type 0 where
 -- watch took them.
 pub record MakesLastVisits (table : KnownTable) (stock_table : KnownStockTable) (locked : KnownLocked)
     (cpus : List KnownCpu)
-    (spent : KnownSpent) : Type 0 where
+    (emptied : KnownEmptiedBoot) : Type 0 where
   pub quiet : IsQuiet table stock_table locked
   pub no_pin : pins_of cpus ≡ 0
   pub settled : KnownMachine
   pub settled_cpus : List KnownCpu
   pub settles : ForEachCpu (VisitsUnderLock table SettlesInVisit) locked.machine cpus settled settled_cpus
-  pub empties : ForEachCpu (VisitsUnderLock table Empties) settled settled_cpus spent.machine spent.cpus
+  pub empties : ForEachCpu (VisitsUnderLock table Empties) settled settled_cpus emptied.machine emptied.cpus
   pub steps : Run
   pub steps_are : steps
       ≡ steps_of_visits table SettlesInVisit locked.machine cpus settled settled_cpus settles
-      ++ steps_of_visits table Empties settled settled_cpus spent.machine spent.cpus empties
-  pub watched : Watches locked.machine.watch steps spent.machine.watch
-  pub drops : spent.drops ≡ min (drops_of cpus) max_count
+      ++ steps_of_visits table Empties settled settled_cpus emptied.machine emptied.cpus empties
+  pub watched : Watches locked.machine.watch steps emptied.machine.watch
+  pub drops : emptied.drops ≡ min (drops_of cpus) max_count
 
 -- The tables of a boot are closed after its last visits. No frame is lent to anyone, and no stock has a page. The
 -- closed words are what the seats know. The audit counts what the machine and the CPUs counted, and it adds up.
-pub record Closes (table : KnownTable) (stock_table : KnownStockTable) (spent : KnownSpent)
+pub record Closes (table : KnownTable) (stock_table : KnownStockTable) (emptied : KnownEmptiedBoot)
     (audit : Audit) : Type 0 where
-  pub all_spent : All (λ cpu. IsSpent table stock_table spent.machine cpu) spent.cpus
-  pub none_lent : (cpu : ℕ) → NoneLentTo cpu spent.machine.frame_states
+  pub all_emptied : All (λ cpu. IsEmptied table stock_table emptied.machine cpu) emptied.cpus
+  pub none_lent : (cpu : ℕ) → NoneLentTo cpu emptied.machine.frame_states
   pub stock_words : List ℕ
-  pub told : All (λ cpu. IsStockOf stock_words cpu.number spent.machine.stock_seat.view cpu.stock_seat.view) spent.cpus
+  pub told : All (λ cpu. IsStockOf stock_words cpu.number emptied.machine.stock_seat.view cpu.stock_seat.view)
+      emptied.cpus
   pub no_page : (cpu : ℕ) → 1 ≤ cpu → cpu ≤ table.cpus
-      → HasNoPage spent.machine stock_words cpu
+      → HasNoPage emptied.machine stock_words cpu
   pub frame_words : List ℕ
-  pub last_words : AreLastWords table spent.machine spent.cpus frame_words
-  pub counted : IsAuditOf table spent.machine spent.drops audit
+  pub last_words : AreLastWords table emptied.machine emptied.cpus frame_words
+  pub counted : IsAuditOf table emptied.machine emptied.drops audit
   pub adds_up : AddsUp audit
 
 -- the end of a boot without pins: its last visits are made, and then its tables are closed
 pub record Ends (table : KnownTable) (stock_table : KnownStockTable) (locked : KnownLocked) (cpus : List KnownCpu)
     (audit : Audit) : Type 0 where
-  pub spent : KnownSpent
-  pub visits : MakesLastVisits table stock_table locked cpus spent
-  pub closes : Closes table stock_table spent audit
+  pub emptied : KnownEmptiedBoot
+  pub visits : MakesLastVisits table stock_table locked cpus emptied
+  pub closes : Closes table stock_table emptied audit

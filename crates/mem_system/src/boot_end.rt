@@ -5,9 +5,9 @@ ghost use Rattle.group_tree.specs.Room.{max_count};
 ghost use Rattle.mem_system.specs.Ends.{Ends, MakesLastVisits, drops_of, pins_of};
 
 use crate::audit::Audit;
+use crate::emptied_boot::EmptiedBoot;
 use crate::last_visits::{empty_all, settle_all};
 use crate::lock::Locked;
-use crate::spent::Spent;
 use cpu_part::{BootName, Cpu, Tables};
 
 /// The parts of a boot, returned unchanged because pins remain.
@@ -50,7 +50,7 @@ pub fn make_last_visits<N: BootName>(
     locked: Locked<N>,
     tables: Tables<N>,
     mut cpus: Vec<Cpu<N>>,
-) -> Result<Spent<N>, Pinned<N>>
+) -> Result<EmptiedBoot<N>, Pinned<N>>
     requires { length cpus.items ≡ N.frames.cpus }
     ensures visits { IfOk result (MakesLastVisits N.frames N.stocks locked cpus.items) }
     ensures pins { IfErr result (λ pinned. pinned.pins ≡ pins_of cpus.items) }
@@ -78,7 +78,7 @@ pub fn make_last_visits<N: BootName>(
     } = locked;
     settle_all(&mut machine, &tables, &mut cpus);
     empty_all(&mut machine, &tables, &mut cpus);
-    Ok(Spent {
+    Ok(EmptiedBoot {
         machine,
         tables,
         cpus,
@@ -105,7 +105,7 @@ pub fn end<N: BootName>(
     ensures cpus { IfErr result (λ pinned. pinned.cpus.items ≡ cpus.items) }
 {
     match make_last_visits(locked, tables, cpus) {
-        Ok(spent) => Ok(spent.close()),
+        Ok(emptied) => Ok(emptied.close()),
         Err(pinned) => Err(pinned),
     }
 }

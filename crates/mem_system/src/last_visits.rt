@@ -5,7 +5,7 @@ ghost use Rattle.std.specs.Prelude.{◌≡◌, [], All};
 ghost use Rattle.mem_system.specs.Locked.{AllShut};
 ghost use Rattle.mem_system.specs.Commands.{BySteps};
 ghost use Rattle.mem_system.specs.Ends.{Empties, ForEachCpu, SettlesInVisit, VisitsUnderLock};
-ghost use Rattle.mem_system.specs.Ends.{IsSettledUnpinned, IsSpent, LendsAndFillsNone, pins_of};
+ghost use Rattle.mem_system.specs.Ends.{IsSettledUnpinned, IsEmptied, LendsAndFillsNone, pins_of};
 ghost use Rattle.mem_machine.specs.Local.{visit_state};
 
 use cpu_part::{BootName, Cpu, Tables};
@@ -32,7 +32,7 @@ fn empty_cpu<N: BootName>(machine: &mut Machine<N>, tables: &Tables<N>, cpu: &mu
     requires settled { IsSettledUnpinned cpu.old }
     ensures empties { BySteps N.frames Empties (visit_state machine.old cpu.old) (visit_state machine.new cpu.new) }
     ensures shut { AllShut machine.new }
-    ensures spent { IsSpent N.frames N.stocks machine.new cpu.new }
+    ensures emptied { IsEmptied N.frames N.stocks machine.new cpu.new }
     ensures others { LendsAndFillsNone machine.old machine.new }
 {
     machine.open(tables, cpu);
@@ -65,7 +65,7 @@ fn empty_under_lock<N: BootName>(machine: &mut Machine<N>, tables: &Tables<N>, c
     ensures empties { VisitsUnderLock N.frames Empties
         (visit_state machine.old cpu.old) (visit_state machine.new cpu.new) }
     ensures shut { AllShut machine.new }
-    ensures spent { IsSpent N.frames N.stocks machine.new cpu.new }
+    ensures emptied { IsEmptied N.frames N.stocks machine.new cpu.new }
     ensures others { LendsAndFillsNone machine.old machine.new }
 {
     let cpu_number = cpu.number();
@@ -102,7 +102,7 @@ pub(crate) fn empty_all<N: BootName>(
     requires settled { All IsSettledUnpinned cpus.old }
     ensures empties { ForEachCpu (VisitsUnderLock N.frames Empties) machine.old cpus.old machine.new cpus.new }
     ensures shut { AllShut machine.new }
-    ensures spent { All (λ cpu. IsSpent N.frames N.stocks machine.new cpu) cpus.new }
+    ensures emptied { All (λ cpu. IsEmptied N.frames N.stocks machine.new cpu) cpus.new }
 {
     for cpu in cpus.iter_mut() {
         empty_under_lock(machine, tables, cpu);

@@ -28,7 +28,7 @@ pub(crate) fn write_over_limit(
 {
     push_words(&Fault::OverLimit { group }, text)?;
     text.push_str(" ")?;
-    push_characters(text, path.as_bytes())?;
+    push_characters(path.as_bytes(), text)?;
     text.push_str("\n")
 }
 

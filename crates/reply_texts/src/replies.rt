@@ -24,7 +24,7 @@ pub fn write_reply(reply: &Reply, text: &mut String) -> Result<(), AllocError>
         Reply::Group(group) => write_number("group ", u64::from(group.number()), text),
         Reply::Frame(number) => write_number("frame ", u64::from(*number), text),
         Reply::Done => text.push_str("ok\n"),
-        Reply::Text(file) => push_characters(text, file.as_bytes()),
+        Reply::Text(file) => push_characters(file.as_bytes(), text),
         Reply::Free => text.push_str("free\n"),
         Reply::Lent(cpu) => write_number("cpu ", u64::from(*cpu), text),
         Reply::Charged { group: _, path } => write_path(path, text),
@@ -83,7 +83,7 @@ fn write_file(
         ≡ string_bytes text.old ++ reply_text (reply_of charges.now (Text group file))) }
 {
     match file_text(charges, group, file) {
-        Ok(told) => push_characters(text, told.as_bytes()),
+        Ok(told) => push_characters(told.as_bytes(), text),
         Err(fault) => write_refusal(&fault, text),
     }
 }
@@ -92,6 +92,6 @@ fn write_file(
 fn write_path(path: &PathText, text: &mut String) -> Result<(), AllocError>
     ensures { IfOk result (λ _. string_bytes text.new ≡ string_bytes text.old ++ path_text path.now) }
 {
-    push_characters(text, path.as_bytes())?;
+    push_characters(path.as_bytes(), text)?;
     text.push_str("\n")
 }

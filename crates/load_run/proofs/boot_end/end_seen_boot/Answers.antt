@@ -6,7 +6,7 @@ pub returns : goal.returns
 returns g c = record {
   ends = record {
     ends = record {
-      spent = c.leave_nothing-held.result.1;
+      emptied = c.leave_nothing-held.result.1;
       leaves = c.leave_nothing-held.ensures.leaves;
       closes = c.close-audit.ensures;
     };

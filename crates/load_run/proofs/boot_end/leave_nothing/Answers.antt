@@ -20,7 +20,7 @@ unreachable-requires g c =
 
 pub returns-in-Ok : goal.returns-in-Ok
 returns-in-Ok g c = record {
-  leaves = leaves_free g.N.BootName.frames g.N.BootName.stocks (system_state c.args.locked c.args.cpus.items) c.in-Ok.spent c.in-Ok.ensures.visits;
+  leaves = leaves_free g.N.BootName.frames g.N.BootName.stocks (system_state c.args.locked c.args.cpus.items) c.in-Ok.emptied c.in-Ok.ensures.visits;
 }
 
 pub returns-in-Ok-make_last_visits : goal.returns-in-Ok-make_last_visits
@@ -39,7 +39,7 @@ returns-in-Ok-make_last_visits g c =
     let sizes = put.sizes ∙ ap (λ (l : KnownLocked). l.sizes) same.locked in
     let some = same.some_pin in
     record {
-      leaves = leaves_nothing t w (system_state c.args.locked c.args.cpus.items) c.in-Err.pinned.pins c.in-Ok-make_last_visits.spent now.locked now.cpus
+      leaves = leaves_nothing t w (system_state c.args.locked c.args.cpus.items) c.in-Err.pinned.pins c.in-Ok-make_last_visits.emptied now.locked now.cpus
           same.pins puts sizes (λ none. absurd (omega (arith, some, none)))
-          (subst (λ (l : List KnownCpu). MakesLastVisits t w now.locked l c.in-Ok-make_last_visits.spent) back c.in-Ok-make_last_visits.ensures.visits);
+          (subst (λ (l : List KnownCpu). MakesLastVisits t w now.locked l c.in-Ok-make_last_visits.emptied) back c.in-Ok-make_last_visits.ensures.visits);
     }

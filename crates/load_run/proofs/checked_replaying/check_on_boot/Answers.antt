@@ -41,8 +41,8 @@ returns g c =
     (parts_tied c.args.boot.sizes t w start.locked.machine c.in_ok-locked.cpus.items sized is_first first)
     (a_boot_agrees t w start.locked.machine is_first) new in
     let held = ended.ends.ends in
-    let on : has_legal_steps held.spent.machine.watch ≡ true = sym ended.ends.is_legal ∙ c.if-not-seen.false in
-    let saw = saw_more (zone_of t) tells.run ended.before.locked.machine.watch held.leaves.steps held.spent.machine.watch tells.saw held.leaves.watched on in
+    let on : has_legal_steps held.emptied.machine.watch ≡ true = sym ended.ends.is_legal ∙ c.if-not-seen.false in
+    let saw = saw_more (zone_of t) tells.run ended.before.locked.machine.watch held.leaves.steps held.emptied.machine.watch tells.saw held.leaves.watched on in
     let told = c.check_and_end_boot-answers.result.1 in
     let steps = c.check_and_end_boot-answers.result.2.steps in
     let answers = c.in_ok-answers.answers.items in

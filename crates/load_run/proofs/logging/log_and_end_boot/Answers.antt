@@ -32,9 +32,9 @@ returns g c =
     let s : SystemState = system_state c.args.locked c.args.cpus.items in
     let e : SystemState = system_state now.locked now.cpus in
     let held = c.leave_nothing-held.result.0 in
-    let spent = c.leave_nothing-held.result.1 in
-    let leaves : LeavesNothing t w e held spent =
-    subst (λ (cpus : List KnownCpu). LeavesNothing t w (system_state now.locked cpus) held spent) same c.leave_nothing-held.ensures.leaves in
+    let emptied = c.leave_nothing-held.result.1 in
+    let leaves : LeavesNothing t w e held emptied =
+    subst (λ (cpus : List KnownCpu). LeavesNothing t w (system_state now.locked cpus) held emptied) same c.leave_nothing-held.ensures.leaves in
     let served : GrowsBy (LogsAll (terms t w false) texts c.args.lines.now s e) c.args.log.now.items now.log.items =
     subst (λ (cpus : List KnownCpu). GrowsBy (LogsAll (terms t w false) texts c.args.lines.now (system_state c.args.locked cpus) e) c.args.log.now.items now.log.items)
     first c.in_ok-served.ensures.logged in
@@ -42,7 +42,7 @@ returns g c =
     let seen = length c.log-seen.result.now in
     record {
       logged = on_both c.log_end-ended.result _ _ _ (λ whole added.
-          end_logged t w texts c.args.lines.now s e held spent seen c.args.log.now.items now.log.items c.log_end-ended.new.log.items leaves at
+          end_logged t w texts c.args.lines.now s e held emptied seen c.args.log.now.items now.log.items c.log_end-ended.new.log.items leaves at
           (ap has_whole_log (sym c.watch-2.ensures) ∙ whole)
           (added ∙ ap (λ (k : KnownWatch). now.log.items ++ (codes "# end\n" ++ drop seen (log_text k))) c.watch-2.ensures) served)
           c.log_end-ended.ensures.whole c.log_end-ended.ensures.added;

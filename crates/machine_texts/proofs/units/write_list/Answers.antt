@@ -49,6 +49,8 @@ loop-seen-preserved g c =
     c.frame_states-frame_states.ensures.consistent c.loop-seen.invariant c.in-Some.entry c.in-Some.is c.newer-next.result
     (c.newer-next.ensures ∙ ap (λ (x : ℕ). entry_after x (entries_in now c.args.group c.args.list)) at) pins c.pins_on-pins.ensures.most c.pins_on-pins.new.self
     (c.pins_on-pins.ensures.machine ∙ ap (λ (x : ℕ). with_look_at now x pins) at) _
-    (λ text told. joined c.both-written.result c.loop-seen.written c.write_unit-line.result (string_bytes c.args.text.now) (string_bytes c.loop-seen.text)
+    (λ text told. joined c.first_error-written.result c.loop-seen.written c.write_unit-line.result (string_bytes c.args.text.now)
+    (string_bytes c.loop-seen.text)
     (string_bytes c.write_unit-line.new.text) text (unit_text (order_at now c.in-Some.entry.number) (listed c.args.list c.in-Some.entry) pins)
-    c.both-written.ensures.first c.both-written.ensures.second told (line (order_at now c.in-Some.entry.number) (c.order_of-order.ensures ∙ ap (order_at now) at)))
+    c.first_error-written.ensures.first c.first_error-written.ensures.second told (line (order_at now c.in-Some.entry.number)
+    (c.order_of-order.ensures ∙ ap (order_at now) at)))

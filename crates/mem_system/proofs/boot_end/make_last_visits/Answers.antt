@@ -5,7 +5,7 @@ use Rattle.group_tree.specs.Room.{max_count}
 use Rattle.cpu_part.specs.Cpus.{KnownCpu}
 use Rattle.mem_system.specs.Locked.{IsEmptyWithRoom, KnownLocked}
 use Rattle.mem_system.specs.Left.{NothingIsLeft}
-use Rattle.mem_system.specs.Ends.{ForEachCpu, SettlesInVisit, VisitsUnderLock, Empties, IsSettledUnpinned, KnownSpent, MakesLastVisits, drops_of, pins_of}
+use Rattle.mem_system.specs.Ends.{ForEachCpu, SettlesInVisit, VisitsUnderLock, Empties, IsSettledUnpinned, KnownEmptiedBoot, MakesLastVisits, drops_of, pins_of}
 use Rattle.mem_system.proofs.Closing.{turn_long, written_back, all_visits}
 use Rattle.mem_system.proofs.boot_end.make_last_visits.Goals as goal
 
@@ -38,10 +38,15 @@ returns-clause-visits g c =
     let empties : ForEachCpu (VisitsUnderLock t Empties) c.settle_all.new.machine c.settle_all.new.cpus c.empty_all.new.machine c.empty_all.new.cpus =
     subst (λ (l : List KnownCpu). ForEachCpu (VisitsUnderLock t Empties) c.settle_all.new.machine l c.empty_all.new.machine c.empty_all.new.cpus) (second ∙ same)
     c.empty_all.ensures.empties in
-    let spent : List KnownCpu → KnownSpent = λ (l : List KnownCpu). record { machine = c.empty_all.new.machine; cpus = l; drops = c.count_drops-drops.result } in
-    subst (λ (z : KnownLocked × List KnownCpu). MakesLastVisits t w z.0 c.args.cpus.items (spent z.1)) (λ i. (c.locked.view_is i, sym last i))
+    let emptied : List KnownCpu → KnownEmptiedBoot = λ (l : List KnownCpu). record {
+      machine = c.empty_all.new.machine;
+      cpus = l;
+      drops =
+          c.count_drops-drops.result;
+    } in
+    subst (λ (z : KnownLocked × List KnownCpu). MakesLastVisits t w z.0 c.args.cpus.items (emptied z.1)) (λ i. (c.locked.view_is i, sym last i))
     (all_visits t w (record { machine = c.locked.inside.machine; sizes = c.locked.inside.sizes }) c.args.cpus.items c.settle_all.new.machine c.settle_all.new.cpus
-    (spent c.empty_all.new.cpus) c.locked.invariant.quiet none dropped rests empties)
+    (emptied c.empty_all.new.cpus) c.locked.invariant.quiet none dropped rests empties)
 
 pub invariant_of-result : goal.invariant_of-result
 invariant_of-result g c =
@@ -58,7 +63,7 @@ invariant_of-result g c =
       subst (λ (l : List KnownCpu). NothingIsLeft t w (record { machine = c.empty_all.new.machine; cpus = l; drops = c.count_drops-drops.result })) (sym last)
           (record {
             shut = c.empty_all.ensures.shut;
-            all_spent = c.empty_all.ensures.spent;
+            all_emptied = c.empty_all.ensures.emptied;
             count = longer ∙ ap length same ∙ long ∙ c.requires;
             stock_count = sized.stock_cpus ∙ sym sized.cpus;
           }),

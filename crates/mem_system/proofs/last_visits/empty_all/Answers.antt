@@ -1,7 +1,7 @@
 use Rattle.std.proofs.Common.{◌<◌, ◌≤◌, length, arith, rules, subst, sym}
 use Rattle.std.specs.Prelude.{take}
-use Rattle.mem_system.specs.Ends.{Empties, VisitsUnderLock, IsSettledUnpinned, IsSpent}
-use Rattle.mem_system.proofs.InTurns.{so_far_more, so_far_end, same_at, all_still, all_more, all_taken, spent_still}
+use Rattle.mem_system.specs.Ends.{Empties, VisitsUnderLock, IsSettledUnpinned, IsEmptied}
+use Rattle.mem_system.proofs.InTurns.{so_far_more, so_far_end, same_at, all_still, all_more, all_taken, emptied_still}
 use Rattle.mem_system.proofs.last_visits.empty_all.Goals as goal
 
 pub empty_under_lock-requires-clause-settled : goal.empty_under_lock-requires-clause-settled
@@ -19,9 +19,9 @@ loop-cpu-preserved g c =
     let t = g.N.BootName.frames in
     let w = g.N.BootName.stocks in (
       so_far_more (VisitsUnderLock t Empties) _ _ _ _ _ _ c.cpu-item.result _ c.loop-cpu.invariant.0 inside done.empties,
-      all_more (IsSpent t w c.empty_under_lock.new.machine) c.loop-cpu.cpus c.loop-cpu.cpu-index c.empty_under_lock.new.cpu inside
-          (all_still (IsSpent t w c.loop-cpu.machine) (IsSpent t w c.empty_under_lock.new.machine) (take c.loop-cpu.cpu-index c.loop-cpu.cpus)
-          (spent_still t w c.loop-cpu.machine c.empty_under_lock.new.machine done.others) c.loop-cpu.invariant.1) done.spent,
+      all_more (IsEmptied t w c.empty_under_lock.new.machine) c.loop-cpu.cpus c.loop-cpu.cpu-index c.empty_under_lock.new.cpu inside
+          (all_still (IsEmptied t w c.loop-cpu.machine) (IsEmptied t w c.empty_under_lock.new.machine) (take c.loop-cpu.cpu-index c.loop-cpu.cpus)
+          (emptied_still t w c.loop-cpu.machine c.empty_under_lock.new.machine done.others) c.loop-cpu.invariant.1) done.emptied,
       done.shut,
     )
 
@@ -30,7 +30,7 @@ returns-clause-empties g c =
     let past : length c.loop-cpu.cpus ≤ c.loop-cpu.cpu-index = search rules in
     so_far_end (VisitsUnderLock g.N.BootName.frames Empties) _ _ _ _ _ c.loop-cpu.invariant.0 past
 
-pub returns-clause-spent : goal.returns-clause-spent
-returns-clause-spent g c =
+pub returns-clause-emptied : goal.returns-clause-emptied
+returns-clause-emptied g c =
     let past : length c.loop-cpu.cpus ≤ c.loop-cpu.cpu-index = search rules in
-    all_taken (IsSpent g.N.BootName.frames g.N.BootName.stocks c.loop-cpu.machine) c.loop-cpu.cpus c.loop-cpu.cpu-index past c.loop-cpu.invariant.1
+    all_taken (IsEmptied g.N.BootName.frames g.N.BootName.stocks c.loop-cpu.machine) c.loop-cpu.cpus c.loop-cpu.cpu-index past c.loop-cpu.invariant.1

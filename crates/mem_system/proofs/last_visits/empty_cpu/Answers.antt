@@ -40,8 +40,8 @@ returns-clause-shut g c =
     all_shut c.args.machine.now x c.shut.new.self c.args.cpu.now.number c.requires.shut opened
     (c.shut.ensures.machine ∙ ap (λ (q : ℕ). with_watch (with_visit_of x q 0) c.shut.new.self.watch) numbered)
 
-pub returns-clause-spent : goal.returns-clause-spent
-returns-clause-spent g c =
+pub returns-clause-emptied : goal.returns-clause-emptied
+returns-clause-emptied g c =
     let t = g.N.BootName.frames in
     let w = g.N.BootName.stocks in
     let done = c.drain_list.ensures in

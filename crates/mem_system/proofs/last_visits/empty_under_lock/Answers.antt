@@ -1,5 +1,5 @@
 use Rattle.mem_system.specs.Ends.{Empties}
-use Rattle.mem_system.proofs.Locking.{locked_visit, shut_seen, spent_seen, alone_seen}
+use Rattle.mem_system.proofs.Locking.{locked_visit, shut_seen, emptied_seen, alone_seen}
 use Rattle.mem_system.proofs.last_visits.empty_under_lock.Goals as goal
 
 pub empty_cpu-requires-clause-shut : goal.empty_cpu-requires-clause-shut
@@ -14,10 +14,10 @@ returns-clause-empties g c =
 pub returns-clause-shut : goal.returns-clause-shut
 returns-clause-shut g c = shut_seen c.empty_cpu.new.machine c.take_step-2.new.self _ c.take_step-2.ensures.machine c.empty_cpu.ensures.shut
 
-pub returns-clause-spent : goal.returns-clause-spent
-returns-clause-spent g c =
-    spent_seen g.N.BootName.frames g.N.BootName.stocks c.empty_cpu.new.machine c.take_step-2.new.self _ c.empty_cpu.new.cpu c.take_step-2.ensures.machine
-    c.empty_cpu.ensures.spent
+pub returns-clause-emptied : goal.returns-clause-emptied
+returns-clause-emptied g c =
+    emptied_seen g.N.BootName.frames g.N.BootName.stocks c.empty_cpu.new.machine c.take_step-2.new.self _ c.empty_cpu.new.cpu c.take_step-2.ensures.machine
+    c.empty_cpu.ensures.emptied
 
 pub returns-clause-others : goal.returns-clause-others
 returns-clause-others g c =

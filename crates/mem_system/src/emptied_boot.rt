@@ -17,7 +17,7 @@ use step_watch::Watch;
 use stock_word::StockSeat;
 
 /// A boot whose last visits are made: nothing is left at any CPU. It must be closed.
-pub struct Spent<N: BootName> {
+pub struct EmptiedBoot<N: BootName> {
     pub(crate) machine: Machine<N>,
     pub(crate) tables: Tables<N>,
     pub(crate) cpus: Vec<Cpu<N>>,
@@ -27,10 +27,10 @@ pub struct Spent<N: BootName> {
     pub(crate) drops: u64,
 }
 
-impl<N: BootName> Model for Spent<N> {
-    ghost use Rattle.mem_system.specs.Ends.{KnownSpent};
+impl<N: BootName> Model for EmptiedBoot<N> {
+    ghost use Rattle.mem_system.specs.Ends.{KnownEmptiedBoot};
 
-    ghost Value = { KnownSpent };
+    ghost Value = { KnownEmptiedBoot };
 
     ghost use Rattle.std.specs.Prelude.{length};
     ghost use Rattle.std.specs.Vec.{vec_capacity};
@@ -45,7 +45,7 @@ impl<N: BootName> Model for Spent<N> {
         × IsEmptyWithRoom N.frames.cpus (length s.stock_seats.items) (vec_capacity s.stock_seats) };
 }
 
-impl<N: BootName> Spent<N> {
+impl<N: BootName> EmptiedBoot<N> {
     /// The watch of the machine, which took the steps of the last visits.
     pub fn watch(&self) -> &Watch
         ensures { result.now ≡ self.now.machine.watch }
@@ -57,7 +57,7 @@ impl<N: BootName> Spent<N> {
     pub fn close(self) -> Audit
         ensures { Closes N.frames N.stocks self result }
     {
-        let Spent {
+        let EmptiedBoot {
             machine,
             tables,
             cpus,

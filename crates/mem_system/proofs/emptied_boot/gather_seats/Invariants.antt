@@ -2,7 +2,7 @@ use Rattle.std.proofs.Common.{◌≡◌, ◌+◌, ◌≤◌, ◌++◌, length, m
 use Rattle.std.specs.Vec.{vec_len, vec_capacity}
 use Rattle.cpu_part.specs.Cpus.{IsIdle}
 use Rattle.mem_system.specs.Ends.{frame_seat_of, stock_seat_of}
-use Rattle.mem_system.proofs.spent.gather_seats.Given as goal
+use Rattle.mem_system.proofs.emptied_boot.gather_seats.Given as goal
 
 -- the seats of the CPUs so far are gathered, there is room for the others', and these have nothing left
 abbrev pub invariant-loop-cpus : goal.invariant-loop-cpus

@@ -1,6 +1,6 @@
 use Rattle.std.proofs.Common.{◌≡◌, ℕ, ◌<◌, ◌≤◌, length, rules}
 use Rattle.stock_word.specs.Stock.{view_in}
-use Rattle.mem_system.proofs.spent.close_tables.Goals as goal
+use Rattle.mem_system.proofs.emptied_boot.close_tables.Goals as goal
 
 pub returns : goal.returns
 returns g c =
