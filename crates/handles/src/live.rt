@@ -27,7 +27,7 @@ use mem_system::{Boot, Locked};
 use script_lines::fault::ScriptFault;
 use script_lines::line::Command;
 use script_lines::script::parse_script;
-use script_replay::{Form, alloc_typed, replay, serve_typed};
+use script_replay::{Form, alloc_value, replay, serve_value};
 use std::alloc::{AllocError, Global};
 use std::marker::Model;
 use zone_sizes::config::Config;
@@ -133,7 +133,7 @@ impl<N: BootName> Live<N> {
         requires short { IsShort (work_of command.now) }
         ensures { ReturnsCommandAnswer N.frames N.stocks cpu command.now self.old self.new result }
     {
-        CallAnswer::Served(serve_typed(
+        CallAnswer::Served(serve_value(
             &mut self.locked,
             &self.tables,
             &mut self.cpus,
@@ -149,7 +149,7 @@ impl<N: BootName> Live<N> {
         requires short { IsShort (work_of command.now) }
         ensures { ReturnsCommandAnswer N.frames N.stocks cpu command.now self.old self.new result }
     {
-        CallAnswer::Served(serve_typed(
+        CallAnswer::Served(serve_value(
             &mut self.locked,
             &self.tables,
             &mut self.cpus,
@@ -195,7 +195,7 @@ impl<N: BootName> Live<N> {
         ensures { Calls N.frames N.stocks cpu (Alloc group 0) self.old self.new result }
     {
         let _path = self.locked.charges().tree().path_of(group).as_bytes(); // Called for its contract.
-        CallAnswer::Served(alloc_typed(&mut self.locked, &self.tables, &mut self.cpus, cpu, group))
+        CallAnswer::Served(alloc_value(&mut self.locked, &self.tables, &mut self.cpus, cpu, group))
     }
 
     /// What a file of a group shows. The group exists, and isn't the root, which has no files.

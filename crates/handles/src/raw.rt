@@ -73,7 +73,7 @@ pub fn serve_raw(raw: Raw, request: Request) -> (Raw, RequestAnswer)
 /// Serves a call of the CPU of this number, as `serve_call` does, under the name that it picks for the tables. Only a
 /// pointer to the call crosses, and no memory is taken.
 ///
-/// It is inlined, so that a caller that names the call has its steps alone: see `serve_typed`.
+/// It is inlined, so that a caller that names the call has its steps alone: see `serve_value`.
 #[inline(always)]
 pub fn call_raw(raw: Raw, cpu: u32, call: &Call<'_>) -> (Raw, CallAnswer)
     requires some { IsSome raw.live }

@@ -4,7 +4,7 @@ ghost use Rattle.std.specs.Prelude.{◌≡◌, ◌++◌, All, IfOk, MatchOption}
 ghost use Rattle.std.specs.String.{string_bytes};
 ghost use Rattle.mem_machine.specs.declared.frame_state.Place.TheVariants as place;
 ghost use Rattle.mem_machine.specs.FrameStates.{place_of};
-ghost use Rattle.machine_texts.specs.Places.{PlaceGroupExists, FrameGroupExists, frames_text, is_same_place};
+ghost use Rattle.machine_texts.specs.Places.{FrameGroupExists, PlaceGroupExists, frames_text, is_same_place};
 ghost use Rattle.machine_texts.specs.Places.{place_text};
 ghost use Rattle.machine_texts.specs.Places.{places_text, run_text, IsAt, IsFirstElsewhere, run_length};
 

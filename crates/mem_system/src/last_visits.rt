@@ -5,7 +5,7 @@ ghost use Rattle.std.specs.Prelude.{◌≡◌, [], All};
 ghost use Rattle.mem_system.specs.Locked.{AllShut};
 ghost use Rattle.mem_system.specs.Commands.{BySteps};
 ghost use Rattle.mem_system.specs.Ends.{Empties, ForEachCpu, SettlesInVisit, VisitsUnderLock};
-ghost use Rattle.mem_system.specs.Ends.{IsSettledUnpinned, IsEmptied, LendsAndFillsNone, pins_of};
+ghost use Rattle.mem_system.specs.Ends.{IsEmptied, IsSettledUnpinned, LendsAndFillsNone, pins_of};
 ghost use Rattle.mem_machine.specs.Local.{visit_state};
 
 use cpu_part::{BootName, Cpu, Tables};

@@ -371,7 +371,8 @@ module _ (t : KnownTable) (w : KnownStockTable) (run : Run) (locked : KnownLocke
   answer_follows : (is_explained : Bool) (asked : Work) (steps : Run) (after : LockedState) (answer : Answer) (is_noted : Bool) → WorkInRange t.frames asked →
       AnswersWork is_explained asked (transition t before steps after) answer is_noted → AllShut after.locked.machine → GoesOn steps → Follows steps after
   answer_follows is_explained (work.Visit cmd) steps after answer true names is shut legal = replied_follows is_explained cmd steps after answer is shut legal
-  answer_follows is_explained (work.Frame path) steps after answer is_noted names is shut legal = frame_follows is_explained path steps after answer is_noted is shut legal
+  answer_follows is_explained (work.AllocFrame path) steps after answer is_noted names is shut legal = frame_follows is_explained path steps after answer
+      is_noted is shut legal
   answer_follows is_explained (work.Fast g) steps after (answer.Fast taken) false names is shut legal =
       as_made steps (fast_steps p g taken) after is.1.steps_are (λ all. fast_follows g taken after is.0 is.1.locked all) legal
   answer_follows is_explained (work.Release f) steps after answer is_noted names is shut legal = release_follows is_explained f steps after answer is_noted is shut legal

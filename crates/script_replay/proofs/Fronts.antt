@@ -7,14 +7,14 @@ use Rattle.mem_system.specs.declared.command.Cmd.TheVariants as cmd
 use Rattle.mem_system.specs.Locked.{KnownLocked}
 use Rattle.mem_system.specs.Visits.{LockedState, transition, locked_state}
 use Rattle.reply_texts.specs.Answer.{Answer, Served}
-use Rattle.script_replay.specs.declared.work.Work.TheVariants.{Frame, Release, Visit}
+use Rattle.script_replay.specs.declared.work.Work.TheVariants.{AllocFrame, Release, Visit}
 use Rattle.script_replay.specs.Answers.{AnswersWork, CanNotList, GetsNoneFast, ServesWork}
 use Rattle.script_replay.specs.Terms.{Terms}
 
 module _ (on : Terms) (l : KnownLocked) (c seen : KnownCpu) (after : LockedState) where
   allocated : (path : Bor (List ℕ)) → GetsNoneFast path.now (locked_state l c) seen → (steps : Run) (answer : Answer) (is_noted : Bool)
       → AnswersWork on.is_explained (Visit (cmd.Alloc path 0)) (transition on.frames (locked_state l seen) steps after) answer is_noted
-      → AnswersWork on.is_explained (Frame path) (transition on.frames (locked_state l c) steps after) answer is_noted
+      → AnswersWork on.is_explained (AllocFrame path) (transition on.frames (locked_state l c) steps after) answer is_noted
   allocated path none steps (Served reply) true is =
       record {
         seen = seen;
@@ -33,7 +33,7 @@ module _ (on : Terms) (l : KnownLocked) (c seen : KnownCpu) (after : LockedState
 
   -- if there is no frame for the group, the command is served
   pub served_after : (path : Bor (List ℕ)) → GetsNoneFast path.now (locked_state l c) seen → (text : List ℕ)
-      → ServesWork on (Visit (cmd.Alloc path 0)) (locked_state l seen) after text → ServesWork on (Frame path) (locked_state l c) after text
+      → ServesWork on (Visit (cmd.Alloc path 0)) (locked_state l seen) after text → ServesWork on (AllocFrame path) (locked_state l c) after text
   served_after path none text is = let writes = is.writes in record {
     steps = is.steps;
     writes = record {

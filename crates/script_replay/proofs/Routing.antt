@@ -33,7 +33,7 @@ use Rattle.script_lines.specs.declared.line.Line.TheVariants.{At}
 use Rattle.script_replay.specs.declared.route.Route.{Route}
 use Rattle.script_replay.specs.declared.route.Route.TheVariants as route
 use Rattle.script_replay.specs.declared.work.Work.{Work}
-use Rattle.script_replay.specs.declared.work.Work.TheVariants.{Visit, Frame, Fast, Release, Get, Put, Settle, Blocks, Show, Stock, Units}
+use Rattle.script_replay.specs.declared.work.Work.TheVariants.{Visit, AllocFrame, Fast, Release, Get, Put, Settle, Blocks, Show, Stock, Units}
 use Rattle.script_replay.specs.Answers.{AnswersWork, CanNotList, GetsNoneFast, IsTextOf, ListsAgain, OnlyWatched}
 use Rattle.script_replay.specs.Answers.{ServesUnderLock, WritesAnswer, WritesWork, explanation_if, fast_steps}
 use Rattle.script_replay.specs.Answers.{path_removed_by}
@@ -82,7 +82,7 @@ module _ (call : Transition LockedState) (text : List ℕ) where
 
   pub unnoted : (work : Work) (taken : Route) → unnoted_route work ≡ Some taken → WritesWork false work call text → WritesByRoute work taken call text
   unnoted (Visit cmd) taken is writes = absurd (none-some taken is)
-  unnoted (Frame path) taken is writes = absurd (none-some taken is)
+  unnoted (AllocFrame path) taken is writes = absurd (none-some taken is)
   unnoted (Fast group) taken is writes = on_route (Fast group) route.Unlocked taken (plain (Fast group) route.Unlocked call text (λ answer. fast call answer group) writes) is
   unnoted (Release frame) taken is writes = absurd (none-some taken is)
   unnoted (Get frame) taken is writes = on_route (Get frame) route.Unlocked taken (plain (Get frame) route.Unlocked call text (λ answer. get call answer frame) writes) is
@@ -97,7 +97,7 @@ module _ (call : Transition LockedState) (text : List ℕ) where
 pub noted_cases : (work : Work) → unnoted_route work ≡ None → ((cmd : Cmd) → work ≢ Visit cmd) → ((path : Bor (List ℕ)) → work ≢ Frame path)
     → ((frame : ℕ) → work ≢ Release frame) → ⊥
 noted_cases (Visit cmd) is not_visit not_frame not_release = not_visit cmd refl
-noted_cases (Frame path) is not_visit not_frame not_release = not_frame path refl
+noted_cases (AllocFrame path) is not_visit not_frame not_release = not_frame path refl
 noted_cases (Fast group) is not_visit not_frame not_release = none-some route.Unlocked (sym is)
 noted_cases (Release frame) is not_visit not_frame not_release = not_release frame refl
 noted_cases (Get frame) is not_visit not_frame not_release = none-some route.Unlocked (sym is)
@@ -112,7 +112,7 @@ noted_cases (Units path) is not_visit not_frame not_release = none-some route.Se
 
 -- no group has the path
 pub no_group_by_route : (t : KnownTable) (path : Bor (List ℕ)) (s : LockedState) → number_at s.locked.machine.ledger.groups path.now ≡ None
-    → ServesWorkByRoute t (Frame path) s s route.Unlocked (answer_text (Served (Refused NoGroup)))
+    → ServesWorkByRoute t (AllocFrame path) s s route.Unlocked (answer_text (Served (Refused NoGroup)))
 no_group_by_route t path s none = record {
   steps = [];
   writes = record {
@@ -126,14 +126,15 @@ module _ (t : KnownTable) (l m : KnownLocked) (c d : KnownCpu) (n : ℕ) (is : n
   -- a frame of the list was got for the group of this number, and the watch took the step
   pub got_by_route : (path : Bor (List ℕ)) (group named frame : ℕ) (fast : FastAnswer) → named ≡ group → fast ≡ Got frame
       → number_at l.machine.ledger.groups path.now ≡ Some group → FastAnswers named fast c d → OnlyWatched (fast_steps n named fast) l m
-      → ServesWorkByRoute t (Frame path) (locked_state l c) (locked_state m d) route.Unlocked (answer_text (answer.Fast fast))
+      → ServesWorkByRoute t (AllocFrame path) (locked_state l c) (locked_state m d) route.Unlocked (answer_text (answer.Fast fast))
   got_by_route path group named frame fast names got found answers watched =
       let watched_got : OnlyWatched (fast_steps c.number group (Got frame)) l m =
       subst (λ (x : FastAnswer). OnlyWatched (fast_steps c.number group x) l m) got
       (subst (λ (h : ℕ). OnlyWatched (fast_steps c.number h fast) l m) names (subst (λ (k : ℕ). OnlyWatched (fast_steps k named fast) l m) is watched)) in
       let answers_got : FastAnswers group (Got frame) c d =
       subst (λ (x : FastAnswer). FastAnswers group x c d) got (subst (λ (h : ℕ). FastAnswers h fast c d) names answers) in
-      subst (λ (x : FastAnswer). ServesWorkByRoute t (Frame path) (locked_state l c) (locked_state m d) route.Unlocked (answer_text (answer.Fast x))) (sym got)
+      subst (λ (x : FastAnswer). ServesWorkByRoute t (AllocFrame path) (locked_state l c) (locked_state m d) route.Unlocked (answer_text (answer.Fast x)))
+      (sym got)
       (record {
         steps = fast_steps c.number group (Got frame);
         writes = record {
@@ -189,7 +190,7 @@ module _ (t : KnownTable) (l : KnownLocked) (c seen : KnownCpu) (after : LockedS
   -- an Alloc that was served under the lock, because the fast allocation got no frame
   pub allocated_by_route : (path : Bor (List ℕ)) (none : GetsNoneFast path.now (locked_state l c) seen) (reply : Reply)
       → ServesUnderLock t true (cmd.Alloc path 0) reply (locked_state l seen) after
-      → ServesWorkByRoute t (Frame path) (locked_state l c) after (route.LockedAfter none.fast) (reply_text reply)
+      → ServesWorkByRoute t (AllocFrame path) (locked_state l c) after (route.LockedAfter none.fast) (reply_text reply)
   allocated_by_route path none reply is = let under = is.served in record {
     steps = is.steps;
     writes = record {

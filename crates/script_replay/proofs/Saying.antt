@@ -16,7 +16,7 @@ use Rattle.reply_texts.specs.Answers.{answer_text}
 use Rattle.script_lines.specs.declared.line.Command.{Command}
 use Rattle.script_lines.specs.declared.line.Line.TheVariants.{At}
 use Rattle.script_replay.specs.declared.work.Work.{Work}
-use Rattle.script_replay.specs.declared.work.Work.TheVariants.{Visit, Frame, Fast, Release, Get, Put, Settle, Blocks, Show, Stock, Units}
+use Rattle.script_replay.specs.declared.work.Work.TheVariants.{Visit, AllocFrame, Fast, Release, Get, Put, Settle, Blocks, Show, Stock, Units}
 use Rattle.script_replay.specs.Answers.{AnswersWork, GetsPin, OnlyWatched, PutsPin}
 use Rattle.script_replay.specs.Answers.{WritesAnswer, WritesWork, get_steps, pin_answer, put_steps}
 use Rattle.script_replay.specs.Answers.{unpin_answer}
@@ -70,7 +70,7 @@ module _ (call : Transition LockedState) (answer : Answer) where
 
   pub as_text : (work : Work) (is_noted : Bool) → AnswersWork false work call answer is_noted → WritesWork false work call (answer_text answer)
   as_text (Visit cmd) is_noted so = as_answer (Visit cmd) is_noted so
-  as_text (Frame path) is_noted so = as_answer (Frame path) is_noted so
+  as_text (AllocFrame path) is_noted so = as_answer (AllocFrame path) is_noted so
   as_text (Fast group) is_noted so = as_answer (Fast group) is_noted so
   as_text (Release frame) is_noted so = as_answer (Release frame) is_noted so
   as_text (Get frame) is_noted so = as_answer (Get frame) is_noted so

@@ -80,7 +80,7 @@ module _ (t : KnownTable) (before : LockedState) (steps : Run) (after : LockedSt
 
   answer_seen : (is_explained : Bool) (asked : Work) (answer : Answer) (is_noted : Bool) → AnswersWork is_explained asked (transition t before steps after) answer is_noted → SeesAll
   answer_seen is_explained (work.Visit cmd) answer true is = replied_seen is_explained cmd answer is
-  answer_seen is_explained (work.Frame path) answer is_noted is = frame_seen is_explained path answer is_noted is
+  answer_seen is_explained (work.AllocFrame path) answer is_noted is = frame_seen is_explained path answer is_noted is
   answer_seen is_explained (work.Fast g) (answer.Fast taken) false is = alone_seen _ is.1.steps_are is.1.locked
   answer_seen is_explained (work.Release f) answer is_noted is = release_seen is_explained f answer is_noted is
   answer_seen is_explained (work.Get f) answer false is = alone_seen _ is.1.steps_are is.1.locked

@@ -43,7 +43,7 @@ use Rattle.reply_texts.specs.Answer as answer
 use Rattle.reply_texts.specs.Answers.{answer_text}
 use Rattle.script_lines.specs.declared.line.Command.{Command}
 use Rattle.script_replay.specs.declared.work.Work.{Work}
-use Rattle.script_replay.specs.declared.work.Work.TheVariants.{Visit, Frame, Fast, Release, Get, Put, Settle}
+use Rattle.script_replay.specs.declared.work.Work.TheVariants.{Visit, AllocFrame, Fast, Release, Get, Put, Settle}
 use Rattle.script_replay.specs.declared.work.Work.TheVariants.{Blocks, Show, Stock, Units}
 use Rattle.script_replay.specs.Terms.{Terms}
 use Rattle.script_replay.specs.Works.{work_of}
@@ -274,7 +274,7 @@ AnswersFrame is_explained path call other is_noted = ⊥
 -- are if the command was served under the lock, except for a Settle, which asks for no memory.
 abbrev pub AnswersWork : (is_explained : Bool) → Work → Transition LockedState → Answer → (is_noted : Bool) → Type 0
 AnswersWork is_explained (Visit cmd) call answer true = RepliesServed is_explained cmd call answer
-AnswersWork is_explained (Frame path) call answer is_noted = AnswersFrame is_explained path call answer is_noted
+AnswersWork is_explained (AllocFrame path) call answer is_noted = AnswersFrame is_explained path call answer is_noted
 AnswersWork is_explained (Fast group) call answer false = AnswersFast group call answer
 AnswersWork is_explained (Release frame) call answer is_noted = AnswersRelease is_explained frame call answer is_noted
 AnswersWork is_explained (Get frame) call answer false = AnswersGet frame call answer

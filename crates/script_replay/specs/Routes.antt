@@ -16,7 +16,7 @@ use Rattle.script_lines.specs.declared.line.Line.TheVariants.{Go, At}
 use Rattle.script_replay.specs.declared.route.Route.{Route}
 use Rattle.script_replay.specs.declared.route.Route.TheVariants as route
 use Rattle.script_replay.specs.declared.work.Work.{Work}
-use Rattle.script_replay.specs.declared.work.Work.TheVariants.{Visit, Frame, Fast, Release, Get, Put, Settle}
+use Rattle.script_replay.specs.declared.work.Work.TheVariants.{Visit, AllocFrame, Fast, Release, Get, Put, Settle}
 use Rattle.script_replay.specs.declared.work.Work.TheVariants.{Blocks, Show, Stock, Units}
 use Rattle.script_replay.specs.Answers.{AllocatesUnderLock, AnswersFast, AnswersFrame, AnswersGet, AnswersPut}
 use Rattle.script_replay.specs.Answers.{AnswersRelease, AnswersSettle, IsTextOf, RepliesServed, WritesWork}
@@ -38,8 +38,8 @@ pub record AllocatesAfter (path : Bor (List ℕ)) (reason : FastAnswer) (reply :
 -- a group takes no lock.
 abbrev pub AnswersByRoute : Work → Route → Transition LockedState → Answer → Type 0
 AnswersByRoute (Visit cmd) route.Locked call answer = RepliesServed true cmd call answer
-AnswersByRoute (Frame path) route.Unlocked call answer = AnswersFrame true path call answer false
-AnswersByRoute (Frame path) (route.LockedAfter reason) call (answer.Served reply) =
+AnswersByRoute (AllocFrame path) route.Unlocked call answer = AnswersFrame true path call answer false
+AnswersByRoute (AllocFrame path) (route.LockedAfter reason) call (answer.Served reply) =
     AllocatesAfter path reason reply call
 AnswersByRoute (Fast group) route.Unlocked call answer = AnswersFast group call answer
 AnswersByRoute (Release frame) route.Unlocked call answer = AnswersRelease true frame call answer false
@@ -66,7 +66,7 @@ pub record ServesWorkByRoute (table : KnownTable) (work : Work) (before after : 
 -- the route of a command of which nothing is ever noted; None if the machine may have notes of it
 abbrev pub unnoted_route : Work → Option Route
 unnoted_route (Visit cmd) = None
-unnoted_route (Frame path) = None
+unnoted_route (AllocFrame path) = None
 unnoted_route (Fast group) = Some route.Unlocked
 unnoted_route (Release frame) = None
 unnoted_route (Get frame) = Some route.Unlocked

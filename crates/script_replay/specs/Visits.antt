@@ -21,7 +21,7 @@ use Rattle.script_lines.specs.declared.line.Command.{Command}
 use Rattle.script_lines.specs.declared.line.Line.{Line}
 use Rattle.script_lines.specs.declared.line.Line.TheVariants.{Go, At}
 use Rattle.script_replay.specs.declared.work.Work.{Work}
-use Rattle.script_replay.specs.declared.work.Work.TheVariants.{Visit, Frame, Fast, Release, Get, Put, Settle}
+use Rattle.script_replay.specs.declared.work.Work.TheVariants.{Visit, AllocFrame, Fast, Release, Get, Put, Settle}
 use Rattle.script_replay.specs.declared.work.Work.TheVariants.{Blocks, Show, Stock, Units}
 use Rattle.script_replay.specs.Answers.{CanNotList, FindsNoGroup, GetsFast, GetsNoneFast, GetsPin, IsTextOf, ListsAgain}
 use Rattle.script_replay.specs.Answers.{IsStockText, IsUnitsTextOf, PutsPin}
@@ -82,7 +82,7 @@ AnswersFrameByVisit tables path before after other = ⊥
 -- the answer of a command, except of those that answer a text of any length
 abbrev pub AnswersWorkByVisit : BootTables → Work → (before after : KnownCpu) → Answer → Type 0
 AnswersWorkByVisit tables (Visit cmd) before after answer = RepliesVisited tables cmd before after answer
-AnswersWorkByVisit tables (Frame path) before after answer = AnswersFrameByVisit tables path before after answer
+AnswersWorkByVisit tables (AllocFrame path) before after answer = AnswersFrameByVisit tables path before after answer
 AnswersWorkByVisit tables (Fast group) before after answer = TakesFast group before after answer
 AnswersWorkByVisit tables (Release frame) before after answer = AnswersReleaseByVisit tables frame before after answer
 AnswersWorkByVisit tables (Get frame) before after answer = GetsPin frame before after answer

@@ -7,7 +7,7 @@ ghost use Rattle.mem_system.specs.declared.command.Cmd.TheVariants.{Alloc};
 ghost use Rattle.std.specs.String.{string_bytes};
 ghost use Rattle.mem_system.specs.Visits.{locked_state};
 ghost use Rattle.mem_system.specs.Commands.{IsOfZone};
-ghost use Rattle.script_replay.specs.declared.work.Work.TheVariants.{Blocks, Frame, Release, Settle, Show, Stock};
+ghost use Rattle.script_replay.specs.declared.work.Work.TheVariants.{AllocFrame, Blocks, Release, Settle, Show, Stock};
 ghost use Rattle.script_replay.specs.declared.work.Work.TheVariants.{Units, Visit};
 ghost use Rattle.script_replay.specs.declared.work.Work.TheVariants as work;
 ghost use Rattle.script_replay.specs.Answers.{AddsText, ServesCommand, ServesWork, explanation_if, path_removed};
@@ -15,7 +15,7 @@ ghost use Rattle.script_replay.specs.Ranges.{CommandInRange, WorkInRange};
 ghost use Rattle.script_replay.specs.Terms.{terms};
 
 use crate::locked_calls::{serve_frame_under_lock, serve_under_lock, settle_under_lock};
-use crate::unlocked_calls::{pin, try_list, unpin, write_pin, write_unpin};
+use crate::unlocked_calls::{pin, try_relist, unpin, write_pin, write_unpin};
 use crate::watched_steps::{watch_credit, watch_fast, watch_get, watch_put};
 use crate::work::{Work, work_of};
 use cpu_part::{BootName, Cpu, Fast, Tables};
@@ -65,7 +65,7 @@ fn answer_work<N: BootName>(
 {
     match *work {
         Work::Visit(cmd) => answer_command(locked, tables, cpu, &cmd, is_explained, text),
-        Work::Frame { path } => answer_frame(locked, tables, cpu, path, is_explained, text),
+        Work::AllocFrame { path } => answer_frame(locked, tables, cpu, path, is_explained, text),
         Work::Fast { group } => answer_fast(locked, tables, cpu, group, text),
         Work::Release { frame } => answer_release(locked, tables, cpu, frame, is_explained, text),
         Work::Get { frame } => answer_get(locked, tables, cpu, frame, text),
@@ -214,7 +214,7 @@ fn answer_frame<N: BootName>(
     text: &mut String,
 ) -> Result<(), AllocError>
     ensures { AddsText result text.old text.new
-        (ServesWork (terms N.frames N.stocks is_explained) (Frame path.entry)
+        (ServesWork (terms N.frames N.stocks is_explained) (AllocFrame path.entry)
         (locked_state locked.old cpu.old) (locked_state locked.new cpu.new)) }
 {
     let Some(group) = locked.find(path) else {
@@ -246,7 +246,7 @@ fn answer_release<N: BootName>(
         (locked_state locked.old cpu.old) (locked_state locked.new cpu.new)) }
 {
     let cpu_number = cpu.number();
-    if try_list(tables, cpu, frame) {
+    if try_relist(tables, cpu, frame) {
         watch_credit(locked, cpu_number, frame);
         return write_listed(text);
     }

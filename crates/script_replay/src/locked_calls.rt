@@ -33,7 +33,7 @@ fn watch_lock<N: BootName>(locked: &mut Locked<N>, cpu: u32)
 
 // This CPU takes the lock for a command. Reclaimed units are noted from now on exactly if the command is explained.
 #[inline(always)]
-fn lock<N: BootName>(locked: &mut Locked<N>, cpu: u32, is_explained: bool)
+fn begin_command<N: BootName>(locked: &mut Locked<N>, cpu: u32, is_explained: bool)
     ensures { OnlyWatched (cpu_makes cpu Lock Done ∷ []) (locked_with_unit_notes locked.old is_explained) locked.new }
 {
     locked.set_unit_notes(is_explained);
@@ -43,7 +43,7 @@ fn lock<N: BootName>(locked: &mut Locked<N>, cpu: u32, is_explained: bool)
 // The CPU of this number releases the lock.
 #[inline(always)]
 #[tactic(auto, using(crate::proofs::Taking::unwatched))]
-fn unlock<N: BootName>(locked: &mut Locked<N>, cpu: u32)
+fn end_command<N: BootName>(locked: &mut Locked<N>, cpu: u32)
     ensures { OnlyWatched (cpu_makes cpu Unlock Done ∷ []) locked.old locked.new }
 {
     if !locked.watch().is_on() {
@@ -67,9 +67,9 @@ pub(crate) fn serve_under_lock<N: BootName>(
     ensures groups { HasItsGroups locked.new.machine.ledger result }
 {
     let cpu_number = cpu.number();
-    lock(locked, cpu_number, is_explained);
+    begin_command(locked, cpu_number, is_explained);
     let outcome = serve_outcome(locked, tables, cpu, cmd);
-    unlock(locked, cpu_number);
+    end_command(locked, cpu_number);
     outcome
 }
 
@@ -89,9 +89,9 @@ pub(crate) fn serve_frame_under_lock<N: BootName>(
     ensures groups { HasItsGroups locked.new.machine.ledger result }
 {
     let cpu_number = cpu.number();
-    lock(locked, cpu_number, is_explained);
+    begin_command(locked, cpu_number, is_explained);
     let outcome = serve_frame_outcome(locked, tables, cpu, group);
-    unlock(locked, cpu_number);
+    end_command(locked, cpu_number);
     outcome
 }
 
@@ -105,7 +105,7 @@ pub(crate) fn settle_under_lock<N: BootName>(
         (locked_state locked.old cpu.old) (locked_state locked.new cpu.new) }
 {
     let cpu_number = cpu.number();
-    lock(locked, cpu_number, false);
+    begin_command(locked, cpu_number, false);
     mem_system::settle(locked, tables, cpu);
-    unlock(locked, cpu_number);
+    end_command(locked, cpu_number);
 }

@@ -15,7 +15,7 @@ ghost use Rattle.script_replay.specs.Works.{work_of};
 
 use crate::locked_calls::{serve_frame_under_lock, serve_under_lock};
 use crate::route::Route;
-use crate::unlocked_calls::try_list;
+use crate::unlocked_calls::try_relist;
 use crate::value_replay::{prove_invariants, serve_line};
 use crate::watched_steps::{watch_credit, watch_fast};
 use crate::work::{Work, work_of};
@@ -51,7 +51,7 @@ pub fn serve_traced_line<N: BootName>(
         return Ok(route);
     }
     let at = (*cpu - 1) as usize;
-    serve_noted_part(locked, tables, &mut cpus[at], command, answer)
+    serve_noted_at_cpu(locked, tables, &mut cpus[at], command, answer)
 }
 
 // The route of what is done for a command of which nothing is ever noted; None if the machine may have notes of it.
@@ -60,7 +60,7 @@ fn unnoted_route(work: &Work<'_>) -> Option<Route>
 {
     match *work {
         Work::Visit(_) => None,
-        Work::Frame { path: _ } => None,
+        Work::AllocFrame { path: _ } => None,
         Work::Fast { group: _ } => Some(Route::Unlocked),
         Work::Release { frame: _ } => None,
         Work::Get { frame: _ } => Some(Route::Unlocked),
@@ -75,7 +75,7 @@ fn unnoted_route(work: &Work<'_>) -> Option<Route>
 
 // Serves a command at this part, of which the machine may have notes.
 #[tactic(auto, using(crate::proofs::InRange::work_in_range))]
-fn serve_noted_part<N: BootName>(
+fn serve_noted_at_cpu<N: BootName>(
     locked: &mut Locked<N>,
     tables: &Tables<N>,
     cpu: &mut Cpu<N>,
@@ -115,7 +115,7 @@ fn serve_noted_work<N: BootName>(
 {
     match *work {
         Work::Visit(cmd) => serve_noted_command(locked, tables, cpu, &cmd, answer),
-        Work::Frame { path } => serve_noted_frame(locked, tables, cpu, path, answer),
+        Work::AllocFrame { path } => serve_noted_frame(locked, tables, cpu, path, answer),
         Work::Release { frame } => serve_noted_release(locked, tables, cpu, frame, answer),
         _ => unreachable!(),
     }
@@ -148,7 +148,7 @@ fn serve_noted_frame<N: BootName>(
     answer: &mut String,
 ) -> Result<Route, AllocError>
     ensures served { AddsByRoute result answer.old answer.new
-        (ServesWorkByRoute N.frames (work.Frame path.entry)
+        (ServesWorkByRoute N.frames (work.AllocFrame path.entry)
         (locked_state locked.old cpu.old) (locked_state locked.new cpu.new)) }
 {
     let Some(group) = locked.find(path) else {
@@ -186,7 +186,7 @@ fn serve_noted_release<N: BootName>(
         (locked_state locked.old cpu.old) (locked_state locked.new cpu.new)) }
 {
     let cpu_number = cpu.number();
-    if try_list(tables, cpu, frame) {
+    if try_relist(tables, cpu, frame) {
         watch_credit(locked, cpu_number, frame);
         write_listed(answer)?;
         return Ok(Route::Unlocked);

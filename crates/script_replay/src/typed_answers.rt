@@ -10,7 +10,7 @@ ghost use Rattle.script_replay.specs.Typed.{IsShort, NamesItsGroups, SaysWork, a
 
 use crate::answer_value::AnswerValue;
 use crate::locked_calls::{serve_frame_under_lock, serve_under_lock, settle_under_lock};
-use crate::unlocked_calls::{pin, try_list, unpin};
+use crate::unlocked_calls::{pin, try_relist, unpin};
 use crate::watched_steps::{watch_credit, watch_fast, watch_get, watch_put};
 use crate::work::Work;
 use cpu_part::{BootName, Cpu, Fast, Tables};
@@ -20,7 +20,7 @@ use mem_system::{Cmd, Locked, Outcome};
 
 // Does what a command asks for, whose answer isn't a text of any length.
 #[inline(always)]
-pub(crate) fn serve_typed_work<N: BootName>(
+pub(crate) fn serve_value_work<N: BootName>(
     locked: &mut Locked<N>,
     tables: &Tables<N>,
     cpu: &mut Cpu<N>,
@@ -34,11 +34,11 @@ pub(crate) fn serve_typed_work<N: BootName>(
 {
     match *work {
         Work::Visit(cmd) => AnswerValue::Served(serve_under_lock(locked, tables, cpu, &cmd, false)),
-        Work::Frame { path } => serve_typed_frame(locked, tables, cpu, path),
-        Work::Fast { group } => serve_typed_fast(locked, tables, cpu, group),
-        Work::Release { frame } => serve_typed_release(locked, tables, cpu, frame),
-        Work::Get { frame } => serve_typed_get(locked, tables, cpu, frame),
-        Work::Put { frame } => serve_typed_put(locked, tables, cpu, frame),
+        Work::AllocFrame { path } => serve_value_frame(locked, tables, cpu, path),
+        Work::Fast { group } => serve_value_fast(locked, tables, cpu, group),
+        Work::Release { frame } => serve_value_release(locked, tables, cpu, frame),
+        Work::Get { frame } => serve_value_get(locked, tables, cpu, frame),
+        Work::Put { frame } => serve_value_put(locked, tables, cpu, frame),
         Work::Settle => {
             settle_under_lock(locked, tables, cpu);
             AnswerValue::Settled
@@ -51,24 +51,24 @@ pub(crate) fn serve_typed_work<N: BootName>(
 }
 
 // Takes a frame, if possible without the lock.
-fn serve_typed_frame<N: BootName>(
+fn serve_value_frame<N: BootName>(
     locked: &mut Locked<N>,
     tables: &Tables<N>,
     cpu: &mut Cpu<N>,
     path: &[u8],
 ) -> AnswerValue
-    ensures answer { SaysWork N.frames (work.Frame path.entry) (locked_state locked.old cpu.old)
+    ensures answer { SaysWork N.frames (work.AllocFrame path.entry) (locked_state locked.old cpu.old)
         (locked_state locked.new cpu.new) (answer_of locked.new.machine.ledger result) }
     ensures groups { NamesItsGroups locked.new.machine.ledger result }
 {
     let Some(group) = locked.find(path) else {
         return AnswerValue::Served(Outcome::Refused(Fault::NoGroup));
     };
-    serve_typed_alloc(locked, tables, cpu, group)
+    serve_value_alloc(locked, tables, cpu, group)
 }
 
 // Takes a frame for an existing group, if possible without the lock. It looks up no path.
-pub(crate) fn serve_typed_alloc<N: BootName>(
+pub(crate) fn serve_value_alloc<N: BootName>(
     locked: &mut Locked<N>,
     tables: &Tables<N>,
     cpu: &mut Cpu<N>,
@@ -76,7 +76,7 @@ pub(crate) fn serve_typed_alloc<N: BootName>(
 ) -> AnswerValue
     requires there { IsTrue (has_group locked.old.machine.ledger.groups group) }
     ensures answer { (path : Bor (List ℕ)) → number_at locked.old.machine.ledger.groups path.now ≡ Some group
-        → SaysWork N.frames (work.Frame path) (locked_state locked.old cpu.old)
+        → SaysWork N.frames (work.AllocFrame path) (locked_state locked.old cpu.old)
         (locked_state locked.new cpu.new) (answer_of locked.new.machine.ledger result) }
     ensures groups { NamesItsGroups locked.new.machine.ledger result }
 {
@@ -92,7 +92,7 @@ pub(crate) fn serve_typed_alloc<N: BootName>(
 }
 
 // Takes a frame of the list without the lock.
-fn serve_typed_fast<N: BootName>(
+fn serve_value_fast<N: BootName>(
     locked: &mut Locked<N>,
     tables: &Tables<N>,
     cpu: &mut Cpu<N>,
@@ -110,7 +110,7 @@ fn serve_typed_fast<N: BootName>(
 }
 
 // Lists a fresh frame again, if possible without the lock.
-fn serve_typed_release<N: BootName>(
+fn serve_value_release<N: BootName>(
     locked: &mut Locked<N>,
     tables: &Tables<N>,
     cpu: &mut Cpu<N>,
@@ -122,7 +122,7 @@ fn serve_typed_release<N: BootName>(
     ensures groups { NamesItsGroups locked.new.machine.ledger result }
 {
     let cpu_number = cpu.number();
-    if try_list(tables, cpu, frame) {
+    if try_relist(tables, cpu, frame) {
         watch_credit(locked, cpu_number, frame);
         return AnswerValue::Listed;
     }
@@ -131,7 +131,7 @@ fn serve_typed_release<N: BootName>(
 
 // Pins the frame without the lock.
 #[inline(always)]
-fn serve_typed_get<N: BootName>(
+fn serve_value_get<N: BootName>(
     locked: &mut Locked<N>,
     tables: &Tables<N>,
     cpu: &mut Cpu<N>,
@@ -153,7 +153,7 @@ fn serve_typed_get<N: BootName>(
 
 // Puts a pin of the frame without the lock.
 #[inline(always)]
-fn serve_typed_put<N: BootName>(
+fn serve_value_put<N: BootName>(
     locked: &mut Locked<N>,
     tables: &Tables<N>,
     cpu: &mut Cpu<N>,

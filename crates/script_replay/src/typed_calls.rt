@@ -16,7 +16,7 @@ ghost use Rattle.script_replay.specs.Typed.{IsShort, NamesItsGroups, SaysCommand
 ghost use Rattle.script_replay.specs.Works.{work_of};
 
 use crate::answer_value::AnswerValue;
-use crate::typed_answers::{serve_typed_alloc, serve_typed_work};
+use crate::typed_answers::{serve_value_alloc, serve_value_work};
 use crate::value_replay::prove_invariants;
 use crate::work::work_of;
 use cpu_part::{BootName, Cpu, Tables};
@@ -30,7 +30,7 @@ use script_lines::line::Command;
 /// It is inlined with all that it calls for a Get or a Put, so that a caller that names one of them has its steps
 /// alone: no command and no answer is built in memory to be matched.
 #[inline(always)]
-pub fn serve_typed<N: BootName>(
+pub fn serve_value<N: BootName>(
     locked: &mut Locked<N>,
     tables: &Tables<N>,
     cpus: &mut [Cpu<N>],
@@ -45,13 +45,13 @@ pub fn serve_typed<N: BootName>(
     ensures groups { NamesItsGroups locked.new.machine.ledger result }
 {
     let at = (cpu - 1) as usize;
-    serve_typed_part(locked, tables, &mut cpus[at], command)
+    serve_value_at_cpu(locked, tables, &mut cpus[at], command)
 }
 
-/// Takes a single frame for an existing group, at the CPU of this number, as `serve_typed` serves an Alloc of order 0
+/// Takes a single frame for an existing group, at the CPU of this number, as `serve_value` serves an Alloc of order 0
 /// for each path of that group. It looks up no path. No memory is taken.
 #[inline(always)]
-pub fn alloc_typed<N: BootName>(
+pub fn alloc_value<N: BootName>(
     locked: &mut Locked<N>,
     tables: &Tables<N>,
     cpus: &mut [Cpu<N>],
@@ -68,12 +68,12 @@ pub fn alloc_typed<N: BootName>(
     ensures groups { NamesItsGroups locked.new.machine.ledger result }
 {
     let at = (cpu - 1) as usize;
-    alloc_typed_part(locked, tables, &mut cpus[at], group)
+    alloc_value_at_cpu(locked, tables, &mut cpus[at], group)
 }
 
 // Takes a single frame for an existing group at this part.
 #[inline(always)]
-fn alloc_typed_part<N: BootName>(
+fn alloc_value_at_cpu<N: BootName>(
     locked: &mut Locked<N>,
     tables: &Tables<N>,
     cpu: &mut Cpu<N>,
@@ -81,14 +81,14 @@ fn alloc_typed_part<N: BootName>(
 ) -> AnswerValue
     requires there { IsTrue (has_group locked.old.machine.ledger.groups group) }
     ensures answer { (path : Bor (List ℕ)) → number_at locked.old.machine.ledger.groups path.now ≡ Some group
-        → SaysWork N.frames (work.Frame path) (locked_state locked.old cpu.old)
+        → SaysWork N.frames (work.AllocFrame path) (locked_state locked.old cpu.old)
         (locked_state locked.new cpu.new) (answer_of locked.new.machine.ledger result) }
     ensures groups { NamesItsGroups locked.new.machine.ledger result }
     ensures invariants { HoldsInvariants N.frames N.stocks locked.new }
     ensures tied { IsTied N.frames N.stocks cpu.new }
     ensures none_fresh { cpu.new.stock_seat.view.last ≡ NoGroup → cpu.new.fresh ≡ [] }
 {
-    let answer = serve_typed_alloc(locked, tables, cpu, group);
+    let answer = serve_value_alloc(locked, tables, cpu, group);
     let _cpu_number = cpu.number(); // Called for its contract: `tied`.
     let _last = cpu.last_stock(); // Called for its contract: `none_fresh`.
     prove_invariants(locked);
@@ -98,7 +98,7 @@ fn alloc_typed_part<N: BootName>(
 // Serves a command at this part.
 #[inline(always)]
 #[tactic(auto, using(crate::proofs::InRange::work_in_range))]
-fn serve_typed_part<N: BootName>(
+fn serve_value_at_cpu<N: BootName>(
     locked: &mut Locked<N>,
     tables: &Tables<N>,
     cpu: &mut Cpu<N>,
@@ -114,7 +114,7 @@ fn serve_typed_part<N: BootName>(
     ensures none_fresh { cpu.new.stock_seat.view.last ≡ NoGroup → cpu.new.fresh ≡ [] }
 {
     let work = work_of(command);
-    let answer = serve_typed_work(locked, tables, cpu, &work);
+    let answer = serve_value_work(locked, tables, cpu, &work);
     let _cpu_number = cpu.number(); // Called for its contract: `tied`.
     let _last = cpu.last_stock(); // Called for its contract: `none_fresh`.
     prove_invariants(locked);

@@ -16,7 +16,11 @@ use std::alloc::AllocError;
 
 // Lists the frame again without the lock, if it is fresh at the CPU and its page can be credited. Returns whether it
 // did.
-pub(crate) fn try_list<N: BootName>(tables: &Tables<N>, cpu: &mut Cpu<N>, frame_number: u32) -> bool
+pub(crate) fn try_relist<N: BootName>(
+    tables: &Tables<N>,
+    cpu: &mut Cpu<N>,
+    frame_number: u32,
+) -> bool
     requires in_zone { frame_number < N.frames.frames }
     ensures listed { MatchBool result (ListsAgain frame_number cpu.old cpu.new)
         (CanNotList frame_number cpu.old cpu.new) }

@@ -167,7 +167,7 @@ pub fn serve_line<N: BootName>(
         }
         Line::At { cpu, command, .. } => {
             let at = (*cpu - 1) as usize;
-            serve_part(
+            serve_at_cpu(
                 locked,
                 tables,
                 &mut cpus[at],
@@ -180,7 +180,7 @@ pub fn serve_line<N: BootName>(
 }
 
 // Serves a command at this part and adds its answer.
-fn serve_part<N: BootName>(
+fn serve_at_cpu<N: BootName>(
     locked: &mut Locked<N>,
     tables: &Tables<N>,
     cpu: &mut Cpu<N>,

@@ -11,7 +11,7 @@ ghost use Rattle.script_replay.specs.Visits.{AnswersFrameByVisit, AnswersRelease
 ghost use Rattle.script_replay.specs.Visits.{RepliesVisited, VisitsCommand, VisitsWork};
 
 use crate::form::write_numbered;
-use crate::unlocked_calls::{answer_pin, answer_unpin, try_list};
+use crate::unlocked_calls::{answer_pin, answer_unpin, try_relist};
 use crate::work::{Work, work_of};
 use cpu_part::{BootName, Cpu, Fast};
 use group_tree::fault::Fault;
@@ -102,7 +102,7 @@ fn visit_work<N: BootName, R: Wait, G: Gate>(
     let tables = visitor.system.tables();
     match *work {
         Work::Visit(cmd) => visit_and_reply(visitor, cpu, &cmd, text),
-        Work::Frame { path } => visit_frame(visitor, cpu, path, text),
+        Work::AllocFrame { path } => visit_frame(visitor, cpu, path, text),
         Work::Fast { group } => write_fast(&cpu.alloc_fast(tables, group), text),
         Work::Release { frame } => visit_release(visitor, cpu, frame, text),
         Work::Get { frame } => answer_pin(tables, cpu, frame, text),
@@ -178,7 +178,7 @@ fn visit_release<N: BootName, R: Wait, G: Gate>(
     ensures answered { AddsAnswer result text.old text.new
         (AnswersReleaseByVisit (boot_tables N.frames N.stocks) frame cpu.old cpu.new) }
 {
-    if try_list(visitor.system.tables(), cpu, frame) {
+    if try_relist(visitor.system.tables(), cpu, frame) {
         return write_listed(text);
     }
     visit_and_reply(visitor, cpu, &Cmd::Release { frame }, text)

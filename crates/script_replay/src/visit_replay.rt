@@ -17,7 +17,7 @@ use std::sync::Wait;
 /// Serves the lines in order, each by a visit of the CPU that it names or by a call that takes no lock. Returns their
 /// answers; each line of an answer ends with a line feed. `go` does nothing. `AllocError` is returned if memory runs
 /// out for the text of a line. That line and those before it were then served, once each, and no line after it was.
-pub fn replay_lines<N: BootName, R: Wait>(
+pub fn replay_by_visits<N: BootName, R: Wait>(
     rt: &R,
     alloc: Global,
     system: &System<N>,

@@ -12,7 +12,7 @@ pub enum Work<'a> {
     /// The command is served under the lock, and its reply is the answer.
     Visit(Cmd<'a>),
     /// A single frame is taken for the group of this path, if possible without the lock.
-    Frame { path: &'a [u8] },
+    AllocFrame { path: &'a [u8] },
     /// A frame of the CPU's list is taken for the group of this number, without the lock.
     Fast { group: u32 },
     /// This frame is released: if it is fresh at the CPU and that is possible, without the lock.
@@ -43,7 +43,7 @@ pub(crate) fn work_of<'a>(command: &Command<'a>) -> Work<'a>
         Command::Rmdir { path } => Work::Visit(Cmd::Rmdir { path }),
         Command::Write { path, file, value } => Work::Visit(Cmd::Write { path, file, value }),
         Command::Read { path, file } => Work::Visit(Cmd::Read { path, file }),
-        Command::Alloc { path, order: 0 } => Work::Frame { path },
+        Command::Alloc { path, order: 0 } => Work::AllocFrame { path },
         Command::Alloc { path, order } => Work::Visit(Cmd::Alloc { path, order }),
         Command::Fast { group } => Work::Fast { group },
         Command::Release { frame } => Work::Release { frame },

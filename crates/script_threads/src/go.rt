@@ -9,15 +9,15 @@ use crate::each::run_each;
 use cpu_part::{BootName, Cpu};
 use mem_system::{Gate, System};
 use script_lines::line::Line;
-use script_replay::replay_lines;
+use script_replay::replay_by_visits;
 use std::alloc::{AllocError, Global};
 use std::sync::Wait;
 use std::thread::Threads;
 
-/// Serves the lines before `go` in order, as `replay_lines` does, without a gate. Then it serves those from `go` on
+/// Serves the lines before `go` in order, as `replay_by_visits` does, without a gate. Then it serves those from `go` on
 /// by one thread for each CPU, as `run_each` does. Without a `go`, all lines run in threads.
 ///
-/// The answers of the lines before `go` come first, without a heading. `AllocError` is as in `replay_lines`, and no
+/// The answers of the lines before `go` come first, without a heading. `AllocError` is as in `replay_by_visits`, and no
 /// thread was started then, or as in `run_each`.
 pub fn run_lines<N: BootName + Send + Sync, R: Threads + Wait + Sync, G: Gate + Sync>(
     rt: &R,
@@ -32,7 +32,7 @@ pub fn run_lines<N: BootName + Send + Sync, R: Threads + Wait + Sync, G: Gate + 
     ensures { IfOk result (λ text. RunsLines (boot_tables N.frames N.stocks) lines.now cpus.old text.items) }
 {
     let (early, later) = lines.split_at(before_go(lines));
-    let mut text = replay_lines(rt, alloc, system, cpus, early)?;
+    let mut text = replay_by_visits(rt, alloc, system, cpus, early)?;
     let answers = run_each(rt, alloc, system, cpus, later, false, gate)?;
     text.extend_from_slice(&answers)?;
     Ok(text)

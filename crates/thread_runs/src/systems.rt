@@ -6,7 +6,7 @@ ghost use Rattle.script_replay.specs.Ranges.{LineInRange};
 
 use cpu_part::{BootName, Cpu};
 use load_run::boot_end::end_boot;
-use load_run::{Line, parse_script, replay_lines, run_lines};
+use load_run::{Line, parse_script, replay_by_visits, run_lines};
 use mem_system::{Audit, Boot, Gate, System, boot};
 use std::alloc::{AllocError, Global};
 use std::marker::Brand;
@@ -58,7 +58,7 @@ fn run_and_replay<N: BootName + Send + Sync, R: Threads + Wait + Sync, G: Gate +
     requires last { All (LineInRange N.frames.frames (length cpus.old)) last.now }
 {
     let by_threads = run_lines(rt, alloc, system, cpus, lines, gate)?;
-    let after_threads = replay_lines(rt, alloc, system, cpus, last)?;
+    let after_threads = replay_by_visits(rt, alloc, system, cpus, last)?;
     Ok((by_threads, after_threads))
 }
 

@@ -11,8 +11,8 @@ use Rattle.script_replay.proofs.Fronts.{released_after}
 use Rattle.script_replay.proofs.Telling.{added_as, alone}
 use Rattle.script_replay.proofs.command_answers.answer_release.Goals as goal
 
-pub returns-then-try_list : goal.returns-then-try_list
-returns-then-try_list g c =
+pub returns-then-try_relist : goal.returns-then-try_relist
+returns-then-try_relist g c =
     let made : OnlyWatched (cpu_makes c.args.cpu.now.number (step.Credit c.args.frame) step_answer.Back ∷ []) c.args.locked.now c.watch_credit.new.locked =
     subst (λ (n : ℕ). OnlyWatched (cpu_makes n (step.Credit c.args.frame) step_answer.Back ∷ []) c.args.locked.now c.watch_credit.new.locked)
     c.number-cpu_number.ensures.number c.watch_credit.ensures in record {
@@ -31,5 +31,5 @@ returns g c =
     let on = terms g.N.BootName.frames g.N.BootName.stocks c.args.is_explained in
     let after = locked_state c.answer_command.new.locked c.answer_command.new.cpu in record {
       answered = added_as _ _ c.args.text.now c.answer_command.new.text c.answer_command.result
-          (released_after on c.args.locked.now c.args.cpu.now c.try_list.new.cpu after c.args.frame (search rules)) c.answer_command.ensures.answered;
+          (released_after on c.args.locked.now c.args.cpu.now c.try_relist.new.cpu after c.args.frame (search rules)) c.answer_command.ensures.answered;
     }

@@ -9,20 +9,21 @@ use Rattle.script_replay.proofs.locked_calls.serve_frame_under_lock.Goals as goa
 
 pub serve_frame_outcome-outcome-requires : goal.serve_frame_outcome-outcome-requires
 serve_frame_outcome-outcome-requires g c = record {
-  there = subst (λ (l : Ledger). IsTrue (has_group l.groups c.args.group)) (sym (ap (λ (l : KnownLocked). l.machine.ledger) c.lock.ensures.locked)) c.requires.there;
+  there = subst (λ (l : Ledger). IsTrue (has_group l.groups c.args.group)) (sym (ap (λ (l : KnownLocked). l.machine.ledger) c.begin_command.ensures.locked))
+      c.requires.there;
 }
 
 pub returns : goal.returns
 returns g c =
     let t = g.N.BootName.frames in
-    let found = c.lock.new.locked in
+    let found = c.begin_command.new.locked in
     let served = c.serve_frame_outcome-outcome in
     let before = c.args.locked.now in
-    let after = c.unlock.new.locked in
-    let groups = ap (λ (l : KnownLocked). l.machine.ledger.groups) c.lock.ensures.locked in record {
+    let after = c.end_command.new.locked in
+    let groups = ap (λ (l : KnownLocked). l.machine.ledger.groups) c.begin_command.ensures.locked in record {
       served = λ path at. outcome_locked t c.args.is_explained (Alloc path 0) before found served.new.locked after c.args.cpu.now served.new.cpu c.number-cpu_number.result
-          c.number-cpu_number.ensures.number c.lock.ensures c.unlock.ensures served.result
+          c.number-cpu_number.ensures.number c.begin_command.ensures c.end_command.ensures served.result
           (served.ensures.served path (ap (λ (gs : List Group). number_at gs path.now) groups ∙ at));
       groups = groups_locked t c.args.is_explained Settle before found served.new.locked after c.args.cpu.now served.new.cpu c.number-cpu_number.result
-          c.number-cpu_number.ensures.number c.lock.ensures c.unlock.ensures served.result served.ensures.groups;
+          c.number-cpu_number.ensures.number c.begin_command.ensures c.end_command.ensures served.result served.ensures.groups;
     }

@@ -4,12 +4,12 @@ use Rattle.script_replay.proofs.locked_calls.serve_under_lock.Goals as goal
 pub returns : goal.returns
 returns g c =
     let t = g.N.BootName.frames in
-    let found = c.lock.new.locked in
+    let found = c.begin_command.new.locked in
     let served = c.serve_outcome-outcome in
     let before = c.args.locked.now in
-    let after = c.unlock.new.locked in record {
+    let after = c.end_command.new.locked in record {
       served = outcome_locked t c.args.is_explained c.args.cmd.now before found served.new.locked after c.args.cpu.now served.new.cpu c.number-cpu_number.result
-          c.number-cpu_number.ensures.number c.lock.ensures c.unlock.ensures served.result served.ensures.served;
+          c.number-cpu_number.ensures.number c.begin_command.ensures c.end_command.ensures served.result served.ensures.served;
       groups = groups_locked t c.args.is_explained c.args.cmd.now before found served.new.locked after c.args.cpu.now served.new.cpu c.number-cpu_number.result
-          c.number-cpu_number.ensures.number c.lock.ensures c.unlock.ensures served.result served.ensures.groups;
+          c.number-cpu_number.ensures.number c.begin_command.ensures c.end_command.ensures served.result served.ensures.groups;
     }

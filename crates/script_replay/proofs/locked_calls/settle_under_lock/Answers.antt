@@ -7,6 +7,8 @@ use Rattle.script_replay.proofs.locked_calls.settle_under_lock.Goals as goal
 pub returns : goal.returns
 returns g c =
     let settled = c.settle in record {
-      served = served_locked g.N.BootName.frames false Settle c.args.locked.now c.lock.new.locked settled.new.locked c.unlock.new.locked c.args.cpu.now
-          settled.new.cpu c.number-cpu_number.result c.number-cpu_number.ensures.number c.lock.ensures c.unlock.ensures Done settled.ensures.served;
+      served = served_locked g.N.BootName.frames false Settle c.args.locked.now c.begin_command.new.locked settled.new.locked c.end_command.new.locked
+          c.args.cpu.now
+          settled.new.cpu c.number-cpu_number.result c.number-cpu_number.ensures.number c.begin_command.ensures c.end_command.ensures Done
+          settled.ensures.served;
     }

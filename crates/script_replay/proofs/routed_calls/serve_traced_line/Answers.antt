@@ -37,7 +37,7 @@ returns g c =
     let cpus = c.args.cpus.now in
     let at = c.in-At.cpu - 1 in
     let part : KnownCpu = get_or cpus at c.index-cpus-at.result in
-    let done = c.serve_noted_part in record {
+    let done = c.serve_noted_at_cpu in record {
       served = routed_as _ _ done.result c.args.answer.now done.new.answer
           (part_by_route (boot_tables g.N.BootName.frames g.N.BootName.stocks) c.args.locked.now done.new.locked cpus c.args.line.now c.in-At.number c.in-At.cpu c.in-At.command
           part done.new.cpu c.in-At.is c.requires.there (ap (λ (d : KnownCpu). get_or cpus at d) c.index-cpus-at.is) done.ensures.invariants done.ensures.tied

@@ -32,19 +32,19 @@ returns g c =
     subst (λ (path : List ℕ). path_of live.state.locked.machine.ledger.groups group ≡ Some path) (sym c.as_bytes-path.ensures.text) in_ledger in
     let left : KnownLive = record {
       sizes = c.self.inside.sizes;
-      state = system_state c.alloc_typed.new.locked c.alloc_typed.new.cpus;
+      state = system_state c.alloc_value.new.locked c.alloc_value.new.cpus;
       unread_answer = c.self.inside.unread_answer.items;
     } in
     let says : (named : Bor (List ℕ)) → number_at live.state.locked.machine.ledger.groups named.now ≡ Some group
     → SaysCommand (boot_tables g.N.BootName.frames g.N.BootName.stocks) c.args.cpu (cmd.Alloc named 0) live.state left.state
-    (answer_of left.state.locked.machine.ledger c.alloc_typed.result) =
+    (answer_of left.state.locked.machine.ledger c.alloc_value.result) =
     λ named found. subst (λ cpus. SaysCommand (boot_tables g.N.BootName.frames g.N.BootName.stocks) c.args.cpu (cmd.Alloc named 0)
-    (system_state c.self.inside.locked cpus) left.state (answer_of left.state.locked.machine.ledger c.alloc_typed.result))
-    c.deref_mut.ensures.value (c.alloc_typed.ensures.answer named found) in
+    (system_state c.self.inside.locked cpus) left.state (answer_of left.state.locked.machine.ledger c.alloc_value.result))
+    c.deref_mut.ensures.value (c.alloc_value.ensures.answer named found) in
     let frames = g.N.BootName.frames in
     let stocks = g.N.BootName.stocks in
     let inside = c.self.inside in
-    let cpus = c.alloc_typed.new.cpus in
+    let cpus = c.alloc_value.new.cpus in
     let short : inside.cpus.len ≤ length cpus = search rules in
     let long : length cpus ≤ inside.cpus.len = search rules in
     let same : take inside.cpus.len (cpus ++ drop (length cpus) inside.cpus.items) ≡ cpus
@@ -52,10 +52,11 @@ returns g c =
     subst (λ (from : KnownLive). Calls frames stocks c.args.cpu (Alloc group 0) from
     (record {
       sizes = inside.sizes;
-      state = system_state c.alloc_typed.new.locked (take inside.cpus.len (cpus ++ drop (length cpus) inside.cpus.items));
+      state = system_state c.alloc_value.new.locked (take inside.cpus.len (cpus ++ drop (length cpus) inside.cpus.items));
       unread_answer = inside.unread_answer.items;
-    }) (Served c.alloc_typed.result)) c.self.view_is
+    }) (Served c.alloc_value.result)) c.self.view_is
     (subst (λ (l : List KnownCpu). Calls frames stocks c.args.cpu (Alloc group 0) live
-    (record { sizes = inside.sizes; state = system_state c.alloc_typed.new.locked l; unread_answer = inside.unread_answer.items }) (Served c.alloc_typed.result)) (sym same)
-    (frame_taken frames stocks c.args.cpu group live left c.alloc_typed.result c.as_bytes-path.result
-    (subst AreCharges c.charges.ensures c.tree.ensures.legal) is says c.alloc_typed.ensures.groups (record { sizes = refl; unread_answer = refl })))
+    (record { sizes = inside.sizes; state = system_state c.alloc_value.new.locked l; unread_answer = inside.unread_answer.items })
+    (Served c.alloc_value.result)) (sym same)
+    (frame_taken frames stocks c.args.cpu group live left c.alloc_value.result c.as_bytes-path.result
+    (subst AreCharges c.charges.ensures c.tree.ensures.legal) is says c.alloc_value.ensures.groups (record { sizes = refl; unread_answer = refl })))

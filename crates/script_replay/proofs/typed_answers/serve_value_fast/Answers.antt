@@ -1,6 +1,6 @@
 use Rattle.std.proofs.Common.{ℕ, false, refl, subst}
 use Rattle.script_replay.specs.Answers.{OnlyWatched, fast_steps}
-use Rattle.script_replay.proofs.typed_answers.serve_typed_fast.Goals as goal
+use Rattle.script_replay.proofs.typed_answers.serve_value_fast.Goals as goal
 
 pub returns-clause-answer : goal.returns-clause-answer
 returns-clause-answer g c =

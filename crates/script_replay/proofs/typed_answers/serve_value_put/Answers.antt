@@ -1,7 +1,7 @@
 use Rattle.std.proofs.Common.{ap}
 use Rattle.script_replay.specs.Answers.{unpin_answer}
 use Rattle.script_replay.proofs.Saying.{put}
-use Rattle.script_replay.proofs.typed_answers.serve_typed_put.Goals as goal
+use Rattle.script_replay.proofs.typed_answers.serve_value_put.Goals as goal
 
 pub returns-in-Some-clause-answer : goal.returns-in-Some-clause-answer
 returns-in-Some-clause-answer g c =

@@ -5,7 +5,7 @@ use Rattle.script_replay.specs.Visits.{VisitsLine}
 use Rattle.script_replay.proofs.InOrder.{in_order_end, in_order_line}
 use Rattle.script_replay.proofs.Visiting.{visits_stop}
 use Rattle.script_replay.proofs.Telling.{at_error}
-use Rattle.script_replay.proofs.visit_replay.replay_lines.Goals as goal
+use Rattle.script_replay.proofs.visit_replay.replay_by_visits.Goals as goal
 
 pub loop-line-preserved : goal.loop-line-preserved
 loop-line-preserved g c =

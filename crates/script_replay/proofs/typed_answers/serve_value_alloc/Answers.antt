@@ -3,7 +3,7 @@ use Rattle.cpu_part.specs.declared.answers.Fast.TheVariants.{Got}
 use Rattle.cpu_part.specs.Calls.{FastAnswers}
 use Rattle.mem_system.specs.Visits.{locked_state}
 use Rattle.script_replay.specs.Answers.{GetsNoneFast, OnlyWatched, fast_steps}
-use Rattle.script_replay.proofs.typed_answers.serve_typed_alloc.Goals as goal
+use Rattle.script_replay.proofs.typed_answers.serve_value_alloc.Goals as goal
 
 pub returns-in-Got-clause-answer : goal.returns-in-Got-clause-answer
 returns-in-Got-clause-answer g c path is =

@@ -1,7 +1,7 @@
 use Rattle.std.proofs.Common.{ap}
 use Rattle.script_replay.specs.Answers.{pin_answer}
 use Rattle.script_replay.proofs.Saying.{got}
-use Rattle.script_replay.proofs.typed_answers.serve_typed_get.Goals as goal
+use Rattle.script_replay.proofs.typed_answers.serve_value_get.Goals as goal
 
 pub returns-in-Ok-clause-answer : goal.returns-in-Ok-clause-answer
 returns-in-Ok-clause-answer g c =

@@ -2,7 +2,7 @@ use Rattle.std.proofs.Common.{take}
 use Rattle.std.specs.String.{string_bytes}
 use Rattle.script_replay.specs.Terms.{boot_tables}
 use Rattle.script_replay.specs.Visits.{VisitsAll}
-use Rattle.script_replay.proofs.visit_replay.replay_lines.Given as goal
+use Rattle.script_replay.proofs.visit_replay.replay_by_visits.Given as goal
 
 abbrev pub invariant-loop-line : goal.invariant-loop-line
 invariant-loop-line g l =

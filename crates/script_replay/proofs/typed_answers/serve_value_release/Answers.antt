@@ -3,10 +3,10 @@ use Rattle.step_rules.specs.declared.step.Action.TheVariants as step
 use Rattle.step_rules.specs.declared.step.Answer.TheVariants as step_answer
 use Rattle.mem_machine.specs.Steps.{cpu_makes}
 use Rattle.script_replay.specs.Answers.{OnlyWatched}
-use Rattle.script_replay.proofs.typed_answers.serve_typed_release.Goals as goal
+use Rattle.script_replay.proofs.typed_answers.serve_value_release.Goals as goal
 
-pub returns-then-try_list-clause-answer : goal.returns-then-try_list-clause-answer
-returns-then-try_list-clause-answer g c =
+pub returns-then-try_relist-clause-answer : goal.returns-then-try_relist-clause-answer
+returns-then-try_relist-clause-answer g c =
     let made : OnlyWatched (cpu_makes c.args.cpu.now.number (step.Credit c.args.frame) step_answer.Back ∷ []) c.args.locked.now c.watch_credit.new.locked =
     subst (λ (n : ℕ). OnlyWatched (cpu_makes n (step.Credit c.args.frame) step_answer.Back ∷ []) c.args.locked.now c.watch_credit.new.locked)
     c.number-cpu_number.ensures.number c.watch_credit.ensures in record {
@@ -20,7 +20,7 @@ returns-clause-answer g c = let is = c.serve_under_lock.ensures.served.served in
   steps = c.serve_under_lock.ensures.served.steps;
   is_noted = true;
   answered = record {
-    seen = c.try_list.new.cpu;
+    seen = c.try_relist.new.cpu;
     not_listed = search rules;
     served = record {
       found = is.found;
