@@ -11,7 +11,7 @@ use Rattle.mem_system.specs.declared.command.Reply.{Reply}
 use Rattle.mem_system.specs.declared.command.Reply.TheVariants as reply
 use Rattle.mem_system.specs.declared.outcome.Outcome.TheVariants as outcome
 use Rattle.mem_system.specs.Outcomes.{HasItsGroups, reply_of}
-use Rattle.reply_texts.specs.Answer.{Answer}
+use Rattle.reply_texts.specs.LineAnswer.{LineAnswer}
 use Rattle.script_lines.specs.declared.line.Command.{Command}
 use Rattle.script_lines.specs.declared.line.Command.TheVariants as cmd
 use Rattle.script_replay.specs.Terms.{boot_tables}
@@ -71,20 +71,20 @@ NamesMissingGroup groups (call.Alloc group order) = HasNoGroup groups group
 NamesMissingGroup groups other = ⊥
 
 -- what a call returned is this answer, with the texts that the ledger after the command gives it
-abbrev pub IsAnswer : Ledger → Answer → CallAnswer → Type 0
+abbrev pub IsAnswer : Ledger → LineAnswer → CallAnswer → Type 0
 IsAnswer ledger answer (returned.Served value) = NamesItsGroups ledger value × (answer ≡ answer_of ledger value)
 IsAnswer ledger answer other = ⊥
 
 -- the command was served with this answer, and nothing else changed
 pub record ServesCommand (frames : KnownTable) (stock_table : KnownStockTable) (cpu : ℕ) (command : Command)
-    (from to : KnownLive) (answer : Answer) : Type 0 where
+    (from to : KnownLive) (answer : LineAnswer) : Type 0 where
   pub says : SaysCommand (boot_tables frames stock_table) cpu command from.state to.state answer
   pub rest : SameButState from to
 
 -- the command was served, and this is returned of its answer
 pub record ReturnsCommandAnswer (frames : KnownTable) (stock_table : KnownStockTable) (cpu : ℕ) (command : Command)
     (from to : KnownLive) (returned : CallAnswer) : Type 0 where
-  pub answer : Answer
+  pub answer : LineAnswer
   pub serves : ServesCommand frames stock_table cpu command from to answer
   pub is_answer : IsAnswer to.state.locked.machine.ledger answer returned
 

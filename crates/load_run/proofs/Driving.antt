@@ -60,7 +60,7 @@ drives_as options input output output_after faults status (inl zero) is = record
   silent = λ answered. refl;
   answered = λ answered. is;
   fails = λ one. absurd (omega (arith, zero, one));
-  quiet = λ two. absurd (omega (arith, zero, two));
+  no_output = λ two. absurd (omega (arith, zero, two));
   misused = λ two. absurd (omega (arith, zero, two));
 }
 drives_as options input output output_after faults status (inr three) is = record {
@@ -69,7 +69,7 @@ drives_as options input output output_after faults status (inr three) is = recor
   silent = λ answered. refl;
   answered = λ answered. is;
   fails = λ one. absurd (omega (arith, three, one));
-  quiet = λ two. absurd (omega (arith, three, two));
+  no_output = λ two. absurd (omega (arith, three, two));
   misused = λ two. absurd (omega (arith, three, two));
 }
 
@@ -100,7 +100,7 @@ drives_short asked input output output_after faults faults_after text given faul
       silent = λ well. absurd (not_answered status ended well);
       answered = λ well. absurd (not_answered status ended well);
       fails = λ one. cut_short asked input output output_after faults faults_after text given fault answered same begun is told;
-      quiet = λ two. absurd (omega (arith, ended, two));
+      no_output = λ two. absurd (omega (arith, ended, two));
       misused = λ two. absurd (omega (arith, ended, two));
     }
 
@@ -121,6 +121,6 @@ drives_badly asked input output faults faults_after fault status cause status_is
       silent = λ well. absurd (not_well well);
       answered = λ well. absurd (not_well well);
       fails = λ one. failed asked input output faults faults_after fault (sym status_is ∙ one) cause told;
-      quiet = λ two. refl;
+      no_output = λ two. refl;
       misused = λ two. misused asked input faults faults_after fault (sym status_is ∙ two) cause told;
     }

@@ -97,7 +97,7 @@ drives_served options is_explained input before after faults serves = record {
   silent = λ zero. refl;
   served = λ zero. serves;
   fails = λ one. absurd (omega (arith, one));
-  quiet = λ two. absurd (omega (arith, two));
+  no_output = λ two. absurd (omega (arith, two));
   refused = λ two. absurd (omega (arith, two));
 }
 
@@ -113,7 +113,7 @@ drives_failed options is_explained input before after faults faults_after fault 
       silent = λ zero. absurd (omega (arith, one, zero));
       served = λ zero. absurd (omega (arith, one, zero));
       fails = λ same. record { fault = fault; left = left; told = told };
-      quiet = λ two. absurd (omega (arith, one, two));
+      no_output = λ two. absurd (omega (arith, one, two));
       refused = λ two. absurd (omega (arith, one, two));
     }
 
@@ -126,7 +126,7 @@ drives_refused options is_explained input before after faults faults_after statu
   silent = λ zero. absurd (omega (arith, two, zero));
   served = λ zero. absurd (omega (arith, two, zero));
   fails = λ one. absurd (omega (arith, two, one));
-  quiet = λ same. stops.0;
+  no_output = λ same. stops.0;
   refused = λ same. record { refused = stops.1; told = told };
 }
 

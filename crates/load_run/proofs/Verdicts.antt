@@ -45,7 +45,7 @@ checks_legal input before after faults steps is whole = record {
   silent = λ zero. refl;
   legal = λ zero. go input is;
   not_legal = λ one. absurd (omega (arith, one));
-  quiet = λ two. absurd (omega (arith, two));
+  no_output = λ two. absurd (omega (arith, two));
   bad_line = λ two. absurd (omega (arith, two));
 }
   where
@@ -61,7 +61,7 @@ checks_not_legal input before after faults line step expected is whole = record 
   silent = λ zero. refl;
   legal = λ zero. absurd (omega (arith, zero));
   not_legal = λ one. go input is;
-  quiet = λ two. absurd (omega (arith, two));
+  no_output = λ two. absurd (omega (arith, two));
   bad_line = λ two. absurd (omega (arith, two));
 }
   where
@@ -95,7 +95,7 @@ checks_bad_line input output faults faults_after line status is ended told = rec
   silent = λ zero. absurd (omega (arith, ended, zero));
   legal = λ zero. absurd (omega (arith, ended, zero));
   not_legal = λ one. absurd (omega (arith, ended, one));
-  quiet = λ two. refl;
+  no_output = λ two. refl;
   bad_line = λ two. go input is;
 }
   where
@@ -112,7 +112,7 @@ checks_failed input before after faults faults_after fault status left ended tol
   silent = λ zero. absurd (omega (arith, ended, zero));
   legal = λ zero. absurd (omega (arith, ended, zero));
   not_legal = λ one. go input left;
-  quiet = λ two. absurd (omega (arith, ended, two));
+  no_output = λ two. absurd (omega (arith, ended, two));
   bad_line = λ two. absurd (omega (arith, ended, two));
 }
   where

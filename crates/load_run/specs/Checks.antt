@@ -68,7 +68,7 @@ pub record Checks (input : Option (List ℕ)) (before after : Written) (status :
   pub silent : status ≡ 0 → after.faults ≡ before.faults
   pub legal : status ≡ 0 → IfSome input (ReportsLegal before.output after.output)
   pub not_legal : status ≡ 1 → IfSome input (λ text. ReportsNotLegal before after text ⊎ FailsToCheck before after text)
-  pub quiet : status ≡ 2 → after.output ≡ before.output
+  pub no_output : status ≡ 2 → after.output ≡ before.output
   pub bad_line : status ≡ 2 → IfSome input (ReportsBadLine before.faults after.faults)
 
 -- ---- the parts of a check

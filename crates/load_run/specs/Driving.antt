@@ -35,7 +35,7 @@ pub record DrivesScript (asked : Option Options) (input : Option (List ℕ)) (be
   pub silent : IsAnsweredStatus status → after.faults ≡ before.faults
   pub answered : IsAnsweredStatus status → IfSome input (IsWritten asked status before.output after.output)
   pub fails : status ≡ 1 → IfSome input (FailsAtWork asked before after)
-  pub quiet : status ≡ 2 → after.output ≡ before.output
+  pub no_output : status ≡ 2 → after.output ≡ before.output
   pub misused : status ≡ 2 → IfSome input (IsMisused asked before.faults after.faults)
 
 -- a script was linted for the sizes that are asked for

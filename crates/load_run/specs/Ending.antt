@@ -92,7 +92,7 @@ pub record EndsAfter (table : KnownTable) (stock_table : KnownStockTable) (is_so
   pub ends : EndsHeld table stock_table before ended
 
 -- a boot ended from this state, and this is what the machine's watch saw of all steps
-pub record EndsSeen (table : KnownTable) (stock_table : KnownStockTable) (before : SystemState) (ended : BootEnd)
+pub record EndsChecked (table : KnownTable) (stock_table : KnownStockTable) (before : SystemState) (ended : BootEnd)
     (seen : CheckedSteps)
     : Type 0 where
   pub ends : EndsHeld table stock_table before ended
@@ -105,7 +105,7 @@ pub record EndsSeenAfter (table : KnownTable) (stock_table : KnownStockTable) (i
     (seen : CheckedSteps) : Type 0 where
   pub before : SystemState
   pub so : is_so before
-  pub ends : EndsSeen table stock_table before ended seen
+  pub ends : EndsChecked table stock_table before ended seen
 
 -- how many frames there are, and where
 abbrev pub audit_places_text : Audit → List ℕ

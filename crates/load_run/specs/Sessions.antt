@@ -119,7 +119,7 @@ pub record DrivesSession (options : Options) (is_explained : Bool) (input : Opti
   pub silent : status ≡ 0 → after.faults ≡ before.faults
   pub served : status ≡ 0 → ServesInput options is_explained input before.output after.output
   pub fails : status ≡ 1 → FailsToServe options is_explained input before after
-  pub quiet : status ≡ 2 → after.output ≡ before.output
+  pub no_output : status ≡ 2 → after.output ≡ before.output
   pub refused : status ≡ 2 → RefusesSizes options before.faults after.faults
 
 -- a session was held for the options that are asked for

@@ -6,7 +6,7 @@ ghost use Rattle.cpu_part.specs.Cpus.{times};
 ghost use Rattle.mem_machine.specs.Machines.{visit_state};
 ghost use Rattle.mem_system.specs.Ends.{ForEachCpu};
 ghost use Rattle.script_replay.specs.Lines.{system_state};
-ghost use Rattle.load_run.specs.Ending.{EndsHeld, EndsSeen, LeavesNothing, PutsAllPins, PutsPin};
+ghost use Rattle.load_run.specs.Ending.{EndsChecked, EndsHeld, LeavesNothing, PutsAllPins, PutsPin};
 ghost use Rattle.load_run.specs.Ending.{audit_counts_text, audit_places_text, audit_text, held_text};
 
 use cpu_part::{BootName, Cpu, Tables};
@@ -69,7 +69,7 @@ fn put_all_pins<N: BootName>(locked: &mut Locked<N>, tables: &Tables<N>, cpus: &
 }
 
 // Leaves nothing at any CPU. Pins that are still held are put first; returns how many they were.
-pub(crate) fn leave_nothing<N: BootName>(
+pub(crate) fn empty_cpus<N: BootName>(
     locked: Locked<N>,
     tables: Tables<N>,
     cpus: Vec<Cpu<N>>,
@@ -100,21 +100,21 @@ pub fn end_boot<N: BootName>(locked: Locked<N>, tables: Tables<N>, cpus: Vec<Cpu
     requires count { length cpus.items ≡ N.frames.cpus }
     ensures ends { EndsHeld N.frames N.stocks (system_state locked cpus.items) result }
 {
-    let (held, emptied) = leave_nothing(locked, tables, cpus);
+    let (held, emptied) = empty_cpus(locked, tables, cpus);
     let audit = emptied.close();
     BootEnd { held, audit }
 }
 
 /// Ends a boot as `end_boot` does. Returns also what the machine's watch saw of all steps.
-pub fn end_seen_boot<N: BootName>(
+pub fn end_checked_boot<N: BootName>(
     locked: Locked<N>,
     tables: Tables<N>,
     cpus: Vec<Cpu<N>>,
 ) -> (BootEnd, CheckedSteps)
     requires count { length cpus.items ≡ N.frames.cpus }
-    ensures ends { EndsSeen N.frames N.stocks (system_state locked cpus.items) result.0 result.1 }
+    ensures ends { EndsChecked N.frames N.stocks (system_state locked cpus.items) result.0 result.1 }
 {
-    let (held, emptied) = leave_nothing(locked, tables, cpus);
+    let (held, emptied) = empty_cpus(locked, tables, cpus);
     let seen = CheckedSteps {
         is_legal: emptied.watch().is_legal(),
         steps: emptied.watch().steps(),

@@ -10,7 +10,7 @@ ghost use Rattle.zone_sizes.specs.Config.{IsValidConfig};
 ghost use Rattle.load_run.specs.Answers.{AreCheckedAnswers, checked_text};
 ghost use Rattle.load_run.specs.Ending.{EndsSeenAfter};
 
-use crate::boot_end::{BootEnd, CheckedSteps, end_seen_boot};
+use crate::boot_end::{BootEnd, CheckedSteps, end_checked_boot};
 use crate::replaying::with_end;
 use cpu_part::{BootName, Cpu, Tables};
 use mem_system::{Boot, Locked};
@@ -95,7 +95,7 @@ fn check_and_end_boot<N: BootName>(
         result.0) result.1 result.2 }
 {
     let answers = replay_checked(alloc, &mut locked, &tables, &mut cpus, lines, form);
-    let (ended, seen) = end_seen_boot(locked, tables, cpus);
+    let (ended, seen) = end_checked_boot(locked, tables, cpus);
     (answers, ended, seen)
 }
 

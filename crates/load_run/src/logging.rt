@@ -9,7 +9,7 @@ ghost use Rattle.script_replay.specs.Terms.{terms};
 ghost use Rattle.step_watch.specs.Watched.{has_whole_log, log_text};
 ghost use Rattle.load_run.specs.Logs.{AreLoggedSteps, GrowsBy, LogsAll, LogsAllAndEnd, LogsLine};
 
-use crate::boot_end::leave_nothing;
+use crate::boot_end::empty_cpus;
 use crate::comments::add_comment;
 use cpu_part::{BootName, Cpu, Tables};
 use log_lines::write_zone;
@@ -22,23 +22,23 @@ use std::slice;
 use step_watch::Watch;
 use zone_sizes::config::Config;
 
-// The answers to the lines aren't written.
-const UNTOLD: Form = Form {
+// The answers to the lines are plain: they aren't shown.
+const PLAIN: Form = Form {
     is_explained: false,
     is_numbered: false,
 };
 
 // Adds what the watch wrote behind the bytes that were seen before. It fails if memory ran out here or for the watch's
 // log.
-fn add_steps(watch: &Watch, seen: usize, log: &mut Vec<u8>) -> Result<(), AllocError>
-    requires within { has_whole_log watch.now ≡ true → seen ≤ length (log_text watch.now) }
+fn add_steps(watch: &Watch, log_start: usize, log: &mut Vec<u8>) -> Result<(), AllocError>
+    requires within { has_whole_log watch.now ≡ true → log_start ≤ length (log_text watch.now) }
     ensures whole { OnOk result (has_whole_log watch.now ≡ true) }
-    ensures added { OnOk result (log.new.items ≡ log.old.items ++ drop seen (log_text watch.now)) }
+    ensures added { OnOk result (log.new.items ≡ log.old.items ++ drop log_start (log_text watch.now)) }
 {
     if !watch.is_whole() {
         return Err(AllocError);
     }
-    log.extend_from_slice(&watch.log()[seen..])
+    log.extend_from_slice(&watch.log()[log_start..])
 }
 
 // Serves the line, and adds its comment and its steps.
@@ -56,9 +56,9 @@ fn log_line<N: BootName>(
         line.now (system_state locked.old cpus.old) (system_state locked.new cpus.new)) log.old.items log.new.items) }
 {
     add_comment(alloc, texts, line, log)?;
-    let seen = locked.watch().log().len();
-    let _answers = replay(alloc, locked, tables, cpus, slice::from_ref(line), UNTOLD)?;
-    add_steps(locked.watch(), seen, log)
+    let log_start = locked.watch().log().len();
+    let _answers = replay(alloc, locked, tables, cpus, slice::from_ref(line), PLAIN)?;
+    add_steps(locked.watch(), log_start, log)
 }
 
 // Serves the lines one after the other, and adds the comment and the steps of each.
@@ -82,13 +82,14 @@ fn log_lines<N: BootName>(
 }
 
 // Adds the comment and the steps of the end.
-fn log_end(watch: &Watch, seen: usize, log: &mut Vec<u8>) -> Result<(), AllocError>
-    requires within { has_whole_log watch.now ≡ true → seen ≤ length (log_text watch.now) }
+fn log_end(watch: &Watch, log_start: usize, log: &mut Vec<u8>) -> Result<(), AllocError>
+    requires within { has_whole_log watch.now ≡ true → log_start ≤ length (log_text watch.now) }
     ensures whole { OnOk result (has_whole_log watch.now ≡ true) }
-    ensures added { OnOk result (log.new.items ≡ log.old.items ++ (codes "# end\n" ++ drop seen (log_text watch.now))) }
+    ensures added { OnOk result (log.new.items ≡ log.old.items ++ (codes "# end\n" ++ drop log_start
+        (log_text watch.now))) }
 {
     log.extend_from_slice(b"# end\n")?;
-    add_steps(watch, seen, log)
+    add_steps(watch, log_start, log)
 }
 
 // Serves the lines, ends the boot, also if memory ran out, and adds the log of both.
@@ -107,9 +108,9 @@ fn log_and_end_boot<N: BootName>(
         (system_state locked cpus.items)) log.old.items log.new.items) }
 {
     let served = log_lines(alloc, &mut locked, &tables, &mut cpus, lines, texts, log);
-    let seen = locked.watch().log().len();
-    let (_held, emptied) = leave_nothing(locked, tables, cpus);
-    let ended = log_end(emptied.watch(), seen, log);
+    let log_start = locked.watch().log().len();
+    let (_held, emptied) = empty_cpus(locked, tables, cpus);
+    let ended = log_end(emptied.watch(), log_start, log);
     let _audit = emptied.close();
     served?;
     ended

@@ -7,8 +7,8 @@ use Rattle.frame_word.specs.declared.answers.Get.{Get}
 use Rattle.frame_word.specs.declared.answers.Get.TheVariants.{Held, Zero, Raced, Full}
 use Rattle.frame_word.specs.declared.answers.Put as word
 use Rattle.frame_word.specs.declared.answers.Put.TheVariants.{Left, Last}
-use Rattle.reply_texts.specs.Answer.{Answer}
-use Rattle.reply_texts.specs.Answer as answer
+use Rattle.reply_texts.specs.LineAnswer.{LineAnswer}
+use Rattle.reply_texts.specs.LineAnswer as answer
 use Rattle.reply_texts.specs.Replies.{reply_text}
 
 -- what is written for a frame asked for without the lock
@@ -33,7 +33,7 @@ put_text (Left references) = codes "left " ++ decimal references ++ codes "\n"
 put_text Last = codes "last\n"
 
 -- what is written for the answer to a line
-abbrev pub answer_text : Answer → List ℕ
+abbrev pub answer_text : LineAnswer → List ℕ
 answer_text (answer.Served reply) = reply_text reply
 answer_text answer.Settled = codes "settled\n"
 answer_text (answer.Fast fast) = fast_text fast

@@ -1,3 +1,3 @@
 pub mod Replies
-pub mod Answer
+pub mod LineAnswer
 pub mod Answers

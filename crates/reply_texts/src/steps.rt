@@ -2,7 +2,7 @@
 
 ghost use Rattle.std.specs.Prelude.{◌≡◌, ◌++◌, IfOk};
 ghost use Rattle.std.specs.String.{string_bytes};
-ghost use Rattle.reply_texts.specs.Answer.{Listed, Settled};
+ghost use Rattle.reply_texts.specs.LineAnswer.{Listed, Settled};
 ghost use Rattle.reply_texts.specs.Answers.{answer_text, fast_text, get_text, put_text};
 
 use crate::numbers::write_number;

@@ -57,8 +57,8 @@ use Rattle.mem_system.specs.declared.command.Reply.{Reply}
 use Rattle.mem_system.specs.declared.command.Reply.TheVariants.{Refused, Done}
 use Rattle.mem_system.specs.Locked.{KnownLocked, AllShut}
 use Rattle.mem_system.specs.Visits.{transition, LockedState, locked_state, IsServed}
-use Rattle.reply_texts.specs.Answer.{Answer}
-use Rattle.reply_texts.specs.Answer as answer
+use Rattle.reply_texts.specs.LineAnswer.{LineAnswer}
+use Rattle.reply_texts.specs.LineAnswer as answer
 use Rattle.script_replay.specs.declared.work.Work.{Work}
 use Rattle.script_replay.specs.declared.work.Work.TheVariants as work
 use Rattle.script_replay.specs.Answers.{RepliesServed, GetsPin, PutsPin, CanNotList, AnswersRelease, AnswersFrame, IsServedUnderLock, SettlesUnderLock}
@@ -294,7 +294,8 @@ module _ (t : KnownTable) (w : KnownStockTable) (run : Run) (locked : KnownLocke
   fast_follows g NoStock after is kept legal = unseen_follows after kept (fast_unseen t m c g NoStock after.cpu is (λ f e. cc))
   fast_follows g (Got f) after is kept legal = got_follows g f after is kept legal
 
-  get_follows : (f : ℕ) (after : LockedState) (answer : Answer) → f < t.frames → GetsPin f c after.cpu answer → OnlyWatched (get_steps p f answer) locked after.locked → GoesOn (get_steps p f answer) →
+  get_follows : (f : ℕ) (after : LockedState) (answer : LineAnswer) → f < t.frames → GetsPin f c after.cpu answer
+      → OnlyWatched (get_steps p f answer) locked after.locked → GoesOn (get_steps p f answer) →
       Follows (get_steps p f answer) after
   get_follows f after (answer.Got Held) inside is kept legal =
       step_follows (step.Get f) step_answer.Held after kept (ap (λ (x : KnownCpu). x.number) is.1.2) refl (λ e. cc)
@@ -308,7 +309,8 @@ module _ (t : KnownTable) (w : KnownStockTable) (run : Run) (locked : KnownLocke
   get_follows f after (answer.Served (Refused PinsFull)) inside is kept legal = unseen_follows after kept (unseen_same t m c after.cpu is.1)
   get_follows f after answer inside is kept legal = absurd is
 
-  put_follows : (f : ℕ) (after : LockedState) (answer : Answer) → PutsPin f c after.cpu answer → OnlyWatched (put_steps p f answer) locked after.locked → GoesOn (put_steps p f answer) →
+  put_follows : (f : ℕ) (after : LockedState) (answer : LineAnswer) → PutsPin f c after.cpu answer → OnlyWatched (put_steps p f answer) locked after.locked
+      → GoesOn (put_steps p f answer) →
       Follows (put_steps p f answer) after
   put_follows f after (answer.Put putted) is kept legal =
       step_follows (step.Put f) (put_answer putted) after kept (put_number putted is.1) refl (put_made putted)
@@ -333,13 +335,15 @@ module _ (t : KnownTable) (w : KnownStockTable) (run : Run) (locked : KnownLocke
       (λ all. watched_follows (under_lock p is.served.steps) (cpu_makes seen.number step.Unlock step_answer.Done ∷ []) is.left after is.unlock
       (served_follows seen unseen is.found is_explained is.found.machine.watch is.lock.locked cmd reply (locked_state is.left after.cpu) is.served left_shut all)) legal
 
-  replied_follows : (is_explained : Bool) (cmd : Cmd) (steps : Run) (after : LockedState) (answer : Answer) → RepliesServed is_explained cmd (transition t before steps after) answer → AllShut after.locked.machine →
+  replied_follows : (is_explained : Bool) (cmd : Cmd) (steps : Run) (after : LockedState) (answer : LineAnswer)
+      → RepliesServed is_explained cmd (transition t before steps after) answer → AllShut after.locked.machine →
       GoesOn steps → Follows steps after
   replied_follows is_explained cmd steps after (answer.Served reply) is shut legal =
       locked_follows is_explained c (unseen_same t m c c refl) cmd reply steps after is shut legal
   replied_follows is_explained cmd steps after answer is shut legal = absurd is
 
-  frame_follows : (is_explained : Bool) (path : Bor (List ℕ)) (steps : Run) (after : LockedState) (answer : Answer) (is_noted : Bool) → AnswersFrame is_explained path (transition t before steps after) answer is_noted →
+  frame_follows : (is_explained : Bool) (path : Bor (List ℕ)) (steps : Run) (after : LockedState) (answer : LineAnswer) (is_noted : Bool)
+      → AnswersFrame is_explained path (transition t before steps after) answer is_noted →
       AllShut after.locked.machine → GoesOn steps → Follows steps after
   frame_follows is_explained path steps after (answer.Fast (Got f)) false is shut legal =
       as_made steps (fast_steps p is.gets.group (Got f)) after is.alone.steps_are
@@ -353,7 +357,8 @@ module _ (t : KnownTable) (w : KnownStockTable) (run : Run) (locked : KnownLocke
       shut legal
   frame_follows is_explained path steps after answer is_noted is shut legal = absurd is
 
-  release_follows : (is_explained : Bool) (f : ℕ) (steps : Run) (after : LockedState) (answer : Answer) (is_noted : Bool) → AnswersRelease is_explained f (transition t before steps after) answer is_noted →
+  release_follows : (is_explained : Bool) (f : ℕ) (steps : Run) (after : LockedState) (answer : LineAnswer) (is_noted : Bool)
+      → AnswersRelease is_explained f (transition t before steps after) answer is_noted →
       AllShut after.locked.machine → GoesOn steps → Follows steps after
   release_follows is_explained f steps after answer.Listed false is shut legal =
       as_made steps (cpu_makes p (step.Credit f) step_answer.Back ∷ []) after is.1.steps_are
@@ -368,7 +373,8 @@ module _ (t : KnownTable) (w : KnownStockTable) (run : Run) (locked : KnownLocke
   settle_follows : (steps : Run) (after : LockedState) → SettlesUnderLock (transition t before steps after) → AllShut after.locked.machine → GoesOn steps → Follows steps after
   settle_follows steps after is shut legal = locked_follows false c (unseen_same t m c c refl) cmd.Settle Done steps after is shut legal
 
-  answer_follows : (is_explained : Bool) (asked : Work) (steps : Run) (after : LockedState) (answer : Answer) (is_noted : Bool) → WorkInRange t.frames asked →
+  answer_follows : (is_explained : Bool) (asked : Work) (steps : Run) (after : LockedState) (answer : LineAnswer) (is_noted : Bool) → WorkInRange t.frames asked
+      →
       AnswersWork is_explained asked (transition t before steps after) answer is_noted → AllShut after.locked.machine → GoesOn steps → Follows steps after
   answer_follows is_explained (work.Visit cmd) steps after answer true names is shut legal = replied_follows is_explained cmd steps after answer is shut legal
   answer_follows is_explained (work.AllocFrame path) steps after answer is_noted names is shut legal = frame_follows is_explained path steps after answer

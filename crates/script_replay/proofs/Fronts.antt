@@ -6,13 +6,13 @@ use Rattle.step_rules.specs.After.{Run}
 use Rattle.mem_system.specs.declared.command.Cmd.TheVariants as cmd
 use Rattle.mem_system.specs.Locked.{KnownLocked}
 use Rattle.mem_system.specs.Visits.{LockedState, transition, locked_state}
-use Rattle.reply_texts.specs.Answer.{Answer, Served}
+use Rattle.reply_texts.specs.LineAnswer.{LineAnswer, Served}
 use Rattle.script_replay.specs.declared.work.Work.TheVariants.{AllocFrame, Release, Visit}
 use Rattle.script_replay.specs.Answers.{AnswersWork, CanNotList, GetsNoneFast, ServesWork}
 use Rattle.script_replay.specs.Terms.{Terms}
 
 module _ (on : Terms) (l : KnownLocked) (c seen : KnownCpu) (after : LockedState) where
-  allocated : (path : Bor (List ℕ)) → GetsNoneFast path.now (locked_state l c) seen → (steps : Run) (answer : Answer) (is_noted : Bool)
+  allocated : (path : Bor (List ℕ)) → GetsNoneFast path.now (locked_state l c) seen → (steps : Run) (answer : LineAnswer) (is_noted : Bool)
       → AnswersWork on.is_explained (Visit (cmd.Alloc path 0)) (transition on.frames (locked_state l seen) steps after) answer is_noted
       → AnswersWork on.is_explained (AllocFrame path) (transition on.frames (locked_state l c) steps after) answer is_noted
   allocated path none steps (Served reply) true is =
@@ -44,7 +44,7 @@ module _ (on : Terms) (l : KnownLocked) (c seen : KnownCpu) (after : LockedState
     };
   }
 
-  released : (f : ℕ) → CanNotList f c seen → (steps : Run) (answer : Answer) (is_noted : Bool)
+  released : (f : ℕ) → CanNotList f c seen → (steps : Run) (answer : LineAnswer) (is_noted : Bool)
       → AnswersWork on.is_explained (Visit (cmd.Release f)) (transition on.frames (locked_state l seen) steps after) answer is_noted
       → AnswersWork on.is_explained (Release f) (transition on.frames (locked_state l c) steps after) answer is_noted
   released f can_not steps (Served reply) true is =

@@ -23,8 +23,8 @@ use Rattle.mem_system.specs.declared.command.Reply.{Reply}
 use Rattle.mem_system.specs.declared.command.Reply.TheVariants.{Refused}
 use Rattle.mem_system.specs.Locked.{KnownLocked}
 use Rattle.mem_system.specs.Visits.{Transition, LockedState, locked_state, transition}
-use Rattle.reply_texts.specs.Answer.{Answer, Served}
-use Rattle.reply_texts.specs.Answer as answer
+use Rattle.reply_texts.specs.LineAnswer.{LineAnswer, Served}
+use Rattle.reply_texts.specs.LineAnswer as answer
 use Rattle.reply_texts.specs.Answers.{answer_text}
 use Rattle.reply_texts.specs.Replies.{reply_text}
 use Rattle.script_lines.specs.declared.line.Command.{Command}
@@ -49,8 +49,8 @@ use Rattle.script_replay.proofs.Going.{tied_still}
 
 -- an answer that is never explained is that of a route
 module _ (work : Work) (r : Route) (call : Transition LockedState) (text : List ℕ)
-    (turn : (answer : Answer) (is_noted : Bool) → AnswersWork false work call answer is_noted → AnswersByRoute work r call answer) where
-  tells : (answer : Answer) (is_noted : Bool) → AnswersWork false work call answer is_noted
+    (turn : (answer : LineAnswer) (is_noted : Bool) → AnswersWork false work call answer is_noted → AnswersByRoute work r call answer) where
+  tells : (answer : LineAnswer) (is_noted : Bool) → AnswersWork false work call answer is_noted
       → text ≡ answer_text answer ++ explanation_if (is_noted && false) (path_removed_by work) call.after.locked.machine → IsTextOf (AnswersByRoute work r call) text
   tells answer true answered is = record { answer = answer; answered = turn answer true answered; text_is = is ∙ append-nil (answer_text answer) }
   tells answer false answered is = record { answer = answer; answered = turn answer false answered; text_is = is ∙ append-nil (answer_text answer) }
@@ -58,7 +58,7 @@ module _ (work : Work) (r : Route) (call : Transition LockedState) (text : List 
   plain : WritesAnswer false work call text → IsTextOf (AnswersByRoute work r call) text
   plain writes = tells writes.answer writes.is_noted writes.answered writes.text_is
 
-module _ (call : Transition LockedState) (answer : Answer) where
+module _ (call : Transition LockedState) (answer : LineAnswer) where
   fast : (group : ℕ) (is_noted : Bool) → AnswersWork false (Fast group) call answer is_noted → AnswersByRoute (Fast group) route.Unlocked call answer
   fast group true is = absurd is
   fast group false is = is
@@ -215,7 +215,7 @@ module _ (t : KnownTable) (l : KnownLocked) (c seen : KnownCpu) (after : LockedS
   }
 
   -- a Release that was served under the lock, because the frame couldn't be listed again
-  released : (frame : ℕ) → CanNotList frame c seen → (steps : List _) (r : Route) (answer : Answer)
+  released : (frame : ℕ) → CanNotList frame c seen → (steps : List _) (r : Route) (answer : LineAnswer)
       → AnswersByRoute (Visit (cmd.Release frame)) r (transition t (locked_state l seen) steps after) answer
       → AnswersByRoute (Release frame) r (transition t (locked_state l c) steps after) answer
   released frame can_not steps route.Locked (Served reply) is = record {

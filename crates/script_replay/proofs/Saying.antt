@@ -11,7 +11,7 @@ use Rattle.stock_word.specs.declared.view.Stock.TheVariants as stock_is
 use Rattle.cpu_part.specs.Cpus.{KnownCpu, IsTied}
 use Rattle.mem_system.specs.Locked.{KnownLocked}
 use Rattle.mem_system.specs.Visits.{LockedState, Transition, locked_state, transition}
-use Rattle.reply_texts.specs.Answer.{Answer}
+use Rattle.reply_texts.specs.LineAnswer.{LineAnswer}
 use Rattle.reply_texts.specs.Answers.{answer_text}
 use Rattle.script_lines.specs.declared.line.Command.{Command}
 use Rattle.script_lines.specs.declared.line.Line.TheVariants.{At}
@@ -30,7 +30,7 @@ use Rattle.script_replay.proofs.Going.{all_replayed, tied_still}
 
 -- ---- what is said without the lock
 
-module _ (table : KnownTable) (f n : ℕ) (l m : KnownLocked) (c d : KnownCpu) (is : n ≡ c.number) (answer : Answer) where
+module _ (table : KnownTable) (f n : ℕ) (l m : KnownLocked) (c d : KnownCpu) (is : n ≡ c.number) (answer : LineAnswer) where
   pub got : (r : Result GetAnswer Fault) → GetsPin f c d (pin_answer r) → OnlyWatched (get_steps n f (pin_answer r)) l m
       → pin_answer r ≡ answer → SaysWork table (Get f) (locked_state l c) (locked_state m d) answer
   got r pins watched says =
@@ -63,7 +63,7 @@ module _ (table : KnownTable) (f n : ℕ) (l m : KnownLocked) (c d : KnownCpu) (
 
 -- ---- the text of what is said
 
-module _ (call : Transition LockedState) (answer : Answer) where
+module _ (call : Transition LockedState) (answer : LineAnswer) where
   as_answer : (work : Work) (is_noted : Bool) → AnswersWork false work call answer is_noted → WritesAnswer false work call (answer_text answer)
   as_answer work true so = record { answer = answer; is_noted = true; answered = so; text_is = sym (append-nil (answer_text answer)) }
   as_answer work false so = record { answer = answer; is_noted = false; answered = so; text_is = sym (append-nil (answer_text answer)) }
@@ -83,7 +83,7 @@ module _ (call : Transition LockedState) (answer : Answer) where
 
 -- ---- a command at its part
 
-module _ (tables : BootTables) (l m : KnownLocked) (cpus : List KnownCpu) (cpu : ℕ) (command : Command) (c d : KnownCpu) (answer : Answer)
+module _ (tables : BootTables) (l m : KnownLocked) (cpus : List KnownCpu) (cpu : ℕ) (command : Command) (c d : KnownCpu) (answer : LineAnswer)
     (there : CpuCommandInRange tables.frames.frames (length cpus) cpu command) (is_part : slice_get cpus (cpu - 1) ≡ Some c)
     (says : SaysWork tables.frames (work_of command) (locked_state l c) (locked_state m d) answer) (holds : HoldsInvariants tables.frames tables.stocks m)
     (tied : IsTied tables.frames tables.stocks d) (none : d.stock_seat.view.last ≡ stock_is.NoGroup → d.fresh ≡ []) where

@@ -18,8 +18,8 @@ use Rattle.mem_system.specs.declared.command.Cmd.{Cmd}
 use Rattle.mem_system.specs.declared.command.Reply.{Reply}
 use Rattle.mem_system.specs.Locked.{KnownLocked}
 use Rattle.mem_system.specs.Visits.{transition, LockedState}
-use Rattle.reply_texts.specs.Answer.{Answer}
-use Rattle.reply_texts.specs.Answer as answer
+use Rattle.reply_texts.specs.LineAnswer.{LineAnswer}
+use Rattle.reply_texts.specs.LineAnswer as answer
 use Rattle.script_lines.specs.declared.line.Line.{Line}
 use Rattle.script_lines.specs.declared.line.Line.TheVariants.{Go, At}
 use Rattle.script_replay.specs.declared.work.Work.{Work}
@@ -63,22 +63,25 @@ module _ (t : KnownTable) (before : LockedState) (steps : Run) (after : LockedSt
       subst (λ (r : Run). Watches a r e) (sym is.steps_are)
       (watches_both a first b (is.served.steps ++ last) e is.lock.watched rest)
 
-  replied_seen : (is_explained : Bool) (cmd : Cmd) (answer : Answer) → RepliesServed is_explained cmd (transition t before steps after) answer → SeesAll
+  replied_seen : (is_explained : Bool) (cmd : Cmd) (answer : LineAnswer) → RepliesServed is_explained cmd (transition t before steps after) answer → SeesAll
   replied_seen is_explained cmd (answer.Served reply) is = locked_seen is_explained cmd before.cpu reply is
   replied_seen is_explained cmd answer is = absurd is
 
-  frame_seen : (is_explained : Bool) (path : Bor (List ℕ)) (answer : Answer) (is_noted : Bool) → AnswersFrame is_explained path (transition t before steps after) answer is_noted → SeesAll
+  frame_seen : (is_explained : Bool) (path : Bor (List ℕ)) (answer : LineAnswer) (is_noted : Bool)
+      → AnswersFrame is_explained path (transition t before steps after) answer is_noted → SeesAll
   frame_seen is_explained path (answer.Fast (Got f)) false is = alone_seen _ is.alone.steps_are is.alone.locked
   frame_seen is_explained path (answer.Served reply) false none = stays_seen steps before.locked after.locked none.1 none.0.same_locked
   frame_seen is_explained path (answer.Served reply) true is = locked_seen is_explained _ is.seen reply is.served
   frame_seen is_explained path answer is_noted is = absurd is
 
-  release_seen : (is_explained : Bool) (f : ℕ) (answer : Answer) (is_noted : Bool) → AnswersRelease is_explained f (transition t before steps after) answer is_noted → SeesAll
+  release_seen : (is_explained : Bool) (f : ℕ) (answer : LineAnswer) (is_noted : Bool) → AnswersRelease is_explained f (transition t before steps after) answer
+      is_noted → SeesAll
   release_seen is_explained f answer.Listed false is = alone_seen _ is.1.steps_are is.1.locked
   release_seen is_explained f (answer.Served reply) true is = locked_seen is_explained _ is.seen reply is.served
   release_seen is_explained f answer is_noted is = absurd is
 
-  answer_seen : (is_explained : Bool) (asked : Work) (answer : Answer) (is_noted : Bool) → AnswersWork is_explained asked (transition t before steps after) answer is_noted → SeesAll
+  answer_seen : (is_explained : Bool) (asked : Work) (answer : LineAnswer) (is_noted : Bool)
+      → AnswersWork is_explained asked (transition t before steps after) answer is_noted → SeesAll
   answer_seen is_explained (work.Visit cmd) answer true is = replied_seen is_explained cmd answer is
   answer_seen is_explained (work.AllocFrame path) answer is_noted is = frame_seen is_explained path answer is_noted is
   answer_seen is_explained (work.Fast g) (answer.Fast taken) false is = alone_seen _ is.1.steps_are is.1.locked

@@ -9,7 +9,7 @@ use Rattle.cpu_part.specs.Cpus.{KnownCpu}
 use Rattle.step_rules.specs.After.{Run}
 use Rattle.step_watch.proofs.Watching.{watches_off}
 use Rattle.mem_system.specs.Locked.{KnownLocked}
-use Rattle.reply_texts.specs.Answer as answer
+use Rattle.reply_texts.specs.LineAnswer as answer
 use Rattle.script_replay.specs.Answers.{OnlyWatched, fast_steps, unpin_answer}
 use Rattle.script_replay.proofs.Following.{not_watched}
 

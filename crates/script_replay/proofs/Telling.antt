@@ -5,7 +5,7 @@ use Rattle.std.specs.String.{string_bytes}
 use Rattle.mem_system.specs.declared.command.Cmd.{Cmd}
 use Rattle.mem_system.specs.declared.command.Reply.{Reply}
 use Rattle.mem_system.specs.Visits.{Transition, LockedState}
-use Rattle.reply_texts.specs.Answer.{Answer, Served}
+use Rattle.reply_texts.specs.LineAnswer.{LineAnswer, Served}
 use Rattle.reply_texts.specs.Answers.{answer_text}
 use Rattle.reply_texts.specs.Replies.{reply_text}
 use Rattle.script_replay.specs.declared.work.Work.{Work}
@@ -26,7 +26,7 @@ pub added_as : {Z T E : Type 0} (is as_well : List ℕ → Type 0) (before after
 added_as is as_well before after r turn adds = record { text = adds.text; so = turn adds.text adds.so; added = adds.added }
 
 -- the text of an answer of which it is so
-pub told : {Z T E : Type 0} (is : Answer → Type 0) (answer : Answer) (before after : String Z) (r : Result T E) → is answer
+pub told : {Z T E : Type 0} (is : LineAnswer → Type 0) (answer : LineAnswer) (before after : String Z) (r : Result T E) → is answer
     → IfOk r (λ _. string_bytes after ≡ string_bytes before ++ answer_text answer) → AddsAnswer r before after is
 told is answer before after r so added = record {
   text = answer_text answer;
@@ -35,8 +35,8 @@ told is answer before after r so added = record {
 }
 
 -- what is so of an answer for one reason is so for another
-pub told_as : {Z T E : Type 0} (is as_well : Answer → Type 0) (before after : String Z) (r : Result T E)
-    → ((answer : Answer) → is answer → as_well answer) → AddsAnswer r before after is → AddsAnswer r before after as_well
+pub told_as : {Z T E : Type 0} (is as_well : LineAnswer → Type 0) (before after : String Z) (r : Result T E)
+    → ((answer : LineAnswer) → is answer → as_well answer) → AddsAnswer r before after is → AddsAnswer r before after as_well
 told_as is as_well before after r turn adds = record {
   text = adds.text;
   so = record {
@@ -48,7 +48,7 @@ told_as is as_well before after r turn adds = record {
 }
 
 -- an answer without an explanation
-pub alone : (is_explained : Bool) (work : Work) (call : Transition LockedState) (answer : Answer) → AnswersWork is_explained work call answer false
+pub alone : (is_explained : Bool) (work : Work) (call : Transition LockedState) (answer : LineAnswer) → AnswersWork is_explained work call answer false
     → WritesAnswer is_explained work call (answer_text answer)
 alone is_explained work call answer so = record { answer = answer; is_noted = false; answered = so; text_is = sym (append-nil (answer_text answer)) }
 
@@ -56,7 +56,7 @@ alone is_explained work call answer so = record { answer = answer; is_noted = fa
 pub settle_alone : (is_explained : Bool) (call : Transition LockedState) (text : List ℕ) → WritesAnswer false Settle call text → WritesAnswer is_explained Settle call text
 settle_alone is_explained call text writes = tells writes.answer writes.is_noted writes.answered writes.text_is
   where
-    tells : (answer : Answer) (is_noted : Bool) → AnswersWork false Settle call answer is_noted
+    tells : (answer : LineAnswer) (is_noted : Bool) → AnswersWork false Settle call answer is_noted
         → text ≡ answer_text answer ++ explanation_if (is_noted && false) [] call.after.locked.machine → WritesAnswer is_explained Settle call text
     tells answer false answered is = record { answer = answer; is_noted = false; answered = answered; text_is = is }
     tells answer true answered is = absurd answered

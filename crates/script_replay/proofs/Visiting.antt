@@ -10,7 +10,7 @@ use Rattle.mem_system.specs.declared.command.Reply.{Reply}
 use Rattle.mem_system.specs.declared.command.Reply.TheVariants.{Done}
 use Rattle.mem_system.specs.Locked.{KnownLocked, IsSound}
 use Rattle.mem_system.specs.Visits.{locked_state}
-use Rattle.reply_texts.specs.Answer.{Answer, Served}
+use Rattle.reply_texts.specs.LineAnswer.{LineAnswer, Served}
 use Rattle.script_lines.specs.declared.line.Command.{Command}
 use Rattle.script_lines.specs.declared.line.Line.{Line}
 use Rattle.script_lines.specs.declared.line.Line.TheVariants.{At}
@@ -28,14 +28,14 @@ pub settled_done : (on : BootTables) (c d : KnownCpu) (reply : Reply) → IsServ
 settled_done on c d reply is = subst (λ (r : Reply). IsServedByVisit on cmd.Settle c d r) is.served.serves.executes.0 is
 
 -- if there is no frame for the group, the command is served by a visit
-pub visited_after : (on : BootTables) (path : Bor (List ℕ)) (l : KnownLocked) (c seen d : KnownCpu) (answer : Answer) →
+pub visited_after : (on : BootTables) (path : Bor (List ℕ)) (l : KnownLocked) (c seen d : KnownCpu) (answer : LineAnswer) →
     IsSound on.frames on.stocks l → GetsNoneFast path.now (locked_state l c) seen → RepliesVisited on (cmd.Alloc path 0) seen d answer → AnswersFrameByVisit on path c d answer
 visited_after on path l c seen d (Served reply) sound none served =
     inr (record { seen = seen; none = record { locked = l; sound = sound; so = none }; visited = served })
 visited_after on path l c seen d answer sound none served = absurd served
 
 -- if the frame can't be listed again, the command is served by a visit
-pub released_after : (on : BootTables) (f : ℕ) (c seen d : KnownCpu) (answer : Answer) →
+pub released_after : (on : BootTables) (f : ℕ) (c seen d : KnownCpu) (answer : LineAnswer) →
     CanNotList f c seen → RepliesVisited on (cmd.Release f) seen d answer → AnswersReleaseByVisit on f c d answer
 released_after on f c seen d (Served reply) can_not served = record { seen = seen; not_listed = can_not; visited = served }
 released_after on f c seen d answer can_not served = absurd served

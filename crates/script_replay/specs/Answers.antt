@@ -38,8 +38,8 @@ use Rattle.mem_system.specs.declared.command.Reply.TheVariants.{Done, Refused}
 use Rattle.mem_system.specs.Locked.{KnownLocked}
 use Rattle.mem_system.specs.Shown.{UnitsAt}
 use Rattle.mem_system.specs.Visits.{Transition, transition, LockedState, locked_state, visit_state_of, IsServed}
-use Rattle.reply_texts.specs.Answer.{Answer}
-use Rattle.reply_texts.specs.Answer as answer
+use Rattle.reply_texts.specs.LineAnswer.{LineAnswer}
+use Rattle.reply_texts.specs.LineAnswer as answer
 use Rattle.reply_texts.specs.Answers.{answer_text}
 use Rattle.script_lines.specs.declared.line.Command.{Command}
 use Rattle.script_replay.specs.declared.work.Work.{Work}
@@ -59,13 +59,13 @@ pub record AddsText {Z T E : Type 0} (result : Result T E) (old new : String Z) 
   pub added : IfOk result (λ _. string_bytes new ≡ string_bytes old ++ text)
 
 -- the text of an answer of which `is_answered` holds
-pub record IsTextOf (is_answered : Answer → Type 0) (text : List ℕ) : Type 0 where
-  pub answer : Answer
+pub record IsTextOf (is_answered : LineAnswer → Type 0) (text : List ℕ) : Type 0 where
+  pub answer : LineAnswer
   pub answered : is_answered answer
   pub text_is : text ≡ answer_text answer
 
 -- a call that adds the text of an answer of which `is_answered` holds
-abbrev pub AddsAnswer : {Z T E : Type 0} → Result T E → String Z → String Z → (Answer → Type 0) → Type 0
+abbrev pub AddsAnswer : {Z T E : Type 0} → Result T E → String Z → String Z → (LineAnswer → Type 0) → Type 0
 AddsAnswer result old new is_answered = AddsText result old new (IsTextOf is_answered)
 
 -- ---- the watch
@@ -96,19 +96,19 @@ fast_steps cpu group (Got frame) = cpu_makes cpu (step.Consume group) step_answe
 fast_steps cpu group other = []
 
 -- Fast: the result of a fast allocation for this group, which takes no lock
-abbrev pub AnswersFast : (group : ℕ) → Transition LockedState → Answer → Type 0
+abbrev pub AnswersFast : (group : ℕ) → Transition LockedState → LineAnswer → Type 0
 AnswersFast group call (answer.Fast fast) =
     FastAnswers group fast call.before.cpu call.after.cpu
     × TakesNoLock (fast_steps call.before.cpu.number group fast) call
 AnswersFast group call other = ⊥
 
 -- the answer to a Get, by what the call for the pin returned
-abbrev pub pin_answer : Result GetAnswer Fault → Answer
+abbrev pub pin_answer : Result GetAnswer Fault → LineAnswer
 pin_answer (Ok got) = answer.Got got
 pin_answer (Err fault) = answer.Served (Refused fault)
 
 -- Get: one more pin on the frame; refused if pins and back frames together are as many as the CPU can have
-abbrev pub GetsPin : (frame : ℕ) (before after : KnownCpu) → Answer → Type 0
+abbrev pub GetsPin : (frame : ℕ) (before after : KnownCpu) → LineAnswer → Type 0
 GetsPin frame before after (answer.Got got) =
     (length before.back + length before.pins < most_pins) × PinAnswers frame got before after
 GetsPin frame before after (answer.Served (Refused PinsFull)) =
@@ -116,34 +116,34 @@ GetsPin frame before after (answer.Served (Refused PinsFull)) =
 GetsPin frame before after other = ⊥
 
 -- a get that was held made one step; any other made none
-abbrev pub get_steps : (cpu frame : ℕ) → Answer → Run
+abbrev pub get_steps : (cpu frame : ℕ) → LineAnswer → Run
 get_steps cpu frame (answer.Got Held) = cpu_makes cpu (step.Get frame) step_answer.Held ∷ []
 get_steps cpu frame other = []
 
 -- Get: the pin and the answer, without the lock
-abbrev pub AnswersGet : (frame : ℕ) → Transition LockedState → Answer → Type 0
+abbrev pub AnswersGet : (frame : ℕ) → Transition LockedState → LineAnswer → Type 0
 AnswersGet frame call answer =
     GetsPin frame call.before.cpu call.after.cpu answer
     × TakesNoLock (get_steps call.before.cpu.number frame answer) call
 
 -- the answer to a Put, by what the put of a pin returned, or None if the CPU has no pin on the frame
-abbrev pub unpin_answer : Option PutAnswer → Answer
+abbrev pub unpin_answer : Option PutAnswer → LineAnswer
 unpin_answer None = answer.Served (Refused NotPinned)
 unpin_answer (Some left) = answer.Put left
 
 -- Put: one pin less on the frame; refused if the CPU has no pin on it
-abbrev pub PutsPin : (frame : ℕ) (before after : KnownCpu) → Answer → Type 0
+abbrev pub PutsPin : (frame : ℕ) (before after : KnownCpu) → LineAnswer → Type 0
 PutsPin frame before after (answer.Put put) = (1 ≤ times frame before.pins) × UnpinAnswers frame put before after
 PutsPin frame before after (answer.Served (Refused NotPinned)) = (times frame before.pins ≡ 0) × (after ≡ before)
 PutsPin frame before after other = ⊥
 
 -- each put is one step
-abbrev pub put_steps : (cpu frame : ℕ) → Answer → Run
+abbrev pub put_steps : (cpu frame : ℕ) → LineAnswer → Run
 put_steps cpu frame (answer.Put put) = cpu_makes cpu (step.Put frame) (put_answer put) ∷ []
 put_steps cpu frame other = []
 
 -- Put: the pin and the answer, without the lock
-abbrev pub AnswersPut : (frame : ℕ) → Transition LockedState → Answer → Type 0
+abbrev pub AnswersPut : (frame : ℕ) → Transition LockedState → LineAnswer → Type 0
 AnswersPut frame call answer =
     PutsPin frame call.before.cpu call.after.cpu answer
     × TakesNoLock (put_steps call.before.cpu.number frame answer) call
@@ -171,7 +171,7 @@ pub record ServesUnderLock (table : KnownTable) (is_explained : Bool) (cmd : Cmd
   pub served : IsServedUnderLock is_explained cmd before.cpu reply (transition table before steps after)
 
 -- the command was served under the lock, and its reply is the answer
-abbrev pub RepliesServed : (is_explained : Bool) → Cmd → Transition LockedState → Answer → Type 0
+abbrev pub RepliesServed : (is_explained : Bool) → Cmd → Transition LockedState → LineAnswer → Type 0
 RepliesServed is_explained cmd call (answer.Served reply) =
     IsServedUnderLock is_explained cmd call.before.cpu reply call
 RepliesServed is_explained cmd call other = ⊥
@@ -181,7 +181,7 @@ abbrev pub SettlesUnderLock : Transition LockedState → Type 0
 SettlesUnderLock call = IsServedUnderLock false cmd.Settle call.before.cpu Done call
 
 -- Settle: the CPU was settled
-abbrev pub AnswersSettle : Transition LockedState → Answer → Type 0
+abbrev pub AnswersSettle : Transition LockedState → LineAnswer → Type 0
 AnswersSettle call answer.Settled = SettlesUnderLock call
 AnswersSettle call other = ⊥
 
@@ -215,7 +215,8 @@ pub record ReleasesUnderLock (is_explained : Bool) (frame : ℕ) (reply : Reply)
   pub served : IsServedUnderLock is_explained (cmd.Release frame) seen reply call
 
 -- the answer of a Release, and whether there are notes of it
-abbrev pub AnswersRelease : (is_explained : Bool) → (frame : ℕ) → Transition LockedState → Answer → (is_noted : Bool)
+abbrev pub AnswersRelease : (is_explained : Bool) → (frame : ℕ) → Transition LockedState → LineAnswer
+    → (is_noted : Bool)
     → Type 0
 AnswersRelease is_explained frame call answer.Listed false =
     ListsAgain frame call.before.cpu call.after.cpu
@@ -260,7 +261,7 @@ pub record AllocatesUnderLock (is_explained : Bool) (path : Bor (List ℕ)) (rep
   pub served : IsServedUnderLock is_explained (cmd.Alloc path 0) seen reply call
 
 -- the answer of an Alloc of a single frame, and whether there are notes of it
-abbrev pub AnswersFrame : (is_explained : Bool) → (path : Bor (List ℕ)) → Transition LockedState → Answer
+abbrev pub AnswersFrame : (is_explained : Bool) → (path : Bor (List ℕ)) → Transition LockedState → LineAnswer
     → (is_noted : Bool) → Type 0
 AnswersFrame is_explained path call (answer.Fast (Got frame)) false = AllocatesFast path.now frame call
 AnswersFrame is_explained path call (answer.Served reply) false =
@@ -272,7 +273,7 @@ AnswersFrame is_explained path call other is_noted = ⊥
 
 -- The answer of a command, except of those that answer a text of any length, and whether there are notes of it. There
 -- are if the command was served under the lock, except for a Settle, which asks for no memory.
-abbrev pub AnswersWork : (is_explained : Bool) → Work → Transition LockedState → Answer → (is_noted : Bool) → Type 0
+abbrev pub AnswersWork : (is_explained : Bool) → Work → Transition LockedState → LineAnswer → (is_noted : Bool) → Type 0
 AnswersWork is_explained (Visit cmd) call answer true = RepliesServed is_explained cmd call answer
 AnswersWork is_explained (AllocFrame path) call answer is_noted = AnswersFrame is_explained path call answer is_noted
 AnswersWork is_explained (Fast group) call answer false = AnswersFast group call answer
@@ -303,7 +304,7 @@ explanation_if false removed machine = []
 -- the explanation
 pub record WritesAnswer (is_explained : Bool) (work : Work) (call : Transition LockedState)
     (text : List ℕ) : Type 0 where
-  pub answer : Answer
+  pub answer : LineAnswer
   pub is_noted : Bool
   pub answered : AnswersWork is_explained work call answer is_noted
   pub text_is : text

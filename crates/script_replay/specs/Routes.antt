@@ -9,8 +9,8 @@ use Rattle.cpu_part.specs.declared.answers.Fast.{Fast as FastAnswer}
 use Rattle.step_rules.specs.After.{Run}
 use Rattle.mem_system.specs.declared.command.Reply.{Reply}
 use Rattle.mem_system.specs.Visits.{Transition, transition, LockedState, locked_state}
-use Rattle.reply_texts.specs.Answer.{Answer}
-use Rattle.reply_texts.specs.Answer as answer
+use Rattle.reply_texts.specs.LineAnswer.{LineAnswer}
+use Rattle.reply_texts.specs.LineAnswer as answer
 use Rattle.script_lines.specs.declared.line.Line.{Line}
 use Rattle.script_lines.specs.declared.line.Line.TheVariants.{Go, At}
 use Rattle.script_replay.specs.declared.route.Route.{Route}
@@ -36,7 +36,7 @@ pub record AllocatesAfter (path : Bor (List ℕ)) (reason : FastAnswer) (reply :
 
 -- The answer of a command on this route, except of those that answer a text of any length. An Alloc for a path without
 -- a group takes no lock.
-abbrev pub AnswersByRoute : Work → Route → Transition LockedState → Answer → Type 0
+abbrev pub AnswersByRoute : Work → Route → Transition LockedState → LineAnswer → Type 0
 AnswersByRoute (Visit cmd) route.Locked call answer = RepliesServed true cmd call answer
 AnswersByRoute (AllocFrame path) route.Unlocked call answer = AnswersFrame true path call answer false
 AnswersByRoute (AllocFrame path) (route.LockedAfter reason) call (answer.Served reply) =

@@ -5,8 +5,8 @@ use Rattle.group_charge.specs.Charges.{Ledger}
 use Rattle.step_rules.specs.After.{Run}
 use Rattle.mem_system.specs.Outcomes.{HasItsGroups, reply_of}
 use Rattle.mem_system.specs.Visits.{LockedState, locked_state, transition}
-use Rattle.reply_texts.specs.Answer.{Answer}
-use Rattle.reply_texts.specs.Answer as answer
+use Rattle.reply_texts.specs.LineAnswer.{LineAnswer}
+use Rattle.reply_texts.specs.LineAnswer as answer
 use Rattle.reply_texts.specs.Answers.{answer_text}
 use Rattle.script_lines.specs.declared.line.Command.{Command}
 use Rattle.script_lines.specs.declared.line.Line.TheVariants.{At}
@@ -21,7 +21,7 @@ use Rattle.script_replay.specs.Terms.{BootTables, terms}
 use Rattle.script_replay.specs.Works.{work_of}
 
 -- the answer that is this value, with the texts that the ledger after the command gives it
-abbrev pub answer_of : Ledger → AnswerValue → Answer
+abbrev pub answer_of : Ledger → AnswerValue → LineAnswer
 answer_of ledger (value.Served outcome) = answer.Served (reply_of ledger outcome)
 answer_of ledger value.Settled = answer.Settled
 answer_of ledger (value.Fast fast) = answer.Fast fast
@@ -43,7 +43,7 @@ IsShort (work.Units path) = ⊥
 IsShort other = Unit {0}
 
 -- the command was served by some steps, and this is its answer
-pub record SaysWork (table : KnownTable) (work : Work) (before after : LockedState) (answer : Answer) : Type 0 where
+pub record SaysWork (table : KnownTable) (work : Work) (before after : LockedState) (answer : LineAnswer) : Type 0 where
   pub steps : Run
   pub is_noted : Bool
   pub answered : AnswersWork false work (transition table before steps after) answer is_noted
@@ -51,7 +51,7 @@ pub record SaysWork (table : KnownTable) (work : Work) (before after : LockedSta
 -- The command of the CPU of this number was served with this answer. A script of the command alone, whatever the number
 -- of its line, is replayed from the state before to the state after, and its answer is the text of this one.
 pub record SaysCommand (tables : BootTables) (cpu : ℕ) (command : Command) (before after : SystemState)
-    (answer : Answer) : Type 0 where
+    (answer : LineAnswer) : Type 0 where
   pub says : AtPart cpu (λ part left. SaysWork tables.frames (work_of command)
       (locked_state before.locked part) (locked_state after.locked left) answer) before.cpus after.cpus
   pub replays : (number : ℕ) → Replays (terms tables.frames tables.stocks false) (At number cpu command ∷ [])

@@ -15,8 +15,8 @@ use Rattle.mem_system.specs.declared.command.Reply.TheVariants.{Done}
 use Rattle.mem_system.specs.Locked.{BehindLock}
 use Rattle.mem_system.specs.Visits.{locked_state, IsServed, IsVisited}
 use Rattle.mem_system.specs.Shown.{ReadsAfterSettling, ReadsUnderLock}
-use Rattle.reply_texts.specs.Answer.{Answer}
-use Rattle.reply_texts.specs.Answer as answer
+use Rattle.reply_texts.specs.LineAnswer.{LineAnswer}
+use Rattle.reply_texts.specs.LineAnswer as answer
 use Rattle.script_lines.specs.declared.line.Command.{Command}
 use Rattle.script_lines.specs.declared.line.Line.{Line}
 use Rattle.script_lines.specs.declared.line.Line.TheVariants.{Go, At}
@@ -35,17 +35,17 @@ IsServedByVisit tables cmd before after reply =
     IsVisited tables.frames tables.stocks (IsServed tables.frames cmd reply) before after
 
 -- the command was served by a visit, and its reply is the answer
-abbrev pub RepliesVisited : BootTables → Cmd → (before after : KnownCpu) → Answer → Type 0
+abbrev pub RepliesVisited : BootTables → Cmd → (before after : KnownCpu) → LineAnswer → Type 0
 RepliesVisited tables cmd before after (answer.Served reply) = IsServedByVisit tables cmd before after reply
 RepliesVisited tables cmd before after other = ⊥
 
 -- Settle: the CPU was settled by a visit
-abbrev pub AnswersSettleByVisit : BootTables → (before after : KnownCpu) → Answer → Type 0
+abbrev pub AnswersSettleByVisit : BootTables → (before after : KnownCpu) → LineAnswer → Type 0
 AnswersSettleByVisit tables before after answer.Settled = IsServedByVisit tables cmd.Settle before after Done
 AnswersSettleByVisit tables before after other = ⊥
 
 -- Fast: the result of a fast allocation for this group, without the lock
-abbrev pub TakesFast : (group : ℕ) (before after : KnownCpu) → Answer → Type 0
+abbrev pub TakesFast : (group : ℕ) (before after : KnownCpu) → LineAnswer → Type 0
 TakesFast group before after (answer.Fast fast) = FastAnswers group fast before after
 TakesFast group before after other = ⊥
 
@@ -56,7 +56,7 @@ pub record ReleasesByVisit (tables : BootTables) (frame : ℕ) (before after : K
   pub visited : IsServedByVisit tables (cmd.Release frame) seen after reply
 
 -- Release: if possible, a fresh frame is listed again without the lock; else the command is served by a visit
-abbrev pub AnswersReleaseByVisit : BootTables → (frame : ℕ) (before after : KnownCpu) → Answer → Type 0
+abbrev pub AnswersReleaseByVisit : BootTables → (frame : ℕ) (before after : KnownCpu) → LineAnswer → Type 0
 AnswersReleaseByVisit tables frame before after answer.Listed = ListsAgain frame before after
 AnswersReleaseByVisit tables frame before after (answer.Served reply) = ReleasesByVisit tables frame before after reply
 AnswersReleaseByVisit tables frame before after other = ⊥
@@ -70,7 +70,7 @@ pub record AllocatesByVisit (tables : BootTables) (path : Bor (List ℕ)) (befor
 
 -- Alloc of a single frame. The group is found under the lock. If possible, the CPU then takes a frame of its list
 -- without the lock. Else the command is served by a visit of its own, which may find another value behind the lock.
-abbrev pub AnswersFrameByVisit : BootTables → (path : Bor (List ℕ)) (before after : KnownCpu) → Answer → Type 0
+abbrev pub AnswersFrameByVisit : BootTables → (path : Bor (List ℕ)) (before after : KnownCpu) → LineAnswer → Type 0
 AnswersFrameByVisit tables path before after (answer.Fast (Got frame)) =
     BehindLock tables.frames tables.stocks (λ locked. GetsFast path.now (locked_state locked before) after frame)
 AnswersFrameByVisit tables path before after (answer.Served reply) =
@@ -80,7 +80,7 @@ AnswersFrameByVisit tables path before after (answer.Served reply) =
 AnswersFrameByVisit tables path before after other = ⊥
 
 -- the answer of a command, except of those that answer a text of any length
-abbrev pub AnswersWorkByVisit : BootTables → Work → (before after : KnownCpu) → Answer → Type 0
+abbrev pub AnswersWorkByVisit : BootTables → Work → (before after : KnownCpu) → LineAnswer → Type 0
 AnswersWorkByVisit tables (Visit cmd) before after answer = RepliesVisited tables cmd before after answer
 AnswersWorkByVisit tables (AllocFrame path) before after answer = AnswersFrameByVisit tables path before after answer
 AnswersWorkByVisit tables (Fast group) before after answer = TakesFast group before after answer

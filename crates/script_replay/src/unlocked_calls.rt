@@ -3,7 +3,7 @@
 ghost use Rattle.std.specs.Prelude.{◌≡◌, ◌<◌, ◌^◌, ◌++◌, MatchBool, OnOk, ℕ};
 ghost use Rattle.std.specs.String.{string_bytes};
 ghost use Rattle.frame_word.specs.declared.answers.Put.TheVariants.{Left};
-ghost use Rattle.reply_texts.specs.Answer as answer;
+ghost use Rattle.reply_texts.specs.LineAnswer as answer;
 ghost use Rattle.reply_texts.specs.Answers.{answer_text};
 ghost use Rattle.script_replay.specs.Answers.{AddsAnswer, CanNotList, GetsPin, ListsAgain, PutsPin};
 ghost use Rattle.script_replay.specs.Answers.{pin_answer, unpin_answer};

@@ -6,7 +6,7 @@ ghost use Rattle.frame_word.specs.declared.answers.Put.TheVariants.{Left};
 ghost use Rattle.step_rules.specs.declared.step.Action.TheVariants as step;
 ghost use Rattle.step_rules.specs.declared.step.Answer.TheVariants as step_answer;
 ghost use Rattle.mem_machine.specs.Steps.{cpu_makes};
-ghost use Rattle.reply_texts.specs.Answer as answer;
+ghost use Rattle.reply_texts.specs.LineAnswer as answer;
 ghost use Rattle.script_replay.specs.Answers.{OnlyWatched, fast_steps, get_steps, pin_answer, put_steps, unpin_answer};
 
 use cpu_part::{BootName, Fast};

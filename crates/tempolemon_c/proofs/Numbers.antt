@@ -6,8 +6,8 @@ use Rattle.group_tree.specs.declared.fault.Fault.TheVariants.{BadLimit, BadNumbe
 use Rattle.group_tree.specs.Faults.{number_of}
 use Rattle.mem_system.specs.declared.command.Reply.{Reply}
 use Rattle.mem_system.specs.declared.command.Reply.TheVariants as reply
-use Rattle.reply_texts.specs.Answer.{Answer}
-use Rattle.reply_texts.specs.Answer as answer
+use Rattle.reply_texts.specs.LineAnswer.{LineAnswer}
+use Rattle.reply_texts.specs.LineAnswer as answer
 use Rattle.tempolemon_c.specs.Statuses.{most_refusal}
 use Rattle.tempolemon_c.specs.Kinds.{reply_status, status_of}
 
@@ -42,6 +42,6 @@ reply_low (reply.Refused fault) = number_low fault
 reply_low reply = omega arith
 
 -- the status of an answer
-pub status_low : (answer : Answer) → status_of answer ≤ most_refusal
+pub status_low : (answer : LineAnswer) → status_of answer ≤ most_refusal
 status_low (answer.Served reply) = reply_low reply
 status_low answer = omega arith

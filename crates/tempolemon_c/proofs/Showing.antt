@@ -6,8 +6,8 @@ use Rattle.control_files.specs.declared.file.File.{File}
 use Rattle.mem_system.specs.declared.command.Reply.{Reply}
 use Rattle.mem_system.specs.declared.outcome.Outcome.TheVariants as outcome
 use Rattle.group_charge.specs.Charges.{Ledger}
-use Rattle.reply_texts.specs.Answer.{Answer}
-use Rattle.reply_texts.specs.Answer as answer
+use Rattle.reply_texts.specs.LineAnswer.{LineAnswer}
+use Rattle.reply_texts.specs.LineAnswer as answer
 use Rattle.script_replay.specs.Typed.{answer_of}
 use Rattle.script_replay.specs.declared.answer_value.AnswerValue.{AnswerValue}
 use Rattle.script_replay.specs.declared.answer_value.AnswerValue.TheVariants.{Served}
@@ -58,7 +58,7 @@ module _ (cpu : ℕ) (asked : Call) (value : AnswerValue) (before mid : Option L
   pub value_called : (after : Option LiveBoot) (status : ℕ) (out : TypedResult) (old new : List ℕ) → after ≡ mid
       → IfSome mid (ReturnsValue value status out old new) → CallsInto cpu asked before after status out old new
   value_called after status out old new same shown =
-      let answer : Answer = on.done.tells.answer in
+      let answer : LineAnswer = on.done.tells.answer in
       let shows : ReturnsAnswer (answer_of on.to.state.locked.machine.ledger value) status out old new =
       subst (λ (b : Option LiveBoot). IfSome b (ReturnsValue value status out old new)) on.is shown in
       let status_is : status ≡ status_of answer = shows.status_is ∙ ap status_of (sym on.done.tells.is_answer.1) in
@@ -78,7 +78,7 @@ module _ (cpu : ℕ) (asked : Call) (value : AnswerValue) (before mid : Option L
           };
           status_is = status_is;
           out_is = shows.out_is ∙ ap result_of (sym on.done.tells.is_answer.1);
-          buffer = subst (λ (a : Answer). PutsAnswer a old new) (sym on.done.tells.is_answer.1) shows.buffer;
+          buffer = subst (λ (a : LineAnswer). PutsAnswer a old new) (sym on.done.tells.is_answer.1) shows.buffer;
         };
         no_cpu = λ e. absurd (omega (arith, e, low));
         no_frame = λ e. absurd (omega (arith, e, low));

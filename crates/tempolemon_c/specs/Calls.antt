@@ -6,8 +6,8 @@ use Rattle.mem_system.specs.declared.command.Reply.{Reply}
 use Rattle.mem_system.specs.declared.command.Reply.TheVariants as reply
 use Rattle.mem_system.specs.declared.outcome.Outcome.{Outcome}
 use Rattle.mem_system.specs.declared.outcome.Outcome.TheVariants as outcome
-use Rattle.reply_texts.specs.Answer.{Answer}
-use Rattle.reply_texts.specs.Answer as answer
+use Rattle.reply_texts.specs.LineAnswer.{LineAnswer}
+use Rattle.reply_texts.specs.LineAnswer as answer
 use Rattle.control_files.specs.Text.{longest_text}
 use Rattle.script_lines.specs.declared.line.Command.{Command}
 use Rattle.handles.specs.declared.calls.Call.{Call}
@@ -27,13 +27,13 @@ use Rattle.tempolemon_c.specs.Statuses.{not_live, small_buffer}
 -- the call was served as the command of a script that it means, with this answer
 pub record AnswersCall (frames : KnownTable) (stock_table : KnownStockTable) (cpu : ℕ) (asked : Call)
     (from to : KnownLive)
-    (answer : Answer) : Type 0 where
+    (answer : LineAnswer) : Type 0 where
   pub command : Command
   pub means : Means from.state.locked.machine.ledger.groups asked command
   pub serves : ServesCommand frames stock_table cpu command from to answer
 
 -- the same of the boot behind a handle
-abbrev pub AnswersBehind : (cpu : ℕ) → Call → (before after : Option LiveBoot) → Answer → Type 0
+abbrev pub AnswersBehind : (cpu : ℕ) → Call → (before after : Option LiveBoot) → LineAnswer → Type 0
 AnswersBehind cpu asked before after answer =
     OnBoot (λ frames stock_table from to. AnswersCall frames stock_table cpu asked from to answer) before after
 
@@ -58,12 +58,12 @@ PutsReply (reply.Text text) old new = PutsText text old new
 PutsReply other old new = new ≡ old
 
 -- what a buffer gets of an answer
-abbrev pub PutsAnswer : Answer → (old new : List ℕ) → Type 0
+abbrev pub PutsAnswer : LineAnswer → (old new : List ℕ) → Type 0
 PutsAnswer (answer.Served reply) old new = PutsReply reply old new
 PutsAnswer other old new = new ≡ old
 
 -- the status, the result, and what the buffer gets are those of this answer
-pub record ReturnsAnswer (answer : Answer) (status : ℕ) (out : TypedResult) (old new : List ℕ) : Type 0 where
+pub record ReturnsAnswer (answer : LineAnswer) (status : ℕ) (out : TypedResult) (old new : List ℕ) : Type 0 where
   pub status_is : status ≡ status_of answer
   pub out_is : out ≡ result_of answer
   pub buffer : PutsAnswer answer old new
@@ -84,7 +84,7 @@ HasFileBehind group file boot = HasFile group file boot.live
 -- the call was served: the status, the result, and what the buffer gets are those of its answer
 pub record ServesBehind (cpu : ℕ) (asked : Call) (before after : Option LiveBoot) (status : ℕ) (out : TypedResult)
     (old new : List ℕ) : Type 0 where
-  pub answer : Answer
+  pub answer : LineAnswer
   pub answers : AnswersBehind cpu asked before after answer
   pub status_is : status ≡ status_of answer
   pub out_is : out ≡ result_of answer

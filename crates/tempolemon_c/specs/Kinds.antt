@@ -9,8 +9,8 @@ use Rattle.frame_word.specs.declared.answers.Put as word
 use Rattle.frame_word.specs.declared.answers.Put.TheVariants as put
 use Rattle.mem_system.specs.declared.command.Reply.{Reply}
 use Rattle.mem_system.specs.declared.command.Reply.TheVariants as reply
-use Rattle.reply_texts.specs.Answer.{Answer}
-use Rattle.reply_texts.specs.Answer as answer
+use Rattle.reply_texts.specs.LineAnswer.{LineAnswer}
+use Rattle.reply_texts.specs.LineAnswer as answer
 use Rattle.tempolemon_c.specs.Statuses.{done, over_limit}
 use Rattle.tempolemon_c.specs.declared.typed_result.TypedResult.{TypedResult}
 
@@ -60,7 +60,7 @@ put_result (put.Left references) = result_with 10 references
 put_result put.Last = result_with 18 0
 
 -- the result of an answer
-abbrev pub result_of : Answer → TypedResult
+abbrev pub result_of : LineAnswer → TypedResult
 result_of (answer.Served reply) = reply_result reply
 result_of answer.Settled = result_with 12 0
 result_of (answer.Fast fast) = fast_result fast
@@ -75,6 +75,6 @@ reply_status (reply.Refused fault) = number_of fault
 reply_status other = done
 
 -- the status of an answer
-abbrev pub status_of : Answer → ℕ
+abbrev pub status_of : LineAnswer → ℕ
 status_of (answer.Served reply) = reply_status reply
 status_of other = done

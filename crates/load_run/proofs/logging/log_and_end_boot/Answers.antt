@@ -12,11 +12,11 @@ use Rattle.load_run.proofs.logging.log_and_end_boot.Goals as goal
 
 pub log_end-ended-requires : goal.log_end-ended-requires
 log_end-ended-requires g c =
-    let leaves = c.leave_nothing-held.ensures.leaves in
-    let at = ap length (c.log-seen.ensures ∙ ap log_text c.watch.ensures) in
+    let leaves = c.empty_cpus-held.ensures.leaves in
+    let at = ap length (c.log-log_start.ensures ∙ ap log_text c.watch.ensures) in
     record {
-      within = λ whole. subst (λ (k : KnownWatch). length c.log-seen.result.now ≤ length (log_text k)) (sym c.watch-2.ensures)
-          (wrote_more c.log_lines-served.new.locked.machine.watch leaves.steps c.leave_nothing-held.result.1.machine.watch _ at leaves.watched
+      within = λ whole. subst (λ (k : KnownWatch). length c.log-log_start.result.now ≤ length (log_text k)) (sym c.watch-2.ensures)
+          (wrote_more c.log_lines-served.new.locked.machine.watch leaves.steps c.empty_cpus-held.result.1.machine.watch _ at leaves.watched
           (ap has_whole_log (sym c.watch-2.ensures) ∙ whole));
     }
 
@@ -31,15 +31,15 @@ returns g c =
     let texts = map (λ (text : Bor (List ℕ)). text.now) c.args.texts.now in
     let s : SystemState = system_state c.args.locked c.args.cpus.items in
     let e : SystemState = system_state now.locked now.cpus in
-    let held = c.leave_nothing-held.result.0 in
-    let emptied = c.leave_nothing-held.result.1 in
+    let held = c.empty_cpus-held.result.0 in
+    let emptied = c.empty_cpus-held.result.1 in
     let leaves : LeavesNothing t w e held emptied =
-    subst (λ (cpus : List KnownCpu). LeavesNothing t w (system_state now.locked cpus) held emptied) same c.leave_nothing-held.ensures.leaves in
+    subst (λ (cpus : List KnownCpu). LeavesNothing t w (system_state now.locked cpus) held emptied) same c.empty_cpus-held.ensures.leaves in
     let served : GrowsBy (LogsAll (terms t w false) texts c.args.lines.now s e) c.args.log.now.items now.log.items =
     subst (λ (cpus : List KnownCpu). GrowsBy (LogsAll (terms t w false) texts c.args.lines.now (system_state c.args.locked cpus) e) c.args.log.now.items now.log.items)
     first c.in_ok-served.ensures.logged in
-    let at = ap length (c.log-seen.ensures ∙ ap log_text c.watch.ensures) in
-    let seen = length c.log-seen.result.now in
+    let at = ap length (c.log-log_start.ensures ∙ ap log_text c.watch.ensures) in
+    let seen = length c.log-log_start.result.now in
     record {
       logged = on_both c.log_end-ended.result _ _ _ (λ whole added.
           end_logged t w texts c.args.lines.now s e held emptied seen c.args.log.now.items now.log.items c.log_end-ended.new.log.items leaves at

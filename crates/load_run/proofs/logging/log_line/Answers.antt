@@ -13,9 +13,9 @@ add_steps-requires g c =
     let e : SystemState = system_state c.replay.new.locked c.replay.new.cpus in
     let one = one_served on c.args.line.now s e _
     (subst (λ (l : List Line). ServesAll on l s e c.in_ok-_answers._answers.items) c.from_ref.ensures.value c.in_ok-_answers.ensures.outcome.replayed.served) in
-    let at = ap length (c.log-seen.ensures ∙ ap log_text c.watch.ensures) in
+    let at = ap length (c.log-log_start.ensures ∙ ap log_text c.watch.ensures) in
     record {
-      within = λ whole. subst (λ (k : KnownWatch). length c.log-seen.result.now ≤ length (log_text k)) (sym c.watch-2.ensures)
+      within = λ whole. subst (λ (k : KnownWatch). length c.log-log_start.result.now ≤ length (log_text k)) (sym c.watch-2.ensures)
           (wrote_more s.locked.machine.watch one.1.steps e.locked.machine.watch _ at (line_watched on c.args.line.now s e one.0 one.1)
           (ap has_whole_log (sym c.watch-2.ensures) ∙ whole));
     }
@@ -27,9 +27,9 @@ returns g c =
     let e : SystemState = system_state c.replay.new.locked c.replay.new.cpus in
     let one = one_served on c.args.line.now s e _
     (subst (λ (l : List Line). ServesAll on l s e c.in_ok-_answers._answers.items) c.from_ref.ensures.value c.in_ok-_answers.ensures.outcome.replayed.served) in
-    let at = ap length (c.log-seen.ensures ∙ ap log_text c.watch.ensures) in
+    let at = ap length (c.log-log_start.ensures ∙ ap log_text c.watch.ensures) in
     let mid = c.add_comment.new.log.items in
-    let seen = length c.log-seen.result.now in
+    let seen = length c.log-log_start.result.now in
     record {
       logged = on_both c.add_steps.result _ _ _ (λ whole added.
           line_logged on (map (λ (text : Bor (List ℕ)). text.now) c.args.texts.now) c.args.line.now s e one.0 one.1 seen c.args.log.now.items mid

@@ -1,5 +1,5 @@
 use Rattle.std.proofs.Common.{ℕ, refl, subst}
-use Rattle.reply_texts.specs.Answer as answer
+use Rattle.reply_texts.specs.LineAnswer as answer
 use Rattle.reply_texts.specs.Answers.{answer_text}
 use Rattle.script_replay.specs.Answers.{OnlyWatched, fast_steps}
 use Rattle.script_replay.proofs.Telling.{alone}

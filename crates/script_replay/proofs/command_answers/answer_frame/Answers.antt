@@ -5,8 +5,8 @@ use Rattle.group_tree.specs.declared.fault.Fault.TheVariants.{NoGroup}
 use Rattle.mem_system.specs.declared.command.Reply.TheVariants.{Refused}
 use Rattle.mem_system.specs.Visits.{locked_state}
 use Rattle.mem_system.proofs.Found.{found_there}
-use Rattle.reply_texts.specs.Answer.{Served}
-use Rattle.reply_texts.specs.Answer as answer
+use Rattle.reply_texts.specs.LineAnswer.{Served}
+use Rattle.reply_texts.specs.LineAnswer as answer
 use Rattle.reply_texts.specs.Answers.{answer_text}
 use Rattle.script_replay.specs.Answers.{GetsNoneFast, OnlyWatched, fast_steps}
 use Rattle.script_replay.specs.Terms.{terms}

@@ -1,5 +1,5 @@
 use Rattle.std.proofs.Common.{ℕ, refl, subst}
-use Rattle.reply_texts.specs.Answer.{Answer}
+use Rattle.reply_texts.specs.LineAnswer.{LineAnswer}
 use Rattle.reply_texts.specs.Answers.{answer_text}
 use Rattle.script_replay.specs.Answers.{OnlyWatched, get_steps, pin_answer}
 use Rattle.script_replay.proofs.Telling.{alone}
@@ -7,7 +7,7 @@ use Rattle.script_replay.proofs.command_answers.answer_get.Goals as goal
 
 pub returns : goal.returns
 returns g c =
-    let answer : Answer = pin_answer c.pin-got.result in
+    let answer : LineAnswer = pin_answer c.pin-got.result in
     let watched : OnlyWatched (get_steps c.args.cpu.now.number c.args.frame answer) c.args.locked.now c.watch_get.new.locked =
     subst (λ (n : ℕ). OnlyWatched (get_steps n c.args.frame answer) c.args.locked.now c.watch_get.new.locked) c.number-cpu_number.ensures.number
     c.watch_get.ensures in record {

@@ -1,5 +1,5 @@
 use Rattle.std.proofs.Common.{ℕ, refl, subst}
-use Rattle.reply_texts.specs.Answer.{Answer}
+use Rattle.reply_texts.specs.LineAnswer.{LineAnswer}
 use Rattle.reply_texts.specs.Answers.{answer_text}
 use Rattle.script_replay.specs.Answers.{OnlyWatched, put_steps, unpin_answer}
 use Rattle.script_replay.proofs.Telling.{alone}
@@ -7,7 +7,7 @@ use Rattle.script_replay.proofs.command_answers.answer_put.Goals as goal
 
 pub returns : goal.returns
 returns g c =
-    let answer : Answer = unpin_answer c.unpin-put.result in
+    let answer : LineAnswer = unpin_answer c.unpin-put.result in
     let watched : OnlyWatched (put_steps c.args.cpu.now.number c.args.frame answer) c.args.locked.now c.watch_put.new.locked =
     subst (λ (n : ℕ). OnlyWatched (put_steps n c.args.frame answer) c.args.locked.now c.watch_put.new.locked) c.number-cpu_number.ensures.number
     c.watch_put.ensures in record {

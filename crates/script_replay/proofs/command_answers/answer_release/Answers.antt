@@ -3,7 +3,7 @@ use Rattle.step_rules.specs.declared.step.Action.TheVariants as step
 use Rattle.step_rules.specs.declared.step.Answer.TheVariants as step_answer
 use Rattle.mem_machine.specs.Steps.{cpu_makes}
 use Rattle.mem_system.specs.Visits.{locked_state}
-use Rattle.reply_texts.specs.Answer.{Listed}
+use Rattle.reply_texts.specs.LineAnswer.{Listed}
 use Rattle.reply_texts.specs.Answers.{answer_text}
 use Rattle.script_replay.specs.Answers.{OnlyWatched}
 use Rattle.script_replay.specs.Terms.{terms}

@@ -1,4 +1,4 @@
-use Rattle.reply_texts.specs.Answer.{Settled}
+use Rattle.reply_texts.specs.LineAnswer.{Settled}
 use Rattle.reply_texts.specs.Answers.{answer_text}
 use Rattle.script_replay.proofs.Telling.{alone}
 use Rattle.script_replay.proofs.command_answers.answer_settle.Goals as goal

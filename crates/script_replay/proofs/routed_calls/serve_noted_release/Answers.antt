@@ -1,6 +1,6 @@
 use Rattle.std.proofs.Common.{refl, rules}
 use Rattle.mem_system.specs.Visits.{locked_state}
-use Rattle.reply_texts.specs.Answer.{Listed}
+use Rattle.reply_texts.specs.LineAnswer.{Listed}
 use Rattle.reply_texts.specs.Answers.{answer_text}
 use Rattle.script_replay.specs.declared.route.Route.TheVariants as route
 use Rattle.script_replay.proofs.Routing.{listed_by_route, released_by_route, routed_as}

@@ -1,4 +1,4 @@
-use Rattle.reply_texts.specs.Answer.{Served}
+use Rattle.reply_texts.specs.LineAnswer.{Served}
 use Rattle.script_replay.specs.Terms.{boot_tables}
 use Rattle.script_replay.specs.Visits.{RepliesVisited}
 use Rattle.script_replay.proofs.Telling.{told}

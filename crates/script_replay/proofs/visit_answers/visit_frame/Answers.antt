@@ -4,8 +4,8 @@ use Rattle.cpu_part.specs.Calls.{FastAnswers}
 use Rattle.group_tree.specs.declared.fault.Fault.TheVariants.{NoGroup}
 use Rattle.mem_system.specs.declared.command.Cmd.TheVariants as cmd
 use Rattle.mem_system.specs.declared.command.Reply.TheVariants.{Refused}
-use Rattle.reply_texts.specs.Answer.{Served}
-use Rattle.reply_texts.specs.Answer as answer
+use Rattle.reply_texts.specs.LineAnswer.{Served}
+use Rattle.reply_texts.specs.LineAnswer as answer
 use Rattle.script_replay.specs.Terms.{boot_tables}
 use Rattle.script_replay.specs.Visits.{RepliesVisited, AnswersFrameByVisit}
 use Rattle.script_replay.proofs.Telling.{told, told_as}

@@ -1,5 +1,5 @@
 use Rattle.std.proofs.Common.{rules}
-use Rattle.reply_texts.specs.Answer.{Listed}
+use Rattle.reply_texts.specs.LineAnswer.{Listed}
 use Rattle.script_replay.specs.Terms.{boot_tables}
 use Rattle.script_replay.specs.Visits.{AnswersReleaseByVisit}
 use Rattle.script_replay.proofs.Telling.{told}

@@ -1,4 +1,4 @@
-use Rattle.reply_texts.specs.Answer.{Settled}
+use Rattle.reply_texts.specs.LineAnswer.{Settled}
 use Rattle.script_replay.specs.Terms.{boot_tables}
 use Rattle.script_replay.specs.Visits.{AnswersSettleByVisit}
 use Rattle.script_replay.proofs.Telling.{told}

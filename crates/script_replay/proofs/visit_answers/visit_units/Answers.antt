@@ -4,7 +4,7 @@ use Rattle.std.specs.String.{string_bytes}
 use Rattle.group_tree.specs.declared.fault.Fault.TheVariants.{NoGroup}
 use Rattle.group_tree.specs.Groups.{number_at}
 use Rattle.mem_system.specs.declared.command.Reply.TheVariants.{Refused}
-use Rattle.reply_texts.specs.Answer.{Served}
+use Rattle.reply_texts.specs.LineAnswer.{Served}
 use Rattle.reply_texts.specs.Answers.{answer_text}
 use Rattle.script_replay.proofs.Looking.{failed_text, none_text, there_text}
 use Rattle.script_replay.proofs.visit_answers.visit_units.Goals as goal

@@ -7,10 +7,10 @@ use Rattle.mem_system.specs.declared.command.Reply.{Reply}
 -- What a line is answered, except `show` and `blocks`, whose answers are texts of any length. Served: what was served
 -- under the lock, or refused before. Settled: the CPU was settled, and nothing else. Fast, Got and Put: what a call
 -- without a lock answered. Listed: a fresh frame is at the end of the list again.
-pub data Answer : Type 0 where
-  Served : Reply → Answer
-  Settled : Answer
-  Fast : cpu.Fast → Answer
-  Got : get.Get → Answer
-  Put : put.Put → Answer
-  Listed : Answer
+pub data LineAnswer : Type 0 where
+  Served : Reply → LineAnswer
+  Settled : LineAnswer
+  Fast : cpu.Fast → LineAnswer
+  Got : get.Get → LineAnswer
+  Put : put.Put → LineAnswer
+  Listed : LineAnswer

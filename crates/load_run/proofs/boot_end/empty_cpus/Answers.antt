@@ -6,7 +6,7 @@ use Rattle.mem_system.proofs.Closing.{turn_long, written_back}
 use Rattle.script_replay.specs.Lines.{system_state}
 use Rattle.load_run.specs.Ending.{PutsAllPins}
 use Rattle.load_run.proofs.Putting.{leaves_free, leaves_nothing, none_pinned}
-use Rattle.load_run.proofs.boot_end.leave_nothing.Goals as goal
+use Rattle.load_run.proofs.boot_end.empty_cpus.Goals as goal
 
 pub unreachable-requires : goal.unreachable-requires
 unreachable-requires g c =
