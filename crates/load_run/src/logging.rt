@@ -22,7 +22,7 @@ use std::slice;
 use step_watch::Watch;
 use zone_sizes::config::Config;
 
-// The answers to the lines are plain: they aren't shown.
+// The answers to the lines aren't written.
 const PLAIN: Form = Form {
     is_explained: false,
     is_numbered: false,
