@@ -2,8 +2,8 @@
 //! that it serves.
 //!
 //! A boot's parts carry the name of its tables (`BootName`), and a struct that crosses to C can't have such a name. So
-//! `Raw` is a pointer to the parts in a box, and remembers which tables they are of. Only `serve_raw` reaches through
-//! it: it picks a name for those tables and calls `serve`, which is plain code over the box.
+//! `RawBoot` is a pointer to the parts in a box, and remembers which tables they are of. Only `serve_raw` reaches
+//! through it: it picks a name for those tables and calls `serve`, which is plain code over the box.
 #![tactic(auto)]
 
 pub mod calls;

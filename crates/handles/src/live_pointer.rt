@@ -10,8 +10,8 @@ use cpu_part::BootName;
 use std::alloc::Global;
 use std::marker::Model;
 
-/// A pointer to the parts of a boot, or to nothing. It has the fields of `Raw`, under a name. If it is dropped, what it
-/// points to stays in memory.
+/// A pointer to the parts of a boot, or to nothing. It has the fields of `RawBoot`, under a name. If it is dropped,
+/// what it points to stays in memory.
 #[derive(Drop)]
 pub struct LivePointer<N: BootName> {
     pub(crate) ptr: *mut Live<N>,

@@ -22,7 +22,7 @@ use std::marker::{Brand, Model};
 /// points to stays in memory.
 #[repr(C)]
 #[derive(Drop)]
-pub struct Raw {
+pub struct RawBoot {
     ptr: *mut u8,
     alloc: Global,
     pub ghost frames: { KnownTable } by { frames_coded },
@@ -30,16 +30,16 @@ pub struct Raw {
     pub ghost live: { Option KnownLive } by { known_coded },
 }
 
-impl Model for Raw {
+impl Model for RawBoot {
     ghost also_owns = { λ r. live_owns marker r.frames r.stocks r.alloc r.ptr r.live };
 }
 
-impl Raw {
+impl RawBoot {
     /// A pointer to nothing.
-    pub fn none(alloc: Global) -> Raw
+    pub fn none(alloc: Global) -> RawBoot
         ensures { result.live ≡ None }
     {
-        Raw {
+        RawBoot {
             ptr: std::ptr::null_mut(),
             alloc,
         }
@@ -47,12 +47,12 @@ impl Raw {
 }
 
 /// Serves a request, as `serve` does, under a name that it picks for the tables.
-pub fn serve_raw(raw: Raw, request: Request) -> (Raw, RequestAnswer)
+pub fn serve_raw(raw: RawBoot, request: Request) -> (RawBoot, RequestAnswer)
     requires fit { IsFit raw.live request }
     ensures serves { ServesRaw raw.frames raw.stocks raw.live request
         result.0.frames result.0.stocks result.0.live result.1 }
 {
-    let Raw { ptr, alloc } = raw;
+    let RawBoot { ptr, alloc } = raw;
     let (pointer, answer) = serve::<Brand>(
         LivePointer {
             ptr: ptr as *mut Live<Brand>,
@@ -62,7 +62,7 @@ pub fn serve_raw(raw: Raw, request: Request) -> (Raw, RequestAnswer)
     );
     let LivePointer { ptr, alloc } = pointer;
     (
-        Raw {
+        RawBoot {
             ptr: ptr as *mut u8,
             alloc,
         },
@@ -75,12 +75,12 @@ pub fn serve_raw(raw: Raw, request: Request) -> (Raw, RequestAnswer)
 ///
 /// It is inlined, so that a caller that names the call has its steps alone: see `serve_value`.
 #[inline(always)]
-pub fn call_raw(raw: Raw, cpu: u32, call: &Call<'_>) -> (Raw, CallAnswer)
+pub fn call_raw(raw: RawBoot, cpu: u32, call: &Call<'_>) -> (RawBoot, CallAnswer)
     requires some { IsSome raw.live }
     ensures serves { OnRaw (λ from to. Calls raw.frames raw.stocks cpu call.now from to result.1)
         raw.frames raw.stocks raw.live result.0.frames result.0.stocks result.0.live }
 {
-    let Raw { ptr, alloc } = raw;
+    let RawBoot { ptr, alloc } = raw;
     let (pointer, answer) = serve_call::<Brand>(
         LivePointer {
             ptr: ptr as *mut Live<Brand>,
@@ -91,7 +91,7 @@ pub fn call_raw(raw: Raw, cpu: u32, call: &Call<'_>) -> (Raw, CallAnswer)
     );
     let LivePointer { ptr, alloc } = pointer;
     (
-        Raw {
+        RawBoot {
             ptr: ptr as *mut u8,
             alloc,
         },
@@ -100,12 +100,12 @@ pub fn call_raw(raw: Raw, cpu: u32, call: &Call<'_>) -> (Raw, CallAnswer)
 }
 
 /// Returns what a file of a group shows, as `show_file` does, under the name that it picks for the tables.
-pub fn show_raw(raw: Raw, group: GroupId, file: File) -> (Raw, FileText)
+pub fn show_raw(raw: RawBoot, group: GroupId, file: File) -> (RawBoot, FileText)
     requires there { IsSomeAnd raw.live (HasFile group file) }
     ensures shows { OnRaw (λ from to. ShowsFile group file from to result.1)
         raw.frames raw.stocks raw.live result.0.frames result.0.stocks result.0.live }
 {
-    let Raw { ptr, alloc } = raw;
+    let RawBoot { ptr, alloc } = raw;
     let (pointer, shown) = show_file::<Brand>(
         LivePointer {
             ptr: ptr as *mut Live<Brand>,
@@ -116,7 +116,7 @@ pub fn show_raw(raw: Raw, group: GroupId, file: File) -> (Raw, FileText)
     );
     let LivePointer { ptr, alloc } = pointer;
     (
-        Raw {
+        RawBoot {
             ptr: ptr as *mut u8,
             alloc,
         },

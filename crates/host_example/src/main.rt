@@ -18,11 +18,11 @@ use zone_buddy::buddy::Buddy;
 fn main(rt: HostRuntime) -> Result<()> {
     let mut charges = Charges::new(rt.alloc())?;
     let mut zone = Buddy::new(rt.alloc(), 16)?;
-    share(&rt, &mut charges, &mut zone)
+    run_demo(&rt, &mut charges, &mut zone)
 }
 
 // Takes blocks of the zone for a group of three pages at most, and prints what came of each.
-fn share<R: Print>(rt: &R, charges: &mut Charges, zone: &mut Buddy) -> Result<()> {
+fn run_demo<R: Print>(rt: &R, charges: &mut Charges, zone: &mut Buddy) -> Result<()> {
     let web = charges.make(b"/web".as_slice())?;
     charges.set_max(web, Some(3));
     let pair = Order::of(1).context("an order is at most 10")?;

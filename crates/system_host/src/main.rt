@@ -26,7 +26,7 @@ const SIZES: Config = Config {
 fn main(rt: HostRuntime) -> Result<()> {
     let boot = boot(rt.alloc(), SIZES).ok().context("no boot")?;
     let mut text = String::new(rt.alloc());
-    let audit = live::<Brand, _>(&rt, rt.alloc(), boot, &mut text)?;
+    let audit = run_system::<Brand, _>(&rt, rt.alloc(), boot, &mut text)?;
     let (free, charged) = (audit.free, audit.charged);
     println!(rt; "{text}at the end {free} frames are free and {charged} charged")?;
     Ok(())
@@ -34,12 +34,17 @@ fn main(rt: HostRuntime) -> Result<()> {
 
 // Starts the boot under a name of its tables, has both CPUs work, and shuts the system down, also if the work failed: a
 // `Cpu` must not be dropped.
-fn live<N: BootName, R: Wait>(rt: &R, alloc: Global, boot: Boot, text: &mut String) -> Result<Audit>
+fn run_system<N: BootName, R: Wait>(
+    rt: &R,
+    alloc: Global,
+    boot: Boot,
+    text: &mut String,
+) -> Result<Audit>
     requires { (boot.frames ≡ N.frames) × (boot.stocks ≡ N.stocks) }
     ensures { IfOk result (λ audit. (audit.frames ≡ N.frames.frames) × AddsUp audit) }
 {
     let (system, mut cpus) = boot.start::<N>(alloc)?;
-    let done = share(rt, &system, &mut cpus, text);
+    let done = run_demo(rt, &system, &mut cpus, text);
     let audit = shut(system, cpus);
     done?;
     Ok(audit)
@@ -48,7 +53,7 @@ fn live<N: BootName, R: Wait>(rt: &R, alloc: Global, boot: Boot, text: &mut Stri
 // CPU 1 makes a group with a limit and allocates two frames for it, the second without the lock. CPU 2 takes a
 // reference on the first, so that frame outlives its release. Then an allocation reaches the limit, once even the
 // second frame was reclaimed, and a file is read.
-fn share<N: BootName, R: Wait>(
+fn run_demo<N: BootName, R: Wait>(
     rt: &R,
     system: &System<N>,
     cpus: &mut [Cpu<N>],

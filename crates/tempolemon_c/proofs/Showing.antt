@@ -1,4 +1,4 @@
--- A call whose answer is the text of a file. Serves `serve_into` and `tell_file`.
+-- A call whose answer is the text of a file. Serves `serve_into` and `put_file`.
 use Rattle.std.proofs.Common.{◌≡◌, ◌∙◌, ℕ, ◌≤◌, Some, None, List, ap, arith, inl, refl, subst, sym}
 use Rattle.std.specs.Prelude.{IfSome, IsSomeAnd, Option}
 use Rattle.std.proofs.lemmas.Option.{none-some}

@@ -10,7 +10,7 @@ use crate::buffers::put_answers;
 use crate::handle::Handle;
 use crate::kinds::{NOTHING, REFUSED, TEXT};
 use crate::status::{BAD_CPU, BAD_FRAME, BAD_GROUP, DONE, NOT_LIVE};
-use crate::typed_result::{TypedResult, tell};
+use crate::typed_result::{TypedResult, typed_answer_of};
 use control_files::file::File;
 use group_tree::group::GroupId;
 use handles::calls::{Call, CallAnswer, FileText};
@@ -55,7 +55,7 @@ pub(crate) fn serve_into(
         return NOT_LIVE;
     }
     match handle.call(alloc, cpu, call) {
-        CallAnswer::Served(value) => tell_value(alloc, handle, &value, buffer, out),
+        CallAnswer::Served(value) => put_value(alloc, handle, &value, buffer, out),
         CallAnswer::NoCpu => BAD_CPU,
         CallAnswer::NoFrame => BAD_FRAME,
         CallAnswer::NoGroup => BAD_GROUP,
@@ -66,7 +66,7 @@ pub(crate) fn serve_into(
 // one by one: a whole `TypedResult` is copied with the bytes between its fields, which the CPU has to wait for.
 #[inline(always)]
 #[tactic(auto, using(crate::proofs::Showing::plain_result))]
-fn tell_value(
+fn put_value(
     alloc: Global,
     handle: &mut Handle,
     value: &AnswerValue,
@@ -79,10 +79,10 @@ fn tell_value(
 {
     match *value {
         AnswerValue::Served(Outcome::Text(group, file)) => {
-            tell_file(alloc, handle, group, file, buffer, out)
+            put_file(alloc, handle, group, file, buffer, out)
         }
         _ => {
-            let answered = tell(value);
+            let answered = typed_answer_of(value);
             out.number = answered.typed.number;
             out.kind = answered.typed.kind;
             answered.status
@@ -94,7 +94,7 @@ fn tell_value(
 // a text, so that no other call clears that room.
 #[inline(never)]
 #[tactic(auto, using(crate::proofs::Numbers::number_low, crate::proofs::Showing::stays, crate::proofs::Showing::tells))]
-fn tell_file(
+fn put_file(
     alloc: Global,
     handle: &mut Handle,
     group: GroupId,

@@ -13,7 +13,7 @@ use crate::report::Report;
 use control_files::file::File;
 use group_tree::group::GroupId;
 use handles::calls::{Call, CallAnswer, FileText};
-use handles::raw::{Raw, call_raw, serve_raw, show_raw};
+use handles::raw::{RawBoot, call_raw, serve_raw, show_raw};
 use handles::requests::{Request, RequestAnswer};
 use mem_system::Boot;
 use std::alloc::Global;
@@ -35,7 +35,7 @@ impl Handle {
         requires valid { IsValidConfig sizes }
         ensures { MatchBool result (BootsNew sizes (behind self.new)) (behind self.new ≡ None) }
     {
-        let raw = std::mem::replace(&mut self.raw, Raw::none(alloc));
+        let raw = std::mem::replace(&mut self.raw, RawBoot::none(alloc));
         let (raw, answer) = serve_raw(raw, Request::Start { alloc, boot, sizes });
         self.raw = raw;
         self.is_live = matches!(answer, RequestAnswer::Done);
@@ -48,7 +48,7 @@ impl Handle {
         requires between { IsBetween request }
         ensures { AsksBehind request (behind self.old) (behind self.new) result }
     {
-        let raw = std::mem::replace(&mut self.raw, Raw::none(alloc));
+        let raw = std::mem::replace(&mut self.raw, RawBoot::none(alloc));
         let (raw, answer) = serve_raw(raw, request);
         self.raw = raw;
         answer
@@ -62,7 +62,7 @@ impl Handle {
         ensures { OnBoot (λ frames stocks from to. Calls frames stocks cpu call.now from to result)
             (behind self.old) (behind self.new) }
     {
-        let raw = std::mem::replace(&mut self.raw, Raw::none(alloc));
+        let raw = std::mem::replace(&mut self.raw, RawBoot::none(alloc));
         let (raw, answer) = call_raw(raw, cpu, call);
         self.raw = raw;
         answer
@@ -75,7 +75,7 @@ impl Handle {
         ensures { OnBoot (λ frames stocks from to. ShowsFile group file from to result)
             (behind self.old) (behind self.new) }
     {
-        let raw = std::mem::replace(&mut self.raw, Raw::none(alloc));
+        let raw = std::mem::replace(&mut self.raw, RawBoot::none(alloc));
         let (raw, shown) = show_raw(raw, group, file);
         self.raw = raw;
         shown
@@ -86,7 +86,7 @@ impl Handle {
         requires live { IsSome (behind self.old) }
         ensures { EndsBoot (behind self.old) (behind self.new) result }
     {
-        let raw = std::mem::replace(&mut self.raw, Raw::none(alloc));
+        let raw = std::mem::replace(&mut self.raw, RawBoot::none(alloc));
         let (raw, answer) = serve_raw(raw, Request::End { alloc });
         self.raw = raw;
         self.is_live = false;

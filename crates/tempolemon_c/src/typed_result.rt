@@ -50,18 +50,18 @@ fn with_number(kind: u8, number: u64) -> TypedAnswer
 /// The result of an answer that isn't a text. It is inlined with what it calls, so that the answer isn't built in
 /// memory.
 #[inline(always)]
-pub(crate) fn tell(value: &AnswerValue) -> TypedAnswer
+pub(crate) fn typed_answer_of(value: &AnswerValue) -> TypedAnswer
     requires { IsPlain value.now }
     ensures status { (ledger : Ledger) → result.status ≡ status_of (answer_of ledger value.now) }
     ensures typed { (ledger : Ledger) → result.typed ≡ result_of (answer_of ledger value.now) }
     ensures no_text { (ledger : Ledger) (buffer : List ℕ) → PutsAnswer (answer_of ledger value.now) buffer buffer }
 {
     match value {
-        AnswerValue::Served(outcome) => tell_outcome(outcome),
+        AnswerValue::Served(outcome) => answer_of_outcome(outcome),
         AnswerValue::Settled => with_number(SETTLED, 0),
-        AnswerValue::Fast(fast) => tell_fast(fast),
-        AnswerValue::Got(got) => tell_get(got),
-        AnswerValue::Put(put) => tell_put(put),
+        AnswerValue::Fast(fast) => answer_of_fast(fast),
+        AnswerValue::Got(got) => answer_of_get(got),
+        AnswerValue::Put(put) => answer_of_put(put),
         AnswerValue::Listed => with_number(LISTED, 0),
     }
 }
@@ -69,7 +69,7 @@ pub(crate) fn tell(value: &AnswerValue) -> TypedAnswer
 // The result of an outcome that isn't a text.
 #[inline(always)]
 #[tactic(auto, using(crate::proofs::Numbers::number_low))]
-fn tell_outcome(outcome: &Outcome) -> TypedAnswer
+fn answer_of_outcome(outcome: &Outcome) -> TypedAnswer
     requires { IsPlainOutcome outcome.now }
     ensures status { (ledger : Ledger) → result.status ≡ reply_status (reply_of ledger outcome.now) }
     ensures typed { (ledger : Ledger) → result.typed ≡ reply_result (reply_of ledger outcome.now) }
@@ -106,7 +106,7 @@ fn tell_outcome(outcome: &Outcome) -> TypedAnswer
 
 // The result of a frame that was asked for without the lock.
 #[inline(always)]
-fn tell_fast(fast: &Fast) -> TypedAnswer
+fn answer_of_fast(fast: &Fast) -> TypedAnswer
     ensures status { result.status ≡ 0 }
     ensures typed { result.typed ≡ fast_result fast.now }
 {
@@ -122,7 +122,7 @@ fn tell_fast(fast: &Fast) -> TypedAnswer
 
 // The result of a pin that was asked for.
 #[inline(always)]
-fn tell_get(got: &Get) -> TypedAnswer
+fn answer_of_get(got: &Get) -> TypedAnswer
     ensures status { result.status ≡ 0 }
     ensures typed { result.typed ≡ get_result got.now }
 {
@@ -136,7 +136,7 @@ fn tell_get(got: &Get) -> TypedAnswer
 
 // The result of a pin that was put.
 #[inline(always)]
-fn tell_put(put: &Put) -> TypedAnswer
+fn answer_of_put(put: &Put) -> TypedAnswer
     ensures status { result.status ≡ 0 }
     ensures typed { result.typed ≡ put_result put.now }
 {

@@ -49,7 +49,7 @@ use Rattle.handles.specs.Calls.{Calls}
 use Rattle.handles.specs.Serving.{OnLive}
 use Rattle.handles.specs.Known.{KnownLive}
 use Rattle.cpu_part.specs.declared.boot_name.BootName.{Ghosts}
-use Rattle.handles.specs.contracts.raw.Raw as Raw
+use Rattle.handles.specs.contracts.raw.RawBoot as RawBoot
 use Rattle.handles.specs.contracts.live_pointer.LivePointer as LivePointer
 use Rattle.handles.specs.contracts.calls.Call as Call
 use Rattle.handles.specs.contracts.calls.CallAnswer as CallAnswer
@@ -65,7 +65,7 @@ use Rattle.handles.proofs.raw.call_raw.Code as code
 abbrev brand_laws : Laws brand
 brand_laws = arg_laws (layout brand) no Brand.the_row brand_row.the_row_laws refl
 
-abbrev name : Raw.the_row.Denot → Ghosts brand.Denot
+abbrev name : RawBoot.the_row.Denot → Ghosts brand.Denot
 name d = record { frames = d.frames; stocks = d.stocks }
 
 abbrev none : Dict
@@ -79,7 +79,7 @@ abbrev Asked : Slot 2
 Asked = RefOf (0 ∷ []) tt (plain (λ κs. Call.the_row (named_lft 2 1 tt κs))) (λ κs. tt)
 
 abbrev stayed : Stays (F.ended).signature.params (F.ended).kept
-stayed = (stay_dropped (plain (λ _. Raw.the_row)) yes, (stay_dropped (plain (λ _. u32)) yes, (stay_dropped Asked yes, tt)))
+stayed = (stay_dropped (plain (λ _. RawBoot.the_row)) yes, (stay_dropped (plain (λ _. u32)) yes, (stay_dropped Asked yes, tt)))
 
 module _ {M : Type 1} {𝓤 : Ura M} (𝓛 : Logic 𝓤) (at_mem : Memory → SProp 𝓤) (run : Routine → Fun 𝓤) (𝓣 : Tables 𝓤 𝓛.H) where
   open 𝓛 use {H}
@@ -103,9 +103,10 @@ module _ {M : Type 1} {𝓤 : Ura M} (𝓛 : Logic 𝓤) (at_mem : Memory → SP
       let PointerR = LivePointer.the_row marker g in
       let from : PointerR.Denot = record { ptr = p; alloc = a; live = d.live } in
       let tokens = ‵ (flft κ₀ q₀) ⊛ (‵ (flft κ₁ q₁) ⊛ ‵ ftrue) in
-      qed 𝓛 ((tokens ⊛ ‵ (fsep (Raw.the_row.own_val d z.0.4.0) (fsep (u32.own_val n z.0.4.1.0) (fsep (Lent.own_val r z.0.4.1.1.0) ftrue)))) ∷ raw (fact 𝓤 (IsSome d.live)) ∷ []) ∵
+      qed 𝓛 ((tokens ⊛ ‵ (fsep (RawBoot.the_row.own_val d z.0.4.0) (fsep (u32.own_val n z.0.4.1.0) (fsep (Lent.own_val r z.0.4.1.1.0) ftrue)))) ∷ raw
+      (fact 𝓤 (IsSome d.live)) ∷ []) ∵
       split ! $ move ! (2 ∷ []) $ heard ! (IsSome d.live) (λ some_live. move ! (1 ∷ []) $ fsplit ! $
-      parts_out (shape Raw.the_type) ! p a z.0.4.0 F₀ (λ hv ws fa. move ! (2 ∷ []) $ fsplit ! $ move ! (1 ∷ []) $ fsplit ! $ move ! (1 ∷ []) $ drop ! $
+      parts_out (shape RawBoot.the_type) ! p a z.0.4.0 F₀ (λ hv ws fa. move ! (2 ∷ []) $ fsplit ! $ move ! (1 ∷ []) $ fsplit ! $ move ! (1 ∷ []) $ drop ! $
       -- [the call; the CPU; what the pointer owns; the handle; the tokens]
       let Γ : List Val → List Val → List (Item 𝓤) = λ ns cs. ‵ (Lent.own_val r cs) ∷ ‵ (u32.own_val n ns) ∷ ‵ F₀ ∷ ‵ (Heap.the_row.own_val a (hv ∷ [])) ∷ tokens ∷ [] in
       let Goal : List Val → List Val → List Val → Type 1 = λ us ns cs. ent 𝓤 (types.Kit.⋆ 𝓛 (Γ ns cs)) (WpFn 𝓤 H 𝓣.C 𝓣.Λ code.function (us ++ (ns ++ (cs ++ []))) Post) in
@@ -135,12 +136,17 @@ module _ {M : Type 1} {𝓤 : Ura M} (𝓛 : Logic 𝓤) (at_mem : Memory → SP
       split ! $ move ! (1 ∷ []) $ split ! $ move ! (1 ∷ []) $ split ! $ drop ! $ move ! (1 ∷ 0 ∷ []) $ join ! $ move ! (1 ∷ 0 ∷ []) $ join ! $ move ! (1 ∷ []) $
       let p' = t.0.ptr in let a' = t.0.alloc in
       let F₂ = live_owns marker g.frames g.stocks a' p' t.0.live in
-      let made : Raw.the_row.Denot = record { ptr = p'; alloc = a'; frames = g.frames; stocks = g.stocks; live = t.0.live } in
+      let made : RawBoot.the_row.Denot = record { ptr = p'; alloc = a'; frames = g.frames; stocks = g.stocks; live = t.0.live } in
       fpick ! (λ vss. fsplit ! $ feq_l ! (λ eu. fsplit ! $
       parts_out (shape (LivePointer.the_type marker g)) ! p' a' vss.0 F₂ (λ hw e0 fw. move ! (2 ∷ []) $ fsplit ! $
       row_tells CallAnswer.the_row told_laws.the_row_laws ! t.1 vss.1.0 (λ tv e1 fv. move ! (1 ∷ []) $ drop ! $
       -- [what is told; what the pointer owns; the handle; the tokens]
-      let both_typed : T (has_ty (layout Raw.the_row) (word p' hw) && (has_ty (layout CallAnswer.the_row) tv && true)) × WT (vstruct (of_list (word p' hw ∷ tv ∷ []))) = (both (has_ty (layout Raw.the_row) (word p' hw)) (has_ty (layout CallAnswer.the_row) tv && true) (word_typed p' hw fw).0 (and_tt (has_ty (layout CallAnswer.the_row) tv) fv.0), ((word_typed p' hw fw).1, (fv.1, tt))) in
+      let both_typed : T (has_ty (layout RawBoot.the_row) (word p' hw) && (has_ty (layout CallAnswer.the_row) tv && true))
+      × WT (vstruct (of_list (word p' hw ∷ tv ∷ []))) = (
+        both (has_ty (layout RawBoot.the_row) (word p' hw)) (has_ty (layout CallAnswer.the_row) tv && true)
+            (word_typed p' hw fw).0 (and_tt (has_ty (layout CallAnswer.the_row) tv) fv.0),
+        ((word_typed p' hw fw).1, (fv.1, tt)),
+      ) in
       lands_as ! (ap only (eu ∙ (λ j. vstruct (of_list (e0 j ++ (e1 j ++ []))) ∷ []))) refl both_typed $
       sets ! (of_opd ! (get_in ! (fld ! refl (stop !)) (sub ! 0 refl (whole !)))) refl (word_typed p' hw fw) $
       sets ! (of_opd ! (get_in ! (fld ! refl (stop !)) (sub ! 1 refl (whole !)))) refl fv $
@@ -150,19 +156,25 @@ module _ {M : Type 1} {𝓤 : Ura M} (𝓛 : Logic 𝓤) (at_mem : Memory → SP
       sets ! (agg ! (and_then ! (get ! refl) (and_then ! (get ! refl) (no_more !)))) refl (word_typed p' hw fw) $
       sets ! (agg ! (and_then ! (get ! refl) (and_then ! (get ! refl) (no_more !)))) refl both_typed $
       returns ! (look_at ! 0 refl) $ free_all ! refl $
-      move ! (1 ∷ 2 ∷ []) $ parts_in (shape Raw.the_type) ! hw p' a' F₂ $
+      move ! (1 ∷ 2 ∷ []) $ parts_in (shape RawBoot.the_type) ! hw p' a' F₂ $
       -- [what the call returns; what is told; the tokens]
       let out = vstruct (of_list (word p' hw ∷ tv ∷ [])) in
       suffices ! _ (ends_at 𝓛 F.ended stayed held z out (made, t.1) (tt, (tt, (tt, tt))) (tt, (tt, (tt, tt)))) $ says ! (record { frames_are = refl; stocks_are = refl; on_live = did }) $
       nothing ! $ move ! (2 ∷ 0 ∷ []) $ fjoin ! $ move ! (1 ∷ 0 ∷ []) $ fjoin ! $ feq_i ! (List Val) (out ∷ []) (out ∷ []) refl $ fjoin ! $
-      fpack ! (Valss (Raw.the_row ∷ CallAnswer.the_row ∷ [])) (λ vss. fsep (feq (List Val) (out ∷ []) (vstruct (of_list (vss.0 ++ (vss.1.0 ++ []))) ∷ [])) (owns (Raw.the_row ∷ CallAnswer.the_row ∷ []) (made, (t.1, tt)) vss)) (word p' hw ∷ [], (tv ∷ [], tt)) $
+      fpack ! (Valss (RawBoot.the_row ∷ CallAnswer.the_row ∷ [])) (λ vss. fsep (feq (List Val) (out ∷ []) (vstruct (of_list (vss.0 ++ (vss.1.0 ++ []))) ∷ []))
+      (owns (RawBoot.the_row ∷ CallAnswer.the_row ∷ []) (made, (t.1, tt)) vss)) (word p' hw ∷ [], (tv ∷ [], tt)) $
       nothing ! $ nothing ! $ fjoin ! $ nothing ! $ fjoin ! $ nothing ! $ fjoin ! $ join ! $ move ! (1 ∷ 0 ∷ []) $ join ! $ done !))))))))))))))))
 
 pub call_raw_spec : {M : Type 1} → stated.statement M
 unfolding tables_of
 call_raw_spec 𝓤 𝓛 𝓜 𝓡 wired =
     let 𝓣 : Tables 𝓤 𝓛.H = tables_of 𝓤 𝓛.H 𝓜 (tables 𝓤 𝓛.H 𝓜 𝓡 𝓡.env) in
-    proved_at 𝓛 F.ended stayed (F.clauses 𝓛 𝓜.mem 𝓡.returns) 𝓜 𝓡
-    (Goes-dropped 𝓛 2 (plain (λ _. Raw.the_row)) yes (λ κs x f. refl), (Goes-dropped 𝓛 2 (plain (λ _. u32)) yes (λ κs x f. refl), (Goes-dropped 𝓛 2 Asked yes (λ κs x f. refl), tt)))
+    proved_at 𝓛 F.ended stayed (F.clauses 𝓛 𝓜.mem 𝓡.returns) 𝓜 𝓡 (
+      Goes-dropped 𝓛 2 (plain (λ _. RawBoot.the_row)) yes (λ κs x f. refl),
+      (
+        Goes-dropped 𝓛 2 (plain (λ _. u32)) yes (λ κs x f. refl),
+        (Goes-dropped 𝓛 2 Asked yes (λ κs x f. refl), tt),
+      ),
+    )
     #self code.function (code.unfolded 𝓤 𝓛.H 𝓜 𝓡 wired)
     (walk 𝓛 𝓜.mem 𝓡.returns 𝓣 (λ g. serve_met.met 𝓤 𝓛 𝓜 𝓡 (code.calls-handles::serving::serve_call 𝓡.env wired) brand brand_laws g none (record {})))

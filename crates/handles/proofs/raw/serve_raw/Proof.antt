@@ -52,7 +52,7 @@ use Rattle.handles.specs.Serving.{IsFit, IsNamed, MayBeAsked, Serves, frames_of,
 use Rattle.handles.specs.Known.{KnownLive}
 use Rattle.handles.specs.declared.requests.Request.TheVariants.{Start, Lines, StoreUnread, TakeUnread, End}
 use Rattle.cpu_part.specs.declared.boot_name.BootName.{Ghosts}
-use Rattle.handles.specs.contracts.raw.Raw as Raw
+use Rattle.handles.specs.contracts.raw.RawBoot as RawBoot
 use Rattle.handles.specs.contracts.live_pointer.LivePointer as LivePointer
 use Rattle.handles.specs.contracts.requests.Request as Request
 use Rattle.handles.specs.contracts.requests.RequestAnswer as RequestAnswer
@@ -69,7 +69,7 @@ use Rattle.handles.proofs.raw.serve_raw.Code as code
 abbrev brand_laws : Laws brand
 brand_laws = arg_laws (layout brand) no Brand.the_row brand_row.the_row_laws refl
 
-abbrev name : Raw.the_row.Denot → Request.the_row.Denot → Ghosts brand.Denot
+abbrev name : RawBoot.the_row.Denot → Request.the_row.Denot → Ghosts brand.Denot
 name d q = record { frames = frames_of d.frames q; stocks = stocks_of d.stocks q }
 
 abbrev none : Dict
@@ -97,7 +97,7 @@ same a p f s (Some live) (TakeUnread alloc) fit = refl
 same a p f s (Some live) (End alloc) fit = refl
 
 abbrev From : Slot 0
-From = plain (λ _. Raw.the_row)
+From = plain (λ _. RawBoot.the_row)
 
 abbrev Asked : Slot 0
 Asked = plain (λ _. Request.the_row)
@@ -132,9 +132,9 @@ module _ {M : Type 1} {𝓤 : Ura M} (𝓛 : Logic 𝓤) (at_mem : Memory → SP
       let F₁ = live_owns marker g.frames g.stocks a p d.live in
       let PointerR = LivePointer.the_row marker g in
       let from : PointerR.Denot = record { ptr = p; alloc = a; live = d.live } in
-      qed 𝓛 ((‵ ftrue ⊛ ‵ (fsep (Raw.the_row.own_val d z.0.4.0) (fsep (Request.the_row.own_val q z.0.4.1.0) ftrue))) ∷ raw (fact 𝓤 (IsFit d.live q)) ∷ []) ∵
+      qed 𝓛 ((‵ ftrue ⊛ ‵ (fsep (RawBoot.the_row.own_val d z.0.4.0) (fsep (Request.the_row.own_val q z.0.4.1.0) ftrue))) ∷ raw (fact 𝓤 (IsFit d.live q)) ∷ []) ∵
       split ! $ drop ! $ move ! (1 ∷ []) $ heard ! (IsFit d.live q) (λ fit. fsplit ! $
-      parts_out (shape Raw.the_type) ! p a z.0.4.0 F₀ (λ hv ws fa. move ! (2 ∷ []) $ fsplit ! $
+      parts_out (shape RawBoot.the_type) ! p a z.0.4.0 F₀ (λ hv ws fa. move ! (2 ∷ []) $ fsplit ! $
       row_tells Request.the_row request_laws.the_row_laws ! q z.0.4.1.0 (λ qv qs fq. move ! (1 ∷ []) $ drop ! $
       -- [the request; what the pointer owns; the handle]
       let Γ : List (Item 𝓤) = ‵ (Request.the_row.own_val q (qv ∷ [])) ∷ ‵ F₀ ∷ ‵ (Heap.the_row.own_val a (hv ∷ [])) ∷ [] in
@@ -160,12 +160,17 @@ module _ {M : Type 1} {𝓤 : Ura M} (𝓛 : Logic 𝓤) (at_mem : Memory → SP
       await ! tt $ pick ! (λ r. split ! $ move ! (1 ∷ []) $ pick ! (λ ended. split ! $ drop ! $ heard ! (Serves g.frames g.stocks d.live q r.0.live r.1) (λ did. split ! $ drop ! $
       let p' = r.0.ptr in let a' = r.0.alloc in
       let F₂ = live_owns marker g.frames g.stocks a' p' r.0.live in
-      let made : Raw.the_row.Denot = record { ptr = p'; alloc = a'; frames = g.frames; stocks = g.stocks; live = r.0.live } in
+      let made : RawBoot.the_row.Denot = record { ptr = p'; alloc = a'; frames = g.frames; stocks = g.stocks; live = r.0.live } in
       fpick ! (λ vss. fsplit ! $ feq_l ! (λ eu. fsplit ! $
       parts_out (shape (LivePointer.the_type marker g)) ! p' a' vss.0 F₂ (λ hw e0 fw. move ! (2 ∷ []) $ fsplit ! $
       row_tells RequestAnswer.the_row answer_laws.the_row_laws ! r.1 vss.1.0 (λ av e1 fv. move ! (1 ∷ []) $ drop ! $
       -- [the answer; what the pointer owns; the handle]
-      let both_typed : T (has_ty (layout Raw.the_row) (word p' hw) && (has_ty (layout RequestAnswer.the_row) av && true)) × WT (vstruct (of_list (word p' hw ∷ av ∷ []))) = (both (has_ty (layout Raw.the_row) (word p' hw)) (has_ty (layout RequestAnswer.the_row) av && true) (word_typed p' hw fw).0 (and_tt (has_ty (layout RequestAnswer.the_row) av) fv.0), ((word_typed p' hw fw).1, (fv.1, tt))) in
+      let both_typed : T (has_ty (layout RawBoot.the_row) (word p' hw) && (has_ty (layout RequestAnswer.the_row) av && true))
+      × WT (vstruct (of_list (word p' hw ∷ av ∷ []))) = (
+        both (has_ty (layout RawBoot.the_row) (word p' hw)) (has_ty (layout RequestAnswer.the_row) av && true)
+            (word_typed p' hw fw).0 (and_tt (has_ty (layout RequestAnswer.the_row) av) fv.0),
+        ((word_typed p' hw fw).1, (fv.1, tt)),
+      ) in
       lands_as ! (ap only (eu ∙ (λ j. vstruct (of_list (e0 j ++ (e1 j ++ []))) ∷ []))) refl both_typed $
       sets ! (of_opd ! (get_in ! (fld ! refl (stop !)) (sub ! 0 refl (whole !)))) refl (word_typed p' hw fw) $
       sets ! (of_opd ! (get_in ! (fld ! refl (stop !)) (sub ! 1 refl (whole !)))) refl fv $
@@ -176,12 +181,13 @@ module _ {M : Type 1} {𝓤 : Ura M} (𝓛 : Logic 𝓤) (at_mem : Memory → SP
       sets ! (of_opd ! (get ! refl)) refl fv $
       sets ! (agg ! (and_then ! (get ! refl) (and_then ! (get ! refl) (no_more !)))) refl both_typed $
       returns ! (look_at ! 0 refl) $ free_all ! refl $
-      move ! (1 ∷ 2 ∷ []) $ parts_in (shape Raw.the_type) ! hw p' a' F₂ $
+      move ! (1 ∷ 2 ∷ []) $ parts_in (shape RawBoot.the_type) ! hw p' a' F₂ $
       -- [what the call returns; the answer]
       let tv = vstruct (of_list (word p' hw ∷ av ∷ [])) in
       suffices ! _ (ends_at 𝓛 F.ended stayed held z tv (made, r.1) (tt, (rest (Request.the_row.exit yes) q, tt)) (tt, (tt, tt))) $ says ! (record { frames_are = refl; stocks_are = refl; serves = did }) $
       nothing ! $ move ! (2 ∷ 0 ∷ []) $ fjoin ! $ move ! (1 ∷ 0 ∷ []) $ fjoin ! $ feq_i ! (List Val) (tv ∷ []) (tv ∷ []) refl $ fjoin ! $
-      fpack ! (Valss (Raw.the_row ∷ RequestAnswer.the_row ∷ [])) (λ vss. fsep (feq (List Val) (tv ∷ []) (vstruct (of_list (vss.0 ++ (vss.1.0 ++ []))) ∷ [])) (owns (Raw.the_row ∷ RequestAnswer.the_row ∷ []) (made, (r.1, tt)) vss)) (word p' hw ∷ [], (av ∷ [], tt)) $
+      fpack ! (Valss (RawBoot.the_row ∷ RequestAnswer.the_row ∷ [])) (λ vss. fsep (feq (List Val) (tv ∷ []) (vstruct (of_list (vss.0 ++ (vss.1.0 ++ []))) ∷ []))
+      (owns (RawBoot.the_row ∷ RequestAnswer.the_row ∷ []) (made, (r.1, tt)) vss)) (word p' hw ∷ [], (av ∷ [], tt)) $
       nothing ! $ nothing ! $ fjoin ! $ nothing ! $ fjoin ! $ join ! $ nothing ! $ join ! $ done !))))))))))))))))
 
 pub serve_raw_spec : {M : Type 1} → stated.statement M

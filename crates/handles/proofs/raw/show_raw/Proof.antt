@@ -48,7 +48,7 @@ use Rattle.handles.specs.Calls.{HasFile, ShowsFile}
 use Rattle.handles.specs.Serving.{OnLive}
 use Rattle.handles.specs.Known.{KnownLive}
 use Rattle.cpu_part.specs.declared.boot_name.BootName.{Ghosts}
-use Rattle.handles.specs.contracts.raw.Raw as Raw
+use Rattle.handles.specs.contracts.raw.RawBoot as RawBoot
 use Rattle.handles.specs.contracts.live_pointer.LivePointer as LivePointer
 use Rattle.group_tree.specs.contracts.group.GroupId as GroupId
 use Rattle.group_tree.proofs.group.GroupId.TheLaws as group_laws
@@ -68,7 +68,7 @@ use Rattle.handles.proofs.raw.show_raw.Code as code
 abbrev brand_laws : Laws brand
 brand_laws = arg_laws (layout brand) no Brand.the_row brand_row.the_row_laws refl
 
-abbrev name : Raw.the_row.Denot → Ghosts brand.Denot
+abbrev name : RawBoot.the_row.Denot → Ghosts brand.Denot
 name d = record { frames = d.frames; stocks = d.stocks }
 
 abbrev none : Dict
@@ -78,7 +78,7 @@ abbrev args : Args
 args = bounded (a_type ∷ []) (brand, tt) (dcons none dnil)
 
 abbrev From : Slot 0
-From = plain (λ _. Raw.the_row)
+From = plain (λ _. RawBoot.the_row)
 
 abbrev Of : Slot 0
 Of = plain (λ _. GroupId.the_row)
@@ -117,9 +117,10 @@ module _ {M : Type 1} {𝓤 : Ura M} (𝓛 : Logic 𝓤) (at_mem : Memory → SP
       let F₀ = live_owns marker d.frames d.stocks a p d.live in
       let PointerR = LivePointer.the_row marker g in
       let from : PointerR.Denot = record { ptr = p; alloc = a; live = d.live } in
-      qed 𝓛 ((‵ ftrue ⊛ ‵ (fsep (Raw.the_row.own_val d z.0.4.0) (fsep (GroupId.the_row.own_val n z.0.4.1.0) (fsep (File.the_row.own_val i z.0.4.1.1.0) ftrue)))) ∷ raw (fact 𝓤 (IsSomeAnd d.live (HasFile n i))) ∷ []) ∵
+      qed 𝓛 ((‵ ftrue ⊛ ‵ (fsep (RawBoot.the_row.own_val d z.0.4.0) (fsep (GroupId.the_row.own_val n z.0.4.1.0)
+      (fsep (File.the_row.own_val i z.0.4.1.1.0) ftrue)))) ∷ raw (fact 𝓤 (IsSomeAnd d.live (HasFile n i))) ∷ []) ∵
       split ! $ drop ! $ move ! (1 ∷ []) $ heard ! (IsSomeAnd d.live (HasFile n i)) (λ there. fsplit ! $
-      parts_out (shape Raw.the_type) ! p a z.0.4.0 F₀ (λ hv ws fa. move ! (2 ∷ []) $ fsplit ! $
+      parts_out (shape RawBoot.the_type) ! p a z.0.4.0 F₀ (λ hv ws fa. move ! (2 ∷ []) $ fsplit ! $
       row_tells GroupId.the_row group_laws.the_row_laws ! n z.0.4.1.0 (λ nv ns fn. move ! (1 ∷ []) $ fsplit ! $
       row_tells File.the_row file_laws.the_row_laws ! i z.0.4.1.1.0 (λ iv is fi. move ! (1 ∷ []) $ drop ! $
       -- [the file; the group; what the pointer owns; the handle]
@@ -147,12 +148,17 @@ module _ {M : Type 1} {𝓤 : Ura M} (𝓛 : Logic 𝓤) (at_mem : Memory → SP
       await ! tt $ pick ! (λ t. split ! $ move ! (1 ∷ []) $ pick ! (λ ended. split ! $ drop ! $ heard ! (OnLive (λ live to. ShowsFile n i live to t.1) d.live t.0.live) (λ did. split ! $ drop ! $
       let p' = t.0.ptr in let a' = t.0.alloc in
       let F₂ = live_owns marker g.frames g.stocks a' p' t.0.live in
-      let made : Raw.the_row.Denot = record { ptr = p'; alloc = a'; frames = g.frames; stocks = g.stocks; live = t.0.live } in
+      let made : RawBoot.the_row.Denot = record { ptr = p'; alloc = a'; frames = g.frames; stocks = g.stocks; live = t.0.live } in
       fpick ! (λ vss. fsplit ! $ feq_l ! (λ eu. fsplit ! $
       parts_out (shape (LivePointer.the_type marker g)) ! p' a' vss.0 F₂ (λ hw e0 fw. move ! (2 ∷ []) $ fsplit ! $
       row_tells FileText.the_row shown_laws.the_row_laws ! t.1 vss.1.0 (λ tv e1 fv. move ! (1 ∷ []) $ drop ! $
       -- [what is shown; what the pointer owns; the handle]
-      let both_typed : T (has_ty (layout Raw.the_row) (word p' hw) && (has_ty (layout FileText.the_row) tv && true)) × WT (vstruct (of_list (word p' hw ∷ tv ∷ []))) = (both (has_ty (layout Raw.the_row) (word p' hw)) (has_ty (layout FileText.the_row) tv && true) (word_typed p' hw fw).0 (and_tt (has_ty (layout FileText.the_row) tv) fv.0), ((word_typed p' hw fw).1, (fv.1, tt))) in
+      let both_typed : T (has_ty (layout RawBoot.the_row) (word p' hw) && (has_ty (layout FileText.the_row) tv && true))
+      × WT (vstruct (of_list (word p' hw ∷ tv ∷ []))) = (
+        both (has_ty (layout RawBoot.the_row) (word p' hw)) (has_ty (layout FileText.the_row) tv && true)
+            (word_typed p' hw fw).0 (and_tt (has_ty (layout FileText.the_row) tv) fv.0),
+        ((word_typed p' hw fw).1, (fv.1, tt)),
+      ) in
       lands_as ! (ap only (eu ∙ (λ j. vstruct (of_list (e0 j ++ (e1 j ++ []))) ∷ []))) refl both_typed $
       sets ! (of_opd ! (get_in ! (fld ! refl (stop !)) (sub ! 0 refl (whole !)))) refl (word_typed p' hw fw) $
       sets ! (of_opd ! (get_in ! (fld ! refl (stop !)) (sub ! 1 refl (whole !)))) refl fv $
@@ -162,12 +168,13 @@ module _ {M : Type 1} {𝓤 : Ura M} (𝓛 : Logic 𝓤) (at_mem : Memory → SP
       sets ! (agg ! (and_then ! (get ! refl) (and_then ! (get ! refl) (no_more !)))) refl (word_typed p' hw fw) $
       sets ! (agg ! (and_then ! (get ! refl) (and_then ! (get ! refl) (no_more !)))) refl both_typed $
       returns ! (look_at ! 0 refl) $ free_all ! refl $
-      move ! (1 ∷ 2 ∷ []) $ parts_in (shape Raw.the_type) ! hw p' a' F₂ $
+      move ! (1 ∷ 2 ∷ []) $ parts_in (shape RawBoot.the_type) ! hw p' a' F₂ $
       -- [what the call returns; what is shown]
       let out = vstruct (of_list (word p' hw ∷ tv ∷ [])) in
       suffices ! _ (ends_at 𝓛 F.ended stayed held z out (made, t.1) (tt, (tt, (rest (File.the_row.exit yes) i, tt))) (tt, (tt, (tt, tt)))) $ says ! (record { frames_are = refl; stocks_are = refl; on_live = did }) $
       nothing ! $ move ! (2 ∷ 0 ∷ []) $ fjoin ! $ move ! (1 ∷ 0 ∷ []) $ fjoin ! $ feq_i ! (List Val) (out ∷ []) (out ∷ []) refl $ fjoin ! $
-      fpack ! (Valss (Raw.the_row ∷ FileText.the_row ∷ [])) (λ vss. fsep (feq (List Val) (out ∷ []) (vstruct (of_list (vss.0 ++ (vss.1.0 ++ []))) ∷ [])) (owns (Raw.the_row ∷ FileText.the_row ∷ []) (made, (t.1, tt)) vss)) (word p' hw ∷ [], (tv ∷ [], tt)) $
+      fpack ! (Valss (RawBoot.the_row ∷ FileText.the_row ∷ [])) (λ vss. fsep (feq (List Val) (out ∷ []) (vstruct (of_list (vss.0 ++ (vss.1.0 ++ []))) ∷ []))
+      (owns (RawBoot.the_row ∷ FileText.the_row ∷ []) (made, (t.1, tt)) vss)) (word p' hw ∷ [], (tv ∷ [], tt)) $
       nothing ! $ nothing ! $ fjoin ! $ nothing ! $ fjoin ! $ nothing ! $ fjoin ! $ join ! $ nothing ! $ join ! $ done !))))))))))))))))))
 
 pub show_raw_spec : {M : Type 1} → stated.statement M

@@ -44,7 +44,7 @@ use Rattle.handles.specs.Known.{KnownLive}
 use Rattle.handles.specs.contracts.live.Live as Live
 use Rattle.handles.specs.contracts.loose.Loose as Loose
 use Rattle.handles.specs.contracts.live_pointer.LivePointer as LivePointer
-use Rattle.handles.specs.contracts.raw.Raw as Raw
+use Rattle.handles.specs.contracts.raw.RawBoot as RawBoot
 use Rattle.handles.specs.contracts.live_pointer.LivePointer.into_loose as F
 use Rattle.handles.specs.contracts.live_pointer.LivePointer.into_loose.Key.{name as #self}
 use Rattle.handles.proofs.live_pointer.LivePointer.into_loose.Statement as stated

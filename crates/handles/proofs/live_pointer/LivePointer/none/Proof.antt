@@ -43,7 +43,7 @@ use Rattle.handles.specs.Known.{KnownLive}
 use Rattle.handles.specs.contracts.live.Live as Live
 use Rattle.handles.specs.contracts.loose.Loose as Loose
 use Rattle.handles.specs.contracts.live_pointer.LivePointer as LivePointer
-use Rattle.handles.specs.contracts.raw.Raw as Raw
+use Rattle.handles.specs.contracts.raw.RawBoot as RawBoot
 use Rattle.handles.specs.contracts.live_pointer.LivePointer.none as F
 use Rattle.handles.specs.contracts.live_pointer.LivePointer.none.Key.{name as #self}
 use Rattle.handles.proofs.live_pointer.LivePointer.none.Statement as stated

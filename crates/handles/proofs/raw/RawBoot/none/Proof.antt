@@ -43,13 +43,13 @@ use Rattle.handles.specs.Known.{KnownLive}
 use Rattle.handles.specs.contracts.live.Live as Live
 use Rattle.handles.specs.contracts.loose.Loose as Loose
 use Rattle.handles.specs.contracts.live_pointer.LivePointer as LivePointer
-use Rattle.handles.specs.contracts.raw.Raw as Raw
+use Rattle.handles.specs.contracts.raw.RawBoot as RawBoot
 use Rattle.cpu_part.specs.Cpus.{no_table}
 use denote.Triple.Walked.{Goes-dropped}
-use Rattle.handles.specs.contracts.raw.Raw.none as F
-use Rattle.handles.specs.contracts.raw.Raw.none.Key.{name as #self}
-use Rattle.handles.proofs.raw.Raw.none.Statement as stated
-use Rattle.handles.proofs.raw.Raw.none.Code as code
+use Rattle.handles.specs.contracts.raw.RawBoot.none as F
+use Rattle.handles.specs.contracts.raw.RawBoot.none.Key.{name as #self}
+use Rattle.handles.proofs.raw.RawBoot.none.Statement as stated
+use Rattle.handles.proofs.raw.RawBoot.none.Code as code
 
 abbrev stayed : Stays (F.ended).signature.params (F.ended).kept
 stayed = (stay_dropped (plain (λ _. Heap.the_row)) yes, tt)
@@ -71,7 +71,7 @@ module _ {M : Type 1} {𝓤 : Ura M} (𝓛 : Logic 𝓤) (at_mem : Memory → SP
       (qed 𝓛 Γ ∵ enter ! 𝓣.C 𝓣.Λ code.function (hv ∷ []) _ $ alloc_all ! (λ ls. pass_all ! refl (fa, tt) $
       sets ! (agg ! (and_then ! (lit ! tt) (and_then ! (get ! refl) (no_more !)))) refl (word_typed null_ptr hv fa) $
       returns ! (look_at ! 0 refl) $ free_all ! refl $
-      nothing ! $ parts_in (shape Raw.the_type) ! hv null_ptr x ftrue $
+      nothing ! $ parts_in (shape RawBoot.the_type) ! hv null_ptr x ftrue $
       suffices ! _ (ends_at 𝓛 F.ended stayed held z (word null_ptr hv) (record { ptr = null_ptr; alloc = x; frames = (record { table = no_table; frames = 0; cpus = 0 }); stocks = (record { table = no_table; cpus = 0 }); live = None }) (rest (Heap.the_row.exit yes) x, tt) (tt, tt)) $ says ! refl $
       nothing ! $ nothing ! $ fjoin ! $ join ! $ nothing ! $ join ! $ done !))))
 
