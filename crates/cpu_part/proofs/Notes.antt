@@ -5,7 +5,7 @@ use Rattle.std.proofs.lemmas.Bool.Decides.{eqb_tells}
 use Rattle.std.specs.Prelude.{IsPermutation}
 use Rattle.frame_word.specs.declared.view.FrameNote.{FrameNote}
 use Rattle.frame_word.specs.declared.view.FrameView.{FrameView}
-use Rattle.frame_word.specs.Views.{note_of, changed, in_hands, looked, held, dropped_one, dropped_last, took_in, passed_back_by_cpu}
+use Rattle.frame_word.specs.Views.{note_of, changed, in_hands, looked, held, put_left, put_last, took_in, passed_back_by_cpu}
 use Rattle.frame_word.proofs.Notes.{note_here, note_else}
 use Rattle.cpu_part.specs.Cpus.{times, IsNoted, AreNoted}
 use Rattle.cpu_part.proofs.Counts.{test_here, test_other, times_front, times_end, times_parted}
@@ -144,10 +144,10 @@ module _ (frames f : ℕ) (list fresh back pins : List ℕ) (v : FrameView) (not
       record { borrowed = refl; own = refl; references = omega (arith, s, o) })
 
   -- one pin went, and references of others are left
-  pub noted_unpinned : (pins' : List ℕ) (left : ℕ) → IsPermutation pins (f ∷ pins') → AreNoted frames list fresh back pins' (changed v f (dropped_one left))
+  pub noted_unpinned : (pins' : List ℕ) (left : ℕ) → IsPermutation pins (f ∷ pins') → AreNoted frames list fresh back pins' (changed v f (put_left left))
   noted_unpinned pins' left parts =
       let n = noted f in let r = n.references_are in let e = times_parted f f pins pins' parts in let t = test_here f in
-      noted_changed frames f list fresh back pins list fresh back pins' v noted (dropped_one left)
+      noted_changed frames f list fresh back pins list fresh back pins' v noted (put_left left)
       (record {
         borrowed_is = n.borrowed_is;
         own_is = n.own_is;
@@ -161,11 +161,11 @@ module _ (frames f : ℕ) (list fresh back pins : List ℕ) (v : FrameView) (not
 
   -- the last reference went, and the frame is a back frame
   pub noted_last_unpinned : (pins' back' : List ℕ) → IsPermutation pins (f ∷ pins') → back' ≡ back ++ f ∷ [] → in_hands (note_of v f) ≡ 0
-      → AreNoted frames list fresh back' pins' (changed v f dropped_last)
+      → AreNoted frames list fresh back' pins' (changed v f put_last)
   noted_last_unpinned pins' back' parts end none =
       let n = noted f in let a = n.borrowed_is in let b = n.own_is in let r = n.references_are in let e = times_parted f f pins pins' parts in
       let u = ap (times f) end ∙ times_end f f back in let t = test_here f in
-      noted_changed frames f list fresh back pins list fresh back' pins' v noted dropped_last
+      noted_changed frames f list fresh back pins list fresh back' pins' v noted put_last
       (record {
         borrowed_is = n.borrowed_is;
         own_is = omega (arith, a, b, u, t, none);

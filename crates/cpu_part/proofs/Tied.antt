@@ -6,7 +6,7 @@ use Rattle.frame_word.specs.declared.view.FrameNote.{FrameNote}
 use Rattle.frame_word.specs.declared.answers.Get.{Get}
 use Rattle.frame_word.specs.declared.answers.Get.TheVariants.{Held, Zero, Raced, Full}
 use Rattle.frame_word.specs.declared.answers.Put.TheVariants.{Left}
-use Rattle.frame_word.specs.Views.{note_of, in_hands, looked, held, raced, dropped_one, dropped_last, took_in, passed_back_by_cpu}
+use Rattle.frame_word.specs.Views.{note_of, in_hands, looked, held, raced, put_left, put_last, took_in, passed_back_by_cpu}
 use Rattle.frame_word.specs.Seats.{KnownTable, KnownSeat, seat_with, GetAnswers, PutAnswers}
 use Rattle.stock_word.specs.Stock.{KnownStockTable, KnownStockSeat}
 use Rattle.stock_word.specs.Kinds.{after_report}
@@ -70,17 +70,17 @@ module _ (t : KnownTable) (w : KnownStockTable) (c : KnownCpu) (tied : IsTied t 
       → IsTied t w (record c { pins = pins; frame_seat = seat })
   tied_left n seat pins put parts = subst (λ (s : KnownSeat). IsTied t w (record c { pins = pins; frame_seat = s })) (sym put.2)
       (record {
-        seats = seats_with (dropped_one n);
+        seats = seats_with (put_left n);
         noted = noted_unpinned t.frames f c.list c.fresh c.back c.pins c.frame_seat.view tied.noted pins n parts;
         within = let b = tied.within in let p = b.pin_bound in let e = length_parted f c.pins pins parts in
             record { list_bound = b.list_bound; fresh_bound = b.fresh_bound; pin_bound = omega (arith, e, p); pages_are = b.pages_are };
       })
 
-  pub tied_last : (seat : KnownSeat) (pins back : List ℕ) → seat ≡ seat_with c.frame_seat f dropped_last → IsPermutation c.pins (f ∷ pins) → back ≡ c.back ++ f ∷ []
+  pub tied_last : (seat : KnownSeat) (pins back : List ℕ) → seat ≡ seat_with c.frame_seat f put_last → IsPermutation c.pins (f ∷ pins) → back ≡ c.back ++ f ∷ []
       → in_hands (note_of c.frame_seat.view f) ≡ 0 → IsTied t w (record c { back = back; pins = pins; frame_seat = seat })
   tied_last seat pins back is parts end none = subst (λ (s : KnownSeat). IsTied t w (record c { back = back; pins = pins; frame_seat = s })) (sym is)
       (record {
-        seats = seats_with dropped_last;
+        seats = seats_with put_last;
         noted = noted_last_unpinned t.frames f c.list c.fresh c.back c.pins c.frame_seat.view tied.noted pins back parts end none;
         within = let b = tied.within in let p = b.pin_bound in let e = length_parted f c.pins pins parts in let u = length_end f c.back back end in
             record { list_bound = b.list_bound; fresh_bound = b.fresh_bound; pin_bound = omega (arith, e, p, u); pages_are = b.pages_are };

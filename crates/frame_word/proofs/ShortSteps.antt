@@ -11,7 +11,7 @@ use Rattle.seat_sums.specs.Totals.{total_over}
 use Rattle.seat_sums.proofs.Totals.{total_swap, total_view}
 use Rattle.frame_word.specs.declared.view.FrameNote.{FrameNote}
 use Rattle.frame_word.specs.declared.view.FrameView.{FrameView}
-use Rattle.frame_word.specs.Views.{note_of, changed, in_hands, lent_count, looked, held, raced, dropped_one, dropped_last, frozen, missed, unfrozen}
+use Rattle.frame_word.specs.Views.{note_of, changed, in_hands, lent_count, looked, held, raced, put_left, put_last, frozen, missed, unfrozen}
 use Rattle.frame_word.specs.ReferenceRule.{most_references, mark, marked, only, visit_index, references_in, hands_in, begun_in, ended_in, lent_in}
 use Rattle.frame_word.specs.ReferenceRule.{lent_number, borrowed_in, ReferenceRule}
 use Rattle.frame_word.specs.Kinds.{rule_of, by_one, looks, adds, puts, freezes, unfreezes}
@@ -113,10 +113,10 @@ module _ (frames cpus : ℕ) (seats : List (List FrameView)) (id : ℕ) (v : Fra
 
   -- one of several references goes
   pub let_go_rule : 2 ≤ found → 1 ≤ note.references → ReferenceRule frames cpus (set words f (found - 1)) (swapped seats id (v ∷ []) 0 v at refl
-      (changed v f (dropped_one (found - 1))))
+      (changed v f (put_left (found - 1))))
   let_go_rule two one = let part = refs_part in let c = case_referenced cpus found refs hands note.references one refs_part case_before in
       let c1 = c.1 in let c2 = c.2 in let c3 = c.3 in
-      short_step (dropped_one (found - 1)) (found - 1) refl (no_marks (found - 1) (omega arith) (omega arith)) (no_opens (found - 1) (omega arith))
+      short_step (put_left (found - 1)) (found - 1) refl (no_marks (found - 1) (omega arith) (omega arith)) (no_opens (found - 1) (omega arith))
       (λ r h er eh. inl (omega arith, omega arith, omega arith, omega arith))
 
   -- n references, out of the own hand
@@ -215,19 +215,19 @@ module _ {S : Type 0} (frames cpus slots id : ℕ) (v : FrameView) (f : ℕ) (in
       let less : n - 1 ≡ (n + (2 ^ 64 - 1)) % 2 ^ 64 = omega arith in
       subst F less (dite (ℕ_discrete n 1)
       (λ last. (
-        changed v f dropped_last ∷ [],
+        changed v f put_last ∷ [],
         keeps,
         tt,
-        subst (λ (x : ℕ). ReferenceRule frames cpus (set s.words f x) (set s.views id (changed v f dropped_last ∷ []))) (omega arith)
-            (frozen_rule frames cpus s.views id v at s.words f inside h dropped_last refl refl refl (omega arith) (omega arith)),
-        (changed v f dropped_last, refl, (r0, r1, r2, (λ _. refl), (λ two. let no : ⊥ = omega arith in absurd no))),
+        subst (λ (x : ℕ). ReferenceRule frames cpus (set s.words f x) (set s.views id (changed v f put_last ∷ []))) (omega arith)
+            (frozen_rule frames cpus s.views id v at s.words f inside h put_last refl refl refl (omega arith) (omega arith)),
+        (changed v f put_last, refl, (r0, r1, r2, (λ _. refl), (λ two. let no : ⊥ = omega arith in absurd no))),
       ))
       (λ more. (
-        changed v f (dropped_one (n - 1)) ∷ [],
+        changed v f (put_left (n - 1)) ∷ [],
         keeps,
         tt,
         let_go_rule frames cpus s.views id v at s.words f inside h (omega arith) one,
-        (changed v f (dropped_one (n - 1)), refl, (r0, r1, r2, (λ last. absurd (more last)), (λ _. refl))),
+        (changed v f (put_left (n - 1)), refl, (r0, r1, r2, (λ last. absurd (more last)), (λ _. refl))),
       )))
 
   pub unfreezes_at : (count : ℕ) → 1 ≤ count → count ≤ 255 → (note_of v f).own ≡ 1

@@ -5,8 +5,8 @@
 use Rattle.std.specs.Prelude.{◌≡◌, ◌≢◌, ◌⊎◌, ℕ, ◌+◌, ◌-◌, ◌<◌, ◌≤◌, List, [], ◌∷◌}
 use Rattle.atomic_table.specs.Table.{State, Step, Me, Final, Seen}
 use Rattle.frame_word.specs.declared.view.FrameView.{FrameView}
-use Rattle.frame_word.specs.Views.{note_of, changed, with_visit, in_hands, looked, held, raced, dropped_one}
-use Rattle.frame_word.specs.Views.{dropped_last, frozen, missed, unfrozen, passed_out_to, took_in}
+use Rattle.frame_word.specs.Views.{note_of, changed, with_visit, in_hands, looked, held, raced, put_left}
+use Rattle.frame_word.specs.Views.{put_last, frozen, missed, unfrozen, passed_out_to, took_in}
 use Rattle.frame_word.specs.Views.{passed_back_by_cpu, collected_from, HasNone, IsHandedOverAt}
 use Rattle.frame_word.specs.ReferenceRule.{most_references, mark_base, ReferenceRule}
 use Rattle.frame_word.specs.Seats.{first_zone_view, first_cpu_view, cpu_views}
@@ -52,7 +52,7 @@ adds v f asked found w = (found ≡ (note_of v f).seen → w ≡ changed v f hel
 -- A put: one reference less. After the last one the seat owns the frame. The frame was in no hand of the seat before.
 abbrev pub puts : FrameView → ℕ → ℕ → ℕ → FrameView → Type 0
 puts v f asked found w = ((note_of v f).references ≤ found) × (found ≤ most_references) × (in_hands (note_of v f) ≡ 0)
-    × (found ≡ 1 → w ≡ changed v f dropped_last) × (2 ≤ found → w ≡ changed v f (dropped_one (found - 1)))
+    × (found ≡ 1 → w ≡ changed v f put_last) × (2 ≤ found → w ≡ changed v f (put_left (found - 1)))
 
 -- A freeze of n. If the word is n, all n references are the seat's and are dropped, and the seat owns the frame. Else
 -- it is a miss, which found another word. The frame was in no hand of the seat.

@@ -9,7 +9,7 @@ use Rattle.frame_word.specs.declared.answers.Get.TheVariants.{Held, Zero, Raced,
 use Rattle.frame_word.specs.declared.answers.Put.{Put}
 use Rattle.frame_word.specs.declared.answers.Put.TheVariants.{Left, Last}
 use Rattle.frame_word.specs.Views.{blank, note_of, changed, with_visit, in_hands, begun, ended, looked, held, raced}
-use Rattle.frame_word.specs.Views.{dropped_one, dropped_last, frozen, missed, HasNone}
+use Rattle.frame_word.specs.Views.{put_left, put_last, frozen, missed, HasNone}
 use Rattle.frame_word.specs.ReferenceRule.{most_references, mark_base}
 
 -- which table it is, and how many frames and CPUs it has
@@ -129,8 +129,8 @@ GetAnswers s f Full t = t ≡ seat_with s f (looked most_references)
 -- had one, none is left, and the seat owns the frame.
 abbrev pub PutAnswers : KnownSeat → ℕ → Put → KnownSeat → Type 0
 PutAnswers s f (Left n) t =
-    (1 ≤ n) × (n < most_references) × (t ≡ seat_with s f (dropped_one n)) × (seat_references s f ≤ n + 1)
-PutAnswers s f Last t = (t ≡ seat_with s f dropped_last) × (seat_references s f ≡ 1)
+    (1 ≤ n) × (n < most_references) × (t ≡ seat_with s f (put_left n)) × (seat_references s f ≤ n + 1)
+PutAnswers s f Last t = (t ≡ seat_with s f put_last) × (seat_references s f ≡ 1)
 
 -- What a freeze of n references answers, and the seat after it. True: all references were these n, they are dropped,
 -- and the seat owns the frame. False: the word was another number; the note counts a miss and has that word.

@@ -89,12 +89,12 @@ abbrev pub raced : ℕ → FrameNote → FrameNote
 raced word k = record k { steps = k.steps + 1; races = k.races + 1; raced_from = k.seen; seen = word }
 
 -- put: one reference less, and n are left to all seats
-abbrev pub dropped_one : ℕ → FrameNote → FrameNote
-dropped_one n k = record k { steps = k.steps + 1; references = k.references - 1; left = n }
+abbrev pub put_left : ℕ → FrameNote → FrameNote
+put_left n k = record k { steps = k.steps + 1; references = k.references - 1; left = n }
 
 -- the last put: one reference less, none left to any seat, and the seat owns the frame
-abbrev pub dropped_last : FrameNote → FrameNote
-dropped_last k = record k { steps = k.steps + 1; references = k.references - 1; left = 0; own = 1 }
+abbrev pub put_last : FrameNote → FrameNote
+put_last k = record k { steps = k.steps + 1; references = k.references - 1; left = 0; own = 1 }
 
 -- freeze: n references less, and the seat owns the frame
 abbrev pub frozen : ℕ → FrameNote → FrameNote

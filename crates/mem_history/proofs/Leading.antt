@@ -6,7 +6,7 @@ use Rattle.std.proofs.lemmas.List.Sorted.{sum_by-IsPermutation}
 use Rattle.frame_word.specs.declared.view.FrameNote.{FrameNote}
 use Rattle.frame_word.specs.declared.answers.Put.{Put as Putted}
 use Rattle.frame_word.specs.declared.answers.Put.TheVariants as put
-use Rattle.frame_word.specs.Views.{note_of, looked, dropped_one, dropped_last}
+use Rattle.frame_word.specs.Views.{note_of, looked, put_left, put_last}
 use Rattle.frame_word.specs.Views as views
 use Rattle.frame_word.specs.Seats.{KnownTable, KnownSeat, seat_references, seat_with}
 use Rattle.frame_word.proofs.Notes.{note_here, note_else}
@@ -221,7 +221,7 @@ module _ (t : KnownTable) (w : KnownStockTable) (run : Run) (m : KnownMachine) (
       and_from _ _ (and_from _ _ (or_left (is_cpu (zone_of t) q) (may_zone_act (local_of t m c).hold q) one) (lt-ltb f t.frames (pinned_frame f pinned)))
       (le-leb 1 (references_of m.frame_seat c q f) (omega arith))
 
-  leads_left : (d : KnownCpu) (f n : ℕ) → 1 ≤ parts.times f c.pins → (pins : List ℕ) (seat : KnownSeat) → seat ≡ seat_with c.frame_seat f (dropped_one n) →
+  leads_left : (d : KnownCpu) (f n : ℕ) → 1 ≤ parts.times f c.pins → (pins : List ℕ) (seat : KnownSeat) → seat ≡ seat_with c.frame_seat f (put_left n) →
       d ≡ record c { pins = pins; frame_seat = seat } → LeadsAs t c.number (visit_state m c) (cpu_makes q (Put f) (Left n) ∷ []) (visit_state m d)
   leads_left d f n pinned pins seat changed now =
       let e : KnownCpu = record c { pins = pins; frame_seat = seat } in
@@ -230,7 +230,7 @@ module _ (t : KnownTable) (w : KnownStockTable) (run : Run) (m : KnownMachine) (
         leads = (
           record { own = inr refl; inside = refl; legal = put_legal f pinned; answered = tt },
           λ i. record (local_of t m c) {
-            references = λ r x. sym (references_changed t m c e refl some f (dropped_one n) ((local_of t m c).references q f - 1) changed
+            references = λ r x. sym (references_changed t m c e refl some f (put_left n) ((local_of t m c).references q f - 1) changed
                 (ap (λ (y : ℕ). y - 1) (sym same)) r x) i;
           },
         );
@@ -270,7 +270,7 @@ module _ (t : KnownTable) (w : KnownStockTable) (run : Run) (m : KnownMachine) (
           let same : parts.times x (c.back ++ f ∷ []) ≡ parts.times x c.back = omega arith in
           ap (λ (n : ℕ). cond (nat_le 1 n) (phase.Head unit (BackAt q)) (phase.Head unit Live)) same
 
-  leads_last : (d : KnownCpu) (f : ℕ) → 1 ≤ parts.times f c.pins → (pins : List ℕ) (seat : KnownSeat) → seat ≡ seat_with c.frame_seat f dropped_last →
+  leads_last : (d : KnownCpu) (f : ℕ) → 1 ≤ parts.times f c.pins → (pins : List ℕ) (seat : KnownSeat) → seat ≡ seat_with c.frame_seat f put_last →
       d ≡ record c { pins = pins; back = c.back ++ f ∷ []; frame_seat = seat } → LeadsAs t c.number (visit_state m c) (cpu_makes q (Put f) Last ∷ []) (visit_state m d)
   leads_last d f pinned pins seat changed now =
       let e : KnownCpu = record c { pins = pins; back = c.back ++ f ∷ []; frame_seat = seat } in
@@ -286,7 +286,7 @@ module _ (t : KnownTable) (w : KnownStockTable) (run : Run) (m : KnownMachine) (
           record { own = inr refl; inside = refl; legal = put_legal f pinned; answered = tt },
           λ i. record (local_of t m c) {
             phases = λ x. sym (last_phases f head.0 head.1 x) i;
-            references = λ r x. sym (references_changed t m c e refl some f dropped_last ((local_of t m c).references q f - 1) changed
+            references = λ r x. sym (references_changed t m c e refl some f put_last ((local_of t m c).references q f - 1) changed
                 (ap (λ (y : ℕ). y - 1) (sym same)) r x) i;
             parts = λ r. sym (parts_are r) i;
           },

@@ -9,7 +9,7 @@ use Rattle.std.proofs.lemmas.Option.{none-some}
 use Rattle.zone_blocks.specs.declared.block.Block.{Block}
 use Rattle.zone_blocks.specs.Areas.{AreMaximalBlocks}
 use Rattle.frame_word.specs.declared.view.FrameNote.{FrameNote}
-use Rattle.frame_word.specs.Views.{note_of, dropped_one, dropped_last}
+use Rattle.frame_word.specs.Views.{note_of, put_left, put_last}
 use Rattle.frame_word.specs.Seats.{KnownTable, KnownSeat, number_of, seat_with, seat_references, IsBorrowed}
 use Rattle.frame_word.proofs.Notes.{note_here, note_else}
 use Rattle.stock_word.specs.Stock.{KnownStockTable}
@@ -112,7 +112,7 @@ pub record TakesInHand (change : FrameNote → FrameNote) : Type 0 where
   pub passed_out : (k : FrameNote) → (change k).passed_out ≡ k.passed_out
   pub collected : (k : FrameNote) → (change k).collected ≡ k.collected
 
-last_in_hand : TakesInHand dropped_last
+last_in_hand : TakesInHand put_last
 last_in_hand = record { own = λ k. refl; lent = λ k. refl; references = λ k. refl; passed_out = λ k. refl; collected = λ k. refl }
 
 may_put_one : (t : KnownTable) (m : KnownMachine) (f : ℕ) → f < t.frames → seat_references m.frame_seat f ≡ 1 → (c : KnownCpu) → is_legal (local_of t m c) 0 (Put f) ≡ true
@@ -180,14 +180,15 @@ module _ (t : KnownTable) (w : KnownStockTable) (m : KnownMachine) (ok : IsConsi
 
     module _ (left : ℕ) where
       abbrev left_seat : KnownSeat
-      left_seat = seat_with m.frame_seat f (dropped_one left)
+      left_seat = seat_with m.frame_seat f (put_left left)
 
       left_fits : (g : ℕ) → g < t.frames → FitsFrameState t.cpus (note_of left_seat.view g) (home_of links g) (frame_state_at m.frame_states g)
       left_fits g within = elim (cases_eq g f) [
         | inl e ↦ subst (λ (k : ℕ). FitsFrameState t.cpus (note_of left_seat.view k) (home_of links k) (frame_state_at m.frame_states k)) (sym e)
-            (subst (λ (k : FrameNote). FitsFrameState t.cpus k (home_of links f) (frame_state_at m.frame_states f)) (sym (note_here m.frame_seat.view f (dropped_one left)))
+            (subst (λ (k : FrameNote). FitsFrameState t.cpus k (home_of links f) (frame_state_at m.frame_states f))
+            (sym (note_here m.frame_seat.view f (put_left left)))
             (let old = ok.frame_states f inside in record { own = old.own; lent = old.lent; borrower = old.borrower; references = no_reference; kept = no_home (frame_state_at m.frame_states f) }))
-        | inr ne ↦ others_fit (dropped_one left) g within ne
+        | inr ne ↦ others_fit (put_left left) g within ne
       ]
 
       pub left_consistent : IsConsistent t w (record m { links = links; lists = lists; frame_seat = left_seat })
@@ -211,7 +212,7 @@ module _ (t : KnownTable) (w : KnownStockTable) (m : KnownMachine) (ok : IsConsi
           record {
             leads = (
               zone_step s c.number (Put f) (answer.Left left) refl (may_put c) tt,
-              λ i. record s { references = λ q x. references_less m.frame_seat c f (dropped_one left) (λ k. refl) q x i },
+              λ i. record s { references = λ q x. references_less m.frame_seat c f (put_left left) (λ k. refl) q x i },
             );
             follows = follows_same _ _ _ refl;
             counts = refl;
@@ -302,16 +303,16 @@ pub record AllLeft (t : KnownTable) (w : KnownStockTable) (now : KnownMachine) (
   pub steps : LeadsForAny t now (release_steps f (Left left)) n
 
 pub left_all : (t : KnownTable) (w : KnownStockTable) (m now : KnownMachine) → m ≡ now → IsConsistent t w m → (f i : ℕ) → f < t.frames → i ≡ f → home_of now.links f ≢ None → (links : List Link) (lists : List Lru) → LeavesList i (lists_of m) (group_lists links lists) → AllLinked links lists
-    → length links ≡ length m.links → length lists ≡ 64 → (left : ℕ) (seat : KnownSeat) → seat ≡ seat_with m.frame_seat f (dropped_one left)
+    → length links ≡ length m.links → length lists ≡ 64 → (left : ℕ) (seat : KnownSeat) → seat ≡ seat_with m.frame_seat f (put_left left)
     → AllLeft t w now f left (record m { links = links; lists = lists; frame_seat = seat })
 left_all t w m now same ok f i inside is kept_now links lists left_list stand linked listed left seat put =
     let kept : home_of m.links f ≢ None = subst (λ (x : KnownMachine). home_of x.links f ≢ None) (sym same) kept_now in
     let leaves : LeavesList f (lists_of m) (group_lists links lists) = subst (λ (x : ℕ). LeavesList x (lists_of m) (group_lists links lists)) is left_list in
     let sized : length links ≡ t.frames = linked ∙ ok.sizes.links in
-    let n : KnownMachine = record m { links = links; lists = lists; frame_seat = seat_with m.frame_seat f (dropped_one left) } in
+    let n : KnownMachine = record m { links = links; lists = lists; frame_seat = seat_with m.frame_seat f (put_left left) } in
     let all : AllLeft t w m f left n = record {
       consistent = left_consistent t w m ok f inside kept links lists leaves stand sized listed left;
-      visit = λ c visit. visit_stays t m n c f (dropped_one left) refl (λ k. refl) (λ k. refl) (λ k. refl) visit;
+      visit = λ c visit. visit_stays t m n c f (put_left left) refl (λ k. refl) (λ k. refl) (λ k. refl) visit;
       steps = left_runs t w m ok f inside kept links lists leaves stand sized listed left;
     } in
     subst (λ (x : KnownMachine × KnownSeat). AllLeft t w x.0 f left (record m { links = links; lists = lists; frame_seat = x.1 })) (λ j. (same j, sym put j)) all
@@ -417,7 +418,7 @@ pub record AllReturned (t : KnownTable) (w : KnownStockTable) (now : KnownMachin
 
 pub returned_all : (t : KnownTable) (w : KnownStockTable) (m now : KnownMachine) → m ≡ now → IsConsistent t w m → (f i : ℕ)
     → f < t.frames → i ≡ f → home_of now.links f ≢ None → (links : List Link) (lists : List Lru) → LeavesList i (lists_of m) (group_lists links lists)
-    → AllLinked links lists → length links ≡ length m.links → length lists ≡ 64 → (seat : KnownSeat) → seat ≡ seat_with m.frame_seat f dropped_last
+    → AllLinked links lists → length links ≡ length m.links → length lists ≡ 64 → (seat : KnownSeat) → seat ≡ seat_with m.frame_seat f put_last
     → (unit : ChargedUnit) → frame_state_at m.frame_states i ≡ Head unit
     → (before free : List Bool) (blocks : List Block) (frame_states : List FrameState) (ledger : Ledger) (counts : Counts)
     → before ≡ free_of m.frame_states → FreesFrames i (2 ^ unit.order) m.frame_states frame_states → GivesFrames before (record { at = i; order = unit.order }) free
@@ -433,7 +434,7 @@ pub returned_all : (t : KnownTable) (w : KnownStockTable) (m now : KnownMachine)
     })
 returned_all t w m now same ok f i inside is kept_now links lists left_list stand linked listed seat put unit head before free blocks frame_states
     ledger counts was frees_i gives_i areas_free uncharged counted =
-    let back = back_all t w m now same ok f i inside is kept_now links lists left_list stand linked listed dropped_last last_in_hand seat put
+    let back = back_all t w m now same ok f i inside is kept_now links lists left_list stand linked listed put_last last_in_hand seat put
     (Put f) answer.Last (λ c held. zone_step (local_of t m c) c.number (Put f) answer.Last refl (may_put_one t m f inside held c) tt) refl (λ c. refl)
     (one_more_last_put m.counts) (λ c. refl)
     unit head before free blocks frame_states ledger counts was frees_i gives_i areas_free uncharged (rw counted (balanced_last_put m.counts ok.balances)) counted in
@@ -452,7 +453,7 @@ returned_all t w m now same ok f i inside is kept_now links lists left_list stan
           ledger = (uncharged ∙ ap (λ (x : KnownMachine). with_uncharge x.ledger unit.group (2 ^ unit.order)) same) j;
           links = links;
           lists = lists;
-          frame_seat = (put ∙ ap (λ (x : KnownMachine). seat_with x.frame_seat f dropped_last) same) j;
+          frame_seat = (put ∙ ap (λ (x : KnownMachine). seat_with x.frame_seat f put_last) same) j;
           counts = (counted ∙ ap (λ (x : KnownMachine). with_last_put x.counts) same) j;
           watch = m.watch;
         };

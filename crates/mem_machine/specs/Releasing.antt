@@ -1,7 +1,7 @@
 -- How a kept unit is released: it leaves its list, and is freed if nobody else has a reference.
 use Rattle.std.specs.Prelude.{◌≡◌, ℕ, ◌^◌, ◌≤◌, [], ◌∷◌}
 use Rattle.zone_blocks.specs.Areas.{AreMaximalBlocks}
-use Rattle.frame_word.specs.Views.{dropped_one, dropped_last}
+use Rattle.frame_word.specs.Views.{put_left, put_last}
 use Rattle.frame_word.specs.Seats.{seat_with}
 use Rattle.group_charge.specs.Charges.{with_uncharge}
 use Rattle.step_rules.specs.declared.phase.ChargedUnit.{ChargedUnit}
@@ -25,7 +25,7 @@ pub record LeavesReferences (frame left : ℕ) (before after : KnownMachine) : T
   pub machine : after ≡ record before {
     links = after.links;
     lists = after.lists;
-    frame_seat = seat_with before.frame_seat frame (dropped_one left);
+    frame_seat = seat_with before.frame_seat frame (put_left left);
     watch = after.watch;
   }
 
@@ -43,7 +43,7 @@ pub record ReturnsUnit (frame : ℕ) (before after : KnownMachine) : Type 0 wher
     ledger = with_uncharge before.ledger unit.group (2 ^ unit.order);
     links = after.links;
     lists = after.lists;
-    frame_seat = seat_with before.frame_seat frame dropped_last;
+    frame_seat = seat_with before.frame_seat frame put_last;
     counts = with_last_put before.counts;
     watch = after.watch;
   }

@@ -6,7 +6,7 @@ use Rattle.std.proofs.lemmas.Bool.{cases_eq, false≢true}
 use Rattle.std.proofs.lemmas.Option.{none-some}
 use Rattle.std.proofs.lemmas.List.{append_assoc, append-nil}
 use Rattle.frame_word.specs.declared.view.FrameNote.{FrameNote}
-use Rattle.frame_word.specs.Views.{dropped_one, dropped_last}
+use Rattle.frame_word.specs.Views.{put_left, put_last}
 use Rattle.frame_word.specs.Seats.{KnownTable, KnownSeat, IsOpen, NothingPasses, LentIsBorrowed, misses_of, seat_with}
 use Rattle.frame_word.proofs.Notes.{note_here, note_else}
 use Rattle.stock_word.specs.Stock.{KnownStockSeat, KnownStockTable, account_of}
@@ -130,14 +130,14 @@ pub release_lets : (t : KnownTable) (m n : KnownMachine) (f : ℕ) (left : Relea
 release_lets t m n f (Left left) is visit = off_list t m n f is.list (ap (λ (x : KnownMachine). x.ledger.groups) is.machine)
     (λ g. let e = ap (λ (x : KnownMachine). current_of x.ledger g) is.machine in omega (arith, e))
     (ap (λ (x : KnownMachine). x.frame_seat.view.opened) is.machine)
-    (λ g. ap (λ (x : KnownMachine). misses_of x.frame_seat g) is.machine ∙ misses_put m.frame_seat f g (dropped_one left) (λ k. refl)) visit
+    (λ g. ap (λ (x : KnownMachine). misses_of x.frame_seat g) is.machine ∙ misses_put m.frame_seat f g (put_left left) (λ k. refl)) visit
 release_lets t m n f Returned is visit = off_list t m n f is.list (ap (λ (x : KnownMachine). x.ledger.groups) is.machine)
     (λ g.
     let e = ap (λ (x : KnownMachine). current_of x.ledger g) is.machine in
     let low = current_falls m.ledger (Some is.unit.group) (2 ^ is.unit.order) g in
     omega (arith, e, low))
     (ap (λ (x : KnownMachine). x.frame_seat.view.opened) is.machine)
-    (λ g. ap (λ (x : KnownMachine). misses_of x.frame_seat g) is.machine ∙ misses_put m.frame_seat f g dropped_last (λ k. refl)) visit
+    (λ g. ap (λ (x : KnownMachine). misses_of x.frame_seat g) is.machine ∙ misses_put m.frame_seat f g put_last (λ k. refl)) visit
 
 release_stocks : (m n : KnownMachine) (f : ℕ) (left : Released) → Releases f left m n → KeepsStocks m n
 release_stocks m n f (Left left) is = record { stock_seat = ap (λ (x : KnownMachine). x.stock_seat) is.machine; killed = ap (λ (x : KnownMachine). x.killed) is.machine }

@@ -3,7 +3,7 @@ use Rattle.std.proofs.Common.{◌≡◌, ℕ, Bool, true, false, Option, Some, N
 use Rattle.std.specs.Prelude.{Result, Ok, Err}
 use Rattle.std.proofs.lemmas.Bool.{cases_eq, cases_lt}
 use Rattle.frame_word.specs.Seats.{misses_of}
-use Rattle.frame_word.specs.Views.{dropped_one, dropped_last, passed_out_to}
+use Rattle.frame_word.specs.Views.{put_left, put_last, passed_out_to}
 use Rattle.group_tree.specs.declared.fault.Fault.TheVariants as fault
 use Rattle.group_charge.specs.Charges.{current_of}
 use Rattle.control_files.specs.declared.file.File.{File}
@@ -144,7 +144,7 @@ returns_counts sizes f call h =
     let n = call.after.machine in
     let first = release_steps f released.Returned in
     let back = counts_none t m h.freed first (record { no_kill = refl; no_miss = λ g. refl })
-    (λ g. ap (λ (k : KnownMachine). misses_of k.frame_seat g) h.returns.machine ∙ misses_put m.frame_seat f g dropped_last (λ k. refl)) in
+    (λ g. ap (λ (k : KnownMachine). misses_of k.frame_seat g) h.returns.machine ∙ misses_put m.frame_seat f g put_last (λ k. refl)) in
     let listed : CountsMisses (transition t h.freed h.listing n) = elim (cases_eq h.returns.unit.order 0) [
       | inl single ↦ lists_counts sizes f (transition t (visit_state h.freed call.before.cpu) h.listing call.after) (h.single single)
       | inr block ↦ counts_rest t h.freed n h.listing (h.block block).machine (h.block block).steps_are
@@ -157,7 +157,7 @@ releases_counts sizes f (reply.Left left) call h =
     let n = call.after.machine in
     let steps = release_steps f (released.Left left) in
     counts_as call.table m n call.steps steps h.steps_are (counts_none call.table m n steps (record { no_kill = refl; no_miss = λ g. refl })
-    (λ g. ap (λ (k : KnownMachine). misses_of k.frame_seat g) h.leaves.machine ∙ misses_put m.frame_seat f g (dropped_one left) (λ k. refl)))
+    (λ g. ap (λ (k : KnownMachine). misses_of k.frame_seat g) h.leaves.machine ∙ misses_put m.frame_seat f g (put_left left) (λ k. refl)))
 releases_counts sizes f reply.Returned call h = returns_counts sizes f call h
 releases_counts sizes f (reply.Refused fault.NotKept) call h = heads_none f (of_machine call) h.does
 releases_counts sizes f other call h = absurd h
