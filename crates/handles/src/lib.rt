@@ -2,8 +2,9 @@
 //! that it serves.
 //!
 //! A boot's parts carry the name of its tables (`BootName`), and a struct that crosses to C can't have such a name. So
-//! `RawBoot` is a pointer to the parts in a box, and remembers which tables they are of. Only `serve_raw` reaches
-//! through it: it picks a name for those tables and calls `serve`, which is plain code over the box.
+//! `RawBoot` is a pointer to the parts in a box, and remembers which tables they are of. Only `serve_raw`, `call_raw`
+//! and `show_raw` reach through it: each picks a name for those tables and calls plain code over the box (`serve`,
+//! `serve_call`, `show_file`).
 #![tactic(auto)]
 
 pub mod calls;

@@ -1,5 +1,5 @@
 //! A session with a boot: each line is answered before the next one is read. An answer is what `replay` writes for the
-//! line, with an empty line behind it. A bad line is told why it is bad, and changes nothing.
+//! line, with an empty line behind it. A bad line is answered with the reason, and changes nothing.
 #![tactic(auto)]
 
 pub mod fault;

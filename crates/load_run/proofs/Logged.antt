@@ -14,7 +14,8 @@ use Rattle.script_replay.specs.Terms.{Terms, terms}
 use Rattle.script_replay.proofs.InOrder.{in_order_line}
 use Rattle.script_replay.proofs.Seeing.{line_seen}
 use Rattle.load_run.specs.Ending.{LeavesNothing}
-use Rattle.load_run.specs.Logs.{GrowsBy, LogsAll, LogsAllAndEnd, LogsLine, line_comment}
+use Rattle.script_traces.specs.Traces.{GrowsBy}
+use Rattle.load_run.specs.Logs.{LogsAll, LogsAllAndEnd, LogsLine, line_comment}
 
 -- what comes from two facts of a good result
 pub on_both : {T E : Type 0} (r : Result T E) (P Q R : Type 0) → (P → Q → R) → OnOk r P → OnOk r Q → OnOk r R
@@ -64,7 +65,7 @@ line_logged on texts line s e answer one seen old mid new front at whole added =
     ∙ wrote_behind s.locked.machine.watch one.steps e.locked.machine.watch (line_watched on line s e answer one) whole in
     record {
       text = comment ++ steps_text one.steps;
-      is = record { answer = answer; serves = one; log_is = refl };
+      so = record { answer = answer; serves = one; log_is = refl };
       added = added ∙ ap (λ (l : List ℕ). mid ++ l) behind ∙ ap (λ (l : List ℕ). l ++ steps_text one.steps) front
           ∙ append_assoc old comment (steps_text one.steps);
     }
@@ -73,7 +74,7 @@ line_logged on texts line s e answer one seen old mid new front at whole added =
 
 pub logs_start : (on : Terms) (texts : List (List ℕ)) (lines : List Line) (s : SystemState) (old : List ℕ)
     → GrowsBy (λ log. InOrder (LogsLine on texts) (take 0 lines) s s log) old old
-logs_start on texts lines s old = record { text = []; is = (refl, refl); added = sym (append-nil old) }
+logs_start on texts lines s old = record { text = []; so = (refl, refl); added = sym (append-nil old) }
 
 pub logs_more : (on : Terms) (texts : List (List ℕ)) (lines : List Line) (i : ℕ) (default : Line) (s m e : SystemState) (old mid new : List ℕ)
     → i < length lines → GrowsBy (λ log. InOrder (LogsLine on texts) (take i lines) s m log) old mid
@@ -81,7 +82,7 @@ pub logs_more : (on : Terms) (texts : List (List ℕ)) (lines : List Line) (i : 
     → GrowsBy (λ log. InOrder (LogsLine on texts) (take (i + 1) lines) s e log) old new
 logs_more on texts lines i default s m e old mid new inside so_far one = record {
   text = so_far.text ++ one.text;
-  is = in_order_line (LogsLine on texts) s m e lines i default so_far.text (so_far.text ++ one.text) inside so_far.is one.text one.is refl;
+  so = in_order_line (LogsLine on texts) s m e lines i default so_far.text (so_far.text ++ one.text) inside so_far.so one.text one.so refl;
   added = one.added ∙ ap (λ (l : List ℕ). l ++ one.text) so_far.added ∙ append_assoc old so_far.text one.text;
 }
 
@@ -100,10 +101,10 @@ end_logged t w texts lines s e held emptied seen old mid new leaves at whole add
     let ending = front ++ steps_text leaves.steps in
     record {
       text = served.text ++ ending;
-      is = record {
+      so = record {
         end = e;
         served_log = served.text;
-        served = served.is;
+        served = served.so;
         ending = ending;
         ends = record { held = held; emptied = emptied; leaves = leaves; log_is = refl };
         log_is = refl;

@@ -44,12 +44,6 @@ pub record LogsLine (terms : Terms) (texts : List (List ℕ)) (line : Line) (bef
 abbrev pub LogsAll : Terms → List (List ℕ) → List Line → (before after : SystemState) (log : List ℕ) → Type 0
 LogsAll terms texts lines before after log = InOrder (LogsLine terms texts) lines before after log
 
--- a log has grown by a text of which `is_log` holds
-pub record GrowsBy (is_log : List ℕ → Type 0) (before after : List ℕ) : Type 0 where
-  pub text : List ℕ
-  pub is : is_log text
-  pub added : after ≡ before ++ text
-
 -- the log of the end: a comment, and the steps that leave nothing at any CPU
 pub record LogsEnd (table : KnownTable) (stock_table : KnownStockTable) (before : SystemState)
     (log : List ℕ) : Type 0 where

@@ -31,8 +31,7 @@ fn charge_block<N: BootName>(
 ) -> Result<Frame, AllocFault>
     requires visit { Visits N.frames (visit_state machine.old cpu.old) }
     requires may_charge { MayCharge machine.old group (2 ^ order) }
-    requires none_fresh { cpu.old.fresh ≡ [] }
-    requires none_back { cpu.old.back ≡ [] }
+    requires settled { IsSettled cpu.old }
     ensures charges { BySteps N.frames (ChargesBlock group order result)
         (visit_state machine.old cpu.old) (visit_state machine.new cpu.new) }
     ensures cpu { cpu.new ≡ cpu.old }
@@ -61,8 +60,7 @@ fn reclaim_until_taken<N: BootName>(
 ) -> Result<Frame, AllocFault>
     requires visit { Visits N.frames (visit_state machine.old cpu.old) }
     requires room { MayHaveBlock machine.old group order }
-    requires none_fresh { cpu.old.fresh ≡ [] }
-    requires none_back { cpu.old.back ≡ [] }
+    requires settled { IsSettled cpu.old }
     ensures takes { BySteps N.frames (MakesTakeRounds group order result)
         (visit_state machine.old cpu.old) (visit_state machine.new cpu.new) }
     ensures cpu { cpu.new ≡ cpu.old }
@@ -91,8 +89,7 @@ fn note_and_reclaim_until_taken<N: BootName>(
 ) -> Result<Frame, AllocFault>
     requires visit { Visits N.frames (visit_state machine.old cpu.old) }
     requires room { MayHaveBlock machine.old group order }
-    requires none_fresh { cpu.old.fresh ≡ [] }
-    requires none_back { cpu.old.back ≡ [] }
+    requires settled { IsSettled cpu.old }
     ensures takes { BySteps N.frames (TakesInRounds group order result)
         (visit_state machine.old cpu.old) (visit_state machine.new cpu.new) }
     ensures cpu { cpu.new ≡ cpu.old }

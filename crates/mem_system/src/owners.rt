@@ -15,7 +15,7 @@ pub(crate) fn report_place<N: BootName>(
     frame: u32,
 ) -> Outcome
     requires { frame < N.frames.frames }
-    ensures told { ReportsPlace machine.now frame (reply_of machine.now.ledger result) }
+    ensures place { ReportsPlace machine.now frame (reply_of machine.now.ledger result) }
     ensures groups { HasItsGroups machine.now.ledger result }
 {
     let frame = tables.frames.frame(frame).unwrap();

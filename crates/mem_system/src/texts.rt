@@ -64,7 +64,7 @@ impl<N: BootName> System<N> {
         alloc: Global,
         cpu: &mut Cpu<N>,
     ) -> Result<Vec<u8>, AllocError>
-        ensures told { ReadsUnderLock N.frames N.stocks
+        ensures text { ReadsUnderLock N.frames N.stocks
             (λ machine. IfOk result (λ text. text.items ≡ show_text machine)) cpu.old cpu.new }
         ensures settled { IsSettled cpu.new }
     {
@@ -80,7 +80,7 @@ impl<N: BootName> System<N> {
         alloc: Global,
         cpu: &mut Cpu<N>,
     ) -> Result<Vec<u8>, AllocError>
-        ensures told { ReadsUnderLock N.frames N.stocks
+        ensures text { ReadsUnderLock N.frames N.stocks
             (λ machine. IfOk result (λ text. text.items ≡ blocks_text machine.blocks)) cpu.old cpu.new }
         ensures settled { IsSettled cpu.new }
     {
@@ -96,7 +96,7 @@ impl<N: BootName> System<N> {
         cpu: &mut Cpu<N>,
         text: &mut String,
     ) -> Result<(), AllocError>
-        ensures told { ReadsUnderLock N.frames N.stocks (λ machine.
+        ensures text { ReadsUnderLock N.frames N.stocks (λ machine.
             IfOk result (λ _. string_bytes text.new ≡ string_bytes text.old ++ show_text machine)) cpu.old cpu.new }
         ensures settled { IsSettled cpu.new }
     {
@@ -115,7 +115,7 @@ impl<N: BootName> System<N> {
         cpu: &mut Cpu<N>,
         text: &mut String,
     ) -> Result<(), AllocError>
-        ensures told { ReadsUnderLock N.frames N.stocks (λ machine.
+        ensures text { ReadsUnderLock N.frames N.stocks (λ machine.
             IfOk result (λ _. string_bytes text.new ≡ string_bytes text.old ++ blocks_text machine.blocks))
             cpu.old cpu.new }
         ensures settled { IsSettled cpu.new }

@@ -4,8 +4,8 @@ use cpu_part::Fast;
 use frame_word::{Get, Put};
 use mem_system::Outcome;
 
-/// What a command of a script is answered, without texts. `show` and `blocks`, whose answers are texts of any length,
-/// have none.
+/// What a command of a script is answered, without texts. `show`, `blocks`, `stock` and `units`, whose answers are
+/// texts of any length, have none.
 #[derive(Clone, Copy, PartialEq, Eq)]
 pub enum AnswerValue {
     /// The outcome of what was served under the lock, or refused before.

@@ -45,7 +45,7 @@ pub extern "C" fn tempolemon_boot(alloc: Global, sizes: &Sizes, handle: &mut Han
     }
 }
 
-/// Ends the boot, and tells what it counted. Pins that are still held are put first.
+/// Ends the boot, and reports what it counted. Pins that are still held are put first.
 #[unsafe(no_mangle)]
 pub extern "C" fn tempolemon_end(alloc: Global, handle: &mut Handle, report: &mut Report) -> u8
     ensures statuses { IsEndStatus result }

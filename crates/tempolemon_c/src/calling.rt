@@ -18,7 +18,7 @@ use mem_system::Outcome;
 use script_replay::AnswerValue;
 use std::alloc::Global;
 
-/// Serves a call of the CPU of this number, and tells the host.
+/// Serves a call of the CPU of this number, and writes the result for the host.
 ///
 /// It is inlined down to the part of the CPU, and so each call of a host has the steps of that call alone.
 #[inline(always)]
@@ -62,7 +62,7 @@ pub(crate) fn serve_into(
     }
 }
 
-// Tells the answer, and writes the text of a file into the buffer, if that has room for it. The fields are written
+// Writes the answer, and the text of a file into the buffer, if that has room for it. The fields are written
 // one by one: a whole `TypedResult` is copied with the bytes between its fields, which the CPU has to wait for.
 #[inline(always)]
 #[tactic(auto, using(crate::proofs::Showing::plain_result))]
@@ -90,8 +90,8 @@ fn put_value(
     }
 }
 
-// Tells what a file shows, and writes its text into the buffer, if that has room for it. Here alone there is room for
-// a text, so that no other call clears that room.
+// Writes the kind of what a file shows, and its text into the buffer, if that has room for it. Here alone there is room
+// for a text, so that no other call clears that room.
 #[inline(never)]
 #[tactic(auto, using(crate::proofs::Numbers::number_low, crate::proofs::Showing::stays, crate::proofs::Showing::tells))]
 fn put_file(

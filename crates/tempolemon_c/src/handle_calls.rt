@@ -20,7 +20,7 @@ use std::alloc::Global;
 use zone_sizes::config::Config;
 
 impl Handle {
-    /// Whether a boot stands behind it.
+    /// Whether there is a boot behind it.
     pub fn is_live(&self) -> bool
         ensures { IsTrue result ↔ IsSome (behind self.now) }
     {

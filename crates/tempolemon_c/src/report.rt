@@ -29,7 +29,7 @@ pub struct Report {
 impl Report {
     ghost use Rattle.tempolemon_c.specs.Handles.{ended_of};
 
-    /// What the boot told.
+    /// The report of the end of a boot.
     pub fn of(ended: BootEnd) -> Report
         ensures { ended_of result ≡ ended }
     {

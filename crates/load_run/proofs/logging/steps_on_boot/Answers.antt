@@ -32,7 +32,7 @@ returns g c =
           cpus = c.in_ok-locked.ensures.cpus;
         };
         log = grown.text;
-        logs = subst (λ (l : List (List ℕ)). LogsAllAndEnd t w l c.args.lines.now start grown.text) texts grown.is;
+        logs = subst (λ (l : List (List ℕ)). LogsAllAndEnd t w l c.args.lines.now start grown.text) texts grown.so;
         text_is = grown.added ∙ ap (λ (l : List ℕ). l ++ grown.text) zone ∙ append_assoc (zone_text sizes.frames sizes.cpus) (10 ∷ []) grown.text;
       };
     }

@@ -66,13 +66,12 @@ note_and_reclaim_until_taken-requires-clause-room g c =
     none_leaves g.N.BootName.frames c.args.group c.args.order c.drain_list.new.self c.take_block.new.self c.drain_list.new.cpu
     c.take_block.new.cpu none (ap (λ l. is_killed l c.args.group) part.killed ∙ c.requires.room.charges.alive) there fits
 
-pub note_and_reclaim_until_taken-requires-clause-none_fresh : goal.note_and_reclaim_until_taken-requires-clause-none_fresh
-note_and_reclaim_until_taken-requires-clause-none_fresh g c =
-    ap (λ (e : KnownCpu). e.fresh) c.in-Err-NoBlock.ensures.cpu ∙ (back_part _ _ _ _ _ c.drain_list.ensures.takes).fresh ∙ c.requires.settled.0
-
-pub note_and_reclaim_until_taken-requires-clause-none_back : goal.note_and_reclaim_until_taken-requires-clause-none_back
-note_and_reclaim_until_taken-requires-clause-none_back g c =
-    ap (λ (e : KnownCpu). e.back) c.in-Err-NoBlock.ensures.cpu ∙ (back_part _ _ _ _ _ c.drain_list.ensures.takes).back ∙ c.requires.settled.1
+pub note_and_reclaim_until_taken-requires-clause-settled : goal.note_and_reclaim_until_taken-requires-clause-settled
+note_and_reclaim_until_taken-requires-clause-settled g c =
+    let part = back_part _ _ _ _ _ c.drain_list.ensures.takes in (
+      ap (λ (e : KnownCpu). e.fresh) c.in-Err-NoBlock.ensures.cpu ∙ part.fresh ∙ c.requires.settled.0,
+      ap (λ (e : KnownCpu). e.back) c.in-Err-NoBlock.ensures.cpu ∙ part.back ∙ c.requires.settled.1,
+    )
 
 pub returns-in-Err-NoBlock-clause-takes : goal.returns-in-Err-NoBlock-clause-takes
 returns-in-Err-NoBlock-clause-takes g c =

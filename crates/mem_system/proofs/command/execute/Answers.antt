@@ -42,7 +42,7 @@ pub returns-in-Owner-clause-executed : goal.returns-in-Owner-clause-executed
 returns-in-Owner-clause-executed g c =
     rw c.in-Owner.is (record {
       steps = [];
-      does = (c.report_place.ensures.told, record { machine = refl; cpu = refl; steps_are = refl });
+      does = (c.report_place.ensures.place, record { machine = refl; cpu = refl; steps_are = refl });
       makes = makes_none g.N.BootName.frames c.args.cpu.now.number (visit_state c.args.machine.now c.args.cpu.now);
     })
 

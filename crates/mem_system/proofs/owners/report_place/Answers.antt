@@ -6,8 +6,8 @@ use Rattle.mem_machine.proofs.Keepers.{keeper_there}
 use Rattle.mem_system.proofs.Telling.{path_told}
 use Rattle.mem_system.proofs.owners.report_place.Goals as goal
 
-pub returns-in-Charged-clause-told : goal.returns-in-Charged-clause-told
-returns-in-Charged-clause-told g c =
+pub returns-in-Charged-clause-place : goal.returns-in-Charged-clause-place
+returns-in-Charged-clause-place g c =
     let inside : c.unwrap-frame.result < g.N.BootName.frames.frames = search rules in
     let legal = subst AreCharges c.charges.ensures c.tree-groups.ensures.legal in
     let there = keeper_there g.N.BootName.frames g.N.BootName.stocks c.args.machine.now c.unwrap-frame.result c.in-Charged.group
@@ -24,5 +24,5 @@ returns-in-Charged-clause-groups g c =
     keeper_there g.N.BootName.frames g.N.BootName.stocks c.args.machine.now c.unwrap-frame.result c.in-Charged.group c.in-Charged.ensures.consistent legal
     inside (sym c.in-Charged.ensures.place)
 
-pub returns-in-Lent-clause-told : goal.returns-in-Lent-clause-told
-returns-in-Lent-clause-told g c = search rules
+pub returns-in-Lent-clause-place : goal.returns-in-Lent-clause-place
+returns-in-Lent-clause-place g c = search rules

@@ -4,7 +4,7 @@ use Rattle.script_replay.proofs.visit_answers.visit_blocks.Goals as goal
 
 pub returns : goal.returns
 returns g c =
-    let told = c.blocks_into.ensures.told in record {
+    let told = c.blocks_into.ensures.text in record {
       text = blocks_text told.left.machine.blocks;
       so = record {
         found = told.found;

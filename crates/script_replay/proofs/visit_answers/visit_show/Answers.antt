@@ -4,7 +4,7 @@ use Rattle.script_replay.proofs.visit_answers.visit_show.Goals as goal
 
 pub returns : goal.returns
 returns g c =
-    let told = c.show_into.ensures.told in record {
+    let told = c.show_into.ensures.text in record {
       text = show_text told.left.machine;
       so = record {
         found = told.found;

@@ -5,7 +5,7 @@ use Rattle.script_replay.proofs.visit_answers.visit_stock.Goals as goal
 
 pub returns : goal.returns
 returns g c =
-    let told = c.stock_into.ensures.told in record {
+    let told = c.stock_into.ensures.text in record {
       text = stock_line_text (visit_state_of (locked_state told.settled c.stock_into.new.cpu));
       so = record {
         found = told.found;

@@ -11,7 +11,7 @@ use Rattle.script_replay.proofs.visit_answers.visit_units.Goals as goal
 
 pub returns-in_err-is_there : goal.returns-in_err-is_there
 returns-in_err-is_there g c =
-    let told = c.units_into.ensures.told in
+    let told = c.units_into.ensures.text in
     let seen = c.units_into in
     let o = number_at told.settled.machine.ledger.groups c.args.path.now in
     let refusal = answer_text (Served (Refused NoGroup)) in
@@ -32,7 +32,7 @@ returns-in_err-is_there g c =
 
 pub returns-then-is_there : goal.returns-then-is_there
 returns-then-is_there g c =
-    let told = c.units_into.ensures.told in
+    let told = c.units_into.ensures.text in
     let seen = c.units_into in
     let o = number_at told.settled.machine.ledger.groups c.args.path.now in
     let refusal = answer_text (Served (Refused NoGroup)) in
@@ -53,7 +53,7 @@ returns-then-is_there g c =
 
 pub returns : goal.returns
 returns g c =
-    let told = c.units_into.ensures.told in
+    let told = c.units_into.ensures.text in
     let seen = c.units_into in
     let o = number_at told.settled.machine.ledger.groups c.args.path.now in
     let refusal = answer_text (Served (Refused NoGroup)) in

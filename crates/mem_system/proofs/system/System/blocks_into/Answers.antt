@@ -1,8 +1,8 @@
 use Rattle.std.proofs.Common.{rules}
 use Rattle.mem_system.proofs.system.System.blocks_into.Goals as goal
 
-pub returns-clause-told : goal.returns-clause-told
-returns-clause-told g c = record {
+pub returns-clause-text : goal.returns-clause-text
+returns-clause-text g c = record {
   found = c.deref_mut-locked.result.now;
   left = c.settle.new.locked;
   sound_before = record {

@@ -2,9 +2,9 @@ use Rattle.std.proofs.Common.{◌∙◌, ◌++◌, List, ℕ, ap, rules}
 use Rattle.machine_texts.specs.Show.{show_text}
 use Rattle.mem_system.proofs.system.System.show_text.Goals as goal
 
-pub returns-in_err-show_into-clause-told : goal.returns-in_err-show_into-clause-told
-returns-in_err-show_into-clause-told g c =
-    let tells = c.in_err-show_into.ensures.told in record {
+pub returns-in_err-show_into-clause-text : goal.returns-in_err-show_into-clause-text
+returns-in_err-show_into-clause-text g c =
+    let tells = c.in_err-show_into.ensures.text in record {
       found = tells.found;
       left = tells.left;
       sound_before = tells.sound_before;
@@ -13,9 +13,9 @@ returns-in_err-show_into-clause-told g c =
       told = search rules;
     }
 
-pub returns-clause-told : goal.returns-clause-told
-returns-clause-told g c =
-    let tells = c.in_ok-show_into.ensures.told in record {
+pub returns-clause-text : goal.returns-clause-text
+returns-clause-text g c =
+    let tells = c.in_ok-show_into.ensures.text in record {
       found = tells.found;
       left = tells.left;
       sound_before = tells.sound_before;

@@ -8,8 +8,8 @@ use Rattle.mem_system.specs.Shown.{SettlesCaller}
 use Rattle.mem_system.specs.Visits.{locked_state}
 use Rattle.mem_system.proofs.system.System.stock_into.Goals as goal
 
-pub returns-clause-told : goal.returns-clause-told
-returns-clause-told g c =
+pub returns-clause-text : goal.returns-clause-text
+returns-clause-text g c =
     let found = c.deref_mut-locked.result.now in
     let settled = c.settle.new.locked in
     let line = c.write_own_stock-told in record {

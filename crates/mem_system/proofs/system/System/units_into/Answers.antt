@@ -1,7 +1,7 @@
 use Rattle.mem_system.proofs.system.System.units_into.Goals as goal
 
-pub returns-clause-told : goal.returns-clause-told
-returns-clause-told g c = record {
+pub returns-clause-text : goal.returns-clause-text
+returns-clause-text g c = record {
   found = c.deref_mut-locked.result.now;
   settled = c.settle.new.locked;
   left = c.write_units_at-told.new.locked;
