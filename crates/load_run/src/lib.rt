@@ -1,8 +1,12 @@
-//! The program `memcg` without its process: from the words of the command line and the bytes of a script to answers, or
-//! from the bytes of a log to what it is. With status 0 the output got all that a new boot answers to the script, or
-//! that the log is legal. Else the output got that the log isn't legal; or a beginning of either if it failed itself,
-//! or nothing, and the fault writer got the cause, as far as it takes it. Over streams of unknown bytes the status
-//! alone is promised.
+//! The program `memcg` without its process: from the words of the command line and the bytes of an input to an output
+//! and a status. It answers a script by one boot (`replay`) or by threads (`run`), writes the steps or the trace of a
+//! replay (`--steps`, `--trace`), answers the lines of a session one by one (`serve`), checks a log (`check`), lints a
+//! script (`lint`), or writes its version.
+//!
+//! With status 0 the output got the whole result, and nothing was found against the log or the script. Status 3 is the
+//! same with `--strict`, if some answer is a refusal. With status 1 the log isn't legal, the lint found something, or
+//! the work failed; with 2 the words, the script, the log or the sizes are refused. The fault writer gets the cause of
+//! a failure or a refusal, as far as it takes it. Over streams of unknown bytes the status alone is promised.
 #![tactic(auto)]
 
 pub mod boot_end;
