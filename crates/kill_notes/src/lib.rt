@@ -3,4 +3,4 @@
 
 pub mod note;
 pub mod notes;
-mod runs;
+mod spans;

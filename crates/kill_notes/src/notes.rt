@@ -2,32 +2,32 @@
 
 ghost use Rattle.std.specs.Prelude.{◌≡◌, IfOk};
 ghost use Rattle.kill_notes.specs.Notes.{forgotten, joined, last_noted, no_notes, noted};
-ghost use Rattle.kill_notes.specs.Notes.{unit_noted, with_new_run, with_run};
+ghost use Rattle.kill_notes.specs.Notes.{unit_noted, with_new_span, with_span};
 
 use crate::note::Note;
-use crate::runs::{is_run, joined, last_frame};
+use crate::spans::{is_span, joined, last_frame};
 use group_tree::group::GroupId;
 use std::alloc::{AllocError, Global};
 use std::marker::Model;
 
-/// How many notes are kept at most. One command makes at most 909 that are no runs of freed units and no rounds of the
+/// How many notes are kept at most. One command makes at most 909 that are no spans of freed units and no rounds of the
 /// zone. For each of 8 limits on a path these are the limit, a stock of each of 64 CPUs, 16 rounds and an `oom`. There
 /// is a `Kill` for each of 63 groups, and a victim and a `GroupKill` each time that the killer chooses, at most 63
 /// times. And the 64 stocks are drained as their groups die. Rounds of the zone are 16, with one note before them. So
-/// all of these fit beside `MOST_RUNS` runs.
+/// all of these fit beside `MOST_SPANS` spans.
 pub const MOST_NOTES: usize = 2_048;
 
-/// How many of the notes are runs of freed units at most.
-pub const MOST_RUNS: usize = 1_024;
+/// How many of the notes are spans of freed units at most.
+pub const MOST_SPANS: usize = 1_024;
 
-/// The notes of a visit, the oldest first; at most the first 2,048 of them, and at most the first 1,024 runs of freed
+/// The notes of a visit, the oldest first; at most the first 2,048 of them, and at most the first 1,024 spans of freed
 /// units.
 #[derive(Drop)]
 pub struct Notes {
     // Room for all of them is reserved.
     notes: Vec<Note>,
-    // How many of them are runs.
-    runs: usize,
+    // How many of them are spans.
+    spans: usize,
     // How many freed frames no note tells of.
     left_out: u64,
     // Whether freed units are noted.
@@ -36,13 +36,13 @@ pub struct Notes {
 
 impl Model for Notes {
     ghost use Rattle.std.specs.Prelude.{◌≡◌, ◌≤◌, count_by, vec_capacity};
-    ghost use Rattle.kill_notes.specs.Notes.{KnownNotes, is_run, most_notes};
+    ghost use Rattle.kill_notes.specs.Notes.{KnownNotes, is_span, most_notes};
 
     ghost Value = { KnownNotes };
 
     ghost view = { λ n. record { list = n.notes.items; left_out = n.left_out; notes_units = n.notes_units } };
 
-    ghost invariant = { λ n. (most_notes ≤ vec_capacity n.notes) × (n.runs ≡ count_by is_run n.notes.items) };
+    ghost invariant = { λ n. (most_notes ≤ vec_capacity n.notes) × (n.spans ≡ count_by is_span n.notes.items) };
 }
 
 impl Notes {
@@ -54,7 +54,7 @@ impl Notes {
         let notes = Vec::with_capacity(alloc, MOST_NOTES)?;
         Ok(Notes {
             notes,
-            runs: 0,
+            spans: 0,
             left_out: 0,
             notes_units: false,
         })
@@ -72,15 +72,15 @@ impl Notes {
         ensures { self.new ≡ noted self.old note }
     {
         if self.notes.len() < MOST_NOTES {
-            self.runs += usize::from(is_run(&note));
+            self.spans += usize::from(is_span(&note));
             self.notes.push_reserved(note);
         }
     }
 
     /// Notes that a unit of this group was freed, whose frames are `frames` from `first` on, if freed units are noted.
-    /// The unit joins the last note if that is a run of units of the same group which it adjoins. Otherwise it is a new
-    /// run; if there are 1,024 runs or 2,048 notes, its frames are counted as left out instead. That count stays at
-    /// 2^64 - 1.
+    /// The unit joins the last note if that is a span of units of the same group which it adjoins. Otherwise it is a
+    /// new span; if there are 1,024 spans or 2,048 notes, its frames are counted as left out instead. That count stays
+    /// at 2^64 - 1.
     #[inline(always)]
     pub fn note_unit(&mut self, group: GroupId, first: u32, frames: u32)
         ensures { self.new ≡ unit_noted self.old group first frames }
@@ -90,7 +90,7 @@ impl Notes {
         }
     }
 
-    // The last run with this unit's frames, if the unit may join it.
+    // The last span with this unit's frames, if the unit may join it.
     fn joined(&self, group: GroupId, first: u32, frames: u32) -> Option<Note>
         ensures { result ≡ joined (last_noted self.now) group first frames }
     {
@@ -100,25 +100,25 @@ impl Notes {
         joined(self.notes.last()?, group, first, frames)
     }
 
-    // Notes a freed unit: it joins the last run, or is a new one.
+    // Notes a freed unit: it joins the last span, or is a new one.
     fn add_unit(&mut self, group: GroupId, first: u32, frames: u32)
-        ensures { self.new ≡ with_run (joined (last_noted self.old) group first frames) self.old group first frames }
+        ensures { self.new ≡ with_span (joined (last_noted self.old) group first frames) self.old group first frames }
     {
-        let Some(run) = self.joined(group, first, frames) else {
-            self.add_run(group, first, frames);
+        let Some(span) = self.joined(group, first, frames) else {
+            self.add_span(group, first, frames);
             return;
         };
         let last = self.notes.len() - 1;
-        self.notes[last] = run;
+        self.notes[last] = span;
     }
 
-    // Notes a freed unit as a new run, or counts its frames as left out.
-    fn add_run(&mut self, group: GroupId, first: u32, frames: u32)
-        ensures { self.new ≡ with_new_run self.old group first frames }
+    // Notes a freed unit as a new span, or counts its frames as left out.
+    fn add_span(&mut self, group: GroupId, first: u32, frames: u32)
+        ensures { self.new ≡ with_new_span self.old group first frames }
     {
-        if self.runs < MOST_RUNS && self.notes.len() < MOST_NOTES {
+        if self.spans < MOST_SPANS && self.notes.len() < MOST_NOTES {
             let (first, last) = (u64::from(first), last_frame(first, frames));
-            self.runs += 1;
+            self.spans += 1;
             self.notes
                 .push_reserved(Note::Reclaimed { group, first, last });
         } else {
@@ -131,7 +131,7 @@ impl Notes {
         ensures { self.new ≡ forgotten self.old }
     {
         self.notes.clear();
-        self.runs = 0;
+        self.spans = 0;
         self.left_out = 0;
     }
 
@@ -142,7 +142,7 @@ impl Notes {
         self.notes.as_slice()
     }
 
-    /// How many frames were freed of which no note tells, since there was no room for one more run.
+    /// How many frames were freed of which no note tells, since there was no room for one more span.
     pub fn left_out(&self) -> u64
         ensures { result ≡ self.now.left_out }
     {

@@ -43,13 +43,13 @@ asked_text groups gone g pages =
     codes "# asked " ++ group_text groups gone g ++ codes " " ++ bytes_text pages ++ codes "\n"
 
 -- the frames from the first to the last, or the one frame
-unfoldable pub run_text : (first last : ℕ) → List ℕ
-run_text first last = if first == last then decimal first else (decimal first ++ codes "-" ++ decimal last)
+unfoldable pub span_text : (first last : ℕ) → List ℕ
+span_text first last = if first == last then decimal first else (decimal first ++ codes "-" ++ decimal last)
 
--- a run of reclaimed units
+-- a span of reclaimed units
 abbrev pub reclaimed_text : List Group → (gone : List ℕ) → ℕ → ℕ → ℕ → List ℕ
 reclaimed_text groups gone g first last =
-    codes "# reclaimed " ++ group_text groups gone g ++ codes " " ++ run_text first last ++ codes "\n"
+    codes "# reclaimed " ++ group_text groups gone g ++ codes " " ++ span_text first last ++ codes "\n"
 
 -- A stock that was drained under a limit, and the usage under the limit afterwards, by the usage before. Nothing is
 -- written for a stock that was drained for another reason.

@@ -6,7 +6,7 @@ ghost use Rattle.kill_texts.specs.Lines.{asked_text, group_kill_text, killed_tex
 ghost use Rattle.kill_texts.specs.Lines.{reclaimed_text, round_text, stock_text, victim_text, zone_text};
 
 use crate::parts::{
-    push_bytes, push_candidate, push_count, push_ending, push_group, push_others, push_run,
+    push_bytes, push_candidate, push_count, push_ending, push_group, push_others, push_span,
 };
 use group_tree::group::GroupId;
 use group_tree::tree::Tree;
@@ -122,7 +122,7 @@ fn write_reclaimed(
         ≡ string_bytes text.old ++ reclaimed_text tree.now gone.now group first last) }
 {
     push_group("# reclaimed ", tree, gone, group, text)?;
-    push_run(" ", first, last, text)?;
+    push_span(" ", first, last, text)?;
     text.push_str("\n")
 }
 

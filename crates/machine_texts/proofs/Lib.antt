@@ -1,5 +1,5 @@
 pub mod Codes
 pub mod Keepers
-pub mod Runs
+pub mod Spans
 pub mod UnitLines
 pub mod Owners

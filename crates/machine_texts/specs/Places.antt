@@ -29,8 +29,8 @@ abbrev pub IsAt : Place → FrameState → Type 0
 IsAt place frame_state = is_same_place (place_of frame_state) place ≡ true
 
 -- how many frames from the first on are at this place
-abbrev pub run_length : Place → List FrameState → ℕ
-run_length place frame_states = prefix_len (λ frame_state. is_same_place (place_of frame_state) place) frame_states
+abbrev pub span_length : Place → List FrameState → ℕ
+span_length place frame_states = prefix_len (λ frame_state. is_same_place (place_of frame_state) place) frame_states
 
 -- all frames before this one are at the place, and this one isn't
 pub record IsFirstElsewhere (place : Place) (frame_states : List FrameState) (at : ℕ) : Type 0 where
@@ -60,19 +60,20 @@ frames_text first last =
     if first == last then decimal first ++ codes " "
     else decimal first ++ codes "-" ++ decimal last ++ codes " "
 
--- the line of a run: its frames from the first to the last, and the place where they all are
-abbrev pub run_text : List Group → (first last : ℕ) → Place → List ℕ
-run_text groups first last place = frames_text first last ++ place_text groups place ++ codes "\n"
+-- the line of a span: its frames from the first to the last, and the place where they all are
+abbrev pub span_text : List Group → (first last : ℕ) → Place → List ℕ
+span_text groups first last place = frames_text first last ++ place_text groups place ++ codes "\n"
 
 -- the lines for the frames from `first` on: those up to just before `next` are at this place, and those from `next` on
 -- have these records
-abbrev pub runs_text : List Group → (first next : ℕ) → Place → List FrameState → List ℕ
-runs_text groups first next place [] = run_text groups first (next - 1) place
-runs_text groups first next place (frame_state ∷ frame_states) =
-    if is_same_place (place_of frame_state) place then runs_text groups first (next + 1) place frame_states
-    else run_text groups first (next - 1) place ++ runs_text groups next (next + 1) (place_of frame_state) frame_states
+abbrev pub spans_text : List Group → (first next : ℕ) → Place → List FrameState → List ℕ
+spans_text groups first next place [] = span_text groups first (next - 1) place
+spans_text groups first next place (frame_state ∷ frame_states) =
+    if is_same_place (place_of frame_state) place then spans_text groups first (next + 1) place frame_states
+    else span_text groups first (next - 1) place ++ spans_text groups next (next + 1) (place_of frame_state)
+    frame_states
 
--- a line for each longest run of frames with equal place
+-- a line for each longest span of frames with equal place
 abbrev pub places_text : List Group → List FrameState → List ℕ
 places_text groups [] = []
-places_text groups (frame_state ∷ frame_states) = runs_text groups 0 1 (place_of frame_state) frame_states
+places_text groups (frame_state ∷ frame_states) = spans_text groups 0 1 (place_of frame_state) frame_states

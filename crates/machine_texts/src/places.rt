@@ -6,7 +6,7 @@ ghost use Rattle.mem_machine.specs.declared.frame_state.Place.TheVariants as pla
 ghost use Rattle.mem_machine.specs.FrameStates.{place_of};
 ghost use Rattle.machine_texts.specs.Places.{FrameGroupExists, PlaceGroupExists, frames_text, is_same_place};
 ghost use Rattle.machine_texts.specs.Places.{place_text};
-ghost use Rattle.machine_texts.specs.Places.{places_text, run_text, IsAt, IsFirstElsewhere, run_length};
+ghost use Rattle.machine_texts.specs.Places.{places_text, span_text, IsAt, IsFirstElsewhere, span_length};
 
 use crate::characters::push_characters;
 use group_tree::group::GroupId;
@@ -14,7 +14,7 @@ use group_tree::tree::Tree;
 use mem_machine::{FrameState, Place};
 use std::alloc::AllocError;
 
-// A line for each longest run of frames with equal place.
+// A line for each longest span of frames with equal place.
 pub(crate) fn write_places(
     frame_states: &[FrameState],
     tree: &Tree,
@@ -27,16 +27,16 @@ pub(crate) fn write_places(
     let mut first = 0;
     while first < frame_states.len() {
         let place = frame_states[first].place();
-        let next = first + run_length(&frame_states[first..], &place);
-        write_run(first, next - 1, &place, tree, text)?;
+        let next = first + span_length(&frame_states[first..], &place);
+        write_span(first, next - 1, &place, tree, text)?;
         first = next;
     }
     Ok(())
 }
 
 // How many frames from the first on are at this place.
-fn run_length(frame_states: &[FrameState], place: &Place) -> usize
-    ensures { result ≡ run_length place.now frame_states.now }
+fn span_length(frame_states: &[FrameState], place: &Place) -> usize
+    ensures { result ≡ span_length place.now frame_states.now }
 {
     first_elsewhere(frame_states, place).unwrap_or(frame_states.len())
 }
@@ -91,7 +91,7 @@ fn is_charged(frame_state: &FrameState, group: GroupId) -> bool
 }
 
 // The line of the frames from the first to the last, which are all at this place.
-fn write_run(
+fn write_span(
     first: usize,
     last: usize,
     place: &Place,
@@ -100,7 +100,7 @@ fn write_run(
 ) -> Result<(), AllocError>
     requires { PlaceGroupExists tree.now place.now }
     ensures { IfOk result (λ _. string_bytes text.new
-        ≡ string_bytes text.old ++ run_text tree.now first last place.now) }
+        ≡ string_bytes text.old ++ span_text tree.now first last place.now) }
 {
     write_frames(first, last, text)?;
     write_place(place, tree, text)?;

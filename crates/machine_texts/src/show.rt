@@ -16,7 +16,7 @@ use group_tree::group::{Group, GroupId};
 use mem_machine::Machine;
 use std::alloc::AllocError;
 
-/// Adds a line for each longest run of frames with equal place, by ascending frame. Then it adds one for each group
+/// Adds a line for each longest span of frames with equal place, by ascending frame. Then it adds one for each group
 /// except the root, in order of making, with its usage in bytes. It fails only if memory runs out.
 pub fn write_show<N: BootName>(machine: &Machine<N>, text: &mut String) -> Result<(), AllocError>
     ensures { IfOk result (λ _. string_bytes text.new ≡ string_bytes text.old ++ show_text machine.now) }

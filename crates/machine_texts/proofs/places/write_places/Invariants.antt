@@ -1,7 +1,7 @@
 use Rattle.std.proofs.Common.{◌≡◌, ◌-◌, ◌≤◌, ◌++◌, drop, length}
 use Rattle.std.specs.String.{string_bytes}
 use Rattle.machine_texts.specs.Places.{places_text}
-use Rattle.machine_texts.proofs.Runs.{rest_text}
+use Rattle.machine_texts.proofs.Spans.{rest_text}
 use Rattle.machine_texts.proofs.places.write_places.Given as goal
 
 abbrev pub decreases-loop-first : goal.decreases-loop-first

@@ -1,14 +1,14 @@
-//! Runs of freed units.
+//! Spans of freed units.
 
 ghost use Rattle.std.specs.Prelude.{◌≡◌, Some};
-ghost use Rattle.kill_notes.specs.Notes.{is_run, joined, last_frame};
+ghost use Rattle.kill_notes.specs.Notes.{is_span, joined, last_frame};
 
 use crate::note::Note;
 use group_tree::group::GroupId;
 
-// Whether the note is a run of freed units.
-pub(crate) fn is_run(note: &Note) -> bool
-    ensures { result ≡ is_run note.now }
+// Whether the note is a span of freed units.
+pub(crate) fn is_span(note: &Note) -> bool
+    ensures { result ≡ is_span note.now }
 {
     matches!(note, Note::Reclaimed { .. })
 }
@@ -20,7 +20,7 @@ pub(crate) fn last_frame(first: u32, frames: u32) -> u64
     (u64::from(first) + u64::from(frames)).saturating_sub(1)
 }
 
-// The run with this unit's frames, if the note is a run that the unit adjoins.
+// The span with this unit's frames, if the note is a span that the unit adjoins.
 pub(crate) fn joined(note: &Note, group: GroupId, first: u32, frames: u32) -> Option<Note>
     ensures { result ≡ joined (Some note.now) group first frames }
 {

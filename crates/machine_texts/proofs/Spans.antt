@@ -1,4 +1,4 @@
--- Runs of frames with equal place, one after the other. Serves `run_length` and `write_places`.
+-- Spans of frames with equal place, one after the other. Serves `span_length` and `write_places`.
 use Rattle.std.proofs.Common.{◌≡◌, ℕ, zero, suc, ◌+◌, ◌-◌, ◌<◌, ◌≤◌, List, [], ◌∷◌, ◌++◌, Bool, true, false, cond, All, length, take, drop, get_or}
 use Rattle.std.proofs.Common.{Option, Some, None, MatchOption, arith, ap, sym, subst, ◌∙◌, refl}
 use Rattle.std.proofs.lemmas.Bool.{eq-eqb}
@@ -13,9 +13,9 @@ use Rattle.mem_machine.specs.declared.frame_state.FrameState.TheVariants as fram
 use Rattle.mem_machine.specs.declared.frame_state.Place.{Place}
 use Rattle.mem_machine.specs.declared.frame_state.Place.TheVariants.{Free, Lent, Charged}
 use Rattle.mem_machine.specs.FrameStates.{place_of}
-use Rattle.machine_texts.specs.Places.{IsAt, IsFirstElsewhere, is_same_place, run_length, run_text, runs_text, places_text}
+use Rattle.machine_texts.specs.Places.{IsAt, IsFirstElsewhere, is_same_place, span_length, span_text, spans_text, places_text}
 
--- ---- how long a run is
+-- ---- how long a span is
 
 first_true : (b : Bool) (n : ℕ) → b ≡ true → cond b (1 + n) 0 ≡ 1 + n
 first_true b n e = ap (λ (c : Bool). cond c (1 + n) 0) e
@@ -41,11 +41,13 @@ prefix_all p (x ∷ xs) all =
     let one = first_true (p x) (prefix_len p xs) (all 0 x (omega arith)) in
     omega (arith, rest, one)
 
--- a run ends at the first frame that is elsewhere, or at the end of the zone
-pub run_found : (place : Place) (frame_states : List FrameState) (found : Option ℕ) → MatchOption found (All (IsAt place) frame_states) (λ at. IsFirstElsewhere place frame_states at)
-    → unwrap_or found (length frame_states) ≡ run_length place frame_states
-run_found place frame_states None all = sym (prefix_all (λ s. is_same_place (place_of s) place) frame_states all)
-run_found place frame_states (Some at) is = sym (prefix_is (λ s. is_same_place (place_of s) place) frame_states at frame_state.Free is.inside is.here is.before)
+-- a span ends at the first frame that is elsewhere, or at the end of the zone
+pub span_found : (place : Place) (frame_states : List FrameState) (found : Option ℕ) → MatchOption found (All (IsAt place) frame_states)
+    (λ at. IsFirstElsewhere place frame_states at)
+    → unwrap_or found (length frame_states) ≡ span_length place frame_states
+span_found place frame_states None all = sym (prefix_all (λ s. is_same_place (place_of s) place) frame_states all)
+span_found place frame_states (Some at) is = sym (prefix_is (λ s. is_same_place (place_of s) place) frame_states at frame_state.Free is.inside is.here
+    is.before)
 
 -- a place is itself
 same_self : (place : Place) → is_same_place place place ≡ true
@@ -53,71 +55,72 @@ same_self Free = refl
 same_self (Lent n) = eq-eqb n n refl
 same_self (Charged n) = eq-eqb n n refl
 
--- ---- the lines of runs
+-- ---- the lines of spans
 
 -- the lines of the frames from this one on, which have these records
 abbrev pub rest_text : List Group → ℕ → List FrameState → List ℕ
 rest_text groups first [] = []
-rest_text groups first (s ∷ ss) = runs_text groups first (first + 1) (place_of s) ss
+rest_text groups first (s ∷ ss) = spans_text groups first (first + 1) (place_of s) ss
 
 pub whole_text : (groups : List Group) (frame_states : List FrameState) → rest_text groups 0 frame_states ≡ places_text groups frame_states
 whole_text groups [] = refl
 whole_text groups (s ∷ ss) = refl
 
--- the line of a run, and those of the frames behind it
+-- the line of a span, and those of the frames behind it
 abbrev split_text : List Group → (first next : ℕ) → Place → (more : ℕ) → List FrameState → List ℕ
-split_text groups first next place more frame_states = run_text groups first (next + more - 1) place ++ rest_text groups (next + more) (drop more frame_states)
+split_text groups first next place more frame_states = span_text groups first (next + more - 1) place ++ rest_text groups (next + more) (drop more frame_states)
 
 split_one : (b : Bool) (groups : List Group) (first next : ℕ) (place : Place) (s : FrameState) (ss : List FrameState) (k : ℕ)
-    → runs_text groups first (next + 1) place ss ≡ split_text groups first (next + 1) place k ss
-    → cond b (runs_text groups first (next + 1) place ss) (run_text groups first (next - 1) place ++ runs_text groups next (next + 1) (place_of s) ss)
+    → spans_text groups first (next + 1) place ss ≡ split_text groups first (next + 1) place k ss
+    → cond b (spans_text groups first (next + 1) place ss) (span_text groups first (next - 1) place ++ spans_text groups next (next + 1) (place_of s) ss)
     ≡ split_text groups first next place (cond b (1 + k) 0) (s ∷ ss)
 split_one true groups first next place s ss k rest =
     let e : next + 1 + k ≡ next + (1 + k) = omega arith in
     let n : suc k ≡ 1 + k = omega arith in
-    rest ∙ ap (λ (m : ℕ). run_text groups first (m - 1) place ++ rest_text groups m (drop k ss)) e
-    ∙ ap (λ (m : ℕ). run_text groups first (next + (1 + k) - 1) place ++ rest_text groups (next + (1 + k)) (drop m (s ∷ ss))) n
+    rest ∙ ap (λ (m : ℕ). span_text groups first (m - 1) place ++ rest_text groups m (drop k ss)) e
+    ∙ ap (λ (m : ℕ). span_text groups first (next + (1 + k) - 1) place ++ rest_text groups (next + (1 + k)) (drop m (s ∷ ss))) n
 split_one false groups first next place s ss k rest =
     let e : next ≡ next + 0 = omega arith in
-    ap (λ (m : ℕ). run_text groups first (m - 1) place ++ rest_text groups m (s ∷ ss)) e
+    ap (λ (m : ℕ). span_text groups first (m - 1) place ++ rest_text groups m (s ∷ ss)) e
 
--- the frames that are at the place of the run are its, and those behind them have lines of their own
+-- the frames that are at the place of the span are its, and those behind them have lines of their own
 split : (groups : List Group) (first next : ℕ) (place : Place) (frame_states : List FrameState)
-    → runs_text groups first next place frame_states ≡ split_text groups first next place (run_length place frame_states) frame_states
+    → spans_text groups first next place frame_states ≡ split_text groups first next place (span_length place frame_states) frame_states
 split groups first next place [] =
     let e : next - 1 ≡ next + 0 - 1 = omega arith in
-    ap (λ (m : ℕ). run_text groups first m place) e ∙ sym (append-nil (run_text groups first (next + 0 - 1) place))
+    ap (λ (m : ℕ). span_text groups first m place) e ∙ sym (append-nil (span_text groups first (next + 0 - 1) place))
 split groups first next place (s ∷ ss) =
-    split_one (is_same_place (place_of s) place) groups first next place s ss (run_length place ss) (split groups first (next + 1) place ss)
+    split_one (is_same_place (place_of s) place) groups first next place s ss (span_length place ss) (split groups first (next + 1) place ss)
 
--- the first of some frames, at a place, begins a run, and that has a line
+-- the first of some frames, at a place, begins a span, and that has a line
 line_of : (groups : List Group) (first : ℕ) (s : FrameState) (ss : List FrameState)
-    → rest_text groups first (s ∷ ss) ≡ split_text groups first first (place_of s) (run_length (place_of s) (s ∷ ss)) (s ∷ ss)
+    → rest_text groups first (s ∷ ss) ≡ split_text groups first first (place_of s) (span_length (place_of s) (s ∷ ss)) (s ∷ ss)
 line_of groups first s ss =
-    let k : ℕ = run_length (place_of s) ss in
-    let long : run_length (place_of s) (s ∷ ss) ≡ 1 + k = first_true (is_same_place (place_of s) (place_of s)) k (same_self (place_of s)) in
+    let k : ℕ = span_length (place_of s) ss in
+    let long : span_length (place_of s) (s ∷ ss) ≡ 1 + k = first_true (is_same_place (place_of s) (place_of s)) k (same_self (place_of s)) in
     let e : first + 1 + k ≡ first + (1 + k) = omega arith in
     let n : suc k ≡ 1 + k = omega arith in
     split groups first (first + 1) (place_of s) ss
-    ∙ ap (λ (m : ℕ). run_text groups first (m - 1) (place_of s) ++ rest_text groups m (drop k ss)) e
-    ∙ ap (λ (m : ℕ). run_text groups first (first + (1 + k) - 1) (place_of s) ++ rest_text groups (first + (1 + k)) (drop m (s ∷ ss))) n
+    ∙ ap (λ (m : ℕ). span_text groups first (m - 1) (place_of s) ++ rest_text groups m (drop k ss)) e
+    ∙ ap (λ (m : ℕ). span_text groups first (first + (1 + k) - 1) (place_of s) ++ rest_text groups (first + (1 + k)) (drop m (s ∷ ss))) n
     ∙ ap (λ (m : ℕ). split_text groups first first (place_of s) m (s ∷ ss)) (sym long)
 
--- The frame at which a run begins. The run is at least this frame, and ends within the zone
-pub record IsRun (groups : List Group) (frame_states : List FrameState) (first size : ℕ) (place : Place) : Type 0 where
+-- The frame at which a span begins. The span is at least this frame, and ends within the zone
+pub record IsSpan (groups : List Group) (frame_states : List FrameState) (first size : ℕ) (place : Place) : Type 0 where
   pub some : 1 ≤ size
   pub within : first + size ≤ length frame_states
   pub text : rest_text groups first (drop first frame_states)
-      ≡ run_text groups first (first + size - 1) place ++ rest_text groups (first + size) (drop (first + size) frame_states)
+      ≡ span_text groups first (first + size - 1) place ++ rest_text groups (first + size) (drop (first + size) frame_states)
 
-pub is_run : (groups : List Group) (frame_states : List FrameState) (first size : ℕ) (place : Place) (s : FrameState) → first < length frame_states
-    → s ≡ get_or frame_states first s → place ≡ place_of s → size ≡ run_length place (drop first frame_states) → IsRun groups frame_states first size place
-is_run groups frame_states first size place s inside at is long =
+pub is_span : (groups : List Group) (frame_states : List FrameState) (first size : ℕ) (place : Place) (s : FrameState) → first < length frame_states
+    → s ≡ get_or frame_states first s → place ≡ place_of s → size ≡ span_length place (drop first frame_states) → IsSpan groups frame_states first size place
+is_span groups frame_states first size place s inside at is long =
     let ss : List FrameState = drop (suc first) frame_states in
     let here : drop first frame_states ≡ s ∷ ss = drop-cons frame_states first s inside ∙ ap (λ (x : FrameState). x ∷ ss) (sym at) in
-    let size_is : size ≡ run_length (place_of s) (s ∷ ss) = long ∙ ap (λ (p : Place). run_length p (drop first frame_states)) is ∙ ap (run_length (place_of s)) here in
-    let one : run_length (place_of s) (s ∷ ss) ≡ 1 + run_length (place_of s) ss
-    = first_true (is_same_place (place_of s) (place_of s)) (run_length (place_of s) ss) (same_self (place_of s)) in
+    let size_is : size ≡ span_length (place_of s) (s ∷ ss) = long ∙ ap (λ (p : Place). span_length p (drop first frame_states)) is ∙ ap
+    (span_length (place_of s)) here in
+    let one : span_length (place_of s) (s ∷ ss) ≡ 1 + span_length (place_of s) ss
+    = first_true (is_same_place (place_of s) (place_of s)) (span_length (place_of s) ss) (same_self (place_of s)) in
     let short = prefix_len-le-length (λ x. is_same_place (place_of x) place) (drop first frame_states) in
     let left = length-drop first frame_states in
     let line : rest_text groups first (drop first frame_states) ≡ split_text groups first first (place_of s) size (s ∷ ss)
@@ -126,7 +129,8 @@ is_run groups frame_states first size place s inside at is long =
       some = omega (arith, size_is, one);
       within = omega (arith, long, short, left);
       text = line
-          ∙ ap (λ (p : Place). run_text groups first (first + size - 1) p ++ rest_text groups (first + size) (drop size (s ∷ ss))) (sym is)
-          ∙ ap (λ (x : List FrameState). run_text groups first (first + size - 1) place ++ rest_text groups (first + size) (drop size x)) (sym here)
-          ∙ ap (λ (x : List FrameState). run_text groups first (first + size - 1) place ++ rest_text groups (first + size) x) (drop-drop size first frame_states);
+          ∙ ap (λ (p : Place). span_text groups first (first + size - 1) p ++ rest_text groups (first + size) (drop size (s ∷ ss))) (sym is)
+          ∙ ap (λ (x : List FrameState). span_text groups first (first + size - 1) place ++ rest_text groups (first + size) (drop size x)) (sym here)
+          ∙ ap (λ (x : List FrameState). span_text groups first (first + size - 1) place ++ rest_text groups (first + size) x)
+          (drop-drop size first frame_states);
     }
