@@ -133,14 +133,14 @@ pub(crate) fn word_at(text: &[u8], place: usize) -> &[u8]
 fn is_digit(byte: u8) -> bool
     ensures { result ≡ is_digit byte }
 {
-    47 < byte && byte < 58
+    byte.is_ascii_digit()
 }
 
 // A byte of the printable ASCII that isn't a space.
 pub(crate) fn is_printable(byte: u8) -> bool
     ensures { result ≡ is_printable byte }
 {
-    32 < byte && byte < 127
+    byte.is_ascii_graphic()
 }
 
 // A space, a tab, a carriage return, or a line feed.
