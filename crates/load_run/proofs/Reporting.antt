@@ -10,7 +10,7 @@ use Rattle.load_run.specs.Answers.{bytes_read}
 use Rattle.load_run.specs.Causes.{written}
 use Rattle.load_run.specs.Fault.{fault_text, status_of}
 use Rattle.load_run.specs.Lints.{FailsToLint, IsEarlyFault, IsLintText, LeavesFindings, Lints, ReportsFindings, ReportsNothing, lint_status}
-use Rattle.load_run.specs.Writing.{AppendsBeginning}
+use Rattle.line_streams.specs.Writing.{AppendsBeginning}
 
 -- what is known of what the lint says, if the input's bytes are known
 abbrev pub Reports : Config → Option (List ℕ) → List ℕ → Bool → Type 0

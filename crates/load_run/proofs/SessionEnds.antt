@@ -25,7 +25,7 @@ use Rattle.load_run.specs.Causes.{written}
 use Rattle.load_run.specs.Ending.{EndsHeld, boot_end_text}
 use Rattle.load_run.specs.Fault.{fault_text, status_of}
 use Rattle.load_run.specs.Sessions.{DrivesSession, EndsSession, IsSameFault, IsWorkFault, LeavesEnding, LeavesSession, ServesInput, StopsSession}
-use Rattle.load_run.specs.Writing.{AppendsBeginning}
+use Rattle.line_streams.specs.Writing.{AppendsBeginning}
 use Rattle.load_run.proofs.Starting.{boot_shown, parts_tied}
 
 -- a fault at work has status 1

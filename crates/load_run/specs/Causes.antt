@@ -13,7 +13,7 @@ use Rattle.load_run.specs.declared.fault.ProgramFault.TheVariants.{Words, Script
 use Rattle.load_run.specs.declared.fault.ProgramFault.TheVariants.{IllegalLine, IllegalEnd, Input, Output, NoMemory}
 use Rattle.load_run.specs.Answers.{IsAnswered, bytes_read}
 use Rattle.load_run.specs.Fault.{checks_steps, fault_text, status_of}
-use Rattle.load_run.specs.Writing.{AppendsBeginning}
+use Rattle.line_streams.specs.Writing.{AppendsBeginning}
 
 -- the line of this number of what is read of the input is the first bad one, for the sizes that are asked for
 pub record IsBadAt (asked : Option Options) (number : ℕ) (input : List ℕ) : Type 0 where

@@ -12,7 +12,7 @@ use Rattle.load_run.specs.declared.fault.ProgramFault.{ProgramFault}
 use Rattle.load_run.specs.declared.fault.ProgramFault.TheVariants.{Words, BadLogLine, Input, Output, NoMemory}
 use Rattle.load_run.specs.Causes.{Written}
 use Rattle.load_run.specs.Fault.{fault_text}
-use Rattle.load_run.specs.Writing.{AppendsBeginning}
+use Rattle.line_streams.specs.Writing.{AppendsBeginning}
 
 -- the text is that of a legal run of so many steps, and the promise holds at each beginning of it that leaves the lock
 -- free; the output got the line that says so

@@ -11,4 +11,3 @@ pub mod Sessions
 pub mod Starting
 pub mod Traced
 pub mod Versions
-pub mod Writing

@@ -12,7 +12,7 @@ use Rattle.load_run.specs.declared.fault.ProgramFault.TheVariants.{Words, Input,
 use Rattle.load_run.specs.Answers.{bytes_read}
 use Rattle.load_run.specs.Causes.{Written}
 use Rattle.load_run.specs.Fault.{fault_text}
-use Rattle.load_run.specs.Writing.{AppendsBeginning}
+use Rattle.line_streams.specs.Writing.{AppendsBeginning}
 
 -- nothing is found: no line is bad, and `high` is at least `batch`
 pub record IsClean (sizes : Config) (findings : List Finding) : Type 0 where

@@ -19,7 +19,7 @@ use Rattle.load_run.specs.Starting.{IsNewBootState}
 use Rattle.load_run.specs.Causes.{Written}
 use Rattle.load_run.specs.Ending.{WritesEnd}
 use Rattle.load_run.specs.Fault.{fault_text}
-use Rattle.load_run.specs.Writing.{AppendsBeginning}
+use Rattle.line_streams.specs.Writing.{AppendsBeginning}
 
 -- A new boot served a session on an input, and ended. `middle` is what the output holds after the session, and `ending`
 -- the text of the end, if the options ask for one. All steps of the lines that were served are one run from the boot

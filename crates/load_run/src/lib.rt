@@ -25,7 +25,6 @@ pub mod serving;
 pub mod thread_running;
 pub mod tracing;
 pub mod versions;
-pub mod writing;
 
 pub use load_options::command_line::options;
 pub use load_options::fault::WordsFault;

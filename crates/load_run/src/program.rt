@@ -14,7 +14,7 @@ ghost use Rattle.load_run.specs.Answers.{AreAnswers, AreCheckedAnswers, IsOnScri
 ghost use Rattle.load_run.specs.Causes.{written};
 ghost use Rattle.load_run.specs.Driving.{AnswersTo, Drives, DrivesScript};
 ghost use Rattle.load_run.specs.Fault.{IsBootFault, IsFailedTask, IsScriptFault, IsWordsFault};
-ghost use Rattle.load_run.specs.Writing.{AppendsBeginning};
+ghost use Rattle.line_streams.specs.Writing.{AppendsBeginning};
 
 use crate::checked_replaying::{CheckFault, check_on_boot};
 use crate::checking::drive_check;
@@ -29,8 +29,8 @@ use crate::serving::drive_serve;
 use crate::thread_running::run_by_threads;
 use crate::tracing::trace_on_boot;
 use crate::versions::drive_version;
-use crate::writing::write_whole;
 use cpu_part::BootName;
+use line_streams::write_whole;
 use load_options::command_line::options;
 use load_options::task::{Options, Task};
 use mem_system::{Boot, BootFault, boot};

@@ -2,7 +2,7 @@
 use Rattle.std.proofs.Common.{◌≡◌, ◌∙◌, List, OnOk, ap, subst, ◌++◌, ℕ}
 use Rattle.std.specs.Io.KnownBytes.{Appends}
 use Rattle.load_run.specs.Ending.{boot_end_text}
-use Rattle.load_run.specs.Writing.{AppendsBeginning}
+use Rattle.line_streams.specs.Writing.{AppendsBeginning}
 use Rattle.load_run.proofs.SessionEnds.{ending_unwritten}
 use Rattle.load_run.proofs.serving.write_ending.Goals as goal
 
