@@ -192,8 +192,8 @@ module _ (t : KnownTable) (w : KnownStockTable) (spares_marked : Bool) (g : ℕ)
 
 -- ---- the end
 
-pub record ScanEnds (t : KnownTable) (spares_marked : Bool) (g : ℕ) (list : LruList) (want : ℕ) (m : KnownMachine) (freed : ℕ) (now : KnownMachine) :
-    Type 0 where
+pub record ScanEnds (t : KnownTable) (spares_marked : Bool) (g : ℕ) (list : LruList) (want : ℕ) (m : KnownMachine) (freed : ℕ)
+    (now : KnownMachine) : Type 0 where
   pub scans : FreesBySteps t freed m now (ScansList spares_marked g list want)
   pub missed : spares_marked ≡ false → freed < want → (f : ℕ) → IsMissed m now f (record { owner = g; list = list })
 
