@@ -3,8 +3,8 @@
 
 ghost use Rattle.std.specs.Prelude.{◌≡◌};
 ghost use Rattle.step_rules.specs.Phases.{ListFrame, FreshFrame, BackFrame, has_as, is_free, is_head, is_head_in_hand};
-ghost use Rattle.step_rules.specs.Phases.{is_passing, is_stage_in_hand, is_stage_passing, keeper_of, may_return};
-ghost use Rattle.step_rules.specs.Phases.{may_stage_return, passes_out, passes_back, has_stage, stage_passes_back};
+ghost use Rattle.step_rules.specs.Phases.{is_passing, is_stage_in_hand, is_stage_passing, keeper_of, is_returnable};
+ghost use Rattle.step_rules.specs.Phases.{is_stage_returnable, passes_out, passes_back, has_stage, stage_passes_back};
 ghost use Rattle.step_rules.specs.Phases.{at_stage, passed_back, collected, stage_passed_back, stage_collected};
 ghost use Rattle.step_rules.specs.Phases.{unit_of};
 ghost use Rattle.step_rules.specs.After.{unit_size};
@@ -150,8 +150,8 @@ fn is_stage_in_hand(stage: Stage) -> bool
 }
 
 /// A unit at this stage may be returned, given whether its group is killed.
-pub fn may_stage_return(is_killed: bool, stage: Stage) -> bool
-    ensures { result ≡ may_stage_return is_killed stage }
+pub fn is_stage_returnable(is_killed: bool, stage: Stage) -> bool
+    ensures { result ≡ is_stage_returnable is_killed stage }
 {
     match stage {
         Stage::Collected => is_killed,

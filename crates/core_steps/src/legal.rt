@@ -4,15 +4,15 @@
 ghost use Rattle.std.specs.Prelude.{◌≡◌, ◌==◌, ◌&&◌, not};
 ghost use Rattle.step_rules.specs.State.{may_zone_act};
 ghost use Rattle.group_tree.specs.Groups.{has_group};
-ghost use Rattle.step_rules.specs.Phases.{may_return};
-ghost use Rattle.step_rules.specs.Legal.{is_legal, may_fill, may_pass_back, is_removable};
+ghost use Rattle.step_rules.specs.Phases.{is_returnable};
+ghost use Rattle.step_rules.specs.Legal.{is_legal, is_passable, is_removable, takes_fill};
 ghost use Rattle.step_rules.specs.declared.step.Action.{Action};
 ghost use Rattle.core_rows.specs.Shown.{state_in};
 ghost use Rattle.core_rows.specs.Rooms.{FitsZone, IsBelowBounds};
 
 use core_rows::holds::{is_held_by, is_unheld, may_zone_act, visits};
 use core_rows::phases::{
-    is_back_at, is_free, is_fresh_at, is_head, is_head_in_hand, is_listed_at, may_stage_return,
+    is_back_at, is_free, is_fresh_at, is_head, is_head_in_hand, is_listed_at, is_stage_returnable,
     passes_back, passes_out,
 };
 use core_rows::rows::Rows;
@@ -113,7 +113,7 @@ fn may_pass_back(rows: &Rows, seat: u32, frame: u32) -> bool
     rows.is_cpu(seat)
         && rows.is_frame(frame)
         && visits(rows.hold, seat)
-        && may_pass(rows, seat, frame)
+        && is_passable(rows, seat, frame)
 }
 
 fn may_collect(rows: &Rows, seat: u32, frame: u32, cpu: u32) -> bool
@@ -155,7 +155,7 @@ fn may_fill(rows: &Rows, seat: u32, cpu: u32, group: GroupId, pages: u32) -> boo
     may_zone_act(rows.hold, seat)
         && visits(rows.hold, cpu)
         && has_group(rows, group)
-        && may_take_fill(rows, cpu, group)
+        && takes_fill(rows, cpu, group)
         && u128::from(pages) <= rows.pending(group)
 }
 
@@ -267,30 +267,30 @@ fn has_group(rows: &Rows, group: GroupId) -> bool
     rows.tree.contains(group)
 }
 
-// The frame is the front of the CPU's list, a fresh frame there or a back frame there: `may_pass_back` of the rules.
-fn may_pass(rows: &Rows, cpu: u32, frame: u32) -> bool
-    ensures { result ≡ may_pass_back (state_in rows.now) cpu frame }
+// The frame is the front of the CPU's list, a fresh frame there or a back frame there.
+fn is_passable(rows: &Rows, cpu: u32, frame: u32) -> bool
+    ensures { result ≡ is_passable (state_in rows.now) cpu frame }
 {
     is_listed_at(rows.phase(frame), cpu) && rows.front(cpu) == frame
         || is_fresh_at(rows.phase(frame), cpu)
         || is_back_at(rows.phase(frame), cpu)
 }
 
-// The stock has no page, and the book is 0 or the stock is of the group: `may_fill` of the rules.
-fn may_take_fill(rows: &Rows, cpu: u32, group: GroupId) -> bool
-    ensures { result ≡ may_fill ((state_in rows.now).parts cpu) group }
+// The stock has no page, and the book is 0 or the stock is of the group.
+fn takes_fill(rows: &Rows, cpu: u32, group: GroupId) -> bool
+    ensures { result ≡ takes_fill ((state_in rows.now).parts cpu) group }
 {
     rows.stock_pages(cpu) == 0 && (rows.book(cpu) == 0 || is_of_group(rows.stock_group(cpu), group))
 }
 
-// The frame heads a unit that may be returned: `may_return` of the rules.
+// The frame heads a unit that may be returned.
 fn is_returnable(rows: &Rows, frame: u32) -> bool
-    ensures { result ≡ may_return (state_in rows.now).killed ((state_in rows.now).phases frame) }
+    ensures { result ≡ is_returnable (state_in rows.now).killed ((state_in rows.now).phases frame) }
 {
     match rows.phase(frame) {
         Phase::InZone => false,
         Phase::Lent { cpu: _, way: _ } => false,
-        Phase::Head { unit, stage } => may_stage_return(rows.is_killed(unit.group), stage),
+        Phase::Head { unit, stage } => is_stage_returnable(rows.is_killed(unit.group), stage),
         Phase::Tail(_) => false,
     }
 }

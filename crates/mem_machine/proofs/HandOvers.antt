@@ -285,7 +285,7 @@ module _ (s : State) (p f : ℕ) (unit : ChargedUnit) (part : Part) (visited : I
       → IsLocalRun p collected_state (zone_makes (Return f) Done ∷ []) b
   drop_run b killed is =
       let may_return : is_legal collected_state 0 (Return f) ≡ true = and_from _ _ (and_from _ _ visited.acts visited.framed)
-      (ap (phases.may_return s.killed) (at_same s.phases f (phase.Head unit Collected)) ∙ killed) in
+      (ap (phases.is_returnable s.killed) (at_same s.phases f (phase.Head unit Collected)) ∙ killed) in
       run_step p collected_state (record collected_state { phases = without_unit collected_state.phases f }) b 0 (Return f) Done []
       (zone_step collected_state p (Return f) Done refl may_return tt) refl is
 
@@ -309,7 +309,7 @@ module _ (s : State) (p f : ℕ) (unit : ChargedUnit) (part : Part) (visited : I
       let takes : after r1 0 (Collect f p) Done ≡ ended_state =
       λ i. record r1 { phases = at_again s.phases f (phase.Head unit (BackPassing p)) phases.collected i } in
       let may_return : is_legal ended_state 0 (Return f) ≡ true = and_from _ _ (and_from _ _ visited.acts visited.framed)
-      (ap (phases.may_return s.killed) (at_same s.phases f (phase.Head unit AwaitsReturn))) in
+      (ap (phases.is_returnable s.killed) (at_same s.phases f (phase.Head unit AwaitsReturn))) in
       run_step p s r1 b p (PassBack f) Done (zone_makes (Collect f p) Done ∷ zone_makes (Return f) Done ∷ [])
       (cpu_step s p (PassBack f) Done refl may_hand_back tt) hands_back
       (run_step p r1 ended_state b 0 (Collect f p) Done (zone_makes (Return f) Done ∷ []) (zone_step r1 p (Collect f p) Done refl may_take tt) takes

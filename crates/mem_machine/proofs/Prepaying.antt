@@ -24,7 +24,7 @@ use Rattle.cpu_part.specs.Cpus.{KnownCpu, IsTied, times}
 use Rattle.step_rules.specs.declared.step.Action.TheVariants.{Fill}
 use Rattle.step_rules.specs.declared.step.Answer.TheVariants.{Done}
 use Rattle.step_rules.specs.State.{State, Part, with_at, sum_to}
-use Rattle.step_rules.specs.Legal.{may_fill, is_of_group}
+use Rattle.step_rules.specs.Legal.{takes_fill, is_of_group}
 use Rattle.step_rules.specs.After.{filled, with_pending}
 use Rattle.step_rules.specs.Usage as local
 use Rattle.step_rules.proofs.Basics.{at_same, at_other, at_each}
@@ -180,7 +180,7 @@ fill_runs t w m c g k ok facts tied visit none there alive empty has =
     = ap (λ (x : Part). x.stock.pages) own ∙ (let a : (account_of m.stock_seat.view p).book - length c.fresh -
     (account_of m.stock_seat.view p).unabsorbed ≡ 0 = omega (arith, empty) in a) in
     let book : (part_of m.stock_seat c p).book ≡ 0 = ap (λ (x : Part). x.book) own ∙ empty in
-    let may : may_fill (part_of m.stock_seat c p) g ≡ true
+    let may : takes_fill (part_of m.stock_seat c p) g ≡ true
     = and_from _ _ (eq-eqb _ 0 pages) (ap (λ (b : Bool). b || is_of_group (part_of m.stock_seat c p).stock.group g) (eq-eqb _ 0 book)) in
     let enough : nat_le k (with_at nothing g (0 + k) g) ≡ true
     = le-leb k (with_at nothing g (0 + k) g) (let a = at_same nothing g (0 + k) in omega (arith, a)) in

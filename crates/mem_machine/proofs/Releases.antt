@@ -28,7 +28,7 @@ use Rattle.step_rules.specs.declared.step.Action.{Action}
 use Rattle.step_rules.specs.declared.step.Action.TheVariants.{Put, Return}
 use Rattle.step_rules.specs.declared.step.Answer.{Answer}
 use Rattle.step_rules.specs.declared.step.Answer.TheVariants as answer
-use Rattle.step_rules.specs.Phases.{at_stage, may_return, unit_of}
+use Rattle.step_rules.specs.Phases.{at_stage, is_returnable, unit_of}
 use Rattle.step_rules.specs.State.{State, with_at, one_if}
 use Rattle.step_rules.specs.Legal.{is_legal}
 use Rattle.step_rules.specs.After.{Run, after, is_within, without_unit, unit_size}
@@ -248,7 +248,7 @@ module _ (t : KnownTable) (w : KnownStockTable) (m : KnownMachine) (ok : IsConsi
 
         may_come_back : is_legal ended 0 (Return f) ≡ true
         may_come_back =
-            and_from _ _ (and_from _ _ (zone_may_act m.frame_seat c.number) (lt-ltb f t.frames inside)) (ap (may_return (is_killed m.killed)) head_ended)
+            and_from _ _ (and_from _ _ (zone_may_act m.frame_seat c.number) (lt-ltb f t.frames inside)) (ap (is_returnable (is_killed m.killed)) head_ended)
 
         -- the frames of the unit are free, and all others have the phases that they had
         phases_after : (frame_states : List FrameState) → FreesFrames f (2 ^ unit.order) m.frame_states frame_states → (x : ℕ)

@@ -23,7 +23,7 @@ use Rattle.step_rules.specs.declared.step.Action.TheVariants.{PassBack, Collect}
 use Rattle.step_rules.specs.declared.step.Answer.TheVariants.{Done}
 use Rattle.step_rules.specs.Phases as phases
 use Rattle.step_rules.specs.State.{State, Part, is_frame, without, front_of}
-use Rattle.step_rules.specs.Legal.{is_legal, may_pass_back}
+use Rattle.step_rules.specs.Legal.{is_legal, is_passable}
 use Rattle.step_rules.specs.After.{after, without_frame}
 use Rattle.step_rules.proofs.Basics.{at_same}
 use Rattle.mem_machine.specs.declared.frame_state.FrameState.{FrameState}
@@ -161,7 +161,7 @@ module _ (t : KnownTable) (w : KnownStockTable) (m : KnownMachine) (c : KnownCpu
       let fronted : (front_of (part_of m.stock_seat c p).list == f) ≡ true =
       ap (λ (x : Part). front_of x.list == f) own ∙ ap (λ (l : List ℕ). front_of l == f) front ∙ eq-eqb f f refl in
       let listed : phases.has_as phases.ListFrame p (s.phases f) ≡ true = ap (phases.has_as phases.ListFrame p) was ∙ eq-eqb p p refl in
-      let may_back : may_pass_back s p f ≡ true = or_left _ _ (or_left _ _ (and_from _ _ listed fronted)) in
+      let may_back : is_passable s p f ≡ true = or_left _ _ (or_left _ _ (and_from _ _ listed fronted)) in
       let may_pass : is_legal s p (PassBack f) ≡ true =
       and_from _ _ (and_from _ _ (and_from _ _ (seated_cpu t c seated) framed) (visits_open m.frame_seat p visit.is_open)) may_back in
       let mid : State = after s p (PassBack f) Done in

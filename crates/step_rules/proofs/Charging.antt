@@ -18,10 +18,10 @@ use Rattle.step_rules.specs.declared.step.Action.TheVariants.{Credit, Report, Ab
 use Rattle.step_rules.specs.declared.step.Action.TheVariants.{SetMax, SetFlag, Make, Remove}
 use Rattle.step_rules.specs.declared.step.Answer.{Answer}
 use Rattle.step_rules.specs.declared.step.Answer.TheVariants.{Illegal, Done, Last, Took, Back, Pages, Granted, Placed, Number}
-use Rattle.step_rules.specs.Phases.{FreshFrame, keeper_of, unit_of, has_as, is_free, passes_out, at_stage, passed_back, collected, stage_after_last, may_return}
+use Rattle.step_rules.specs.Phases.{FreshFrame, keeper_of, unit_of, has_as, is_free, passes_out, at_stage, passed_back, collected, stage_after_last, is_returnable}
 use Rattle.step_rules.specs.State.{Zone, Part, State, at_boot, with_at, sum_to, one_if, is_cpu, is_frame, visits, front_of, with_last}
 use Rattle.step_rules.specs.Usage.{is_below, frames_kept, stock_below, pages_prepaid, pages_pending, usage_of}
-use Rattle.step_rules.specs.Legal.{is_legal, IsAnswer, IsCounted, IsMade, Allows, may_fill}
+use Rattle.step_rules.specs.Legal.{is_legal, IsAnswer, IsCounted, IsMade, Allows, takes_fill}
 use Rattle.step_rules.specs.After.{Run, IsLegalRun, after, state_of, is_within, unit_size, placed_phase, with_block, without_unit, with_more, with_back, without_frame}
 use Rattle.step_rules.specs.After.{with_report, absorbed, paid, credited, consumed, filled, drained}
 use Rattle.step_rules.specs.Units.{units_of}
@@ -303,7 +303,7 @@ module _ (groups : List Group) (m : ℕ) where
   moves_exactly s run seat (Fill p g n) Done sound h told legal ok counted =
       let visit : visits p s.hold ≡ true = (fill_tests s seat p g n legal).1 in
       let there : has_group s.groups g ≡ true = (fill_tests s seat p g n legal).2 in
-      let may : may_fill (s.parts p) g ≡ true = (fill_tests s seat p g n legal).3 in
+      let may : takes_fill (s.parts p) g ≡ true = (fill_tests s seat p g n legal).3 in
       let some : nat_le n (s.pending g) ≡ true = (fill_tests s seat p g n legal).4 in
       let enough = leb-true n (s.pending g) some in
       let empty = equal_test (s.parts p).stock.pages 0 (and_parts ((s.parts p).stock.pages == 0) _ may).0 in
@@ -349,7 +349,7 @@ module _ (groups : List Group) (m : ℕ) where
       let d = pends_less groups m g (s.pending g) (2 ^ k) (leb-true (2 ^ k) (s.pending g) some) in
       omega arith
   moves_exactly s run seat (Return f) Done sound h told legal ok counted =
-      let may : may_return s.killed (s.phases f) ≡ true = (return_tests s seat f legal).2 in
+      let may : is_returnable s.killed (s.phases f) ≡ true = (return_tests s seat f legal).2 in
       let a = any_unit_goes groups m s f sound (returning_is s.killed (s.phases f) may) in
       let b : unit_pages (in_subtree groups m) (unit_of (s.phases f)) ≡ unit_pages (in_subtree groups m) ((units_of run).unit f) =
       ap (unit_pages (in_subtree groups m)) (told f) in

@@ -10,7 +10,7 @@ use Rattle.step_rules.specs.declared.step.Action.TheVariants.{Absorb, Fill, Drai
 use Rattle.step_rules.specs.declared.step.Answer.{Answer}
 use Rattle.step_rules.specs.declared.step.Answer.TheVariants.{Illegal, Done, Held, Left, Last, Took, Back, Pages}
 use Rattle.step_rules.specs.State.{Zone, Part, State, at_boot, with_at}
-use Rattle.step_rules.specs.Legal.{is_legal, IsAnswer, IsCounted, Allows, may_fill, is_of_group}
+use Rattle.step_rules.specs.Legal.{is_legal, IsAnswer, IsCounted, Allows, takes_fill, is_of_group}
 use Rattle.step_rules.specs.After.{Run, after, state_of, IsLegalRun, with_back, paid, credited, filled, drained}
 use Rattle.step_rules.specs.Counts.{count_at, references_in, references_out, stock_in, stock_out, book_in, book_out, counted}
 use Rattle.step_rules.specs.Counts.{ReferencesAreCounted, StocksAreCounted, BooksAreCounted}
@@ -227,7 +227,7 @@ stock_made p s seat (Credit f) Back legal ok count = gained pages_in s.parts sea
 stock_made p s seat (Report n) Done legal ok count = stayed pages_in s.parts seat p _ refl
 stock_made p s seat (Absorb q) (Pages n) legal ok count = stayed pages_in s.parts q p _ refl
 stock_made p s seat (Fill q g n) Done legal ok count =
-    let may : may_fill (s.parts q) g ≡ true = (fill_tests s seat q g n legal).3 in
+    let may : takes_fill (s.parts q) g ≡ true = (fill_tests s seat q g n legal).3 in
     let none : (s.parts q).stock.pages ≡ 0 =
     equal_test (s.parts q).stock.pages 0 (and_parts ((s.parts q).stock.pages == 0)
     ((s.parts q).book == 0 || is_of_group (s.parts q).stock.group g) may).0 in

@@ -9,7 +9,7 @@ use Rattle.step_rules.specs.declared.phase.Stage.TheVariants.{FreshAt, FreshPass
 use Rattle.step_rules.specs.declared.phase.Stage.TheVariants.{BackPassing, AwaitsReturn}
 use Rattle.step_rules.specs.declared.phase.Phase.{Phase}
 use Rattle.step_rules.specs.declared.phase.Phase.TheVariants.{InZone, Lent, Head, Tail}
-use Rattle.step_rules.specs.Phases.{Kind, ListFrame, FreshFrame, BackFrame, is_free, has_as, passes_out, passes_back, is_head_in_hand, may_return}
+use Rattle.step_rules.specs.Phases.{Kind, ListFrame, FreshFrame, BackFrame, is_free, has_as, passes_out, passes_back, is_head_in_hand, is_returnable}
 use Rattle.step_rules.specs.Phases.{unit_of, at_stage, passed_back, collected}
 use Rattle.step_rules.specs.State.{Zone, with_at, free_in}
 use Rattle.step_rules.specs.After.{with_block, placed_phase, is_within, without_unit, unit_size}
@@ -45,8 +45,8 @@ free_seen p x = seen_through is_free p (λ u r. refl) (λ u r. refl) x
 pub hand_seen : (p : ℕ) (x : Phase) → is_head_in_hand (phase_seen_by p x) ≡ is_head_in_hand x
 hand_seen p x = seen_through is_head_in_hand p (λ u r. refl) (λ u r. refl) x
 
-pub return_seen : (p : ℕ) (killed : ℕ → Bool) (x : Phase) → may_return killed (phase_seen_by p x) ≡ may_return killed x
-return_seen p killed x = seen_through (may_return killed) p (λ u r. refl) (λ u r. refl) x
+pub return_seen : (p : ℕ) (killed : ℕ → Bool) (x : Phase) → is_returnable killed (phase_seen_by p x) ≡ is_returnable killed x
+return_seen p killed x = seen_through (is_returnable killed) p (λ u r. refl) (λ u r. refl) x
 
 pub frees_seen : (p : ℕ) (zone : Zone) (phases : ℕ → Phase) → free_in zone (λ f. phase_seen_by p (phases f)) ≡ free_in zone phases
 frees_seen p zone phases = ap (λ (test : ℕ → Bool). map test (range_with_len 0 zone.frames)) (λ i. λ f. free_seen p (phases f) i)

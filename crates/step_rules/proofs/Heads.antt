@@ -15,7 +15,7 @@ use Rattle.step_rules.specs.declared.step.Action.{Action}
 use Rattle.step_rules.specs.declared.step.Action.TheVariants.{Lock, Put, Freeze, Unfreeze, PassOut, TakeIn, PassBack, Collect, Consume, Credit, PlaceBlock, Return}
 use Rattle.step_rules.specs.declared.step.Answer.{Answer}
 use Rattle.step_rules.specs.declared.step.Answer.TheVariants.{Illegal, Done, Last, Took, Back, Placed}
-use Rattle.step_rules.specs.Phases.{FreshFrame, is_free, has_as, passes_out, unit_of, at_stage, stage_after_last, passed_back, collected, may_return}
+use Rattle.step_rules.specs.Phases.{FreshFrame, is_free, has_as, passes_out, unit_of, at_stage, stage_after_last, passed_back, collected, is_returnable}
 use Rattle.step_rules.specs.State.{Zone, State, with_at, front_of}
 use Rattle.step_rules.specs.Legal.{IsMade}
 use Rattle.step_rules.specs.After.{Run, IsLegalRun, after, state_of, is_within, placed_phase, with_block, unit_size, without_unit, consumed}
@@ -227,7 +227,7 @@ heads_made s x seat (PlaceBlock g k) (Placed b) sound heads made =
     heads_placed s g b (λ m low high. (block_free s.zone s.phases b made.answered.1 m low high).1) heads
 heads_made s x seat (Return f) Done sound heads made =
     let legal = made.legal in
-    let may : may_return s.killed (s.phases f) ≡ true = (return_tests s seat f legal).2 in
+    let may : is_returnable s.killed (s.phases f) ≡ true = (return_tests s seat f legal).2 in
     any_returned s f sound (returning_is s.killed (s.phases f) may) heads
 heads_made s x seat Lock answer sound heads made = heads
 heads_made s x seat action answer sound heads made = heads

@@ -6,10 +6,10 @@ use Rattle.group_tree.specs.Groups.{has_group, has_child, make_fault}
 use Rattle.step_rules.specs.declared.step.Action.TheVariants.{Lock, Unlock, OpenVisit, ShutVisit, Get, Put, Freeze, Unfreeze, PassOut, TakeIn, PassBack}
 use Rattle.step_rules.specs.declared.step.Action.TheVariants.{Collect, Consume, Credit, Report, Absorb, Fill, DrainStock, Grant, Ungrant, PlaceBlock}
 use Rattle.step_rules.specs.declared.step.Action.TheVariants.{Publish, Return, SetMax, SetFlag, Make, Remove, Kill}
-use Rattle.step_rules.specs.Phases.{FreshFrame, is_free, is_head, has_as, passes_out, passes_back, is_head_in_hand, may_return}
+use Rattle.step_rules.specs.Phases.{FreshFrame, is_free, is_head, has_as, passes_out, passes_back, is_head_in_hand, is_returnable}
 use Rattle.step_rules.specs.State.{State, is_cpu, is_frame, is_unheld, is_held_by, visits, may_zone_act, pins_of}
 use Rattle.step_rules.specs.Usage.{usage_of}
-use Rattle.step_rules.specs.Legal.{is_legal, no_page_pends, no_frame_passes, nothing_passes, may_pass_back, may_fill, is_removable}
+use Rattle.step_rules.specs.Legal.{is_legal, no_page_pends, no_frame_passes, nothing_passes, is_passable, takes_fill, is_removable}
 
 and_two : (x y : Bool) → (x && y) ≡ true → (x ≡ true) × (y ≡ true)
 and_two x y e = and_parts x y e
@@ -73,8 +73,8 @@ pub take_in_tests : (s : State) (seat f : ℕ) → is_legal s seat (TakeIn f) �
 take_in_tests s seat f e = and_three (is_cpu s.zone seat) (is_frame s.zone f) (passes_out seat (s.phases f)) e
 
 pub pass_back_tests : (s : State) (seat f : ℕ) → is_legal s seat (PassBack f) ≡ true →
-    (is_cpu s.zone seat ≡ true) × (is_frame s.zone f ≡ true) × (visits seat s.hold ≡ true) × (may_pass_back s seat f ≡ true)
-pass_back_tests s seat f e = and_four (is_cpu s.zone seat) (is_frame s.zone f) (visits seat s.hold) (may_pass_back s seat f) e
+    (is_cpu s.zone seat ≡ true) × (is_frame s.zone f ≡ true) × (visits seat s.hold ≡ true) × (is_passable s seat f ≡ true)
+pass_back_tests s seat f e = and_four (is_cpu s.zone seat) (is_frame s.zone f) (visits seat s.hold) (is_passable s seat f) e
 
 pub collect_tests : (s : State) (seat f p : ℕ) → is_legal s seat (Collect f p) ≡ true →
     (may_zone_act s.hold seat ≡ true) × (is_frame s.zone f ≡ true) × (is_cpu s.zone p ≡ true) × (passes_back p (s.phases f) ≡ true)
@@ -97,8 +97,8 @@ pub absorb_tests : (s : State) (seat p : ℕ) → is_legal s seat (Absorb p) ≡
 absorb_tests s seat p e = and_two (may_zone_act s.hold seat) (visits p s.hold) e
 
 pub fill_tests : (s : State) (seat p g n : ℕ) → is_legal s seat (Fill p g n) ≡ true →
-    (may_zone_act s.hold seat ≡ true) × (visits p s.hold ≡ true) × (has_group s.groups g ≡ true) × (may_fill (s.parts p) g ≡ true) × (nat_le n (s.pending g) ≡ true)
-fill_tests s seat p g n e = and_five (may_zone_act s.hold seat) (visits p s.hold) (has_group s.groups g) (may_fill (s.parts p) g) (nat_le n (s.pending g)) e
+    (may_zone_act s.hold seat ≡ true) × (visits p s.hold ≡ true) × (has_group s.groups g ≡ true) × (takes_fill (s.parts p) g ≡ true) × (nat_le n (s.pending g) ≡ true)
+fill_tests s seat p g n e = and_five (may_zone_act s.hold seat) (visits p s.hold) (has_group s.groups g) (takes_fill (s.parts p) g) (nat_le n (s.pending g)) e
 
 pub drain_stock_tests : (s : State) (seat p : ℕ) → is_legal s seat (DrainStock p) ≡ true →
     (may_zone_act s.hold seat ≡ true) × (is_cpu s.zone p ≡ true)
@@ -121,8 +121,8 @@ pub publish_tests : (s : State) (seat f : ℕ) → is_legal s seat (Publish f) �
 publish_tests s seat f e = and_four (may_zone_act s.hold seat) (is_frame s.zone f) (is_head (s.phases f)) (nat_le 1 (s.references 0 f)) e
 
 pub return_tests : (s : State) (seat f : ℕ) → is_legal s seat (Return f) ≡ true →
-    (may_zone_act s.hold seat ≡ true) × (is_frame s.zone f ≡ true) × (may_return s.killed (s.phases f) ≡ true)
-return_tests s seat f e = and_three (may_zone_act s.hold seat) (is_frame s.zone f) (may_return s.killed (s.phases f)) e
+    (may_zone_act s.hold seat ≡ true) × (is_frame s.zone f ≡ true) × (is_returnable s.killed (s.phases f) ≡ true)
+return_tests s seat f e = and_three (may_zone_act s.hold seat) (is_frame s.zone f) (is_returnable s.killed (s.phases f)) e
 
 pub set_max_tests : (s : State) (seat g : ℕ) (limit : Option ℕ) → is_legal s seat (SetMax g limit) ≡ true →
     (may_zone_act s.hold seat ≡ true) × (has_group s.groups g ≡ true) × ((not (g == 0)) ≡ true)

@@ -21,12 +21,12 @@ use Rattle.step_rules.specs.declared.step.Answer.{Answer}
 use Rattle.step_rules.specs.declared.step.Answer.TheVariants.{Done, Held, Left, Last, Took, Empty, Drained, OtherGroup, Back, Pages}
 use Rattle.step_rules.specs.declared.step.Answer.TheVariants.{Granted, Over, Placed, NoFreeBlock, Number}
 use Rattle.step_rules.specs.Phases.{Kind, ListFrame, FreshFrame, has_as, passes_out, passes_back, is_free, is_head, is_live, is_head_in_hand}
-use Rattle.step_rules.specs.Phases.{may_return, passed_back, collected, at_stage, stage_after_last}
+use Rattle.step_rules.specs.Phases.{is_returnable, passed_back, collected, at_stage, stage_after_last}
 use Rattle.step_rules.specs.Phases as kinds
 use Rattle.step_rules.specs.State.{Zone, Part, State, with_at, sum_to, is_cpu, is_frame, visits, may_zone_act, front_of, pins_of, with_last}
 use Rattle.group_tree.specs.Room.{PathHasRoom, IsLowestOver}
 use Rattle.step_rules.specs.Usage.{usage_of}
-use Rattle.step_rules.specs.Legal.{is_legal, IsAnswer, IsCounted, nothing_passes, rests, may_pass_back, may_fill}
+use Rattle.step_rules.specs.Legal.{is_legal, IsAnswer, IsCounted, nothing_passes, rests, is_passable, takes_fill}
 use Rattle.step_rules.specs.After.{after, after_last, with_phase, with_part, with_more, without_frame, paid, credited, filled, drained, with_back, consumed}
 use Rattle.step_rules.specs.Views.{seen_by, phase_seen_by, other_part_seen, parts_seen_by, references_seen_by}
 use Rattle.step_rules.specs.Views.{holds_lock}
@@ -110,13 +110,13 @@ head_seen s p f sound a =
 
 -- a fill is legal where p is visited alone
 fill_seen : (s : State) (p q g n : ℕ) (a : Bool) → holds_lock p s.hold ≡ true →
-    (a && visits q s.hold && has_group s.groups g && may_fill (parts_seen_by p s.parts q) g && nat_le n (s.pending g))
-    ≡ (a && visits q s.hold && has_group s.groups g && may_fill (s.parts q) g && nat_le n (s.pending g))
+    (a && visits q s.hold && has_group s.groups g && takes_fill (parts_seen_by p s.parts q) g && nat_le n (s.pending g))
+    ≡ (a && visits q s.hold && has_group s.groups g && takes_fill (s.parts q) g && nat_le n (s.pending g))
 fill_seen s p q g n a holds =
     elim (cases_Bool (visits q s.hold)) [
-      | inl visit ↦ ap (λ (part : Part). a && visits q s.hold && has_group s.groups g && may_fill part g && nat_le n (s.pending g))
+      | inl visit ↦ ap (λ (part : Part). a && visits q s.hold && has_group s.groups g && takes_fill part g && nat_le n (s.pending g))
           (own_part p s.parts q (only_visit p q s.hold holds visit))
-      | inr other ↦ rw other (no_visit a (has_group s.groups g) (may_fill (parts_seen_by p s.parts q) g) (may_fill (s.parts q) g) (nat_le n (s.pending g)))
+      | inr other ↦ rw other (no_visit a (has_group s.groups g) (takes_fill (parts_seen_by p s.parts q) g) (takes_fill (s.parts q) g) (nat_le n (s.pending g)))
     ]
   where
     no_visit : (a b c d e : Bool) → (a && false && b && c && e) ≡ (a && false && b && d && e)
@@ -290,7 +290,7 @@ own_after s p seat (TakeIn f) Done sound own inside holds legal ok counted =
 own_after s p seat (PassBack f) Done sound own inside holds legal ok counted =
     let cpu : is_cpu s.zone seat ≡ true = (pass_back_tests s seat f legal).0 in
     let e : seat ≡ p = cpu_own s.zone p seat own cpu in
-    let may : may_pass_back s seat f ≡ true = (pass_back_tests s seat f legal).3 in
+    let may : is_passable s seat f ≡ true = (pass_back_tests s seat f legal).3 in
     let mine : (kind : Kind) → has_as kind seat (s.phases f) ≡ true → has_as kind p (s.phases f) ≡ true =
     λ kind. subst (λ (r : ℕ). has_as kind r (s.phases f) ≡ true) e in
     sent_seen s p seat f e (elim (or_cases (has_as ListFrame seat (s.phases f) && front_of (s.parts seat).list == f || has_as FreshFrame seat (s.phases f))
@@ -341,7 +341,7 @@ own_after s p seat (Ungrant g n) Done sound own inside holds legal ok counted = 
 own_after s p seat (PlaceBlock g k) (Placed b) sound own inside holds legal ok counted =
     same_state (record s { pending = with_at s.pending g (s.pending g - 2 ^ k) }) (block_seen p s.phases g b) refl refl
 own_after s p seat (Return f) Done sound own inside holds legal ok counted =
-    let may : may_return s.killed (s.phases f) ≡ true = (return_tests s seat f legal).2 in
+    let may : is_returnable s.killed (s.phases f) ≡ true = (return_tests s seat f legal).2 in
     same_state s (unit_seen p s.killed s.phases f (returning_is s.killed (s.phases f) may)) refl refl
 own_after s p seat (SetMax g limit) Done sound own inside holds legal ok counted = refl
 own_after s p seat (SetFlag g flag) Done sound own inside holds legal ok counted = refl

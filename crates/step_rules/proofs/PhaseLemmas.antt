@@ -13,7 +13,7 @@ use Rattle.step_rules.specs.declared.phase.Phase.{Phase}
 use Rattle.step_rules.specs.declared.phase.Phase.TheVariants.{InZone, Lent, Head, Tail}
 use Rattle.step_rules.specs.declared.step.Answer.{Answer}
 use Rattle.step_rules.specs.declared.step.Answer.TheVariants.{Held, Zero, Full}
-use Rattle.step_rules.specs.Phases.{Kind, ListFrame, FreshFrame, BackFrame, is_free, is_live, has_as, passes_out, passes_back, is_head_in_hand, may_return}
+use Rattle.step_rules.specs.Phases.{Kind, ListFrame, FreshFrame, BackFrame, is_free, is_live, has_as, passes_out, passes_back, is_head_in_hand, is_returnable}
 use Rattle.step_rules.specs.State.{is_unheld, is_held_by, visits}
 use Rattle.step_rules.specs.Legal.{get_answer}
 
@@ -80,7 +80,7 @@ pub data Returns (killed : ℕ → Bool) (x : Phase) : Type 0 where
   AsEnded : (u : ChargedUnit) → x ≡ Head u AwaitsReturn → Returns killed x
   AsKilled : (u : ChargedUnit) → x ≡ Head u Collected → killed u.group ≡ true → Returns killed x
 
-pub returning_is : (killed : ℕ → Bool) (x : Phase) → may_return killed x ≡ true → Returns killed x
+pub returning_is : (killed : ℕ → Bool) (x : Phase) → is_returnable killed x ≡ true → Returns killed x
 returning_is killed (Head u AwaitsReturn) e = AsEnded u refl
 returning_is killed (Head u Collected) e = AsKilled u refl e
 returning_is killed x e = absurd (false≢true e)

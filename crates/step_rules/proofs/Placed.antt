@@ -17,7 +17,7 @@ use Rattle.step_rules.specs.declared.step.Action.TheVariants.{Lock, Put, Freeze,
 use Rattle.step_rules.specs.declared.step.Action.TheVariants.{Credit, PlaceBlock, Return}
 use Rattle.step_rules.specs.declared.step.Answer.{Answer}
 use Rattle.step_rules.specs.declared.step.Answer.TheVariants.{Illegal, Done, Last, Took, Back, Placed}
-use Rattle.step_rules.specs.Phases.{FreshFrame, has_as, is_free, passes_out, passes_back, unit_of, at_stage, stage_after_last, passed_back, collected, may_return}
+use Rattle.step_rules.specs.Phases.{FreshFrame, has_as, is_free, passes_out, passes_back, unit_of, at_stage, stage_after_last, passed_back, collected, is_returnable}
 use Rattle.step_rules.specs.State.{Zone, State, at_boot, with_at, front_of, is_cpu, is_frame}
 use Rattle.step_rules.specs.Legal.{is_legal, IsAnswer, IsMade}
 use Rattle.step_rules.specs.After.{after, state_of, is_within, placed_phase, with_block, unit_size, without_unit, consumed}
@@ -225,7 +225,7 @@ places_made s places seat (PlaceBlock g k) (Placed b) sound told legal ok =
     (lt-ltb x s.zone.frames known.0, ap place_in (free_is (s.phases x) known.1), ap place_in (in_block s.phases g b x within) ∙ placed_place g b x))
     (λ x off. ap place_in (off_block s.phases g b x off))
 places_made s places seat (Return f) Done sound told legal ok =
-    let may : may_return s.killed (s.phases f) ≡ true = (return_tests s seat f legal).2 in
+    let may : is_returnable s.killed (s.phases f) ≡ true = (return_tests s seat f legal).2 in
     any_return_told s places f sound told (returning_is s.killed (s.phases f) may)
 places_made s places seat Lock answer sound told legal ok = told
 places_made s places seat action answer sound told legal ok = told

@@ -15,7 +15,7 @@ use Rattle.step_rules.specs.declared.phase.Phase.{Phase}
 use Rattle.step_rules.specs.declared.phase.Phase.TheVariants.{InZone, Lent, Head, Tail}
 use Rattle.step_rules.specs.Phases.{FreshFrame, is_live, is_free, has_as, unit_of, passes_out, passes_back}
 use Rattle.step_rules.specs.State.{Zone, Part, State, with_at, one_if, frames_of, free_in}
-use Rattle.step_rules.specs.Legal.{nothing_passes, rests, may_fill, is_of_group}
+use Rattle.step_rules.specs.Legal.{nothing_passes, rests, takes_fill, is_of_group}
 use Rattle.step_rules.specs.After.{is_within, placed_phase, with_block, unit_size, without_unit, filled, drained}
 use Rattle.step_rules.proofs.Basics.{at_other}
 use Rattle.step_rules.proofs.Sums.{all_at}
@@ -303,7 +303,7 @@ still_paid cpus parts p part (Lent q way) not_here paid = tt
 still_paid cpus parts p part (Tail g) not_here paid = tt
 still_paid cpus parts p part (Head u stage) not_here paid = paid
 
-pub sound_filled : (s : State) (p g n : ℕ) → IsSound s → may_fill (s.parts p) g ≡ true →
+pub sound_filled : (s : State) (p g n : ℕ) → IsSound s → takes_fill (s.parts p) g ≡ true →
     Sound s.zone s.hold s.phases s.references (with_at s.parts p (filled (s.parts p) g n))
 sound_filled s p g n sound may =
     let both = and_parts ((s.parts p).stock.pages == 0) ((s.parts p).book == 0 || is_of_group (s.parts p).stock.group g) may in

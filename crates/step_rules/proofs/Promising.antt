@@ -22,7 +22,7 @@ use Rattle.step_rules.specs.declared.step.Action.{Action}
 use Rattle.step_rules.specs.declared.step.Action.TheVariants.{Get, Put, Freeze, Unfreeze, Consume, Credit, Grant, PlaceBlock, Return}
 use Rattle.step_rules.specs.declared.step.Answer.{Answer}
 use Rattle.step_rules.specs.declared.step.Answer.TheVariants.{Done, Held, Last, Took, Back, Granted, Placed}
-use Rattle.step_rules.specs.Phases.{FreshFrame, is_free, is_live, has_as, unit_of, keeper_of, is_head_in_hand, may_return}
+use Rattle.step_rules.specs.Phases.{FreshFrame, is_free, is_live, has_as, unit_of, keeper_of, is_head_in_hand, is_returnable}
 use Rattle.step_rules.specs.State.{Zone, Stock, State, one_if, sum_to, front_of, is_cpu, free_in, live_references}
 use Rattle.group_tree.specs.Room.{fits_limit}
 use Rattle.step_rules.specs.Usage.{is_below, usage_of, frames_kept, stock_below, pages_prepaid}
@@ -301,7 +301,7 @@ returns_kept zone run legal seat (Unfreeze f n) Done ok =
     by_hand (WasEnded u was) = (unit_told zone run legal f u was, no_reference zone run legal f (ap is_live was))
 returns_kept zone run legal seat (Return f) Done ok =
     let s = state_of zone run in
-    let may : may_return s.killed (s.phases f) ≡ true = (return_tests (state_of zone run) seat f ok.legal).2 in
+    let may : is_returnable s.killed (s.phases f) ≡ true = (return_tests (state_of zone run) seat f ok.legal).2 in
     came_back (every_frame_returns_once zone run legal f) (ok.legal) (returning_is s.killed (s.phases f) may)
   where
     came_back : ReturnsOnce zone run f → is_legal (state_of zone run) seat (Return f) ≡ true →

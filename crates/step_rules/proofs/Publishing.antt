@@ -12,7 +12,7 @@ use Rattle.step_rules.specs.declared.step.Action.TheVariants.{Lock, Put, Freeze,
 use Rattle.step_rules.specs.declared.step.Action.TheVariants.{Credit, PlaceBlock, Publish, Return}
 use Rattle.step_rules.specs.declared.step.Answer.{Answer}
 use Rattle.step_rules.specs.declared.step.Answer.TheVariants.{Illegal, Done, Last, Took, Back, Placed}
-use Rattle.step_rules.specs.Phases.{FreshFrame, has_as, passes_out, is_free, is_head, is_live, may_return, at_stage, stage_after_last}
+use Rattle.step_rules.specs.Phases.{FreshFrame, has_as, passes_out, is_free, is_head, is_live, is_returnable, at_stage, stage_after_last}
 use Rattle.step_rules.specs.Phases.{passed_back, collected, unit_of}
 use Rattle.step_rules.specs.State.{State, with_at, front_of}
 use Rattle.step_rules.specs.Legal.{IsMade}
@@ -147,7 +147,7 @@ kept_made f s x seat (Publish g) Done sound kept made =
     ]
 kept_made f s x seat (Return g) Done sound kept made =
     let legal = made.legal in
-    let may : may_return s.killed (s.phases g) ≡ true = (return_tests s seat g legal).2 in
+    let may : is_returnable s.killed (s.phases g) ≡ true = (return_tests s seat g legal).2 in
     let unit = unit_is s.killed (s.phases g) (returning_is s.killed (s.phases g) may) in
     elim (cases_eq f g) [
       | inl same ↦ λ e. absurd (false≢true (sym (ap (λ c. if c then false else x) (eq-eqb f g same)) ∙ e))

@@ -20,7 +20,7 @@ use Rattle.step_rules.specs.declared.step.Action.TheVariants.{Credit, PlaceBlock
 use Rattle.step_rules.specs.declared.step.Answer.{Answer}
 use Rattle.step_rules.specs.declared.step.Answer.TheVariants.{Illegal, Done, Last, Took, Back, Placed}
 use Rattle.step_rules.specs.Phases.{FreshFrame, has_as, is_free, passes_out, passes_back, unit_of, at_stage, stage_after_last, passed_back}
-use Rattle.step_rules.specs.Phases.{collected, is_head_in_hand, may_return}
+use Rattle.step_rules.specs.Phases.{collected, is_head_in_hand, is_returnable}
 use Rattle.step_rules.specs.State.{Zone, State, at_boot, with_at, one_if, front_of}
 use Rattle.step_rules.specs.Legal.{is_legal, IsAnswer, IsMade, Allows}
 use Rattle.step_rules.specs.After.{Run, after, state_of, IsLegalRun, is_within, placed_phase, with_block, unit_size, without_unit, consumed}
@@ -267,7 +267,7 @@ uses_made m s seat (Credit f) Back sound legal ok =
     phase_changes s.phases f m (Lent seat OnList) 1 1 (ap (λ n. n + 1) (ap opens (fresh_is seat (s.phases f) fresh).1))
 uses_made m s seat (PlaceBlock g k) (Placed b) sound legal ok = block_stays s g b m (λ x low high. (block_free s.zone s.phases b ok.1 x low high).1)
 uses_made m s seat (Return f) Done sound legal ok =
-    let may : may_return s.killed (s.phases f) ≡ true = (return_tests s seat f legal).2 in
+    let may : is_returnable s.killed (s.phases f) ≡ true = (return_tests s seat f legal).2 in
     any_unit_closes s f m sound (returning_is s.killed (s.phases f) may)
 uses_made m s seat Lock answer sound legal ok = refl
 uses_made m s seat action answer sound legal ok = refl
@@ -434,7 +434,7 @@ killed_group_same killed later each None = refl
 killed_group_same killed later each (Some g) = each g
 
 -- which return the run says is of a killed group's fresh frame
-pub killed_return_is_told : (zone : Zone) (run : Run) → IsLegalRun zone run → (f : ℕ) → may_return (state_of zone run).killed ((state_of zone run).phases f) ≡ true →
+pub killed_return_is_told : (zone : Zone) (run : Run) → IsLegalRun zone run → (f : ℕ) → is_returnable (state_of zone run).killed ((state_of zone run).phases f) ≡ true →
     is_killed_return run f ≡ is_killed_return_phase (state_of zone run).killed ((state_of zone run).phases f)
 killed_return_is_told zone run legal f may =
     let s = state_of zone run in
@@ -446,7 +446,7 @@ ends_same : (f : ℕ) (zone : Zone) (run : Run) (seat : ℕ) (action : Action) (
     uses_ended f run seat action answer ≡ ended_in f (state_of zone run) seat action answer
 ends_same f zone run seat (Return g) Done legal made =
     let ok = made.legal in
-    let may : may_return (state_of zone run).killed ((state_of zone run).phases g) ≡ true = (return_tests (state_of zone run) seat g ok).2 in
+    let may : is_returnable (state_of zone run).killed ((state_of zone run).phases g) ≡ true = (return_tests (state_of zone run) seat g ok).2 in
     ap (λ b. if g == f then one_if b else 0) (killed_return_is_told zone run legal g may)
 ends_same f zone run seat Lock answer legal made = refl
 ends_same f zone run seat action answer legal made = refl

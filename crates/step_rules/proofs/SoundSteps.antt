@@ -9,10 +9,10 @@ use Rattle.step_rules.specs.declared.step.Action.TheVariants.{TakeIn, PassBack, 
 use Rattle.step_rules.specs.declared.step.Action.TheVariants.{Grant, Ungrant, PlaceBlock, Return, SetMax, SetFlag, Make, Remove, Kill}
 use Rattle.step_rules.specs.declared.step.Answer.{Answer}
 use Rattle.step_rules.specs.declared.step.Answer.TheVariants.{Done, Held, Left, Last, Took, Back, Pages, Granted, Placed, Number}
-use Rattle.step_rules.specs.Phases.{Kind, ListFrame, FreshFrame, has_as, passes_out, passes_back, is_free, is_head_in_hand, may_return}
+use Rattle.step_rules.specs.Phases.{Kind, ListFrame, FreshFrame, has_as, passes_out, passes_back, is_free, is_head_in_hand, is_returnable}
 use Rattle.step_rules.specs.Phases as kinds
 use Rattle.step_rules.specs.State.{Zone, State, is_cpu, is_frame, is_unheld, is_held_by, visits, front_of}
-use Rattle.step_rules.specs.Legal.{is_legal, IsAnswer, IsCounted, nothing_passes, may_pass_back, may_fill}
+use Rattle.step_rules.specs.Legal.{is_legal, IsAnswer, IsCounted, nothing_passes, is_passable, takes_fill}
 use Rattle.step_rules.specs.After.{after, without_unit}
 use Rattle.step_rules.proofs.LegalTests.{collect_tests, consume_tests, credit_tests, fill_tests, freeze_tests, get_tests}
 use Rattle.step_rules.proofs.LegalTests.{lock_tests, open_visit_tests, pass_back_tests, pass_out_tests, put_tests, report_tests}
@@ -85,7 +85,7 @@ sound_step s seat (TakeIn f) Done sound legal ok counted =
 sound_step s seat (PassBack f) Done sound legal ok counted =
     let frame : is_frame s.zone f ≡ true = (pass_back_tests s seat f legal).1 in
     let visit : visits seat s.hold ≡ true = (pass_back_tests s seat f legal).2 in
-    let may : may_pass_back s seat f ≡ true = (pass_back_tests s seat f legal).3 in
+    let may : is_passable s seat f ≡ true = (pass_back_tests s seat f legal).3 in
     let below = below_frames s.zone f frame in
     let at = visited seat s.hold visit in
     elim (or_cases (has_as ListFrame seat (s.phases f) && front_of (s.parts seat).list == f || has_as FreshFrame seat (s.phases f))
@@ -114,14 +114,14 @@ sound_step s seat (Report n) Done sound legal ok counted =
     sound_reported s seat n sound (leb-true n (s.parts seat).unreported few)
 sound_step s seat (Absorb p) (Pages n) sound legal ok counted = sound_absorbed s p n sound ok
 sound_step s seat (Fill p g n) Done sound legal ok counted =
-    let may : may_fill (s.parts p) g ≡ true = (fill_tests s seat p g n legal).3 in
+    let may : takes_fill (s.parts p) g ≡ true = (fill_tests s seat p g n legal).3 in
     sound_filled s p g n sound may
 sound_step s seat (DrainStock p) (Pages n) sound legal ok counted = sound_drained s p n sound counted
 sound_step s seat (Grant g n) Granted sound legal ok counted = sound
 sound_step s seat (Ungrant g n) Done sound legal ok counted = sound
 sound_step s seat (PlaceBlock g k) (Placed b) sound legal ok counted = sound_placed s g b sound ok.1
 sound_step s seat (Return f) Done sound legal ok counted =
-    let may : may_return s.killed (s.phases f) ≡ true = (return_tests s seat f legal).2 in
+    let may : is_returnable s.killed (s.phases f) ≡ true = (return_tests s seat f legal).2 in
     returned s f sound (returning_is s.killed (s.phases f) may)
 sound_step s seat (SetMax g limit) Done sound legal ok counted = sound
 sound_step s seat (SetFlag g flag) Done sound legal ok counted = sound

@@ -17,7 +17,7 @@ use Rattle.step_rules.specs.declared.step.Action.TheVariants.{Lock, Put, Freeze,
 use Rattle.step_rules.specs.declared.step.Answer.{Answer}
 use Rattle.step_rules.specs.declared.step.Answer.TheVariants.{Illegal, Done, Last, Took, Back, Placed}
 use Rattle.step_rules.specs.Phases.{is_free, passes_out, passes_back, unit_of, at_stage, stage_after_last, passed_back, collected}
-use Rattle.step_rules.specs.Phases.{is_head_in_hand, may_return}
+use Rattle.step_rules.specs.Phases.{is_head_in_hand, is_returnable}
 use Rattle.step_rules.specs.State.{Zone, State, at_boot, with_at, front_of, is_cpu}
 use Rattle.step_rules.specs.Legal.{IsMade}
 use Rattle.step_rules.specs.After.{Run, IsLegalRun, after, state_of, placed_phase, with_block, unit_size, without_unit, consumed}
@@ -196,7 +196,7 @@ marks_made f front s x seat (PlaceBlock g k) (Placed b) sound holds at made =
     block_marks s g k b f x made.answered.0 (λ m low high. (block_free s.zone s.phases b made.answered.1 m low high).1) holds
 marks_made f front s x seat (Return g) Done sound holds at made =
     let legal = made.legal in
-    let may : may_return s.killed (s.phases g) ≡ true = (return_tests s seat g legal).2 in
+    let may : is_returnable s.killed (s.phases g) ≡ true = (return_tests s seat g legal).2 in
     any_unit_marks s g f x sound (returning_is s.killed (s.phases g) may) holds
 marks_made f front s x seat Lock answer sound holds at made = holds
 marks_made f front s x seat action answer sound holds at made = holds

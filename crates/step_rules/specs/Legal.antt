@@ -17,7 +17,7 @@ use Rattle.step_rules.specs.declared.step.Answer.TheVariants.{Illegal, Done, Hel
 use Rattle.step_rules.specs.declared.step.Answer.TheVariants.{Empty, OtherGroup, Drained, Back, Pages, Granted, Over}
 use Rattle.step_rules.specs.declared.step.Answer.TheVariants.{Placed, NoFreeBlock, Number}
 use Rattle.step_rules.specs.Phases.{Kind, ListFrame, FreshFrame, is_free, is_head, has_as, passes_out, passes_back}
-use Rattle.step_rules.specs.Phases.{is_passing, is_head_in_hand, may_return}
+use Rattle.step_rules.specs.Phases.{is_passing, is_head_in_hand, is_returnable}
 use Rattle.step_rules.specs.Phases as kinds
 use Rattle.step_rules.specs.State.{State, Part, all_to, front_of, is_cpu, is_frame, is_unheld, is_held_by, visits}
 use Rattle.step_rules.specs.State.{may_zone_act, live_references, pins_of, free_in}
@@ -40,8 +40,8 @@ abbrev pub no_page_pends : State → Bool
 no_page_pends s = all_to most_groups (λ g. s.pending g == 0)
 
 -- the frame is the front of the CPU's list, a fresh frame there or a back frame there
-abbrev pub may_pass_back : State → ℕ → ℕ → Bool
-may_pass_back s cpu f =
+abbrev pub is_passable : State → ℕ → ℕ → Bool
+is_passable s cpu f =
     has_as ListFrame cpu (s.phases f) && front_of (s.parts cpu).list == f || has_as FreshFrame cpu (s.phases f)
     || has_as kinds.BackFrame cpu (s.phases f)
 
@@ -51,8 +51,8 @@ is_of_group None g = false
 is_of_group (Some h) g = h == g
 
 -- the stock has no page, and the book is 0 or the stock is of the group
-abbrev pub may_fill : Part → ℕ → Bool
-may_fill part g = part.stock.pages == 0 && (part.book == 0 || is_of_group part.stock.group g)
+abbrev pub takes_fill : Part → ℕ → Bool
+takes_fill part g = part.stock.pages == 0 && (part.book == 0 || is_of_group part.stock.group g)
 
 -- the group exists, isn't the root, has no child, and its usage is 0
 abbrev pub is_removable : State → ℕ → Bool
@@ -76,7 +76,7 @@ is_legal s seat (Unfreeze f n) = may_zone_act s.hold seat && is_frame s.zone f &
 is_legal s seat (PassOut f cpu) = may_zone_act s.hold seat && is_frame s.zone f && visits cpu s.hold
     && is_free (s.phases f)
 is_legal s seat (TakeIn f) = is_cpu s.zone seat && is_frame s.zone f && passes_out seat (s.phases f)
-is_legal s seat (PassBack f) = is_cpu s.zone seat && is_frame s.zone f && visits seat s.hold && may_pass_back s seat f
+is_legal s seat (PassBack f) = is_cpu s.zone seat && is_frame s.zone f && visits seat s.hold && is_passable s seat f
 is_legal s seat (Collect f cpu) = may_zone_act s.hold seat && is_frame s.zone f && is_cpu s.zone cpu
     && passes_back cpu (s.phases f)
 is_legal s seat (Consume g) = is_cpu s.zone seat && nat_le 1 (length (s.parts seat).list)
@@ -85,14 +85,14 @@ is_legal s seat (Credit f) = is_cpu s.zone seat && is_frame s.zone f && has_as F
 is_legal s seat (Report n) = is_cpu s.zone seat && visits seat s.hold && nat_le n (s.parts seat).unreported
 is_legal s seat (Absorb cpu) = may_zone_act s.hold seat && visits cpu s.hold
 is_legal s seat (Fill cpu g n) = may_zone_act s.hold seat && visits cpu s.hold && has_group s.groups g
-    && may_fill (s.parts cpu) g && nat_le n (s.pending g)
+    && takes_fill (s.parts cpu) g && nat_le n (s.pending g)
 is_legal s seat (DrainStock cpu) = may_zone_act s.hold seat && is_cpu s.zone cpu
 is_legal s seat (Grant g n) = may_zone_act s.hold seat && has_group s.groups g && not (s.killed g)
 is_legal s seat (Ungrant g n) = may_zone_act s.hold seat && has_group s.groups g && nat_le n (s.pending g)
 is_legal s seat (PlaceBlock g k) = may_zone_act s.hold seat && has_group s.groups g && nat_le (2 ^ k) (s.pending g)
 is_legal s seat (Publish f) = may_zone_act s.hold seat && is_frame s.zone f && is_head (s.phases f)
     && nat_le 1 (s.references 0 f)
-is_legal s seat (Return f) = may_zone_act s.hold seat && is_frame s.zone f && may_return s.killed (s.phases f)
+is_legal s seat (Return f) = may_zone_act s.hold seat && is_frame s.zone f && is_returnable s.killed (s.phases f)
 is_legal s seat (NoteMax g) = may_zone_act s.hold seat && has_group s.groups g
 is_legal s seat (NoteOom g) = may_zone_act s.hold seat && has_group s.groups g
 is_legal s seat (NoteGroupKill g) = may_zone_act s.hold seat && has_group s.groups g && not (g == 0)

@@ -115,15 +115,15 @@ is_head_in_hand (Head unit stage) = is_stage_in_hand stage
 is_head_in_hand _ = false
 
 -- the unit may be returned: its last reference was dropped, or it was collected fresh and its group is killed
-abbrev pub may_stage_return : Bool → Stage → Bool
-may_stage_return is_killed AwaitsReturn = true
-may_stage_return is_killed Collected = is_killed
-may_stage_return is_killed _ = false
+abbrev pub is_stage_returnable : Bool → Stage → Bool
+is_stage_returnable is_killed AwaitsReturn = true
+is_stage_returnable is_killed Collected = is_killed
+is_stage_returnable is_killed _ = false
 
 -- the frame heads a unit that may be returned
-abbrev pub may_return : (ℕ → Bool) → Phase → Bool
-may_return killed (Head unit stage) = may_stage_return (killed unit.group) stage
-may_return killed _ = false
+abbrev pub is_returnable : (ℕ → Bool) → Phase → Bool
+is_returnable killed (Head unit stage) = is_stage_returnable (killed unit.group) stage
+is_returnable killed _ = false
 
 -- the same unit, at another stage
 abbrev pub at_stage : Stage → Phase → Phase
