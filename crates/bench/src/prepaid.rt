@@ -37,7 +37,7 @@ impl Payer {
 impl<R> Subject<R> for Payer {
     fn call(&mut self, _rt: &R, _number: u32) -> bool {
         self.words.consume(&mut self.seat, 1) == Consume::Took
-            && self.words.credit(&mut self.seat) == Credit::Back
+            && self.words.credit(&mut self.seat) == Credit::Stocked
     }
 }
 

@@ -11,7 +11,7 @@ use Rattle.step_rules.specs.declared.step.Action.TheVariants.{Lock, Unlock, Open
 use Rattle.step_rules.specs.declared.step.Action.TheVariants.{TakeIn, PassBack, Collect, Consume, Credit, Report, Absorb, Fill, DrainStock}
 use Rattle.step_rules.specs.declared.step.Action.TheVariants.{Grant, Ungrant, PlaceBlock, Return, SetMax, SetFlag, Make, Remove, Kill}
 use Rattle.step_rules.specs.declared.step.Answer.{Answer}
-use Rattle.step_rules.specs.declared.step.Answer.TheVariants.{Done, Held, Left, Last, Took, Back, Pages, Granted, Placed, Number}
+use Rattle.step_rules.specs.declared.step.Answer.TheVariants.{Done, Held, Left, Last, Took, Stocked, Pages, Granted, Placed, Number}
 use Rattle.step_rules.specs.Phases.{Kind, ListFrame, FreshFrame, has_as, is_live, is_head_in_hand}
 use Rattle.step_rules.specs.State.{Zone, State, Part, with_at, sum_to, one_if, is_cpu, is_held_by, visits, front_of, frames_of, live_references}
 use Rattle.step_rules.specs.Legal.{is_legal, IsAnswer, IsCounted, get_answer}
@@ -250,7 +250,7 @@ small_step n s seat (Collect f p) Done sound b legal ok counted small =
     record { references = b.references; pages = wide n (pages_out s) b.pages; holder = b.holder }
 small_step n s seat (Consume g) Took sound b legal ok counted small =
     record { references = b.references; pages = part_kept n s seat _ refl b.pages; holder = b.holder }
-small_step n s seat (Credit f) Back sound b legal ok counted small =
+small_step n s seat (Credit f) Stocked sound b legal ok counted small =
     record { references = b.references; pages = part_kept n s seat _ refl b.pages; holder = b.holder }
 small_step n s seat (Report m) Done sound b legal ok counted small =
     record { references = b.references; pages = part_kept n s seat _ refl b.pages; holder = b.holder }

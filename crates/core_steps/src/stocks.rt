@@ -84,7 +84,7 @@ pub(crate) fn credit(rows: &mut Rows, seat: u32, frame: u32) -> Answer
         },
     );
     rows.credit(seat, frame);
-    Answer::Back
+    Answer::Stocked
 }
 
 /// The visited CPU reports pages.

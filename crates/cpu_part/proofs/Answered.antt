@@ -6,7 +6,7 @@ use Rattle.frame_word.specs.declared.answers.Get.TheVariants.{Held, Zero, Raced,
 use Rattle.frame_word.specs.Seats.{KnownSeat, GetAnswers}
 use Rattle.stock_word.specs.Stock.{KnownStockSeat}
 use Rattle.stock_word.specs.declared.words.Consume.TheVariants.{Took}
-use Rattle.stock_word.specs.declared.words.Credit.TheVariants.{Back}
+use Rattle.stock_word.specs.declared.words.Credit.TheVariants.{Stocked}
 use Rattle.stock_word.specs.Calls.{Consumed, Credited}
 use Rattle.cpu_part.specs.declared.answers.Fast.TheVariants.{Got}
 use Rattle.cpu_part.specs.declared.answers.Dropped.TheVariants.{Listed}
@@ -35,7 +35,7 @@ module _ (c now : KnownCpu) (same : c ≡ now) where
 
   pub dropped : (f i drops : ℕ) (list fresh : List ℕ) (stock : KnownStockSeat) → i < length c.fresh → get_or c.fresh i 0 ≡ f → list ≡ c.list ++ f ∷ []
       → fresh ≡ remove c.fresh i
-      → stock.table ≡ c.stock_seat.table → Credited Back c.stock_seat.view stock.view → drops ≡ min (c.drops + 1) (2 ^ 64 - 1)
+      → stock.table ≡ c.stock_seat.table → Credited Stocked c.stock_seat.view stock.view → drops ≡ min (c.drops + 1) (2 ^ 64 - 1)
       → DropAnswers f Listed now (record c { list = list; fresh = fresh; stock_seat = stock; drops = drops })
   dropped f i drops list fresh stock inside is end rest table back count =
       subst (λ (k : KnownCpu). DropAnswers f Listed k (record c { list = list; fresh = fresh; stock_seat = stock; drops = drops })) same (

@@ -49,7 +49,7 @@ IfGot other P = Unit {0}
 -- the end of the list. NeedVisit: the stock was drained by now.
 abbrev pub DropAnswers : ℕ → Dropped → KnownCpu → KnownCpu → Type 0
 DropAnswers f Listed c d = (i : ℕ) × (i < length c.fresh) × (slice_index c.fresh i ≡ f) × (seen : StockView)
-    × Credited credit.Back c.stock_seat.view seen
+    × Credited credit.Stocked c.stock_seat.view seen
     × (d ≡ record c {
       list = c.list ++ f ∷ [];
       fresh = remove c.fresh i;

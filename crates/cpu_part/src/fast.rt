@@ -41,7 +41,7 @@ impl<N: BootName> Cpu<N> {
     {
         match tables.stocks.credit(&mut self.stock_seat) {
             Credit::Drained => Dropped::NeedVisit,
-            Credit::Back => {
+            Credit::Stocked => {
                 relist(&mut self.list, &mut self.fresh, frame);
                 self.drops = self.drops.saturating_add(1);
                 Dropped::Listed

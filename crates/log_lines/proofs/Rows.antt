@@ -127,7 +127,7 @@ answer_rows =
     & row_alone answer_words (codes "empty") refl answer.Empty refl
     & row_alone answer_words (codes "other-group") refl answer.OtherGroup refl
     & row_alone answer_words (codes "drained") refl answer.Drained refl
-    & row_alone answer_words (codes "back") refl answer.Back refl
+    & row_alone answer_words (codes "back") refl answer.Stocked refl
     & row_alone answer_words (codes "granted") refl answer.Granted refl
     & row_alone answer_words (codes "no-block") refl answer.NoFreeBlock refl
     & row_one answer_words (codes "left") refl number_codec answer.Left (λ a. refl)
@@ -198,7 +198,7 @@ answer_again answer.Took rest fit = refl
 answer_again answer.Empty rest fit = refl
 answer_again answer.OtherGroup rest fit = refl
 answer_again answer.Drained rest fit = refl
-answer_again answer.Back rest fit = refl
+answer_again answer.Stocked rest fit = refl
 answer_again answer.Granted rest fit = refl
 answer_again answer.NoFreeBlock rest fit = refl
 answer_again (answer.Left a) rest fit = one_again number_codec answer.Left a rest fit.1

@@ -46,7 +46,7 @@ answer_names =
     ∷ (codes "missed", reply.Alone answer.Missed) ∷ (codes "took", reply.Alone answer.Took)
     ∷ (codes "empty", reply.Alone answer.Empty)
     ∷ (codes "other-group", reply.Alone answer.OtherGroup) ∷ (codes "drained", reply.Alone answer.Drained)
-    ∷ (codes "back", reply.Alone answer.Back) ∷ (codes "granted", reply.Alone answer.Granted)
+    ∷ (codes "back", reply.Alone answer.Stocked) ∷ (codes "granted", reply.Alone answer.Granted)
     ∷ (codes "no-block", reply.Alone answer.NoFreeBlock)
     ∷ (codes "left", reply.Left) ∷ (codes "pages", reply.Pages) ∷ (codes "over", reply.Over)
     ∷ (codes "placed", reply.Placed)

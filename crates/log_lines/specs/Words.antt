@@ -11,7 +11,7 @@ use Rattle.step_rules.specs.declared.step.Action.TheVariants.{PlaceBlock, Publis
 use Rattle.step_rules.specs.declared.step.Action.TheVariants.{NoteGroupKill, SetMax, SetFlag, Make, Remove, Kill}
 use Rattle.step_rules.specs.declared.step.Answer.{Answer}
 use Rattle.step_rules.specs.declared.step.Answer.TheVariants.{Illegal, Done, Held, Zero, Full, Left, Last, Missed, Took}
-use Rattle.step_rules.specs.declared.step.Answer.TheVariants.{Empty, OtherGroup, Drained, Back, Pages, Granted, Over}
+use Rattle.step_rules.specs.declared.step.Answer.TheVariants.{Empty, OtherGroup, Drained, Stocked, Pages, Granted, Over}
 use Rattle.step_rules.specs.declared.step.Answer.TheVariants.{Placed, NoFreeBlock}
 use Rattle.step_rules.specs.declared.step.Answer.TheVariants as answer
 
@@ -137,7 +137,7 @@ answer_words Took = Fixed (codes "took") ∷ []
 answer_words Empty = Fixed (codes "empty") ∷ []
 answer_words OtherGroup = Fixed (codes "other-group") ∷ []
 answer_words Drained = Fixed (codes "drained") ∷ []
-answer_words Back = Fixed (codes "back") ∷ []
+answer_words Stocked = Fixed (codes "back") ∷ []
 answer_words (Pages pages) = Fixed (codes "pages") ∷ Numeral Wide pages ∷ []
 answer_words Granted = Fixed (codes "granted") ∷ []
 answer_words (Over g) = Fixed (codes "over") ∷ group g ∷ []

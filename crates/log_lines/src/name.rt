@@ -125,7 +125,7 @@ const ANSWER_NAMES: [(&[u8], AnswerName); 19] = [
     (b"empty", AnswerName::Alone(Answer::Empty)),
     (b"other-group", AnswerName::Alone(Answer::OtherGroup)),
     (b"drained", AnswerName::Alone(Answer::Drained)),
-    (b"back", AnswerName::Alone(Answer::Back)),
+    (b"back", AnswerName::Alone(Answer::Stocked)),
     (b"granted", AnswerName::Alone(Answer::Granted)),
     (b"no-block", AnswerName::Alone(Answer::NoFreeBlock)),
     (b"left", AnswerName::Left),

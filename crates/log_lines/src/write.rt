@@ -48,7 +48,7 @@ pub fn write_answer(answer: &Answer, text: &mut Vec<u8>) -> Result<(), AllocErro
         Answer::Empty => push_word(b"empty", text),
         Answer::OtherGroup => push_word(b"other-group", text),
         Answer::Drained => push_word(b"drained", text),
-        Answer::Back => push_word(b"back", text),
+        Answer::Stocked => push_word(b"back", text),
         Answer::Pages(pages) => {
             let mut buffer = Buffer::new();
             push_word(b"pages", text)?;

@@ -18,7 +18,7 @@ use Rattle.step_rules.specs.declared.step.Step.{Step}
 use Rattle.step_rules.specs.declared.step.Action.{Action}
 use Rattle.step_rules.specs.declared.step.Action.TheVariants.{Lock, Unlock, Get, Put, Consume, Credit}
 use Rattle.step_rules.specs.declared.step.Answer.{Answer}
-use Rattle.step_rules.specs.declared.step.Answer.TheVariants.{Done, Held, Left, Last, Took, Back}
+use Rattle.step_rules.specs.declared.step.Answer.TheVariants.{Done, Held, Left, Last, Took, Stocked}
 use Rattle.step_rules.specs.State.{Zone, State}
 use Rattle.step_rules.specs.Legal.{Allows, IsCounted, is_legal}
 use Rattle.step_rules.specs.After.{Run, after, state_of, IsLegalRun}
@@ -191,7 +191,7 @@ fast_lines_agree t run cpus k before action answer after_visit_state shows serve
     fast_groups a b p (Put f) answer same fast = same
     fast_groups a b p (Consume g) Took same fast = same
     fast_groups a b p (Consume g) answer same fast = same
-    fast_groups a b p (Credit f) Back same fast = same
+    fast_groups a b p (Credit f) Stocked same fast = same
     fast_groups a b p (Credit f) answer same fast = same
     fast_groups a b p action answer same fast = absurd (false≢true fast)
 

@@ -11,7 +11,7 @@ use Rattle.step_rules.specs.declared.phase.Hold.TheVariants.{HeldBy}
 use Rattle.step_rules.specs.declared.step.Action.{Action}
 use Rattle.step_rules.specs.declared.step.Action.TheVariants.{Get, Put, Consume, Credit}
 use Rattle.step_rules.specs.declared.step.Answer.{Answer}
-use Rattle.step_rules.specs.declared.step.Answer.TheVariants.{Held, Zero, Full, Left, Last, Took, Empty, OtherGroup, Drained, Back}
+use Rattle.step_rules.specs.declared.step.Answer.TheVariants.{Held, Zero, Full, Left, Last, Took, Empty, OtherGroup, Drained, Stocked}
 use Rattle.step_rules.specs.State.{Zone, State, is_cpu, is_frame, is_unheld, may_zone_act}
 use Rattle.step_rules.specs.Legal.{is_legal, IsAnswer, IsCounted, IsMade}
 use Rattle.step_rules.specs.After.{Run, after, state_of}
@@ -56,7 +56,7 @@ fast_answer s hold p (Consume g) Empty fast h = h
 fast_answer s hold p (Consume g) Drained fast h = h
 fast_answer s hold p (Consume g) OtherGroup fast h = h
 fast_answer s hold p (Consume g) answer fast h = h
-fast_answer s hold p (Credit f) Back fast h = h
+fast_answer s hold p (Credit f) Stocked fast h = h
 fast_answer s hold p (Credit f) Drained fast h = h
 fast_answer s hold p (Credit f) answer fast h = h
 fast_answer s hold p action answer fast h = absurd (false≢true fast)
@@ -80,7 +80,7 @@ fast_after s hold p (Put f) Last fast = refl
 fast_after s hold p (Put f) answer fast = refl
 fast_after s hold p (Consume g) Took fast = refl
 fast_after s hold p (Consume g) answer fast = refl
-fast_after s hold p (Credit f) Back fast = refl
+fast_after s hold p (Credit f) Stocked fast = refl
 fast_after s hold p (Credit f) answer fast = refl
 fast_after s hold p action answer fast = absurd (false≢true fast)
 

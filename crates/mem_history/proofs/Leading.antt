@@ -23,7 +23,7 @@ use Rattle.step_rules.specs.declared.phase.Stage.TheVariants.{FreshAt, BackAt, A
 use Rattle.step_rules.specs.declared.phase.Phase.{Phase}
 use Rattle.step_rules.specs.declared.phase.Phase.TheVariants as phase
 use Rattle.step_rules.specs.declared.step.Action.TheVariants.{Get, Put, Consume, Credit}
-use Rattle.step_rules.specs.declared.step.Answer.TheVariants.{Held, Left, Last, Took, Back}
+use Rattle.step_rules.specs.declared.step.Answer.TheVariants.{Held, Left, Last, Took, Stocked}
 use Rattle.step_rules.specs.Phases.{ListFrame, FreshFrame, has_as, is_live, at_stage, stage_after_last}
 use Rattle.step_rules.specs.State.{State, Part, with_at, one_if, is_cpu, pins_of, without, with_last, front_of, may_zone_act}
 use Rattle.step_rules.specs.Legal.{is_legal, IsAnswer}
@@ -373,7 +373,7 @@ module _ (t : KnownTable) (w : KnownStockTable) (run : Run) (m : KnownMachine) (
   leads_listed : (d : KnownCpu) (f i : ℕ) (stock : KnownStockSeat) (drops : ℕ) → i < length c.fresh → get_or c.fresh i 0 ≡ f →
       d ≡ record c { list = c.list ++ f ∷ []; fresh = remove c.fresh i; stock_seat = stock; drops = drops } →
       stocks.group_of stock.view.last ≡ stocks.group_of c.stock_seat.view.last →
-      IsAnswer (local_of t m c) q (Credit f) Back → LeadsAs t c.number (visit_state m c) (cpu_makes q (Credit f) Back ∷ []) (visit_state m d)
+      IsAnswer (local_of t m c) q (Credit f) Stocked → LeadsAs t c.number (visit_state m c) (cpu_makes q (Credit f) Stocked ∷ []) (visit_state m d)
   leads_listed d f i stock drops inside at now same_group answered =
       let e : KnownCpu = record c { list = c.list ++ f ∷ []; fresh = remove c.fresh i; stock_seat = stock; drops = drops } in
       let noted = is.tied.noted f in
@@ -420,7 +420,7 @@ module _ (t : KnownTable) (w : KnownStockTable) (run : Run) (m : KnownMachine) (
             ap (parts.times x) removed ∙ same_times x (without f c.fresh) ∙ times_without_other x f c.fresh ne ∙ sym (same_times x c.fresh) in
             other_phase e x (frame_state_at m.frame_states x) refl refl group same ∙ sym (at_other (local_of t m c).phases f (phase.Lent q OnList) x ne)
       ] in
-      subst (λ (x : KnownCpu). LeadsAs t c.number (visit_state m c) (cpu_makes q (Credit f) Back ∷ []) (visit_state m x)) (sym now) (record {
+      subst (λ (x : KnownCpu). LeadsAs t c.number (visit_state m c) (cpu_makes q (Credit f) Stocked ∷ []) (visit_state m x)) (sym now) (record {
         leads = (
           record {
             own = inr refl;
@@ -462,7 +462,7 @@ fast_calls_lead = record {
   listed = λ t w run m cpus k c d is f stands answers decided.
       watched t m c d _ (leads_listed t w run m cpus k c is d f answers.0 (with_view c.stock_seat answers.3) _ answers.1 answers.2 answers.5
       (ap (λ v. stocks.group_of v.last) answers.4.3 ∙ sym (ap stocks.group_of answers.4.2))
-      (decided_here t w run m cpus k c is (λ x. IsAnswer x c.number (Credit f) Back)
+      (decided_here t w run m cpus k c is (λ x. IsAnswer x c.number (Credit f) Stocked)
       (λ x y same h. ap (λ (part : Part). part.stock.is_drained) (sym same) ∙ h) (decided zero)));
 }
   where

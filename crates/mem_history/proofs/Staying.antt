@@ -9,7 +9,7 @@ use Rattle.step_rules.specs.declared.step.Action.TheVariants.{Lock, Unlock, Open
 use Rattle.step_rules.specs.declared.step.Action.TheVariants.{TakeIn, PassBack, Collect, Consume, Credit, Report, Absorb, Fill, DrainStock}
 use Rattle.step_rules.specs.declared.step.Action.TheVariants.{Grant, Ungrant, PlaceBlock, Return, SetMax, SetFlag, Make, Remove, Kill}
 use Rattle.step_rules.specs.declared.step.Answer.{Answer}
-use Rattle.step_rules.specs.declared.step.Answer.TheVariants.{Done, Held, Left, Last, Took, Back, Pages, Granted, Placed, Number}
+use Rattle.step_rules.specs.declared.step.Answer.TheVariants.{Done, Held, Left, Last, Took, Stocked, Pages, Granted, Placed, Number}
 use Rattle.step_rules.specs.State.{Zone, State, Part, with_at, visits}
 use Rattle.step_rules.specs.Legal.{is_legal, IsCounted}
 use Rattle.step_rules.specs.After.{Run, after, state_of, filled, with_back}
@@ -104,7 +104,7 @@ stays_made s p seat (PassBack f) Done own holds legal =
     record { references = λ q ne other f. refl; parts = part_else p s.parts seat _ own }
 stays_made s p seat (Consume g) Took own holds legal =
     record { references = λ q ne other f. refl; parts = part_else p s.parts seat _ own }
-stays_made s p seat (Credit f) Back own holds legal =
+stays_made s p seat (Credit f) Stocked own holds legal =
     record { references = λ q ne other f. refl; parts = part_else p s.parts seat _ own }
 stays_made s p seat (Report n) Done own holds legal =
     record { references = λ q ne other f. refl; parts = part_else p s.parts seat _ own }

@@ -9,7 +9,7 @@ use Rattle.cpu_part.specs.Cpus.{KnownCpu}
 use Rattle.step_rules.specs.declared.step.Action.{Action}
 use Rattle.step_rules.specs.declared.step.Action.TheVariants.{Get, Put, Freeze, DrainStock, Consume, Credit}
 use Rattle.step_rules.specs.declared.step.Answer.{Answer}
-use Rattle.step_rules.specs.declared.step.Answer.TheVariants.{Done, Left, Last, Missed, Pages, Took, Empty, OtherGroup, Drained, Back}
+use Rattle.step_rules.specs.declared.step.Answer.TheVariants.{Done, Left, Last, Missed, Pages, Took, Empty, OtherGroup, Drained, Stocked}
 use Rattle.step_rules.specs.State.{State, Part, is_cpu, live_references}
 use Rattle.step_rules.specs.Legal.{is_legal, IsAnswer, IsCounted, get_answer}
 use Rattle.step_rules.specs.Views.{other_part_seen, seen_by}
@@ -67,7 +67,7 @@ consume_answer x y q g answer same h = h
 
 -- it takes a page likewise
 credit_answer : (x y : State) (q f : ℕ) (answer : Answer) → x.parts q ≡ y.parts q → IsAnswer x q (Credit f) answer → IsAnswer y q (Credit f) answer
-credit_answer x y q f Back same h = ap (λ (part : Part). part.stock.is_drained) (sym same) ∙ h
+credit_answer x y q f Stocked same h = ap (λ (part : Part). part.stock.is_drained) (sym same) ∙ h
 credit_answer x y q f Drained same h = ap (λ (part : Part). part.stock.is_drained) (sym same) ∙ h
 credit_answer x y q f answer same h = h
 

@@ -11,7 +11,7 @@ use Rattle.cpu_part.specs.Cpus.{KnownCpu, IsTied, most_pins, times}
 use Rattle.cpu_part.specs.Calls.{FastAnswers, DropAnswers, PinAnswers, UnpinAnswers}
 use Rattle.step_rules.specs.declared.step.Action.TheVariants.{Get, Put, Consume, Credit}
 use Rattle.step_rules.specs.declared.step.Answer.{Answer}
-use Rattle.step_rules.specs.declared.step.Answer.TheVariants.{Held, Left, Last, Took, Back}
+use Rattle.step_rules.specs.declared.step.Answer.TheVariants.{Held, Left, Last, Took, Stocked}
 use Rattle.step_rules.specs.After.{Run}
 use Rattle.mem_machine.specs.Machines.{KnownMachine, VisitState, visit_state}
 use Rattle.mem_machine.specs.Local.{Makes}
@@ -61,5 +61,5 @@ pub record FastCallsLead : Type 0 where
       (cpus : List KnownCpu)
       (index : ℕ) (cpu later : KnownCpu) → IsPart table stock_table run machine cpus index cpu → (frame : ℕ)
       → 1 ≤ times frame cpu.fresh → DropAnswers frame Listed cpu later
-      → AreDecided table cpus (visit_state machine cpu) (cpu_makes cpu.number (Credit frame) Back ∷ [])
-      → LeadsWatched table (visit_state machine cpu) (cpu_makes cpu.number (Credit frame) Back ∷ []) later
+      → AreDecided table cpus (visit_state machine cpu) (cpu_makes cpu.number (Credit frame) Stocked ∷ [])
+      → LeadsWatched table (visit_state machine cpu) (cpu_makes cpu.number (Credit frame) Stocked ∷ []) later

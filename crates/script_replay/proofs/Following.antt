@@ -361,10 +361,10 @@ module _ (t : KnownTable) (w : KnownStockTable) (run : Run) (locked : KnownLocke
       → AnswersRelease is_explained f (transition t before steps after) answer is_noted →
       AllShut after.locked.machine → GoesOn steps → Follows steps after
   release_follows is_explained f steps after answer.Listed false is shut legal =
-      as_made steps (cpu_makes p (step.Credit f) step_answer.Back ∷ []) after is.1.steps_are
-      (λ all. step_follows (step.Credit f) step_answer.Back after is.1.locked (ap (λ (x : KnownCpu). x.number) is.0.listed.5) refl (λ e. cc)
+      as_made steps (cpu_makes p (step.Credit f) step_answer.Stocked ∷ []) after is.1.steps_are
+      (λ all. step_follows (step.Credit f) step_answer.Stocked after is.1.locked (ap (λ (x : KnownCpu). x.number) is.0.listed.5) refl (λ e. cc)
       (fast_calls_lead.listed t w run m cpus k c after.cpu this_part f is.0.fresh is.0.listed
-      (legal_fast_steps_are_decided t run cpus k m c (step.Credit f) step_answer.Back shows is_part refl (λ e. cc) all)
+      (legal_fast_steps_are_decided t run cpus k m c (step.Credit f) step_answer.Stocked shows is_part refl (λ e. cc) all)
       after.locked.machine.watch is.1.locked.watched) all) legal
   release_follows is_explained f steps after (answer.Served reply) true is shut legal =
       locked_follows is_explained is.seen (list_unseen t m c f is.seen is.not_listed) (cmd.Release f) reply steps after is.served shut legal

@@ -148,16 +148,16 @@ module _ (t : KnownTable) (l m : KnownLocked) (c d : KnownCpu) (n : ℕ) (is : n
       })
 
   -- the frame was listed again, and the watch took the step
-  pub listed_by_route : (frame : ℕ) → ListsAgain frame c d → OnlyWatched (cpu_makes n (step.Credit frame) step_answer.Back ∷ []) l m
+  pub listed_by_route : (frame : ℕ) → ListsAgain frame c d → OnlyWatched (cpu_makes n (step.Credit frame) step_answer.Stocked ∷ []) l m
       → ServesWorkByRoute t (Release frame) (locked_state l c) (locked_state m d) route.Unlocked (answer_text answer.Listed)
   listed_by_route frame lists watched = record {
-    steps = cpu_makes c.number (step.Credit frame) step_answer.Back ∷ [];
+    steps = cpu_makes c.number (step.Credit frame) step_answer.Stocked ∷ [];
     writes = record {
       answer = answer.Listed;
       answered = (
         lists,
         record {
-          locked = subst (λ (k : ℕ). OnlyWatched (cpu_makes k (step.Credit frame) step_answer.Back ∷ []) l m) is watched;
+          locked = subst (λ (k : ℕ). OnlyWatched (cpu_makes k (step.Credit frame) step_answer.Stocked ∷ []) l m) is watched;
           steps_are = refl;
         },
       );

@@ -220,7 +220,7 @@ abbrev pub AnswersRelease : (is_explained : Bool) → (frame : ℕ) → Transiti
     → Type 0
 AnswersRelease is_explained frame call answer.Listed false =
     ListsAgain frame call.before.cpu call.after.cpu
-    × TakesNoLock (cpu_makes call.before.cpu.number (step.Credit frame) step_answer.Back ∷ []) call
+    × TakesNoLock (cpu_makes call.before.cpu.number (step.Credit frame) step_answer.Stocked ∷ []) call
 AnswersRelease is_explained frame call (answer.Served reply) true = ReleasesUnderLock is_explained frame reply call
 AnswersRelease is_explained frame call other is_noted = ⊥
 

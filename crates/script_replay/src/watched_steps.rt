@@ -87,10 +87,10 @@ pub(crate) fn watch_put<N: BootName>(
 #[inline(always)]
 #[tactic(auto, using(crate::proofs::Taking::unwatched))]
 pub(crate) fn watch_credit<N: BootName>(locked: &mut Locked<N>, cpu: u32, frame: u32)
-    ensures { OnlyWatched (cpu_makes cpu (step.Credit frame) step_answer.Back ∷ []) locked.old locked.new }
+    ensures { OnlyWatched (cpu_makes cpu (step.Credit frame) step_answer.Stocked ∷ []) locked.old locked.new }
 {
     if !locked.watch().is_on() {
         return;
     }
-    locked.take_step(cpu, Action::Credit { frame }, Answer::Back);
+    locked.take_step(cpu, Action::Credit { frame }, Answer::Stocked);
 }

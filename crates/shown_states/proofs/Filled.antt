@@ -7,7 +7,7 @@ use Rattle.cpu_part.specs.Cpus.{KnownCpu}
 use Rattle.step_rules.specs.declared.step.Action.{Action}
 use Rattle.step_rules.specs.declared.step.Action.TheVariants.{Lock, Put, TakeIn, PassBack, Consume, Credit, Report, Absorb, Fill, DrainStock}
 use Rattle.step_rules.specs.declared.step.Answer.{Answer}
-use Rattle.step_rules.specs.declared.step.Answer.TheVariants.{Illegal, Done, Last, Took, Back, Pages}
+use Rattle.step_rules.specs.declared.step.Answer.TheVariants.{Illegal, Done, Last, Took, Stocked, Pages}
 use Rattle.step_rules.specs.State.{Part, State, with_at}
 use Rattle.step_rules.specs.After.{Run, after, with_back}
 use Rattle.step_rules.specs.Reaches.{IsLocalRun}
@@ -41,7 +41,7 @@ has_after cpu s seat (Put f) Last has = by_seat (seat == 0)
 has_after cpu s seat (TakeIn f) Done has = has_at s.parts cpu seat _ has (λ old. old)
 has_after cpu s seat (PassBack f) Done has = has_at s.parts cpu seat _ has (λ old. old)
 has_after cpu s seat (Consume g) Took has = has_at s.parts cpu seat _ has (λ old. old)
-has_after cpu s seat (Credit f) Back has = has_at s.parts cpu seat _ has (λ old. old)
+has_after cpu s seat (Credit f) Stocked has = has_at s.parts cpu seat _ has (λ old. old)
 has_after cpu s seat (Report n) Done has = has_at s.parts cpu seat _ has (λ old. old)
 has_after cpu s seat (Absorb other) (Pages n) has = has_at s.parts cpu other _ has (λ old. old)
 has_after cpu s seat (Fill other g n) Done has = has_at s.parts cpu other _ has (λ old. refl)

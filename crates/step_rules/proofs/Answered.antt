@@ -18,7 +18,7 @@ use Rattle.step_rules.specs.declared.step.Action.TheVariants.{Lock, Unlock, Open
 use Rattle.step_rules.specs.declared.step.Action.TheVariants.{Collect, Consume, Credit, Report, Absorb, Fill, DrainStock, Grant, Ungrant, PlaceBlock}
 use Rattle.step_rules.specs.declared.step.Action.TheVariants.{Publish, Return, NoteMax, NoteOom, NoteGroupKill, SetMax, SetFlag, Make, Remove, Kill}
 use Rattle.step_rules.specs.declared.step.Answer.{Answer}
-use Rattle.step_rules.specs.declared.step.Answer.TheVariants.{Illegal, Done, Held, Zero, Full, Left, Last, Missed, Took, Empty, OtherGroup, Drained, Back}
+use Rattle.step_rules.specs.declared.step.Answer.TheVariants.{Illegal, Done, Held, Zero, Full, Left, Last, Missed, Took, Empty, OtherGroup, Drained, Stocked}
 use Rattle.step_rules.specs.declared.step.Answer.TheVariants.{Pages, Granted, Over, Placed, NoFreeBlock, Number}
 use Rattle.step_rules.specs.State.{State, live_references, free_in}
 use Rattle.step_rules.specs.Usage.{usage_of}
@@ -157,7 +157,7 @@ consume_given s seat g =
     ]
 
 credit_given : (s : State) (seat f : ℕ) → IsAnswered s seat (Credit f)
-credit_given s seat f = elim (cases_Bool (s.parts seat).stock.is_drained) [ inl drained ↦ (Drained, drained, tt) | inr not ↦ (Back, not, tt) ]
+credit_given s seat f = elim (cases_Bool (s.parts seat).stock.is_drained) [ inl drained ↦ (Drained, drained, tt) | inr not ↦ (Stocked, not, tt) ]
 
 grant_given : (s : State) (seat g n : ℕ) → AreGroups s.groups → has_group s.groups g ≡ true → IsAnswered s seat (Grant g n)
 grant_given s seat g n tree there =

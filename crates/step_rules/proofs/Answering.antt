@@ -10,7 +10,7 @@ use Rattle.step_rules.specs.declared.step.Action.TheVariants.{Lock, Unlock, Open
 use Rattle.step_rules.specs.declared.step.Action.TheVariants.{Collect, Consume, Credit, Report, Absorb, Fill, DrainStock, Grant, Ungrant, PlaceBlock}
 use Rattle.step_rules.specs.declared.step.Action.TheVariants.{Publish, Return, NoteMax, NoteOom, NoteGroupKill, SetMax, SetFlag, Make, Remove, Kill}
 use Rattle.step_rules.specs.declared.step.Answer.{Answer}
-use Rattle.step_rules.specs.declared.step.Answer.TheVariants.{Illegal, Done, Left, Last, Missed, Took, Empty, OtherGroup, Drained, Back}
+use Rattle.step_rules.specs.declared.step.Answer.TheVariants.{Illegal, Done, Left, Last, Missed, Took, Empty, OtherGroup, Drained, Stocked}
 use Rattle.step_rules.specs.declared.step.Answer.TheVariants.{Pages, Granted, Over, Placed, NoFreeBlock, Number}
 use Rattle.step_rules.specs.State.{Zone, State, Part, live_references, is_cpu, may_zone_act}
 use Rattle.step_rules.specs.Usage.{usage_of}
@@ -136,8 +136,8 @@ consume_says s seat g Drained ok = rw (of_group (s.parts seat).stock.group g ok.
 consume_says s seat g OtherGroup ok = rw (of_other (s.parts seat).stock.group g ok) refl
 consume_says s seat g answer ok = absurd ok
 
-credit_says : (s : State) (seat f : ℕ) (answer : Answer) → IsAnswer s seat (Credit f) answer → answer ≡ (if (s.parts seat).stock.is_drained then Drained else Back)
-credit_says s seat f Back ok = rw ok refl
+credit_says : (s : State) (seat f : ℕ) (answer : Answer) → IsAnswer s seat (Credit f) answer → answer ≡ (if (s.parts seat).stock.is_drained then Drained else Stocked)
+credit_says s seat f Stocked ok = rw ok refl
 credit_says s seat f Drained ok = rw ok refl
 credit_says s seat f answer ok = absurd ok
 

@@ -6,7 +6,7 @@ use Rattle.step_rules.specs.declared.phase.Phase.{Phase}
 use Rattle.step_rules.specs.declared.step.Action.{Action}
 use Rattle.step_rules.specs.declared.step.Action.TheVariants.{Lock, Put, TakeIn, PassBack, Consume, Credit, Report, Absorb, Fill, DrainStock}
 use Rattle.step_rules.specs.declared.step.Answer.{Answer}
-use Rattle.step_rules.specs.declared.step.Answer.TheVariants.{Illegal, Done, Last, Took, Back, Pages}
+use Rattle.step_rules.specs.declared.step.Answer.TheVariants.{Illegal, Done, Last, Took, Stocked, Pages}
 use Rattle.step_rules.specs.Phases.{ListFrame, FreshFrame, has_as}
 use Rattle.step_rules.specs.Phases as kinds
 use Rattle.step_rules.specs.State.{Zone, Part, State, one_if, front_of}
@@ -82,7 +82,7 @@ unreported_made p zone run seat (PassBack f) Done legal made =
     ap (λ b. unreported (s.parts p) + (if seat == p then one_if b else 0)) same
     ∙ gained unreported s.parts seat p (without_frame (s.parts seat) (s.phases f) seat f) (one_if (has_as FreshFrame seat (s.phases f))) refl
 unreported_made p zone run seat (Consume g) Took legal made = stayed unreported (state_of zone run).parts seat p (paid ((state_of zone run).parts seat)) refl
-unreported_made p zone run seat (Credit f) Back legal made =
+unreported_made p zone run seat (Credit f) Stocked legal made =
     stayed unreported (state_of zone run).parts seat p (credited ((state_of zone run).parts seat) f) refl
 unreported_made p zone run seat (Report n) Done legal made =
     let s = state_of zone run in
@@ -114,7 +114,7 @@ reported_made p zone run seat (TakeIn f) Done legal made = stayed reported (stat
 reported_made p zone run seat (PassBack f) Done legal made =
     stayed reported (state_of zone run).parts seat p (without_frame ((state_of zone run).parts seat) ((state_of zone run).phases f) seat f) refl
 reported_made p zone run seat (Consume g) Took legal made = stayed reported (state_of zone run).parts seat p (paid ((state_of zone run).parts seat)) refl
-reported_made p zone run seat (Credit f) Back legal made =
+reported_made p zone run seat (Credit f) Stocked legal made =
     stayed reported (state_of zone run).parts seat p (credited ((state_of zone run).parts seat) f) refl
 reported_made p zone run seat (Report n) Done legal made =
     gained reported (state_of zone run).parts seat p (with_report ((state_of zone run).parts seat) n) n refl

@@ -17,7 +17,7 @@ use Rattle.step_rules.specs.declared.step.Action.TheVariants.{Lock, Put, Freeze,
 use Rattle.step_rules.specs.declared.step.Action.TheVariants.{Credit, Report, Absorb, Fill, DrainStock, Grant, Ungrant, PlaceBlock, Return}
 use Rattle.step_rules.specs.declared.step.Action.TheVariants.{SetMax, SetFlag, Make, Remove}
 use Rattle.step_rules.specs.declared.step.Answer.{Answer}
-use Rattle.step_rules.specs.declared.step.Answer.TheVariants.{Illegal, Done, Last, Took, Back, Pages, Granted, Placed, Number}
+use Rattle.step_rules.specs.declared.step.Answer.TheVariants.{Illegal, Done, Last, Took, Stocked, Pages, Granted, Placed, Number}
 use Rattle.step_rules.specs.Phases.{FreshFrame, keeper_of, unit_of, has_as, is_free, passes_out, at_stage, passed_back, collected, stage_after_last, is_returnable}
 use Rattle.step_rules.specs.State.{Zone, Part, State, at_boot, with_at, sum_to, one_if, is_cpu, is_frame, visits, front_of, with_last}
 use Rattle.step_rules.specs.Usage.{is_below, frames_kept, stock_below, pages_prepaid, pages_pending, usage_of}
@@ -276,7 +276,7 @@ module _ (groups : List Group) (m : ℕ) where
       one_paid : (c : Bool) (n : ℕ) → 1 ≤ n → cond c n 0 ≡ cond c (n - 1) 0 + one_if c
       one_paid true n some = omega arith
       one_paid false n some = refl
-  moves_exactly s run seat (Credit f) Back sound h told legal ok counted =
+  moves_exactly s run seat (Credit f) Stocked sound h told legal ok counted =
       let cpu : is_cpu s.zone seat ≡ true = (credit_tests s seat f legal).0 in
       let frame : is_frame s.zone f ≡ true = (credit_tests s seat f legal).1 in
       let fresh : has_as FreshFrame seat (s.phases f) ≡ true = (credit_tests s seat f legal).2 in

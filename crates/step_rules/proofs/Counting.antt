@@ -8,7 +8,7 @@ use Rattle.step_rules.specs.declared.step.Action.{Action}
 use Rattle.step_rules.specs.declared.step.Action.TheVariants.{Lock, Get, Put, Freeze, Unfreeze, TakeIn, PassBack, Consume, Credit, Report}
 use Rattle.step_rules.specs.declared.step.Action.TheVariants.{Absorb, Fill, DrainStock}
 use Rattle.step_rules.specs.declared.step.Answer.{Answer}
-use Rattle.step_rules.specs.declared.step.Answer.TheVariants.{Illegal, Done, Held, Left, Last, Took, Back, Pages}
+use Rattle.step_rules.specs.declared.step.Answer.TheVariants.{Illegal, Done, Held, Left, Last, Took, Stocked, Pages}
 use Rattle.step_rules.specs.State.{Zone, Part, State, at_boot, with_at}
 use Rattle.step_rules.specs.Legal.{is_legal, IsAnswer, IsCounted, Allows, takes_fill, is_of_group}
 use Rattle.step_rules.specs.After.{Run, after, state_of, IsLegalRun, with_back, paid, credited, filled, drained}
@@ -223,7 +223,7 @@ stock_made p s seat (Put f) Last legal ok count = stayed_last pages_in s.parts s
 stock_made p s seat (TakeIn f) Done legal ok count = stayed pages_in s.parts seat p _ refl
 stock_made p s seat (PassBack f) Done legal ok count = stayed pages_in s.parts seat p _ refl
 stock_made p s seat (Consume g) Took legal ok count = let some = ok.2 in lost pages_in s.parts seat p (paid (s.parts seat)) 1 (omega arith)
-stock_made p s seat (Credit f) Back legal ok count = gained pages_in s.parts seat p (credited (s.parts seat) f) 1 refl
+stock_made p s seat (Credit f) Stocked legal ok count = gained pages_in s.parts seat p (credited (s.parts seat) f) 1 refl
 stock_made p s seat (Report n) Done legal ok count = stayed pages_in s.parts seat p _ refl
 stock_made p s seat (Absorb q) (Pages n) legal ok count = stayed pages_in s.parts q p _ refl
 stock_made p s seat (Fill q g n) Done legal ok count =
@@ -272,7 +272,7 @@ book_made p s seat (Put f) Last sound legal ok count = stayed_last book_in_part 
 book_made p s seat (TakeIn f) Done sound legal ok count = stayed book_in_part s.parts seat p _ refl
 book_made p s seat (PassBack f) Done sound legal ok count = stayed book_in_part s.parts seat p _ refl
 book_made p s seat (Consume g) Took sound legal ok count = stayed book_in_part s.parts seat p _ refl
-book_made p s seat (Credit f) Back sound legal ok count = stayed book_in_part s.parts seat p _ refl
+book_made p s seat (Credit f) Stocked sound legal ok count = stayed book_in_part s.parts seat p _ refl
 book_made p s seat (Report n) Done sound legal ok count = stayed book_in_part s.parts seat p _ refl
 book_made p s seat (Absorb q) (Pages n) sound legal ok count =
     let book = sound.booked q in

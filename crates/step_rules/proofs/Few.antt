@@ -6,7 +6,7 @@ use Rattle.step_rules.specs.declared.step.Action.{Action}
 use Rattle.step_rules.specs.declared.step.Action.TheVariants.{Lock, Get, Put, Freeze, Unfreeze, TakeIn, PassBack, Consume, Credit, Report, Absorb, Fill}
 use Rattle.step_rules.specs.declared.step.Action.TheVariants.{DrainStock}
 use Rattle.step_rules.specs.declared.step.Answer.{Answer}
-use Rattle.step_rules.specs.declared.step.Answer.TheVariants.{Illegal, Done, Held, Left, Last, Took, Back, Pages}
+use Rattle.step_rules.specs.declared.step.Answer.TheVariants.{Illegal, Done, Held, Left, Last, Took, Stocked, Pages}
 use Rattle.step_rules.specs.State.{Zone, Part, State, at_boot, with_at, sum_to, front_of, is_cpu, is_frame, pins_of}
 use Rattle.step_rules.specs.Legal.{IsMade}
 use Rattle.step_rules.specs.After.{Run, IsLegalRun, after, state_of, with_listed, with_report, absorbed, paid, credited, filled, drained, without_frame, with_back}
@@ -45,7 +45,7 @@ fresh_made s x seat (Consume g) Took sound few made =
     one_few s.parts seat (paid (s.parts seat)) few
     (let a = length_last (front_of (s.parts seat).list) (s.parts seat).fresh in
     let b = ltb-true (length (s.parts seat).fresh) 32 low in omega arith)
-fresh_made s x seat (Credit f) Back sound few made =
+fresh_made s x seat (Credit f) Stocked sound few made =
     one_few s.parts seat (credited (s.parts seat) f) few (let a = length_without f (s.parts seat).fresh in let b = few seat in omega arith)
 fresh_made s x seat (Report n) Done sound few made = one_few s.parts seat (with_report (s.parts seat) n) few (few seat)
 fresh_made s x seat (Absorb p) (Pages n) sound few made = one_few s.parts p (absorbed (s.parts p) n) few (few p)
@@ -188,7 +188,7 @@ pins_made s x seat (PassBack f) Done sound few made =
     back_few s.zone s.references s.parts seat (without_frame (s.parts seat) (s.phases f) seat f) few
     (let a = length_without f (s.parts seat).back in omega arith)
 pins_made s x seat (Consume g) Took sound few made = back_few s.zone s.references s.parts seat (paid (s.parts seat)) few (omega arith)
-pins_made s x seat (Credit f) Back sound few made = back_few s.zone s.references s.parts seat (credited (s.parts seat) f) few (omega arith)
+pins_made s x seat (Credit f) Stocked sound few made = back_few s.zone s.references s.parts seat (credited (s.parts seat) f) few (omega arith)
 pins_made s x seat (Report n) Done sound few made = back_few s.zone s.references s.parts seat (with_report (s.parts seat) n) few (omega arith)
 pins_made s x seat (Absorb p) (Pages n) sound few made = back_few s.zone s.references s.parts p (absorbed (s.parts p) n) few (omega arith)
 pins_made s x seat (Fill p g n) Done sound few made = back_few s.zone s.references s.parts p (filled (s.parts p) g n) few (omega arith)

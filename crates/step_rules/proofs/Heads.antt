@@ -14,7 +14,7 @@ use Rattle.step_rules.specs.declared.phase.Phase.TheVariants.{InZone, Lent, Head
 use Rattle.step_rules.specs.declared.step.Action.{Action}
 use Rattle.step_rules.specs.declared.step.Action.TheVariants.{Lock, Put, Freeze, Unfreeze, PassOut, TakeIn, PassBack, Collect, Consume, Credit, PlaceBlock, Return}
 use Rattle.step_rules.specs.declared.step.Answer.{Answer}
-use Rattle.step_rules.specs.declared.step.Answer.TheVariants.{Illegal, Done, Last, Took, Back, Placed}
+use Rattle.step_rules.specs.declared.step.Answer.TheVariants.{Illegal, Done, Last, Took, Stocked, Placed}
 use Rattle.step_rules.specs.Phases.{FreshFrame, is_free, has_as, passes_out, unit_of, at_stage, stage_after_last, passed_back, collected, is_returnable}
 use Rattle.step_rules.specs.State.{Zone, State, with_at, front_of}
 use Rattle.step_rules.specs.Legal.{IsMade}
@@ -212,7 +212,7 @@ heads_made s x seat (Consume g) Took sound heads made =
   where
     no_head : (h : ℕ) → consumed seat g ≡ Tail h → ⊥
     no_head h z = cc
-heads_made s x seat (Credit f) Back sound heads made =
+heads_made s x seat (Credit f) Stocked sound heads made =
     let legal = made.legal in
     let fresh : has_as FreshFrame seat (s.phases f) ≡ true = (credit_tests s seat f legal).2 in
     let is = fresh_is seat (s.phases f) fresh in

@@ -20,7 +20,7 @@ use Rattle.step_rules.specs.declared.step.Action.TheVariants.{Lock, Unlock, Open
 use Rattle.step_rules.specs.declared.step.Action.TheVariants.{PassBack, Collect, Consume, Credit, Report, Absorb, Fill, DrainStock, Grant}
 use Rattle.step_rules.specs.declared.step.Action.TheVariants.{Ungrant, PlaceBlock, Return, SetMax, SetFlag, Make, Remove}
 use Rattle.step_rules.specs.declared.step.Answer.{Answer}
-use Rattle.step_rules.specs.declared.step.Answer.TheVariants.{Illegal, Done, Last, Took, Back, Pages, Granted, Placed, Number}
+use Rattle.step_rules.specs.declared.step.Answer.TheVariants.{Illegal, Done, Last, Took, Stocked, Pages, Granted, Placed, Number}
 use Rattle.step_rules.specs.Phases.{FreshFrame, keeper_of, has_as, at_stage, passed_back, collected, stage_after_last, unit_of}
 use Rattle.step_rules.specs.State.{Zone, Part, State, with_at, one_if, is_cpu, is_unheld, is_held_by, visits, front_of}
 use Rattle.step_rules.specs.Usage.{is_below, frames_kept, stock_below, pages_prepaid, pages_pending, usage_of}
@@ -335,7 +335,7 @@ homes_step s seat (Consume g) Took sound h legal ok counted =
     let there : has_group s.groups g ≡ true = sym (ap (some_there s.groups) ok.0) ∙ h.stocks seat ok.2 in
     homes_part (homes_phase h (front_of (s.parts seat).list) _ there) seat _ (λ some. h.stocks seat ok.2)
     (λ other. let a = h.beyond seat other in omega arith) (h.quiet seat)
-homes_step s seat (Credit f) Back sound h legal ok counted =
+homes_step s seat (Credit f) Stocked sound h legal ok counted =
     let cpu : is_cpu s.zone seat ≡ true = (credit_tests s seat f legal).0 in
     let fresh : has_as FreshFrame seat (s.phases f) ≡ true = (credit_tests s seat f legal).2 in
     let is = fresh_is seat (s.phases f) fresh in

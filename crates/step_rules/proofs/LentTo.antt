@@ -11,7 +11,7 @@ use Rattle.step_rules.specs.declared.step.Step.{Step}
 use Rattle.step_rules.specs.declared.step.Action.{Action}
 use Rattle.step_rules.specs.declared.step.Action.TheVariants.{Lock, Put, Freeze, Unfreeze, PassOut, TakeIn, PassBack, Collect, Consume, Credit, PlaceBlock, Return}
 use Rattle.step_rules.specs.declared.step.Answer.{Answer}
-use Rattle.step_rules.specs.declared.step.Answer.TheVariants.{Illegal, Done, Last, Took, Back, Placed}
+use Rattle.step_rules.specs.declared.step.Answer.TheVariants.{Illegal, Done, Last, Took, Stocked, Placed}
 use Rattle.step_rules.specs.Phases.{at_stage, stage_after_last, passed_back, collected, unit_of, passes_out, passes_back}
 use Rattle.step_rules.specs.State.{Zone, State, at_boot, with_at, is_cpu, is_held_by, visits}
 use Rattle.step_rules.specs.Legal.{Allows, IsMade}
@@ -93,7 +93,7 @@ lent_made s seat (TakeIn g) Done homed lent made =
 lent_made s seat (PassBack g) Done homed lent made = lent_same s.zone s.phases g _ lent (sent (s.phases g))
 lent_made s seat (Collect g p) Done homed lent made = lent_none s.zone s.phases g _ lent (got (s.phases g))
 lent_made s seat (Consume g) Took homed lent made = lent_none s.zone s.phases _ _ lent refl
-lent_made s seat (Credit g) Back homed lent made =
+lent_made s seat (Credit g) Stocked homed lent made =
     let legal = made.legal in
     let cpu : is_cpu s.zone seat ≡ true = (credit_tests s seat g legal).0 in
     lent_at s.zone s.phases g _ lent (λ q e. subst (λ (k : ℕ). is_cpu s.zone k ≡ true) (same_cpu seat q e) cpu)

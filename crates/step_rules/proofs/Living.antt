@@ -12,7 +12,7 @@ use Rattle.step_rules.specs.declared.step.Action.{Action}
 use Rattle.step_rules.specs.declared.step.Action.TheVariants.{Lock, Get, Put, Freeze, Unfreeze, PassOut, TakeIn, PassBack, Collect, Consume, Credit}
 use Rattle.step_rules.specs.declared.step.Action.TheVariants.{PlaceBlock, Return}
 use Rattle.step_rules.specs.declared.step.Answer.{Answer}
-use Rattle.step_rules.specs.declared.step.Answer.TheVariants.{Illegal, Done, Held, Left, Last, Took, Back, Placed}
+use Rattle.step_rules.specs.declared.step.Answer.TheVariants.{Illegal, Done, Held, Left, Last, Took, Stocked, Placed}
 use Rattle.step_rules.specs.Phases.{is_live, at_stage, stage_after_last, passed_back, collected, unit_of}
 use Rattle.step_rules.specs.State.{State, at_boot, with_at, sum_to, is_cpu, live_references}
 use Rattle.step_rules.specs.Legal.{Allows, IsMade, get_answer}
@@ -191,7 +191,7 @@ referred_made f s seat (TakeIn g) Done sound holds made = λ live. holds (live_a
 referred_made f s seat (PassBack g) Done sound holds made = λ live. holds (live_at s.phases g _ f (sent_live (s.phases g)) live)
 referred_made f s seat (Collect g p) Done sound holds made = λ live. holds (live_at s.phases g _ f (got_live (s.phases g)) live)
 referred_made f s seat (Consume g) Took sound holds made = λ live. holds (live_at s.phases _ _ f (λ e. absurd (false≢true e)) live)
-referred_made f s seat (Credit g) Back sound holds made = λ live. holds (live_at s.phases g _ f (λ e. absurd (false≢true e)) live)
+referred_made f s seat (Credit g) Stocked sound holds made = λ live. holds (live_at s.phases g _ f (λ e. absurd (false≢true e)) live)
 referred_made f s seat (PlaceBlock g k) (Placed b) sound holds made = λ live. holds (block_live s.phases g b f live)
 referred_made f s seat (Return g) Done sound holds made = λ live. holds (unit_live s.phases g f live)
 referred_made f s seat Lock answer sound holds made = holds

@@ -21,7 +21,7 @@ use Rattle.step_rules.specs.declared.step.Action.TheVariants.{Lock, Put, Freeze,
 use Rattle.step_rules.specs.declared.step.Action.TheVariants.{Credit, Report, Absorb, Fill, DrainStock, Grant, Ungrant, PlaceBlock, Return}
 use Rattle.step_rules.specs.declared.step.Action.TheVariants.{SetMax, SetFlag, Make, Remove}
 use Rattle.step_rules.specs.declared.step.Answer.{Answer}
-use Rattle.step_rules.specs.declared.step.Answer.TheVariants.{Illegal, Done, Last, Took, Back, Pages, Granted, Placed, Number}
+use Rattle.step_rules.specs.declared.step.Answer.TheVariants.{Illegal, Done, Last, Took, Stocked, Pages, Granted, Placed, Number}
 use Rattle.step_rules.specs.Phases.{FreshFrame, keeper_of, unit_of, has_as, is_free, passes_out, at_stage, passed_back, collected, stage_after_last}
 use Rattle.step_rules.specs.Legal.{is_legal, IsAnswer, IsCounted}
 use Rattle.step_rules.specs.Peaks.{UsageMoves}
@@ -351,7 +351,7 @@ usage_step s seat (Consume g) Took sound h legal ok counted = λ m.
     one_paid : (c : Bool) (n : ℕ) → 1 ≤ n → cond c n 0 ≡ cond c (n - 1) 0 + one_if c
     one_paid true n some = omega arith
     one_paid false n some = refl
-usage_step s seat (Credit f) Back sound h legal ok counted = λ m.
+usage_step s seat (Credit f) Stocked sound h legal ok counted = λ m.
     let cpu : is_cpu s.zone seat ≡ true = (credit_tests s seat f legal).0 in
     let frame : is_frame s.zone f ≡ true = (credit_tests s seat f legal).1 in
     let fresh : has_as FreshFrame seat (s.phases f) ≡ true = (credit_tests s seat f legal).2 in

@@ -13,7 +13,7 @@ use Rattle.step_rules.specs.declared.step.Action.TheVariants.{Lock, Unlock, Open
 use Rattle.step_rules.specs.declared.step.Action.TheVariants.{TakeIn, PassBack, Collect, Consume, Credit, Report, Absorb, Fill, DrainStock}
 use Rattle.step_rules.specs.declared.step.Action.TheVariants.{Grant, Ungrant, PlaceBlock, Return, SetMax, SetFlag, Make, Remove, Kill}
 use Rattle.step_rules.specs.declared.step.Answer.{Answer}
-use Rattle.step_rules.specs.declared.step.Answer.TheVariants.{Done, Held, Left, Last, Took, Back, Pages, Granted, Placed, Number}
+use Rattle.step_rules.specs.declared.step.Answer.TheVariants.{Done, Held, Left, Last, Took, Stocked, Pages, Granted, Placed, Number}
 use Rattle.step_rules.specs.Phases.{FreshFrame, has_as, passes_out, at_stage, stage_after_last}
 use Rattle.step_rules.specs.State.{State, with_at, one_if, is_unheld, is_held_by, visits, may_zone_act, front_of, without}
 use Rattle.step_rules.specs.Legal.{is_legal, IsAnswer}
@@ -81,7 +81,7 @@ consume_hidden s p q g sound other some pages =
     same_state s (covered_phase p s.phases f (consumed q g) (other_fresh (record { group = g; order = 0 }) p q other
     ∙ sym (ap (phase_seen_by p) was))) refl (other_changed p s.parts q (paid (s.parts q)) other part)
 
-credit_hidden : (s : State) (p q f : ℕ) → IsSound s → (q ≡ p → ⊥) → has_as FreshFrame q (s.phases f) ≡ true → seen_by p (after s q (Credit f) Back) ≡ seen_by p s
+credit_hidden : (s : State) (p q f : ℕ) → IsSound s → (q ≡ p → ⊥) → has_as FreshFrame q (s.phases f) ≡ true → seen_by p (after s q (Credit f) Stocked) ≡ seen_by p s
 credit_hidden s p q f sound other has =
     let is = fresh_is q (s.phases f) has in
     let c : times f (s.parts q).fresh ≡ one_if (has_as FreshFrame q (s.phases f)) = sound.lists q FreshFrame f in
@@ -128,7 +128,7 @@ other_after s p q (Collect f r) Done sound ne other holds legal ok =
 other_after s p q (Consume g) Took sound ne other holds legal ok =
     let some : nat_le 1 (length (s.parts q).list) ≡ true = (consume_tests s q g legal).1 in
     consume_hidden s p q g sound other (leb-true 1 (length (s.parts q).list) some) ok.2
-other_after s p q (Credit f) Back sound ne other holds legal ok =
+other_after s p q (Credit f) Stocked sound ne other holds legal ok =
     let fresh : has_as FreshFrame q (s.phases f) ≡ true = (credit_tests s q f legal).2 in
     credit_hidden s p q f sound other fresh
 other_after s p q (Report n) Done sound ne other holds legal ok =

@@ -18,7 +18,7 @@ use Rattle.step_rules.specs.declared.step.Action.TheVariants.{TakeIn, PassBack, 
 use Rattle.step_rules.specs.declared.step.Action.TheVariants.{Grant, Ungrant, PlaceBlock, Publish, Return, NoteMax, NoteOom, NoteGroupKill}
 use Rattle.step_rules.specs.declared.step.Action.TheVariants.{SetMax, SetFlag, Make, Remove, Kill}
 use Rattle.step_rules.specs.declared.step.Answer.{Answer}
-use Rattle.step_rules.specs.declared.step.Answer.TheVariants.{Done, Held, Left, Last, Took, Empty, Drained, OtherGroup, Back, Pages}
+use Rattle.step_rules.specs.declared.step.Answer.TheVariants.{Done, Held, Left, Last, Took, Empty, Drained, OtherGroup, Stocked, Pages}
 use Rattle.step_rules.specs.declared.step.Answer.TheVariants.{Granted, Over, Placed, NoFreeBlock, Number}
 use Rattle.step_rules.specs.Phases.{Kind, ListFrame, FreshFrame, has_as, passes_out, passes_back, is_free, is_head, is_live, is_head_in_hand}
 use Rattle.step_rules.specs.Phases.{is_returnable, passed_back, collected, at_stage, stage_after_last}
@@ -200,7 +200,7 @@ own_answer s p seat (Consume g) Drained sound own legal ok =
 own_answer s p seat (Consume g) OtherGroup sound own legal ok =
     let cpu : is_cpu s.zone seat ≡ true = (consume_tests s seat g legal).0 in
     subst (λ (part : Part). part.stock.group ≡ Some g → ⊥) (own_part p s.parts seat (cpu_own s.zone p seat own cpu)) ok
-own_answer s p seat (Credit f) Back sound own legal ok =
+own_answer s p seat (Credit f) Stocked sound own legal ok =
     let cpu : is_cpu s.zone seat ≡ true = (credit_tests s seat f legal).0 in
     subst (λ (part : Part). part.stock.is_drained ≡ false) (own_part p s.parts seat (cpu_own s.zone p seat own cpu)) ok
 own_answer s p seat (Credit f) Drained sound own legal ok =
@@ -314,7 +314,7 @@ own_after s p seat (Consume g) Took sound own inside holds legal ok counted =
     (at_through (phase_seen_by p) s.phases (front_of (s.parts seat).list) (consumed seat g)
     ∙ (λ i. with_at (λ m. phase_seen_by p (s.phases m)) (front i) (fresh i)))
     refl (own_changed p s.parts seat paid e)
-own_after s p seat (Credit f) Back sound own inside holds legal ok counted =
+own_after s p seat (Credit f) Stocked sound own inside holds legal ok counted =
     let cpu : is_cpu s.zone seat ≡ true = (credit_tests s seat f legal).0 in
     same_state s (at_through (phase_seen_by p) s.phases f (Lent seat OnList)) refl
     (own_changed p s.parts seat (λ part. credited part f) (cpu_own s.zone p seat own cpu))

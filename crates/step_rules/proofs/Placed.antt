@@ -16,7 +16,7 @@ use Rattle.step_rules.specs.declared.step.Action.{Action}
 use Rattle.step_rules.specs.declared.step.Action.TheVariants.{Lock, Put, Freeze, Unfreeze, PassOut, TakeIn, PassBack, Collect, Consume}
 use Rattle.step_rules.specs.declared.step.Action.TheVariants.{Credit, PlaceBlock, Return}
 use Rattle.step_rules.specs.declared.step.Answer.{Answer}
-use Rattle.step_rules.specs.declared.step.Answer.TheVariants.{Illegal, Done, Last, Took, Back, Placed}
+use Rattle.step_rules.specs.declared.step.Answer.TheVariants.{Illegal, Done, Last, Took, Stocked, Placed}
 use Rattle.step_rules.specs.Phases.{FreshFrame, has_as, is_free, passes_out, passes_back, unit_of, at_stage, stage_after_last, passed_back, collected, is_returnable}
 use Rattle.step_rules.specs.State.{Zone, State, at_boot, with_at, front_of, is_cpu, is_frame}
 use Rattle.step_rules.specs.Legal.{is_legal, IsAnswer, IsMade}
@@ -158,7 +158,7 @@ abbrev moves_in : State → Places → ℕ → Action → Answer → Places
 moves_in s places seat (PassOut f p) Done = moved places f 1 Free (Listed p)
 moves_in s places seat (Collect f p) Done = if places f (Listed p) then moved places f 1 (Listed p) Free else places
 moves_in s places seat (Consume g) Took = moved places (front_of (s.parts seat).list) 1 (Listed seat) (Charged g)
-moves_in s places seat (Credit f) Back = credited_place places seat f (unit_of (s.phases f))
+moves_in s places seat (Credit f) Stocked = credited_place places seat f (unit_of (s.phases f))
 moves_in s places seat (PlaceBlock g k) (Placed b) = moved places b.at (2 ^ b.order) Free (Charged g)
 moves_in s places seat (Return f) Done = returned places f (unit_of (s.phases f))
 moves_in s places seat action answer = places
@@ -170,7 +170,7 @@ moves_same s u places seat (Consume g) Took has made =
     let legal = made.legal in
     let cpu : is_cpu s.zone seat ≡ true = (consume_tests s seat g legal).0 in
     ap (λ (f : ℕ). moved places f 1 (Listed seat) (Charged g)) (sym (front_told s u has seat cpu))
-moves_same s u places seat (Credit f) Back has made =
+moves_same s u places seat (Credit f) Stocked has made =
     ap (λ (m : Option ChargedUnit × Option ℕ). credited_place places seat f m.0) (has.marked f)
 moves_same s u places seat (PlaceBlock g k) (Placed b) has made = ap (λ (o : ℕ). moved places b.at (2 ^ o) Free (Charged g)) made.answered.0
 moves_same s u places seat (Return f) Done has made =
@@ -212,7 +212,7 @@ places_made s places seat (Consume g) Took sound told legal ok =
     let was : s.phases f ≡ Lent seat OnList = listed_is seat (s.phases f) (front_listed s seat sound (leb-true 1 (length (s.parts seat).list) some)) in
     one_told s.zone s.phases places f (consumed seat g) (Listed seat) (Charged g) told (lt-ltb f s.zone.frames (in_zone s f sound (ap is_free was)))
     (ap place_in was) refl
-places_made s places seat (Credit f) Back sound told legal ok =
+places_made s places seat (Credit f) Stocked sound told legal ok =
     let frame : is_frame s.zone f ≡ true = (credit_tests s seat f legal).1 in
     let fresh : has_as FreshFrame seat (s.phases f) ≡ true = (credit_tests s seat f legal).2 in
     let is = fresh_is seat (s.phases f) fresh in

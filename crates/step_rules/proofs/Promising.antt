@@ -21,7 +21,7 @@ use Rattle.step_rules.specs.declared.step.FramePlace.TheVariants.{Free, Listed, 
 use Rattle.step_rules.specs.declared.step.Action.{Action}
 use Rattle.step_rules.specs.declared.step.Action.TheVariants.{Get, Put, Freeze, Unfreeze, Consume, Credit, Grant, PlaceBlock, Return}
 use Rattle.step_rules.specs.declared.step.Answer.{Answer}
-use Rattle.step_rules.specs.declared.step.Answer.TheVariants.{Done, Held, Last, Took, Back, Granted, Placed}
+use Rattle.step_rules.specs.declared.step.Answer.TheVariants.{Done, Held, Last, Took, Stocked, Granted, Placed}
 use Rattle.step_rules.specs.Phases.{FreshFrame, is_free, is_live, has_as, unit_of, keeper_of, is_head_in_hand, is_returnable}
 use Rattle.step_rules.specs.State.{Zone, Stock, State, one_if, sum_to, front_of, is_cpu, free_in, live_references}
 use Rattle.group_tree.specs.Room.{fits_limit}
@@ -316,7 +316,7 @@ returns_kept zone run legal seat (Return f) Done ok =
       unit_told zone run legal f u was,
       no_reference zone run legal f (ap is_live was),
     )
-returns_kept zone run legal seat (Credit f) Back ok =
+returns_kept zone run legal seat (Credit f) Stocked ok =
     let s = state_of zone run in
     let cpu : is_cpu s.zone seat ≡ true = (credit_tests (state_of zone run) seat f ok.legal).0 in
     let fresh : has_as FreshFrame seat (s.phases f) ≡ true = (credit_tests (state_of zone run) seat f ok.legal).2 in

@@ -11,7 +11,7 @@ use Rattle.step_rules.specs.declared.step.Action.{Action}
 use Rattle.step_rules.specs.declared.step.Action.TheVariants.{Lock, Put, Freeze, Unfreeze, PassOut, TakeIn, PassBack, Collect, Consume}
 use Rattle.step_rules.specs.declared.step.Action.TheVariants.{Credit, PlaceBlock, Publish, Return}
 use Rattle.step_rules.specs.declared.step.Answer.{Answer}
-use Rattle.step_rules.specs.declared.step.Answer.TheVariants.{Illegal, Done, Last, Took, Back, Placed}
+use Rattle.step_rules.specs.declared.step.Answer.TheVariants.{Illegal, Done, Last, Took, Stocked, Placed}
 use Rattle.step_rules.specs.Phases.{FreshFrame, has_as, passes_out, is_free, is_head, is_live, is_returnable, at_stage, stage_after_last}
 use Rattle.step_rules.specs.Phases.{passed_back, collected, unit_of}
 use Rattle.step_rules.specs.State.{State, with_at, front_of}
@@ -129,7 +129,7 @@ kept_made f s x seat (Consume g) Took sound kept made = λ e.
     let m = front_of (s.parts seat).list in
     let listed = listed_is seat (s.phases m) (front_listed s seat sound (leb-true 1 (length (s.parts seat).list) some)) in
     used_at s.phases m _ f (λ used. absurd (never (s.phases m) _ listed refl used)) (kept e)
-kept_made f s x seat (Credit g) Back sound kept made = λ e.
+kept_made f s x seat (Credit g) Stocked sound kept made = λ e.
     let legal = made.legal in
     let fresh : has_as FreshFrame seat (s.phases g) ≡ true = (credit_tests s seat g legal).2 in
     used_at s.phases g _ f (λ used. absurd (never (s.phases g) _ (fresh_is seat (s.phases g) fresh).1 refl used)) (kept e)

@@ -18,7 +18,7 @@ use Rattle.step_rules.specs.declared.step.Action.{Action}
 use Rattle.step_rules.specs.declared.step.Action.TheVariants.{Lock, Put, Freeze, Unfreeze, PassOut, TakeIn, PassBack, Collect, Consume}
 use Rattle.step_rules.specs.declared.step.Action.TheVariants.{Credit, PlaceBlock, Return}
 use Rattle.step_rules.specs.declared.step.Answer.{Answer}
-use Rattle.step_rules.specs.declared.step.Answer.TheVariants.{Illegal, Done, Last, Took, Back, Placed}
+use Rattle.step_rules.specs.declared.step.Answer.TheVariants.{Illegal, Done, Last, Took, Stocked, Placed}
 use Rattle.step_rules.specs.Phases.{FreshFrame, has_as, is_free, passes_out, passes_back, unit_of, at_stage, stage_after_last, passed_back}
 use Rattle.step_rules.specs.Phases.{collected, is_head_in_hand, is_returnable}
 use Rattle.step_rules.specs.State.{Zone, State, at_boot, with_at, one_if, front_of}
@@ -213,14 +213,14 @@ block_stays s g b m free =
 abbrev pub ended_in : ℕ → State → ℕ → Action → Answer → ℕ
 ended_in f s seat (Put g) Last = if g == f then 1 else 0
 ended_in f s seat (Freeze g n) Done = if g == f then 1 else 0
-ended_in f s seat (Credit g) Back = if g == f then 1 else 0
+ended_in f s seat (Credit g) Stocked = if g == f then 1 else 0
 ended_in f s seat (Return g) Done = if g == f then one_if (is_killed_return_phase s.killed (s.phases g)) else 0
 ended_in f s seat action answer = 0
 
 -- 1 where a step closes one, told by the state
 abbrev pub closed_in : ℕ → State → ℕ → Action → Answer → ℕ
 closed_in f s seat (Return g) Done = if g == f then 1 else 0
-closed_in f s seat (Credit g) Back = if g == f then 1 else 0
+closed_in f s seat (Credit g) Stocked = if g == f then 1 else 0
 closed_in f s seat (Unfreeze g n) Done = if g == f then one_if (phase_awaits_return (s.phases g)) else 0
 closed_in f s seat action answer = 0
 
@@ -262,7 +262,7 @@ uses_made m s seat (Consume g) Took sound legal ok =
     let some : nat_le 1 (length (s.parts seat).list) ≡ true = (consume_tests s seat g legal).1 in
     let f = front_of (s.parts seat).list in
     stays s.phases f m (consumed seat g) (ap opens (listed_is seat (s.phases f) (front_listed s seat sound (leb-true 1 (length (s.parts seat).list) some))))
-uses_made m s seat (Credit f) Back sound legal ok =
+uses_made m s seat (Credit f) Stocked sound legal ok =
     let fresh : has_as FreshFrame seat (s.phases f) ≡ true = (credit_tests s seat f legal).2 in
     phase_changes s.phases f m (Lent seat OnList) 1 1 (ap (λ n. n + 1) (ap opens (fresh_is seat (s.phases f) fresh).1))
 uses_made m s seat (PlaceBlock g k) (Placed b) sound legal ok = block_stays s g b m (λ x low high. (block_free s.zone s.phases b ok.1 x low high).1)
@@ -357,10 +357,10 @@ gone_made f s x seat (Return g) Done sound holds made =
     let c : killed_return ≡ one_if (is_killed_return_phase s.killed (s.phases f)) = ap (λ (k : ℕ). one_if (is_killed_return_phase s.killed (s.phases k))) (eqb-true g f same) in
     let most = apart s.killed (s.phases f) in
     omega arith)
-gone_made f s x seat (Credit g) Back sound holds made =
-    let later = phase_awaits_return ((after s seat (Credit g) Back).phases f) in
+gone_made f s x seat (Credit g) Stocked sound holds made =
+    let later = phase_awaits_return ((after s seat (Credit g) Stocked).phases f) in
     let e : one_if (phase_awaits_return (s.phases f)) + cond (g == f) 1 0 ≡ one_if later + cond (g == f) 1 0 =
-    uses_made f s seat (Credit g) Back sound made.legal made.answered in
+    uses_made f s seat (Credit g) Stocked sound made.legal made.answered in
     holds ∙ one_same (phase_awaits_return (s.phases f)) later (omega arith)
 gone_made f s x seat Lock answer sound holds made = holds
 gone_made f s x seat action answer sound holds made =

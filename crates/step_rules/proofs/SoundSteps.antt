@@ -8,7 +8,7 @@ use Rattle.step_rules.specs.declared.step.Action.TheVariants.{Lock, Unlock, Open
 use Rattle.step_rules.specs.declared.step.Action.TheVariants.{TakeIn, PassBack, Collect, Consume, Credit, Report, Absorb, Fill, DrainStock}
 use Rattle.step_rules.specs.declared.step.Action.TheVariants.{Grant, Ungrant, PlaceBlock, Return, SetMax, SetFlag, Make, Remove, Kill}
 use Rattle.step_rules.specs.declared.step.Answer.{Answer}
-use Rattle.step_rules.specs.declared.step.Answer.TheVariants.{Done, Held, Left, Last, Took, Back, Pages, Granted, Placed, Number}
+use Rattle.step_rules.specs.declared.step.Answer.TheVariants.{Done, Held, Left, Last, Took, Stocked, Pages, Granted, Placed, Number}
 use Rattle.step_rules.specs.Phases.{Kind, ListFrame, FreshFrame, has_as, passes_out, passes_back, is_free, is_head_in_hand, is_returnable}
 use Rattle.step_rules.specs.Phases as kinds
 use Rattle.step_rules.specs.State.{Zone, State, is_cpu, is_frame, is_unheld, is_held_by, visits, front_of}
@@ -105,7 +105,7 @@ sound_step s seat (Consume g) Took sound legal ok counted =
     let some : nat_le 1 (length (s.parts seat).list) ≡ true = (consume_tests s seat g legal).1 in
     let range = cpu_range s.zone seat cpu in
     sound_consumed s seat g sound range.0 range.1 (leb-true 1 (length (s.parts seat).list) some) ok.0 ok.2
-sound_step s seat (Credit f) Back sound legal ok counted =
+sound_step s seat (Credit f) Stocked sound legal ok counted =
     let frame : is_frame s.zone f ≡ true = (credit_tests s seat f legal).1 in
     let fresh : has_as FreshFrame seat (s.phases f) ≡ true = (credit_tests s seat f legal).2 in
     sound_credited s f seat sound (below_frames s.zone f frame) fresh

@@ -5,7 +5,7 @@ use Rattle.std.proofs.lemmas.Bool.{cases_eq, ne_eqb, false≢true, true≢false}
 use Rattle.step_rules.specs.declared.step.Action.{Action}
 use Rattle.step_rules.specs.declared.step.Action.TheVariants.{Lock, Put, TakeIn, PassBack, Consume, Credit, Report, Absorb, Fill, DrainStock}
 use Rattle.step_rules.specs.declared.step.Answer.{Answer}
-use Rattle.step_rules.specs.declared.step.Answer.TheVariants.{Illegal, Done, Last, Took, Back, Pages}
+use Rattle.step_rules.specs.declared.step.Answer.TheVariants.{Illegal, Done, Last, Took, Stocked, Pages}
 use Rattle.step_rules.specs.State.{Zone, Part, State, with_at}
 use Rattle.step_rules.specs.Legal.{IsMade}
 use Rattle.step_rules.specs.After.{Run, after, state_of, IsLegalRun, with_back, without_frame, paid, credited, filled, drained}
@@ -55,7 +55,7 @@ fits_made p s x seat (Consume g) Took fits made = fits_at s.parts p seat (paid (
   mark = old.mark;
   none = λ e. let a = old.none e in omega arith;
 })
-fits_made p s x seat (Credit f) Back fits made = fits_at s.parts p seat (credited (s.parts seat) f) fits (λ old. record {
+fits_made p s x seat (Credit f) Stocked fits made = fits_at s.parts p seat (credited (s.parts seat) f) fits (λ old. record {
   book = old.book;
   mark = old.mark;
   none = λ e. absurd (true≢false (sym e ∙ made.answered));

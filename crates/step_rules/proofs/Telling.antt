@@ -18,7 +18,7 @@ use Rattle.step_rules.specs.declared.step.Action.{Action}
 use Rattle.step_rules.specs.declared.step.Action.TheVariants.{Lock, Unlock, OpenVisit, ShutVisit, Put, TakeIn, PassBack, Consume, Credit}
 use Rattle.step_rules.specs.declared.step.Action.TheVariants.{Report, Absorb, Fill, DrainStock, SetMax, SetFlag, Make, Remove, Kill}
 use Rattle.step_rules.specs.declared.step.Answer.{Answer}
-use Rattle.step_rules.specs.declared.step.Answer.TheVariants.{Illegal, Done, Last, Took, Back, Pages, Number}
+use Rattle.step_rules.specs.declared.step.Answer.TheVariants.{Illegal, Done, Last, Took, Stocked, Pages, Number}
 use Rattle.step_rules.specs.State.{Zone, Part, State, at_boot, with_at, without, with_last, front_of, is_unheld, is_held_by, visits}
 use Rattle.step_rules.specs.Legal.{IsMade, Allows}
 use Rattle.step_rules.specs.After.{Run, after, state_of, with_back, without_frame, paid, credited, filled, drained, IsLegalRun}
@@ -275,7 +275,7 @@ hand_made p some s x seat (PassBack f) Done holds made =
 hand_made p some s x seat (Consume g) Took holds made =
     at_part hand_in s.parts p x holds seat (paid (s.parts seat))
     (λ old. record old { list = without (front_of old.list) old.list; fresh = with_last old.fresh (front_of old.list) }) refl
-hand_made p some s x seat (Credit f) Back holds made =
+hand_made p some s x seat (Credit f) Stocked holds made =
     at_part hand_in s.parts p x holds seat (credited (s.parts seat) f) (λ old. record old { list = with_last old.list f; fresh = without f old.fresh }) refl
 hand_made p some s x seat (Report n) Done holds made = off_part hand_in s.parts p x holds seat _ refl
 hand_made p some s x seat (Absorb q) (Pages n) holds made = off_part hand_in s.parts p x holds q _ refl
@@ -301,7 +301,7 @@ fill_made p s x seat (Put f) Last holds made = last_off fill_in s.parts p x hold
 fill_made p s x seat (TakeIn f) Done holds made = off_part fill_in s.parts p x holds seat _ refl
 fill_made p s x seat (PassBack f) Done holds made = off_part fill_in s.parts p x holds seat (without_frame (s.parts seat) (s.phases f) seat f) refl
 fill_made p s x seat (Consume g) Took holds made = off_part fill_in s.parts p x holds seat (paid (s.parts seat)) refl
-fill_made p s x seat (Credit f) Back holds made = off_part fill_in s.parts p x holds seat (credited (s.parts seat) f) refl
+fill_made p s x seat (Credit f) Stocked holds made = off_part fill_in s.parts p x holds seat (credited (s.parts seat) f) refl
 fill_made p s x seat (Report n) Done holds made = off_part fill_in s.parts p x holds seat _ refl
 fill_made p s x seat (Absorb q) (Pages n) holds made = off_part fill_in s.parts p x holds q _ refl
 fill_made p s x seat (Fill q g n) Done holds made =

@@ -15,7 +15,7 @@ use Rattle.step_rules.specs.declared.phase.Phase.TheVariants.{Lent, Head}
 use Rattle.step_rules.specs.declared.step.Action.{Action}
 use Rattle.step_rules.specs.declared.step.Action.TheVariants.{Lock, Put, Freeze, Unfreeze, PassOut, TakeIn, PassBack, Collect, Consume, Credit, PlaceBlock, Return}
 use Rattle.step_rules.specs.declared.step.Answer.{Answer}
-use Rattle.step_rules.specs.declared.step.Answer.TheVariants.{Illegal, Done, Last, Took, Back, Placed}
+use Rattle.step_rules.specs.declared.step.Answer.TheVariants.{Illegal, Done, Last, Took, Stocked, Placed}
 use Rattle.step_rules.specs.Phases.{is_free, passes_out, passes_back, unit_of, at_stage, stage_after_last, passed_back, collected}
 use Rattle.step_rules.specs.Phases.{is_head_in_hand, is_returnable}
 use Rattle.step_rules.specs.State.{Zone, State, at_boot, with_at, front_of, is_cpu}
@@ -186,7 +186,7 @@ marks_made f front s x seat (Consume g) Took sound holds at made =
       | inl same ↦ rw (eq-eqb front f same) (ap marks (at_it s.phases m y f (sym is ∙ same)))
       | inr ne ↦ rw (ne_eqb front f ne) (ap marks (off_it s.phases m y f (λ e. ne (is ∙ e))) ∙ holds)
     ]
-marks_made f front s x seat (Credit g) Back sound holds at made =
+marks_made f front s x seat (Credit g) Stocked sound holds at made =
     let y = Lent seat OnList in
     elim (cases_eq g f) [
       | inl same ↦ rw (eq-eqb g f same) (ap marks (at_it s.phases g y f same))

@@ -16,7 +16,7 @@ use Rattle.step_rules.specs.declared.step.Action.TheVariants.{Unfreeze, PassOut,
 use Rattle.step_rules.specs.declared.step.Action.TheVariants.{Credit, Report, Absorb, Fill, DrainStock, Grant, Ungrant}
 use Rattle.step_rules.specs.declared.step.Action.TheVariants.{PlaceBlock, Return, SetMax, SetFlag, Make, Remove, Kill}
 use Rattle.step_rules.specs.declared.step.Answer.{Answer}
-use Rattle.step_rules.specs.declared.step.Answer.TheVariants.{Done, Held, Left, Last, Took, Back, Pages, Granted}
+use Rattle.step_rules.specs.declared.step.Answer.TheVariants.{Done, Held, Left, Last, Took, Stocked, Pages, Granted}
 use Rattle.step_rules.specs.declared.step.Answer.TheVariants.{Placed, Number}
 use Rattle.step_rules.specs.Phases.{FreshFrame, has_as, unit_of, at_stage, stage_after_last, passed_back, collected}
 use Rattle.step_rules.specs.State.{Zone, Part, State, at_boot, with_at, one_if, without, with_last, front_of}
@@ -153,7 +153,7 @@ after s seat (PassBack f) Done = with_part (with_phase s f (passed_back (s.phase
 after s seat (Collect f cpu) Done = with_phase s f (collected (s.phases f))
 after s seat (Consume g) Took = with_part (with_phase s (front_of (s.parts seat).list) (consumed seat g)) seat
     (paid (s.parts seat))
-after s seat (Credit f) Back = with_part (with_phase s f (Lent seat OnList)) seat (credited (s.parts seat) f)
+after s seat (Credit f) Stocked = with_part (with_phase s f (Lent seat OnList)) seat (credited (s.parts seat) f)
 after s seat (Report n) Done = with_part s seat (with_report (s.parts seat) n)
 after s seat (Absorb cpu) (Pages n) = with_part s cpu (absorbed (s.parts cpu) n)
 after s seat (Fill cpu g n) Done = with_part (with_pending s g (s.pending g - n)) cpu (filled (s.parts cpu) g n)

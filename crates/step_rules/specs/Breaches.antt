@@ -4,7 +4,7 @@ use Rattle.std.specs.Prelude.{ℕ, ◌==◌, false, Some, None, List, [], ◌∷
 use Rattle.group_tree.specs.Groups.{initial_groups}
 use Rattle.step_rules.specs.declared.step.Action.TheVariants.{Lock, Get, Put, Freeze, Unfreeze, TakeIn, Consume, Credit}
 use Rattle.step_rules.specs.declared.step.Action.TheVariants.{Grant, PlaceBlock, Return, SetMax, Make, Kill}
-use Rattle.step_rules.specs.declared.step.Answer.TheVariants.{Done, Held, Last, Took, Back, Granted, Placed, Number}
+use Rattle.step_rules.specs.declared.step.Answer.TheVariants.{Done, Held, Last, Took, Stocked, Granted, Placed, Number}
 use Rattle.step_rules.specs.State.{no_stock}
 use Rattle.step_rules.specs.After.{Run}
 use Rattle.step_rules.specs.Examples.{small_zone, made, first_visit, hand_over}
@@ -53,11 +53,11 @@ returned_again = placed ++ made 0 (Unfreeze 0 1) Done ∷ made 0 (Freeze 0 1) Do
 
 -- a fresh frame is credited twice
 abbrev pub credited_again : Run
-credited_again = first_visit ++ made 1 (Consume 0) Took ∷ made 1 (Credit 0) Back ∷ made 1 (Credit 0) Back ∷ []
+credited_again = first_visit ++ made 1 (Consume 0) Took ∷ made 1 (Credit 0) Stocked ∷ made 1 (Credit 0) Stocked ∷ []
 
 -- a fresh frame is credited to which a seat refers
 abbrev pub credited_in_use : Run
-credited_in_use = first_visit ++ made 1 (Consume 0) Took ∷ made 2 (Get 0) Held ∷ made 1 (Credit 0) Back ∷ []
+credited_in_use = first_visit ++ made 1 (Consume 0) Took ∷ made 2 (Get 0) Held ∷ made 1 (Credit 0) Stocked ∷ []
 
 -- the front of an empty list is paid for
 abbrev pub consumed_nothing : Run

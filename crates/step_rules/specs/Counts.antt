@@ -4,7 +4,7 @@ use Rattle.step_rules.specs.declared.step.Action.{Action}
 use Rattle.step_rules.specs.declared.step.Action.TheVariants.{Get, Put, Freeze, Unfreeze, Consume, Credit, Absorb, Fill}
 use Rattle.step_rules.specs.declared.step.Action.TheVariants.{DrainStock}
 use Rattle.step_rules.specs.declared.step.Answer.{Answer}
-use Rattle.step_rules.specs.declared.step.Answer.TheVariants.{Done, Held, Left, Last, Took, Back, Pages}
+use Rattle.step_rules.specs.declared.step.Answer.TheVariants.{Done, Held, Left, Last, Took, Stocked, Pages}
 use Rattle.step_rules.specs.State.{Zone}
 use Rattle.step_rules.specs.After.{Run, state_of, part_after, IsLegalRun}
 
@@ -28,7 +28,7 @@ references_out k m seat action answer = 0
 -- the pages that a step puts into the stock of the CPU: filled or credited
 abbrev pub stock_in : ℕ → ℕ → Action → Answer → ℕ
 stock_in cpu seat (Fill other g n) Done = if other == cpu then n else 0
-stock_in cpu seat (Credit f) Back = if seat == cpu then 1 else 0
+stock_in cpu seat (Credit f) Stocked = if seat == cpu then 1 else 0
 stock_in cpu seat action answer = 0
 
 -- the pages that a step takes from the stock of the CPU: consumed or drained

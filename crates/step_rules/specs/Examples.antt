@@ -11,7 +11,7 @@ use Rattle.step_rules.specs.declared.step.Action.TheVariants.{PlaceBlock, Publis
 use Rattle.step_rules.specs.declared.step.Action.TheVariants.{NoteGroupKill, SetMax, SetFlag, Make, Remove, Kill}
 use Rattle.step_rules.specs.declared.step.Answer.{Answer}
 use Rattle.step_rules.specs.declared.step.Answer.TheVariants.{Illegal, Done, Held, Zero, Full, Left, Last, Missed, Took}
-use Rattle.step_rules.specs.declared.step.Answer.TheVariants.{Empty, OtherGroup, Drained, Back, Pages, Granted, Over}
+use Rattle.step_rules.specs.declared.step.Answer.TheVariants.{Empty, OtherGroup, Drained, Stocked, Pages, Granted, Over}
 use Rattle.step_rules.specs.declared.step.Answer.TheVariants.{Placed, NoFreeBlock, Number}
 use Rattle.step_rules.specs.State.{Zone, State, at_boot, no_part}
 use Rattle.step_rules.specs.After.{Run}
@@ -55,7 +55,7 @@ life_of_a_frame = first_visit ++ hand_over ++ last_put ++ second_visit
 
 -- a frame is credited twice
 abbrev pub credited_twice : Run
-credited_twice = first_visit ++ made 1 (Consume 0) Took ∷ made 1 (Credit 0) Back ∷ made 1 (Credit 0) Illegal ∷ []
+credited_twice = first_visit ++ made 1 (Consume 0) Took ∷ made 1 (Credit 0) Stocked ∷ made 1 (Credit 0) Illegal ∷ []
 
 -- a frame is placed, frozen, returned and placed again
 abbrev pub placed_again : Run

@@ -10,7 +10,7 @@ use Rattle.step_rules.specs.declared.step.Action.TheVariants.{Lock, Unlock, Open
 use Rattle.step_rules.specs.declared.step.Action.TheVariants.{Consume, Credit, Fill, DrainStock, SetMax, SetFlag, Make}
 use Rattle.step_rules.specs.declared.step.Action.TheVariants.{Kill}
 use Rattle.step_rules.specs.declared.step.Answer.{Answer}
-use Rattle.step_rules.specs.declared.step.Answer.TheVariants.{Done, Last, Took, Back, Pages, Number}
+use Rattle.step_rules.specs.declared.step.Answer.TheVariants.{Done, Last, Took, Stocked, Pages, Number}
 use Rattle.step_rules.specs.State.{Zone, without, with_last, front_of, is_cpu}
 use Rattle.step_rules.specs.After.{Run, state_of, part_after, IsLegalRun}
 
@@ -104,7 +104,7 @@ pub record InHand : Type 0 where
 -- removed.
 abbrev pub hand_after : ℕ → InHand → ℕ → Action → Answer → InHand
 hand_after cpu old seat (TakeIn f) Done = if cpu == seat then record old { list = with_last old.list f } else old
-hand_after cpu old seat (Credit f) Back =
+hand_after cpu old seat (Credit f) Stocked =
     if cpu == seat then record old { list = with_last old.list f; fresh = without f old.fresh } else old
 hand_after cpu old seat (Consume g) Took =
     if cpu == seat then record old {

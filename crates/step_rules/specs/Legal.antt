@@ -14,7 +14,7 @@ use Rattle.step_rules.specs.declared.step.Action.TheVariants.{PlaceBlock, Publis
 use Rattle.step_rules.specs.declared.step.Action.TheVariants.{NoteGroupKill, SetMax, SetFlag, Make, Remove, Kill}
 use Rattle.step_rules.specs.declared.step.Answer.{Answer}
 use Rattle.step_rules.specs.declared.step.Answer.TheVariants.{Illegal, Done, Held, Zero, Full, Left, Last, Missed, Took}
-use Rattle.step_rules.specs.declared.step.Answer.TheVariants.{Empty, OtherGroup, Drained, Back, Pages, Granted, Over}
+use Rattle.step_rules.specs.declared.step.Answer.TheVariants.{Empty, OtherGroup, Drained, Stocked, Pages, Granted, Over}
 use Rattle.step_rules.specs.declared.step.Answer.TheVariants.{Placed, NoFreeBlock, Number}
 use Rattle.step_rules.specs.Phases.{Kind, ListFrame, FreshFrame, is_free, is_head, has_as, passes_out, passes_back}
 use Rattle.step_rules.specs.Phases.{is_passing, is_head_in_hand, is_returnable}
@@ -128,7 +128,7 @@ IsAnswer s seat (Consume g) Empty = ((s.parts seat).stock.group ≡ Some g) × (
     × ((s.parts seat).stock.pages ≡ 0)
 IsAnswer s seat (Consume g) Drained = ((s.parts seat).stock.group ≡ Some g) × ((s.parts seat).stock.is_drained ≡ true)
 IsAnswer s seat (Consume g) OtherGroup = (s.parts seat).stock.group ≢ Some g
-IsAnswer s seat (Credit f) Back = (s.parts seat).stock.is_drained ≡ false
+IsAnswer s seat (Credit f) Stocked = (s.parts seat).stock.is_drained ≡ false
 IsAnswer s seat (Credit f) Drained = (s.parts seat).stock.is_drained ≡ true
 IsAnswer s seat (Report n) Done = Unit {0}
 IsAnswer s seat (Absorb cpu) (Pages n) = n ≡ (s.parts cpu).reported

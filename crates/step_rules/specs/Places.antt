@@ -11,7 +11,7 @@ use Rattle.step_rules.specs.declared.step.Step.{Step}
 use Rattle.step_rules.specs.declared.step.Action.{Action}
 use Rattle.step_rules.specs.declared.step.Action.TheVariants.{PassOut, Collect, Consume, Credit, PlaceBlock, Return}
 use Rattle.step_rules.specs.declared.step.Answer.{Answer}
-use Rattle.step_rules.specs.declared.step.Answer.TheVariants.{Done, Took, Back, Placed}
+use Rattle.step_rules.specs.declared.step.Answer.TheVariants.{Done, Took, Stocked, Placed}
 use Rattle.step_rules.specs.State.{Zone, front_of, is_frame}
 use Rattle.step_rules.specs.After.{Run, state_of, IsLegalRun, is_within}
 use Rattle.step_rules.specs.Units.{Units, no_units, units_after}
@@ -56,7 +56,7 @@ places_after units places seat (Collect f cpu) Done = if places f (Listed cpu) t
     Free else places
 places_after units places seat (Consume g) Took = moved places (front_of (units.hands seat).list) 1 (Listed seat)
     (Charged g)
-places_after units places seat (Credit f) Back = credited_place places seat f (units.unit f)
+places_after units places seat (Credit f) Stocked = credited_place places seat f (units.unit f)
 places_after units places seat (PlaceBlock g k) (Placed b) = moved places b.at (2 ^ k) Free (Charged g)
 places_after units places seat (Return f) Done = returned places f (units.unit f)
 places_after units places seat action answer = places

@@ -17,7 +17,7 @@ use Rattle.step_rules.specs.declared.step.Action.{Action}
 use Rattle.step_rules.specs.declared.step.Action.TheVariants.{Get, Put, Freeze, Unfreeze, Consume, Credit, Grant}
 use Rattle.step_rules.specs.declared.step.Action.TheVariants.{PlaceBlock, Return}
 use Rattle.step_rules.specs.declared.step.Answer.{Answer}
-use Rattle.step_rules.specs.declared.step.Answer.TheVariants.{Done, Held, Last, Took, Back, Granted, Placed}
+use Rattle.step_rules.specs.declared.step.Answer.TheVariants.{Done, Held, Last, Took, Stocked, Granted, Placed}
 use Rattle.step_rules.specs.Phases.{keeper_of}
 use Rattle.step_rules.specs.State.{Zone, Stock, State, one_if, sum_to, front_of, is_cpu, is_unheld, free_in}
 use Rattle.group_tree.specs.Room.{fits_limit}
@@ -122,7 +122,7 @@ ReturnsNoFrameTwice run seat (Freeze f n) Done = awaits_return run f ≡ false
 ReturnsNoFrameTwice run seat (Unfreeze f n) Done = (is_some ((units_of run).unit f) ≡ true) × HasNoReference run f
 ReturnsNoFrameTwice run seat (Return f) Done = ((awaits_return run f ≡ true) ⊎ (is_killed_return run f ≡ true))
     × (is_some ((units_of run).unit f) ≡ true) × HasNoReference run f
-ReturnsNoFrameTwice run seat (Credit f) Back = (times_in f ((units_of run).hands seat).fresh ≡ 1) × HasNoReference run f
+ReturnsNoFrameTwice run seat (Credit f) Stocked = (times_in f ((units_of run).hands seat).fresh ≡ 1) × HasNoReference run f
 ReturnsNoFrameTwice run seat (Consume g) Took =
     (1 ≤ length ((units_of run).hands seat).list) × IsUnused run (front_of ((units_of run).hands seat).list)
 ReturnsNoFrameTwice run seat (PlaceBlock g k) (Placed b) = (b.order ≡ k) × ((f : ℕ) → Covers b f → IsUnused run f)

@@ -10,7 +10,7 @@ use Rattle.step_rules.specs.declared.step.Step.{Step}
 use Rattle.step_rules.specs.declared.step.Action.{Action}
 use Rattle.step_rules.specs.declared.step.Action.TheVariants.{Put, Freeze, Unfreeze, Credit, Return}
 use Rattle.step_rules.specs.declared.step.Answer.{Answer}
-use Rattle.step_rules.specs.declared.step.Answer.TheVariants.{Done, Last, Back}
+use Rattle.step_rules.specs.declared.step.Answer.TheVariants.{Done, Last, Stocked}
 use Rattle.step_rules.specs.State.{Zone, State, at_boot, one_if, is_unheld}
 use Rattle.step_rules.specs.Usage.{frames_kept, pages_prepaid, usage_of}
 use Rattle.step_rules.specs.Legal.{is_legal, IsMade, no_frame_passes}
@@ -69,14 +69,14 @@ awaits_return run f = fold (λ old e. awaits_return_after f old e.0.action e.1) 
 abbrev pub uses_ended : ℕ → Run → ℕ → Action → Answer → ℕ
 uses_ended f run seat (Put g) Last = if g == f then 1 else 0
 uses_ended f run seat (Freeze g n) Done = if g == f then 1 else 0
-uses_ended f run seat (Credit g) Back = if g == f then 1 else 0
+uses_ended f run seat (Credit g) Stocked = if g == f then 1 else 0
 uses_ended f run seat (Return g) Done = if g == f then one_if (is_killed_return run g) else 0
 uses_ended f run seat action answer = 0
 
 -- 1 if a step closes an end: the frame is returned or credited, or an unfreeze undoes the end
 abbrev pub uses_closed : ℕ → Run → ℕ → Action → Answer → ℕ
 uses_closed f run seat (Return g) Done = if g == f then 1 else 0
-uses_closed f run seat (Credit g) Back = if g == f then 1 else 0
+uses_closed f run seat (Credit g) Stocked = if g == f then 1 else 0
 uses_closed f run seat (Unfreeze g n) Done = if g == f then one_if (awaits_return run g) else 0
 uses_closed f run seat action answer = 0
 

@@ -9,7 +9,7 @@ use Rattle.step_rules.specs.declared.phase.Phase.TheVariants.{Head}
 use Rattle.step_rules.specs.declared.step.Action.{Action}
 use Rattle.step_rules.specs.declared.step.Action.TheVariants.{Unfreeze, Consume, Credit, PlaceBlock, Return}
 use Rattle.step_rules.specs.declared.step.Answer.{Answer}
-use Rattle.step_rules.specs.declared.step.Answer.TheVariants.{Done, Took, Back, Placed}
+use Rattle.step_rules.specs.declared.step.Answer.TheVariants.{Done, Took, Stocked, Placed}
 use Rattle.step_rules.specs.Phases.{unit_of}
 use Rattle.step_rules.specs.State.{Zone, front_of}
 use Rattle.step_rules.specs.After.{Run, state_of, IsLegalRun}
@@ -27,7 +27,7 @@ pub record Units : Type 0 where
 abbrev pub unit_after : ℕ → ℕ → Option ChargedUnit → Action → Answer → Option ChargedUnit
 unit_after f front old (Consume g) Took = if front == f then Some (record { group = g; order = 0 }) else old
 unit_after f front old (PlaceBlock g k) (Placed b) = if b.at == f then Some (record { group = g; order = k }) else old
-unit_after f front old (Credit h) Back = if h == f then None else old
+unit_after f front old (Credit h) Stocked = if h == f then None else old
 unit_after f front old (Return h) Done = if h == f then None else old
 unit_after f front old action answer = old
 
@@ -36,7 +36,7 @@ unit_after f front old action answer = old
 abbrev pub fresh_after : ℕ → ℕ → Option ℕ → Action → Answer → Option ℕ
 fresh_after f front old (Consume g) Took = if front == f then Some g else old
 fresh_after f front old (Unfreeze h n) Done = if h == f then None else old
-fresh_after f front old (Credit h) Back = if h == f then None else old
+fresh_after f front old (Credit h) Stocked = if h == f then None else old
 fresh_after f front old (Return h) Done = if h == f then None else old
 fresh_after f front old action answer = old
 

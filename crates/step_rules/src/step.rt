@@ -195,7 +195,7 @@ pub enum Answer {
     /// The stock was drained.
     Drained,
     /// The page was put back into the stock.
-    Back,
+    Stocked,
     /// This many pages were absorbed, or drained.
     Pages(u128),
     /// The pages were granted.

@@ -85,12 +85,12 @@ leaves_report cpus words p y rows below = record {
 
 -- ---- the rule
 
-abbrev Stocked : List ℕ → ℕ → StockAccount → StockView → Type 0
-Stocked words q a v = IsStock (slice_index words (stock_index q)) (slice_index words (report_index q)) a v
+abbrev IsStockAt : List ℕ → ℕ → StockAccount → StockView → Type 0
+IsStockAt words q a v = IsStock (slice_index words (stock_index q)) (slice_index words (report_index q)) a v
 
 -- the words are other terms for the same numbers
 stocked : (words : List ℕ) (q x y : ℕ) (a : StockAccount) (v : StockView) → slice_index words (stock_index q) ≡ x
-    → slice_index words (report_index q) ≡ y → IsStock x y a v → Stocked words q a v
+    → slice_index words (report_index q) ≡ y → IsStock x y a v → IsStockAt words q a v
 stocked words q x y a v at_x at_y h = subst (λ n. IsStock n (slice_index words (report_index q)) a v) (sym at_x) (subst (λ n. IsStock x n a v) (sym at_y) h)
 
 module _ (cpus : ℕ) (words : List ℕ) (seats : List (List StockView)) (rule : StockRule cpus words seats) (words' : List ℕ) (id : ℕ) where
@@ -102,14 +102,14 @@ module _ (cpus : ℕ) (words : List ℕ) (seats : List (List StockView)) (rule :
     view = h.view;
     only = stays seats id old new at q h.view same h.only;
     stock = stocked words' q _ _ (account_of m' q) h.view (leaves.stocks q ne) (leaves.reports q ne)
-        (subst (λ a. Stocked words q a h.view) (sym account) h.stock);
+        (subst (λ a. IsStockAt words q a h.view) (sym account) h.stock);
   }
 
   -- ---- a CPU's seat
   module _ (v : StockView) (at : get_elem? seats id ≡ some (v ∷ [])) (low : 0 < v.number) (high : v.number ≤ cpus) where
-    pub cpu_stock : Stocked words v.number (account_of rule.zone v.number) v
+    pub cpu_stock : IsStockAt words v.number (account_of rule.zone v.number) v
     cpu_stock = let h = rule.each v.number low high in
-        subst (λ (u : StockView). Stocked words v.number (account_of rule.zone v.number) u)
+        subst (λ (u : StockView). IsStockAt words v.number (account_of rule.zone v.number) u)
         (known seats id (v ∷ []) at v.number v (sole v.number v refl) h.view h.only) h.stock
 
     pub cpu_keeps : (x y : ℕ) → Leaves words words' v.number x y → (w : StockView) → w.number ≡ v.number
@@ -140,8 +140,8 @@ module _ (cpus : ℕ) (words : List ℕ) (seats : List (List StockView)) (rule :
     zone_known = known seats id (m ∷ []) at 0 m (sole 0 m zeroth) rule.zone rule.only
 
     -- a CPU's stock, whoever holds its seat
-    pub zone_stock : (p : ℕ) (low : 0 < p) (high : p ≤ cpus) → Stocked words p (account_of m p) (rule.each p low high).view
-    zone_stock p low high = let h = rule.each p low high in subst (λ (u : StockView). Stocked words p (account_of u p) h.view) zone_known h.stock
+    pub zone_stock : (p : ℕ) (low : 0 < p) (high : p ≤ cpus) → IsStockAt words p (account_of m p) (rule.each p low high).view
+    zone_stock p low high = let h = rule.each p low high in subst (λ (u : StockView). IsStockAt words p (account_of u p) h.view) zone_known h.stock
 
     pub zone_keeps : (p x y : ℕ) (low : 0 < p) (high : p ≤ cpus) → Leaves words words' p x y → (m' : StockView) → m'.number ≡ 0
         → ((q : ℕ) → q ≢ p → account_of m' q ≡ account_of m q) → IsStock x y (account_of m' p) (rule.each p low high).view
@@ -172,10 +172,10 @@ module _ (cpus : ℕ) (words : List ℕ) (seats : List (List StockView)) (rule :
     pub joined_zone : rule.zone ≡ m
     joined_zone = known seats id (m ∷ v ∷ []) at 0 m (first 0 m v zeroth (λ e. omega (arith, e))) rule.zone rule.only
 
-    pub joined_stock : Stocked words v.number (account_of m v.number) v
+    pub joined_stock : IsStockAt words v.number (account_of m v.number) v
     joined_stock = let h = rule.each v.number low high in
-        subst (λ (u : StockView). Stocked words v.number (account_of u v.number) v) joined_zone
-        (subst (λ (u : StockView). Stocked words v.number (account_of rule.zone v.number) u)
+        subst (λ (u : StockView). IsStockAt words v.number (account_of u v.number) v) joined_zone
+        (subst (λ (u : StockView). IsStockAt words v.number (account_of rule.zone v.number) u)
         (known seats id (m ∷ v ∷ []) at v.number v (second v.number m v (λ e. omega (arith, e, zeroth)) refl) h.view h.only) h.stock)
 
     pub joined_keeps : (x y : ℕ) → Leaves words words' v.number x y → (m' v' : StockView) → m'.number ≡ 0 → v'.number ≡ v.number

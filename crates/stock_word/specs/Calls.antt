@@ -27,10 +27,10 @@ Consumed g Empty v w = (v.last ≡ HeldBy g 0) × (w ≡ v)
 Consumed g OtherGroup v w = (group_of v.last ≢ Some g) × (w ≡ v)
 Consumed g Drained v w = (group_of v.last ≡ Some g) × (v.last ≢ HeldBy g 0) × (w ≡ told_drained v)
 
--- What credit answers. Back: a page was put back into the stock of g that it saw last. Drained: that stock is drained
+-- What credit answers. Stocked: a page was put back into the stock of g that it saw last. Drained: that stock is drained
 -- by now.
 abbrev pub Credited : Credit → StockView → StockView → Type 0
-Credited credit.Back v w = (g : ℕ) × (n : ℕ) × (v.last ≡ HeldBy g n) × (w ≡ after_back v g (n + 1))
+Credited credit.Stocked v w = (g : ℕ) × (n : ℕ) × (v.last ≡ HeldBy g n) × (w ≡ after_back v g (n + 1))
 Credited credit.Drained v w = (g : ℕ) × (group_of v.last ≡ Some g) × (w ≡ told_drained v)
 
 -- the steps of a drain of a stock of this group: a look, and then a swap if the stock was ever filled

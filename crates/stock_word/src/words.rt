@@ -24,7 +24,7 @@ pub enum Consume {
 #[derive(Clone, Copy, Debug, PartialEq, Eq)]
 pub enum Credit {
     /// The page is in the stock again.
-    Back,
+    Stocked,
     /// The stock was drained and not filled since. The page stays with the CPU.
     Drained,
 }
@@ -79,7 +79,7 @@ impl StockWords {
                         group,
                         pages: pages + 1,
                     };
-                    Credit::Back
+                    Credit::Stocked
                 } else {
                     seat.last = Stock::DrainedOf { group };
                     Credit::Drained

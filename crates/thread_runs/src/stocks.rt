@@ -77,7 +77,7 @@ fn pay_and_credit(words: &StockWords, seat: &mut StockSeat) -> u32
             }
         } else if fresh > 0 {
             match words.credit(seat) {
-                Credit::Back => fresh -= 1,
+                Credit::Stocked => fresh -= 1,
                 Credit::Drained => break,
             }
         }

@@ -13,13 +13,13 @@ use Rattle.script_replay.proofs.command_answers.answer_release.Goals as goal
 
 pub returns-then-try_relist : goal.returns-then-try_relist
 returns-then-try_relist g c =
-    let made : OnlyWatched (cpu_makes c.args.cpu.now.number (step.Credit c.args.frame) step_answer.Back ∷ []) c.args.locked.now c.watch_credit.new.locked =
-    subst (λ (n : ℕ). OnlyWatched (cpu_makes n (step.Credit c.args.frame) step_answer.Back ∷ []) c.args.locked.now c.watch_credit.new.locked)
+    let made : OnlyWatched (cpu_makes c.args.cpu.now.number (step.Credit c.args.frame) step_answer.Stocked ∷ []) c.args.locked.now c.watch_credit.new.locked =
+    subst (λ (n : ℕ). OnlyWatched (cpu_makes n (step.Credit c.args.frame) step_answer.Stocked ∷ []) c.args.locked.now c.watch_credit.new.locked)
     c.number-cpu_number.ensures.number c.watch_credit.ensures in record {
       answered = record {
         text = answer_text Listed;
         so = record {
-          steps = cpu_makes c.args.cpu.now.number (step.Credit c.args.frame) step_answer.Back ∷ [];
+          steps = cpu_makes c.args.cpu.now.number (step.Credit c.args.frame) step_answer.Stocked ∷ [];
           writes = alone _ _ _ Listed (search rules, record { locked = made; steps_are = refl });
         };
         added = c.write_listed.ensures;

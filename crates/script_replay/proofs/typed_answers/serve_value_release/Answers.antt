@@ -7,10 +7,10 @@ use Rattle.script_replay.proofs.typed_answers.serve_value_release.Goals as goal
 
 pub returns-then-try_relist-clause-answer : goal.returns-then-try_relist-clause-answer
 returns-then-try_relist-clause-answer g c =
-    let made : OnlyWatched (cpu_makes c.args.cpu.now.number (step.Credit c.args.frame) step_answer.Back ∷ []) c.args.locked.now c.watch_credit.new.locked =
-    subst (λ (n : ℕ). OnlyWatched (cpu_makes n (step.Credit c.args.frame) step_answer.Back ∷ []) c.args.locked.now c.watch_credit.new.locked)
+    let made : OnlyWatched (cpu_makes c.args.cpu.now.number (step.Credit c.args.frame) step_answer.Stocked ∷ []) c.args.locked.now c.watch_credit.new.locked =
+    subst (λ (n : ℕ). OnlyWatched (cpu_makes n (step.Credit c.args.frame) step_answer.Stocked ∷ []) c.args.locked.now c.watch_credit.new.locked)
     c.number-cpu_number.ensures.number c.watch_credit.ensures in record {
-      steps = cpu_makes c.args.cpu.now.number (step.Credit c.args.frame) step_answer.Back ∷ [];
+      steps = cpu_makes c.args.cpu.now.number (step.Credit c.args.frame) step_answer.Stocked ∷ [];
       is_noted = false;
       answered = (search rules, record { locked = made; steps_are = refl });
     }
