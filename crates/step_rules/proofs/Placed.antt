@@ -11,7 +11,7 @@ use Rattle.step_rules.specs.declared.phase.Stage.TheVariants.{Collected, Bare, L
 use Rattle.step_rules.specs.declared.phase.Phase.{Phase}
 use Rattle.step_rules.specs.declared.phase.Phase.TheVariants.{InZone, Lent, Head, Tail}
 use Rattle.step_rules.specs.declared.step.FramePlace.{FramePlace}
-use Rattle.step_rules.specs.declared.step.FramePlace.TheVariants.{Free, Listed, Charged}
+use Rattle.step_rules.specs.declared.step.FramePlace.TheVariants.{Free, LentTo, Charged}
 use Rattle.step_rules.specs.declared.step.Action.{Action}
 use Rattle.step_rules.specs.declared.step.Action.TheVariants.{Lock, Put, Freeze, Unfreeze, PassOut, TakeIn, PassBack, Collect, Consume}
 use Rattle.step_rules.specs.declared.step.Action.TheVariants.{Credit, PlaceBlock, Return}
@@ -36,12 +36,12 @@ use Rattle.step_rules.proofs.Uniting.{HasUnits, units_still, units_made, units_b
 
 pub same_place_itself : (p : FramePlace) → is_same_frame_place p p ≡ true
 same_place_itself Free = refl
-same_place_itself (Listed p) = eq-eqb p p refl
+same_place_itself (LentTo p) = eq-eqb p p refl
 same_place_itself (Charged g) = eq-eqb g g refl
 
 pub same_place_is : (p q : FramePlace) → is_same_frame_place p q ≡ true → p ≡ q
 same_place_is Free Free e = refl
-same_place_is (Listed p) (Listed q) e = ap Listed (eqb-true p q e)
+same_place_is (LentTo p) (LentTo q) e = ap LentTo (eqb-true p q e)
 same_place_is (Charged g) (Charged h) e = ap Charged (eqb-true g h e)
 same_place_is p q e = absurd (false≢true e)
 
@@ -109,18 +109,18 @@ sent (Tail g) = refl
 
 -- a collected frame of the list is free, and any other stays with its group
 collects_told : (zone : Zone) (phases : ℕ → Phase) (places : Places) (f p : ℕ) → AreTold zone phases places → is_frame zone f ≡ true → CameBack p (phases f) →
-    AreTold zone (with_at phases f (collected (phases f))) (if places f (Listed p) then moved places f 1 (Listed p) Free else places)
+    AreTold zone (with_at phases f (collected (phases f))) (if places f (LentTo p) then moved places f 1 (LentTo p) Free else places)
 collects_told zone phases places f p told frame (FromList was) =
-    let there : places f (Listed p) ≡ true = told f (Listed p) ∙ (λ i. frame i && is_same_frame_place (Listed p) (place_in (was i))) ∙ same_place_itself (Listed p) in
-    subst (AreTold zone (with_at phases f (collected (phases f)))) (sym (cond-true (places f (Listed p)) (moved places f 1 (Listed p) Free) places there))
-    (one_told zone phases places f (collected (phases f)) (Listed p) Free told frame (ap place_in was) (ap (λ x. place_in (collected x)) was))
+    let there : places f (LentTo p) ≡ true = told f (LentTo p) ∙ (λ i. frame i && is_same_frame_place (LentTo p) (place_in (was i))) ∙ same_place_itself (LentTo p) in
+    subst (AreTold zone (with_at phases f (collected (phases f)))) (sym (cond-true (places f (LentTo p)) (moved places f 1 (LentTo p) Free) places there))
+    (one_told zone phases places f (collected (phases f)) (LentTo p) Free told frame (ap place_in was) (ap (λ x. place_in (collected x)) was))
 collects_told zone phases places f p told frame (FromFresh u was) =
-    let not_there : places f (Listed p) ≡ false = told f (Listed p) ∙ (λ i. frame i && is_same_frame_place (Listed p) (place_in (was i))) in
-    subst (AreTold zone (with_at phases f (collected (phases f)))) (sym (cond-false (places f (Listed p)) (moved places f 1 (Listed p) Free) places not_there))
+    let not_there : places f (LentTo p) ≡ false = told f (LentTo p) ∙ (λ i. frame i && is_same_frame_place (LentTo p) (place_in (was i))) in
+    subst (AreTold zone (with_at phases f (collected (phases f)))) (sym (cond-false (places f (LentTo p)) (moved places f 1 (LentTo p) Free) places not_there))
     (stays_told zone phases places f (collected (phases f)) told (ap (λ x. place_in (collected x)) was ∙ sym (ap place_in was)))
 collects_told zone phases places f p told frame (FromBack u was) =
-    let not_there : places f (Listed p) ≡ false = told f (Listed p) ∙ (λ i. frame i && is_same_frame_place (Listed p) (place_in (was i))) in
-    subst (AreTold zone (with_at phases f (collected (phases f)))) (sym (cond-false (places f (Listed p)) (moved places f 1 (Listed p) Free) places not_there))
+    let not_there : places f (LentTo p) ≡ false = told f (LentTo p) ∙ (λ i. frame i && is_same_frame_place (LentTo p) (place_in (was i))) in
+    subst (AreTold zone (with_at phases f (collected (phases f)))) (sym (cond-false (places f (LentTo p)) (moved places f 1 (LentTo p) Free) places not_there))
     (stays_told zone phases places f (collected (phases f)) told (ap (λ x. place_in (collected x)) was ∙ sym (ap place_in was)))
 
 -- a unit in the zone's hand comes back
@@ -155,9 +155,9 @@ placed_place g b x = by_head (x == b.at)
 
 -- how a step moves places, told by the state
 abbrev moves_in : State → Places → ℕ → Action → Answer → Places
-moves_in s places seat (PassOut f p) Done = moved places f 1 Free (Listed p)
-moves_in s places seat (Collect f p) Done = if places f (Listed p) then moved places f 1 (Listed p) Free else places
-moves_in s places seat (Consume g) Took = moved places (front_of (s.parts seat).list) 1 (Listed seat) (Charged g)
+moves_in s places seat (PassOut f p) Done = moved places f 1 Free (LentTo p)
+moves_in s places seat (Collect f p) Done = if places f (LentTo p) then moved places f 1 (LentTo p) Free else places
+moves_in s places seat (Consume g) Took = moved places (front_of (s.parts seat).list) 1 (LentTo seat) (Charged g)
 moves_in s places seat (Credit f) Stocked = credited_place places seat f (unit_of (s.phases f))
 moves_in s places seat (PlaceBlock g k) (Placed b) = moved places b.at (2 ^ b.order) Free (Charged g)
 moves_in s places seat (Return f) Done = returned places f (unit_of (s.phases f))
@@ -169,7 +169,7 @@ moves_same : (s : State) (u : Units) (places : Places) (seat : ℕ) (action : Ac
 moves_same s u places seat (Consume g) Took has made =
     let legal = made.legal in
     let cpu : is_cpu s.zone seat ≡ true = (consume_tests s seat g legal).0 in
-    ap (λ (f : ℕ). moved places f 1 (Listed seat) (Charged g)) (sym (front_told s u has seat cpu))
+    ap (λ (f : ℕ). moved places f 1 (LentTo seat) (Charged g)) (sym (front_told s u has seat cpu))
 moves_same s u places seat (Credit f) Stocked has made =
     ap (λ (m : Option ChargedUnit × Option ℕ). credited_place places seat f m.0) (has.marked f)
 moves_same s u places seat (PlaceBlock g k) (Placed b) has made = ap (λ (o : ℕ). moved places b.at (2 ^ o) Free (Charged g)) made.answered.0
@@ -197,7 +197,7 @@ places_made s places seat (Unfreeze f n) Done sound told legal ok =
 places_made s places seat (PassOut f p) Done sound told legal ok =
     let frame : is_frame s.zone f ≡ true = (pass_out_tests s seat f p legal).1 in
     let free : is_free (s.phases f) ≡ true = (pass_out_tests s seat f p legal).3 in
-    one_told s.zone s.phases places f (Lent p PassingOut) Free (Listed p) told frame (ap place_in (free_is (s.phases f) free)) refl
+    one_told s.zone s.phases places f (Lent p PassingOut) Free (LentTo p) told frame (ap place_in (free_is (s.phases f) free)) refl
 places_made s places seat (TakeIn f) Done sound told legal ok =
     let passes : passes_out seat (s.phases f) ≡ true = (take_in_tests s seat f legal).2 in
     stays_told s.zone s.phases places f (Lent seat OnList) told (sym (ap place_in (out_is seat (s.phases f) passes)))
@@ -210,14 +210,14 @@ places_made s places seat (Consume g) Took sound told legal ok =
     let some : nat_le 1 (length (s.parts seat).list) ≡ true = (consume_tests s seat g legal).1 in
     let f = front_of (s.parts seat).list in
     let was : s.phases f ≡ Lent seat OnList = listed_is seat (s.phases f) (front_listed s seat sound (leb-true 1 (length (s.parts seat).list) some)) in
-    one_told s.zone s.phases places f (consumed seat g) (Listed seat) (Charged g) told (lt-ltb f s.zone.frames (in_zone s f sound (ap is_free was)))
+    one_told s.zone s.phases places f (consumed seat g) (LentTo seat) (Charged g) told (lt-ltb f s.zone.frames (in_zone s f sound (ap is_free was)))
     (ap place_in was) refl
 places_made s places seat (Credit f) Stocked sound told legal ok =
     let frame : is_frame s.zone f ≡ true = (credit_tests s seat f legal).1 in
     let fresh : has_as FreshFrame seat (s.phases f) ≡ true = (credit_tests s seat f legal).2 in
     let is = fresh_is seat (s.phases f) fresh in
     subst (λ (o : Option ChargedUnit). AreTold s.zone (with_at s.phases f (Lent seat OnList)) (credited_place places seat f o)) (sym (ap unit_of is.1))
-    (one_told s.zone s.phases places f (Lent seat OnList) (Charged (is.0).group) (Listed seat) told frame (ap place_in is.1) refl)
+    (one_told s.zone s.phases places f (Lent seat OnList) (Charged (is.0).group) (LentTo seat) told frame (ap place_in is.1) refl)
 places_made s places seat (PlaceBlock g k) (Placed b) sound told legal ok =
     moves_told s.zone s.phases (with_block s.phases g b) places b.at (2 ^ b.order) Free (Charged g) told
     (λ x low high within.

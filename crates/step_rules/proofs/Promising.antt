@@ -17,7 +17,7 @@ use Rattle.step_rules.specs.declared.phase.Stage.{Stage}
 use Rattle.step_rules.specs.declared.phase.Phase.{Phase}
 use Rattle.step_rules.specs.declared.phase.Phase.TheVariants.{InZone, Lent, Head, Tail}
 use Rattle.step_rules.specs.declared.step.FramePlace.{FramePlace}
-use Rattle.step_rules.specs.declared.step.FramePlace.TheVariants.{Free, Listed, Charged}
+use Rattle.step_rules.specs.declared.step.FramePlace.TheVariants.{Free, LentTo, Charged}
 use Rattle.step_rules.specs.declared.step.Action.{Action}
 use Rattle.step_rules.specs.declared.step.Action.TheVariants.{Get, Put, Freeze, Unfreeze, Consume, Credit, Grant, PlaceBlock, Return}
 use Rattle.step_rules.specs.declared.step.Answer.{Answer}
@@ -152,7 +152,7 @@ module _ (zone : Zone) (run : Run) (legal : IsLegalRun zone run) (shown : Shown)
   abbrev s : State
   s = state_of zone run
 
-  times_shown : (f p : ℕ) → times_in f (shown.lists p) ≡ one_if (is_same_frame_place (place_in (s.phases f)) (Listed p))
+  times_shown : (f p : ℕ) → times_in f (shown.lists p) ≡ one_if (is_same_frame_place (place_in (s.phases f)) (LentTo p))
   times_shown f p = ap (times_in f) (is.lists p) ∙ placed.listed f p
 
   is_free_at : (f : ℕ) → f < s.zone.frames → is_free (s.phases f) ≡ true → IsFree (free_in s.zone s.phases) f
@@ -165,7 +165,7 @@ module _ (zone : Zone) (run : Run) (legal : IsLegalRun zone run) (shown : Shown)
   has_once f below InZone e = in_one_block (free_in s.zone s.phases) shown.areas is.areas f (is_free_at f below (ap is_free e))
   has_once f below (Lent p way) e = (
     frames_are_lent zone run legal f p (ap lent_to e),
-    times_shown f p ∙ ap (λ y. one_if (is_same_frame_place (place_in y) (Listed p))) e ∙ ap one_if (same_place_itself (Listed p)),
+    times_shown f p ∙ ap (λ y. one_if (is_same_frame_place (place_in y) (LentTo p))) e ∙ ap one_if (same_place_itself (LentTo p)),
   )
   has_once f below (Head u stage) e = (there f u.group (ap keeper_of e), is.keeper f ∙ ap keeper_of e)
   has_once f below (Tail g) e = (there f g (ap keeper_of e), is.keeper f ∙ ap keeper_of e)
@@ -174,8 +174,8 @@ module _ (zone : Zone) (run : Run) (legal : IsLegalRun zone run) (shown : Shown)
   has_alone f below Free has =
       sym (ap place_in (free_is (s.phases f) (free_in_at s.zone s.phases f below
       (in_a_block_is_free (free_in s.zone s.phases) shown.areas is.areas has.0 has.1 f has.2))))
-  has_alone f below (Listed p) has =
-      sym (same_place_is (place_in (s.phases f)) (Listed p) (one_if_true _ (let e = times_shown f p in omega (arith, e, has))))
+  has_alone f below (LentTo p) has =
+      sym (same_place_is (place_in (s.phases f)) (LentTo p) (one_if_true _ (let e = times_shown f p in omega (arith, e, has))))
   has_alone f below (Charged g) has = sym (keeper_place (s.phases f) g (sym (is.keeper f) ∙ has))
 
   in_one_place : (f : ℕ) → f < s.zone.frames → IsInOnePlace zone run shown f
@@ -202,9 +202,9 @@ module _ (zone : Zone) (run : Run) (legal : IsLegalRun zone run) (shown : Shown)
           let size = length-map-range_with_len (λ x. is_free (s.phases x)) 0 s.zone.frames in
           let high = seen.2.before in
           omega arith
-      by_place (Listed q) seen =
+      by_place (LentTo q) seen =
           let e = times_shown f q in
-          let none : one_if (is_same_frame_place (place_in (s.phases f)) (Listed q)) ≡ 0 = ap (λ y. one_if (is_same_frame_place (place_in y) (Listed q))) free in
+          let none : one_if (is_same_frame_place (place_in (s.phases f)) (LentTo q)) ≡ 0 = ap (λ y. one_if (is_same_frame_place (place_in y) (LentTo q))) free in
           omega (arith, e, seen, none)
       by_place (Charged g) seen = none_some g (sym (is.keeper f ∙ ap keeper_of free) ∙ seen)
 

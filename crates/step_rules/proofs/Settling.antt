@@ -76,7 +76,7 @@ still_phase (Head u (BackPassing q)) out back = absurd (back q (eq-eqb q q refl)
 still_phase x out back = refl
 
 -- a frame that does not pass is on the list that it is lent to
-on_its_list : (p : ℕ) (x : Phase) → is_passing x ≡ false → has_as ListFrame p x ≡ is_same_frame_place (place_in x) (place.Listed p)
+on_its_list : (p : ℕ) (x : Phase) → is_passing x ≡ false → has_as ListFrame p x ≡ is_same_frame_place (place_in x) (place.LentTo p)
 on_its_list p (Lent q PassingOut) still = absurd (true≢false still)
 on_its_list p (Lent q PassingBack) still = absurd (true≢false still)
 on_its_list p (Head u stage) still = refl

@@ -13,7 +13,7 @@ use Rattle.group_tree.specs.Path.{names_of}
 use Rattle.group_tree.specs.Groups.{has_group, group_at, path_of, in_subtree, initial_groups}
 use Rattle.step_rules.specs.declared.phase.ChargedUnit.{ChargedUnit}
 use Rattle.step_rules.specs.declared.step.FramePlace.{FramePlace}
-use Rattle.step_rules.specs.declared.step.FramePlace.TheVariants.{Free, Listed, Charged}
+use Rattle.step_rules.specs.declared.step.FramePlace.TheVariants.{Free, LentTo, Charged}
 use Rattle.step_rules.specs.Phases.{keeper_of}
 use Rattle.step_rules.specs.State.{State, sum_to, is_cpu, free_in}
 use Rattle.step_rules.specs.Usage.{usage_of}
@@ -141,7 +141,7 @@ nowhere_is_wrong promise = by_place (promise.frames 1 (omega arith)).place (prom
   where
     by_place : (p : FramePlace) → HasOnce small_zone seen_nowhere 1 p → ⊥
     by_place Free once = in_no_block 1 once
-    by_place (Listed p) once = true≢false (ap (λ (n : ℕ). n == 0) once.1)
+    by_place (LentTo p) once = true≢false (ap (λ (n : ℕ). n == 0) once.1)
     by_place (Charged g) once = none_some g once.1
 
 abbrev is_free_place : FramePlace → Bool
@@ -152,7 +152,7 @@ pub twice_is_wrong : IsShownWrongly seen_twice
 twice_is_wrong promise =
     let one = promise.frames 1 (omega arith) in
     let free = one.only Free (record { at = 1; order = 0 }, (0, omega arith, refl), record { from = omega arith; before = omega arith }) in
-    let listed = one.only (Listed 1) (omega arith) in
+    let listed = one.only (LentTo 1) (omega arith) in
     true≢false (ap is_free_place (free ∙ sym listed))
 
 pub listed_twice_is_wrong : IsShownWrongly listed_twice
@@ -160,7 +160,7 @@ listed_twice_is_wrong promise = by_place (promise.frames 1 (omega arith)).place 
   where
     by_place : (p : FramePlace) → HasOnce small_zone listed_twice 1 p → ⊥
     by_place Free once = in_no_block 1 once
-    by_place (Listed p) once = elim (cases_eq p 1) [
+    by_place (LentTo p) once = elim (cases_eq p 1) [
       | inl e ↦ true≢false (ap (λ (n : ℕ). n == 2) (subst (λ (k : ℕ). times_in 1 (listed_twice.lists k) ≡ 1) e once.1))
       | inr ne ↦ not_listed 1 p 1 (1 ∷ 1 ∷ []) ne once.1
     ]
@@ -171,7 +171,7 @@ by_nobody_is_wrong promise = by_place (promise.frames 1 (omega arith)).place (pr
   where
     by_place : (p : FramePlace) → HasOnce small_zone listed_by_nobody 1 p → ⊥
     by_place Free once = in_no_block 1 once
-    by_place (Listed p) once = elim (cases_eq p 3) [
+    by_place (LentTo p) once = elim (cases_eq p 3) [
       | inl e ↦ false≢true (subst (λ (k : ℕ). is_cpu small_zone k ≡ true) e once.0)
       | inr ne ↦ not_listed 3 p 1 (1 ∷ []) ne once.1
     ]
@@ -203,7 +203,7 @@ in_no_unit_is_wrong promise =
     second_in_no_unit unit.0 unit.1 unit.2 unit.3
 
 pub beyond_is_wrong : IsShownWrongly seen_beyond
-beyond_is_wrong promise = promise.beyond 2 (omega arith) (Listed 1) (omega arith)
+beyond_is_wrong promise = promise.beyond 2 (omega arith) (LentTo 1) (omega arith)
 
 pub for_nobody_is_wrong : IsShownWrongly prepaid_for_nobody
 for_nobody_is_wrong promise = none_some _ (promise.stocks 1 (omega arith)).1.1

@@ -6,7 +6,7 @@ use Rattle.step_rules.specs.declared.phase.ChargedUnit.{ChargedUnit}
 use Rattle.step_rules.specs.declared.phase.Phase.{Phase}
 use Rattle.step_rules.specs.declared.phase.Phase.TheVariants.{InZone, Lent, Head, Tail}
 use Rattle.step_rules.specs.declared.step.FramePlace.{FramePlace}
-use Rattle.step_rules.specs.declared.step.FramePlace.TheVariants.{Free, Listed, Charged}
+use Rattle.step_rules.specs.declared.step.FramePlace.TheVariants.{Free, LentTo, Charged}
 use Rattle.step_rules.specs.declared.step.Step.{Step}
 use Rattle.step_rules.specs.declared.step.Action.{Action}
 use Rattle.step_rules.specs.declared.step.Action.TheVariants.{PassOut, Collect, Consume, Credit, PlaceBlock, Return}
@@ -23,7 +23,7 @@ Places = ℕ → FramePlace → Bool
 -- the two places are the same
 abbrev pub is_same_frame_place : FramePlace → FramePlace → Bool
 is_same_frame_place Free Free = true
-is_same_frame_place (Listed cpu) (Listed other) = cpu == other
+is_same_frame_place (LentTo cpu) (LentTo other) = cpu == other
 is_same_frame_place (Charged g) (Charged h) = g == h
 is_same_frame_place _ _ = false
 
@@ -45,16 +45,16 @@ returned places f (Some unit) = moved places f (2 ^ unit.order) (Charged unit.gr
 -- a fresh frame that is credited loses the place at its group and gains that on the CPU's list
 abbrev pub credited_place : Places → ℕ → ℕ → Option ChargedUnit → Places
 credited_place places cpu f None = places
-credited_place places cpu f (Some unit) = moved places f 1 (Charged unit.group) (Listed cpu)
+credited_place places cpu f (Some unit) = moved places f 1 (Charged unit.group) (LentTo cpu)
 
--- The places after one more step. A frame passed out goes from Free to Listed; a listed frame that is collected goes
+-- The places after one more step. A frame passed out goes from Free to LentTo; a listed frame that is collected goes
 -- back to Free. A consume moves the front of the list to the group that pays, a credit moves it back. A placed block
 -- goes from Free to its group, a returned unit from there to Free.
 abbrev pub places_after : Units → Places → ℕ → Action → Answer → Places
-places_after units places seat (PassOut f cpu) Done = moved places f 1 Free (Listed cpu)
-places_after units places seat (Collect f cpu) Done = if places f (Listed cpu) then moved places f 1 (Listed cpu)
+places_after units places seat (PassOut f cpu) Done = moved places f 1 Free (LentTo cpu)
+places_after units places seat (Collect f cpu) Done = if places f (LentTo cpu) then moved places f 1 (LentTo cpu)
     Free else places
-places_after units places seat (Consume g) Took = moved places (front_of (units.hands seat).list) 1 (Listed seat)
+places_after units places seat (Consume g) Took = moved places (front_of (units.hands seat).list) 1 (LentTo seat)
     (Charged g)
 places_after units places seat (Credit f) Stocked = credited_place places seat f (units.unit f)
 places_after units places seat (PlaceBlock g k) (Placed b) = moved places b.at (2 ^ k) Free (Charged g)
@@ -78,7 +78,7 @@ pub record HasOnePlace (places : Places) (f : ℕ) : Type 0 where
 -- the place of a frame in this phase
 abbrev pub place_in : Phase → FramePlace
 place_in InZone = Free
-place_in (Lent cpu way) = Listed cpu
+place_in (Lent cpu way) = LentTo cpu
 place_in (Head unit stage) = Charged unit.group
 place_in (Tail g) = Charged g
 

@@ -12,7 +12,7 @@ use Rattle.zone_blocks.specs.Laws.{IsInOneBlock}
 use Rattle.group_tree.specs.declared.group.Group.{Group}
 use Rattle.group_tree.specs.Groups.{has_group, in_subtree}
 use Rattle.step_rules.specs.declared.step.FramePlace.{FramePlace}
-use Rattle.step_rules.specs.declared.step.FramePlace.TheVariants.{Free, Listed, Charged}
+use Rattle.step_rules.specs.declared.step.FramePlace.TheVariants.{Free, LentTo, Charged}
 use Rattle.step_rules.specs.declared.step.Action.{Action}
 use Rattle.step_rules.specs.declared.step.Action.TheVariants.{Get, Put, Freeze, Unfreeze, Consume, Credit, Grant}
 use Rattle.step_rules.specs.declared.step.Action.TheVariants.{PlaceBlock, Return}
@@ -54,13 +54,13 @@ pub record IsShown (s : State) (shown : Shown) : Type 0 where
 -- the frame is shown at the place: in a block of the free areas, on the CPU's list, or kept by the group
 abbrev pub Has : Shown → ℕ → FramePlace → Type 0
 Has shown f Free = (b : Block) × Contains shown.areas b × Covers b f
-Has shown f (Listed cpu) = 1 ≤ times_in f (shown.lists cpu)
+Has shown f (LentTo cpu) = 1 ≤ times_in f (shown.lists cpu)
 Has shown f (Charged g) = shown.keeper f ≡ Some g
 
 -- the frame is shown at the place once: in one block alone, once on the list of a CPU, or kept by a group that exists
 abbrev pub HasOnce : Zone → Shown → ℕ → FramePlace → Type 0
 HasOnce zone shown f Free = IsInOneBlock shown.areas f
-HasOnce zone shown f (Listed cpu) = (is_cpu zone cpu ≡ true) × (times_in f (shown.lists cpu) ≡ 1)
+HasOnce zone shown f (LentTo cpu) = (is_cpu zone cpu ≡ true) × (times_in f (shown.lists cpu) ≡ 1)
 HasOnce zone shown f (Charged g) = (has_group shown.groups g ≡ true) × (shown.keeper f ≡ Some g)
 
 -- by the run a unit of this group has the frame: that of a head h, of 2^k frames

@@ -5,7 +5,7 @@ use Rattle.step_rules.specs.declared.phase.Stage.{Stage}
 use Rattle.step_rules.specs.declared.phase.Stage.TheVariants.{Collected, BackAt, BackPassing, AwaitsReturn}
 use Rattle.step_rules.specs.declared.phase.Phase.{Phase}
 use Rattle.step_rules.specs.declared.phase.Phase.TheVariants.{Head}
-use Rattle.step_rules.specs.declared.step.FramePlace.TheVariants.{Listed}
+use Rattle.step_rules.specs.declared.step.FramePlace.TheVariants.{LentTo}
 use Rattle.step_rules.specs.declared.step.Step.{Step}
 use Rattle.step_rules.specs.declared.step.Action.{Action}
 use Rattle.step_rules.specs.declared.step.Action.TheVariants.{Put, Freeze, Unfreeze, Credit, Return}
@@ -126,7 +126,7 @@ pub record IsAllPlaced (s : State) : Type 0 where
       ≡ frames_kept s.groups s.phases s.zone.frames g + pages_prepaid s.groups s.parts s.zone.cpus g
   pub still : no_frame_passes s ≡ true
   pub listed : (f cpu : ℕ) → times_in f (s.parts cpu).list
-      ≡ one_if (is_same_frame_place (place_in (s.phases f)) (Listed cpu))
+      ≡ one_if (is_same_frame_place (place_in (s.phases f)) (LentTo cpu))
 
 -- after every legal run that leaves the lock free nothing is pending or in transit
 abbrev pub NothingPendsWhileTheLockIsFree : Type 0

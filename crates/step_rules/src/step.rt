@@ -11,7 +11,7 @@ pub enum FramePlace {
     /// In the zone's free areas.
     Free,
     /// Lent to this CPU: on its list, or in transit to or from it.
-    Listed(u32),
+    LentTo(u32),
     /// Kept by this group: the group and each of its ancestors are charged for it.
     Charged(GroupId),
 }

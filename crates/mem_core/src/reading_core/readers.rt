@@ -265,7 +265,7 @@ fn place_in(phase: Phase) -> FramePlace
 {
     match phase {
         Phase::InZone => FramePlace::Free,
-        Phase::Lent { cpu, way: _ } => FramePlace::Listed(cpu),
+        Phase::Lent { cpu, way: _ } => FramePlace::LentTo(cpu),
         Phase::Head { unit, stage: _ } => FramePlace::Charged(unit.group),
         Phase::Tail(group) => FramePlace::Charged(group),
     }
