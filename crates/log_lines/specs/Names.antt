@@ -8,14 +8,14 @@ use Rattle.log_lines.specs.declared.name.NumberAction.{NumberAction}
 use Rattle.log_lines.specs.declared.name.NumberAction.TheVariants.{Open, Shut, Get, Put, TakeIn, PassBack, Credit}
 use Rattle.log_lines.specs.declared.name.NumberAction.TheVariants.{Report}
 use Rattle.log_lines.specs.declared.name.NumberAction.TheVariants.{Absorb, Drain, Publish, Return}
-use Rattle.log_lines.specs.declared.name.NumbersAction.{NumbersAction}
-use Rattle.log_lines.specs.declared.name.NumbersAction.TheVariants.{Freeze, Unfreeze, PassOut, Collect}
+use Rattle.log_lines.specs.declared.name.TwoNumberAction.{TwoNumberAction}
+use Rattle.log_lines.specs.declared.name.TwoNumberAction.TheVariants.{Freeze, Unfreeze, PassOut, Collect}
 use Rattle.log_lines.specs.declared.name.GroupAction.{GroupAction}
 use Rattle.log_lines.specs.declared.name.GroupAction.TheVariants.{Consume, NoteMax, NoteOom, GroupKill, Remove, Kill}
 use Rattle.log_lines.specs.declared.name.PagesAction.{PagesAction}
 use Rattle.log_lines.specs.declared.name.PagesAction.TheVariants.{Grant, Ungrant}
 use Rattle.log_lines.specs.declared.name.ActionName.{ActionName}
-use Rattle.log_lines.specs.declared.name.ActionName.TheVariants.{Lock, Unlock, Number, Numbers, Group, Pages, Fill}
+use Rattle.log_lines.specs.declared.name.ActionName.TheVariants.{Lock, Unlock, Number, TwoNumbers, Group, Pages, Fill}
 use Rattle.log_lines.specs.declared.name.ActionName.TheVariants.{Place, Limit, Flag, Make}
 use Rattle.log_lines.specs.declared.name.AnswerName.{AnswerName}
 use Rattle.log_lines.specs.declared.name.AnswerName.TheVariants as reply
@@ -28,8 +28,8 @@ action_names =
     ∷ (codes "take-in", Number TakeIn) ∷ (codes "pass-back", Number PassBack) ∷ (codes "credit", Number Credit)
     ∷ (codes "report", Number Report) ∷ (codes "absorb", Number Absorb) ∷ (codes "drain", Number Drain)
     ∷ (codes "publish", Number Publish) ∷ (codes "return", Number Return)
-    ∷ (codes "freeze", Numbers Freeze) ∷ (codes "unfreeze", Numbers Unfreeze) ∷ (codes "pass-out", Numbers PassOut)
-    ∷ (codes "collect", Numbers Collect)
+    ∷ (codes "freeze", TwoNumbers Freeze) ∷ (codes "unfreeze", TwoNumbers Unfreeze) ∷ (codes "pass-out", TwoNumbers PassOut)
+    ∷ (codes "collect", TwoNumbers Collect)
     ∷ (codes "consume", Group Consume) ∷ (codes "note-max", Group NoteMax) ∷ (codes "note-oom", Group NoteOom)
     ∷ (codes "group-kill", Group GroupKill) ∷ (codes "remove", Group Remove) ∷ (codes "kill", Group Kill)
     ∷ (codes "grant", Pages Grant) ∷ (codes "ungrant", Pages Ungrant)
@@ -76,11 +76,11 @@ action_of_number Publish n = action.Publish n
 action_of_number Return n = action.Return n
 
 -- an action with a frame, and a count or a CPU
-abbrev pub action_of_numbers : NumbersAction → ℕ → ℕ → Action
-action_of_numbers Freeze m n = action.Freeze m n
-action_of_numbers Unfreeze m n = action.Unfreeze m n
-action_of_numbers PassOut m n = action.PassOut m n
-action_of_numbers Collect m n = action.Collect m n
+abbrev pub action_of_two_numbers : TwoNumberAction → ℕ → ℕ → Action
+action_of_two_numbers Freeze m n = action.Freeze m n
+action_of_two_numbers Unfreeze m n = action.Unfreeze m n
+action_of_two_numbers PassOut m n = action.PassOut m n
+action_of_two_numbers Collect m n = action.Collect m n
 
 -- an action with a group
 abbrev pub action_of_group : GroupAction → ℕ → Action

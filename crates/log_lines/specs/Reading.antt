@@ -14,11 +14,11 @@ use Rattle.step_rules.specs.declared.step.Answer.TheVariants as answer
 use Rattle.log_lines.specs.declared.line.LogLine.{LogLine}
 use Rattle.log_lines.specs.declared.line.LogLine.TheVariants as kinds
 use Rattle.log_lines.specs.declared.name.ActionName.{ActionName}
-use Rattle.log_lines.specs.declared.name.ActionName.TheVariants.{Lock, Unlock, Number, Numbers, Group, Pages, Fill}
+use Rattle.log_lines.specs.declared.name.ActionName.TheVariants.{Lock, Unlock, Number, TwoNumbers, Group, Pages, Fill}
 use Rattle.log_lines.specs.declared.name.ActionName.TheVariants.{Place, Limit, Flag, Make}
 use Rattle.log_lines.specs.declared.name.AnswerName.{AnswerName}
 use Rattle.log_lines.specs.declared.name.AnswerName.TheVariants as reply
-use Rattle.log_lines.specs.Names.{action_named, action_of_group, action_of_number, action_of_numbers, action_of_pages}
+use Rattle.log_lines.specs.Names.{action_named, action_of_group, action_of_number, action_of_two_numbers, action_of_pages}
 use Rattle.log_lines.specs.Names.{answer_named}
 use Rattle.log_lines.specs.Words.{is_path}
 use Rattle.log_lines.specs.Line.{is_skipped, longest_line}
@@ -112,8 +112,8 @@ unfoldable pub arguments_at : ActionName → Reads Action
 arguments_at Lock words = Some (action.Lock, words)
 arguments_at Unlock words = Some (action.Unlock, words)
 arguments_at (Number name) words = number_at words >>= λ n. Some (action_of_number name n.0, n.1)
-arguments_at (Numbers name) words = number_at words >>= λ m. number_at m.1 >>= λ n.
-    Some (action_of_numbers name m.0 n.0, n.1)
+arguments_at (TwoNumbers name) words = number_at words >>= λ m. number_at m.1 >>= λ n.
+    Some (action_of_two_numbers name m.0 n.0, n.1)
 arguments_at (Group name) words = group_at words >>= λ g. Some (action_of_group name g.0, g.1)
 arguments_at (Pages name) words = group_at words >>= λ g. number_at g.1 >>= λ n.
     Some (action_of_pages name g.0 n.0, n.1)

@@ -2,7 +2,7 @@
 
 ghost use Rattle.std.specs.Prelude.{◌≡◌, bytes_eq, map};
 ghost use Rattle.std.specs.Map.{lookup};
-ghost use Rattle.log_lines.specs.Names.{action_named, action_of_group, action_of_number, action_of_numbers};
+ghost use Rattle.log_lines.specs.Names.{action_named, action_of_group, action_of_number, action_of_two_numbers};
 ghost use Rattle.log_lines.specs.Names.{action_of_pages, answer_named};
 
 use group_tree::group::GroupId;
@@ -27,7 +27,7 @@ pub(crate) enum NumberAction {
 
 /// An action with two numbers: a frame, and a count or a CPU.
 #[derive(Clone, Copy)]
-pub(crate) enum NumbersAction {
+pub(crate) enum TwoNumberAction {
     Freeze,
     Unfreeze,
     PassOut,
@@ -58,7 +58,7 @@ pub(crate) enum ActionName {
     Lock,
     Unlock,
     Number(NumberAction),
-    Numbers(NumbersAction),
+    TwoNumbers(TwoNumberAction),
     Group(GroupAction),
     Pages(PagesAction),
     Fill,
@@ -94,10 +94,10 @@ const ACTION_NAMES: [(&[u8], ActionName); 31] = [
     (b"drain", ActionName::Number(NumberAction::Drain)),
     (b"publish", ActionName::Number(NumberAction::Publish)),
     (b"return", ActionName::Number(NumberAction::Return)),
-    (b"freeze", ActionName::Numbers(NumbersAction::Freeze)),
-    (b"unfreeze", ActionName::Numbers(NumbersAction::Unfreeze)),
-    (b"pass-out", ActionName::Numbers(NumbersAction::PassOut)),
-    (b"collect", ActionName::Numbers(NumbersAction::Collect)),
+    (b"freeze", ActionName::TwoNumbers(TwoNumberAction::Freeze)),
+    (b"unfreeze", ActionName::TwoNumbers(TwoNumberAction::Unfreeze)),
+    (b"pass-out", ActionName::TwoNumbers(TwoNumberAction::PassOut)),
+    (b"collect", ActionName::TwoNumbers(TwoNumberAction::Collect)),
     (b"consume", ActionName::Group(GroupAction::Consume)),
     (b"note-max", ActionName::Group(GroupAction::NoteMax)),
     (b"note-oom", ActionName::Group(GroupAction::NoteOom)),
@@ -182,22 +182,22 @@ impl NumberAction {
     }
 }
 
-impl NumbersAction {
+impl TwoNumberAction {
     /// The action with this frame and this number.
     pub(crate) fn with(self, frame: u32, number: u32) -> Action
-        ensures { result ≡ action_of_numbers self frame number }
+        ensures { result ≡ action_of_two_numbers self frame number }
     {
         match self {
-            NumbersAction::Freeze => Action::Freeze {
+            TwoNumberAction::Freeze => Action::Freeze {
                 frame,
                 count: number,
             },
-            NumbersAction::Unfreeze => Action::Unfreeze {
+            TwoNumberAction::Unfreeze => Action::Unfreeze {
                 frame,
                 count: number,
             },
-            NumbersAction::PassOut => Action::PassOut { frame, cpu: number },
-            NumbersAction::Collect => Action::Collect { frame, cpu: number },
+            TwoNumberAction::PassOut => Action::PassOut { frame, cpu: number },
+            TwoNumberAction::Collect => Action::Collect { frame, cpu: number },
         }
     }
 }

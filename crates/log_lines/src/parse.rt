@@ -117,7 +117,7 @@ fn next_arguments(name: ActionName, words: &mut Words<'_>) -> Option<Action>
         ActionName::Lock => Some(Action::Lock),
         ActionName::Unlock => Some(Action::Unlock),
         ActionName::Number(name) => Some(name.with(words.number()?)),
-        ActionName::Numbers(name) => {
+        ActionName::TwoNumbers(name) => {
             let frame = words.number()?;
             Some(name.with(frame, words.number()?))
         }
