@@ -71,7 +71,7 @@ fn charges_and_pins<N: BootName, R: Wait + Abort>(rt: &R, system: &System<N>, cp
 fn unpins<N: BootName, R: Abort>(rt: &R, system: &System<N>, cpus: &mut [Cpu<N>]) {
     let cpu = cpus.first_mut().expect(rt, "a CPU");
     let frame = first_frame(rt, system);
-    assert!(rt; cpu.holds(frame));
+    assert!(rt; cpu.has_pin(frame));
     let _ = cpu.put(system.tables(), frame);
 }
 

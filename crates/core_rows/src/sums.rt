@@ -41,7 +41,7 @@ impl Rows {
 
     /// The references of a seat on all frames; a CPU's are its pins.
     #[tactic(auto, using(crate::proofs::Adding::sum_start, crate::proofs::Adding::sum_next))]
-    pub fn pins(&self, seat: u32) -> u32
+    pub fn pin_count(&self, seat: u32) -> u32
         requires fits { FitsZone self.now }
         requires bounded { IsBelowBounds (state_in self.now) }
         ensures pins { result ≡ pins_of (state_in self.now) seat }

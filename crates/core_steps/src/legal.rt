@@ -62,7 +62,7 @@ fn may_get(rows: &Rows, seat: u32, frame: u32) -> bool
 {
     rows.is_cpu(seat)
         && rows.is_frame(frame)
-        && (rows.pins(seat) as usize) + rows.back_len(seat) < 256
+        && (rows.pin_count(seat) as usize) + rows.back_len(seat) < 256
 }
 
 fn may_put(rows: &Rows, seat: u32, frame: u32) -> bool

@@ -20,7 +20,7 @@ impl<N: BootName> Cpu<N> {
     }
 
     /// Whether the CPU has a pin on the frame.
-    pub fn holds(&self, frame: Frame) -> bool
+    pub fn has_pin(&self, frame: Frame) -> bool
         ensures { IsTrue result ↔ (1 ≤ times frame self.now.pins) }
     {
         place_of(self.pins.as_slice(), frame).is_some()
@@ -34,7 +34,7 @@ impl<N: BootName> Cpu<N> {
     }
 
     /// The number of pins, at most 256 with the back frames.
-    pub fn pins(&self) -> usize
+    pub fn pin_count(&self) -> usize
         ensures count { result ≡ length self.now.pins }
         ensures bound { result + length self.now.back ≤ most_pins }
     {

@@ -83,6 +83,6 @@ fn write_counts<N: BootName>(cpu: &Cpu<N>, text: &mut String) -> Result<(), Allo
     let list = cpu.list_len();
     let fresh = cpu.fresh_len();
     let back = cpu.back_len();
-    let pins = cpu.pins();
+    let pins = cpu.pin_count();
     write!(text, " list {list} fresh {fresh} back {back} pins {pins}")
 }

@@ -26,7 +26,7 @@ fn count_pins<N: BootName>(cpus: &[Cpu<N>]) -> u64
 {
     let mut pins = 0;
     for cpu in cpus {
-        pins += cpu.pins() as u64;
+        pins += cpu.pin_count() as u64;
     }
     pins
 }

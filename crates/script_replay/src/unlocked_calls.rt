@@ -71,7 +71,7 @@ pub(crate) fn unpin<N: BootName>(
     ensures few { (left : ℕ) → unpin_answer result ≡ answer.Put (Left left) → left < 2 ^ 32 }
 {
     let frame = tables.frames.frame(frame_number).unwrap();
-    if !cpu.holds(frame) {
+    if !cpu.has_pin(frame) {
         return None;
     }
     Some(cpu.put(tables, frame))

@@ -76,7 +76,7 @@ fn run_demo<N: BootName, R: Wait>(
     write_get(&second.get(tables, shared)?, text)?;
     let frame = shared.number();
     ask(rt, system, first, &Cmd::Release { frame }, text)?;
-    if second.holds(shared) {
+    if second.has_pin(shared) {
         write_put(&second.put(tables, shared), text)?;
     }
     ask(rt, system, second, &Cmd::Alloc { path, order: 4 }, text)?;

@@ -298,10 +298,10 @@ fn pin_all<N: BootName>(
 {
     pin(rt, tables, cpu, used.0, 128);
     pin(rt, tables, cpu, used.1, 128);
-    same(rt, cpu.pins(), 256);
+    same(rt, cpu.pin_count(), 256);
     same(rt, cpu.get(tables, used.0), Err(Fault::PinsFull));
     same(rt, cpu.get(tables, unused), Err(Fault::PinsFull));
-    assert!(rt; cpu.holds(used.0));
+    assert!(rt; cpu.has_pin(used.0));
 }
 
 // Frames 1 and 2; the zone takes a reference on each.
@@ -336,7 +336,7 @@ fn keeps_back<N: BootName>(
 {
     pin(rt, tables, cpu, frame, 1);
     same(rt, tables.frames.put(zone, frame), Put::Left(1));
-    assert!(rt; cpu.holds(frame));
+    assert!(rt; cpu.has_pin(frame));
     same(rt, cpu.put(tables, frame), Put::Last);
     same(rt, cpu.back_len(), 1);
 }
@@ -459,7 +459,7 @@ fn works_beside<N: BootName + Send + Sync, R: Threads + Abort + Sync>(
     same(rt, first.drops(), 1000);
     same(rt, first.number(), 1);
     same(rt, first.list_len(), 1);
-    same(rt, second.pins(), 0);
+    same(rt, second.pin_count(), 0);
     drains_stock(rt, &tables, &mut zone_stock, 4);
     give_back(&tables, &mut zone, &mut first);
     give_up(rt, tables, first, second);

@@ -38,7 +38,7 @@ pub struct ThreadAnswers {
 fn pins_of_each<N: BootName>(cpus: &[Cpu<N>]) -> [u64; 4] {
     let mut pins_of_each = [0; 4];
     for (pins, cpu) in pins_of_each.iter_mut().zip(cpus.iter()) {
-        *pins = cpu.pins() as u64;
+        *pins = cpu.pin_count() as u64;
     }
     pins_of_each
 }

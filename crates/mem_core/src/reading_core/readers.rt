@@ -185,11 +185,11 @@ impl Core {
     }
 
     /// The references of a seat on all frames; those of a CPU are its pins.
-    pub fn pins(&self, seat: u32) -> u32
+    pub fn pin_count(&self, seat: u32) -> u32
         ensures now { result ≡ pins_of (state_shown self.now) seat }
         ensures run { (run : Run) → Shows self.now run → result ≡ pins_of (state_of self.now.zone run) seat }
     {
-        self.rows.pins(seat)
+        self.rows.pin_count(seat)
     }
 
     /// The usage of a group (memory.current), in pages: the frames that it and its descendants keep, the pages

@@ -1,8 +1,8 @@
--- What the loop of `pins` keeps.
+-- What the loop of `pin_count` keeps.
 use Rattle.std.proofs.Common.{◌≡◌, ◌≤◌, ◌*◌}
 use Rattle.step_rules.specs.State.{sum_to}
 use Rattle.core_rows.specs.Shown.{state_in}
-use Rattle.core_rows.proofs.rows.Rows.pins.Given as goal
+use Rattle.core_rows.proofs.rows.Rows.pin_count.Given as goal
 
 abbrev pub invariant-loop-frame : goal.invariant-loop-frame
 invariant-loop-frame l = record {
