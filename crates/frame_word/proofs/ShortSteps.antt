@@ -1,4 +1,4 @@
--- The kinds that leave the hand-overs as they are, by a seat that is not joined: serves `look`, `add`, `put_one`, `freeze_at` and `unfreeze`.
+-- The kinds that leave the hand-overs as they are, by a seat that is not joined: serves `step_look`, `step_add`, `step_put_one`, `step_freeze` and `unfreeze`.
 use Rattle.std.proofs.Common.{◌≡◌, ℕ, eqb, cond, ◌+◌, ◌-◌, ◌%◌, ◌^◌, ◌<◌, ◌≤◌, List, [], ◌∷◌, get_or, set, sym, refl, ap, ◌∙◌, subst, inl, inr, arith}
 use mathlib.Core.Option.{some, none}
 use mathlib.Core.Logic.{dite}

@@ -144,12 +144,12 @@ first_zone_view frames = record {
   number = 0;
   notes = replicate frames (record blank { own = 1 });
   opened = [];
-  turns = 0;
+  visit_changes = 0;
 }
 
 -- the view of a CPU's seat at first: it did nothing yet
 abbrev pub first_cpu_view : ℕ → FrameView
-first_cpu_view cpu = record { number = cpu; notes = []; opened = []; turns = 0 }
+first_cpu_view cpu = record { number = cpu; notes = []; opened = []; visit_changes = 0 }
 
 -- the first views of n CPUs, from this number on
 abbrev pub cpu_views : ℕ → ℕ → List FrameView

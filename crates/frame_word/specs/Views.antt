@@ -41,7 +41,7 @@ changed v f change = record v { notes = put_at blank v.notes f (change (note_of 
 
 -- the zone's view with the CPU's visit open (1) or shut (0)
 abbrev pub with_visit : FrameView → ℕ → ℕ → FrameView
-with_visit v cpu state = record v { opened = put_at 0 v.opened cpu state; turns = v.turns + 1 }
+with_visit v cpu state = record v { opened = put_at 0 v.opened cpu state; visit_changes = v.visit_changes + 1 }
 
 -- in how many of the seat's hands the frame is: 0 or 1
 abbrev pub in_hands : FrameNote → ℕ

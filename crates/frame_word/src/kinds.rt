@@ -19,7 +19,7 @@ ghost use Rattle.frame_word.specs.Seats.{IsLentToNone, IsOpen, IsShut, Passes, N
 ghost use Rattle.frame_word.specs.Seats.{HandsAreApart, IsZoneSeat, IsCpuSeat, seat_with, seat_with_visit};
 
 use crate::frame::Frame;
-use crate::pairs::{join, part};
+use crate::pairs::{join, unjoin};
 use crate::seat::FrameSeat;
 use crate::view::FrameView;
 use crate::words::FrameWords;
@@ -202,7 +202,7 @@ impl Board {
 // References. `get`, `put` and `freeze` are made of these four.
 impl FrameWords {
     /// The load of a get. It returns the word.
-    pub(crate) fn look(&self, seat: &mut FrameSeat, frame: Frame) -> u64
+    pub(crate) fn step_look(&self, seat: &mut FrameSeat, frame: Frame) -> u64
         requires table { seat.old.table ≡ self.now.table }
         requires frame { frame < self.now.frames }
         ensures table { seat.new.table ≡ seat.old.table }
@@ -213,7 +213,7 @@ impl FrameWords {
     }
 
     /// The exchange of a get, from the word that its load saw to one more. It returns the word that it found.
-    pub(crate) fn add(&self, seat: &mut FrameSeat, frame: Frame, seen: u64) -> u64
+    pub(crate) fn step_add(&self, seat: &mut FrameSeat, frame: Frame, seen: u64) -> u64
         requires table { seat.old.table ≡ self.now.table }
         requires frame { frame < self.now.frames }
         requires seen { (note_of seat.old.view frame).seen ≡ seen }
@@ -227,7 +227,7 @@ impl FrameWords {
     }
 
     /// Takes one reference of the seat off the word. It returns the word that it found.
-    pub(crate) fn put_one(&self, seat: &mut FrameSeat, frame: Frame) -> u64
+    pub(crate) fn step_put_one(&self, seat: &mut FrameSeat, frame: Frame) -> u64
         requires table { seat.old.table ≡ self.now.table }
         requires frame { frame < self.now.frames }
         requires held { 1 ≤ seat_references seat.old frame }
@@ -239,7 +239,7 @@ impl FrameWords {
     }
 
     /// Exchanges `count` for 0. It returns the word that it found.
-    pub(crate) fn freeze_at(&self, seat: &mut FrameSeat, frame: Frame, count: u64) -> u64
+    pub(crate) fn step_freeze(&self, seat: &mut FrameSeat, frame: Frame, count: u64) -> u64
         requires table { seat.old.table ≡ self.now.table }
         requires frame { frame < self.now.frames }
         requires held { (1 ≤ count) × (count ≤ seat_references seat.old frame) }
@@ -304,7 +304,7 @@ impl FrameWords {
         let word = frame.word_index();
         join(&self.board, &mut zone.raw, &mut cpu.raw);
         shared.store::<TakeIn>(&mut zone.raw.seat, word, 0);
-        part(&self.board, &mut zone.raw, &mut cpu.raw);
+        unjoin(&self.board, &mut zone.raw, &mut cpu.raw);
     }
 
     /// Passes a frame of this CPU's hand, its own or borrowed, back to the zone. The CPU's visit is open. The zone's
@@ -328,7 +328,7 @@ impl FrameWords {
         let mark = MARK_BASE + u64::from(cpu.number);
         join(&self.board, &mut zone.raw, &mut cpu.raw);
         shared.store::<PassBack>(&mut zone.raw.seat, word, mark);
-        part(&self.board, &mut zone.raw, &mut cpu.raw);
+        unjoin(&self.board, &mut zone.raw, &mut cpu.raw);
     }
 
     /// Takes a frame that is in transit from this CPU into the zone's hand. It is lent to no CPU any more. Neither seat
@@ -347,13 +347,13 @@ impl FrameWords {
         let word = frame.word_index();
         join(&self.board, &mut zone.raw, &mut cpu.raw);
         shared.store::<Collect>(&mut zone.raw.seat, word, 0);
-        part(&self.board, &mut zone.raw, &mut cpu.raw);
+        unjoin(&self.board, &mut zone.raw, &mut cpu.raw);
     }
 }
 
 // The visits of the CPUs: frames are handed over only inside an open one.
 impl FrameWords {
-    // The raw of a CPU's visit word.
+    // The index of a CPU's visit word.
     fn visit_word_index(&self, cpu: u32) -> usize
         requires { 1 ≤ cpu }
         ensures { result ≡ visit_index self.now.frames cpu }
@@ -377,7 +377,7 @@ impl FrameWords {
         let word = self.visit_word_index(cpu.number);
         join(&self.board, &mut zone.raw, &mut cpu.raw);
         shared.store::<Visit>(&mut zone.raw.seat, word, 1);
-        part(&self.board, &mut zone.raw, &mut cpu.raw);
+        unjoin(&self.board, &mut zone.raw, &mut cpu.raw);
     }
 
     /// Shuts the visit of this CPU, which is open, and has no frame in transit any more. What is lent to the CPU is
@@ -397,6 +397,6 @@ impl FrameWords {
         let word = self.visit_word_index(cpu.number);
         join(&self.board, &mut zone.raw, &mut cpu.raw);
         shared.store::<Visit>(&mut zone.raw.seat, word, 0);
-        part(&self.board, &mut zone.raw, &mut cpu.raw);
+        unjoin(&self.board, &mut zone.raw, &mut cpu.raw);
     }
 }

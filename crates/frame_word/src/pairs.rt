@@ -22,7 +22,7 @@ pub(crate) fn join(board: &Board, zone: &mut RawSeat, cpu: &mut RawSeat)
 }
 
 /// The second seat gets its view back.
-pub(crate) fn part(board: &Board, zone: &mut RawSeat, cpu: &mut RawSeat)
+pub(crate) fn unjoin(board: &Board, zone: &mut RawSeat, cpu: &mut RawSeat)
     requires table { (zone.old.seat.table_id ≡ board.now.table.shared.table_id)
         × (0 < board.now.table.shared.table_id.words) }
     requires zone { zone.old.seat.me.1 ≡ [] }

@@ -24,14 +24,14 @@ impl FrameWords {
         ensures never_zero { 1 ≤ seat_references seat.old frame → result ≢ Zero }
         ensures in_no_hand { result ≢ Zero → IsInNoHand seat.old frame }
     {
-        let seen = self.look(seat, frame);
+        let seen = self.step_look(seat, frame);
         if seen == 0 || seen > MOST_REFERENCES {
             return Get::Zero;
         }
         if seen == MOST_REFERENCES {
             return Get::Full;
         }
-        let found = self.add(seat, frame, seen);
+        let found = self.step_add(seat, frame, seen);
         if found == seen {
             Get::Held
         } else {
@@ -47,7 +47,7 @@ impl FrameWords {
         ensures answer { PutAnswers seat.old frame result seat.new }
         ensures in_no_hand { IsInNoHand seat.old frame }
     {
-        let found = self.put_one(seat, frame);
+        let found = self.step_put_one(seat, frame);
         if found == 1 {
             Put::Last
         } else {
@@ -65,7 +65,7 @@ impl FrameWords {
         ensures answer { FreezeAnswers seat.old frame count result seat.new }
         ensures in_no_hand { IsInNoHand seat.old frame }
     {
-        self.freeze_at(seat, frame, count) == count
+        self.step_freeze(seat, frame, count) == count
     }
 
     /// The number of references on the frame, those of the seat among them, by one load. It is the number at the moment
@@ -78,6 +78,6 @@ impl FrameWords {
         ensures most { result ≤ most_references }
         ensures seat { seat.new ≡ seat_with seat.old frame (looked result) }
     {
-        self.look(seat, frame)
+        self.step_look(seat, frame)
     }
 }

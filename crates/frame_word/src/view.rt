@@ -45,5 +45,5 @@ pub struct FrameView {
     /// By CPU: 1 if its visit is open, else 0.
     pub opened: [u64; 0],
     /// How often the seat opened or shut a visit.
-    pub turns: u64,
+    pub visit_changes: u64,
 }

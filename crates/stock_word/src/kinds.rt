@@ -359,7 +359,7 @@ impl StockWords {
     }
 
     /// A look: the stock word is that of the stock that the book gives.
-    pub(crate) fn step_see(&self, raw: &mut RawSeat, cpu: u32) -> u64
+    pub(crate) fn step_look_joined(&self, raw: &mut RawSeat, cpu: u32) -> u64
         requires table { raw.old.table ≡ self.now.table }
         requires pair { IsPair raw.old.views }
         requires number { cpu ≡ (second_of raw.old.views).number }

@@ -25,8 +25,8 @@ impl StockWords {
         self.join_raw(zone, taken);
     }
 
-    // Parts joined seats again.
-    fn part(&self, zone: &mut RawSeat, raw: &mut RawSeat)
+    // Takes joined seats apart again.
+    fn unjoin(&self, zone: &mut RawSeat, raw: &mut RawSeat)
         requires table { zone.old.table ≡ self.now.table }
         requires pair { IsPair zone.old.views }
         ensures tables { (zone.new.table ≡ self.now.table) × (raw.new.table ≡ self.now.table) }
@@ -50,7 +50,7 @@ impl StockWords {
     {
         self.join(&mut zone.raw, &mut seat.raw);
         self.step_report(&mut zone.raw, seat.number, pages);
-        self.part(&mut zone.raw, &mut seat.raw);
+        self.unjoin(&mut zone.raw, &mut seat.raw);
     }
 
     /// What the CPU's stock is, by its word and so by the book. This is one look, which counts at the zone's seat
@@ -70,8 +70,8 @@ impl StockWords {
         ensures cpu { seat.new ≡ seat.old }
     {
         self.join(&mut zone.raw, &mut seat.raw);
-        let found = self.step_see(&mut zone.raw, seat.number);
-        self.part(&mut zone.raw, &mut seat.raw);
+        let found = self.step_look_joined(&mut zone.raw, seat.number);
+        self.unjoin(&mut zone.raw, &mut seat.raw);
         Stock::of_word(found)
     }
 
@@ -90,7 +90,7 @@ impl StockWords {
         self.join(&mut zone.raw, &mut seat.raw);
         let found = self.step_consume_held(&mut zone.raw, seat.number, group);
         seat.last = Stock::of_word(found - 1);
-        self.part(&mut zone.raw, &mut seat.raw);
+        self.unjoin(&mut zone.raw, &mut seat.raw);
     }
 
     /// Fills the CPU's stock with this many pages, 1 to 65,535, of this group, 0 to 63. The stock was never filled, or
@@ -110,7 +110,7 @@ impl StockWords {
         self.join(&mut zone.raw, &mut seat.raw);
         self.step_fill(&mut zone.raw, seat.number, group, pages);
         seat.last = Stock::HeldBy { group, pages };
-        self.part(&mut zone.raw, &mut seat.raw);
+        self.unjoin(&mut zone.raw, &mut seat.raw);
     }
 
     /// Empties the stock of CPU `cpu` and returns how many pages it had: 0 if it was never filled or is drained

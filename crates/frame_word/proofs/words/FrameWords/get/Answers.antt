@@ -8,23 +8,23 @@ use Rattle.frame_word.proofs.CallerLemmas.{held_one_more}
 use Rattle.frame_word.proofs.words.FrameWords.get.Goals as goal
 
 pub returns-then-seen-eq0-clause-answer : goal.returns-then-seen-eq0-clause-answer
-returns-then-seen-eq0-clause-answer c = let n = c.look-seen.result in let look = c.look-seen.ensures in (
+returns-then-seen-eq0-clause-answer c = let n = c.step_look-seen.result in let look = c.step_look-seen.ensures in (
   n,
   ⊎_elim (λ z. inl z) (λ z. ⊎_elim (λ (small : n ≤ 255). absurd (omega arith)) (λ (big : 256 < n). inr big) look.kind.1) c.then-seen-eq0.either,
   λ i. record { table = look.table i; view = look.kind.0 i },
 )
 
-pub add-found-requires-clause-seen : goal.add-found-requires-clause-seen
-add-found-requires-clause-seen c = ap (λ (w : FrameView). (note_of w c.args.frame).seen) c.look-seen.ensures.kind.0
-    ∙ ap (λ (k : FrameNote). k.seen) (note_here c.args.seat.now.view c.args.frame (looked c.look-seen.result))
+pub step_add-found-requires-clause-seen : goal.step_add-found-requires-clause-seen
+step_add-found-requires-clause-seen c = ap (λ (w : FrameView). (note_of w c.args.frame).seen) c.step_look-seen.ensures.kind.0
+    ∙ ap (λ (k : FrameNote). k.seen) (note_here c.args.seat.now.view c.args.frame (looked c.step_look-seen.result))
 
 pub returns-then-found-seen-clause-answer : goal.returns-then-found-seen-clause-answer
 returns-then-found-seen-clause-answer c =
-    let n = c.look-seen.result in
+    let n = c.step_look-seen.result in
     let f = c.args.frame in
     let v = c.args.seat.now.view in
-    let look = c.look-seen.ensures in
-    let add = c.add-found.ensures in
+    let look = c.step_look-seen.ensures in
+    let add = c.step_add-found.ensures in
     let seen_is = ap (λ (w : FrameView). (note_of w f).seen) look.kind.0 ∙ ap (λ (k : FrameNote). k.seen) (note_here v f (looked n)) in
     let view = add.kind.0 (c.if-found-seen.true ∙ sym seen_is) ∙ (λ i. changed (look.kind.0 i) f held) ∙ changed_twice v f (looked n) held in
     let table = add.table ∙ look.table in (
@@ -35,16 +35,16 @@ returns-then-found-seen-clause-answer c =
     )
 
 pub returns-then-found-seen-clause-held : goal.returns-then-found-seen-clause-held
-returns-then-found-seen-clause-held c = held_one_more c.args.seat.now c.add-found.new.seat c.args.frame Held (returns-then-found-seen-clause-answer c)
+returns-then-found-seen-clause-held c = held_one_more c.args.seat.now c.step_add-found.new.seat c.args.frame Held (returns-then-found-seen-clause-answer c)
 
 pub returns-else-found-seen-clause-answer : goal.returns-else-found-seen-clause-answer
 returns-else-found-seen-clause-answer c =
-    let n = c.look-seen.result in
-    let found = c.add-found.result in
+    let n = c.step_look-seen.result in
+    let found = c.step_add-found.result in
     let f = c.args.frame in
     let v = c.args.seat.now.view in
-    let look = c.look-seen.ensures in
-    let add = c.add-found.ensures in
+    let look = c.step_look-seen.ensures in
+    let add = c.step_add-found.ensures in
     let seen_is = ap (λ (w : FrameView). (note_of w f).seen) look.kind.0 ∙ ap (λ (k : FrameNote). k.seen) (note_here v f (looked n)) in
     let view = add.kind.1 (λ e. c.if-found-seen.false (e ∙ seen_is)) ∙ (λ i. changed (look.kind.0 i) f (raced found))
     ∙ changed_twice v f (looked n) (raced found) in

@@ -4,7 +4,7 @@ use Rattle.stock_word.specs.StockRule.{stock_index}
 use Rattle.stock_word.specs.Kinds.{SeesStock}
 use Rattle.stock_word.proofs.RawSeats.{pair_me, after_pair, no_slots, told_pair}
 use Rattle.stock_word.proofs.Steps.{seeing_allowed}
-use Rattle.stock_word.proofs.kinds.StockWords.step_see.Goals as goal
+use Rattle.stock_word.proofs.kinds.StockWords.step_look_joined.Goals as goal
 
 pub load-requires : goal.load-requires
 load-requires c =

@@ -1,6 +1,6 @@
 use Rattle.std.proofs.Common.{arith, ◌∙◌, ap, sym}
 use Rattle.frame_word.proofs.Alone.{looks_as}
-use Rattle.frame_word.proofs.words.FrameWords.look.Goals as goal
+use Rattle.frame_word.proofs.words.FrameWords.step_look.Goals as goal
 
 pub load-requires : goal.load-requires
 load-requires c = let frames = ap (λ t. t.frames) c.self.view_is in let word = c.word_index.ensures in (

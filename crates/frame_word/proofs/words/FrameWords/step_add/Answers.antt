@@ -2,7 +2,7 @@ use Rattle.std.proofs.Common.{arith, ◌∙◌, ap, sym, subst, ◌≡◌, ℕ}
 use Rattle.frame_word.specs.Views.{note_of}
 use Rattle.frame_word.specs.Seats.{KnownSeat}
 use Rattle.frame_word.proofs.Alone.{adds_as}
-use Rattle.frame_word.proofs.words.FrameWords.add.Goals as goal
+use Rattle.frame_word.proofs.words.FrameWords.step_add.Goals as goal
 
 pub compare_exchange-requires : goal.compare_exchange-requires
 compare_exchange-requires c = let frames = ap (λ t. t.frames) c.self.view_is in let word = c.word_index-word.ensures in (

@@ -1,7 +1,7 @@
 use Rattle.std.proofs.Common.{arith, ◌∙◌, ap, sym, subst, ◌≤◌, ℕ}
 use Rattle.frame_word.specs.Seats.{KnownSeat, seat_references}
 use Rattle.frame_word.proofs.Alone.{puts_as}
-use Rattle.frame_word.proofs.words.FrameWords.put_one.Goals as goal
+use Rattle.frame_word.proofs.words.FrameWords.step_put_one.Goals as goal
 
 pub fetch_sub-requires : goal.fetch_sub-requires
 fetch_sub-requires c = let frames = ap (λ t. t.frames) c.self.view_is in let word = c.word_index.ensures in (
