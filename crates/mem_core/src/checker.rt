@@ -198,7 +198,7 @@ impl Checker {
         ensures denied { OnErr result (¬ Allows (state_shown self.old) step.now.seat step.now.action answer.now) }
         ensures steps { self.new.steps ≡ self.old.steps + 1 }
     {
-        // This borrow brings in the bound on the pages that a step can ask for.
+        // This call brings in the bound on the pages that a step can ask for.
         let _ = pages_asked(&step.action);
         self.steps += 1;
         take(

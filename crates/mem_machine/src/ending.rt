@@ -1,4 +1,4 @@
-//! How many frames are charged, and that none is lent.
+//! What the end of a boot needs: how many frames are charged, and that none is lent.
 
 ghost use Rattle.std.specs.Prelude.{◌≡◌, ◌≤◌, []};
 ghost use Rattle.frame_word.specs.Seats.{LentIsBorrowed};
@@ -31,7 +31,7 @@ impl<N: BootName> Machine<N> {
         requires none_fresh { cpu.now.fresh ≡ [] }
         ensures { NoneLentTo cpu.now.number self.now.frame_states }
     {
-        let _ = &self.frame_seat; // Called for its contract.
+        let _ = &self.frame_seat; // Borrowed for the invariant.
         let _cpu_number = cpu.number(); // Called for its contract.
     }
 }
