@@ -3,7 +3,8 @@
 ghost use Rattle.std.specs.Prelude.{◌≡◌, ◌+◌, ◌*◌, ◌^◌, ◌<◌, ◌≤◌, length, IfNone, IfSome, IsTrue, true, if◌then◌else◌};
 ghost use Rattle.group_tree.specs.Groups.{has_group, in_subtree};
 ghost use Rattle.step_rules.specs.State.{live_references, pins_of};
-ghost use Rattle.step_rules.specs.Usage.{is_below, frames_kept, stock_below, pages_prepaid, pages_pending, usage_of};
+ghost use Rattle.step_rules.specs.Usage.{is_in_subtree, frames_kept, stock_in_subtree, pages_prepaid};
+ghost use Rattle.step_rules.specs.Usage.{pages_pending, usage_of};
 ghost use Rattle.group_tree.specs.Room.{has_room, PathHasRoom, IsLowestOver};
 ghost use Rattle.step_rules.specs.Legal.{is_of_group, rests, nothing_passes, no_frame_passes, no_page_pends};
 ghost use Rattle.core_rows.specs.Shown.{state_in};
@@ -102,8 +103,8 @@ impl Rows {
     }
 
     /// There is a group, and it is in the subtree.
-    pub fn is_below(&self, group: GroupId, keeper: Option<GroupId>) -> bool
-        ensures { result ≡ is_below self.now.tree group keeper }
+    pub fn is_in_subtree(&self, group: GroupId, keeper: Option<GroupId>) -> bool
+        ensures { result ≡ is_in_subtree self.now.tree group keeper }
     {
         match keeper {
             None => false,
@@ -131,7 +132,7 @@ impl Rows {
     {
         let mut sum = 0u128;
         for frame in 0..self.frames {
-            if self.is_below(group, keeper_of(self.phase(frame))) {
+            if self.is_in_subtree(group, keeper_of(self.phase(frame))) {
                 sum += 1;
             }
         }
@@ -139,12 +140,12 @@ impl Rows {
     }
 
     // The pages of a CPU's stock, if the stock is of a group of the subtree.
-    fn stock_below(&self, group: GroupId, cpu: u32) -> u128
+    fn stock_in_subtree(&self, group: GroupId, cpu: u32) -> u128
         requires bounded { IsBelowBounds (state_in self.now) }
-        ensures pages { result ≡ stock_below self.now.tree group ((state_in self.now).parts cpu) }
+        ensures pages { result ≡ stock_in_subtree self.now.tree group ((state_in self.now).parts cpu) }
         ensures few { result ≤ 2 ^ 96 }
     {
-        if self.is_below(group, self.stock_group(cpu)) {
+        if self.is_in_subtree(group, self.stock_group(cpu)) {
             self.stock_pages(cpu)
         } else {
             0
@@ -161,13 +162,13 @@ impl Rows {
     {
         let mut sum = 0u128;
         for cpu in 0..self.cpus + 1 {
-            sum += self.stock_below(group, cpu);
+            sum += self.stock_in_subtree(group, cpu);
         }
         sum
     }
 
     // The pages pending for one group, if it is in the subtree.
-    fn pending_below(&self, group: GroupId, number: u32) -> u128
+    fn pending_in_subtree(&self, group: GroupId, number: u32) -> u128
         requires number { number < 64 }
         requires bounded { IsBelowBounds (state_in self.now) }
         ensures pages { result ≡ (if in_subtree self.now.tree group number then (state_in self.now).pending
@@ -177,7 +178,7 @@ impl Rows {
         match GroupId::of(number) {
             None => 0,
             Some(below) => {
-                if self.is_below(group, Some(below)) {
+                if self.is_in_subtree(group, Some(below)) {
                     self.pending(below)
                 } else {
                     0
@@ -195,7 +196,7 @@ impl Rows {
     {
         let mut sum = 0u128;
         for number in 0..64u32 {
-            sum += self.pending_below(group, number);
+            sum += self.pending_in_subtree(group, number);
         }
         sum
     }

@@ -16,12 +16,12 @@ use Rattle.step_rules.specs.declared.step.Action.TheVariants.{Lock, SetMax, SetF
 use Rattle.step_rules.specs.declared.step.Answer.{Answer}
 use Rattle.step_rules.specs.declared.step.Answer.TheVariants.{Illegal, Done, Number}
 use Rattle.step_rules.specs.State.{Zone, State}
-use Rattle.step_rules.specs.Usage.{is_below}
+use Rattle.step_rules.specs.Usage.{is_in_subtree}
 use Rattle.step_rules.specs.Legal.{Allows, is_of_group}
 use Rattle.step_rules.specs.After.{Run, after, state_of, IsLegalRun}
 use Rattle.step_rules.specs.Laws.{pushed}
 use Rattle.step_rules.specs.Peaks.{IsPeak, peak_follows}
-use Rattle.step_rules.specs.Events.{note_of, group_noted, noted_at, is_noted_below, is_noted_at, makes_group, count_after, events_of, events_local_of}
+use Rattle.step_rules.specs.Events.{note_of, group_noted, noted_at, is_noted_in_subtree, is_noted_at, makes_group, count_after, events_of, events_local_of}
 use Rattle.step_rules.proofs.Moving.{gone_itself}
 use Rattle.step_rules.proofs.Peaking.{peaks_are_kept}
 use Rattle.step_rules.proofs.Noting.{events_are_counted}
@@ -61,9 +61,9 @@ notes_nothing_or_stays s seat Lock answer = inr refl
 notes_nothing_or_stays s seat action answer = inr refl
 
 noted_same : (key : EventKey) (s : State) (seat : ℕ) (action : Action) (answer : Answer) (g : ℕ)
-    → is_below (after s seat action answer).groups g (noted_at key action answer) ≡ is_below s.groups g (noted_at key action answer)
+    → is_in_subtree (after s seat action answer).groups g (noted_at key action answer) ≡ is_in_subtree s.groups g (noted_at key action answer)
 noted_same key s seat action answer g =
-    let at : List Group → Option (EventKey × ℕ) → Bool = λ groups note. is_below groups g (group_noted key note) in
+    let at : List Group → Option (EventKey × ℕ) → Bool = λ groups note. is_in_subtree groups g (group_noted key note) in
     elim (notes_nothing_or_stays s seat action answer) [
       | inl none ↦ ap (at (after s seat action answer).groups) none ∙ sym (ap (at s.groups) none)
       | inr same ↦ ap (λ (groups : List Group). at groups (note_of action answer)) same
@@ -111,10 +111,10 @@ key_counted test passes key g action answer counts none some = by_made (makes_gr
 
 below_counted : (key : EventKey) (s : State) (seat : ℕ) (action : Action) (answer : Answer) (g : ℕ) (a : Account) →
     count_of (account_after (after s seat action answer) action answer g a).events key
-    ≡ count_after (is_noted_below key g) g s.groups action answer (count_of a.events key)
+    ≡ count_after (is_noted_in_subtree key g) g s.groups action answer (count_of a.events key)
 below_counted key s seat action answer g a =
     let groups : List Group = (after s seat action answer).groups in
-    key_counted (in_subtree groups g) (is_below groups g) key g action answer a.events refl (λ h. refl)
+    key_counted (in_subtree groups g) (is_in_subtree groups g) key g action answer a.events refl (λ h. refl)
     ∙ ap (λ x. cond (makes_group g action answer) 0 (cond x (one_more (count_of a.events key)) (count_of a.events key)))
     (noted_same key s seat action answer g)
 
@@ -153,7 +153,7 @@ tell_more zone run step answer old new legal ok told follow =
           let now = follow m (before m there) in
           let law = (events_are_counted.step zone run step answer key m).below in
           ap (λ (a : Account). count_of a.events key) now ∙ below_counted key s step.seat step.action answer m (account_of old m)
-          ∙ follow_alike (is_noted_below key m) m s.groups step.action answer (count_of (account_of old m).events key) (events_of key zone run m)
+          ∙ follow_alike (is_noted_in_subtree key m) m s.groups step.action answer (count_of (account_of old m).events key) (events_of key zone run m)
           (elim (there_or_made s step.seat step.action answer m (before m there)) [ inl was ↦ inl (λ has e. told.events key m was) | inr made ↦ inr made ])
           ∙ sym law;
       events_local = λ key m there.

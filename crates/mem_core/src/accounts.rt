@@ -130,7 +130,7 @@ fn peak_after(rows: &Rows, action: &Action, answer: &Answer, group: GroupId, pea
     if makes_group(group, action, answer) {
         return 0;
     }
-    if rows.is_below(group, granted_to(action, answer)) {
+    if rows.is_in_subtree(group, granted_to(action, answer)) {
         return peak.max(rows.usage(group));
     }
     peak

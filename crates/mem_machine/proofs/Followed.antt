@@ -20,8 +20,8 @@ use Rattle.step_rules.specs.declared.step.Answer.TheVariants.{Illegal, Done, Gra
 use Rattle.step_rules.specs.State.{State}
 use Rattle.step_rules.specs.After.{Run, after}
 use Rattle.step_rules.specs.Peaks.{peak_follows}
-use Rattle.step_rules.specs.Events.{note_of, noted_at, is_noted_at, is_noted_below, makes_group}
-use Rattle.step_rules.specs.Usage.{is_below}
+use Rattle.step_rules.specs.Events.{note_of, noted_at, is_noted_at, is_noted_in_subtree, makes_group}
+use Rattle.step_rules.specs.Usage.{is_in_subtree}
 use Rattle.step_rules.specs.Legal.{is_of_group}
 use Rattle.step_rules.proofs.CallerLemmas.{noted_nowhere}
 use Rattle.step_rules.proofs.Moving.{gone_itself}
@@ -123,7 +123,7 @@ makes_both t p one two a b c first second =
       follows = record {
         peak = λ m there. joined p s one u two v first.leads second.leads m (moves_peak m) (peak_begins m) _ _ _
             (first.follows.peak m) (second.follows.peak m there) there;
-        events = λ key m there. joined p s one u two v first.leads second.leads m (moves_count (is_noted_below key m) m) (count_begins (is_noted_below key m) m)
+        events = λ key m there. joined p s one u two v first.leads second.leads m (moves_count (is_noted_in_subtree key m) m) (count_begins (is_noted_in_subtree key m) m)
             _ _ _ (first.follows.events key m) (second.follows.events key m there) there;
         events_local = λ key m there. joined p s one u two v first.leads second.leads m (moves_count (is_noted_at key m) m)
             (count_begins (is_noted_at key m) m) _ _ _ (first.follows.events_local key m) (second.follows.events_local key m there) there;
@@ -205,15 +205,15 @@ over_still moves stays s (e ∷ rest) x still =
 pub peak_still : (m : ℕ) (s : State) (steps : Run) (x : ℕ) → are_still steps ≡ true → moved_along (moves_peak m) s steps x ≡ x
 peak_still m = over_still (moves_peak m) (λ s e x still. still_peak (after s e.0.seat e.0.action e.1) e.0.action e.1 m x still)
 
-pub below_stays : (key : EventKey) (m : ℕ) → Stays (moves_count (is_noted_below key m) m)
-below_stays key m = count_stays (is_noted_below key m) m (λ groups action answer still. ap (is_below groups m) (still_note key action answer still))
+pub below_stays : (key : EventKey) (m : ℕ) → Stays (moves_count (is_noted_in_subtree key m) m)
+below_stays key m = count_stays (is_noted_in_subtree key m) m (λ groups action answer still. ap (is_in_subtree groups m) (still_note key action answer still))
 
 pub at_stays : (key : EventKey) (m : ℕ) → Stays (moves_count (is_noted_at key m) m)
 at_stays key m = count_stays (is_noted_at key m) m (λ groups action answer still. ap (λ (o : Option ℕ). is_of_group o m) (still_note key action answer still))
 
 pub below_still : (key : EventKey) (m : ℕ) (s : State) (steps : Run) (x : ℕ) → are_still steps ≡ true
-    → moved_along (moves_count (is_noted_below key m) m) s steps x ≡ x
-below_still key m = over_still (moves_count (is_noted_below key m) m) (below_stays key m)
+    → moved_along (moves_count (is_noted_in_subtree key m) m) s steps x ≡ x
+below_still key m = over_still (moves_count (is_noted_in_subtree key m) m) (below_stays key m)
 
 pub at_still : (key : EventKey) (m : ℕ) (s : State) (steps : Run) (x : ℕ) → are_still steps ≡ true
     → moved_along (moves_count (is_noted_at key m) m) s steps x ≡ x

@@ -16,7 +16,7 @@ use Rattle.cpu_part.specs.Calls.{TakesFront}
 use Rattle.step_rules.specs.declared.step.Action.TheVariants.{Consume}
 use Rattle.step_rules.specs.declared.step.Answer.TheVariants.{Took}
 use Rattle.step_rules.specs.State.{Part, with_at, one_if, sum_to, front_of, without, is_cpu}
-use Rattle.step_rules.specs.Usage.{is_below}
+use Rattle.step_rules.specs.Usage.{is_in_subtree}
 use Rattle.step_rules.specs.After.{paid, consumed}
 use Rattle.step_rules.specs.Legal.{is_legal, IsAnswer}
 use Rattle.step_rules.proofs.Basics.{at_same, at_other}
@@ -69,10 +69,10 @@ usage_small : (t : KnownTable) (w : KnownStockTable) (m : KnownMachine) → IsCo
     → current_of m.ledger g ≤ t.frames * 1 + (t.cpus + 1) * 65535
 usage_small t w m ok charges g =
     let groups = m.ledger.groups in
-    let charged = at_most t.frames 1 (λ f. one_if (is_below groups g (charged_to (frame_state_at m.frame_states f))))
-    (λ f. one_at_most (is_below groups g (charged_to (frame_state_at m.frame_states f)))) in
-    let booked = at_most (t.cpus + 1) 65535 (λ q. cond (is_below groups g (account_of m.stock_seat.view q).group) (account_of m.stock_seat.view q).book 0)
-    (λ q. let a = cond_at_most (is_below groups g (account_of m.stock_seat.view q).group) (account_of m.stock_seat.view q).book in
+    let charged = at_most t.frames 1 (λ f. one_if (is_in_subtree groups g (charged_to (frame_state_at m.frame_states f))))
+    (λ f. one_at_most (is_in_subtree groups g (charged_to (frame_state_at m.frame_states f)))) in
+    let booked = at_most (t.cpus + 1) 65535 (λ q. cond (is_in_subtree groups g (account_of m.stock_seat.view q).group) (account_of m.stock_seat.view q).book 0)
+    (λ q. let a = cond_at_most (is_in_subtree groups g (account_of m.stock_seat.view q).group) (account_of m.stock_seat.view q).book in
     let b = ok.bounded q in omega (arith, a, b)) in
     let both = ledger_visit_state t w m ok charges g in
     omega (arith, charged, booked, both)

@@ -27,7 +27,7 @@ use Rattle.step_rules.specs.State.{State}
 use Rattle.step_rules.specs.After.{Run, after}
 use Rattle.step_rules.specs.Peaks.{peak_follows}
 use Rattle.step_rules.specs.Usage.{usage_of, frames_kept, pages_prepaid, pages_pending}
-use Rattle.step_rules.specs.Events.{note_of, count_after, is_noted_below, is_noted_at, makes_group}
+use Rattle.step_rules.specs.Events.{note_of, count_after, is_noted_in_subtree, is_noted_at, makes_group}
 use Rattle.step_rules.proofs.CallerLemmas.{noted_below_so, noted_at_so}
 use Rattle.step_rules.proofs.Homes.{number_low}
 use Rattle.step_rules.proofs.Moving.{gone_itself, pending_moves, pends_split}
@@ -122,7 +122,7 @@ follows_note kind action g notes t m c k counts peaks =
           let old = events_of m.ledger h in
           ap (λ (x : EventCounts). count_of x key) (counts.events h)
           ∙ event_counted kind key (in_subtree groups h g) old
-          ∙ sym (done_count (is_noted_below key h) groups action h (count_of old key) _ (noted_below_so kind key g h groups action Done notes));
+          ∙ sym (done_count (is_noted_in_subtree key h) groups action h (count_of old key) _ (noted_below_so kind key g h groups action Done notes));
       events_local = λ key h is.
           let old = events_local_of m.ledger h in
           ap (λ (x : EventCounts). count_of x key) (counts.events_local h ∙ ap (λ (b : Bool). cond b (with_one_more kind old) old) (turned h g))

@@ -17,7 +17,7 @@ use Rattle.stock_word.specs.declared.view.StockAccount.{StockAccount as Book}
 use Rattle.stock_word.specs.Stock.{KnownStockTable, account_of}
 use Rattle.frame_word.specs.Seats.{KnownTable}
 use Rattle.step_rules.specs.State.{one_if, sum_to}
-use Rattle.step_rules.specs.Usage.{is_below}
+use Rattle.step_rules.specs.Usage.{is_in_subtree}
 use Rattle.step_rules.proofs.Sums.{sum_same, sum_none, sum_both, sum_part, sum_swap, sum_only}
 use Rattle.mem_machine.specs.declared.frame_state.FrameState.{FrameState}
 use Rattle.mem_machine.specs.FrameStates.{frame_state_at, frame_state_group, one_if_is}
@@ -132,12 +132,12 @@ module _ (groups : List Group) (g : ℕ) where
   count_other k h ne = ap (λ (b : Bool). cond b 1 0) (ne_eqb k h (λ e. ne (sym e)))
 
   frame_counts : (o : Option ℕ) → ((k : ℕ) → o ≡ Some k → k < 64)
-      → sum_to 64 (λ h. cond (in_subtree groups g h) (one_if_is h o) 0) ≡ one_if (is_below groups g o)
+      → sum_to 64 (λ h. cond (in_subtree groups g h) (one_if_is h o) 0) ≡ one_if (is_in_subtree groups g o)
   frame_counts None small = picked_none (λ h. 0) (λ h. refl)
   frame_counts (Some k) small = picked k 1 (λ h. one_if_is h (Some k)) (small k refl) (count_own k) (count_other k) ∙ cond_one (in_subtree groups g k)
 
   book_counts : (o : Option ℕ) (b : ℕ) → ((k : ℕ) → o ≡ Some k → (k < 64) ⊎ (b ≡ 0))
-      → sum_to 64 (λ h. cond (in_subtree groups g h) (cond (one_if_is h o == 0) 0 b) 0) ≡ cond (is_below groups g o) b 0
+      → sum_to 64 (λ h. cond (in_subtree groups g h) (cond (one_if_is h o == 0) 0 b) 0) ≡ cond (is_in_subtree groups g o) b 0
   book_counts None b small = picked_none (λ h. 0) (λ h. refl)
   book_counts (Some k) b small = elim (small k refl) [
     | inl inside ↦ picked k b (λ h. cond (one_if_is h (Some k) == 0) 0 b) inside (ap (λ (n : ℕ). cond (n == 0) 0 b) (count_own k))
@@ -191,8 +191,8 @@ module _ (t : KnownTable) (w : KnownStockTable) (m : KnownMachine) (is : IsConsi
   ]
 
   -- the usage of the group, by its frames and by the books of the stocks
-  pub ledger_visit_state : current_of m.ledger g ≡ sum_to t.frames (λ f. one_if (is_below groups g (frame_state_group (frame_state f))))
-      + sum_to (t.cpus + 1) (λ q. cond (is_below groups g (book q).group) (book q).book 0)
+  pub ledger_visit_state : current_of m.ledger g ≡ sum_to t.frames (λ f. one_if (is_in_subtree groups g (frame_state_group (frame_state f))))
+      + sum_to (t.cpus + 1) (λ q. cond (is_in_subtree groups g (book q).group) (book q).book 0)
   ledger_visit_state =
       let by = usage_by_number m.ledger g charges in
       let split = sum_same 64 (λ h. cond (in_subtree groups g h) (pages_of m.ledger h) 0)
@@ -207,9 +207,9 @@ module _ (t : KnownTable) (w : KnownStockTable) (m : KnownMachine) (is : IsConsi
       let turned = sum_swap 64 t.frames (λ h f. cond (in_subtree groups g h) (frame_count h f) 0) in
       let turned_too = sum_swap 64 (t.cpus + 1) (λ h p. cond (in_subtree groups g h) (book_count h p) 0) in
       let frames = sum_same t.frames (λ f. sum_to 64 (λ h. cond (in_subtree groups g h) (frame_count h f) 0))
-      (λ f. one_if (is_below groups g (frame_state_group (frame_state f))))
+      (λ f. one_if (is_in_subtree groups g (frame_state_group (frame_state f))))
       (λ f lt. frame_counts groups g (frame_state_group (frame_state f)) (λ k at. charged_frame f k lt at)) in
       let books = sum_same (t.cpus + 1) (λ p. sum_to 64 (λ h. cond (in_subtree groups g h) (book_count h p) 0))
-      (λ q. cond (is_below groups g (book q).group) (book q).book 0)
+      (λ q. cond (is_in_subtree groups g (book q).group) (book q).book 0)
       (λ p lt. book_counts groups g (book p).group (book p).book (λ k at. booked_pages p k lt at)) in
       omega arith

@@ -20,7 +20,7 @@ use Rattle.step_rules.specs.After.{Run, after, state_of, IsLegalRun}
 use Rattle.step_rules.specs.Laws.{ShowsLocal, IsLocalStep, pushed}
 use Rattle.step_rules.specs.Reaches.{is_own, own_steps, MayFollow, IsInterleaved}
 use Rattle.step_rules.specs.Peaks.{IsPeak, peak_follows}
-use Rattle.step_rules.specs.Events.{is_noted_at, is_noted_below, events_of as events_in, events_local_of as events_local_in}
+use Rattle.step_rules.specs.Events.{is_noted_at, is_noted_in_subtree, events_of as events_in, events_local_of as events_local_in}
 use Rattle.step_rules.proofs.LegalTests.{grant_tests, make_tests, kill_tests}
 use Rattle.step_rules.proofs.Runs.{allowed, sound_run}
 use Rattle.step_rules.proofs.CoverUsage.{usage_seen}
@@ -193,7 +193,7 @@ ledgers_agree t run steps mixed before after shows told makes mixes =
           (tells_on zone p m (λ r x. IsPeak zone r m x) (moves_peak m) (peak_own zone p m) (peak_other zone p m)
           run a mixed b (peak_of before.machine.ledger m) shows own mixes.follows there (told.peak m));
       events = λ key m there.
-          let test = is_noted_below key m in
+          let test = is_noted_in_subtree key m in
           let law = λ (r : Run) (e : Step × Answer). (events_are_counted.step zone r e.0 e.1 key m).below in
           makes.follows.events key m there
           ∙ ap (λ (r : Run). moved_along (moves_count test m) a r (count_of (events_of before.machine.ledger m) key)) (sym mixes.own)

@@ -23,7 +23,7 @@ use Rattle.step_rules.specs.declared.phase.Stage.TheVariants.{FreshAt, Live, Bac
 use Rattle.step_rules.specs.declared.phase.Phase.TheVariants as phase
 use Rattle.step_rules.specs.Phases.{keeper_of}
 use Rattle.step_rules.specs.State.{one_if, sum_to}
-use Rattle.step_rules.specs.Usage.{is_below, frames_kept, stock_below, pages_prepaid, pages_pending, usage_of}
+use Rattle.step_rules.specs.Usage.{is_in_subtree, frames_kept, stock_in_subtree, pages_prepaid, pages_pending, usage_of}
 use Rattle.step_rules.proofs.Sums.{sum_same, sum_none, sum_both, sum_only}
 use Rattle.step_rules.proofs.Lists as steps
 use Rattle.mem_machine.specs.declared.frame_state.FrameState.{FrameState}
@@ -88,13 +88,13 @@ module _ (t : KnownTable) (w : KnownStockTable) (m : KnownMachine) (c : KnownCpu
   keeper_plain f (Head unit) e = back_keeper (nat_le 1 (times f c.back)) unit c.number
   keeper_plain f (Tail h) e = refl
 
-  kept_each : (f : ℕ) → f < t.frames → one_if (is_below groups g (keeper_of (phase_of c f (frame_state f))))
-      ≡ one_if (is_below groups g (frame_state_group (frame_state f))) + cond (in_subtree groups g (fresh_group c)) (times f c.fresh) 0
+  kept_each : (f : ℕ) → f < t.frames → one_if (is_in_subtree groups g (keeper_of (phase_of c f (frame_state f))))
+      ≡ one_if (is_in_subtree groups g (frame_state_group (frame_state f))) + cond (in_subtree groups g (fresh_group c)) (times f c.fresh) 0
   kept_each f inside = elim (cases_lt (times f c.fresh) 1) [
     | inl none ↦
         let zero_is : times f c.fresh ≡ 0 = omega arith in
-        let a : one_if (is_below groups g (keeper_of (phase_of c f (frame_state f)))) ≡ one_if (is_below groups g (frame_state_group (frame_state f))) =
-        ap (λ (o : Option ℕ). one_if (is_below groups g o)) (keeper_plain f (frame_state f) (ap (λ (n : ℕ). nat_le 1 n) zero_is)) in
+        let a : one_if (is_in_subtree groups g (keeper_of (phase_of c f (frame_state f)))) ≡ one_if (is_in_subtree groups g (frame_state_group (frame_state f))) =
+        ap (λ (o : Option ℕ). one_if (is_in_subtree groups g o)) (keeper_plain f (frame_state f) (ap (λ (n : ℕ). nat_le 1 n) zero_is)) in
         let b : cond (in_subtree groups g (fresh_group c)) (times f c.fresh) 0 ≡ 0 =
         ap (λ (n : ℕ). cond (in_subtree groups g (fresh_group c)) n 0) zero_is ∙ cond_zero (in_subtree groups g (fresh_group c)) in
         omega arith
@@ -103,11 +103,11 @@ module _ (t : KnownTable) (w : KnownStockTable) (m : KnownMachine) (c : KnownCpu
         let p = c.number in
         let test : (p == p && nat_le 1 (times f c.fresh)) ≡ true = and_from (p == p) (nat_le 1 (times f c.fresh)) (eq-eqb p p refl)
         (le-leb 1 (times f c.fresh) some) in
-        let a : one_if (is_below groups g (keeper_of (phase_of c f (frame_state f)))) ≡ one_if (in_subtree groups g (fresh_group c)) =
-        ap (λ (x : FrameState). one_if (is_below groups g (keeper_of (phase_of c f x)))) both.0
-        ∙ ap (λ (b : Bool). one_if (is_below groups g (keeper_of (cond b (phase.Head (record { group = fresh_group c; order = 0 }) (FreshAt p))
+        let a : one_if (is_in_subtree groups g (keeper_of (phase_of c f (frame_state f)))) ≡ one_if (in_subtree groups g (fresh_group c)) =
+        ap (λ (x : FrameState). one_if (is_in_subtree groups g (keeper_of (phase_of c f x)))) both.0
+        ∙ ap (λ (b : Bool). one_if (is_in_subtree groups g (keeper_of (cond b (phase.Head (record { group = fresh_group c; order = 0 }) (FreshAt p))
         (phase.Lent p OnList))))) test in
-        let b : one_if (is_below groups g (frame_state_group (frame_state f))) ≡ 0 = ap (λ (x : FrameState). one_if (is_below groups g (frame_state_group x))) both.0 in
+        let b : one_if (is_in_subtree groups g (frame_state_group (frame_state f))) ≡ 0 = ap (λ (x : FrameState). one_if (is_in_subtree groups g (frame_state_group x))) both.0 in
         let d : cond (in_subtree groups g (fresh_group c)) (times f c.fresh) 0 ≡ one_if (in_subtree groups g (fresh_group c)) =
         ap (λ (n : ℕ). cond (in_subtree groups g (fresh_group c)) n 0) both.1 ∙ cond_one (in_subtree groups g (fresh_group c)) in
         omega arith
@@ -124,25 +124,25 @@ module _ (t : KnownTable) (w : KnownStockTable) (m : KnownMachine) (c : KnownCpu
       (sum_same t.frames (λ f. times f c.fresh) (λ f. steps.times f c.fresh) (λ f lt. as_steps f c.fresh)
       ∙ steps.count_length t.frames c.fresh (λ f beyond. let none = (tied.noted f).in_table beyond in let same = as_steps f c.fresh in omega arith))
 
-  kept : frames_kept groups (λ f. phase_of c f (frame_state f)) t.frames g ≡ sum_to t.frames (λ f. one_if (is_below groups g (frame_state_group (frame_state f)))) + fresh_pages
+  kept : frames_kept groups (λ f. phase_of c f (frame_state f)) t.frames g ≡ sum_to t.frames (λ f. one_if (is_in_subtree groups g (frame_state_group (frame_state f)))) + fresh_pages
   kept =
       let a = sum_same t.frames _ _ kept_each in
-      let b = sum_both t.frames (λ f. one_if (is_below groups g (frame_state_group (frame_state f)))) (λ f. cond (in_subtree groups g (fresh_group c)) (times f c.fresh) 0) in
+      let b = sum_both t.frames (λ f. one_if (is_in_subtree groups g (frame_state_group (frame_state f)))) (λ f. cond (in_subtree groups g (fresh_group c)) (times f c.fresh) 0) in
       let d = fresh_counted in
       omega arith
 
   -- the fresh pages of a stock of this group, if it counts
   fresh_of : (account_of m.stock_seat.view c.number).group ≡ stocks.group_of c.stock_seat.view.last → (o : Option ℕ) → (account_of m.stock_seat.view c.number).group ≡ o
-      → cond (is_below groups g o) (length c.fresh) 0 ≡ cond (in_subtree groups g (number_or_0 o)) (length c.fresh) 0
+      → cond (is_in_subtree groups g o) (length c.fresh) 0 ≡ cond (in_subtree groups g (number_or_0 o)) (length c.fresh) 0
   fresh_of group None e =
       let none : length c.fresh ≡ 0 = balanced.none_fresh (sym group ∙ e) in
       sym (ap (λ (n : ℕ). cond (in_subtree groups g 0) n 0) none ∙ cond_zero (in_subtree groups g 0))
   fresh_of group (Some k) e = refl
 
-  fresh_is : cond (is_below groups g (book c.number).group) (length c.fresh) 0 ≡ fresh_pages
+  fresh_is : cond (is_in_subtree groups g (book c.number).group) (length c.fresh) 0 ≡ fresh_pages
   fresh_is = elim balanced.group [
     | inl none ↦
-        ap (λ (n : ℕ). cond (is_below groups g (book c.number).group) n 0) none ∙ cond_zero (is_below groups g (book c.number).group)
+        ap (λ (n : ℕ). cond (is_in_subtree groups g (book c.number).group) n 0) none ∙ cond_zero (is_in_subtree groups g (book c.number).group)
         ∙ sym (ap (λ (n : ℕ). cond (in_subtree groups g (fresh_group c)) n 0) none ∙ cond_zero (in_subtree groups g (fresh_group c)))
     | inr group ↦
         fresh_of group (book c.number).group refl
@@ -157,32 +157,32 @@ module _ (t : KnownTable) (w : KnownStockTable) (m : KnownMachine) (c : KnownCpu
   own_part true x k n e h = omega arith
   own_part false x k n e h = refl
 
-  stock_each : (q : ℕ) → cond (is_below groups g (book q).group) (book q).book 0
-      ≡ stock_below groups g (part_of m.stock_seat c q) + cond (q == c.number) fresh_pages 0
+  stock_each : (q : ℕ) → cond (is_in_subtree groups g (book q).group) (book q).book 0
+      ≡ stock_in_subtree groups g (part_of m.stock_seat c q) + cond (q == c.number) fresh_pages 0
   stock_each q = elim (cases_eq q c.number) [
     | inl e ↦
-        let mine : stock_below groups g (part_of m.stock_seat c q) ≡ stock_below groups g (part_with c.list c.fresh c.back (book q)) =
-        ap (λ (b : Bool). stock_below groups g (cond b (part_with c.list c.fresh c.back (book q)) (part_with [] [] [] (book q)))) (eq-eqb q c.number e) in
+        let mine : stock_in_subtree groups g (part_of m.stock_seat c q) ≡ stock_in_subtree groups g (part_with c.list c.fresh c.back (book q)) =
+        ap (λ (b : Bool). stock_in_subtree groups g (cond b (part_with c.list c.fresh c.back (book q)) (part_with [] [] [] (book q)))) (eq-eqb q c.number e) in
         let covers : length c.fresh ≤ (book q).book = subst (λ (p : ℕ). length c.fresh ≤ (book p).book) (sym e) balanced.covers in
-        let a = own_part (is_below groups g (book q).group) (book q).book (length c.fresh) (book q).unabsorbed (is.absorbed q) covers in
-        let b : cond (is_below groups g (book q).group) (length c.fresh) 0 ≡ fresh_pages =
-        ap (λ (p : ℕ). cond (is_below groups g (book p).group) (length c.fresh) 0) e ∙ fresh_is in
+        let a = own_part (is_in_subtree groups g (book q).group) (book q).book (length c.fresh) (book q).unabsorbed (is.absorbed q) covers in
+        let b : cond (is_in_subtree groups g (book q).group) (length c.fresh) 0 ≡ fresh_pages =
+        ap (λ (p : ℕ). cond (is_in_subtree groups g (book p).group) (length c.fresh) 0) e ∙ fresh_is in
         let d : cond (q == c.number) fresh_pages 0 ≡ fresh_pages = ap (λ (b : Bool). cond b fresh_pages 0) (eq-eqb q c.number e) in
         omega arith
     | inr ne ↦
-        let other : stock_below groups g (part_of m.stock_seat c q) ≡ stock_below groups g (part_with [] [] [] (book q)) =
-        ap (λ (b : Bool). stock_below groups g (cond b (part_with c.list c.fresh c.back (book q)) (part_with [] [] [] (book q)))) (ne_eqb q c.number ne) in
-        let a = plain_part (is_below groups g (book q).group) (book q).book (book q).unabsorbed (is.absorbed q) in
+        let other : stock_in_subtree groups g (part_of m.stock_seat c q) ≡ stock_in_subtree groups g (part_with [] [] [] (book q)) =
+        ap (λ (b : Bool). stock_in_subtree groups g (cond b (part_with c.list c.fresh c.back (book q)) (part_with [] [] [] (book q)))) (ne_eqb q c.number ne) in
+        let a = plain_part (is_in_subtree groups g (book q).group) (book q).book (book q).unabsorbed (is.absorbed q) in
         let d : cond (q == c.number) fresh_pages 0 ≡ 0 = ap (λ (b : Bool). cond b fresh_pages 0) (ne_eqb q c.number ne) in
         omega arith
   ]
 
-  prepaid : sum_to (t.cpus + 1) (λ q. cond (is_below groups g (book q).group) (book q).book 0)
+  prepaid : sum_to (t.cpus + 1) (λ q. cond (is_in_subtree groups g (book q).group) (book q).book 0)
       ≡ pages_prepaid groups (part_of m.stock_seat c) t.cpus g + fresh_pages
   prepaid =
       let high = tied.seats.frame_cpus in
       let a = sum_same (t.cpus + 1) _ _ (λ q lt. stock_each q) in
-      let b = sum_both (t.cpus + 1) (λ q. stock_below groups g (part_of m.stock_seat c q)) (λ q. cond (q == c.number) fresh_pages 0) in
+      let b = sum_both (t.cpus + 1) (λ q. stock_in_subtree groups g (part_of m.stock_seat c q)) (λ q. cond (q == c.number) fresh_pages 0) in
       let one = sum_only (t.cpus + 1) (λ q. cond (q == c.number) fresh_pages 0) c.number (omega arith)
       (λ q lt ne. ap (λ (b : Bool). cond b fresh_pages 0) (ne_eqb q c.number ne)) in
       let value : cond (c.number == c.number) fresh_pages 0 ≡ fresh_pages = ap (λ (b : Bool). cond b fresh_pages 0) (eq-eqb c.number c.number refl) in

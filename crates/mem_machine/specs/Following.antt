@@ -12,7 +12,7 @@ use Rattle.step_rules.specs.declared.step.Answer.{Answer}
 use Rattle.step_rules.specs.State.{State}
 use Rattle.step_rules.specs.After.{Run, after}
 use Rattle.step_rules.specs.Peaks.{peak_follows}
-use Rattle.step_rules.specs.Events.{count_after, is_noted_at, is_noted_below}
+use Rattle.step_rules.specs.Events.{count_after, is_noted_at, is_noted_in_subtree}
 
 -- how a step with its answer changes a number, by the state before it
 abbrev pub Moves : Type 0
@@ -48,7 +48,7 @@ pub record FollowsSteps (state : State) (before : Ledger) (steps : Run) (after :
       → peak_of after group ≡ peak_along group state steps (peak_of before group)
   pub events : (key : EventKey) (group : ℕ) → has_group after.groups group ≡ true
       → count_of (events_of after group) key
-      ≡ count_along (is_noted_below key group) group state steps (count_of (events_of before group) key)
+      ≡ count_along (is_noted_in_subtree key group) group state steps (count_of (events_of before group) key)
   pub events_local : (key : EventKey) (group : ℕ) → has_group after.groups group ≡ true
       → count_of (events_local_of after group) key
       ≡ count_along (is_noted_at key group) group state steps (count_of (events_local_of before group) key)

@@ -11,7 +11,7 @@ use Rattle.group_charge.specs.Charges.{Ledger, current_of, with_charge, with_unc
 use Rattle.group_tree.specs.declared.group.Group.{Group}
 use Rattle.kill_notes.specs.declared.note.Note.TheVariants.{Stock}
 use Rattle.kill_notes.specs.Notes.{noted}
-use Rattle.step_rules.specs.Usage.{is_below}
+use Rattle.step_rules.specs.Usage.{is_in_subtree}
 use Rattle.step_rules.specs.Legal.{is_of_group}
 use Rattle.step_rules.specs.After.{Run}
 use Rattle.mem_machine.specs.Machines.{KnownMachine, LacksRoom}
@@ -85,7 +85,7 @@ StockTest = List Group → Option ℕ → Bool
 
 -- the stock is of a group in the subtree of this one
 abbrev pub of_subtree : ℕ → StockTest
-of_subtree group groups stock = is_below groups group stock
+of_subtree group groups stock = is_in_subtree groups group stock
 
 -- the stock is of this group itself
 abbrev pub of_group : ℕ → StockTest

@@ -87,7 +87,7 @@ impl<N: BootName> Machine<N> {
     }
 
     // Whether `other` exists and is `group` or a descendant of it.
-    fn is_below(&self, group: GroupId, other: GroupId) -> bool
+    fn is_in_subtree(&self, group: GroupId, other: GroupId) -> bool
         requires { IsTrue (has_group self.now.ledger.groups group) }
         ensures { result ≡ in_subtree self.now.ledger.groups group other }
     {
@@ -97,14 +97,14 @@ impl<N: BootName> Machine<N> {
 
     // Drains and notes the CPU's stock if it is of a group in this group's subtree, and returns how many pages were in
     // it.
-    fn drain_if_below(&mut self, tables: &Tables<N>, cpu: u32, group: GroupId) -> u32
+    fn drain_if_in_subtree(&mut self, tables: &Tables<N>, cpu: u32, group: GroupId) -> u32
         requires cpu { IsCpuOf N.frames cpu }
         requires there { IsTrue (has_group self.old.ledger.groups group) }
         ensures { DrainsBySteps N.frames (DrainsIf (of_subtree group) cpu) result self.old self.new }
     {
         match self.stock_seat.group(tables, cpu) {
             None => 0,
-            Some(owner) if self.is_below(group, owner) => self.drain_noted(tables, cpu, owner),
+            Some(owner) if self.is_in_subtree(group, owner) => self.drain_noted(tables, cpu, owner),
             Some(_) => 0,
         }
     }
@@ -120,7 +120,7 @@ impl<N: BootName> Machine<N> {
         let mut pages = 0;
         for cpu_index in 0..tables.frames.cpus() {
             let cpu = cpu_index + 1;
-            pages += u64::from(self.drain_if_below(tables, cpu, group));
+            pages += u64::from(self.drain_if_in_subtree(tables, cpu, group));
         }
         pages
     }

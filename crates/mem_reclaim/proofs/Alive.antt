@@ -6,7 +6,7 @@ use Rattle.std.proofs.lemmas.Bool.{cond-true, cond-false}
 use Rattle.std.proofs.lemmas.List.{append-nil, map-id}
 use Rattle.std.proofs.lemmas.List.FromFn.{filter_of_map_range_with_len_more}
 use Rattle.mem_machine.specs.Machines.{KnownMachine}
-use Rattle.mem_reclaim.specs.Sets.{alive_below}
+use Rattle.mem_reclaim.specs.Sets.{alive_in_subtree}
 use Rattle.mem_reclaim.specs.Victim.{may_be_killed}
 
 -- those with a number below k
@@ -53,5 +53,5 @@ alive_skipped m root k count so is =
     let few = so.few in
     record { all = so.all ∙ sym (ap length (alive_same m root k is)); few = omega (arith, few) }
 
-pub alive_all : (m : KnownMachine) (root k count : ℕ) → AliveTo m root k count → k ≡ 64 → count ≡ length (alive_below m root)
+pub alive_all : (m : KnownMachine) (root k count : ℕ) → AliveTo m root k count → k ≡ 64 → count ≡ length (alive_in_subtree m root)
 alive_all m root k count so all = so.all ∙ ap (λ (x : ℕ). length (alive_to m root x)) all

@@ -11,7 +11,7 @@ use Rattle.group_charge.proofs.KeptLemmas.{number_below}
 use Rattle.mem_machine.specs.Machines.{KnownMachine, is_killed}
 use Rattle.mem_reclaim.specs.declared.sets.Killed.{Killed}
 use Rattle.mem_reclaim.specs.Laws.{FlaggedGroupsDieWhole, IsChosen, IsWhole, OnlyTheLivingDie, VictimsDie}
-use Rattle.mem_reclaim.specs.Sets.{HasNoFlagged, IsKilledRoot, IsHighestFlagged, alive_below, kill_set}
+use Rattle.mem_reclaim.specs.Sets.{HasNoFlagged, IsKilledRoot, IsHighestFlagged, alive_in_subtree, kill_set}
 use Rattle.mem_reclaim.specs.Victim.{may_be_killed}
 use Rattle.mem_reclaim.proofs.Alive.{alive_more, alive_next, alive_to}
 use Rattle.mem_reclaim.proofs.KilledRoots.{on_path_is, victim_unflagged}
@@ -37,12 +37,12 @@ module _ (m : KnownMachine) (limited : ℕ) (killed : Killed) (is : IsChosen m l
   low : (root j : ℕ) → may_be_killed m root j ≡ true → j < 64
   low root j may = number_below m.ledger.groups j is.groups (in_subtree-below m.ledger.groups root j (and_parts (in_subtree m.ledger.groups root j) _ may).0)
 
-  in_set : (root j : ℕ) → may_be_killed m root j ≡ true → Contains (alive_below m root) j
+  in_set : (root j : ℕ) → may_be_killed m root j ≡ true → Contains (alive_in_subtree m root) j
   in_set root j may = alive_in m root 64 j (low root j may) may
 
-  of_set : (root j : ℕ) → Contains (alive_below m root) j → may_be_killed m root j ≡ true
+  of_set : (root j : ℕ) → Contains (alive_in_subtree m root) j → may_be_killed m root j ≡ true
   of_set root j there =
-      All-contains (λ (x : ℕ). may_be_killed m root x ≡ true) (alive_below m root) j (filter_passes (may_be_killed m root) (range_with_len 0 64)) there
+      All-contains (λ (x : ℕ). may_be_killed m root x ≡ true) (alive_in_subtree m root) j (filter_passes (may_be_killed m root) (range_with_len 0 64)) there
 
   -- whoever may be killed for the lower of two groups may be killed for the higher one
   may_above : (g h j : ℕ) → in_subtree m.ledger.groups g h ≡ true → may_be_killed m h j ≡ true → may_be_killed m g j ≡ true
@@ -53,9 +53,9 @@ module _ (m : KnownMachine) (limited : ℕ) (killed : Killed) (is : IsChosen m l
   -- ---- with a flag
 
   module _ (high : IsHighestFlagged m.ledger.groups limited killed.victim killed.killed_root) where
-    set_all : kill_set m killed ≡ alive_below m killed.killed_root
+    set_all : kill_set m killed ≡ alive_in_subtree m killed.killed_root
     set_all =
-        cond-true (is_oom_group m.ledger.groups killed.killed_root) (alive_below m killed.killed_root) (killed.victim ∷ [])
+        cond-true (is_oom_group m.ledger.groups killed.killed_root) (alive_in_subtree m killed.killed_root) (killed.victim ∷ [])
         (on_path_is m.ledger.groups limited killed.victim killed.killed_root high.between).flag
 
     whole_inside : (g : ℕ) → in_subtree m.ledger.groups killed.killed_root g ≡ true → IsWhole m g (kill_set m killed)
@@ -106,7 +106,7 @@ module _ (m : KnownMachine) (limited : ℕ) (killed : Killed) (is : IsChosen m l
 
     set_alone : kill_set m killed ≡ killed.victim ∷ []
     set_alone =
-        cond-false (is_oom_group m.ledger.groups killed.killed_root) (alive_below m killed.killed_root) (killed.victim ∷ [])
+        cond-false (is_oom_group m.ledger.groups killed.killed_root) (alive_in_subtree m killed.killed_root) (killed.victim ∷ [])
         (ap (is_oom_group m.ledger.groups) itself ∙ victim_unflagged m.ledger.groups limited killed.victim victim_below none)
 
     only_victim : (g : ℕ) → Contains (kill_set m killed) g → g ≡ killed.victim

@@ -29,7 +29,7 @@ use Rattle.mem_reclaim.specs.Killing.{KillsSubtree, AreKillsOf}
 use Rattle.mem_reclaim.specs.Killing.{OnlyDrains, OnlyReleases, snapshot_of, killed_note, with_all_killed}
 use Rattle.mem_reclaim.specs.KillNotes.{NotesVictim}
 use Rattle.mem_reclaim.specs.Moves.{Rises, has_kill, is_kill, is_miss, killed_by, kills_in, missed_in, returned_in}
-use Rattle.mem_reclaim.specs.Sets.{HasNoFlagged, IsKilledRoot, IsHighestFlagged, alive_below, group_kill_note, kill_set}
+use Rattle.mem_reclaim.specs.Sets.{HasNoFlagged, IsKilledRoot, IsHighestFlagged, alive_in_subtree, group_kill_note, kill_set}
 use Rattle.mem_reclaim.specs.Staying.{OnlyLeave}
 use Rattle.mem_reclaim.specs.Victim.{may_be_killed, victim_note}
 use Rattle.mem_reclaim.proofs.KilledRoots.{on_path_is, victim_unflagged}
@@ -268,19 +268,19 @@ below_more t limited root m k now s may n one =
     }
 
 pub below_all : (t : KnownTable) (limited root : ℕ) (m : KnownMachine) (k : ℕ) (now : KnownMachine) → KilledSoFar t limited root m k now → k ≡ 64
-    → KilledSo t (alive_below m root) (KillsGroups t limited (alive_below m root)) m now
+    → KilledSo t (alive_in_subtree m root) (KillsGroups t limited (alive_in_subtree m root)) m now
 below_all t limited root m k now s all = subst (λ (x : ℕ). KilledSo t (alive_to m root x) (KillsGroups t limited (alive_to m root x)) m now) all s.so
 
 -- ---- a subtree between its note and its count
 
 pub subtree_killed : (t : KnownTable) (limited root : ℕ) (m a b n : KnownMachine) → a ≡ with_note m (group_kill_note m root)
-    → KilledSo t (alive_below a root) (KillsGroups t limited (alive_below a root)) a b
+    → KilledSo t (alive_in_subtree a root) (KillsGroups t limited (alive_in_subtree a root)) a b
     → n ≡ record b { ledger = with_group_kill_noted b.ledger root; watch = n.watch } → ((g : ℕ) → current_of n.ledger g ≡ current_of b.ledger g)
-    → MakesForAny t b (note_group_kill_steps root) n → KilledSo t (alive_below m root) (KillsSubtree t limited root) m n
+    → MakesForAny t b (note_group_kill_steps root) n → KilledSo t (alive_in_subtree m root) (KillsSubtree t limited root) m n
 subtree_killed t limited root m a b n noted so_a counted usage runs =
     let note : Note = group_kill_note m root in
-    let so : KilledSo t (alive_below m root) (KillsGroups t limited (alive_below m root)) (with_note m note) b =
-    subst (λ (x : KnownMachine). KilledSo t (alive_below x root) (KillsGroups t limited (alive_below x root)) x b) noted so_a in
+    let so : KilledSo t (alive_in_subtree m root) (KillsGroups t limited (alive_in_subtree m root)) (with_note m note) b =
+    subst (λ (x : KnownMachine). KilledSo t (alive_in_subtree x root) (KillsGroups t limited (alive_in_subtree x root)) x b) noted so_a in
     let killing : Run = so.kills.steps in
     let these = so.kills.these in
     record {
@@ -306,10 +306,10 @@ subtree_killed t limited root m a b n noted so_a counted usage runs =
         };
       };
       marked = ap (λ (x : KnownMachine). x.killed) counted ∙ so.marked;
-      drained = subst (λ (x : KnownMachine). All (λ (g : ℕ). AreOwnDrained g t.cpus x) (alive_below m root)) (sym counted)
+      drained = subst (λ (x : KnownMachine). All (λ (g : ℕ). AreOwnDrained g t.cpus x) (alive_in_subtree m root)) (sym counted)
           (λ k d lt. so.drained k d lt);
       stocks = subst (λ (x : KnownMachine). OnlyDrains m x) (sym counted) (record { of = so.stocks.of; drained = so.stocks.drained });
-      none_kept = subst (λ (x : KnownMachine). All (λ (g : ℕ). HasNoKeptUnit g x) (alive_below m root)) (sym counted)
+      none_kept = subst (λ (x : KnownMachine). All (λ (g : ℕ). HasNoKeptUnit g x) (alive_in_subtree m root)) (sym counted)
           (λ k d lt. so.none_kept k d lt);
       keeps = only_lets_both t m b n (lets_after_note t m b note so.keeps)
           (only_lets_same t b n (ap (λ (x : KnownMachine). x.ledger.groups) counted) (λ g. let e = usage g in omega (arith, e))
@@ -320,7 +320,7 @@ subtree_killed t limited root m a b n noted so_a counted usage runs =
 
 -- who is killed, by whether a flag applies
 abbrev pub set_if : Bool → KnownMachine → Killed → List ℕ
-set_if flag machine killed = cond flag (alive_below machine killed.killed_root) (killed.victim ∷ [])
+set_if flag machine killed = cond flag (alive_in_subtree machine killed.killed_root) (killed.victim ∷ [])
 
 pub record VictimKilled (t : KnownTable) (limited : ℕ) (killed : Killed) (m n : KnownMachine) : Type 0 where
   pub kills : IsKilledBy t limited killed m n
@@ -368,6 +368,6 @@ alone_killed t limited v m a n may told none one =
 
 -- with one the highest flagged group dies with its subtree
 pub head_killed : (t : KnownTable) (limited v h : ℕ) (m a n : KnownMachine) → NotesVictim limited v m a → IsHighestFlagged a.ledger.groups limited v h
-    → KilledSo t (alive_below a h) (KillsSubtree t limited h) a n → VictimKilled t limited (record { victim = v; killed_root = h }) m n
+    → KilledSo t (alive_in_subtree a h) (KillsSubtree t limited h) a n → VictimKilled t limited (record { victim = v; killed_root = h }) m n
 head_killed t limited v h m a n told high so =
     victim_killed t limited (record { victim = v; killed_root = h }) m a n told (inl high) true (on_path_is a.ledger.groups limited v h high.between).flag so

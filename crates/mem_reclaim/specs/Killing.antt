@@ -24,7 +24,7 @@ use Rattle.mem_machine.specs.Stocks.{DrainsAllIf, IsDrained, of_group, stock_gro
 use Rattle.mem_reclaim.specs.Moves.{Rises, has_kill, kills_in, missed_in, returned_in}
 use Rattle.mem_reclaim.specs.declared.noting.GroupSnapshot.{GroupSnapshot}
 use Rattle.mem_reclaim.specs.declared.sets.Killed.{Killed}
-use Rattle.mem_reclaim.specs.Sets.{IsKilledRoot, alive_below, group_kill_note, kill_set}
+use Rattle.mem_reclaim.specs.Sets.{IsKilledRoot, alive_in_subtree, group_kill_note, kill_set}
 use Rattle.mem_reclaim.specs.Staying.{OnlyLeave}
 use Rattle.mem_reclaim.specs.Victim.{IsNext, own_frames, victim_note}
 
@@ -137,7 +137,7 @@ pub record KillsSubtree (table : KnownTable) (limited killed_root : ℕ) (before
     (after : KnownMachine) : Type 0 where
   pub between : KnownMachine
   pub killing : Run
-  pub kills : KillsGroups table limited (alive_below before killed_root)
+  pub kills : KillsGroups table limited (alive_in_subtree before killed_root)
       (with_note before (group_kill_note before killed_root))
       killing between
   pub counted : after ≡ record between {

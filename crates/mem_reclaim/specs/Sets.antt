@@ -40,17 +40,17 @@ IsKilledRoot groups limited killed =
     ⊎ (HasNoFlagged groups limited killed.victim × (killed.killed_root ≡ killed.victim))
 
 -- the groups of the subtree that aren't killed, by ascending number
-abbrev pub alive_below : KnownMachine → ℕ → List ℕ
-alive_below machine killed_root = filter (may_be_killed machine killed_root) (range_with_len 0 most_groups)
+abbrev pub alive_in_subtree : KnownMachine → ℕ → List ℕ
+alive_in_subtree machine killed_root = filter (may_be_killed machine killed_root) (range_with_len 0 most_groups)
 
 -- which groups are killed, in this order: if the killed root's flag is on, all groups of its subtree that aren't
 -- killed; else the victim alone
 abbrev pub kill_set : KnownMachine → Killed → List ℕ
 kill_set machine killed =
     if is_oom_group machine.ledger.groups killed.killed_root
-    then alive_below machine killed.killed_root
+    then alive_in_subtree machine killed.killed_root
     else killed.victim ∷ []
 
 -- the note before a group is killed as a whole: how many groups of its subtree die
 abbrev pub group_kill_note : KnownMachine → ℕ → Note
-group_kill_note machine killed_root = note.GroupKill killed_root (length (alive_below machine killed_root))
+group_kill_note machine killed_root = note.GroupKill killed_root (length (alive_in_subtree machine killed_root))

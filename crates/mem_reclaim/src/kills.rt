@@ -7,7 +7,7 @@ ghost use Rattle.mem_machine.specs.Machines.{is_killed};
 ghost use Rattle.mem_machine.specs.Ageing.{entries_in};
 ghost use Rattle.mem_machine.specs.Stocks.{AreOwnDrained};
 ghost use Rattle.mem_reclaim.specs.Victim.{IsVictim};
-ghost use Rattle.mem_reclaim.specs.Sets.{alive_below, kill_set};
+ghost use Rattle.mem_reclaim.specs.Sets.{alive_in_subtree, kill_set};
 ghost use Rattle.mem_reclaim.specs.Killing.{HasNoKeptUnit, KeepsStocks, KillsGroupBySteps, KillsGroups};
 ghost use Rattle.mem_reclaim.specs.Killing.{KillsGroupNoted, KillsGroupsBySteps, KillsSubtree, KillsVictim};
 ghost use Rattle.mem_reclaim.specs.Killing.{OnlyDrains, OnlyReleases, ReleasesUnitsBySteps, victim_of, with_all_killed};
@@ -95,13 +95,14 @@ fn kill_below<N: BootName>(
 )
     requires limited { IsTrue (has_group machine.old.ledger.groups limited) }
     requires killed_root { IsTrue (has_group machine.old.ledger.groups killed_root) }
-    ensures kills { KillsGroupsBySteps N.frames (alive_below machine.old killed_root)
-        (KillsGroups N.frames limited (alive_below machine.old killed_root)) machine.old machine.new }
-    ensures marked { machine.new.killed ≡ with_all_killed machine.old.killed (alive_below machine.old killed_root) }
+    ensures kills { KillsGroupsBySteps N.frames (alive_in_subtree machine.old killed_root)
+        (KillsGroups N.frames limited (alive_in_subtree machine.old killed_root)) machine.old machine.new }
+    ensures marked { machine.new.killed ≡ with_all_killed machine.old.killed
+        (alive_in_subtree machine.old killed_root) }
     ensures drained { All (λ group. AreOwnDrained group N.frames.cpus machine.new)
-        (alive_below machine.old killed_root) }
+        (alive_in_subtree machine.old killed_root) }
     ensures stocks { OnlyDrains machine.old machine.new }
-    ensures none_kept { All (λ group. HasNoKeptUnit group machine.new) (alive_below machine.old killed_root) }
+    ensures none_kept { All (λ group. HasNoKeptUnit group machine.new) (alive_in_subtree machine.old killed_root) }
     ensures keeps { OnlyReleases N.frames machine.old machine.new }
 {
     for number in 0..MAX_GROUPS as u32 {
@@ -124,13 +125,14 @@ fn kill_subtree<N: BootName>(
     requires limited { IsTrue (has_group machine.old.ledger.groups limited) }
     requires killed_root { IsTrue (has_group machine.old.ledger.groups killed_root) }
     requires below_root { killed_root ≢ 0 }
-    ensures kills { KillsGroupsBySteps N.frames (alive_below machine.old killed_root)
+    ensures kills { KillsGroupsBySteps N.frames (alive_in_subtree machine.old killed_root)
         (KillsSubtree N.frames limited killed_root) machine.old machine.new }
-    ensures marked { machine.new.killed ≡ with_all_killed machine.old.killed (alive_below machine.old killed_root) }
+    ensures marked { machine.new.killed ≡ with_all_killed machine.old.killed
+        (alive_in_subtree machine.old killed_root) }
     ensures drained { All (λ group. AreOwnDrained group N.frames.cpus machine.new)
-        (alive_below machine.old killed_root) }
+        (alive_in_subtree machine.old killed_root) }
     ensures stocks { OnlyDrains machine.old machine.new }
-    ensures none_kept { All (λ group. HasNoKeptUnit group machine.new) (alive_below machine.old killed_root) }
+    ensures none_kept { All (λ group. HasNoKeptUnit group machine.new) (alive_in_subtree machine.old killed_root) }
     ensures keeps { OnlyReleases N.frames machine.old machine.new }
 {
     note_subtree(machine, killed_root);

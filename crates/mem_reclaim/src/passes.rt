@@ -64,7 +64,7 @@ fn scan_both<N: BootName>(
 }
 
 /// Whether `other` exists and is `group` or a descendant of it.
-pub(crate) fn is_below(charges: &Charges, group: GroupId, other: GroupId) -> bool
+pub(crate) fn is_in_subtree(charges: &Charges, group: GroupId, other: GroupId) -> bool
     requires { IsTrue (has_group charges.now.groups group) }
     ensures { result ≡ in_subtree charges.now.groups group other }
 {
@@ -91,7 +91,7 @@ fn reclaim_group<N: BootName>(
     ensures missed { is_first ≡ false → result < want → in_subtree machine.old.ledger.groups group turn ≡ true
         → MissedOfGroup turn machine.old machine.new }
 {
-    if !is_below(machine.charges(), group, turn) {
+    if !is_in_subtree(machine.charges(), group, turn) {
         return 0;
     }
     if is_first {

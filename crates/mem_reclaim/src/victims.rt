@@ -5,9 +5,9 @@ ghost use Rattle.std.specs.Prelude.{◌≡◌, IsTrue, length};
 ghost use Rattle.group_tree.specs.Groups.{has_group};
 ghost use Rattle.mem_reclaim.specs.Victim.{IsMost, IsNext, IsVictim, candidates, is_candidate, is_excluded};
 ghost use Rattle.mem_reclaim.specs.Victim.{may_be_chosen, may_be_killed};
-ghost use Rattle.mem_reclaim.specs.Sets.{alive_below};
+ghost use Rattle.mem_reclaim.specs.Sets.{alive_in_subtree};
 
-use crate::passes::is_below;
+use crate::passes::is_in_subtree;
 use cpu_part::BootName;
 use group_tree::group::{GroupId, MAX_GROUPS};
 use mem_machine::Machine;
@@ -21,7 +21,7 @@ pub(crate) fn may_be_killed<N: BootName>(
     requires { IsTrue (has_group machine.now.ledger.groups group) }
     ensures { result ≡ may_be_killed machine.now group other }
 {
-    is_below(machine.charges(), group, other) && !machine.is_killed(other)
+    is_in_subtree(machine.charges(), group, other) && !machine.is_killed(other)
 }
 
 // Whether the group is this one, if there is one.
@@ -129,7 +129,7 @@ pub(crate) fn count_candidates<N: BootName>(machine: &Machine<N>, group: GroupId
 /// How many groups of the group's subtree aren't killed.
 pub(crate) fn count_alive<N: BootName>(machine: &Machine<N>, group: GroupId) -> u32
     requires { IsTrue (has_group machine.now.ledger.groups group) }
-    ensures { result ≡ length (alive_below machine.now group) }
+    ensures { result ≡ length (alive_in_subtree machine.now group) }
 {
     let mut count = 0;
     for number in 0..MAX_GROUPS as u32 {

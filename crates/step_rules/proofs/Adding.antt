@@ -7,7 +7,7 @@ use Rattle.step_rules.specs.declared.phase.Phase.TheVariants.{InZone, Lent, Head
 use Rattle.step_rules.specs.declared.step.FramePlace.TheVariants.{Charged}
 use Rattle.step_rules.specs.Phases.{keeper_of}
 use Rattle.step_rules.specs.State.{Zone, State, one_if, sum_to}
-use Rattle.step_rules.specs.Usage.{is_below, frames_kept, stock_below, pages_prepaid, pages_pending}
+use Rattle.step_rules.specs.Usage.{is_in_subtree, frames_kept, stock_in_subtree, pages_prepaid, pages_pending}
 use Rattle.step_rules.specs.After.{state_of}
 use Rattle.step_rules.specs.Places.{places_of, is_same_frame_place, place_in}
 use Rattle.step_rules.specs.Returns.{counted_with_state}
@@ -49,7 +49,7 @@ charged_is (Tail g) h = refl
 
 -- of all groups one at most has the frame
 one_pair : (zone : Zone) (s : State) (g : ℕ) (o : Option ℕ) → IsHomed s → there_or_none s.groups o ≡ true →
-    one_if (is_below s.groups g o) ≡ sum_to 64 (λ h. one_if (in_subtree s.groups g h && is_of o h))
+    one_if (is_in_subtree s.groups g o) ≡ sum_to 64 (λ h. one_if (in_subtree s.groups g h && is_of o h))
 one_pair zone s g None homed there = sym (sum_none 64 (λ h. one_if (in_subtree s.groups g h && false)) (λ h below. no_pair (in_subtree s.groups g h)))
   where
     no_pair : (b : Bool) → one_if (b && false) ≡ 0
@@ -75,7 +75,7 @@ current_follows_the_run zone run legal g =
     let told = (every_frame_has_one_place zone run legal).told in
     let sizes : s.zone ≡ zone = zone_of_run zone run in
     record {
-      kept = sum_same zone.frames (λ f. one_if (is_below s.groups g (keeper_of (s.phases f))))
+      kept = sum_same zone.frames (λ f. one_if (is_in_subtree s.groups g (keeper_of (s.phases f))))
           (λ f. sum_to 64 (λ h. one_if (in_subtree s.groups g h && places_of zone run f (Charged h))))
           (λ f below. one_pair zone s g (keeper_of (s.phases f)) homed (homed.frames f)
           ∙ sum_same 64 (λ h. one_if (in_subtree s.groups g h && is_of (keeper_of (s.phases f)) h))
@@ -84,17 +84,17 @@ current_follows_the_run zone run legal g =
           (sym (told f (Charged h) ∙ ap (λ b. b && is_same_frame_place (Charged h) (place_in (s.phases f))) (lt-ltb f zone.frames below)
           ∙ charged_is (s.phases f) h))));
       prepaid =
-          in_and_out (zone.cpus + 1) (λ p. is_below s.groups g (last_fill run p).group) (λ p. counted (stock_in p) run)
+          in_and_out (zone.cpus + 1) (λ p. is_in_subtree s.groups g (last_fill run p).group) (λ p. counted (stock_in p) run)
           (λ p. (s.parts p).stock.pages) (λ p. counted (stock_out p) run)
           (λ p below. stocks_are_counted zone run legal p)
-          ∙ ap (λ n. n + sum_to (zone.cpus + 1) (λ p. if is_below s.groups g (last_fill run p).group then counted (stock_out p) run else 0))
-          (sum_same (zone.cpus + 1) (λ p. if is_below s.groups g (last_fill run p).group then (s.parts p).stock.pages else 0)
-          (λ p. stock_below s.groups g (s.parts p)) (λ p below. same_stock p));
+          ∙ ap (λ n. n + sum_to (zone.cpus + 1) (λ p. if is_in_subtree s.groups g (last_fill run p).group then counted (stock_out p) run else 0))
+          (sum_same (zone.cpus + 1) (λ p. if is_in_subtree s.groups g (last_fill run p).group then (s.parts p).stock.pages else 0)
+          (λ p. stock_in_subtree s.groups g (s.parts p)) (λ p below. same_stock p));
       pending = in_and_out 64 (in_subtree s.groups g) (λ h. counted_with_state (pending_in h) zone run) s.pending
           (λ h. counted_with_state (pending_out h) zone run) (λ h below. pending_is_counted zone run legal h);
       usage = ap (λ (z : Zone). frames_kept s.groups s.phases z.frames g + pages_prepaid s.groups s.parts z.cpus g + pages_pending s.groups s.pending g) sizes;
     }
   where
-    same_stock : (p : ℕ) → cond (is_below (state_of zone run).groups g (last_fill run p).group) ((state_of zone run).parts p).stock.pages 0
-        ≡ stock_below (state_of zone run).groups g ((state_of zone run).parts p)
-    same_stock p = ap (λ o. cond (is_below (state_of zone run).groups g o) ((state_of zone run).parts p).stock.pages 0) (sym (fill_is_told zone run legal p).0)
+    same_stock : (p : ℕ) → cond (is_in_subtree (state_of zone run).groups g (last_fill run p).group) ((state_of zone run).parts p).stock.pages 0
+        ≡ stock_in_subtree (state_of zone run).groups g ((state_of zone run).parts p)
+    same_stock p = ap (λ o. cond (is_in_subtree (state_of zone run).groups g o) ((state_of zone run).parts p).stock.pages 0) (sym (fill_is_told zone run legal p).0)

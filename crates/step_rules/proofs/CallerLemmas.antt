@@ -7,11 +7,11 @@ use Rattle.group_tree.specs.Groups.{in_subtree}
 use Rattle.step_rules.specs.declared.step.Action.{Action}
 use Rattle.step_rules.specs.declared.step.Answer.{Answer}
 use Rattle.step_rules.specs.State.{State}
-use Rattle.step_rules.specs.Usage.{is_below}
+use Rattle.step_rules.specs.Usage.{is_in_subtree}
 use Rattle.step_rules.specs.Legal.{is_of_group}
 use Rattle.step_rules.specs.After.{after}
 use Rattle.step_rules.specs.Laws.{IsLocalStep}
-use Rattle.step_rules.specs.Events.{note_of, group_noted, noted_at, is_noted_below, is_noted_at}
+use Rattle.step_rules.specs.Events.{note_of, group_noted, noted_at, is_noted_in_subtree, is_noted_at}
 use Rattle.step_rules.specs.Reaches.{Reaches}
 use Rattle.step_rules.proofs.Interleaving.{local_runs_compose}
 
@@ -43,11 +43,11 @@ pub noted_nowhere : (key : EventKey) (action : Action) (answer : Answer) → not
 noted_nowhere key action answer e = ap (group_noted key) e
 
 pub noted_below_so : (kind key : EventKey) (g m : ℕ) (groups : List Group) (action : Action) (answer : Answer) →
-    note_of action answer ≡ Some (kind, g) → is_noted_below key m groups action answer ≡ (is_same_key key kind && in_subtree groups m g)
+    note_of action answer ≡ Some (kind, g) → is_noted_in_subtree key m groups action answer ≡ (is_same_key key kind && in_subtree groups m g)
 noted_below_so kind key g m groups action answer e =
-    ap (is_below groups m) (noted_so kind key g action answer e) ∙ by_key (is_same_key key kind)
+    ap (is_in_subtree groups m) (noted_so kind key g action answer e) ∙ by_key (is_same_key key kind)
   where
-    by_key : (same : Bool) → is_below groups m (cond same (Some g) None) ≡ (same && in_subtree groups m g)
+    by_key : (same : Bool) → is_in_subtree groups m (cond same (Some g) None) ≡ (same && in_subtree groups m g)
     by_key true = refl
     by_key false = refl
 

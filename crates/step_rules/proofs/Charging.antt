@@ -20,12 +20,12 @@ use Rattle.step_rules.specs.declared.step.Answer.{Answer}
 use Rattle.step_rules.specs.declared.step.Answer.TheVariants.{Illegal, Done, Last, Took, Stocked, Pages, Granted, Placed, Number}
 use Rattle.step_rules.specs.Phases.{FreshFrame, keeper_of, unit_of, has_as, is_free, passes_out, at_stage, passed_back, collected, stage_after_last, is_returnable}
 use Rattle.step_rules.specs.State.{Zone, Part, State, at_boot, with_at, sum_to, one_if, is_cpu, is_frame, visits, front_of, with_last}
-use Rattle.step_rules.specs.Usage.{is_below, frames_kept, stock_below, pages_prepaid, pages_pending, usage_of}
+use Rattle.step_rules.specs.Usage.{is_in_subtree, frames_kept, stock_in_subtree, pages_prepaid, pages_pending, usage_of}
 use Rattle.step_rules.specs.Legal.{is_legal, IsAnswer, IsCounted, IsMade, Allows, takes_fill}
 use Rattle.step_rules.specs.After.{Run, IsLegalRun, after, state_of, is_within, unit_size, placed_phase, with_block, without_unit, with_more, with_back, without_frame}
 use Rattle.step_rules.specs.After.{with_report, absorbed, paid, credited, consumed, filled, drained}
 use Rattle.step_rules.specs.Units.{units_of}
-use Rattle.step_rules.specs.Charges.{groups_after, groups_of, charged_in, unit_pages, charged_out, charged_below}
+use Rattle.step_rules.specs.Charges.{groups_after, groups_of, charged_in, unit_pages, charged_out, charged_in_subtree}
 use Rattle.step_rules.proofs.LegalTests.{consume_tests, credit_tests, drain_stock_tests, fill_tests, grant_tests, pass_out_tests}
 use Rattle.step_rules.proofs.LegalTests.{place_block_tests, return_tests, take_in_tests, ungrant_tests}
 use Rattle.step_rules.proofs.Basics.{at_itself}
@@ -115,13 +115,13 @@ module _ (groups : List Group) (m : ℕ) where
       each i = elim (within_cases at size i) [
         | inl within ↦
             let both = here i within.0 in
-            let a : kept_one groups m (phases i) ≡ 0 = ap (λ o. one_if (is_below groups m o)) both.0 in
-            let b : kept_one groups m (later i) ≡ one_if (in_subtree groups m g) = ap (λ o. one_if (is_below groups m o)) both.1 in
+            let a : kept_one groups m (phases i) ≡ 0 = ap (λ o. one_if (is_in_subtree groups m o)) both.0 in
+            let b : kept_one groups m (later i) ≡ one_if (in_subtree groups m g) = ap (λ o. one_if (is_in_subtree groups m o)) both.1 in
             let c : more i ≡ pends_one groups m g 1 = ap (λ t. pends_one groups m g (one_if t)) within.0 in
             let d = as_one (in_subtree groups m g) in
             omega arith
         | inr without ↦
-            let a : kept_one groups m (later i) ≡ kept_one groups m (phases i) = ap (λ o. one_if (is_below groups m o)) (beyond i without.0) in
+            let a : kept_one groups m (later i) ≡ kept_one groups m (phases i) = ap (λ o. one_if (is_in_subtree groups m o)) (beyond i without.0) in
             let c : more i ≡ pends_one groups m g 0 = ap (λ t. pends_one groups m g (one_if t)) without.0 in
             let d = as_none (in_subtree groups m g) in
             omega arith
@@ -195,8 +195,8 @@ any_unit_goes groups m s f sound (AsKilled u was killed) = unit_goes groups m s 
 
 -- a stock is drained
 drain_moves : (groups : List Group) (m : ℕ) (s : State) (p n : ℕ) → IsHomed s → n ≡ (s.parts p).stock.pages → (o : Option ℕ) → (s.parts p).stock.group ≡ o →
-    pages_pending groups (with_more s.pending (s.parts p).stock.group n) m + stock_below groups m (drained (s.parts p) n)
-    ≡ pages_pending groups s.pending m + stock_below groups m (s.parts p)
+    pages_pending groups (with_more s.pending (s.parts p).stock.group n) m + stock_in_subtree groups m (drained (s.parts p) n)
+    ≡ pages_pending groups s.pending m + stock_in_subtree groups m (s.parts p)
 drain_moves groups m s p n h all None e =
     let a : pages_pending groups (with_more s.pending (s.parts p).stock.group n) m ≡ pages_pending groups s.pending m =
     ap (λ x. pages_pending groups (with_more s.pending x n) m) e in
@@ -309,7 +309,7 @@ module _ (groups : List Group) (m : ℕ) where
       let empty = equal_test (s.parts p).stock.pages 0 (and_parts ((s.parts p).stock.pages == 0) _ may).0 in
       let cpu : is_cpu s.zone p ≡ true = h.holder p (or_right _ _ visit) in
       let b = prepaid_moves groups s.parts s.zone.cpus m p (filled (s.parts p) g n) (cpu_low s.zone p cpu) in
-      let none : stock_below groups m (s.parts p) ≡ 0 = no_pages (is_below groups m (s.parts p).stock.group) (s.parts p).stock.pages empty in
+      let none : stock_in_subtree groups m (s.parts p) ≡ 0 = no_pages (is_in_subtree groups m (s.parts p).stock.group) (s.parts p).stock.pages empty in
       let c = pending_moves groups s.pending m g (s.pending g - n) (number_low s.groups g h.tree there) in
       let d = pends_less groups m g (s.pending g) n enough in
       omega arith
@@ -389,7 +389,7 @@ module _ (groups : List Group) (m : ℕ) where
       omega arith
 
 -- the usage of a group is the pages charged to it and to those below it
-pub charged_is_usage : (zone : Zone) (run : Run) → IsLegalRun zone run → (g : ℕ) → charged_below run g ≡ usage_of (state_of zone run) g
+pub charged_is_usage : (zone : Zone) (run : Run) → IsLegalRun zone run → (g : ℕ) → charged_in_subtree run g ≡ usage_of (state_of zone run) g
 charged_is_usage zone run legal g =
     let told = groups_in_run zone run legal in
     let e = counted_so_along (charged_in (in_subtree (groups_of run) g)) (charged_out (in_subtree (groups_of run) g)) (total (groups_of run) g) zone

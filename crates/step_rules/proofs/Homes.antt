@@ -23,7 +23,7 @@ use Rattle.step_rules.specs.declared.step.Answer.{Answer}
 use Rattle.step_rules.specs.declared.step.Answer.TheVariants.{Illegal, Done, Last, Took, Stocked, Pages, Granted, Placed, Number}
 use Rattle.step_rules.specs.Phases.{FreshFrame, keeper_of, has_as, at_stage, passed_back, collected, stage_after_last, unit_of}
 use Rattle.step_rules.specs.State.{Zone, Part, State, with_at, one_if, is_cpu, is_unheld, is_held_by, visits, front_of}
-use Rattle.step_rules.specs.Usage.{is_below, frames_kept, stock_below, pages_prepaid, pages_pending, usage_of}
+use Rattle.step_rules.specs.Usage.{is_in_subtree, frames_kept, stock_in_subtree, pages_prepaid, pages_pending, usage_of}
 use Rattle.step_rules.specs.Legal.{is_legal, IsAnswer, IsCounted, is_removable}
 use Rattle.step_rules.specs.After.{after, is_within, unit_size, with_more, with_back}
 use Rattle.step_rules.specs.Views.{holds_lock}
@@ -126,16 +126,16 @@ module _ {zone : Zone} {hold : Hold} {groups : List Group} {phases : ℕ → Pha
   -- a group that keeps anything has some usage
   kept_frame : (f g : ℕ) → f < zone.frames → keeper_of (phases f) ≡ Some g → has_group groups g ≡ true → 1 ≤ frames_kept groups phases zone.frames g
   kept_frame f g below e there =
-      let a : one_if (is_below groups g (keeper_of (phases f))) ≡ 1 = ap (λ o. one_if (is_below groups g o)) e ∙ ap one_if (in_subtree-refl groups g there) in
-      let b = sum_part zone.frames (λ x. one_if (is_below groups g (keeper_of (phases x)))) f below in
+      let a : one_if (is_in_subtree groups g (keeper_of (phases f))) ≡ 1 = ap (λ o. one_if (is_in_subtree groups g o)) e ∙ ap one_if (in_subtree-refl groups g there) in
+      let b = sum_part zone.frames (λ x. one_if (is_in_subtree groups g (keeper_of (phases x)))) f below in
       omega arith
 
   kept_stock : (q g : ℕ) → q < zone.cpus + 1 → (parts q).stock.group ≡ Some g → has_group groups g ≡ true →
       (parts q).stock.pages ≤ pages_prepaid groups parts zone.cpus g
   kept_stock q g below e there =
-      let a : stock_below groups g (parts q) ≡ (parts q).stock.pages =
-      ap (λ o. cond (is_below groups g o) (parts q).stock.pages 0) e ∙ ap (λ b. cond b (parts q).stock.pages 0) (in_subtree-refl groups g there) in
-      let b = sum_part (zone.cpus + 1) (λ p. stock_below groups g (parts p)) q below in
+      let a : stock_in_subtree groups g (parts q) ≡ (parts q).stock.pages =
+      ap (λ o. cond (is_in_subtree groups g o) (parts q).stock.pages 0) e ∙ ap (λ b. cond b (parts q).stock.pages 0) (in_subtree-refl groups g there) in
+      let b = sum_part (zone.cpus + 1) (λ p. stock_in_subtree groups g (parts p)) q below in
       omega arith
 
   kept_pending : (g : ℕ) → g < 64 → has_group groups g ≡ true → pending g ≤ pages_pending groups pending g

@@ -32,7 +32,7 @@ use Rattle.step_rules.proofs.PhaseLemmas.{fresh_is, free_is, out_is, listed_is}
 use Rattle.step_rules.proofs.Passing.{front_listed, in_zone}
 use Rattle.step_rules.proofs.SoundSteps.{below_frames}
 use Rattle.step_rules.specs.State.{Zone, Part, State, with_at, sum_to, one_if, is_cpu, is_frame, visits, front_of, with_last}
-use Rattle.step_rules.specs.Usage.{is_below, frames_kept, stock_below, pages_prepaid, pages_pending, usage_of}
+use Rattle.step_rules.specs.Usage.{is_in_subtree, frames_kept, stock_in_subtree, pages_prepaid, pages_pending, usage_of}
 use Rattle.step_rules.proofs.Basics.{at_each, at_same, at_other}
 use Rattle.step_rules.proofs.Sums.{sum_same, sum_none, sum_both, sum_change}
 use Rattle.step_rules.proofs.Placing.{within_cases}
@@ -73,7 +73,7 @@ sum_beyond n H h k x past = sum_same n (λ i. H (with_at h k x i)) (λ i. H (h i
 module _ (groups : List Group) (m : ℕ) where
   -- 1 where a frame in this phase is kept in the subtree
   abbrev pub kept_one : Phase → ℕ
-  kept_one x = one_if (is_below groups m (keeper_of x))
+  kept_one x = one_if (is_in_subtree groups m (keeper_of x))
 
   -- pages that are pending for group h count where that is in the subtree
   abbrev pub pends_one : ℕ → ℕ → ℕ
@@ -107,20 +107,20 @@ pub frames_stay : (groups : List Group) (phases : ℕ → Phase) (n m f : ℕ) (
     frames_kept groups (with_at phases f y) n m ≡ frames_kept groups phases n m
 frames_stay groups phases n m f y e =
     sum_same n (λ i. kept_one groups m (with_at phases f y i)) (λ i. kept_one groups m (phases i))
-    (λ i below. at_each phases f y (λ k x. kept_one groups m x ≡ kept_one groups m (phases k)) (ap (λ o. one_if (is_below groups m o)) e) (λ k ne. refl) i)
+    (λ i below. at_each phases f y (λ k x. kept_one groups m x ≡ kept_one groups m (phases k)) (ap (λ o. one_if (is_in_subtree groups m o)) e) (λ k ne. refl) i)
 
 -- a CPU's stock changes
 pub prepaid_moves : (groups : List Group) (parts : ℕ → Part) (cpus m p : ℕ) (part : Part) → p < cpus + 1 →
-    pages_prepaid groups (with_at parts p part) cpus m + stock_below groups m (parts p) ≡ pages_prepaid groups parts cpus m + stock_below groups m part
-prepaid_moves groups parts cpus m p part below = sum_at (cpus + 1) (stock_below groups m) parts p part below
+    pages_prepaid groups (with_at parts p part) cpus m + stock_in_subtree groups m (parts p) ≡ pages_prepaid groups parts cpus m + stock_in_subtree groups m part
+prepaid_moves groups parts cpus m p part below = sum_at (cpus + 1) (stock_in_subtree groups m) parts p part below
 
 -- and is the same
 pub prepaid_stays : (groups : List Group) (parts : ℕ → Part) (cpus m p : ℕ) (part : Part) → part.stock ≡ (parts p).stock →
     pages_prepaid groups (with_at parts p part) cpus m ≡ pages_prepaid groups parts cpus m
 prepaid_stays groups parts cpus m p part e =
-    sum_same (cpus + 1) (λ i. stock_below groups m (with_at parts p part i)) (λ i. stock_below groups m (parts i))
-    (λ i below. at_each parts p part (λ k x. stock_below groups m x ≡ stock_below groups m (parts k))
-    (ap (λ st. if is_below groups m st.group then st.pages else 0) e) (λ k ne. refl) i)
+    sum_same (cpus + 1) (λ i. stock_in_subtree groups m (with_at parts p part i)) (λ i. stock_in_subtree groups m (parts i))
+    (λ i below. at_each parts p part (λ k x. stock_in_subtree groups m x ≡ stock_in_subtree groups m (parts k))
+    (ap (λ st. if is_in_subtree groups m st.group then st.pages else 0) e) (λ k ne. refl) i)
 
 -- the pages pending for one group change
 pub pending_moves : (groups : List Group) (pending : ℕ → ℕ) (m g n : ℕ) → g < 64 →
@@ -221,17 +221,17 @@ usage_falls : (zone : Zone) (hold : Hold) (groups later : List Group) (phases : 
 usage_falls zone hold groups later phases parts pending m homes stays =
     let a = sum_less zone.frames (λ i. kept_one later m (phases i)) (λ i. kept_one groups m (phases i))
     (λ i below. frame (keeper_of (phases i)) (homes.frames i)) in
-    let b = sum_less (zone.cpus + 1) (λ q. stock_below later m (parts q)) (λ q. stock_below groups m (parts q))
+    let b = sum_less (zone.cpus + 1) (λ q. stock_in_subtree later m (parts q)) (λ q. stock_in_subtree groups m (parts q))
     (λ q below. stock (parts q).stock.group (parts q).stock.pages (homes.stocks q)) in
     let c = sum_less 64 (λ h. pends_one later m h (pending h)) (λ h. pends_one groups m h (pending h))
     (λ h below. pages_less (in_subtree later m h) (in_subtree groups m h) (pending h) (pends h)) in
     omega arith
   where
-    frame : (o : Option ℕ) → there_or_none groups o ≡ true → one_if (is_below later m o) ≤ one_if (is_below groups m o)
+    frame : (o : Option ℕ) → there_or_none groups o ≡ true → one_if (is_in_subtree later m o) ≤ one_if (is_in_subtree groups m o)
     frame None e = omega arith
     frame (Some h) e = one_if_less (in_subtree later m h) (in_subtree groups m h) (stays h e)
 
-    stock : (o : Option ℕ) (n : ℕ) → (1 ≤ n → some_there groups o ≡ true) → cond (is_below later m o) n 0 ≤ cond (is_below groups m o) n 0
+    stock : (o : Option ℕ) (n : ℕ) → (1 ≤ n → some_there groups o ≡ true) → cond (is_in_subtree later m o) n 0 ≤ cond (is_in_subtree groups m o) n 0
     stock None n e = omega arith
     stock (Some h) n e = pages_less (in_subtree later m h) (in_subtree groups m h) n (λ is some. stays h (e some) is)
 
@@ -248,9 +248,9 @@ usage_absent s m absent =
       | inl is ↦ absurd (true≢false (sym (in_subtree-above s.groups m h is) ∙ absent))
       | inr not_so ↦ not_so
     ] in
-    let below : (o : Option ℕ) → is_below s.groups m o ≡ false = λ o. elim o as (λ k. is_below s.groups m k ≡ false) [ None ↦ refl | Some h ↦ none h ] in
-    let a = sum_none s.zone.frames (λ f. one_if (is_below s.groups m (keeper_of (s.phases f)))) (λ f here. ap one_if (below (keeper_of (s.phases f)))) in
-    let b = sum_none (s.zone.cpus + 1) (λ p. stock_below s.groups m (s.parts p))
+    let below : (o : Option ℕ) → is_in_subtree s.groups m o ≡ false = λ o. elim o as (λ k. is_in_subtree s.groups m k ≡ false) [ None ↦ refl | Some h ↦ none h ] in
+    let a = sum_none s.zone.frames (λ f. one_if (is_in_subtree s.groups m (keeper_of (s.phases f)))) (λ f here. ap one_if (below (keeper_of (s.phases f)))) in
+    let b = sum_none (s.zone.cpus + 1) (λ p. stock_in_subtree s.groups m (s.parts p))
     (λ p here. ap (λ t. cond t (s.parts p).stock.pages 0) (below (s.parts p).stock.group)) in
     let c = sum_none 64 (λ h. pends_one s.groups m h (s.pending h)) (λ h here. ap (λ t. cond t (s.pending h) 0) (none h)) in
     omega arith
@@ -298,8 +298,8 @@ moves_illegal s seat Lock = λ m. same_least (usage_of s m)
 moves_illegal s seat action = λ m. same_least (usage_of s m)
 
 pub stock_as : (groups : List Group) (m : ℕ) (part : Part) (o : Option ℕ) → part.stock.group ≡ o →
-    stock_below groups m part ≡ cond (is_below groups m o) part.stock.pages 0
-stock_as groups m part o e = ap (λ x. cond (is_below groups m x) part.stock.pages 0) e
+    stock_in_subtree groups m part ≡ cond (is_in_subtree groups m o) part.stock.pages 0
+stock_as groups m part o e = ap (λ x. cond (is_in_subtree groups m x) part.stock.pages 0) e
 
 pub usage_step : (s : State) (seat : ℕ) (action : Action) (answer : Answer) → IsSound s → IsHomed s → is_legal s seat action ≡ true →
     IsAnswer s seat action answer → IsCounted s action answer → UsageMoves s seat action answer
@@ -392,8 +392,8 @@ usage_step s seat (DrainStock p) (Pages n) sound h legal ok counted = λ m.
     omega arith
   where
     to_pending : (m : ℕ) (o : Option ℕ) → (s.parts p).stock.group ≡ o →
-        pages_pending s.groups (with_more s.pending (s.parts p).stock.group n) m + stock_below s.groups m (drained (s.parts p) n)
-        ≤ pages_pending s.groups s.pending m + stock_below s.groups m (s.parts p)
+        pages_pending s.groups (with_more s.pending (s.parts p).stock.group n) m + stock_in_subtree s.groups m (drained (s.parts p) n)
+        ≤ pages_pending s.groups s.pending m + stock_in_subtree s.groups m (s.parts p)
     to_pending m None e =
         let a : pages_pending s.groups (with_more s.pending (s.parts p).stock.group n) m ≡ pages_pending s.groups s.pending m =
         ap (λ x. pages_pending s.groups (with_more s.pending x n) m) e in

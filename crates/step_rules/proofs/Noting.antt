@@ -12,7 +12,7 @@ use Rattle.step_rules.specs.declared.step.Answer.{Answer}
 use Rattle.step_rules.specs.State.{Zone, State, at_boot, one_if}
 use Rattle.step_rules.specs.After.{Run, state_of}
 use Rattle.step_rules.specs.Laws.{pushed}
-use Rattle.step_rules.specs.Events.{is_noted_below, is_noted_at, makes_group, with_passed, passed_since_made, count_after, EventsAreCounted}
+use Rattle.step_rules.specs.Events.{is_noted_in_subtree, is_noted_at, makes_group, with_passed, passed_since_made, count_after, EventsAreCounted}
 use Rattle.step_rules.proofs.Runs.{next}
 
 abbrev Test : Type 0
@@ -43,7 +43,7 @@ pub events_are_counted : EventsAreCounted
 events_are_counted = record {
   boot = λ zone key g. (omega arith, omega arith);
   step = λ zone run step answer key g. record {
-    below = passed_more (is_noted_below key g) g zone run step answer;
+    below = passed_more (is_noted_in_subtree key g) g zone run step answer;
     local = passed_more (is_noted_at key g) g zone run step answer;
   };
 }

@@ -13,7 +13,7 @@ use Rattle.step_rules.specs.declared.step.Action.TheVariants.{Lock, Grant, SetMa
 use Rattle.step_rules.specs.declared.step.Answer.{Answer}
 use Rattle.step_rules.specs.declared.step.Answer.TheVariants.{Illegal, Done, Granted, Number}
 use Rattle.step_rules.specs.State.{Zone, State, at_boot, no_part}
-use Rattle.step_rules.specs.Usage.{stock_below, usage_of}
+use Rattle.step_rules.specs.Usage.{stock_in_subtree, usage_of}
 use Rattle.step_rules.proofs.Sums.{sum_none}
 use Rattle.step_rules.specs.Legal.{IsAnswer, Allows}
 use Rattle.step_rules.specs.After.{Run, after, state_of}
@@ -213,7 +213,7 @@ peak_boot zone = record {
     usage_boot : usage_of (at_boot zone) 0 ≡ 0
     usage_boot =
         let a = sum_none zone.frames (λ f. 0) (λ f below. refl) in
-        let b = sum_none (zone.cpus + 1) (λ p. stock_below (at_boot zone).groups 0 no_part) (λ p below. refl) in
+        let b = sum_none (zone.cpus + 1) (λ p. stock_in_subtree (at_boot zone).groups 0 no_part) (λ p below. refl) in
         let c = sum_none 64 (λ h. cond (in_subtree (at_boot zone).groups 0 h) 0 0) (λ h below. none_if (in_subtree (at_boot zone).groups 0 h)) in
         omega arith
 

@@ -25,17 +25,17 @@ use Rattle.step_rules.specs.declared.step.Answer.TheVariants.{Done, Held, Last, 
 use Rattle.step_rules.specs.Phases.{FreshFrame, is_free, is_live, has_as, unit_of, keeper_of, is_head_in_hand, is_returnable}
 use Rattle.step_rules.specs.State.{Zone, Stock, State, one_if, sum_to, front_of, is_cpu, free_in, live_references}
 use Rattle.group_tree.specs.Room.{fits_limit}
-use Rattle.step_rules.specs.Usage.{is_below, usage_of, frames_kept, stock_below, pages_prepaid}
+use Rattle.step_rules.specs.Usage.{is_in_subtree, usage_of, frames_kept, stock_in_subtree, pages_prepaid}
 use Rattle.step_rules.specs.Legal.{is_legal, Allows}
 use Rattle.step_rules.specs.After.{Run, state_of, IsLegalRun}
 use Rattle.step_rules.specs.Folds.{limit_given, was_killed, InHand}
 use Rattle.step_rules.specs.Units.{units_of}
 use Rattle.step_rules.specs.Places.{is_same_frame_place, place_in}
 use Rattle.step_rules.specs.Returns.{phase_awaits_return, is_killed_return_phase, times_in, IsAllPlaced, ReturnsOnce}
-use Rattle.step_rules.specs.Charges.{charged_below}
+use Rattle.step_rules.specs.Charges.{charged_in_subtree}
 use Rattle.step_rules.specs.Keepers.{StockIsKept}
 use Rattle.step_rules.specs.Lent.{lent_to}
-use Rattle.step_rules.specs.Promise.{Shown, IsShown, Has, HasOnce, IsInUnit, IsInOnePlace, IsPrepaid, kept_below, prepaid_below, KeepsLimits}
+use Rattle.step_rules.specs.Promise.{Shown, IsShown, Has, HasOnce, IsInUnit, IsInOnePlace, IsPrepaid, kept_in_subtree, prepaid_in_subtree, KeepsLimits}
 use Rattle.step_rules.specs.Promise.{HasNoReference, IsUnused, ReturnsNoFrameTwice, ThePromiseIsKept}
 use Rattle.step_rules.proofs.LegalTests.{consume_tests, credit_tests, grant_tests, return_tests, unfreeze_tests}
 use Rattle.step_rules.proofs.Lists.{one_if_true}
@@ -229,28 +229,28 @@ module _ (zone : Zone) (run : Run) (legal : IsLegalRun zone run) (shown : Shown)
       by_group (Some g) e =
           (g, ap (λ (x : Stock). x.group) (is.stocks p) ∙ e, ap (λ (gs : List Group). has_group gs g) is.groups ∙ kept.stock g e pages)
 
-  kept_shown : (g : ℕ) → frames_kept s.groups s.phases s.zone.frames g ≡ kept_below shown s.zone.frames g
-  kept_shown g = λ i. sum_to s.zone.frames (λ f. one_if (is_below (sym is.groups i) g (sym (is.keeper f) i)))
+  kept_shown : (g : ℕ) → frames_kept s.groups s.phases s.zone.frames g ≡ kept_in_subtree shown s.zone.frames g
+  kept_shown g = λ i. sum_to s.zone.frames (λ f. one_if (is_in_subtree (sym is.groups i) g (sym (is.keeper f) i)))
 
   -- nobody's stock, that of number 0, has no page
-  prepaid_shown : (g : ℕ) → pages_prepaid s.groups s.parts s.zone.cpus g ≡ prepaid_below shown s.zone.cpus g
+  prepaid_shown : (g : ℕ) → pages_prepaid s.groups s.parts s.zone.cpus g ≡ prepaid_in_subtree shown s.zone.cpus g
   prepaid_shown g =
-      let first = sum_front s.zone.cpus (λ p. stock_below s.groups g (s.parts p)) in
-      let none : stock_below s.groups g (s.parts 0) ≡ 0 =
-      no_pages (is_below s.groups g (s.parts 0).stock.group) (s.parts 0).stock.pages (((keepers_are_there zone run legal).parts 0).no_cpu refl) in
+      let first = sum_front s.zone.cpus (λ p. stock_in_subtree s.groups g (s.parts p)) in
+      let none : stock_in_subtree s.groups g (s.parts 0) ≡ 0 =
+      no_pages (is_in_subtree s.groups g (s.parts 0).stock.group) (s.parts 0).stock.pages (((keepers_are_there zone run legal).parts 0).no_cpu refl) in
       let size : s.zone.cpus + 1 ≡ suc s.zone.cpus = omega arith in
-      let all : pages_prepaid s.groups s.parts s.zone.cpus g ≡ sum_to (suc s.zone.cpus) (λ p. stock_below s.groups g (s.parts p)) =
-      ap (λ n. sum_to n (λ p. stock_below s.groups g (s.parts p))) size in
-      let rest : pages_prepaid s.groups s.parts s.zone.cpus g ≡ sum_to s.zone.cpus (λ p. stock_below s.groups g (s.parts (p + 1))) = omega arith in
+      let all : pages_prepaid s.groups s.parts s.zone.cpus g ≡ sum_to (suc s.zone.cpus) (λ p. stock_in_subtree s.groups g (s.parts p)) =
+      ap (λ n. sum_to n (λ p. stock_in_subtree s.groups g (s.parts p))) size in
+      let rest : pages_prepaid s.groups s.parts s.zone.cpus g ≡ sum_to s.zone.cpus (λ p. stock_in_subtree s.groups g (s.parts (p + 1))) = omega arith in
       rest ∙ (λ i. sum_to s.zone.cpus (λ p.
-      if is_below (sym is.groups i) g (sym (is.stocks (p + 1)) i).group then (sym (is.stocks (p + 1)) i).pages else 0))
+      if is_in_subtree (sym is.groups i) g (sym (is.stocks (p + 1)) i).group then (sym (is.stocks (p + 1)) i).pages else 0))
     where
       no_pages : (b : Bool) (n : ℕ) → n ≡ 0 → cond b n 0 ≡ 0
       no_pages true n e = e
       no_pages false n e = refl
 
   current_shown : (g : ℕ) → has_group shown.groups g ≡ true →
-      (shown.current g ≡ kept_below shown s.zone.frames g + prepaid_below shown s.zone.cpus g) × (shown.current g ≡ charged_below run g)
+      (shown.current g ≡ kept_in_subtree shown s.zone.frames g + prepaid_in_subtree shown s.zone.cpus g) × (shown.current g ≡ charged_in_subtree run g)
   current_shown g here =
       let told = is.current g (ap (λ (gs : List Group). has_group gs g) (sym is.groups) ∙ here) in
       (told ∙ placed.usage g ∙ (λ i. kept_shown g i + prepaid_shown g i), told ∙ sym (charged_is_usage zone run legal g))
@@ -357,7 +357,7 @@ the_promise_is_kept zone run shown legal free is =
       stocks = is_prepaid zone run legal shown is placed;
       current = λ g here.
           let both = current_shown zone run legal shown is placed g here in
-          (both.0 ∙ (λ i. kept_below shown (zone_is i).frames g + prepaid_below shown (zone_is i).cpus g), both.1);
+          (both.0 ∙ (λ i. kept_in_subtree shown (zone_is i).frames g + prepaid_in_subtree shown (zone_is i).cpus g), both.1);
       limits = λ k. if_each (λ e. Allows (state_of zone (take k run)) e.0.seat e.0.action e.1)
           (λ e. KeepsLimits (take k run) e.0.action e.1) (slice_get run k)
           (λ e ok. limits_kept zone (take k run) (legal_from zone run k legal) e.0.seat e.0.action e.1 ok) (legal k);

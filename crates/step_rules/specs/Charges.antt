@@ -41,7 +41,7 @@ charged_out test run seat (Return f) Done = unit_pages test ((units_of run).unit
 charged_out test run seat action answer = 0
 
 -- the pages charged to the group and those below it
-abbrev pub charged_below : Run → ℕ → ℕ
-charged_below run g =
+abbrev pub charged_in_subtree : Run → ℕ → ℕ
+charged_in_subtree run g =
     counted_with_run (charged_in (in_subtree (groups_of run) g)) run
     - counted_with_run (charged_out (in_subtree (groups_of run) g)) run

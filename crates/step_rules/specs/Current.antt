@@ -5,7 +5,7 @@ use Rattle.group_tree.specs.Bounds.{most_groups}
 use Rattle.group_tree.specs.Groups.{in_subtree}
 use Rattle.step_rules.specs.declared.step.FramePlace.TheVariants.{Charged}
 use Rattle.step_rules.specs.State.{Zone, one_if, sum_to}
-use Rattle.step_rules.specs.Usage.{is_below, frames_kept, pages_prepaid, pages_pending, usage_of}
+use Rattle.step_rules.specs.Usage.{is_in_subtree, frames_kept, pages_prepaid, pages_pending, usage_of}
 use Rattle.step_rules.specs.After.{Run, state_of, IsLegalRun}
 use Rattle.step_rules.specs.Places.{places_of}
 use Rattle.step_rules.specs.Returns.{counted_with_state}
@@ -22,7 +22,7 @@ frames_placed zone run g = sum_to zone.frames
 -- a number for each CPU, summed over those whose last fill was for a group of g's subtree
 abbrev pub over_stocks : Zone → Run → ℕ → (ℕ → ℕ) → ℕ
 over_stocks zone run g of = sum_to (zone.cpus + 1)
-    (λ cpu. if is_below (state_of zone run).groups g (last_fill run cpu).group then of cpu else 0)
+    (λ cpu. if is_in_subtree (state_of zone run).groups g (last_fill run cpu).group then of cpu else 0)
 
 -- a number for each group, summed over g's subtree
 abbrev pub over_groups : Zone → Run → ℕ → (ℕ → ℕ) → ℕ

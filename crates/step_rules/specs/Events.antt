@@ -11,7 +11,7 @@ use Rattle.step_rules.specs.declared.step.Action.TheVariants as action
 use Rattle.step_rules.specs.declared.step.Answer.{Answer}
 use Rattle.step_rules.specs.declared.step.Answer.TheVariants.{Done, Number}
 use Rattle.step_rules.specs.State.{Zone, State, at_boot, one_if}
-use Rattle.step_rules.specs.Usage.{is_below}
+use Rattle.step_rules.specs.Usage.{is_in_subtree}
 use Rattle.step_rules.specs.Legal.{is_of_group}
 use Rattle.step_rules.specs.After.{Run, after, state_of}
 use Rattle.step_rules.specs.Laws.{pushed}
@@ -34,8 +34,8 @@ abbrev pub noted_at : EventKey → Action → Answer → Option ℕ
 noted_at key step answer = group_noted key (note_of step answer)
 
 -- a step notes an event of this kind at a group of g's subtree
-abbrev pub is_noted_below : EventKey → ℕ → List Group → Action → Answer → Bool
-is_noted_below key g groups step answer = is_below groups g (noted_at key step answer)
+abbrev pub is_noted_in_subtree : EventKey → ℕ → List Group → Action → Answer → Bool
+is_noted_in_subtree key g groups step answer = is_in_subtree groups g (noted_at key step answer)
 
 -- a step notes an event of this kind at g itself
 abbrev pub is_noted_at : EventKey → ℕ → List Group → Action → Answer → Bool
@@ -61,7 +61,7 @@ passed_since_made test g zone run = (fold (with_passed test g) (at_boot zone, 0)
 -- memory.events: how many events of this kind were noted at the group and its descendants since it was made; a count
 -- stays at 2^64 - 1
 abbrev pub events_of : EventKey → Zone → Run → ℕ → ℕ
-events_of key zone run g = min (passed_since_made (is_noted_below key g) g zone run) max_count
+events_of key zone run g = min (passed_since_made (is_noted_in_subtree key g) g zone run) max_count
 
 -- memory.events.local: how many events of this kind were noted at the group itself since it was made
 abbrev pub events_local_of : EventKey → Zone → Run → ℕ → ℕ
@@ -76,7 +76,7 @@ count_after test g groups step answer count =
 pub record EventsFollow (zone : Zone) (run : Run) (step : Step) (answer : Answer) (key : EventKey)
     (g : ℕ) : Type 0 where
   pub below : events_of key zone (pushed run step answer) g
-      ≡ count_after (is_noted_below key g) g (state_of zone run).groups step.action answer
+      ≡ count_after (is_noted_in_subtree key g) g (state_of zone run).groups step.action answer
       (events_of key zone run g)
   pub local : events_local_of key zone (pushed run step answer) g
       ≡ count_after (is_noted_at key g) g (state_of zone run).groups step.action answer (events_local_of key zone run g)

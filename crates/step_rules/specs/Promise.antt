@@ -21,13 +21,13 @@ use Rattle.step_rules.specs.declared.step.Answer.TheVariants.{Done, Held, Last, 
 use Rattle.step_rules.specs.Phases.{keeper_of}
 use Rattle.step_rules.specs.State.{Zone, Stock, State, one_if, sum_to, front_of, is_cpu, is_unheld, free_in}
 use Rattle.group_tree.specs.Room.{fits_limit}
-use Rattle.step_rules.specs.Usage.{is_below, usage_of}
+use Rattle.step_rules.specs.Usage.{is_in_subtree, usage_of}
 use Rattle.step_rules.specs.After.{Run, state_of, IsLegalRun}
 use Rattle.step_rules.specs.Folds.{limit_given, was_killed}
 use Rattle.step_rules.specs.Units.{units_of}
 use Rattle.step_rules.specs.Counts.{references_in, references_out, counted}
 use Rattle.step_rules.specs.Returns.{awaits_return, is_killed_return, times_in}
-use Rattle.step_rules.specs.Charges.{groups_of, charged_below}
+use Rattle.step_rules.specs.Charges.{groups_of, charged_in_subtree}
 
 -- ---- what is shown
 -- What is shown: the free areas; each CPU's list and stock; for each frame the group that keeps it, if any; the groups;
@@ -83,13 +83,13 @@ IsPrepaid zone shown cpu = (is_cpu zone cpu ≡ true)
     × ((g : ℕ) × ((shown.stocks cpu).group ≡ Some g) × (has_group shown.groups g ≡ true))
 
 -- how many of the first n frames the group and its descendants keep
-abbrev pub kept_below : Shown → ℕ → ℕ → ℕ
-kept_below shown frames g = sum_to frames (λ f. one_if (is_below shown.groups g (shown.keeper f)))
+abbrev pub kept_in_subtree : Shown → ℕ → ℕ → ℕ
+kept_in_subtree shown frames g = sum_to frames (λ f. one_if (is_in_subtree shown.groups g (shown.keeper f)))
 
 -- the pages prepaid for them in the stocks of the CPUs, which have the numbers from 1 on
-abbrev pub prepaid_below : Shown → ℕ → ℕ → ℕ
-prepaid_below shown cpus g =
-    sum_to cpus (λ cpu. if is_below shown.groups g (shown.stocks (cpu + 1)).group
+abbrev pub prepaid_in_subtree : Shown → ℕ → ℕ → ℕ
+prepaid_in_subtree shown cpus g =
+    sum_to cpus (λ cpu. if is_in_subtree shown.groups g (shown.stocks (cpu + 1)).group
     then (shown.stocks (cpu + 1)).pages else 0)
 
 -- ---- no grant passed a limit
@@ -98,7 +98,7 @@ prepaid_below shown cpus g =
 abbrev pub KeepsLimits : Run → Action → Answer → Type 0
 KeepsLimits run (Grant g n) Granted = (was_killed run g ≡ false)
     × ((m : ℕ) → in_subtree (groups_of run) m g ≡ true
-    → fits_limit (limit_given run m) (charged_below run m + n) ≡ true)
+    → fits_limit (limit_given run m) (charged_in_subtree run m + n) ≡ true)
 KeepsLimits run action answer = Unit {0}
 
 -- ---- no frame is returned twice for one use
@@ -122,7 +122,8 @@ ReturnsNoFrameTwice run seat (Freeze f n) Done = awaits_return run f ≡ false
 ReturnsNoFrameTwice run seat (Unfreeze f n) Done = (is_some ((units_of run).unit f) ≡ true) × HasNoReference run f
 ReturnsNoFrameTwice run seat (Return f) Done = ((awaits_return run f ≡ true) ⊎ (is_killed_return run f ≡ true))
     × (is_some ((units_of run).unit f) ≡ true) × HasNoReference run f
-ReturnsNoFrameTwice run seat (Credit f) Stocked = (times_in f ((units_of run).hands seat).fresh ≡ 1) × HasNoReference run f
+ReturnsNoFrameTwice run seat (Credit f) Stocked = (times_in f ((units_of run).hands seat).fresh ≡ 1)
+    × HasNoReference run f
 ReturnsNoFrameTwice run seat (Consume g) Took =
     (1 ≤ length ((units_of run).hands seat).list) × IsUnused run (front_of ((units_of run).hands seat).list)
 ReturnsNoFrameTwice run seat (PlaceBlock g k) (Placed b) = (b.order ≡ k) × ((f : ℕ) → Covers b f → IsUnused run f)
@@ -141,8 +142,8 @@ pub record Promise (zone : Zone) (run : Run) (shown : Shown) : Type 0 where
   pub beyond : (f : ℕ) → zone.frames ≤ f → (p : FramePlace) → ¬ Has shown f p
   pub stocks : (cpu : ℕ) → 1 ≤ (shown.stocks cpu).pages → IsPrepaid zone shown cpu
   pub current : (g : ℕ) → has_group shown.groups g ≡ true
-      → (shown.current g ≡ kept_below shown zone.frames g + prepaid_below shown zone.cpus g)
-      × (shown.current g ≡ charged_below run g)
+      → (shown.current g ≡ kept_in_subtree shown zone.frames g + prepaid_in_subtree shown zone.cpus g)
+      × (shown.current g ≡ charged_in_subtree run g)
   pub limits : (k : ℕ) → IfSome (slice_get run k) (λ e. KeepsLimits (take k run) e.0.action e.1)
   pub returns : (k : ℕ) → IfSome (slice_get run k) (λ e. ReturnsNoFrameTwice (take k run) e.0.seat e.0.action e.1)
 

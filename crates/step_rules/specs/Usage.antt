@@ -8,21 +8,21 @@ use Rattle.step_rules.specs.Phases.{keeper_of}
 use Rattle.step_rules.specs.State.{State, Part, one_if, sum_to}
 
 -- there is a group, and it is in the subtree
-abbrev pub is_below : List Group → ℕ → Option ℕ → Bool
-is_below groups g None = false
-is_below groups g (Some h) = in_subtree groups g h
+abbrev pub is_in_subtree : List Group → ℕ → Option ℕ → Bool
+is_in_subtree groups g None = false
+is_in_subtree groups g (Some h) = in_subtree groups g h
 
 -- how many of the first n frames the group's subtree keeps
 abbrev pub frames_kept : List Group → (ℕ → Phase) → ℕ → ℕ → ℕ
-frames_kept groups phases n g = sum_to n (λ f. one_if (is_below groups g (keeper_of (phases f))))
+frames_kept groups phases n g = sum_to n (λ f. one_if (is_in_subtree groups g (keeper_of (phases f))))
 
 -- the pages of a CPU's stock, if the stock is of a group of the subtree
-abbrev pub stock_below : List Group → ℕ → Part → ℕ
-stock_below groups g part = if is_below groups g part.stock.group then part.stock.pages else 0
+abbrev pub stock_in_subtree : List Group → ℕ → Part → ℕ
+stock_in_subtree groups g part = if is_in_subtree groups g part.stock.group then part.stock.pages else 0
 
 -- the pages in the stocks of the subtree's groups
 abbrev pub pages_prepaid : List Group → (ℕ → Part) → ℕ → ℕ → ℕ
-pages_prepaid groups parts cpus g = sum_to (cpus + 1) (λ cpu. stock_below groups g (parts cpu))
+pages_prepaid groups parts cpus g = sum_to (cpus + 1) (λ cpu. stock_in_subtree groups g (parts cpu))
 
 -- the pages that are pending for the subtree's groups
 abbrev pub pages_pending : List Group → (ℕ → ℕ) → ℕ → ℕ

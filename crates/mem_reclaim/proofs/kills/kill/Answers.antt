@@ -3,7 +3,7 @@ use Rattle.group_tree.specs.declared.group.Group.{Group}
 use Rattle.group_tree.specs.Groups.{has_group}
 use Rattle.group_charge.specs.Charges.{Ledger}
 use Rattle.mem_machine.specs.Machines.{KnownMachine}
-use Rattle.mem_reclaim.specs.Sets.{HasNoFlagged, IsHighestFlagged, alive_below}
+use Rattle.mem_reclaim.specs.Sets.{HasNoFlagged, IsHighestFlagged, alive_in_subtree}
 use Rattle.mem_reclaim.specs.Killing.{KillsSubtree}
 use Rattle.mem_reclaim.proofs.Choosing.{chosen_there}
 use Rattle.mem_reclaim.proofs.KilledRoots.{on_path_there}
@@ -29,7 +29,7 @@ returns-in-Some g c =
     let v = c.in_ok-victim.victim in
     let h = c.in-Some.killed_root in
     let e = c.kill_subtree.ensures in
-    let so : KilledSo t (alive_below a h) (KillsSubtree t c.args.group h) a n =
+    let so : KilledSo t (alive_in_subtree a h) (KillsSubtree t c.args.group h) a n =
     record { kills = e.kills; marked = e.marked; drained = e.drained; stocks = e.stocks; none_kept = e.none_kept; keeps = e.keeps } in
     let groups : c.tree-tree.result.now ≡ a.ledger.groups = c.tree-tree.ensures.tree ∙ ap (λ (l : Ledger). l.groups) c.charges.ensures in
     let high = subst (λ (l : List Group). IsHighestFlagged l c.args.group v h) groups c.in-Some.ensures.highest in

@@ -1,5 +1,5 @@
 use Rattle.mem_reclaim.specs.Killing.{KillsGroups}
-use Rattle.mem_reclaim.specs.Sets.{alive_below}
+use Rattle.mem_reclaim.specs.Sets.{alive_in_subtree}
 use Rattle.mem_reclaim.proofs.KillSets.{KilledSo, subtree_killed}
 use Rattle.mem_reclaim.proofs.kills.kill_subtree.Goals as goal
 
@@ -7,8 +7,8 @@ pub returns : goal.returns
 returns g c =
     let t = g.N.BootName.frames in
     let e = c.kill_below.ensures in
-    let below : KilledSo t (alive_below c.note_subtree.new.machine c.args.killed_root) (KillsGroups t c.args.limited
-    (alive_below c.note_subtree.new.machine c.args.killed_root))
+    let below : KilledSo t (alive_in_subtree c.note_subtree.new.machine c.args.killed_root)
+    (KillsGroups t c.args.limited (alive_in_subtree c.note_subtree.new.machine c.args.killed_root))
     c.note_subtree.new.machine c.kill_below.new.machine =
     record { kills = e.kills; marked = e.marked; drained = e.drained; stocks = e.stocks; none_kept = e.none_kept; keeps = e.keeps } in
     let so = subtree_killed t c.args.limited c.args.killed_root c.args.machine.now c.note_subtree.new.machine c.kill_below.new.machine

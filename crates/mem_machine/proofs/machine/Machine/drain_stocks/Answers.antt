@@ -5,9 +5,9 @@ use Rattle.mem_machine.proofs.machine.Machine.drain_stocks.Goals as goal
 
 pub loop-cpu_index-preserved : goal.loop-cpu_index-preserved
 loop-cpu_index-preserved g c =
-    let few = c.drain_if_below.type_inv in
-    subst (λ (n : ℕ). DrainedSoFar g.N.BootName.frames (of_subtree c.args.group) (c.loop-cpu_index.cpu_index + 1) (c.loop-cpu_index.pages + n) c.args.self.now c.drain_if_below.new.self)
-    (sym c.from-pages.ensures) (drained_more _ _ _ _ _ _ _ _ c.loop-cpu_index.invariant c.drain_if_below.ensures (omega (arith, few)))
+    let few = c.drain_if_in_subtree.type_inv in
+    subst (λ (n : ℕ). DrainedSoFar g.N.BootName.frames (of_subtree c.args.group) (c.loop-cpu_index.cpu_index + 1) (c.loop-cpu_index.pages + n) c.args.self.now c.drain_if_in_subtree.new.self)
+    (sym c.from-pages.ensures) (drained_more _ _ _ _ _ _ _ _ c.loop-cpu_index.invariant c.drain_if_in_subtree.ensures (omega (arith, few)))
 
 pub returns-clause-drains : goal.returns-clause-drains
 returns-clause-drains g c =

@@ -2,7 +2,7 @@ use Rattle.std.proofs.Common.{◌∙◌, sym, refl}
 use Rattle.mem_machine.specs.Stocks.{of_subtree}
 use Rattle.mem_machine.proofs.Draining.{never_drained}
 use Rattle.mem_machine.proofs.DrainingAll.{looked_own, looked_other, looked_never}
-use Rattle.mem_machine.proofs.machine.Machine.drain_if_below.Goals as goal
+use Rattle.mem_machine.proofs.machine.Machine.drain_if_in_subtree.Goals as goal
 
 pub invariant_of-self : goal.invariant_of-self
 invariant_of-self g c = record {
@@ -17,9 +17,9 @@ returns-in-None g c = looked_never g.N.BootName.frames _ _ c.self.view_is (of_su
 pub returns-in-Some : goal.returns-in-Some
 returns-in-Some g c =
     looked_own g.N.BootName.frames _ _ c.self.view_is _ c.in-Some.ensures.seat (of_subtree c.args.group) c.args.cpu c.in-Some.owner c.drain_noted.result _
-    c.in-Some.ensures.group (sym c.is_below.ensures ∙ c.if-is_below.true) c.drain_noted.ensures.drains c.drain_noted.ensures.steps
+    c.in-Some.ensures.group (sym c.is_in_subtree.ensures ∙ c.if-is_in_subtree.true) c.drain_noted.ensures.drains c.drain_noted.ensures.steps
 
 pub returns-in-Some-2 : goal.returns-in-Some-2
 returns-in-Some-2 g c =
     looked_other g.N.BootName.frames _ _ c.self.view_is (of_subtree c.args.group) c.args.cpu c.in-Some.owner c.in-Some.ensures.group
-    (sym c.is_below.ensures ∙ c.if-is_below.false) _ c.in-Some.ensures.seat
+    (sym c.is_in_subtree.ensures ∙ c.if-is_in_subtree.false) _ c.in-Some.ensures.seat

@@ -2,7 +2,7 @@ use Rattle.std.proofs.Common.{List, sym, ap, ◌∙◌}
 use Rattle.group_tree.specs.declared.group.Group.{Group}
 use Rattle.group_tree.specs.Groups.{has_group}
 use Rattle.mem_machine.proofs.DrainingAll.{below_none}
-use Rattle.mem_reclaim.proofs.passes.is_below.Goals as goal
+use Rattle.mem_reclaim.proofs.passes.is_in_subtree.Goals as goal
 
 pub returns-else-contains : goal.returns-else-contains
 returns-else-contains c =
