@@ -30,7 +30,7 @@ fn holds_page<N: BootName>(
     ensures cpu { cpu.new ≡ cpu.old }
 {
     let number = group.number();
-    match machine.own_stock(tables, cpu) {
+    match machine.look_at_stock(tables, cpu) {
         Stock::HeldBy { group: own, pages } => own == number && pages > 0,
         _ => false,
     }

@@ -1,4 +1,4 @@
--- What the own stock holds, the room for more pages, and the front of a list that is paid for. Serves `own_stock`,
+-- What the own stock holds, the room for more pages, and the front of a list that is paid for. Serves `look_at_stock`,
 -- `prove_room` and `take_front`.
 use Rattle.std.proofs.Common.{◌≡◌, ℕ, ◌+◌, ◌-◌, ◌*◌, ◌<◌, ◌≤◌, ◌==◌, Bool, true, false, List, [], ◌∷◌, ◌++◌, length, zero, suc}
 use Rattle.std.proofs.Common.{refl, sym, ap, ◌∙◌, subst, inl, inr, arith, cond, length-append}

@@ -3,6 +3,7 @@
 ghost use Rattle.std.specs.Prelude.{◌≡◌, ℕ, ◌<◌, ◌≤◌, [], length};
 ghost use Rattle.mem_machine.specs.Machines.{Visits};
 ghost use Rattle.mem_machine.specs.Paying.{HasRoomFor, HoldsPage, IsOfSize, IsOwnStock, PaysForFront};
+ghost use Rattle.mem_machine.specs.Showing.{stock_now};
 ghost use Rattle.mem_machine.specs.Stocks.{with_look};
 ghost use Rattle.mem_machine.specs.Local.{Makes, visit_state};
 ghost use Rattle.mem_machine.specs.Steps.{take_front_steps};
@@ -14,10 +15,12 @@ use group_tree::group::GroupId;
 use stock_word::Stock;
 
 impl<N: BootName> Machine<N> {
-    /// The CPU's own stock: its group, its pages, and whether it was drained. This is one look, which the zone's seat
-    /// counts as a step.
-    pub fn own_stock(&mut self, tables: &Tables<N>, cpu: &mut Cpu<N>) -> Stock
+    /// The stock of any CPU of the boot as it is now: its group, its pages, and whether it was drained. Another CPU's
+    /// visit may have drained it since the CPU itself last saw it. This is one look, which the zone's seat counts as a
+    /// step.
+    pub fn look_at_stock(&mut self, tables: &Tables<N>, cpu: &mut Cpu<N>) -> Stock
         ensures stock { IsOwnStock (visit_state self.old cpu.old) result }
+        ensures now { result ≡ stock_now (visit_state self.old cpu.old) }
         ensures machine { self.new ≡ with_look self.old }
         ensures cpu { cpu.new ≡ cpu.old }
     {

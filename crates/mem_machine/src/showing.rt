@@ -1,19 +1,17 @@
-//! What the machine shows of a group's kept units and of a CPU's stock.
+//! What the machine shows of a group's kept units.
 
 ghost use Rattle.std.specs.Prelude.{◌≡◌, ◌<◌, []};
 ghost use Rattle.frame_word.specs.ReferenceRule.{most_references};
 ghost use Rattle.mem_machine.specs.Machines.{HeadsKeptUnit, StaysVisited};
-ghost use Rattle.mem_machine.specs.Stocks.{with_look};
-ghost use Rattle.mem_machine.specs.Showing.{entries_in, stock_now, with_look_at};
-ghost use Rattle.mem_machine.specs.Local.{MakesForAny, visit_state};
+ghost use Rattle.mem_machine.specs.Showing.{entries_in, with_look_at};
+ghost use Rattle.mem_machine.specs.Local.{MakesForAny};
 
 use crate::machine::Machine;
-use cpu_part::{BootName, Cpu, Tables};
+use cpu_part::{BootName, Tables};
 use frame_word::Frame;
 use group_tree::group::GroupId;
 use lru_lists::record::LruList;
 use lru_lists::walk::Walk;
-use stock_word::Stock;
 
 impl<N: BootName> Machine<N> {
     /// The units of one of a group's lists, from the oldest to the newest.
@@ -35,16 +33,5 @@ impl<N: BootName> Machine<N> {
         ensures steps { MakesForAny N.frames self.old [] self.new }
     {
         tables.frames.references(&mut self.frame_seat, head) as u32 - 1
-    }
-
-    /// The stock of any CPU of the boot as it is now: its group, its pages, and whether it was drained. Another CPU's
-    /// visit may have drained it since the CPU itself last saw it. This is one look, which the zone's seat counts as a
-    /// step.
-    pub fn stock_now(&mut self, tables: &Tables<N>, cpu: &mut Cpu<N>) -> Stock
-        ensures stock { result ≡ stock_now (visit_state self.old cpu.old) }
-        ensures machine { self.new ≡ with_look self.old }
-        ensures cpu { cpu.new ≡ cpu.old }
-    {
-        self.own_stock(tables, cpu)
     }
 }

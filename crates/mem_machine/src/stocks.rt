@@ -221,7 +221,7 @@ impl<N: BootName> Machine<N> {
         let cpu_number = cpu.number();
         self.drain_stock(tables, cpu_number);
         // The drain returns how many pages it took; only the look shows that none is left.
-        let _emptied = self.own_stock(tables, cpu);
+        let _emptied = self.look_at_stock(tables, cpu);
         self.fill_stock(tables, cpu, group, pages)
     }
 }

@@ -35,19 +35,19 @@ pub fn write_own_stock<N: BootName>(
     ensures locked { locked.new ≡ record locked.old { machine = with_look locked.old.machine } }
     ensures cpu { cpu.new ≡ cpu.old }
 {
-    let stock = locked.machine.stock_now(tables, cpu);
+    let stock = locked.machine.look_at_stock(tables, cpu);
     write_stock(locked.machine.charges().tree(), cpu, stock, text)
 }
 
 impl<N: BootName> Locked<N> {
     /// The stock of any CPU of the boot as it is now, by one look at the stock's word. Another CPU's visit may have
     /// drained it since the CPU itself last saw it. The zone's seat counts the look as a step.
-    pub fn stock_now(&mut self, tables: &Tables<N>, cpu: &mut Cpu<N>) -> Stock
+    pub fn look_at_stock(&mut self, tables: &Tables<N>, cpu: &mut Cpu<N>) -> Stock
         ensures stock { result ≡ stock_now (visit_state self.old.machine cpu.old) }
         ensures locked { self.new ≡ record self.old { machine = with_look self.old.machine } }
         ensures cpu { cpu.new ≡ cpu.old }
     {
-        self.machine.stock_now(tables, cpu)
+        self.machine.look_at_stock(tables, cpu)
     }
 }
 

@@ -25,7 +25,7 @@ pub(crate) fn show_cpus<N: BootName>(
 {
     let mut shown = Vec::with_capacity(alloc, cpus.len());
     for cpu in cpus.iter_mut() {
-        let stock = locked.stock_now(tables, cpu);
+        let stock = locked.look_at_stock(tables, cpu);
         let next = show_cpu(alloc, cpu, stock);
         shown = with_next(shown, next);
     }

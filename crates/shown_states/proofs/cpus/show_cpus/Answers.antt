@@ -20,22 +20,22 @@ loop-cpu-preserved g c =
     let at = c.loop-cpu.cpu-index in
     let machine = c.loop-cpu.locked.machine in
     let item = c.cpu-item.result in
-    let new = c.stock_now-stock.new.cpu in
+    let new = c.look_at_stock-stock.new.cpu in
     let inside : at < length now = search rules in
     let looked = ap (λ (l : KnownLocked). l.machine) c.loop-cpu.invariant.1 in
     let same = c.loop-cpu.invariant.2 in
     let is = c.cpu-item.is in
-    let stays : new ≡ item = c.stock_now-stock.ensures.cpu ∙ sym is in
-    let found : c.stock_now-stock.result ≡ stock_now (visit_state machine item) =
-    c.stock_now-stock.ensures.stock ∙ ap (λ (cpu : KnownCpu). stock_now (visit_state machine cpu)) (sym is) in
+    let stays : new ≡ item = c.look_at_stock-stock.ensures.cpu ∙ sym is in
+    let found : c.look_at_stock-stock.result ≡ stock_now (visit_state machine item) =
+    c.look_at_stock-stock.ensures.stock ∙ ap (λ (cpu : KnownCpu). stock_now (visit_state machine cpu)) (sym is) in
     let count = length (take at cpus) in
-    let one = one_shown before cpus now at machine item new same inside is stays count looked c.stock_now-stock.result found in
+    let one = one_shown before cpus now at machine item new same inside is stays count looked c.look_at_stock-stock.result found in
     let next = subst (λ (last : shown.KnownShownCpu). IfOk c.show_cpu-next.result (λ cpu. cpu ≡ last)) one c.show_cpu-next.ensures in
     let all = c.with_next-shown.ensures (cpus_shown before (take at cpus)) (cpu_shown before (get_or cpus at item)) c.loop-cpu.invariant.0 next in (
       subst (λ (l : List shown.KnownShownCpu). IfOk c.with_next-shown.result (λ shown. shown.items ≡ l))
           (cpus_more before cpus now at machine item new same inside is stays count looked) all,
-      locked_one_more c.args.locked.now c.loop-cpu.locked c.stock_now-stock.new.self cpus at
-          (inside_all before cpus now at machine item new same inside is stays count looked) c.loop-cpu.invariant.1 c.stock_now-stock.ensures.locked,
+      locked_one_more c.args.locked.now c.loop-cpu.locked c.look_at_stock-stock.new.self cpus at
+          (inside_all before cpus now at machine item new same inside is stays count looked) c.loop-cpu.invariant.1 c.look_at_stock-stock.ensures.locked,
       all_stay before cpus now at machine item new same inside is stays count looked,
     )
 

@@ -12,23 +12,23 @@ fill_stock-requires-clause-charges g c =
     record {
       there = search rules;
       alive = search rules;
-      fits = subst (λ (y : KnownMachine). current_of y.ledger 0 + c.args.pages < 2 ^ 32) (sym c.own_stock-emptied.ensures.machine) fits;
+      fits = subst (λ (y : KnownMachine). current_of y.ledger 0 + c.args.pages < 2 ^ 32) (sym c.look_at_stock-emptied.ensures.machine) fits;
     }
 
 pub fill_stock-requires-clause-drained : goal.fill_stock-requires-clause-drained
 fill_stock-requires-clause-drained g c =
     subst (λ (z : KnownMachine × KnownCpu). (account_of z.0.stock_seat.view z.1.number).filled ≡ false)
-    (λ i. (sym c.own_stock-emptied.ensures.machine i, sym c.own_stock-emptied.ensures.cpu i))
+    (λ i. (sym c.look_at_stock-emptied.ensures.machine i, sym c.look_at_stock-emptied.ensures.cpu i))
     (emptied_drained _ _ _ _ _ c.number-cpu_number.ensures.number c.drain_stock.ensures.drains)
 
 pub returns-clause-prepays : goal.returns-clause-prepays
 returns-clause-prepays g c =
     let number = c.number-cpu_number.ensures.number in
     let drains = c.drain_stock.ensures.drains in
-    let whole = emptied_whole _ _ _ _ _ number drains c.args.cpu.now _ _ refl refl c.requires.none_fresh c.own_stock-emptied.ensures.stock in
+    let whole = emptied_whole _ _ _ _ _ number drains c.args.cpu.now _ _ refl refl c.requires.none_fresh c.look_at_stock-emptied.ensures.stock in
     let steps = c.drain_stock.ensures.steps c.args.cpu.now in
     on_ok_both c.fill_stock.result
-    (λ fills run. prepays _ _ _ _ _ number drains g.N.BootName.frames c.args.cpu.now refl whole steps _ _ c.own_stock-emptied.ensures.machine c.own_stock-emptied.ensures.cpu
+    (λ fills run. prepays _ _ _ _ _ number drains g.N.BootName.frames c.args.cpu.now refl whole steps _ _ c.look_at_stock-emptied.ensures.machine c.look_at_stock-emptied.ensures.cpu
     c.args.group c.args.pages _ _ fills)
     c.fill_stock.ensures.fills c.fill_stock.ensures.steps
 
@@ -36,31 +36,31 @@ pub returns-clause-steps : goal.returns-clause-steps
 returns-clause-steps g c =
     let number = c.number-cpu_number.ensures.number in
     let drains = c.drain_stock.ensures.drains in
-    let whole = emptied_whole _ _ _ _ _ number drains c.args.cpu.now _ _ refl refl c.requires.none_fresh c.own_stock-emptied.ensures.stock in
+    let whole = emptied_whole _ _ _ _ _ number drains c.args.cpu.now _ _ refl refl c.requires.none_fresh c.look_at_stock-emptied.ensures.stock in
     let steps = c.drain_stock.ensures.steps c.args.cpu.now in
     on_ok_both c.fill_stock.result
-    (λ fills run. prepay_runs _ _ _ _ _ number drains g.N.BootName.frames c.args.cpu.now refl whole steps _ _ c.own_stock-emptied.ensures.machine
-    c.own_stock-emptied.ensures.cpu c.args.group c.args.pages c.fill_stock.new.self c.fill_stock.new.cpu run)
+    (λ fills run. prepay_runs _ _ _ _ _ number drains g.N.BootName.frames c.args.cpu.now refl whole steps _ _ c.look_at_stock-emptied.ensures.machine
+    c.look_at_stock-emptied.ensures.cpu c.args.group c.args.pages c.fill_stock.new.self c.fill_stock.new.cpu run)
     c.fill_stock.ensures.fills c.fill_stock.ensures.steps
 
 pub returns-clause-over : goal.returns-clause-over
 returns-clause-over g c =
     let number = c.number-cpu_number.ensures.number in
     let drains = c.drain_stock.ensures.drains in
-    let whole = emptied_whole _ _ _ _ _ number drains c.args.cpu.now _ _ refl refl c.requires.none_fresh c.own_stock-emptied.ensures.stock in
+    let whole = emptied_whole _ _ _ _ _ number drains c.args.cpu.now _ _ refl refl c.requires.none_fresh c.look_at_stock-emptied.ensures.stock in
     let steps = c.drain_stock.ensures.steps c.args.cpu.now in
     if_err_both c.fill_stock.result
-    (λ e same low run. is_refused _ _ _ _ _ number drains g.N.BootName.frames c.args.cpu.now refl whole steps _ _ c.own_stock-emptied.ensures.machine
-    c.own_stock-emptied.ensures.cpu c.args.group c.args.pages _ _ e.group same.machine same.cpu low)
+    (λ e same low run. is_refused _ _ _ _ _ number drains g.N.BootName.frames c.args.cpu.now refl whole steps _ _ c.look_at_stock-emptied.ensures.machine
+    c.look_at_stock-emptied.ensures.cpu c.args.group c.args.pages _ _ e.group same.machine same.cpu low)
     c.fill_stock.ensures.unchanged c.fill_stock.ensures.over c.fill_stock.ensures.refused
 
 pub returns-clause-refused : goal.returns-clause-refused
 returns-clause-refused g c =
     let number = c.number-cpu_number.ensures.number in
     let drains = c.drain_stock.ensures.drains in
-    let whole = emptied_whole _ _ _ _ _ number drains c.args.cpu.now _ _ refl refl c.requires.none_fresh c.own_stock-emptied.ensures.stock in
+    let whole = emptied_whole _ _ _ _ _ number drains c.args.cpu.now _ _ refl refl c.requires.none_fresh c.look_at_stock-emptied.ensures.stock in
     let steps = c.drain_stock.ensures.steps c.args.cpu.now in
     if_err_both c.fill_stock.result
-    (λ e same low run. refused_runs _ _ _ _ _ number drains g.N.BootName.frames c.args.cpu.now refl whole steps _ _ c.own_stock-emptied.ensures.machine
-    c.own_stock-emptied.ensures.cpu c.args.group c.args.pages _ _ e.group same.machine same.cpu run)
+    (λ e same low run. refused_runs _ _ _ _ _ number drains g.N.BootName.frames c.args.cpu.now refl whole steps _ _ c.look_at_stock-emptied.ensures.machine
+    c.look_at_stock-emptied.ensures.cpu c.args.group c.args.pages _ _ e.group same.machine same.cpu run)
     c.fill_stock.ensures.unchanged c.fill_stock.ensures.over c.fill_stock.ensures.refused
