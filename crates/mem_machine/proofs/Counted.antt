@@ -1,5 +1,5 @@
 -- The machine's counts follow lists of steps in which units end and are freed. Serves the `steps` clauses of
--- `drain_list`, `settle`, `drop_zone_reference` and `evict`.
+-- `drain_list`, `settle`, `put_zone_reference` and `evict`.
 use Rattle.std.proofs.Common.{◌≡◌, ℕ, Bool, false, cond, refl, sym, ap, ◌∙◌}
 use Rattle.step_rules.specs.declared.phase.Stage.TheVariants.{AwaitsReturn}
 use Rattle.step_rules.specs.declared.phase.Phase.{Phase}

@@ -9,7 +9,7 @@ ghost use Rattle.mem_machine.specs.Machines.{IsConsistent, IsFirst};
 use crate::booked_seat::BookedSeat;
 use crate::counts::Counts;
 use crate::frame_state::FrameState;
-use crate::start::{frame_rooms, group_rooms};
+use crate::start::{frame_parts, group_parts};
 use cpu_part::{BootName, Tables};
 use frame_word::FrameSeat;
 use group_charge::charges::Charges;
@@ -82,8 +82,8 @@ impl<N: BootName> Machine<N> {
         ensures first { IfOk result (λ machine. IsFirst N.frames N.stocks machine) }
         ensures off { IfOk result (λ machine. machine.watch ≡ watch_off) }
     {
-        let (zone, frame_states, links) = frame_rooms(alloc, tables.frames.frames())?;
-        let (charges, lists, killed) = group_rooms(alloc)?;
+        let (zone, frame_states, links) = frame_parts(alloc, tables.frames.frames())?;
+        let (charges, lists, killed) = group_parts(alloc)?;
         let notes = Notes::new(alloc)?;
         Ok(Machine {
             zone,

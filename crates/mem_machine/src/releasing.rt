@@ -25,7 +25,7 @@ pub enum Released {
 impl<N: BootName> Machine<N> {
     /// Removes a kept unit from its list, and puts the zone's reference on it. If that was the last reference, the unit
     /// is freed. `head` is the unit's head. The call may be made in any CPU's visit.
-    pub fn drop_zone_reference(&mut self, tables: &Tables<N>, head: Frame) -> Released
+    pub fn put_zone_reference(&mut self, tables: &Tables<N>, head: Frame) -> Released
         requires frame { head < N.frames.frames }
         requires kept { HeadsKeptUnit self.old head }
         ensures releases { Releases head result self.old self.new }
@@ -58,7 +58,7 @@ impl<N: BootName> Machine<N> {
         }
     }
 
-    /// Releases a kept unit as `drop_zone_reference` does, in the visit of this CPU.
+    /// Releases a kept unit as `put_zone_reference` does, in the visit of this CPU.
     pub fn release(&mut self, tables: &Tables<N>, cpu: &Cpu<N>, head: Frame) -> Released
         requires visit { Visits N.frames (visit_state self.old cpu.now) }
         requires frame { head < N.frames.frames }
@@ -68,6 +68,6 @@ impl<N: BootName> Machine<N> {
         ensures steps { Makes N.frames (visit_state self.old cpu.now) (release_steps head result)
             (visit_state self.new cpu.now) }
     {
-        self.drop_zone_reference(tables, head)
+        self.put_zone_reference(tables, head)
     }
 }

@@ -22,7 +22,7 @@ use step_watch::Watch;
 use zone_blocks::order::Order;
 
 // The watch takes the steps by which the zone took over a fresh frame of the CPU.
-fn take_collected(watch: &mut Watch, cpu: u32, frame: u32)
+fn watch_collected(watch: &mut Watch, cpu: u32, frame: u32)
     ensures { Watches watch.old (collect_steps cpu frame) watch.new }
 {
     watch.passed_back(cpu, frame);
@@ -47,7 +47,7 @@ impl<N: BootName> Machine<N> {
             .stock_seat
             .collect_fresh(tables, cpu, &mut self.frame_seat, group);
         let at = frame.number();
-        take_collected(&mut self.watch, cpu_number, at);
+        watch_collected(&mut self.watch, cpu_number, at);
         tables.frames.unfreeze(&mut self.frame_seat, frame, 1);
         self.watch.unfroze(at, 1);
         let order = Order::of(0).unwrap();
@@ -73,7 +73,7 @@ impl<N: BootName> Machine<N> {
             .stock_seat
             .collect_fresh(tables, cpu, &mut self.frame_seat, group);
         let at = frame.number();
-        take_collected(&mut self.watch, cpu_number, at);
+        watch_collected(&mut self.watch, cpu_number, at);
         let order = Order::of(0).unwrap();
         let unit = ChargedUnit { group, order };
         free_unit(

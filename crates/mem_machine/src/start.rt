@@ -17,15 +17,15 @@ use std::alloc::{AllocError, Global};
 use zone_buddy::buddy::Buddy;
 
 /// The parts that have a place for each frame: the zone, the records and the links. All frames are free and on no list.
-pub(crate) fn frame_rooms(
+pub(crate) fn frame_parts(
     alloc: Global,
     frames: u32,
 ) -> Result<(Buddy, Vec<FrameState>, Links), AllocError>
-    ensures free { IfOk result (λ rooms. rooms.0.free ≡ replicate frames true) }
-    ensures areas { IfOk result (λ rooms. AreMaximalBlocks rooms.0.free rooms.0.blocks) }
-    ensures frame_states { IfOk result (λ rooms. rooms.1.items ≡ replicate frames Free) }
-    ensures frames { IfOk result (λ rooms. length rooms.2 ≡ frames) }
-    ensures nowhere { IfOk result (λ rooms. AreNowhere rooms.2) }
+    ensures free { IfOk result (λ parts. parts.0.free ≡ replicate frames true) }
+    ensures areas { IfOk result (λ parts. AreMaximalBlocks parts.0.free parts.0.blocks) }
+    ensures frame_states { IfOk result (λ parts. parts.1.items ≡ replicate frames Free) }
+    ensures frames { IfOk result (λ parts. length parts.2 ≡ frames) }
+    ensures nowhere { IfOk result (λ parts. AreNowhere parts.2) }
 {
     let zone = Buddy::new(alloc, frames)?;
     let frame_states = free_frame_states(alloc, frames)?;
@@ -35,10 +35,10 @@ pub(crate) fn frame_rooms(
 
 /// The parts that have a place for each group number: charges, two empty lists each, and the marks of killed groups.
 /// Only the root exists.
-pub(crate) fn group_rooms(alloc: Global) -> Result<(Charges, Vec<Lru>, Vec<bool>), AllocError>
-    ensures charges { IfOk result (λ rooms. rooms.0 ≡ initial_ledger) }
-    ensures lists { IfOk result (λ rooms. AreEmpty rooms.1.items most_groups) }
-    ensures killed { IfOk result (λ rooms. rooms.2.items ≡ replicate most_groups false) }
+pub(crate) fn group_parts(alloc: Global) -> Result<(Charges, Vec<Lru>, Vec<bool>), AllocError>
+    ensures charges { IfOk result (λ parts. parts.0 ≡ initial_ledger) }
+    ensures lists { IfOk result (λ parts. AreEmpty parts.1.items most_groups) }
+    ensures killed { IfOk result (λ parts. parts.2.items ≡ replicate most_groups false) }
 {
     let charges = Charges::new(alloc)?;
     let lists = empty_lists(alloc)?;

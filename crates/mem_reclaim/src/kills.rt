@@ -40,7 +40,7 @@ fn release_units<N: BootName>(
         let Some(frame) = tables.frames.frame(unit.number) else {
             unreachable!()
         };
-        machine.drop_zone_reference(tables, frame);
+        machine.put_zone_reference(tables, frame);
     }
 }
 

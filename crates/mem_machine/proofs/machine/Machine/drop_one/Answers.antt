@@ -54,7 +54,7 @@ returns g c =
     _ u.frame_states _ u.frames u.areas _ u.charges _
     c.with_drop-self-inside.ensures in
     let took = subst (λ (x : ℕ × ℕ). Watches c.self.inside.watch (drop_steps x.0 x.1) c.returned.new.self)
-    (λ i. (c.number-cpu_number.ensures.number i, c.number-at.ensures i)) (watches_both _ _ _ _ _ c.take_collected.ensures c.returned.ensures) in
+    (λ i. (c.number-cpu_number.ensures.number i, c.number-at.ensures i)) (watches_both _ _ _ _ _ c.watch_collected.ensures c.returned.ensures) in
     record {
       drops = drops_still _ _ _ _ _ _ all.drops;
       visit = visits_still _ _ _ _ all.visit;

@@ -37,7 +37,7 @@ returns g c =
     e.zone c.unfreeze.ensures.seat _ e.seat _ _
     (record { joins = a.joins; stand = a.lists.stand; frames = a.frames; groups = a.lists.groups }) in
     let took = subst (λ (x : ℕ × ℕ). Watches c.self.inside.watch (keep_steps x.0 x.1) c.published.new.self)
-    (λ i. (c.number-cpu_number.ensures.number i, c.number-at.ensures i)) (watches_both _ _ _ _ _ c.take_collected.ensures (watches_both _ _ _ _ _ c.unfroze.ensures c.published.ensures)) in
+    (λ i. (c.number-cpu_number.ensures.number i, c.number-at.ensures i)) (watches_both _ _ _ _ _ c.watch_collected.ensures (watches_both _ _ _ _ _ c.unfroze.ensures c.published.ensures)) in
     record {
       keeps = keeps_still _ _ _ _ _ _ all.keeps;
       visit = visits_still _ _ _ _ all.visit;

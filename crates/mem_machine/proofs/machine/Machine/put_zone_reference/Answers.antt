@@ -7,7 +7,7 @@ use Rattle.mem_machine.specs.declared.releasing.Released.TheVariants.{Left, Retu
 use Rattle.mem_machine.specs.Releasing.{release_steps}
 use Rattle.mem_machine.proofs.Followed.{makes_watched}
 use Rattle.mem_machine.proofs.Watched.{consistent_still, returned_still, visits_still}
-use Rattle.mem_machine.proofs.machine.Machine.drop_zone_reference.Goals as goal
+use Rattle.mem_machine.proofs.machine.Machine.put_zone_reference.Goals as goal
 
 pub free_unit-requires-clause-in_use : goal.free_unit-requires-clause-in_use
 free_unit-requires-clause-in_use g c =
