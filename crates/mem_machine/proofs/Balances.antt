@@ -3,7 +3,7 @@ use Rattle.std.proofs.Common.{◌≡◌, ℕ, ◌+◌, arith}
 use Rattle.std.specs.Prelude.{min}
 use Rattle.group_tree.specs.Room.{max_count}
 use Rattle.mem_machine.specs.declared.counts.Counts.{Counts}
-use Rattle.mem_machine.specs.Counts.{BalancesCounts, with_last_put, with_freeze, with_drop}
+use Rattle.mem_machine.specs.Counts.{BalancesCounts, with_last_put, with_freeze, with_killed_fresh}
 
 first_rises : (a b c most : ℕ) → min (min (a + b + c) most + 1) most ≡ min (min (a + 1) most + b + c) most
 first_rises a b c most = omega arith
@@ -15,10 +15,10 @@ third_rises : (a b c most : ℕ) → min (min (a + b + c) most + 1) most ≡ min
 third_rises a b c most = omega arith
 
 pub balanced_last_put : (counts : Counts) → BalancesCounts counts → BalancesCounts (with_last_put counts)
-balanced_last_put counts balances = rw balances (first_rises counts.last_puts counts.freezes counts.drops max_count)
+balanced_last_put counts balances = rw balances (first_rises counts.last_puts counts.freezes counts.killed_fresh max_count)
 
 pub balanced_freeze : (counts : Counts) → BalancesCounts counts → BalancesCounts (with_freeze counts)
-balanced_freeze counts balances = rw balances (second_rises counts.last_puts counts.freezes counts.drops max_count)
+balanced_freeze counts balances = rw balances (second_rises counts.last_puts counts.freezes counts.killed_fresh max_count)
 
-pub balanced_drop : (counts : Counts) → BalancesCounts counts → BalancesCounts (with_drop counts)
-balanced_drop counts balances = rw balances (third_rises counts.last_puts counts.freezes counts.drops max_count)
+pub balanced_killed_fresh : (counts : Counts) → BalancesCounts counts → BalancesCounts (with_killed_fresh counts)
+balanced_killed_fresh counts balances = rw balances (third_rises counts.last_puts counts.freezes counts.killed_fresh max_count)

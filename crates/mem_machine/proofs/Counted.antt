@@ -12,7 +12,7 @@ use Rattle.step_rules.specs.Returns.{is_killed_return_phase}
 use Rattle.step_rules.specs.After.{after}
 use Rattle.step_rules.proofs.Basics.{at_same}
 use Rattle.mem_machine.specs.declared.counts.Counts.{Counts}
-use Rattle.mem_machine.specs.Counts.{with_drop}
+use Rattle.mem_machine.specs.Counts.{with_killed_fresh}
 use Rattle.mem_machine.specs.Counting.{counts_after, is_back_passing, one_more_last_put, one_more_return}
 
 module _ (s : State) (f : ℕ) (x : Phase) (is : s.phases f ≡ x) where
@@ -34,12 +34,12 @@ module _ (s : State) (f : ℕ) (x : Phase) (is : s.phases f ≡ x) where
 
   -- a unit whose head is passed back, collected and returned
   pub comes_back : (is_back is_killed_return : Bool) → is_back_passing (passed_back x) ≡ is_back → is_killed_return_phase s.killed (collected (passed_back x)) ≡ is_killed_return → (counts : Counts)
-      → (let here = cond is_back (one_more_last_put counts) counts in cond is_killed_return (with_drop here) (one_more_return here))
+      → (let here = cond is_back (one_more_last_put counts) counts in cond is_killed_return (with_killed_fresh here) (one_more_return here))
       ≡ (let here = cond (is_back_passing (passed f)) (one_more_last_put counts) counts in
-      cond (is_killed_return_phase s.killed (with_at passed f (collected (passed f)) f)) (with_drop here) (one_more_return here))
+      cond (is_killed_return_phase s.killed (with_at passed f (collected (passed f)) f)) (with_killed_fresh here) (one_more_return here))
   comes_back is_back is_killed_return back drop counts = λ i.
       let here = cond (sym (ap is_back_passing passed_at ∙ back) i) (one_more_last_put counts) counts in
-      cond (sym (ap (is_killed_return_phase s.killed) collected_at ∙ drop) i) (with_drop here) (one_more_return here)
+      cond (sym (ap (is_killed_return_phase s.killed) collected_at ∙ drop) i) (with_killed_fresh here) (one_more_return here)
 
 -- a unit that ended is no drop
 no_drop : (killed : ℕ → Bool) (x : Phase) → is_killed_return_phase killed (at_stage AwaitsReturn x) ≡ false
@@ -50,5 +50,5 @@ no_drop killed (phase.Tail g) = refl
 
 -- the return of a unit of which the zone had the last reference
 pub returned_ended : (s : State) (f : ℕ) (counts : Counts) → counts_after (after s 0 (Put f) Last) 0 (Return f) Done counts ≡ one_more_return counts
-returned_ended s f counts = ap (λ (b : Bool). cond b (with_drop counts) (one_more_return counts))
+returned_ended s f counts = ap (λ (b : Bool). cond b (with_killed_fresh counts) (one_more_return counts))
     (ap (is_killed_return_phase s.killed) (at_same s.phases f (at_stage AwaitsReturn (s.phases f))) ∙ no_drop s.killed (s.phases f))

@@ -33,7 +33,7 @@ use Rattle.mem_machine.specs.Machines.{KnownMachine, FitsFrameState, IsConsisten
 use Rattle.mem_machine.specs.Local.{IsLocalRun, local_of, fresh_group, number_or_0, visit_state}
 use Rattle.mem_machine.specs.Steps.{zone_makes}
 use Rattle.mem_machine.specs.Blocks.{PlacesUnit}
-use Rattle.mem_machine.specs.Counts.{with_drop}
+use Rattle.mem_machine.specs.Counts.{with_killed_fresh}
 use Rattle.mem_machine.specs.Counting.{counts_along}
 use Rattle.mem_machine.specs.Freeing.{FreesFrames}
 use Rattle.mem_machine.specs.Settling.{KeepsFresh, DropsFresh, with_page_absorbed, keep_steps, drop_steps}
@@ -49,7 +49,7 @@ use Rattle.mem_machine.proofs.Absorbs.{none_noted, still_bounded, books_fall}
 use Rattle.mem_machine.proofs.HandOvers.{handed_visits, IsFreshFront, fresh_front, collect_run, keep_run, drop_run}
 use Rattle.mem_machine.proofs.Shown.{is_visited, fresh_unit, fresh_phase, fresh_handed, fresh_else, phases_set, phases_freed, parts_absorbed, references_used}
 use Rattle.mem_machine.proofs.Shown.{references_same}
-use Rattle.mem_machine.proofs.Balances.{balanced_drop}
+use Rattle.mem_machine.proofs.Balances.{balanced_killed_fresh}
 use Rattle.mem_machine.proofs.Followed.{follows_same, follows_still, LeadsAs}
 use Rattle.mem_machine.proofs.Counted.{collects_none, comes_back}
 
@@ -189,7 +189,7 @@ module _ (t : KnownTable) (w : KnownStockTable) (m : KnownMachine) (c : KnownCpu
   -- ---- dropped
 
   module _ (new : List FrameState) (frees : FreesFrames f (2 ^ 0) m.frame_states new) (blocks : List Block) (areas : AreMaximalBlocks (free_of new) blocks)
-      (counts : Counts) (counted : counts ≡ with_drop m.counts) where
+      (counts : Counts) (counted : counts ≡ with_killed_fresh m.counts) where
     abbrev dropped : KnownMachine
     dropped = record m {
       blocks = blocks;
@@ -244,7 +244,7 @@ module _ (t : KnownTable) (w : KnownStockTable) (m : KnownMachine) (c : KnownCpu
           let e = charges_stay m.frame_states f Free within (ap frame_state_group is_lent) refl h in
           let l = uncharge_pages m.ledger g 1 charged_one h in
           omega (arith, a, b, e, l);
-      balances = subst BalancesCounts (sym counted) (balanced_drop m.counts ok.balances);
+      balances = subst BalancesCounts (sym counted) (balanced_killed_fresh m.counts ok.balances);
     }
 
     dropped_consistent : IsConsistent t w dropped
@@ -340,7 +340,7 @@ pub drop_all : (t : KnownTable) (w : KnownStockTable) (m now : KnownMachine) →
     → (seat : KnownSeat) → seat ≡ seat_with m.frame_seat f (collected_from c.number)
     → (stock : KnownStockSeat) → stock ≡ with_page_absorbed m.stock_seat c.number
     → (frame_states : List FrameState) → FreesFrames i (2 ^ k) m.frame_states frame_states → (blocks : List Block) → GivesFrames before (record { at = i; order = k }) free
-    → AreMaximalBlocks free blocks → (ledger : Ledger) → ledger ≡ with_uncharge m.ledger g (2 ^ k) → (counts : Counts) → counts ≡ with_drop m.counts
+    → AreMaximalBlocks free blocks → (ledger : Ledger) → ledger ≡ with_uncharge m.ledger g (2 ^ k) → (counts : Counts) → counts ≡ with_killed_fresh m.counts
     → AllDropped t w now c g f (record m { blocks = blocks; frame_states = frame_states; ledger = ledger; frame_seat = seat; stock_seat = stock; counts = counts }) h free
 drop_all t w m now same c h tied ok visit_now before free free_was f g was killed_now hands i k index zero_is seat collects stock absorbs frame_states frees_i blocks
     gives_i areas_i ledger uncharges counts counted =

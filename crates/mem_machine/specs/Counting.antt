@@ -13,7 +13,7 @@ use Rattle.step_rules.specs.State.{State}
 use Rattle.step_rules.specs.Returns.{is_killed_return_phase}
 use Rattle.step_rules.specs.After.{Run, after}
 use Rattle.mem_machine.specs.declared.counts.Counts.{Counts}
-use Rattle.mem_machine.specs.Counts.{with_drop, with_miss}
+use Rattle.mem_machine.specs.Counts.{with_killed_fresh, with_miss}
 
 -- the unit's head is being passed back as a back frame
 abbrev pub is_stage_back_passing : Stage → Bool
@@ -47,7 +47,7 @@ counts_after state seat (Collect frame cpu) Done counts =
 counts_after state seat (Freeze frame references) Done counts = one_more_freeze counts
 counts_after state seat (Freeze frame references) Missed counts = with_miss counts
 counts_after state seat (Return frame) Done counts =
-    if is_killed_return_phase state.killed (state.phases frame) then with_drop counts else one_more_return counts
+    if is_killed_return_phase state.killed (state.phases frame) then with_killed_fresh counts else one_more_return counts
 counts_after state seat action answer counts = counts
 
 -- the counts after all steps of a list, the first of which is made in this state

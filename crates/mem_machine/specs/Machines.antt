@@ -31,7 +31,8 @@ use Rattle.mem_machine.specs.declared.counts.Counts.{Counts}
 use Rattle.step_watch.specs.Watched.{KnownWatch}
 use Rattle.kill_notes.specs.declared.note.Note.{Note}
 use Rattle.kill_notes.specs.Notes.{KnownNotes, forgotten, no_notes, noted}
--- the units freed are the last puts, the freezes and the drops together, or the greatest count if that is less
+-- the units freed are the last puts, the freezes and the killed fresh frames together, or the greatest count if that
+-- is less
 pub use Rattle.mem_machine.specs.Counts.{BalancesCounts}
 use Rattle.mem_machine.specs.Counts.{no_counts}
 use Rattle.mem_machine.specs.FrameStates.{AreUnits, frame_state_at, free_of, is_in_hand, some_cpu, lent_to}
@@ -179,7 +180,7 @@ pub record AreZoneSeats (frame_table : KnownTable) (stock_table : KnownStockTabl
 -- maximal blocks of the free frames. Each frame's record agrees with the zone's seat and the lists. The charged frames
 -- make up units. All lists agree with the links. No reported page is unabsorbed, and the pages booked to each stock
 -- fit a stock word. The own charge of a group is the frames charged to it and the pages booked to its stocks. The units
--- freed are the last puts, freezes and drops together, or the greatest count if that is less.
+-- freed are the last puts, freezes and killed fresh frames together, or the greatest count if that is less.
 pub record IsConsistent (table : KnownTable) (stock_table : KnownStockTable) (machine : KnownMachine) : Type 0 where
   pub sizes : AreSized table stock_table machine
   pub seats : AreZoneSeats table stock_table machine.frame_seat machine.stock_seat

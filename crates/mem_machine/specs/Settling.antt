@@ -23,7 +23,7 @@ use Rattle.mem_machine.specs.Machines.{OneByOne, VisitState, VisitStateStays, is
 use Rattle.mem_machine.specs.Local.{Makes, fresh_group}
 use Rattle.mem_machine.specs.Steps.{zone_makes, cpu_makes}
 use Rattle.mem_machine.specs.Lists.{ListsUnit}
-use Rattle.mem_machine.specs.Counts.{with_drop, with_last_put}
+use Rattle.mem_machine.specs.Counts.{with_killed_fresh, with_last_put}
 use Rattle.mem_machine.specs.Freeing.{FreesFrames}
 
 -- the zone's seat at the stocks, after it absorbed in one step a page that the CPU reported
@@ -83,7 +83,7 @@ pub record DropsFresh (group frame : ℕ) (before after : VisitState) : Type 0 w
     ledger = with_uncharge before.machine.ledger group 1;
     frame_seat = seat_with before.machine.frame_seat frame (collected_from before.cpu.number);
     stock_seat = with_page_absorbed before.machine.stock_seat before.cpu.number;
-    counts = with_drop before.machine.counts;
+    counts = with_killed_fresh before.machine.counts;
     watch = after.machine.watch;
   }
   pub cpu : HandsOver frame before.cpu after.cpu

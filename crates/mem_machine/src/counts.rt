@@ -1,10 +1,10 @@
 //! How many units ended, were freed, or were missed.
 
 ghost use Rattle.std.specs.Prelude.{◌≡◌};
-ghost use Rattle.mem_machine.specs.Counts.{with_last_put, with_freeze, with_drop, with_miss};
+ghost use Rattle.mem_machine.specs.Counts.{with_last_put, with_freeze, with_killed_fresh, with_miss};
 
 /// How many units ended, were freed, or were missed since the boot. A count stays at 2^64 - 1. The returns are the last
-/// puts, freezes and drops together, or 2^64 - 1 if that is less.
+/// puts, freezes and killed fresh frames together, or 2^64 - 1 if that is less.
 #[derive(Clone, Copy, Debug, PartialEq, Eq)]
 pub struct Counts {
     /// The last puts: those of the zone itself, and those of CPUs, counted when the CPU is settled.
@@ -12,7 +12,7 @@ pub struct Counts {
     /// The freezes that took a unit out of use.
     pub freezes: u64,
     /// The fresh frames of killed groups that were freed.
-    pub drops: u64,
+    pub killed_fresh: u64,
     /// The units that were freed.
     pub returns: u64,
     /// The freezes that missed, because someone else had a reference.
@@ -42,12 +42,12 @@ impl Counts {
         }
     }
 
-    // One more fresh frame that was dropped and freed.
-    pub(crate) fn with_drop(self) -> Counts
-        ensures { result ≡ with_drop self }
+    // One more fresh frame of a killed group that was freed.
+    pub(crate) fn with_killed_fresh(self) -> Counts
+        ensures { result ≡ with_killed_fresh self }
     {
         Counts {
-            drops: self.drops.saturating_add(1),
+            killed_fresh: self.killed_fresh.saturating_add(1),
             returns: self.returns.saturating_add(1),
             ..self
         }

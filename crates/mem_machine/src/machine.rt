@@ -97,7 +97,7 @@ impl<N: BootName> Machine<N> {
             counts: Counts {
                 last_puts: 0,
                 freezes: 0,
-                drops: 0,
+                killed_fresh: 0,
                 returns: 0,
                 misses: 0,
             },

@@ -84,7 +84,7 @@ impl<N: BootName> Machine<N> {
             unit,
         );
         self.watch.returned(at);
-        self.counts = self.counts.with_drop();
+        self.counts = self.counts.with_killed_fresh();
         frame
     }
 

@@ -239,6 +239,6 @@ all_closes t w k a frame_seats stock_seats shut all tells_then closing frames st
             let dropped = tells.drops in
             let returns = tells.returns in
             let balanced = closed.consistent.balances in
-            rw (last_puts, freezes, dropped, returns, balanced) (drops_join y.counts.last_puts y.counts.freezes y.counts.drops k.drops max_count);
+            rw (last_puts, freezes, dropped, returns, balanced) (drops_join y.counts.last_puts y.counts.freezes y.counts.killed_fresh k.drops max_count);
       };
     }

@@ -119,15 +119,15 @@ pub record LendsAndFillsNone (before after : KnownMachine) : Type 0 where
   pub drained : (cpu : ℕ) → (account_of before.stock_seat.view cpu).filled ≡ false
       → (account_of after.stock_seat.view cpu).filled ≡ false
 
--- The audit counts the machine's frames, last puts and freezes. Its drops and returns are the machine's with the CPUs'
--- own drops added, each of which is also a return. A count stays at its greatest value.
+-- The audit counts the machine's frames, last puts and freezes. Its drops are the machine's killed fresh frames
+-- and the CPUs' own drops, which its returns have too. A count stays at its greatest value.
 pub record IsAuditOf (table : KnownTable) (machine : KnownMachine) (own : ℕ) (audit : Audit) : Type 0 where
   pub frames : audit.frames ≡ table.frames
   pub free : audit.free ≡ frames_free machine.frame_states
   pub charged : audit.charged ≡ frames_in_groups machine.frame_states
   pub last_puts : audit.last_puts ≡ machine.counts.last_puts
   pub freezes : audit.freezes ≡ machine.counts.freezes
-  pub drops : audit.drops ≡ min (machine.counts.drops + own) max_count
+  pub drops : audit.drops ≡ min (machine.counts.killed_fresh + own) max_count
   pub returns : audit.returns ≡ min (machine.counts.returns + own) max_count
 
 -- Each frame is free or charged. The returns are the last puts, freezes and drops together, or the greatest count if

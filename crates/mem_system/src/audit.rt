@@ -40,7 +40,7 @@ pub(crate) fn take_audit<N: BootName>(machine: &Machine<N>, tables: &Tables<N>, 
         charged,
         last_puts: counts.last_puts,
         freezes: counts.freezes,
-        drops: counts.drops.saturating_add(drops),
+        drops: counts.killed_fresh.saturating_add(drops),
         returns: counts.returns.saturating_add(drops),
     }
 }

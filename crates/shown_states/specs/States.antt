@@ -24,7 +24,7 @@ abbrev pub counts_shown : KnownMachine → List KnownCpu → ShownCounts
 counts_shown machine cpus = record {
   last_puts = min (machine.counts.last_puts + back_of cpus) max_count;
   freezes = machine.counts.freezes;
-  drops = min (machine.counts.drops + drops_of cpus) max_count;
+  drops = min (machine.counts.killed_fresh + drops_of cpus) max_count;
   returns = min (machine.counts.returns + drops_of cpus) max_count;
   misses = machine.counts.misses;
 }

@@ -17,7 +17,7 @@ pub(crate) fn show_counts<N: BootName>(machine: &Machine<N>, cpus: &[Cpu<N>]) ->
     ShownCounts {
         last_puts: counts.last_puts.saturating_add(count_back(cpus)),
         freezes: counts.freezes,
-        drops: counts.drops.saturating_add(drops),
+        drops: counts.killed_fresh.saturating_add(drops),
         returns: counts.returns.saturating_add(drops),
         misses: counts.misses,
     }

@@ -38,7 +38,7 @@ invariant_of-self g c =
     let all = (drop_all g.N.BootName.frames g.N.BootName.stocks _ _ c.self.view_is c.args.cpu.now _ c.number-cpu_number.ensures.tied c.self.invariant.consistent
     c.requires.visit _ _ c.self.invariant.free _ c.args.group was c.requires.killed e.cpu _ c.unwrap-order.result c.number-at.ensures k0 _ e.zone _ e.seat
     _ u.frame_states _ u.frames u.areas _ u.charges _
-    c.with_drop-self-inside.ensures) in
+    c.with_killed_fresh-self-inside.ensures) in
     record { consistent = consistent_still _ _ _ _ all.consistent; free = all.free_is }
 
 pub returns : goal.returns
@@ -52,7 +52,7 @@ returns g c =
     let all = drop_all g.N.BootName.frames g.N.BootName.stocks _ _ c.self.view_is c.args.cpu.now _ c.number-cpu_number.ensures.tied c.self.invariant.consistent
     c.requires.visit _ _ c.self.invariant.free _ c.args.group was c.requires.killed e.cpu _ c.unwrap-order.result c.number-at.ensures k0 _ e.zone _ e.seat
     _ u.frame_states _ u.frames u.areas _ u.charges _
-    c.with_drop-self-inside.ensures in
+    c.with_killed_fresh-self-inside.ensures in
     let took = subst (λ (x : ℕ × ℕ). Watches c.self.inside.watch (drop_steps x.0 x.1) c.returned.new.self)
     (λ i. (c.number-cpu_number.ensures.number i, c.number-at.ensures i)) (watches_both _ _ _ _ _ c.watch_collected.ensures c.returned.ensures) in
     record {
