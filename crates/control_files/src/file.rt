@@ -102,7 +102,7 @@ pub fn file_text(charges: &Charges, group: GroupId, file: File) -> Result<ArrayT
         File::Peak => Ok(pages_text(charges.peak(group))),
         File::Events => Ok(events_text(charges.events(group))),
         File::EventsLocal => Ok(events_text(charges.events_local(group))),
-        File::OomGroup => Ok(write_flag(charges.oom_group(group))),
+        File::OomGroup => Ok(write_flag(charges.is_oom_group(group))),
         File::Reclaim => Err(Fault::WriteOnly),
     }
 }

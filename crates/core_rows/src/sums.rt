@@ -218,7 +218,7 @@ impl Rows {
         requires there { IsTrue (has_group self.now.tree group) }
         ensures { result ≡ has_room self.now.tree (usage_of (state_in self.now)) group pages }
     {
-        match self.tree.limit(group) {
+        match self.tree.max(group) {
             None => true,
             Some(limit) => self.usage(group) + u128::from(pages) <= u128::from(limit),
         }

@@ -153,7 +153,7 @@ impl Charges {
 
     /// The pages charged to the group itself.
     #[tactic(auto, unfolding(crate::specs::Charges::pages_of))]
-    pub fn pages(&self, group: GroupId) -> u32
+    pub fn own_pages(&self, group: GroupId) -> u32
         requires { IsTrue (has_group self.now.groups group) }
         ensures { result ≡ pages_of self.now group }
     {
@@ -174,15 +174,15 @@ impl Charges {
         requires { IsTrue (has_group self.now.groups group) }
         ensures { result ≡ limit_of self.now.groups group }
     {
-        self.tree.limit(group)
+        self.tree.max(group)
     }
 
     /// Whether the group is killed as a whole (memory.oom.group).
-    pub fn oom_group(&self, group: GroupId) -> bool
+    pub fn is_oom_group(&self, group: GroupId) -> bool
         requires { IsTrue (has_group self.now.groups group) }
         ensures { result ≡ is_oom_group self.now.groups group }
     {
-        self.tree.oom_group(group)
+        self.tree.is_oom_group(group)
     }
 
     /// The events of the group and of all groups below it (memory.events).

@@ -43,7 +43,7 @@ pub fn add_until_over(
     for ancestor in tree.ancestors(group) {
         let number = ancestor.number() as usize;
         let usage = usages[number] + pages;
-        if !fits_limit(tree.limit(ancestor), usage) {
+        if !fits_limit(tree.max(ancestor), usage) {
             return Some(ancestor);
         }
         usages[number] = usage;

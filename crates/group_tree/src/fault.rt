@@ -42,10 +42,10 @@ pub enum Fault {
     /// The file cannot be written.
     #[error("the file cannot be written")]
     ReadOnly,
-    /// The text is not a limit.
+    /// The text is not a value of the file: a limit, a flag or an amount.
     #[error("the text is no limit")]
     BadLimit,
-    /// The limit's value is above 2^64 - 1.
+    /// The value is above 2^64 - 1: a limit, or an amount.
     #[error("the limit is too great a number")]
     BadNumber,
     /// A size of the configuration is out of its range.

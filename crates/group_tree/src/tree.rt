@@ -117,7 +117,7 @@ impl Tree {
 
     /// The limit of an existing group, in pages, or None if it has no limit.
     #[inline]
-    pub fn limit(&self, group: GroupId) -> Option<u32>
+    pub fn max(&self, group: GroupId) -> Option<u32>
         requires { IsTrue (has_group self.now group) }
         ensures { result ≡ limit_of self.now group }
     {
@@ -128,7 +128,7 @@ impl Tree {
 
     /// Whether an existing group is killed as a whole (memory.oom.group); the root never is.
     #[tactic(auto, unfolding(crate::specs::Groups::has_group, crate::specs::Groups::is_oom_group))]
-    pub fn oom_group(&self, group: GroupId) -> bool
+    pub fn is_oom_group(&self, group: GroupId) -> bool
         requires { IsTrue (has_group self.now group) }
         ensures { result ≡ is_oom_group self.now group }
     {

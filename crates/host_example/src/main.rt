@@ -78,7 +78,7 @@ fn give_block(charges: &mut Charges, zone: &mut Buddy, group: GroupId, block: &B
     ensures groups { charges.new.groups ≡ charges.old.groups }
 {
     let pages = block.order.frames();
-    if charges.pages(group) < pages {
+    if charges.own_pages(group) < pages {
         return false;
     }
     let can_give = zone.is_in_use(*block);

@@ -99,6 +99,6 @@ impl<N: BootName> Machine<N> {
         if !self.charges.tree().contains(group) {
             return 0;
         }
-        u64::from(self.charges.pages(group) - self.stock_seat.booked(group))
+        u64::from(self.charges.own_pages(group) - self.stock_seat.booked(group))
     }
 }

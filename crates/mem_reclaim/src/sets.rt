@@ -27,7 +27,7 @@ pub(crate) fn highest_flagged(tree: &Tree, limited: GroupId, victim: GroupId) ->
     let _groups = tree.groups(); // Called for its contract.
     let mut killed_root = None;
     for above in tree.ancestors(victim) {
-        if tree.oom_group(above) {
+        if tree.is_oom_group(above) {
             killed_root = Some(above);
         }
         if above == limited {

@@ -74,7 +74,7 @@ fn show_row<N: BootName>(machine: &Machine<N>, group: GroupId) -> Row
         events: show_events(charges.events(group)),
         events_local: show_events(charges.events_local(group)),
         is_killed: machine.is_killed(group),
-        oom_group: charges.oom_group(group),
+        oom_group: charges.is_oom_group(group),
     }
 }
 

@@ -58,16 +58,16 @@ impl Core {
         ensures now { result ≡ limit_of self.now.groups group }
         ensures run { (run : Run) → Shows self.now run → result ≡ limit_given run group }
     {
-        self.rows.tree.limit(group)
+        self.rows.tree.max(group)
     }
 
     /// Whether an existing group is killed as a whole (memory.oom.group). A new group isn't.
-    pub fn oom_group(&self, group: GroupId) -> bool
+    pub fn is_oom_group(&self, group: GroupId) -> bool
         requires { IsTrue (has_group self.now.groups group) }
         ensures now { result ≡ is_oom_group self.now.groups group }
         ensures run { (run : Run) → Shows self.now run → result ≡ flag_given run group }
     {
-        self.rows.tree.oom_group(group)
+        self.rows.tree.is_oom_group(group)
     }
 
     /// The place of a frame of the zone.

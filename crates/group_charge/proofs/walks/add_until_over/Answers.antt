@@ -25,8 +25,8 @@ overflow_add-usage c =
     let fits = c.requires.fits m in
     omega (arith, here, fits)
 
-pub limit-requires : goal.limit-requires
-limit-requires c =
+pub max-requires : goal.max-requires
+max-requires c =
     let old = c.args.usages.now in
     let test : ℕ → Bool = λ k. has_room c.args.tree.now (usage_by old) k c.args.pages in
     let t = walking_turn ℕ 0 c.args.tree.now test c.args.group
@@ -45,7 +45,7 @@ returns-then-not-fits_limit-clause-room c =
     (λ _ usage. usage + c.args.pages) old m c.loop-ancestor.ancestor-iterator c.next.new.self now c.requires.legal c.loop-ancestor.invariant c.in-Some.ensures.steps in
     let here : usage_by now c.number-number.result ≡ usage_by old m = ap (usage_by now) c.number-number.ensures.value ∙ t.own in
     let room : c.fits_limit.result ≡ has_room groups (usage_by old) m c.args.pages =
-    c.fits_limit.ensures ∙ ap (λ o. fits_limit o (usage_by now c.number-number.result + c.args.pages)) c.limit.ensures
+    c.fits_limit.ensures ∙ ap (λ o. fits_limit o (usage_by now c.number-number.result + c.args.pages)) c.max.ensures
     ∙ ap (λ u. fits_limit (limit_of groups m) (u + c.args.pages)) here in
     record {
       on_path = t.turn.walked.on_path;
@@ -73,7 +73,7 @@ loop-ancestor-preserved c =
     (λ _ usage. usage + c.args.pages) old m c.loop-ancestor.ancestor-iterator c.next.new.self now c.requires.legal c.loop-ancestor.invariant c.in-Some.ensures.steps in
     let here : usage_by now c.number-number.result ≡ usage_by old m = ap (usage_by now) c.number-number.ensures.value ∙ t.own in
     let room : c.fits_limit.result ≡ has_room groups (usage_by old) m c.args.pages =
-    c.fits_limit.ensures ∙ ap (λ o. fits_limit o (usage_by now c.number-number.result + c.args.pages)) c.limit.ensures
+    c.fits_limit.ensures ∙ ap (λ o. fits_limit o (usage_by now c.number-number.result + c.args.pages)) c.max.ensures
     ∙ ap (λ u. fits_limit (limit_of groups m) (u + c.args.pages)) here in
     let item = usage_by now c.number-number.result + c.args.pages in
     let within : m < length now = omega (arith, t.size, c.requires.size, c.number-number.ensures.below, c.number-number.ensures.value) in

@@ -4,7 +4,7 @@ use Rattle.group_tree.proofs.CallerLemmas.{in_subtree-below}
 use Rattle.mem_reclaim.specs.Sets.{IsFlaggedAbove}
 use Rattle.mem_reclaim.proofs.KilledRoots.{RootSoFar, root_after, root_end, head_first, root_on, root_turn, never_past, never_root}
 use Rattle.mem_reclaim.proofs.sets.highest_flagged.Goals as goal
-use Rattle.mem_reclaim.proofs.sets.highest_flagged.Goals.{then-oom_group, else-oom_group}
+use Rattle.mem_reclaim.proofs.sets.highest_flagged.Goals.{then-is_oom_group, else-is_oom_group}
 
 pub ancestors-above-items-requires : goal.ancestors-above-items-requires
 ancestors-above-items-requires c = in_subtree-below c.args.tree.now c.args.limited c.args.victim c.requires
@@ -15,8 +15,8 @@ loop-above-init c =
     (in_subtree-below c.args.tree.now c.args.limited c.args.victim c.requires)
     (c.into_iter-above-iterator.ensures.into_iter_gives ∙ c.ancestors-above-items.ensures.value)
 
-pub oom_group-requires : goal.oom_group-requires
-oom_group-requires c =
+pub is_oom_group-requires : goal.is_oom_group-requires
+is_oom_group-requires c =
     (root_turn c.args.tree.now c.groups-groups.ensures.legal c.args.limited c.args.victim c.in-Some.above c.loop-above.killed_root c.loop-above.above-iterator
     c.next.new.self c.loop-above.invariant c.in-Some.ensures.steps).turn.there
 
@@ -27,12 +27,12 @@ loop-above-preserved c =
     let m = c.in-Some.above in
     let t = root_turn groups facts c.args.limited c.args.victim m c.loop-above.killed_root c.loop-above.above-iterator c.next.new.self c.loop-above.invariant
     c.in-Some.ensures.steps in
-    let root : root_after c.oom_group.result m c.loop-above.killed_root ≡ c.if-oom_group.killed_root = elim c.if-oom_group.branch [
-      | then-oom_group w ↦ ap (λ (b : Bool). root_after b m c.loop-above.killed_root) w.if-oom_group.true ∙ sym w.killed_root-is
-      | else-oom_group w ↦ ap (λ (b : Bool). root_after b m c.loop-above.killed_root) w.if-oom_group.false ∙ sym w.killed_root-is
+    let root : root_after c.is_oom_group.result m c.loop-above.killed_root ≡ c.if-is_oom_group.root = elim c.if-is_oom_group.branch [
+      | then-is_oom_group w ↦ ap (λ (b : Bool). root_after b m c.loop-above.killed_root) w.if-is_oom_group.true ∙ sym w.killed_root-is
+      | else-is_oom_group w ↦ ap (λ (b : Bool). root_after b m c.loop-above.killed_root) w.if-is_oom_group.false ∙ sym w.killed_root-is
     ] in
     subst (λ (h : Option ℕ). RootSoFar groups c.args.limited c.args.victim h c.next.new.self) root
-    (root_on groups facts c.args.limited c.args.victim m c.loop-above.killed_root c.next.new.self t c.oom_group.result (sym c.oom_group.ensures)
+    (root_on groups facts c.args.limited c.args.victim m c.loop-above.killed_root c.next.new.self t c.is_oom_group.result (sym c.is_oom_group.ensures)
     (eqb-false m c.args.limited (sym c.eq.ensures ∙ c.if-eq.false)))
 
 pub returns-then-eq : goal.returns-then-eq
@@ -42,15 +42,15 @@ returns-then-eq c =
     let m = c.in-Some.above in
     let t = root_turn groups facts c.args.limited c.args.victim m c.loop-above.killed_root c.loop-above.above-iterator c.next.new.self c.loop-above.invariant
     c.in-Some.ensures.steps in
-    let root : root_after c.oom_group.result m c.loop-above.killed_root ≡ c.if-oom_group.killed_root = elim c.if-oom_group.branch [
-      | then-oom_group w ↦ ap (λ (b : Bool). root_after b m c.loop-above.killed_root) w.if-oom_group.true ∙ sym w.killed_root-is
-      | else-oom_group w ↦ ap (λ (b : Bool). root_after b m c.loop-above.killed_root) w.if-oom_group.false ∙ sym w.killed_root-is
+    let root : root_after c.is_oom_group.result m c.loop-above.killed_root ≡ c.if-is_oom_group.root = elim c.if-is_oom_group.branch [
+      | then-is_oom_group w ↦ ap (λ (b : Bool). root_after b m c.loop-above.killed_root) w.if-is_oom_group.true ∙ sym w.killed_root-is
+      | else-is_oom_group w ↦ ap (λ (b : Bool). root_after b m c.loop-above.killed_root) w.if-is_oom_group.false ∙ sym w.killed_root-is
     ] in
-    let highest : IsFlaggedAbove groups c.args.limited c.args.victim c.if-oom_group.killed_root =
+    let highest : IsFlaggedAbove groups c.args.limited c.args.victim c.if-is_oom_group.root =
     subst (λ (h : Option ℕ). IsFlaggedAbove groups c.args.limited c.args.victim h) root
-    (root_end groups facts c.args.limited c.args.victim m c.loop-above.killed_root c.next.new.self t c.oom_group.result (sym c.oom_group.ensures)
+    (root_end groups facts c.args.limited c.args.victim m c.loop-above.killed_root c.next.new.self t c.is_oom_group.result (sym c.is_oom_group.ensures)
     (eqb-true m c.args.limited (sym c.eq.ensures ∙ c.if-eq.true))) in
-    record { highest = highest; below_root = never_root groups facts c.args.limited c.args.victim c.if-oom_group.killed_root highest }
+    record { highest = highest; below_root = never_root groups facts c.args.limited c.args.victim c.if-is_oom_group.root highest }
 
 pub returns : goal.returns
 returns c =

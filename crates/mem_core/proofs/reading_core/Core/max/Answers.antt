@@ -11,5 +11,5 @@ returns-clause-run c run shows =
     let g = c.args.group in
     let told = groups_follow_the_run c.args.self.now.zone run shows.legal g in
     let there = subst (λ (s : State). has_group s.groups g ≡ true) shows.state c.requires in
-    let now : c.limit.result ≡ limit_of c.args.self.now.groups g = c.limit.ensures ∙ ap (λ (s : CoreState). limit_of s.groups g) c.self.view_is in
+    let now : c.max.result ≡ limit_of c.args.self.now.groups g = c.max.ensures ∙ ap (λ (s : CoreState). limit_of s.groups g) c.self.view_is in
     now ∙ ap (λ (s : State). limit_of s.groups g) shows.state ∙ told.limit there

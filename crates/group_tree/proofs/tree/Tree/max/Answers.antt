@@ -1,7 +1,7 @@
 use Rattle.std.proofs.Common.{ap, ◌∙◌, subst}
 use Rattle.group_tree.specs.Slots.{AreSlots}
 use Rattle.group_tree.proofs.SlotLemmas.{limit-slot, slot_read}
-use Rattle.group_tree.proofs.tree.Tree.limit.Goals as goal
+use Rattle.group_tree.proofs.tree.Tree.max.Goals as goal
 
 pub returns : goal.returns
 returns c =

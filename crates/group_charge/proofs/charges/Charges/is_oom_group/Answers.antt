@@ -1,5 +1,5 @@
 use Rattle.std.proofs.Common.{rules}
-use Rattle.group_charge.proofs.charges.Charges.oom_group.Goals as goal
+use Rattle.group_charge.proofs.charges.Charges.is_oom_group.Goals as goal
 
 pub returns : goal.returns
 returns c = search rules
