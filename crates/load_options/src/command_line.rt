@@ -12,7 +12,7 @@ ghost use Rattle.load_options.specs.Words.{sized_shape};
 
 use crate::fault::WordsFault;
 use crate::task::{
-    MOST_BATCH, MOST_CPUS, MOST_FRAMES, MOST_HIGH, MOST_STOCK, Options, VERSION_OPTIONS, is_traced,
+    Options, VERSION_OPTIONS, is_traced,
     read_options,
 };
 use clap::builder::ValueParser;
@@ -22,6 +22,7 @@ use std::alloc::{AllocError, Global};
 use std::convert::AsStr;
 use std::rt::Env;
 use std::{env, io};
+use zone_sizes::config::Config;
 
 /// The program's version.
 pub const VERSION: &str = "0.1.0";
@@ -228,11 +229,11 @@ fn sized<'a>(alloc: Global, name: &'a str, about: &'a str) -> Result<Command<'a>
 {
     Command::new(alloc, name)
         .about(about)
-        .arg(size_option(alloc, "frames", FRAMES_HELP, MOST_FRAMES, "16"))?
-        .arg(size_option(alloc, "cpus", CPUS_HELP, MOST_CPUS, "2"))?
-        .arg(size_option(alloc, "batch", BATCH_HELP, MOST_BATCH, "4"))?
-        .arg(size_option(alloc, "high", HIGH_HELP, MOST_HIGH, "8"))?
-        .arg(size_option(alloc, "stock", STOCK_HELP, MOST_STOCK, "4"))
+        .arg(size_option(alloc, "frames", FRAMES_HELP, Config::MAX_FRAMES, "16"))?
+        .arg(size_option(alloc, "cpus", CPUS_HELP, Config::MAX_CPUS, "2"))?
+        .arg(size_option(alloc, "batch", BATCH_HELP, Config::MAX_BATCH, "4"))?
+        .arg(size_option(alloc, "high", HIGH_HELP, Config::MAX_HIGH, "8"))?
+        .arg(size_option(alloc, "stock", STOCK_HELP, Config::MAX_STOCK, "4"))
 }
 
 // An option without a value.

@@ -11,17 +11,6 @@ ghost use Rattle.load_options.specs.Words.{task_alone, task_in};
 use clap::ArgMatches;
 use zone_sizes::config::Config;
 
-// The greatest value of each size's option.
-pub(crate) const MOST_FRAMES: u32 = 1_048_576;
-
-pub(crate) const MOST_CPUS: u32 = 64;
-
-pub(crate) const MOST_BATCH: u32 = 64;
-
-pub(crate) const MOST_HIGH: u32 = 256;
-
-pub(crate) const MOST_STOCK: u32 = 64;
-
 /// What the program does with its input, with the options of this task alone.
 #[derive(Clone, Copy, Debug, PartialEq, Eq)]
 pub enum Task {
@@ -210,11 +199,11 @@ fn sizes(given: &ArgMatches<'_>) -> Option<Config>
     ensures in_range { IfSome result HasSizesInRange }
 {
     Some(Config {
-        frames: size(given, "frames", MOST_FRAMES)?,
-        cpus: size(given, "cpus", MOST_CPUS)?,
-        batch: size(given, "batch", MOST_BATCH)?,
-        high: size(given, "high", MOST_HIGH)?,
-        stock: size(given, "stock", MOST_STOCK)?,
+        frames: size(given, "frames", Config::MAX_FRAMES)?,
+        cpus: size(given, "cpus", Config::MAX_CPUS)?,
+        batch: size(given, "batch", Config::MAX_BATCH)?,
+        high: size(given, "high", Config::MAX_HIGH)?,
+        stock: size(given, "stock", Config::MAX_STOCK)?,
     })
 }
 

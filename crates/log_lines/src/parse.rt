@@ -12,6 +12,7 @@ use crate::name::{ActionName, AnswerName, action_named, answer_named};
 use crate::word::Words;
 use step_rules::step::{Action, Answer, Step};
 use zone_blocks::block::Block;
+use zone_sizes::config::Config;
 
 // The most bytes of a line, without its line feed.
 const MOST_LINE: usize = 1_024;
@@ -77,7 +78,7 @@ fn parse_zone(mut words: Words<'_>) -> Option<(u32, u32)>
     if !words.is_empty() {
         return None;
     }
-    if 1 <= frames && frames <= 1_048_576 && 1 <= cpus && cpus <= 64 {
+    if 1 <= frames && frames <= Config::MAX_FRAMES && 1 <= cpus && cpus <= Config::MAX_CPUS {
         Some((frames, cpus))
     } else {
         None

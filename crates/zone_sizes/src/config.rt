@@ -20,15 +20,30 @@ pub struct Config {
 impl Config {
     ghost use Rattle.zone_sizes.specs.Config.{IsValidConfig};
 
+    /// The most frames of a zone.
+    pub const MAX_FRAMES: u32 = 1_048_576;
+
+    /// The most CPUs.
+    pub const MAX_CPUS: u32 = 64;
+
+    /// The most frames of a refill or cut.
+    pub const MAX_BATCH: u32 = 64;
+
+    /// The greatest length at which a list is cut.
+    pub const MAX_HIGH: u32 = 256;
+
+    /// The most pages of a prepayment.
+    pub const MAX_STOCK: u32 = 64;
+
     /// Whether every value is in its range.
     pub fn is_valid(&self) -> bool
         ensures { IsTrue result ↔ IsValidConfig self.now }
     {
-        let frames = 1 <= self.frames && self.frames <= 1_048_576;
-        let cpus = 1 <= self.cpus && self.cpus <= 64;
-        let batch = 1 <= self.batch && self.batch <= 64;
-        let high = self.batch <= self.high && self.high <= 256;
-        let stock = 1 <= self.stock && self.stock <= 64;
+        let frames = 1 <= self.frames && self.frames <= Config::MAX_FRAMES;
+        let cpus = 1 <= self.cpus && self.cpus <= Config::MAX_CPUS;
+        let batch = 1 <= self.batch && self.batch <= Config::MAX_BATCH;
+        let high = self.batch <= self.high && self.high <= Config::MAX_HIGH;
+        let stock = 1 <= self.stock && self.stock <= Config::MAX_STOCK;
         frames && cpus && batch && high && stock
     }
 }
