@@ -12,10 +12,10 @@ use group_tree::group::GroupId;
 use std::alloc::{AllocError, Global};
 
 /// Fresh frames of a CPU, at most: the rules refuse a consume with as many.
-const MOST_FRESH: usize = 32;
+const MAX_FRESH: usize = 32;
 
 /// Back frames of a CPU, at most: each was a pin, of which the rules allow as many.
-const MOST_BACK: usize = 256;
+const MAX_BACK: usize = 256;
 
 /// What is kept of one seat: the zone's own, or a CPU's.
 #[derive(Drop)]
@@ -178,8 +178,8 @@ pub(crate) fn new_seat(alloc: Global, frames: u32) -> Result<SeatRow, AllocError
     let count = frames as usize;
     let references = vec![in alloc; 0; count]?;
     let list = Vec::with_capacity(alloc, count)?;
-    let fresh = Vec::with_capacity(alloc, MOST_FRESH)?;
-    let back = Vec::with_capacity(alloc, MOST_BACK)?;
+    let fresh = Vec::with_capacity(alloc, MAX_FRESH)?;
+    let back = Vec::with_capacity(alloc, MAX_BACK)?;
     Ok(SeatRow {
         references,
         list,

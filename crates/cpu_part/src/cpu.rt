@@ -9,13 +9,13 @@ use std::marker::{Model, PhantomData};
 use stock_word::StockSeat;
 
 /// The most listed and fresh frames of a CPU, together.
-pub const MOST_LISTED: usize = 256;
+pub const MAX_LISTED: usize = 256;
 
 /// The most fresh frames of a CPU.
-pub const MOST_FRESH: usize = 32;
+pub const MAX_FRESH: usize = 32;
 
 /// The most pins and back frames of a CPU, together.
-pub const MOST_PINS: usize = 256;
+pub const MAX_PINS: usize = 256;
 
 // Entries past the last one that is used: as many bytes as a cache line.
 const SPARE: usize = 16;
@@ -84,10 +84,10 @@ impl<N: BootName> Cpu<N> {
         requires same { stock_seat.view.number ≡ number_of frame_seat }
         ensures { IfOk result (λ c. c ≡ first_cpu frame_seat stock_seat) }
     {
-        let list = VecDeque::with_capacity(alloc, MOST_LISTED)?;
-        let fresh = Vec::with_capacity(alloc, MOST_FRESH)?;
-        let back = VecDeque::with_capacity(alloc, MOST_PINS)?;
-        let pins = Vec::with_capacity(alloc, MOST_PINS + SPARE)?;
+        let list = VecDeque::with_capacity(alloc, MAX_LISTED)?;
+        let fresh = Vec::with_capacity(alloc, MAX_FRESH)?;
+        let back = VecDeque::with_capacity(alloc, MAX_PINS)?;
+        let pins = Vec::with_capacity(alloc, MAX_PINS + SPARE)?;
         Ok(Cpu {
             number: frame_seat.number(),
             list,

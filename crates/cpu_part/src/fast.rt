@@ -5,7 +5,7 @@ ghost use Rattle.cpu_part.specs.Calls.{FastAnswers, IfGot, DropAnswers};
 
 use crate::answers::{Dropped, Fast};
 use crate::boot_name::{BootName, Tables};
-use crate::cpu::{Cpu, MOST_FRESH};
+use crate::cpu::{Cpu, MAX_FRESH};
 use crate::moves::{freshen, relist};
 use frame_word::Frame;
 use stock_word::{Consume, Credit};
@@ -18,7 +18,7 @@ impl<N: BootName> Cpu<N> {
         ensures answer { FastAnswers group result self.old self.new }
         ensures frame { IfGot result (λ f. f < N.frames.frames) }
     {
-        if self.fresh.len() == MOST_FRESH {
+        if self.fresh.len() == MAX_FRESH {
             return Fast::FreshFull;
         }
         if self.list.is_empty() {

@@ -17,4 +17,4 @@ mod visit;
 
 pub use answers::{Dropped, Fast};
 pub use boot_name::{BootName, Tables};
-pub use cpu::{Cpu, MOST_FRESH, MOST_LISTED, MOST_PINS};
+pub use cpu::{Cpu, MAX_FRESH, MAX_LISTED, MAX_PINS};

@@ -7,7 +7,7 @@ ghost use Rattle.cpu_part.specs.Cpus.{most_pins, times};
 ghost use Rattle.cpu_part.specs.Calls.{PinAnswers, UnpinAnswers};
 
 use crate::boot_name::{BootName, Tables};
-use crate::cpu::{Cpu, MOST_PINS};
+use crate::cpu::{Cpu, MAX_PINS};
 use crate::moves::unpin;
 use frame_word::{Frame, Get, Put};
 use group_tree::fault::Fault;
@@ -25,7 +25,7 @@ impl<N: BootName> Cpu<N> {
         ensures never_zero { 1 ≤ times frame self.old.pins → result ≢ Ok Zero }
         ensures in_no_hand { IfOk result (λ answer. answer ≢ Zero → IsInNoHand self.old.frame_seat frame) }
     {
-        if self.back.len() + self.pins.len() == MOST_PINS {
+        if self.back.len() + self.pins.len() == MAX_PINS {
             return Err(Fault::PinsFull);
         }
         match tables.frames.get(&mut self.frame_seat, frame) {

@@ -27,7 +27,7 @@ use atomic_table::{Closed, Join, Play, Seat, Split, Table, TableRule};
 use std::alloc::{AllocError, Global};
 
 /// The most references that a frame can have.
-pub const MOST_REFERENCES: u64 = 255;
+pub const MAX_REFERENCES: u64 = 255;
 
 /// Passing marks are above it: that of a CPU is this number plus the CPU's.
 pub const MARK_BASE: u64 = 256;

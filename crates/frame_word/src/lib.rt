@@ -24,6 +24,6 @@ mod words;
 pub use answers::{Get, Put};
 pub use closed::ClosedWords;
 pub use frame::Frame;
-pub use kinds::{MARK_BASE, MOST_REFERENCES};
+pub use kinds::{MARK_BASE, MAX_REFERENCES};
 pub use seat::FrameSeat;
 pub use words::FrameWords;

@@ -8,7 +8,7 @@ ghost use Rattle.frame_word.specs.Seats.{seat_references, seat_with, IsInNoHand,
 
 use crate::answers::{Get, Put};
 use crate::frame::Frame;
-use crate::kinds::MOST_REFERENCES;
+use crate::kinds::MAX_REFERENCES;
 use crate::seat::FrameSeat;
 use crate::words::FrameWords;
 
@@ -25,10 +25,10 @@ impl FrameWords {
         ensures in_no_hand { result ≢ Zero → IsInNoHand seat.old frame }
     {
         let seen = self.step_look(seat, frame);
-        if seen == 0 || seen > MOST_REFERENCES {
+        if seen == 0 || seen > MAX_REFERENCES {
             return Get::Zero;
         }
-        if seen == MOST_REFERENCES {
+        if seen == MAX_REFERENCES {
             return Get::Full;
         }
         let found = self.step_add(seat, frame, seen);

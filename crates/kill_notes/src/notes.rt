@@ -14,11 +14,11 @@ use std::marker::Model;
 /// zone. For each of 8 limits on a path these are the limit, a stock of each of 64 CPUs, 16 rounds and an `oom`. There
 /// is a `Kill` for each of 63 groups, and a victim and a `GroupKill` each time that the killer chooses, at most 63
 /// times. And the 64 stocks are drained as their groups die. Rounds of the zone are 16, with one note before them. So
-/// all of these fit beside `MOST_SPANS` spans.
-pub const MOST_NOTES: usize = 2_048;
+/// all of these fit beside `MAX_SPANS` spans.
+pub const MAX_NOTES: usize = 2_048;
 
 /// How many of the notes are spans of freed units at most.
-pub const MOST_SPANS: usize = 1_024;
+pub const MAX_SPANS: usize = 1_024;
 
 /// The notes of a visit, the oldest first; at most the first 2,048 of them, and at most the first 1,024 spans of freed
 /// units.
@@ -51,7 +51,7 @@ impl Notes {
     pub fn new(alloc: Global) -> Result<Notes, AllocError>
         ensures { IfOk result (λ notes. notes ≡ no_notes) }
     {
-        let notes = Vec::with_capacity(alloc, MOST_NOTES)?;
+        let notes = Vec::with_capacity(alloc, MAX_NOTES)?;
         Ok(Notes {
             notes,
             spans: 0,
@@ -71,7 +71,7 @@ impl Notes {
     pub fn note(&mut self, note: Note)
         ensures { self.new ≡ noted self.old note }
     {
-        if self.notes.len() < MOST_NOTES {
+        if self.notes.len() < MAX_NOTES {
             self.spans += usize::from(is_span(&note));
             self.notes.push_reserved(note);
         }
@@ -116,7 +116,7 @@ impl Notes {
     fn add_span(&mut self, group: GroupId, first: u32, frames: u32)
         ensures { self.new ≡ with_new_span self.old group first frames }
     {
-        if self.spans < MOST_SPANS && self.notes.len() < MOST_NOTES {
+        if self.spans < MAX_SPANS && self.notes.len() < MAX_NOTES {
             let (first, last) = (u64::from(first), last_frame(first, frames));
             self.spans += 1;
             self.notes

@@ -9,7 +9,7 @@ use std::alloc::{AllocError, AllocFailed};
 use std::io::{ErrorKind, Read};
 
 /// The most bytes that a line has, its line feed not counted.
-pub const MOST_LINE: usize = 1_024;
+pub const MAX_LINE: usize = 1_024;
 
 /// What a reader held.
 #[derive(Clone, Copy, Debug, PartialEq, Eq)]
@@ -59,7 +59,7 @@ pub fn read_line<I: Read>(input: &mut I, line: &mut Vec<u8>) -> Result<Found, Re
     ensures short { OnOk result (length line.new.items ≤ 1024) }
 {
     line.clear();
-    for _ in 0..MOST_LINE {
+    for _ in 0..MAX_LINE {
         let Some(byte) = next_byte(input)? else {
             return Ok(if line.is_empty() {
                 Found::End

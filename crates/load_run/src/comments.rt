@@ -5,7 +5,7 @@ ghost use Rattle.load_run.specs.Logs.{comment_front, comment_text, line_comment,
 
 use itoa::Buffer;
 use script_lines::line::Line;
-use script_lines::script::MOST_LINE;
+use script_lines::script::MAX_LINE;
 use script_traces::text_at;
 use std::alloc::{AllocError, Global};
 
@@ -47,7 +47,7 @@ fn comment(alloc: Global, number: usize, command: &[u8]) -> Result<Vec<u8>, Allo
     let mut text = Vec::new(alloc);
     add_front(number, &mut text)?;
     add_printed(command, &mut text)?;
-    text.truncate(MOST_LINE);
+    text.truncate(MAX_LINE);
     Ok(text)
 }
 

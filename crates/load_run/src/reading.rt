@@ -6,7 +6,7 @@ ghost use Rattle.load_run.specs.Answers.{bytes_read};
 ghost use Rattle.load_run.specs.Fault.{IsReadFault};
 
 use crate::fault::ProgramFault;
-use script_lines::script::MOST_INPUT;
+use script_lines::script::MAX_INPUT;
 use std::alloc::Global;
 use std::cmp::min;
 use std::io::{ErrorKind, Read};
@@ -27,10 +27,10 @@ pub fn read_script<I: Read>(alloc: Global, input: &mut I) -> Result<Vec<u8>, Pro
     let mut script = Vec::new(alloc);
     let mut piece = [0; PIECE];
     for _ in 0..u64::MAX {
-        if script.len() > MOST_INPUT {
+        if script.len() > MAX_INPUT {
             return Ok(script);
         }
-        let wanted = min(PIECE, MOST_INPUT + 1 - script.len());
+        let wanted = min(PIECE, MAX_INPUT + 1 - script.len());
         match input.read(&mut piece[..wanted]) {
             Ok(0) => return Ok(script),
             Ok(n) => add_piece(&mut script, &piece[..n])?,

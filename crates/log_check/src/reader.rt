@@ -10,7 +10,7 @@ use log_lines::parse_line;
 use std::alloc::Global;
 
 // The most bytes of a line, without its line feed.
-const MOST_LINE: usize = 1_024;
+const MAX_LINE: usize = 1_024;
 
 /// A log as far as it was read: the unfinished line, the number of finished ones, and what these led to.
 #[derive(Drop)]
@@ -84,7 +84,7 @@ impl LogReader {
         if byte == b'\n' {
             return self.end_line(alloc);
         }
-        if self.line.len() >= MOST_LINE {
+        if self.line.len() >= MAX_LINE {
             return Ok(Some(LogVerdict::BadLine {
                 line: self.lines + 1,
             }));

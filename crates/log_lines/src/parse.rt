@@ -15,7 +15,7 @@ use zone_blocks::block::Block;
 use zone_sizes::config::Config;
 
 // The most bytes of a line, without its line feed.
-const MOST_LINE: usize = 1_024;
+const MAX_LINE: usize = 1_024;
 
 /// The line that has this text, which has no line feed. None exactly if no line has it. That includes a text of more
 /// than 1,024 bytes, and a number with a sign, with a leading zero or out of its range.
@@ -45,7 +45,7 @@ pub fn bad_line_is_no_log()
 fn line_of(text: &[u8]) -> Option<LogLine>
     ensures { result ≡ line_of text.now }
 {
-    if text.len() > MOST_LINE {
+    if text.len() > MAX_LINE {
         return None;
     }
     if is_skipped(text) {

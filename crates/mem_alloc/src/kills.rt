@@ -15,7 +15,7 @@ use mem_reclaim::kill;
 
 // The most pages for which groups are killed: those of an order of 3. Linux kills nobody for more either
 // (`PAGE_ALLOC_COSTLY_ORDER`).
-const MOST_KILLED_FOR: u32 = 8;
+const MAX_KILLED_FOR: u32 = 8;
 
 // Whether the limit of the group has room for this many more pages.
 pub(crate) fn has_room_at(charges: &Charges, group: GroupId, pages: u32) -> bool
@@ -90,7 +90,7 @@ pub(crate) fn kill_for_few_pages<N: BootName>(
     requires { IsTrue (has_group machine.old.ledger.groups limited) }
     ensures { ByStepsOfAny N.frames (KillsForFewPages requester limited pages) machine.old machine.new }
 {
-    if pages <= MOST_KILLED_FOR {
+    if pages <= MAX_KILLED_FOR {
         kill_for(machine, tables, Some(requester), limited, pages);
     }
 }

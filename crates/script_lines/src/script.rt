@@ -20,10 +20,10 @@ use std::alloc::Global;
 use zone_sizes::config::Config;
 
 /// The most bytes that a script has.
-pub const MOST_INPUT: usize = 1_048_576;
+pub const MAX_INPUT: usize = 1_048_576;
 
 /// The most bytes that a line has, its line feed not counted.
-pub const MOST_LINE: usize = 1_024;
+pub const MAX_LINE: usize = 1_024;
 
 /// The lines of a script in their order, without the empty ones and those that begin with `#`, each with its number.
 ///
@@ -64,7 +64,7 @@ fn parse_lines<'a>(
         let (text, after) = first_line(left);
         rest = after;
         number += 1;
-        if text.len() > MOST_LINE || !is_within(number, over) {
+        if text.len() > MAX_LINE || !is_within(number, over) {
             return Err(ScriptFault::BadLine(number));
         }
         let goes = is_go(text);
@@ -99,10 +99,10 @@ pub fn line_over(input: &[u8]) -> Option<usize>
     ensures { MatchOption result (length input.now ≤ longest_script)
         (λ n. (longest_script < length input.now) × (n ≡ ended_lines (take longest_script input.now) + 1)) }
 {
-    if input.len() <= MOST_INPUT {
+    if input.len() <= MAX_INPUT {
         return None;
     }
-    let before = input[..MOST_INPUT]
+    let before = input[..MAX_INPUT]
         .iter()
         .filter(|byte| **byte == b'\n')
         .count();

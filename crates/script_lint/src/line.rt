@@ -11,7 +11,7 @@ use crate::cause::cause_of;
 use crate::command::common;
 use crate::finding::{Cause, Spot};
 use crate::request::request_place;
-use script_lines::script::{MOST_LINE, is_go};
+use script_lines::script::{MAX_LINE, is_go};
 use script_lines::verb::Names;
 use zone_sizes::config::Config;
 
@@ -40,9 +40,9 @@ fn stuck_spot(text: &[u8], place: usize) -> Spot
     requires { place ≤ length text.now }
     ensures { result ≡ stuck_spot text.now place }
 {
-    if MOST_LINE < place {
+    if MAX_LINE < place {
         Spot {
-            place: MOST_LINE,
+            place: MAX_LINE,
             cause: Cause::LineTooLong,
         }
     } else {
@@ -57,9 +57,9 @@ fn stuck_spot(text: &[u8], place: usize) -> Spot
 fn whole_spot(text: &[u8], is_within: bool) -> Option<Spot>
     ensures { result ≡ whole_spot text.now is_within }
 {
-    if MOST_LINE < text.len() {
+    if MAX_LINE < text.len() {
         Some(Spot {
-            place: MOST_LINE,
+            place: MAX_LINE,
             cause: Cause::LineTooLong,
         })
     } else if is_within {

@@ -9,8 +9,8 @@ use Rattle.load_run.proofs.reading.read_script.Goals as goal
 pub loop-init : goal.loop-init
 loop-init g c = read_none _ _ c.new-script.ensures.items
 
-pub returns-then-len-gt-MOST_INPUT-clause-read : goal.returns-then-len-gt-MOST_INPUT-clause-read
-returns-then-len-gt-MOST_INPUT-clause-read g c =
+pub returns-then-len-gt-MAX_INPUT-clause-read : goal.returns-then-len-gt-MAX_INPUT-clause-read
+returns-then-len-gt-MAX_INPUT-clause-read g c =
     let full : 1048577 ≤ length c.loop.script.items = search rules in
     read_full _ _ _ c.loop.invariant full
 

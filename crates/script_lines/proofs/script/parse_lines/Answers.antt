@@ -2,8 +2,8 @@ use Rattle.std.proofs.Common.{◌≡◌, ◌∷◌, ◌++◌, [], rules, ◌∙�
 use Rattle.script_lines.specs.Script.{is_skipped, texts_left}
 use Rattle.script_lines.proofs.Progress.{all_read, few_lines, is_first_bad, is_good, is_whole, next_of, not_far, not_long, not_once, not_said, passes_over, takes_line}
 use Rattle.script_lines.proofs.script.parse_lines.Goals as goal
-use Rattle.script_lines.proofs.script.parse_lines.Goals.{then-text-gt-MOST_LINE-via-then-text-gt-MOST_LINE}
-use Rattle.script_lines.proofs.script.parse_lines.Goals.{then-text-gt-MOST_LINE-via-else-text-gt-MOST_LINE+then-not-is_within}
+use Rattle.script_lines.proofs.script.parse_lines.Goals.{then-text-gt-MAX_LINE-via-then-text-gt-MAX_LINE}
+use Rattle.script_lines.proofs.script.parse_lines.Goals.{then-text-gt-MAX_LINE-via-else-text-gt-MAX_LINE+then-not-is_within}
 
 pub overflow_add-number : goal.overflow_add-number
 overflow_add-number c =
@@ -13,13 +13,13 @@ overflow_add-number c =
     let few = few_lines c.args.input.now in
     record { fits = omega arith }
 
-pub returns-then-text-gt-MOST_LINE-clause-bad_line : goal.returns-then-text-gt-MOST_LINE-clause-bad_line
-returns-then-text-gt-MOST_LINE-clause-bad_line c =
+pub returns-then-text-gt-MAX_LINE-clause-bad_line : goal.returns-then-text-gt-MAX_LINE-clause-bad_line
+returns-then-text-gt-MAX_LINE-clause-bad_line c =
     let next = next_of c.args.input.now c.loop-rest.number c.first_line.result.0.now (texts_left c.first_line.result.1)
     (c.loop-rest.invariant.1 ∙ ap texts_left c.in-Some.is ∙ c.first_line.ensures) in
-    is_first_bad _ _ _ _ _ _ _ c.loop-rest.invariant.0 next.0 (elim c.then-text-gt-MOST_LINE.branch [
-      | then-text-gt-MOST_LINE-via-then-text-gt-MOST_LINE w ↦ not_long _ _ _ _ _ next.0 w.if-text-gt-MOST_LINE.true
-      | then-text-gt-MOST_LINE-via-else-text-gt-MOST_LINE+then-not-is_within w ↦ not_far c.args.sizes.now _ _ c.line_over-over.result
+    is_first_bad _ _ _ _ _ _ _ c.loop-rest.invariant.0 next.0 (elim c.then-text-gt-MAX_LINE.branch [
+      | then-text-gt-MAX_LINE-via-then-text-gt-MAX_LINE w ↦ not_long _ _ _ _ _ next.0 w.if-text-gt-MAX_LINE.true
+      | then-text-gt-MAX_LINE-via-else-text-gt-MAX_LINE+then-not-is_within w ↦ not_far c.args.sizes.now _ _ c.line_over-over.result
           c.line_over-over.ensures (λ near. let bad : false ≡ true = rw w.if-not-is_within.true at (w.is_within.ensures.1 near) in cc)
     ])
 
@@ -35,7 +35,7 @@ loop-rest-preserved-then-is_skipped c =
     let next = next_of c.args.input.now c.loop-rest.number c.first_line.result.0.now (texts_left c.first_line.result.1)
     (c.loop-rest.invariant.1 ∙ ap texts_left c.in-Some.is ∙ c.first_line.ensures) in
     let is : is_skipped c.first_line.result.0.now ≡ true = sym c.is_skipped.ensures ∙ c.if-is_skipped.true in
-    let good = is_good c.args.sizes.now _ _ _ _ c.line_over-over.result next.0 c.if-text-gt-MOST_LINE.false c.line_over-over.ensures
+    let good = is_good c.args.sizes.now _ _ _ _ c.line_over-over.result next.0 c.if-text-gt-MAX_LINE.false c.line_over-over.ensures
     (search rules) (λ asks. let bad : false ≡ true = sym asks ∙ is in cc) (search rules) in
     let inside = next.0.inside in
     (passes_over _ _ _ c.loop-rest.had_go _ _ _ _ c.loop-rest.invariant.0 next.0 good is (search rules), next.1, omega arith)
@@ -44,7 +44,7 @@ pub loop-rest-preserved : goal.loop-rest-preserved
 loop-rest-preserved c =
     let next = next_of c.args.input.now c.loop-rest.number c.first_line.result.0.now (texts_left c.first_line.result.1)
     (c.loop-rest.invariant.1 ∙ ap texts_left c.in-Some.is ∙ c.first_line.ensures) in
-    let good = is_good c.args.sizes.now _ _ _ _ c.line_over-over.result next.0 c.if-text-gt-MOST_LINE.false c.line_over-over.ensures
+    let good = is_good c.args.sizes.now _ _ _ _ c.line_over-over.result next.0 c.if-text-gt-MAX_LINE.false c.line_over-over.ensures
     (search rules) (λ asks. (c.in-Some-parse_line.line, c.in-Some-parse_line.ensures)) (search rules) in
     let pushed : c.push.new.self.items ≡ c.loop-rest.lines.items ++ c.in-Some-parse_line.line ∷ [] = search rules in
     let inside = next.0.inside in (

@@ -32,5 +32,5 @@ returns-in-OtherGroup-clause-answer g c = search rules
 pub returns-then-is_empty-clause-answer : goal.returns-then-is_empty-clause-answer
 returns-then-is_empty-clause-answer g c = grind (arith, common_steps)
 
-pub returns-then-len-eq-MOST_FRESH-clause-answer : goal.returns-then-len-eq-MOST_FRESH-clause-answer
-returns-then-len-eq-MOST_FRESH-clause-answer g c = search rules
+pub returns-then-len-eq-MAX_FRESH-clause-answer : goal.returns-then-len-eq-MAX_FRESH-clause-answer
+returns-then-len-eq-MAX_FRESH-clause-answer g c = search rules

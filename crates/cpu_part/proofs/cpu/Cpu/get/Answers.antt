@@ -31,5 +31,5 @@ returns-in_default-clause-answer g c =
     let room : length c.self.inside.back.items + length c.self.inside.pins.items < 256 = omega arith in
     not_pinned _ _ c.self.view_is c.args.frame c.get.result c.get.new.seat room c.in_default.not-Held c.get.ensures.answer
 
-pub returns-then-len-eq-MOST_PINS-clause-answer : goal.returns-then-len-eq-MOST_PINS-clause-answer
-returns-then-len-eq-MOST_PINS-clause-answer g c = search rules
+pub returns-then-len-eq-MAX_PINS-clause-answer : goal.returns-then-len-eq-MAX_PINS-clause-answer
+returns-then-len-eq-MAX_PINS-clause-answer g c = search rules
