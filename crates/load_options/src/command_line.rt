@@ -11,10 +11,7 @@ ghost use Rattle.load_options.specs.Words.{flag_rule, options_of, program, repla
 ghost use Rattle.load_options.specs.Words.{sized_shape};
 
 use crate::fault::WordsFault;
-use crate::task::{
-    Options, VERSION_OPTIONS, is_traced,
-    read_options,
-};
+use crate::task::{Options, VERSION_OPTIONS, is_traced, read_options};
 use clap::builder::ValueParser;
 use clap::error::ErrorKind;
 use clap::{Arg, ArgAction, ArgMatches, Command, Error, value_parser};

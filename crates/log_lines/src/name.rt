@@ -95,8 +95,14 @@ const ACTION_NAMES: [(&[u8], ActionName); 31] = [
     (b"publish", ActionName::Number(NumberAction::Publish)),
     (b"return", ActionName::Number(NumberAction::Return)),
     (b"freeze", ActionName::TwoNumbers(TwoNumberAction::Freeze)),
-    (b"unfreeze", ActionName::TwoNumbers(TwoNumberAction::Unfreeze)),
-    (b"pass-out", ActionName::TwoNumbers(TwoNumberAction::PassOut)),
+    (
+        b"unfreeze",
+        ActionName::TwoNumbers(TwoNumberAction::Unfreeze),
+    ),
+    (
+        b"pass-out",
+        ActionName::TwoNumbers(TwoNumberAction::PassOut),
+    ),
     (b"collect", ActionName::TwoNumbers(TwoNumberAction::Collect)),
     (b"consume", ActionName::Group(GroupAction::Consume)),
     (b"note-max", ActionName::Group(GroupAction::NoteMax)),

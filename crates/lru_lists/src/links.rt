@@ -93,6 +93,7 @@ impl Links {
         self.records[frame as usize] = Packed::NOWHERE;
     }
 
+    // Sets whether a unit is marked: touched once since it joined the inactive list.
     pub(crate) fn set_marked(&mut self, unit: u32, is_marked: bool)
         requires { unit < length self.old }
         ensures { self.new ≡ slice_set self.old unit (record (link_at self.old unit) { is_marked = is_marked }) }
@@ -108,6 +109,7 @@ impl Links {
         self.records[unit as usize].is_dirty = is_dirty;
     }
 
+    // The record of a frame, as a copy: a change of it is stored by `put`.
     pub(crate) fn link(&self, frame: u32) -> Link
         requires { frame < length self.now }
         ensures { result ≡ link_at self.now frame }
@@ -115,6 +117,7 @@ impl Links {
         self.records[frame as usize].link()
     }
 
+    // Stores a whole record, so a caller that keeps the flags reads the old one first.
     pub(crate) fn put(&mut self, frame: u32, link: Link)
         requires frame { frame < length self.old }
         requires older { IsNumber link.older }
