@@ -30,7 +30,7 @@ use Rattle.mem_reclaim.specs.declared.sets.Killed.{Killed}
 use Rattle.mem_reclaim.specs.Moves.{has_kill, is_kill, killed_by, kills_in, missed_in}
 use Rattle.mem_reclaim.specs.Staying.{Keeps, MissedAll}
 use Rattle.mem_reclaim.specs.Killing.{IsKilledBy, KillsGroups, KillsRootOrVictim, OnlyDrains, OnlyReleases}
-use Rattle.mem_reclaim.specs.Sets.{alive_below, group_kill_note, kill_set}
+use Rattle.mem_reclaim.specs.Sets.{alive_in_subtree, group_kill_note, kill_set}
 use Rattle.mem_reclaim.specs.Victim.{victim_note}
 use Rattle.mem_reclaim.proofs.KillSets.{kills_both, missed_both}
 use Rattle.mem_reclaim.proofs.LettingGo.{AreQuiet, quiet_both, quiet_drains}
@@ -130,7 +130,8 @@ set_first : (flag : Bool) (t : KnownTable) (g : ℕ) (killed : Killed) (m : Know
     → KillsRootOrVictim flag t g killed m steps n → KillsFirst steps
 set_first true t g killed m steps n h =
     subst (λ (k : Run). KillsFirst k) (sym h.steps_are)
-    (subtree_first t g killed.killed_root (alive_below m killed.killed_root) (with_note m (group_kill_note m killed.killed_root)) h.killing h.between h.kills)
+    (subtree_first t g killed.killed_root (alive_in_subtree m killed.killed_root) (with_note m (group_kill_note m killed.killed_root)) h.killing h.between
+    h.kills)
 set_first false t g killed m steps n h = inr (ap begins_with_kill h.kills.steps_are)
 
 -- ---- lists of local steps
