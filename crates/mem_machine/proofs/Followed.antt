@@ -123,7 +123,8 @@ makes_both t p one two a b c first second =
       follows = record {
         peak = λ m there. joined p s one u two v first.leads second.leads m (moves_peak m) (peak_begins m) _ _ _
             (first.follows.peak m) (second.follows.peak m there) there;
-        events = λ key m there. joined p s one u two v first.leads second.leads m (moves_count (is_noted_in_subtree key m) m) (count_begins (is_noted_in_subtree key m) m)
+        events = λ key m there. joined p s one u two v first.leads second.leads m (moves_count (is_noted_in_subtree key m) m)
+            (count_begins (is_noted_in_subtree key m) m)
             _ _ _ (first.follows.events key m) (second.follows.events key m there) there;
         events_local = λ key m there. joined p s one u two v first.leads second.leads m (moves_count (is_noted_at key m) m)
             (count_begins (is_noted_at key m) m) _ _ _ (first.follows.events_local key m) (second.follows.events_local key m there) there;

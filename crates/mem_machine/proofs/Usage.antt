@@ -93,7 +93,8 @@ module _ (t : KnownTable) (w : KnownStockTable) (m : KnownMachine) (c : KnownCpu
   kept_each f inside = elim (cases_lt (times f c.fresh) 1) [
     | inl none ↦
         let zero_is : times f c.fresh ≡ 0 = omega arith in
-        let a : one_if (is_in_subtree groups g (keeper_of (phase_of c f (frame_state f)))) ≡ one_if (is_in_subtree groups g (frame_state_group (frame_state f))) =
+        let a : one_if (is_in_subtree groups g (keeper_of (phase_of c f (frame_state f))))
+        ≡ one_if (is_in_subtree groups g (frame_state_group (frame_state f))) =
         ap (λ (o : Option ℕ). one_if (is_in_subtree groups g o)) (keeper_plain f (frame_state f) (ap (λ (n : ℕ). nat_le 1 n) zero_is)) in
         let b : cond (in_subtree groups g (fresh_group c)) (times f c.fresh) 0 ≡ 0 =
         ap (λ (n : ℕ). cond (in_subtree groups g (fresh_group c)) n 0) zero_is ∙ cond_zero (in_subtree groups g (fresh_group c)) in

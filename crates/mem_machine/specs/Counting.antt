@@ -47,7 +47,8 @@ counts_after state seat (Collect frame cpu) Done counts =
 counts_after state seat (Freeze frame references) Done counts = one_more_freeze counts
 counts_after state seat (Freeze frame references) Missed counts = with_miss counts
 counts_after state seat (Return frame) Done counts =
-    if is_killed_return_phase state.killed (state.phases frame) then with_killed_fresh counts else one_more_return counts
+    if is_killed_return_phase state.killed (state.phases frame) then with_killed_fresh counts
+    else one_more_return counts
 counts_after state seat action answer counts = counts
 
 -- the counts after all steps of a list, the first of which is made in this state

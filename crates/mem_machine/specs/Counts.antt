@@ -22,7 +22,8 @@ with_freeze counts = record counts { freezes = one_more counts.freezes; returns 
 
 -- one more fresh frame of a killed group that was freed
 abbrev pub with_killed_fresh : Counts → Counts
-with_killed_fresh counts = record counts { killed_fresh = one_more counts.killed_fresh; returns = one_more counts.returns }
+with_killed_fresh counts =
+    record counts { killed_fresh = one_more counts.killed_fresh; returns = one_more counts.returns }
 
 -- one more unit missed
 abbrev pub with_miss : Counts → Counts

@@ -97,4 +97,5 @@ current_follows_the_run zone run legal g =
   where
     same_stock : (p : ℕ) → cond (is_in_subtree (state_of zone run).groups g (last_fill run p).group) ((state_of zone run).parts p).stock.pages 0
         ≡ stock_in_subtree (state_of zone run).groups g ((state_of zone run).parts p)
-    same_stock p = ap (λ o. cond (is_in_subtree (state_of zone run).groups g o) ((state_of zone run).parts p).stock.pages 0) (sym (fill_is_told zone run legal p).0)
+    same_stock p = ap (λ o. cond (is_in_subtree (state_of zone run).groups g o) ((state_of zone run).parts p).stock.pages 0)
+        (sym (fill_is_told zone run legal p).0)

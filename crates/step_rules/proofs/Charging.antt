@@ -18,7 +18,8 @@ use Rattle.step_rules.specs.declared.step.Action.TheVariants.{Credit, Report, Ab
 use Rattle.step_rules.specs.declared.step.Action.TheVariants.{SetMax, SetFlag, Make, Remove}
 use Rattle.step_rules.specs.declared.step.Answer.{Answer}
 use Rattle.step_rules.specs.declared.step.Answer.TheVariants.{Illegal, Done, Last, Took, Stocked, Pages, Granted, Placed, Number}
-use Rattle.step_rules.specs.Phases.{FreshFrame, keeper_of, unit_of, has_as, is_free, passes_out, at_stage, passed_back, collected, stage_after_last, is_returnable}
+use Rattle.step_rules.specs.Phases.{FreshFrame, keeper_of, unit_of, has_as, is_free, passes_out, at_stage, passed_back, collected, stage_after_last}
+use Rattle.step_rules.specs.Phases.{is_returnable}
 use Rattle.step_rules.specs.State.{Zone, Part, State, at_boot, with_at, sum_to, one_if, is_cpu, is_frame, visits, front_of, with_last}
 use Rattle.step_rules.specs.Usage.{is_in_subtree, frames_kept, stock_in_subtree, pages_prepaid, pages_pending, usage_of}
 use Rattle.step_rules.specs.Legal.{is_legal, IsAnswer, IsCounted, IsMade, Allows, takes_fill}

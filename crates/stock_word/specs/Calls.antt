@@ -27,8 +27,8 @@ Consumed g Empty v w = (v.last ≡ HeldBy g 0) × (w ≡ v)
 Consumed g OtherGroup v w = (group_of v.last ≢ Some g) × (w ≡ v)
 Consumed g Drained v w = (group_of v.last ≡ Some g) × (v.last ≢ HeldBy g 0) × (w ≡ told_drained v)
 
--- What credit answers. Stocked: a page was put back into the stock of g that it saw last. Drained: that stock is drained
--- by now.
+-- What credit answers. Stocked: a page was put back into the stock of g that it saw last. Drained: that stock is
+-- drained by now.
 abbrev pub Credited : Credit → StockView → StockView → Type 0
 Credited credit.Stocked v w = (g : ℕ) × (n : ℕ) × (v.last ≡ HeldBy g n) × (w ≡ after_back v g (n + 1))
 Credited credit.Drained v w = (g : ℕ) × (group_of v.last ≡ Some g) × (w ≡ told_drained v)
