@@ -130,8 +130,8 @@ set_first : (flag : Bool) (t : KnownTable) (g : ℕ) (killed : Killed) (m : Know
     → KillsRootOrVictim flag t g killed m steps n → KillsFirst steps
 set_first true t g killed m steps n h =
     subst (λ (k : Run). KillsFirst k) (sym h.steps_are)
-    (subtree_first t g killed.killed_root (alive_in_subtree m killed.killed_root) (with_note m (group_kill_note m killed.killed_root)) h.killing h.between
-    h.kills)
+    (subtree_first t g killed.killed_root (alive_in_subtree m killed.killed_root)
+    (with_note m (group_kill_note m killed.killed_root)) h.killing h.between h.kills)
 set_first false t g killed m steps n h = inr (ap begins_with_kill h.kills.steps_are)
 
 -- ---- lists of local steps

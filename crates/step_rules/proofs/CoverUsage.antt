@@ -79,7 +79,7 @@ stock_counts groups g p parts q = counts (q == p) (is_in_subtree groups g (parts
   where
     counts : (a b : Bool) → is_in_subtree groups g (parts q).stock.group ≡ b →
         stock_in_subtree groups g (cond a (parts q) (other_part_seen (parts q)))
-            ≡ stock_in_subtree groups g (parts q) + cond a 0 (cond b (length (parts q).fresh) 0)
+        ≡ stock_in_subtree groups g (parts q) + cond a 0 (cond b (length (parts q).fresh) 0)
     counts true b e = omega arith
     counts false true e = rw e refl
     counts false false e = rw e refl

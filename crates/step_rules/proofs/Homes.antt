@@ -127,7 +127,7 @@ module _ {zone : Zone} {hold : Hold} {groups : List Group} {phases : ℕ → Pha
   kept_frame : (f g : ℕ) → f < zone.frames → keeper_of (phases f) ≡ Some g → has_group groups g ≡ true → 1 ≤ frames_kept groups phases zone.frames g
   kept_frame f g below e there =
       let a : one_if (is_in_subtree groups g (keeper_of (phases f))) ≡ 1 = ap (λ o. one_if (is_in_subtree groups g o)) e
-          ∙ ap one_if (in_subtree-refl groups g there) in
+      ∙ ap one_if (in_subtree-refl groups g there) in
       let b = sum_part zone.frames (λ x. one_if (is_in_subtree groups g (keeper_of (phases x)))) f below in
       omega arith
 

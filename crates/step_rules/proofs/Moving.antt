@@ -112,7 +112,7 @@ frames_stay groups phases n m f y e =
 -- a CPU's stock changes
 pub prepaid_moves : (groups : List Group) (parts : ℕ → Part) (cpus m p : ℕ) (part : Part) → p < cpus + 1 →
     pages_prepaid groups (with_at parts p part) cpus m + stock_in_subtree groups m (parts p)
-        ≡ pages_prepaid groups parts cpus m + stock_in_subtree groups m part
+    ≡ pages_prepaid groups parts cpus m + stock_in_subtree groups m part
 prepaid_moves groups parts cpus m p part below = sum_at (cpus + 1) (stock_in_subtree groups m) parts p part below
 
 -- and is the same
@@ -250,7 +250,7 @@ usage_absent s m absent =
       | inr not_so ↦ not_so
     ] in
     let below : (o : Option ℕ) → is_in_subtree s.groups m o ≡ false = λ o. elim o as
-        (λ k. is_in_subtree s.groups m k ≡ false) [ None ↦ refl | Some h ↦ none h ] in
+    (λ k. is_in_subtree s.groups m k ≡ false) [ None ↦ refl | Some h ↦ none h ] in
     let a = sum_none s.zone.frames (λ f. one_if (is_in_subtree s.groups m (keeper_of (s.phases f)))) (λ f here. ap one_if (below (keeper_of (s.phases f)))) in
     let b = sum_none (s.zone.cpus + 1) (λ p. stock_in_subtree s.groups m (s.parts p))
     (λ p here. ap (λ t. cond t (s.parts p).stock.pages 0) (below (s.parts p).stock.group)) in

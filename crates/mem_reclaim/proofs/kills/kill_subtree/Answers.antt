@@ -7,8 +7,8 @@ pub returns : goal.returns
 returns g c =
     let t = g.N.BootName.frames in
     let e = c.kill_below.ensures in
-    let below : KilledSo t (alive_in_subtree c.note_subtree.new.machine c.args.killed_root)
-    (KillsGroups t c.args.limited (alive_in_subtree c.note_subtree.new.machine c.args.killed_root))
+    let below : KilledSo t (alive_in_subtree c.note_subtree.new.machine c.args.killed_root) (KillsGroups t c.args.limited
+    (alive_in_subtree c.note_subtree.new.machine c.args.killed_root))
     c.note_subtree.new.machine c.kill_below.new.machine =
     record { kills = e.kills; marked = e.marked; drained = e.drained; stocks = e.stocks; none_kept = e.none_kept; keeps = e.keeps } in
     let so = subtree_killed t c.args.limited c.args.killed_root c.args.machine.now c.note_subtree.new.machine c.kill_below.new.machine

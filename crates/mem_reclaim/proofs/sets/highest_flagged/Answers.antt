@@ -27,7 +27,7 @@ loop-above-preserved c =
     let m = c.in-Some.above in
     let t = root_turn groups facts c.args.limited c.args.victim m c.loop-above.killed_root c.loop-above.above-iterator c.next.new.self c.loop-above.invariant
     c.in-Some.ensures.steps in
-    let root : root_after c.is_oom_group.result m c.loop-above.killed_root ≡ c.if-is_oom_group.root = elim c.if-is_oom_group.branch [
+    let root : root_after c.is_oom_group.result m c.loop-above.killed_root ≡ c.if-is_oom_group.killed_root = elim c.if-is_oom_group.branch [
       | then-is_oom_group w ↦ ap (λ (b : Bool). root_after b m c.loop-above.killed_root) w.if-is_oom_group.true ∙ sym w.killed_root-is
       | else-is_oom_group w ↦ ap (λ (b : Bool). root_after b m c.loop-above.killed_root) w.if-is_oom_group.false ∙ sym w.killed_root-is
     ] in
@@ -42,15 +42,15 @@ returns-then-eq c =
     let m = c.in-Some.above in
     let t = root_turn groups facts c.args.limited c.args.victim m c.loop-above.killed_root c.loop-above.above-iterator c.next.new.self c.loop-above.invariant
     c.in-Some.ensures.steps in
-    let root : root_after c.is_oom_group.result m c.loop-above.killed_root ≡ c.if-is_oom_group.root = elim c.if-is_oom_group.branch [
+    let root : root_after c.is_oom_group.result m c.loop-above.killed_root ≡ c.if-is_oom_group.killed_root = elim c.if-is_oom_group.branch [
       | then-is_oom_group w ↦ ap (λ (b : Bool). root_after b m c.loop-above.killed_root) w.if-is_oom_group.true ∙ sym w.killed_root-is
       | else-is_oom_group w ↦ ap (λ (b : Bool). root_after b m c.loop-above.killed_root) w.if-is_oom_group.false ∙ sym w.killed_root-is
     ] in
-    let highest : IsFlaggedAbove groups c.args.limited c.args.victim c.if-is_oom_group.root =
+    let highest : IsFlaggedAbove groups c.args.limited c.args.victim c.if-is_oom_group.killed_root =
     subst (λ (h : Option ℕ). IsFlaggedAbove groups c.args.limited c.args.victim h) root
     (root_end groups facts c.args.limited c.args.victim m c.loop-above.killed_root c.next.new.self t c.is_oom_group.result (sym c.is_oom_group.ensures)
     (eqb-true m c.args.limited (sym c.eq.ensures ∙ c.if-eq.true))) in
-    record { highest = highest; below_root = never_root groups facts c.args.limited c.args.victim c.if-is_oom_group.root highest }
+    record { highest = highest; below_root = never_root groups facts c.args.limited c.args.victim c.if-is_oom_group.killed_root highest }
 
 pub returns : goal.returns
 returns c =

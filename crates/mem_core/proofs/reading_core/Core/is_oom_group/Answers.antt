@@ -12,5 +12,5 @@ returns-clause-run c run shows =
     let told = groups_follow_the_run c.args.self.now.zone run shows.legal g in
     let there = subst (λ (s : State). has_group s.groups g ≡ true) shows.state c.requires in
     let now : c.is_oom_group.result ≡ is_oom_group c.args.self.now.groups g = c.is_oom_group.ensures
-        ∙ ap (λ (s : CoreState). is_oom_group s.groups g) c.self.view_is in
+    ∙ ap (λ (s : CoreState). is_oom_group s.groups g) c.self.view_is in
     now ∙ ap (λ (s : State). is_oom_group s.groups g) shows.state ∙ told.flag there
