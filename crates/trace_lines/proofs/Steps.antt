@@ -241,6 +241,22 @@ list_ok r name o n left came b b1 old new el ec one =
     subst (λ (x : List ℕ). IfOk r (λ _. AddsLists b b1 old new (changed_list (record { name = name; left = left_of o n; came = x })))) ec
     (subst (λ (x : List ℕ). IfOk r (λ _. AddsLists b b1 old new (changed_list (record { name = name; left = x; came = came })))) el one)
 
+-- nothing left a list that is the same, and nothing came
+same_left : (l : List ℕ) → left_of l l ≡ []
+same_left [] = refl
+same_left (n ∷ l) = cond-true (n == n) (left_of l l) (n ∷ left_of l (n ∷ l)) (eq-eqb n n refl) ∙ same_left l
+
+same_came : (l : List ℕ) → came_of l l ≡ []
+same_came [] = refl
+same_came (n ∷ l) = cond-true (n == n) (came_of l l) (came_of l (n ∷ l)) (eq-eqb n n refl) ∙ same_came l
+
+pub list_equal : (name : ListName) (o n : List ℕ) → bytes_eq o n ≡ true → list_change name o n ≡ []
+list_equal name o n e =
+    let same : o ≡ n = (bytes_eq-Decides o n).0 e in
+    ap (λ (l : List ℕ). list_change name l n) same
+    ∙ ap (λ (l : List ℕ). changed_list (record { name = name; left = l; came = came_of n n })) (same_left n)
+    ∙ ap (λ (l : List ℕ). changed_list (record { name = name; left = []; came = l })) (same_came n)
+
 -- ---- what is kept of a list
 
 left_none : (old : List ℕ) → left_of old [] ≡ old

@@ -7,10 +7,9 @@ ghost use Rattle.trace_lines.specs.Changes.{cpus_pin_changes, is_same_stock, pin
 ghost use Rattle.trace_lines.specs.Changes.{stock_change, stock_changes};
 ghost use Rattle.trace_lines.specs.Parts.{part_text, pin_change_text, stock_change_text};
 ghost use Rattle.trace_lines.specs.Writing.{AddsPins, AddsStocks, count_changes};
-ghost use Rattle.std.specs.Str.{bytes_eq};
 
 use crate::groups::is_same_limit;
-use crate::numbers::{push_count, write_number};
+use crate::numbers::{are_same_numbers, push_count, write_number};
 use crate::parts::{push_start, push_stop};
 use crate::trace_state::{ShownCpu, ShownStock};
 use std::alloc::{AllocError, Global};
@@ -79,19 +78,12 @@ pub fn add_pin_changes(
     ensures { IfOk result (λ _. AddsPins is_first.old is_first.new (string_bytes text.old) (string_bytes text.new)
         (pin_changes cpu frames before.now after.now)) }
 {
-    if are_same_pins(before, after) {
+    if are_same_numbers(before, after) {
         return Ok(());
     }
     let old = count_pins(alloc, frames, before)?;
     let new = count_pins(alloc, frames, after)?;
     add_counts(cpu, &old, &new, is_first, text)
-}
-
-// Whether the two are the same pins, in the same order.
-fn are_same_pins(one: &[u32], other: &[u32]) -> bool
-    ensures { result ≡ bytes_eq one.now other.now }
-{
-    one == other
 }
 
 // Adds a CPU's pins on each frame, if their number changed.

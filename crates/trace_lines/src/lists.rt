@@ -9,7 +9,7 @@ ghost use Rattle.trace_lines.specs.Changes.{left_of, list_change, list_changes};
 ghost use Rattle.trace_lines.specs.Parts.{list_change_text, name_text, part_text};
 ghost use Rattle.trace_lines.specs.Writing.{AddsLists, KeepsOne};
 
-use crate::numbers::write_number_spans;
+use crate::numbers::{are_same_numbers, write_number_spans};
 use crate::parts::{push_start, push_stop};
 use crate::trace_state::{ShownCpu, ShownGroup, TraceState};
 use std::alloc::{AllocError, Global};
@@ -201,6 +201,9 @@ pub fn write_list(
     ensures { IfOk result (λ _. AddsLists is_first.old is_first.new (string_bytes text.old) (string_bytes text.new)
         (list_change name before.now after.now)) }
 {
+    if are_same_numbers(before, after) {
+        return Ok(());
+    }
     let mut left = Vec::new(alloc);
     let kept = keep(before, after, &mut left)?;
     add_list(alloc, name, &left, &after[kept..], is_first, text)

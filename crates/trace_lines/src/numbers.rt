@@ -3,6 +3,7 @@
 ghost use Rattle.std.specs.Prelude.{◌≡◌, ◌+◌, ◌==◌, ◌++◌, IfOk, codes, reverse};
 ghost use Rattle.std.specs.Fmt.{decimal};
 ghost use Rattle.std.specs.List.{flat_map};
+ghost use Rattle.std.specs.Str.{bytes_eq};
 ghost use Rattle.std.specs.String.{string_bytes};
 ghost use Rattle.trace_lines.specs.Parts.{flag_text, number_text, span_text, spans_of, spans_text, with_number, commas};
 
@@ -13,6 +14,13 @@ use std::alloc::{AllocError, Global};
 pub struct Span {
     pub first: u32,
     pub last: u32,
+}
+
+// Whether the two have the same numbers, in the same order.
+pub(crate) fn are_same_numbers(one: &[u32], other: &[u32]) -> bool
+    ensures { result ≡ bytes_eq one.now other.now }
+{
+    one == other
 }
 
 // Adds a word and a number.

@@ -1,9 +1,14 @@
-use Rattle.std.proofs.Common.{◌≡◌, ◌∙◌, ◌-◌, ◌++◌, List, ℕ, ap, arith, drop, length, take}
+use Rattle.std.proofs.Common.{◌≡◌, ◌∙◌, ◌-◌, ◌++◌, List, ℕ, ap, arith, drop, length, sym, take}
 use Rattle.std.proofs.lemmas.List.{length-drop, take_all}
 use Rattle.std.specs.String.{string_bytes}
 use Rattle.trace_lines.specs.Changes.{left_of}
-use Rattle.trace_lines.proofs.Steps.{list_ok}
+use Rattle.trace_lines.proofs.Items.{adds_none}
+use Rattle.trace_lines.proofs.Steps.{list_equal, list_ok}
 use Rattle.trace_lines.proofs.lists.write_list.Goals as goal
+
+pub returns-then-are_same_numbers : goal.returns-then-are_same_numbers
+returns-then-are_same_numbers c = adds_none _ _ _ _ _
+    (list_equal c.args.name c.args.before.now c.args.after.now (sym c.are_same_numbers.ensures ∙ c.if-are_same_numbers.true))
 
 pub returns : goal.returns
 returns c =
