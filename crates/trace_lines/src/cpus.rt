@@ -9,7 +9,7 @@ ghost use Rattle.trace_lines.specs.Parts.{part_text, pin_change_text, stock_chan
 ghost use Rattle.trace_lines.specs.Writing.{AddsPins, AddsStocks, count_changes};
 
 use crate::groups::is_same_limit;
-use crate::numbers::{are_same_numbers, push_count, write_number};
+use crate::numbers::{are_same_numbers, push_behind, write_number};
 use crate::parts::{push_start, push_stop};
 use crate::trace_state::{ShownCpu, ShownStock};
 use std::alloc::{AllocError, Global};
@@ -158,7 +158,10 @@ fn write_pin_change(
     ensures { IfOk result (λ _. string_bytes text.new
         ≡ string_bytes text.old ++ pin_change_text (record { cpu = cpu; head = frame; pins = pins })) }
 {
-    write!(text, "[{cpu},{frame},{pins}]")
+    push_behind('[', cpu as u64, text)?;
+    push_behind(',', frame as u64, text)?;
+    push_behind(',', pins as u64, text)?;
+    text.push(']')
 }
 
 // Adds the part that tells of stocks.
@@ -234,9 +237,9 @@ fn write_stock_change(cpu: usize, stock: ShownStock, text: &mut String) -> Resul
     ensures { IfOk result (λ _. string_bytes text.new
         ≡ string_bytes text.old ++ stock_change_text (record { cpu = cpu; stock = stock })) }
 {
-    push_count("[", cpu as u64, text)?;
-    push_count(",", u64::from(stock.group), text)?;
-    text.push_str(",")?;
+    push_behind('[', cpu as u64, text)?;
+    push_behind(',', u64::from(stock.group), text)?;
+    text.push(',')?;
     write_number(stock.pages, text)?;
-    text.push_str("]")
+    text.push(']')
 }

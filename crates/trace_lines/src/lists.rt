@@ -9,7 +9,7 @@ ghost use Rattle.trace_lines.specs.Changes.{left_of, list_change, list_changes};
 ghost use Rattle.trace_lines.specs.Parts.{list_change_text, name_text, part_text};
 ghost use Rattle.trace_lines.specs.Writing.{AddsLists, KeepsOne};
 
-use crate::numbers::{are_same_numbers, write_number_spans};
+use crate::numbers::{are_same_numbers, push_behind, write_number_spans};
 use crate::parts::{push_start, push_stop};
 use crate::trace_state::{ShownCpu, ShownGroup, TraceState};
 use std::alloc::{AllocError, Global};
@@ -272,9 +272,9 @@ fn write_change(
     write_name(name, text)?;
     text.push_str("\",")?;
     write_number_spans(alloc, left, text)?;
-    text.push_str(",")?;
+    text.push(',')?;
     write_number_spans(alloc, came, text)?;
-    text.push_str("]")
+    text.push(']')
 }
 
 // Adds the name of a list.
@@ -282,10 +282,10 @@ fn write_name(name: ListName, text: &mut String) -> Result<(), AllocError>
     ensures { IfOk result (λ _. string_bytes text.new ≡ string_bytes text.old ++ name_text name) }
 {
     match name {
-        ListName::Listed { cpu } => write!(text, "l{cpu}"),
-        ListName::Fresh { cpu } => write!(text, "n{cpu}"),
-        ListName::Back { cpu } => write!(text, "b{cpu}"),
-        ListName::Inactive { group } => write!(text, "i{group}"),
-        ListName::Active { group } => write!(text, "a{group}"),
+        ListName::Listed { cpu } => push_behind('l', cpu as u64, text),
+        ListName::Fresh { cpu } => push_behind('n', cpu as u64, text),
+        ListName::Back { cpu } => push_behind('b', cpu as u64, text),
+        ListName::Inactive { group } => push_behind('i', group as u64, text),
+        ListName::Active { group } => push_behind('a', group as u64, text),
     }
 }

@@ -7,7 +7,7 @@ ghost use Rattle.std.specs.String.{string_bytes};
 ghost use Rattle.trace_lines.specs.Notes.{note_text, note_texts, notes_text, numbers_note};
 ghost use Rattle.trace_lines.specs.Writing.{AddsNotes};
 
-use crate::numbers::push_count;
+use crate::numbers::push_behind;
 use crate::parts::{push_start, push_stop};
 use group_tree::group::GroupId;
 use kill_notes::note::{Candidate, Note};
@@ -191,9 +191,9 @@ fn write_numbers(kind: &str, numbers: &[u64], text: &mut String) -> Result<(), A
 {
     text.push_str("[\"")?;
     text.push_str(kind)?;
-    text.push_str("\"")?;
+    text.push('"')?;
     write_each(numbers, text)?;
-    text.push_str("]")
+    text.push(']')
 }
 
 // Adds numbers, each behind a comma.
@@ -202,7 +202,7 @@ fn write_each(numbers: &[u64], text: &mut String) -> Result<(), AllocError>
         ≡ string_bytes text.old ++ flat_map (λ number. codes "," ++ decimal number) numbers.now) }
 {
     for &number in numbers {
-        push_count(",", number, text)?;
+        push_behind(',', number, text)?;
     }
     Ok(())
 }

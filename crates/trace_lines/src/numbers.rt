@@ -1,12 +1,13 @@
 //! Numbers, and spans of them.
 
-ghost use Rattle.std.specs.Prelude.{◌≡◌, ◌+◌, ◌==◌, ◌++◌, IfOk, codes, reverse};
+ghost use Rattle.std.specs.Prelude.{◌≡◌, ◌+◌, ◌<◌, ◌==◌, [], ◌∷◌, ◌++◌, IfOk, codes, reverse};
 ghost use Rattle.std.specs.Fmt.{decimal};
 ghost use Rattle.std.specs.List.{flat_map};
 ghost use Rattle.std.specs.Str.{bytes_eq};
 ghost use Rattle.std.specs.String.{string_bytes};
 ghost use Rattle.trace_lines.specs.Parts.{flag_text, number_text, span_text, spans_of, spans_text, with_number, commas};
 
+use itoa::Buffer;
 use std::alloc::{AllocError, Global};
 
 /// Numbers that ascend by one, from the first to the last.
@@ -28,7 +29,39 @@ pub(crate) fn push_count(word: &str, count: u64, text: &mut String) -> Result<()
     ensures { IfOk result (λ _. string_bytes text.new ≡ string_bytes text.old ++ (word.now ++ decimal count)) }
 {
     text.push_str(word)?;
-    write!(text, "{count}")
+    push_decimal(count, text)
+}
+
+// Adds an ASCII character and a number.
+pub(crate) fn push_behind(mark: char, number: u64, text: &mut String) -> Result<(), AllocError>
+    requires { mark < 128 }
+    ensures { IfOk result (λ _. string_bytes text.new ≡ string_bytes text.old ++ (mark ∷ decimal number)) }
+{
+    text.push(mark)?;
+    push_decimal(number, text)
+}
+
+// Adds a number. Most have one digit or two, which cost less than a buffer.
+pub(crate) fn push_decimal(number: u64, text: &mut String) -> Result<(), AllocError>
+    ensures { IfOk result (λ _. string_bytes text.new ≡ string_bytes text.old ++ decimal number) }
+{
+    if number < 10 {
+        return push_digit(number, text);
+    }
+    if number < 100 {
+        push_digit(number / 10, text)?;
+        return push_digit(number % 10, text);
+    }
+    let mut buffer = Buffer::new();
+    text.push_str(buffer.format(number))
+}
+
+// Adds a number below 10.
+fn push_digit(number: u64, text: &mut String) -> Result<(), AllocError>
+    requires { number < 10 }
+    ensures { IfOk result (λ _. string_bytes text.new ≡ string_bytes text.old ++ ((48 + number) ∷ [])) }
+{
+    text.push(char::from(b'0' + number as u8))
 }
 
 // Adds a number, or null.
@@ -37,7 +70,7 @@ pub(crate) fn write_number(number: Option<u32>, text: &mut String) -> Result<(),
 {
     match number {
         None => text.push_str("null"),
-        Some(number) => write!(text, "{number}"),
+        Some(number) => push_decimal(u64::from(number), text),
     }
 }
 
@@ -57,9 +90,9 @@ pub(crate) fn write_number_spans(
     ensures { IfOk result (λ _. string_bytes text.new ≡ string_bytes text.old ++ spans_text numbers.now) }
 {
     let spans = spans_of(alloc, numbers)?;
-    text.push_str("[")?;
+    text.push('[')?;
     write_spans(&spans, text)?;
-    text.push_str("]")
+    text.push(']')
 }
 
 // The fewest spans of these numbers, in their order.
@@ -124,7 +157,7 @@ fn write_later_spans(spans: &[Span], text: &mut String) -> Result<(), AllocError
         ≡ string_bytes text.old ++ flat_map (λ span. codes "," ++ span_text span) spans.now) }
 {
     for span in spans {
-        text.push_str(",")?;
+        text.push(',')?;
         write_span(span, text)?;
     }
     Ok(())
@@ -136,7 +169,9 @@ fn write_span(span: &Span, text: &mut String) -> Result<(), AllocError>
 {
     let Span { first, last } = *span;
     if first == last {
-        return write!(text, "{first}");
+        return push_decimal(u64::from(first), text);
     }
-    write!(text, "[{first},{last}]")
+    push_behind('[', u64::from(first), text)?;
+    push_behind(',', u64::from(last), text)?;
+    text.push(']')
 }

@@ -240,7 +240,7 @@ fn write_failure(failure: Option<FastFailure>, text: &mut String) -> Result<(), 
     };
     text.push_str(",\"miss\":\"")?;
     text.push_str(reason(failure))?;
-    text.push_str("\"")
+    text.push('"')
 }
 
 // The word for why no frame could be taken without the lock.

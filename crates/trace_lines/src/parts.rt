@@ -12,7 +12,7 @@ use crate::flags::write_flags;
 use crate::frames::write_frames;
 use crate::groups::{write_gone, write_made, write_rows};
 use crate::lists::write_lists;
-use crate::numbers::push_count;
+use crate::numbers::{push_behind, push_decimal};
 use crate::trace_state::{ShownCounts, TraceState};
 use std::alloc::{AllocError, Global};
 
@@ -26,7 +26,7 @@ pub(crate) fn push_start(
     ensures first { is_first.new ≡ false }
 {
     if !*is_first {
-        return text.push_str(",");
+        return text.push(',');
     }
     *is_first = false;
     push_opening(key, text)
@@ -49,7 +49,7 @@ pub fn push_stop(is_first: bool, text: &mut String) -> Result<(), AllocError>
     if is_first {
         return Ok(());
     }
-    text.push_str("]")
+    text.push(']')
 }
 
 /// Adds what differs between the two states, but the counts.
@@ -139,9 +139,9 @@ fn push_counts(counts: ShownCounts, text: &mut String) -> Result<(), AllocError>
     ensures { IfOk result (λ _. string_bytes text.new ≡ string_bytes text.old ++ counts_text counts) }
 {
     push_ends(counts, text)?;
-    push_count(",", counts.returns, text)?;
-    push_count(",", counts.misses, text)?;
-    text.push_str("]")
+    push_behind(',', counts.returns, text)?;
+    push_behind(',', counts.misses, text)?;
+    text.push(']')
 }
 
 // Adds the counts of what ended units.
@@ -150,7 +150,7 @@ fn push_ends(counts: ShownCounts, text: &mut String) -> Result<(), AllocError>
     ensures { IfOk result (λ _. string_bytes text.new ≡ string_bytes text.old ++ ends_text counts) }
 {
     push_opening("counts", text)?;
-    push_count("", counts.last_puts, text)?;
-    push_count(",", counts.freezes, text)?;
-    push_count(",", counts.drops, text)
+    push_decimal(counts.last_puts, text)?;
+    push_behind(',', counts.freezes, text)?;
+    push_behind(',', counts.drops, text)
 }

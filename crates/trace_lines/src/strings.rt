@@ -12,9 +12,9 @@ use std::alloc::AllocError;
 pub(crate) fn write_string(bytes: &[u8], text: &mut String) -> Result<(), AllocError>
     ensures { IfOk result (λ _. string_bytes text.new ≡ string_bytes text.old ++ string_text bytes.now) }
 {
-    text.push_str("\"")?;
+    text.push('"')?;
     write_bytes(bytes, text)?;
-    text.push_str("\"")
+    text.push('"')
 }
 
 // Adds the bytes, without quotes.

@@ -12,4 +12,4 @@ pub returns : goal.returns
 returns c = one_ok _ _ _ _ _ _ _ _ c.from.result _
     (ap numbers_of (is_kept _ c.args.group.now (sym c.has_group.ensures ∙ c.if-has_group.false))
     ∙ ap (λ (n : ℕ). n ∷ []) (sym (c.from.ensures ∙ ap (λ (g : KnownShownGroup). g.number) c.group.view_is)))
-    c.in_ok-push_start.ensures.text c.in_ok-push_start.ensures.first c.push_count.ensures
+    c.in_ok-push_start.ensures.text c.in_ok-push_start.ensures.first c.push_decimal.ensures
