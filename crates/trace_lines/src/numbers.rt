@@ -1,14 +1,14 @@
 //! Numbers, and spans of them.
 
-ghost use Rattle.std.specs.Prelude.{◌≡◌, ◌+◌, ◌<◌, ◌==◌, [], ◌∷◌, ◌++◌, IfOk, codes, reverse};
+ghost use Rattle.std.specs.Prelude.{◌≡◌, ◌+◌, ◌<◌, ◌==◌, [], ◌∷◌, ◌++◌, IfOk};
 ghost use Rattle.std.specs.Fmt.{decimal};
-ghost use Rattle.std.specs.List.{flat_map};
 ghost use Rattle.std.specs.Str.{bytes_eq};
 ghost use Rattle.std.specs.String.{string_bytes};
-ghost use Rattle.trace_lines.specs.Parts.{flag_text, number_text, span_text, spans_of, spans_text, with_number, commas};
+ghost use Rattle.trace_lines.specs.Parts.{flag_text, number_text, span_text, spans_of, spans_text, commas};
+ghost use Rattle.trace_lines.specs.Writing.{AddsNumber, spans_behind};
 
 use itoa::Buffer;
-use std::alloc::{AllocError, Global};
+use std::alloc::AllocError;
 
 /// Numbers that ascend by one, from the first to the last.
 #[derive(Clone, Copy, Debug, PartialEq, Eq)]
@@ -82,85 +82,67 @@ pub(crate) fn flag_word(flag: bool) -> &'static str
 }
 
 // Adds numbers in their order, as spans.
-pub(crate) fn write_number_spans(
-    alloc: Global,
-    numbers: &[u32],
-    text: &mut String,
-) -> Result<(), AllocError>
+pub(crate) fn write_number_spans(numbers: &[u32], text: &mut String) -> Result<(), AllocError>
     ensures { IfOk result (λ _. string_bytes text.new ≡ string_bytes text.old ++ spans_text numbers.now) }
 {
-    let spans = spans_of(alloc, numbers)?;
     text.push('[')?;
-    write_spans(&spans, text)?;
+    write_spans(numbers, text)?;
     text.push(']')
 }
 
-// The fewest spans of these numbers, in their order.
-fn spans_of(alloc: Global, numbers: &[u32]) -> Result<Vec<Span>, AllocError>
-    ensures { IfOk result (λ spans. spans.items ≡ spans_of numbers.now) }
+// Adds the fewest spans of these numbers, with a comma between each two.
+fn write_spans(numbers: &[u32], text: &mut String) -> Result<(), AllocError>
+    ensures { IfOk result (λ _. string_bytes text.new
+        ≡ string_bytes text.old ++ commas span_text (spans_of numbers.now)) }
 {
-    let mut spans = Vec::new(alloc);
-    let mut at = numbers.len();
-    while at > 0 {
-        at -= 1;
-        push_number(numbers[at], &mut spans)?;
+    let mut span = None;
+    for &number in numbers {
+        span = Some(add_number(number, span, text)?);
     }
-    spans.reverse();
-    Ok(spans)
+    end_spans(span, text)
 }
 
-// Puts a number before these spans, of which the last is the first in order.
-fn push_number(number: u32, spans: &mut Vec<Span>) -> Result<(), AllocError>
-    ensures { IfOk result (λ _. reverse spans.new.items ≡ with_number number (reverse spans.old.items)) }
+// Adds a number behind the span that isn't written yet, if there is one. It returns the span that isn't written now.
+pub(crate) fn add_number(
+    number: u32,
+    span: Option<Span>,
+    text: &mut String,
+) -> Result<Span, AllocError>
+    ensures { IfOk result (λ now. AddsNumber number span now (string_bytes text.old) (string_bytes text.new)) }
 {
     let alone = Span {
         first: number,
         last: number,
     };
-    let Some(span) = spans.pop() else {
-        spans.push(alone)?;
-        return Ok(());
+    let Some(span) = span else {
+        return Ok(alone);
     };
-    if follows(number, span) {
-        spans.push(Span {
-            first: number,
-            last: span.last,
-        })?;
-        return Ok(());
+    if follows(span, number) {
+        return Ok(Span {
+            first: span.first,
+            last: number,
+        });
     }
-    spans.push(span)?;
-    spans.push(alone)?;
-    Ok(())
+    write_span(&span, text)?;
+    text.push(',')?;
+    Ok(alone)
 }
 
-// Whether the span goes on with the number after this one.
-fn follows(number: u32, span: Span) -> bool
-    ensures { result ≡ (span.first == number + 1) }
+// Whether the span goes on with this number.
+fn follows(span: Span, number: u32) -> bool
+    ensures { result ≡ (number == span.last + 1) }
 {
-    u64::from(span.first) == u64::from(number) + 1
+    u64::from(number) == u64::from(span.last) + 1
 }
 
-// Adds the spans, with a comma between each two.
-fn write_spans(spans: &[Span], text: &mut String) -> Result<(), AllocError>
-    ensures { IfOk result (λ _. string_bytes text.new ≡ string_bytes text.old ++ commas span_text spans.now) }
+// Adds the span that isn't written yet, if there is one.
+pub(crate) fn end_spans(span: Option<Span>, text: &mut String) -> Result<(), AllocError>
+    ensures { IfOk result (λ _. string_bytes text.new ≡ string_bytes text.old ++ spans_behind span []) }
 {
-    let [first, rest @ ..] = spans else {
-        return Ok(());
-    };
-    write_span(first, text)?;
-    write_later_spans(rest, text)
-}
-
-// Adds the spans after the first.
-fn write_later_spans(spans: &[Span], text: &mut String) -> Result<(), AllocError>
-    ensures { IfOk result (λ _. string_bytes text.new
-        ≡ string_bytes text.old ++ flat_map (λ span. codes "," ++ span_text span) spans.now) }
-{
-    for span in spans {
-        text.push(',')?;
-        write_span(span, text)?;
+    match span {
+        None => Ok(()),
+        Some(span) => write_span(&span, text),
     }
-    Ok(())
 }
 
 // Adds one span.
