@@ -20,7 +20,9 @@ use Rattle.trace_lines.specs.Changes.{frame_spans}
 use Rattle.std.proofs.lemmas.Slice.Eq.{bytes_eq-Decides}
 use Rattle.trace_lines.proofs.Items.{adds_both, part_ok}
 use Rattle.trace_lines.specs.Changes.{ListChange, PinChange, cpu_list_changes, cpus_list_changes, cpus_pin_changes, flag_change, flag_changes}
-use Rattle.trace_lines.specs.Changes.{groups_beyond, has_group, has_row, numbers_of, pin_change, pin_changes, pins_on, rows_beyond, stock_changes}
+use Rattle.trace_lines.specs.Changes.{groups_beyond, has_group, has_row, numbers_of, pin_change, pin_changes, pins_on, rows_beyond, stock_change, stock_changes, is_same_stock, StockChange}
+use Rattle.std.specs.Option.{option_map_or}
+use Rattle.trace_lines.specs.declared.trace_state.ShownStock.{ShownStock}
 
 -- an item, and those behind it
 pub at_item : {X : Type 0} (xs : List X) (i : ℕ) (x : X) → i < length xs → x ≡ get_or xs i x → drop i xs ≡ x ∷ drop (i + 1) xs
@@ -344,6 +346,12 @@ pub pins_equal : (q frames : ℕ) (b a : List ℕ) → bytes_eq b a ≡ true →
 pins_equal q frames b a e =
     let same : b ≡ a = (bytes_eq-Decides b a).0 e in
     ap (λ (x : List ℕ). pin_changes q frames x a) same ∙ pins_same q a (range_with_len 0 frames)
+
+-- the stock changed
+pub stock_changed : (q : ℕ) (b : Option ShownStock) (n : ShownStock) → option_map_or (λ o. is_same_stock o n) b false ≡ false
+    → stock_change q b (Some n) ≡ record { cpu = q; stock = n } ∷ []
+stock_changed q None n e = refl
+stock_changed q (Some o) n e = cond-false (is_same_stock o n) [] (record { cpu = q; stock = n } ∷ []) e
 
 -- ---- frames
 

@@ -118,7 +118,7 @@ fn add_pins(
     if before == after {
         return Ok(());
     }
-    push_start("pins", is_first, text)?;
+    push_start(",\"pins\":[", is_first, text)?;
     write_pin_change(cpu, frame, after, text)
 }
 
@@ -218,7 +218,7 @@ pub fn add_stock(
     if is_stock(before, stock) {
         return Ok(());
     }
-    push_start("stocks", is_first, text)?;
+    push_start(",\"stocks\":[", is_first, text)?;
     write_stock_change(cpu, stock, text)
 }
 

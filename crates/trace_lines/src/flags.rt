@@ -37,7 +37,7 @@ fn add_flags(
     if are_same_flags(before, after) {
         return Ok(());
     }
-    push_start("flags", is_first, text)?;
+    push_start(",\"flags\":[", is_first, text)?;
     write_flag_change(frame, after, text)
 }
 

@@ -102,7 +102,7 @@ fn add_frame_span(
     ensures { IfOk result (λ _. AddsFrames is_first.old is_first.new (string_bytes text.old) (string_bytes text.new)
         (span.now ∷ [])) }
 {
-    push_start("frames", is_first, text)?;
+    push_start(",\"frames\":[", is_first, text)?;
     write_frame_span(span, text)
 }
 

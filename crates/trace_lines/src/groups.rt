@@ -45,7 +45,7 @@ fn add_gone(
     if has_group(after, group) {
         return Ok(());
     }
-    push_start("gone", is_first, text)?;
+    push_start(",\"gone\":[", is_first, text)?;
     push_decimal(u64::from(group.number), text)
 }
 
@@ -78,7 +78,7 @@ fn add_made(
     if has_group(before, group) {
         return Ok(());
     }
-    push_start("made", is_first, text)?;
+    push_start(",\"made\":[", is_first, text)?;
     write_made_group(group, text)
 }
 
@@ -123,7 +123,7 @@ pub fn add_group_row(
     ensures { IfOk result (λ _. AddsRows is_first.old is_first.new (string_bytes text.old) (string_bytes text.new)
         (group.now ∷ [])) }
 {
-    push_start("groups", is_first, text)?;
+    push_start(",\"groups\":[", is_first, text)?;
     write_row(group, text)
 }
 

@@ -206,7 +206,7 @@ pub fn write_list(
     if are_same_numbers(before, after) {
         return Ok(());
     }
-    push_start("lists", is_first, text)?;
+    push_start(",\"lists\":[", is_first, text)?;
     write_change(name, before, after, text)
 }
 
@@ -223,9 +223,7 @@ fn write_change(
       came = came_of before.now after.now;
     })) }
 {
-    text.push_str("[\"")?;
-    write_name(name, text)?;
-    text.push_str("\",")?;
+    write_front(name, text)?;
     let kept = write_left(before, after, text)?;
     text.push(',')?;
     write_number_spans(&after[kept..], text)?;
@@ -289,6 +287,18 @@ fn is_next(old: u32, after: &[u32], kept: usize) -> bool
         return false;
     }
     old == after[kept]
+}
+
+// Adds the name of a list in quotes, with what goes before it and behind it.
+fn write_front(name: ListName, text: &mut String) -> Result<(), AllocError>
+    ensures { IfOk result (λ _. string_bytes text.new
+        ≡ string_bytes text.old ++ (codes "[\"" ++ name_text name ++ codes "\",")) }
+{
+    text.push('[')?;
+    text.push('"')?;
+    write_name(name, text)?;
+    text.push('"')?;
+    text.push(',')
 }
 
 // Adds the name of a list.

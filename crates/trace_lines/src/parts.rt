@@ -1,11 +1,11 @@
 //! The optional parts of a line's object: each is a key and a list, and is there if the list isn't empty.
 
-ghost use Rattle.std.specs.Prelude.{◌≡◌, ◌++◌, IfOk, false};
+ghost use Rattle.std.specs.Prelude.{◌≡◌, ◌++◌, if◌then◌else◌, IfOk, codes, false};
 ghost use Rattle.std.specs.String.{string_bytes};
 ghost use Rattle.trace_lines.specs.Changes.{changes, count_change, are_same_counts};
 ghost use Rattle.trace_lines.specs.Parts.{changes_text, counts_part, counts_text, ends_text, opening, first_parts_text};
 ghost use Rattle.trace_lines.specs.Parts.{last_parts_text};
-ghost use Rattle.trace_lines.specs.Writing.{start_text, stop_text};
+ghost use Rattle.trace_lines.specs.Writing.{stop_text};
 
 use crate::cpus::{write_pins, write_stocks};
 use crate::flags::write_flags;
@@ -16,20 +16,21 @@ use crate::numbers::{push_behind, push_decimal};
 use crate::trace_state::{ShownCounts, TraceState};
 use std::alloc::{AllocError, Global};
 
-// Adds what goes before an item: the part's key, if it is the first, else a comma.
+// Adds what goes before an item: what opens the part, if it is the first, else a comma.
 pub(crate) fn push_start(
-    key: &str,
+    opening: &str,
     is_first: &mut bool,
     text: &mut String,
 ) -> Result<(), AllocError>
-    ensures text { IfOk result (λ _. string_bytes text.new ≡ string_bytes text.old ++ start_text key.now is_first.old) }
+    ensures text { IfOk result (λ _. string_bytes text.new ≡ string_bytes text.old
+        ++ (if is_first.old then opening.now else codes ",")) }
     ensures first { is_first.new ≡ false }
 {
     if !*is_first {
         return text.push(',');
     }
     *is_first = false;
-    push_opening(key, text)
+    text.push_str(opening)
 }
 
 // Adds the key of a part, and the bracket that opens its list.
