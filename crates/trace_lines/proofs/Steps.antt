@@ -20,7 +20,7 @@ use Rattle.trace_lines.specs.Changes.{frame_spans}
 use Rattle.std.proofs.lemmas.Slice.Eq.{bytes_eq-Decides}
 use Rattle.trace_lines.proofs.Items.{adds_both, part_ok}
 use Rattle.trace_lines.specs.Changes.{ListChange, PinChange, cpu_list_changes, cpus_list_changes, cpus_pin_changes, flag_change, flag_changes}
-use Rattle.trace_lines.specs.Changes.{groups_beyond, has_group, has_row, numbers_of, pin_change, pin_changes, pins_on, rows_beyond, stock_change, stock_changes, is_same_stock, StockChange}
+use Rattle.trace_lines.specs.Changes.{groups_beyond, has_group, has_row, numbers_of, pin_change, pin_changes, pins_on, rows_beyond, stock_change, stock_changes, is_same_stock}
 use Rattle.std.specs.Option.{option_map_or}
 use Rattle.trace_lines.specs.declared.trace_state.ShownStock.{ShownStock}
 
