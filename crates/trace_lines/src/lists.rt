@@ -6,7 +6,8 @@ ghost use Rattle.std.specs.String.{string_bytes};
 ghost use Rattle.trace_lines.specs.Changes.{active_of, came_of, cpu_list_changes, cpus_list_changes};
 ghost use Rattle.trace_lines.specs.Changes.{group_list_changes, group_numbered, groups_list_changes, inactive_of};
 ghost use Rattle.trace_lines.specs.Changes.{left_of, list_change, list_changes};
-ghost use Rattle.trace_lines.specs.Parts.{commas, list_change_text, name_text, part_text, span_text, spans_of, spans_text};
+ghost use Rattle.trace_lines.specs.Parts.{commas, list_change_text, name_text, part_text, span_text, spans_of};
+ghost use Rattle.trace_lines.specs.Parts.{spans_text};
 ghost use Rattle.trace_lines.specs.Writing.{AddsLists, KeepsOne, has_first};
 
 use crate::numbers::{

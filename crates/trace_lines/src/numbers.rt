@@ -4,7 +4,7 @@ ghost use Rattle.std.specs.Prelude.{◌≡◌, ◌+◌, ◌<◌, ◌==◌, [], �
 ghost use Rattle.std.specs.Fmt.{decimal};
 ghost use Rattle.std.specs.Str.{bytes_eq};
 ghost use Rattle.std.specs.String.{string_bytes};
-ghost use Rattle.trace_lines.specs.Parts.{flag_text, number_text, span_text, spans_of, spans_text, commas};
+ghost use Rattle.trace_lines.specs.Parts.{commas, flag_text, number_text, span_text, spans_of, spans_text};
 ghost use Rattle.trace_lines.specs.Writing.{AddsNumber, spans_behind};
 
 use itoa::Buffer;

@@ -4,8 +4,8 @@ ghost use Rattle.std.specs.Prelude.{◌≡◌, ◌++◌, IfOk, codes};
 ghost use Rattle.std.specs.String.{string_bytes};
 ghost use Rattle.trace_lines.specs.Objects.{end_front, end_text, frame_sums_text, header_front, header_text};
 ghost use Rattle.trace_lines.specs.Objects.{keyed_string, keyed_text, line_number_text, line_text, lock_text};
-ghost use Rattle.trace_lines.specs.Objects.{failure_text, lock_word, object_text, object_with, reason_text, row_names, sizes_text};
-ghost use Rattle.trace_lines.specs.Objects.{unit_sums_text};
+ghost use Rattle.trace_lines.specs.Objects.{failure_text, lock_word, object_text, object_with, reason_text, row_names};
+ghost use Rattle.trace_lines.specs.Objects.{sizes_text, unit_sums_text};
 ghost use Rattle.trace_lines.specs.Parts.{opening};
 
 use crate::notes::write_notes;

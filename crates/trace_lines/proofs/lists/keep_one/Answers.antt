@@ -8,5 +8,6 @@ returns-then-is_next c = keeps_same c.args.old c.args.after.now c.args.kept c.ar
     (sym c.is_next.ensures ∙ c.if-is_next.true)
 
 pub returns : goal.returns
-returns c = keeps_other c.args.old c.args.after.now c.args.kept c.args.span.now c.in_ok-add_number.field-0 (string_bytes c.args.text.now) (string_bytes c.add_number.new.text)
+returns c = keeps_other c.args.old c.args.after.now c.args.kept c.args.span.now c.in_ok-add_number.field-0
+    (string_bytes c.args.text.now) (string_bytes c.add_number.new.text)
     c.requires (sym c.is_next.ensures ∙ c.if-is_next.false) c.in_ok-add_number.ensures

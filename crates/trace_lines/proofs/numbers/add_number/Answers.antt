@@ -11,6 +11,7 @@ returns-then-follows c = adds_joined c.args.number c.args.span c.in-Some.span (s
     (sym c.follows.ensures ∙ c.if-follows.true)
 
 pub returns : goal.returns
-returns c = adds_ended c.args.number c.args.span c.in-Some.span (string_bytes c.args.text.now) (string_bytes c.write_span.new.text) (string_bytes c.push.new.self)
+returns c = adds_ended c.args.number c.args.span c.in-Some.span (string_bytes c.args.text.now)
+    (string_bytes c.write_span.new.text) (string_bytes c.push.new.self)
     c.in-Some.is (sym c.follows.ensures ∙ c.if-follows.false) c.in_ok-write_span.ensures
     (c.in_ok-push.ensures.bytes ∙ ap (λ (l : List ℕ). string_bytes c.write_span.new.text ++ l) (c.in_ok-push.ensures.ascii (omega arith)))

@@ -7,7 +7,8 @@ pub loop-byte-preserved : goal.loop-byte-preserved
 loop-byte-preserved c =
     let same = c.loop-byte.invariant.len in
     let lt : c.loop-byte.len < length c.args.bytes.now = omega (arith, same, c.loop-byte-test.true) in
-    let is : get_or c.args.bytes.now c.loop-byte.len 0 < 128 × byte_text (get_or c.args.bytes.now c.loop-byte.len 0) ≡ get_or c.args.bytes.now c.loop-byte.len 0 ∷ []
+    let is : get_or c.args.bytes.now c.loop-byte.len 0 < 128
+    × byte_text (get_or c.args.bytes.now c.loop-byte.len 0) ≡ get_or c.args.bytes.now c.loop-byte.len 0 ∷ []
     = subst (λ (i : ℕ). get_or c.args.bytes.now i 0 < 128 × byte_text (get_or c.args.bytes.now i 0) ≡ get_or c.args.bytes.now i 0 ∷ []) (sym same)
     (c.if-not-is_plain.ensures refl) in
     record {
