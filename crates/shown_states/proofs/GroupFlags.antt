@@ -2,7 +2,7 @@
 use Rattle.std.proofs.Common.{◌≡◌, ℕ, zero, suc, ◌+◌, ◌<◌, ◌≤◌, Bool, true, false, All, Option, Some, None, List, [], ◌∷◌, ◌++◌, get_or, length, take, refl, sym, ap, ◌∙◌, subst, append-nil, append_assoc, arith}
 use Rattle.std.specs.Prelude.{IfSome, option_map, option_to_list, replicate}
 use Rattle.std.proofs.lemmas.Bool.{false≢true}
-use Rattle.std.proofs.lemmas.List.{length-map, nil_from_length, take_more}
+use Rattle.std.proofs.lemmas.List.{take_all, take_more}
 use Rattle.std.proofs.lemmas.List.Elements.{All-append, All-cons, All-nil}
 use Rattle.frame_word.specs.Seats.{KnownTable}
 use Rattle.stock_word.specs.Stock.{KnownStockTable}
@@ -24,14 +24,10 @@ use Rattle.mem_machine.specs.Machines.{KnownMachine, IsConsistent, entries_in}
 use Rattle.mem_machine.proofs.Keepers.{keeper_there}
 use Rattle.mem_machine.proofs.Listing.{has_mid, has_unit, home_inside, listed_is}
 use Rattle.shown_states.specs.Frames.{flags_shown, kept_below, kept_in, with_flags}
-use Rattle.shown_states.specs.Groups.{group_if_there, group_shown, groups_below, groups_shown, numbers_of}
+use Rattle.shown_states.specs.Groups.{group_if_there, group_shown, groups_below, groups_shown}
 use Rattle.shown_states.proofs.FlagsKept.{flags_are}
 use Rattle.shown_states.proofs.FlagsSet.{flags_both}
 use Rattle.shown_states.proofs.Numbered.{none_there, one_there}
-
--- no number is shown of a list, so there is no unit on it
-pub none_numbered : (units : List Entry) → length (numbers_of units) ≡ 0 → units ≡ []
-none_numbered units none = nil_from_length units (sym (length-map units (λ entry. entry.number)) ∙ none)
 
 -- ---- the groups that are shown
 
@@ -52,9 +48,14 @@ shown_below machine (suc count) few =
     All-append (IsShown machine) (groups_below machine count) (group_if_there machine count) (shown_below machine count (omega (arith, few)))
     (shown_there machine count (omega (arith, few)) (path_of machine.ledger.groups count))
 
-pub all_shown : (machine : KnownMachine) → All (IsShown machine) (groups_shown machine)
+all_shown : (machine : KnownMachine) → All (IsShown machine) (groups_shown machine)
 unfolding groups_shown
 all_shown machine = shown_below machine 64 (omega arith)
+
+pub shown_at : (machine : KnownMachine) (groups : List KnownShownGroup) → groups ≡ groups_shown machine → (at : ℕ) (group : KnownShownGroup)
+    → at < length groups → group ≡ get_or groups at group → IsShown machine group
+shown_at machine groups are at group inside is =
+    subst (IsShown machine) (sym is) (subst (λ (l : List KnownShownGroup). All (IsShown machine) l) (sym are) (all_shown machine) at group inside)
 
 -- ---- the kept units of some groups
 
@@ -124,7 +125,15 @@ module _ (t : KnownTable) (w : KnownStockTable) (machine : KnownMachine) (ok : I
       kept_both machine (groups_below machine count) (group_if_there machine count)
       ∙ (λ i. kept_all count (omega (arith, few)) i ++ kept_there count (omega (arith, few)) i)
 
-  pub flags_by_groups : with_flags (replicate (length machine.frame_states) no_flags) (kept_of machine (groups_shown machine)) ≡ flags_shown machine
+  flags_by_groups : with_flags (replicate (length machine.frame_states) no_flags) (kept_of machine (groups_shown machine)) ≡ flags_shown machine
   unfolding groups_shown
   flags_by_groups =
       ap (with_flags (replicate (length machine.frame_states) no_flags)) (kept_all 64 (omega arith)) ∙ flags_are t w machine ok
+
+  -- no group is left
+  pub groups_end : (flags now : List Flags) (groups : List KnownShownGroup) (at : ℕ) → length groups ≤ at
+      → now ≡ with_flags flags (kept_of machine (take at groups)) → flags ≡ replicate (length machine.frame_states) no_flags → groups ≡ groups_shown machine
+      → now ≡ flags_shown machine
+  groups_end flags now groups at past is none are =
+      is ∙ ap (λ (l : List KnownShownGroup). with_flags flags (kept_of machine l)) (take_all at groups past)
+      ∙ (λ i. with_flags (none i) (kept_of machine (are i))) ∙ flags_by_groups
