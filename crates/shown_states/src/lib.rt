@@ -2,6 +2,8 @@
 //! script.
 #![tactic(auto)]
 
+mod advance_flags;
+mod advance_frames;
 mod counts;
 mod cpus;
 mod flags;
