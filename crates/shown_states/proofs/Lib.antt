@@ -8,3 +8,5 @@ pub mod CpusShown
 pub mod GroupsShown
 pub mod OneBoot
 pub mod Filled
+pub mod AdvancedGroups
+pub mod AdvancedTexts

@@ -62,7 +62,7 @@ fn show_group<N: BootName>(
 }
 
 // The numbers of a group that exists.
-fn show_row<N: BootName>(machine: &Machine<N>, group: GroupId) -> Row
+pub(crate) fn show_row<N: BootName>(machine: &Machine<N>, group: GroupId) -> Row
     requires { IsTrue (has_group machine.now.ledger.groups group) }
     ensures { result ≡ row_shown machine.now group }
 {

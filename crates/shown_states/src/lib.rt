@@ -2,6 +2,7 @@
 //! script.
 #![tactic(auto)]
 
+mod advance_groups;
 mod counts;
 mod cpus;
 mod flags;
