@@ -10,3 +10,4 @@ pub mod OneBoot
 pub mod Filled
 pub mod AdvancedGroups
 pub mod AdvancedTexts
+pub mod SeenGroups
