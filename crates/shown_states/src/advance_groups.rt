@@ -9,10 +9,11 @@ ghost use Rattle.mem_machine.specs.Machines.{active_in, entries_in, inactive_in}
 ghost use Rattle.shown_states.specs.Groups.{AreSameGroups, HasThisGroup, group_now, groups_shown, numbers_of};
 ghost use Rattle.shown_states.specs.Groups.{row_shown};
 
-use crate::groups::show_row;
+use crate::groups::row_with;
 use crate::lists::add_units;
+use crate::row_places::{oom_group, row_at, row_places};
 use cpu_part::BootName;
-use group_tree::group::GroupId;
+use group_tree::group::{GroupId, MAX_GROUPS};
 use lru_lists::record::LruList;
 use mem_machine::Machine;
 use std::alloc::{AllocError, Global};
@@ -24,12 +25,14 @@ use trace_lines::trace_state::ShownGroup;
 pub(crate) fn has_same_groups<N: BootName>(machine: &Machine<N>, groups: &[ShownGroup]) -> bool
     ensures { IsTrue result → AreSameGroups groups.now (groups_shown machine.now) }
 {
-    if groups.len() != machine.charges().tree().groups().len() {
+    let rows = machine.charges().tree().groups();
+    if groups.len() != rows.len() {
         return false;
     }
+    let places = row_places(rows);
     let mut least = 0;
     for group in groups {
-        if group.number() < least || !has_this_group(machine, group) {
+        if group.number() < least || !has_this_group(machine, &places, group) {
             return false;
         }
         least = group.number() + 1;
@@ -39,13 +42,20 @@ pub(crate) fn has_same_groups<N: BootName>(machine: &Machine<N>, groups: &[Shown
 }
 
 // Whether the machine has a group of this number and path.
-fn has_this_group<N: BootName>(machine: &Machine<N>, group: &ShownGroup) -> bool
+fn has_this_group<N: BootName>(
+    machine: &Machine<N>,
+    places: &[u8; MAX_GROUPS],
+    group: &ShownGroup,
+) -> bool
     ensures { IsTrue result → HasThisGroup machine.now group.now }
 {
-    let tree = machine.charges().tree();
+    let rows = machine.charges().tree().groups();
     match GroupId::of(group.number()) {
         None => false,
-        Some(id) => tree.contains(id) && tree.path_of(id).as_bytes() == group.path(),
+        Some(id) => match row_at(rows, places, id) {
+            None => false,
+            Some(row) => row.path.as_bytes() == group.path(),
+        },
     }
 }
 
@@ -68,10 +78,12 @@ pub(crate) fn advance_groups<N: BootName>(
     ensures rows { OnOk result (AddsRows rows_first.old rows_first.new (string_bytes rows.old) (string_bytes rows.new)
         (rows_beyond groups.old groups.new)) }
 {
+    let places = row_places(machine.charges().tree().groups());
     for group in groups.iter_mut() {
         advance_group(
             alloc,
             machine,
+            &places,
             group,
             units,
             lists_first,
@@ -87,6 +99,7 @@ pub(crate) fn advance_groups<N: BootName>(
 fn advance_group<N: BootName>(
     alloc: Global,
     machine: &Machine<N>,
+    places: &[u8; MAX_GROUPS],
     group: &mut ShownGroup,
     units: &mut Vec<u32>,
     lists_first: &mut bool,
@@ -103,7 +116,7 @@ fn advance_group<N: BootName>(
 {
     let id = GroupId::of(group.number()).unwrap();
     advance_lists(alloc, machine, id, group, units, lists_first, lists)?;
-    advance_row(machine, id, group, rows_first, rows)
+    advance_row(machine, places, id, group, rows_first, rows)
 }
 
 // Advances the lists of the group of this number, and adds their changes.
@@ -184,6 +197,7 @@ fn read_list<N: BootName>(
 // Advances the row of the group of this number, and adds it if it changed.
 fn advance_row<N: BootName>(
     machine: &Machine<N>,
+    places: &[u8; MAX_GROUPS],
     id: GroupId,
     group: &mut ShownGroup,
     is_first: &mut bool,
@@ -194,7 +208,7 @@ fn advance_row<N: BootName>(
     ensures added { OnOk result (AddsRows is_first.old is_first.new (string_bytes text.old) (string_bytes text.new)
         (rows_beyond (group.old ∷ []) (group.new ∷ []))) }
 {
-    let row = show_row(machine, id);
+    let row = row_with(machine, id, oom_group(machine, places, id));
     if is_same_row(group.row(), &row) {
         return Ok(());
     }

@@ -10,6 +10,7 @@ mod frames;
 mod groups;
 mod laws;
 mod lists;
+mod row_places;
 mod states;
 
 pub use laws::{states_are_of_one_boot, steps_keep_stocks};
