@@ -9,3 +9,6 @@ pub mod CpusShown
 pub mod GroupsShown
 pub mod OneBoot
 pub mod Filled
+pub mod AdvancedGroups
+pub mod AdvancedTexts
+pub mod SeenGroups

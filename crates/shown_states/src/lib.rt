@@ -4,6 +4,7 @@
 
 mod advance_flags;
 mod advance_frames;
+mod advance_groups;
 mod counts;
 mod cpus;
 mod flags;
@@ -11,6 +12,7 @@ mod frames;
 mod groups;
 mod laws;
 mod lists;
+mod row_places;
 mod states;
 
 pub use laws::{states_are_of_one_boot, steps_keep_stocks};
