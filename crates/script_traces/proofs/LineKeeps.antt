@@ -1,6 +1,6 @@
 -- What a line keeps: the CPUs' numbers, and a group for each stock that was filled once. Serves `trace_line`.
-use Rattle.std.proofs.Common.{◌≡◌, ◌≢◌, ◌∙◌, ℕ, ◌-◌, Bool, true, false, List, Option, Some, None, refl, sym, ap, subst, map, inl, inr}
-use Rattle.std.specs.Prelude.{◌⊎◌, slice_set}
+use Rattle.std.proofs.Common.{◌≡◌, ◌∙◌, ℕ, ◌-◌, Bool, true, false, List, Option, Some, None, refl, sym, ap, subst, map, inl, inr}
+use Rattle.std.specs.Prelude.{slice_set}
 use Rattle.std.specs.List.{slice_get}
 use Rattle.std.specs.Borrow.{Bor}
 use Rattle.std.proofs.lemmas.List.{map-set, set-get_or}
@@ -9,14 +9,12 @@ use Rattle.frame_word.specs.declared.answers.Get.TheVariants.{Held, Zero, Raced,
 use Rattle.frame_word.specs.declared.answers.Put.TheVariants as put
 use Rattle.frame_word.specs.Seats.{KnownTable}
 use Rattle.group_tree.specs.declared.fault.Fault.TheVariants.{PinsFull, NotPinned}
-use Rattle.group_tree.specs.Groups.{number_at}
 use Rattle.cpu_part.specs.declared.answers.Fast.{Fast as FastAnswer}
 use Rattle.cpu_part.specs.declared.answers.Fast.TheVariants.{Got, FreshFull, ListEmpty, OtherGroup, Drained, NoStock}
 use Rattle.cpu_part.specs.Cpus.{KnownCpu}
 use Rattle.cpu_part.specs.Calls.{FastAnswers}
 use Rattle.step_rules.specs.After.{Run}
 use Rattle.mem_machine.specs.Machines.{KnownMachine, visit_state}
-use Rattle.mem_machine.specs.Showing.{units_in, with_looks_at}
 use Rattle.mem_machine.specs.Stocks.{with_look}
 use Rattle.mem_system.specs.declared.command.Cmd.{Cmd}
 use Rattle.mem_system.specs.declared.command.Cmd.TheVariants as cmd
@@ -33,8 +31,8 @@ use Rattle.script_replay.specs.declared.route.Route.{Route}
 use Rattle.script_replay.specs.declared.route.Route.TheVariants as route
 use Rattle.script_replay.specs.declared.work.Work.{Work}
 use Rattle.script_replay.specs.declared.work.Work.TheVariants.{Visit, Frame, Fast, Release, Get, Put, Settle, Blocks, Show, Stock, Units}
-use Rattle.script_replay.specs.Answers.{AnswersFrame, AnswersRelease, AnswersSettle, CanNotList, GetsPin, IsServedUnderLock, OnlyWatched, PutsPin, RepliesServed}
-use Rattle.script_replay.specs.Answers.{WritesWork, locked_with_unit_notes}
+use Rattle.script_replay.specs.Answers.{AnswersFrame, CanNotList, GetsPin, IsServedUnderLock, OnlyWatched, PutsPin, RepliesServed}
+use Rattle.script_replay.specs.Answers.{locked_with_unit_notes}
 use Rattle.script_replay.specs.Lines.{SystemState}
 use Rattle.script_replay.specs.Routes.{AnswersByRoute, ServesByRoute, WritesByRoute}
 use Rattle.script_replay.specs.Works.{work_of}
@@ -198,7 +196,8 @@ line_keeps t Go before after route.Unlocked text is =
 line_keeps t Go before after taken text is = absurd is.writes
 line_keeps t (At number cpu command) before after taken text is =
     let at = is.writes in
-    let keeps = written_keeps (work_of command) taken (transition t (locked_state before.locked at.part) is.steps (locked_state after.locked at.left)) text at.done in
+    let call = transition t (locked_state before.locked at.part) is.steps (locked_state after.locked at.left) in
+    let keeps = written_keeps (work_of command) taken call text at.done in
     record {
       numbers = sym (ap numbers_in at.cpus ∙ same_numbers before.cpus (cpu - 1) at.part at.left at.is_part keeps.number);
       filled = keeps.filled;

@@ -1,5 +1,5 @@
 -- The changes of a line rebuild the state after it. Serves `trace_line`.
-use Rattle.std.proofs.Common.{◌≡◌, ℕ, List, All, get_or}
+use Rattle.std.proofs.Common.{ℕ, List, All, get_or}
 use Rattle.std.proofs.lemmas.Option.{slice_get-get_or}
 use Rattle.frame_word.specs.Seats.{KnownTable}
 use Rattle.stock_word.specs.Stock.{KnownStockTable}
@@ -11,7 +11,6 @@ use Rattle.script_lines.specs.declared.line.Line.{Line}
 use Rattle.script_replay.specs.declared.route.Route.{Route}
 use Rattle.script_replay.specs.Lines.{SystemState}
 use Rattle.script_replay.specs.Routes.{ServesByRoute}
-use Rattle.shown_states.specs.Cpus.{with_looks}
 use Rattle.shown_states.specs.States.{trace_state_of}
 use Rattle.shown_states.proofs.OneBoot.{one_boot}
 use Rattle.script_traces.specs.Traces.{AreRebuilt, system_shown}
