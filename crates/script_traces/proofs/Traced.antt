@@ -18,7 +18,7 @@ use Rattle.trace_lines.specs.declared.objects.LineFacts.{LineFacts}
 use Rattle.trace_lines.specs.Objects.{object_text}
 use Rattle.trace_lines.specs.TraceState.{KnownTraceState}
 use Rattle.script_traces.specs.Commands.{command_at}
-use Rattle.script_traces.specs.Traces.{GrowsBy, TracesLine, line_facts, looked, notes_on, system_shown}
+use Rattle.script_traces.specs.Traces.{AreRebuilt, GrowsBy, TracesLine, line_facts, looked, notes_on, system_shown}
 
 -- ---- states
 
@@ -30,6 +30,10 @@ shown_as locked cpus = refl
 pub shown_after : (shown : KnownTraceState) (locked after : KnownLocked) (cpus others : List KnownCpu) → shown ≡ trace_state_of locked.machine cpus
     → trace_state_of after.machine others ≡ trace_state_of locked.machine cpus → shown ≡ system_shown (system_state after others)
 shown_after shown locked after cpus others is again = is ∙ sym again ∙ shown_as after others
+
+pub shown_stays : (locked after : KnownLocked) (cpus others : List KnownCpu) → trace_state_of after.machine others ≡ trace_state_of locked.machine cpus
+    → system_shown (system_state after others) ≡ system_shown (system_state locked cpus)
+shown_stays locked after cpus others again = sym (shown_as after others) ∙ again ∙ shown_as locked cpus
 
 pub state_looked : (locked after : KnownLocked) (cpus others : List KnownCpu) → after ≡ locked_with_looks locked (length cpus) → others ≡ cpus
     → system_state after others ≡ looked (system_state locked cpus)
@@ -49,10 +53,11 @@ object_same facts facts_are command command_is answer answer_is before before_is
 pub line_traced : (tables : BootTables) (texts : List (List ℕ)) (number cpu : ℕ) (command : Command) (route : Route) (answer : List ℕ)
     (before served after : SystemState) (notes : KnownNotes) (old new : List ℕ)
     → ServesByRoute tables.frames (At number cpu command) before served route answer → after ≡ looked served
+    → AreRebuilt (system_shown before) (system_shown served) → system_shown after ≡ system_shown served
     → notes ≡ notes_on route served.locked.machine.notes
     → new ≡ old ++ object_text (line_facts number cpu route) (command_at texts number) answer (system_shown before) (system_shown served) notes.list notes.left_out
     → GrowsBy (TracesLine tables texts (At number cpu command) before after) old new
-line_traced tables texts number cpu command route answer before served after notes old new serves left are added = record {
+line_traced tables texts number cpu command route answer before served after notes old new serves left rebuilds same are added = record {
   text = object_text (line_facts number cpu route) (command_at texts number) answer (system_shown before) (system_shown served) notes.list notes.left_out;
   so = record {
     route = route;
@@ -60,6 +65,8 @@ line_traced tables texts number cpu command route answer before served after not
     served = served;
     serves = serves;
     left = left;
+    rebuilds = rebuilds;
+    same_shown = same;
     notes = notes;
     notes_are = are;
     object_is = refl;

@@ -2,6 +2,7 @@
 
 ghost use Rattle.std.specs.Prelude.{◌≡◌, All, IfOk, OnOk, length, map};
 ghost use Rattle.std.specs.String.{string_bytes};
+ghost use Rattle.mem_history.specs.Kept.{AreTied};
 ghost use Rattle.script_lines.specs.declared.line.Line.TheVariants.{At};
 ghost use Rattle.script_replay.specs.Lines.{InOrder, system_state};
 ghost use Rattle.script_replay.specs.Ranges.{LineInRange};
@@ -20,8 +21,9 @@ use trace_lines::trace_state::TraceState;
 use trace_lines::write_object;
 
 /// Serves the lines one after the other, each for the CPU that it names, and adds the object of each to the trace.
-/// `texts` are those of the whole script, from which the objects have the text of each command. It fails only if memory
-/// runs out: no line is served after that, and what was added then says nothing.
+/// `texts` are those of the whole script, from which the objects have the text of each command. The changes in each
+/// object rebuild what is shown after its line from what is shown before it. The call fails only if memory runs out: no
+/// line is served after that, and what was added then says nothing.
 pub fn replay_traced<N: BootName>(
     alloc: Global,
     locked: &mut Locked<N>,
@@ -37,6 +39,7 @@ pub fn replay_traced<N: BootName>(
         (string_bytes trace.old) (string_bytes trace.new)) }
 {
     let mut shown = trace_state(alloc, locked, tables, cpus)?;
+    prove_tied(cpus);
     trace_each(alloc, locked, tables, cpus, lines, texts, &mut shown, trace)
 }
 
@@ -52,6 +55,7 @@ fn trace_each<N: BootName>(
     trace: &mut String,
 ) -> Result<(), AllocError>
     requires there { All (LineInRange N.frames.frames (length cpus.old)) lines.now }
+    requires tied { AreTied N.frames N.stocks cpus.old }
     requires shown { shown.old ≡ system_shown (system_state locked.old cpus.old) }
     ensures traced { OnOk result (GrowsBy (InOrder (TracesLine (boot_tables N.frames N.stocks)
         (map (λ text. text.now) texts.now)) lines.now (system_state locked.old cpus.old)
@@ -75,7 +79,9 @@ fn trace_line<N: BootName>(
     trace: &mut String,
 ) -> Result<(), AllocError>
     requires there { LineInRange N.frames.frames (length cpus.old) line.now }
+    requires tied { AreTied N.frames N.stocks cpus.old }
     requires shown { shown.old ≡ system_shown (system_state locked.old cpus.old) }
+    ensures tied { OnOk result (AreTied N.frames N.stocks cpus.new) }
     ensures shown { OnOk result (shown.new ≡ system_shown (system_state locked.new cpus.new)) }
     ensures traced { OnOk result (GrowsBy (TracesLine (boot_tables N.frames N.stocks) (map (λ text. text.now) texts.now)
         line.now (system_state locked.old cpus.old) (system_state locked.new cpus.new))
@@ -84,6 +90,7 @@ fn trace_line<N: BootName>(
     let Line::At { number, cpu, .. } = line else {
         return Ok(());
     };
+    locked.prove_quiet(); // Called for its contract: `consistent`.
     let mut answer = String::new(alloc);
     let route = serve_traced_line(locked, tables, cpus, line, &mut answer)?;
     let now = trace_state(alloc, locked, tables, cpus)?;
@@ -103,4 +110,14 @@ fn trace_line<N: BootName>(
     )?;
     *shown = now;
     Ok(())
+}
+
+// Shows what always holds of the CPUs: their lists and pins are what their seats know. It does nothing.
+fn prove_tied<N: BootName>(cpus: &[Cpu<N>])
+    ensures { AreTied N.frames N.stocks cpus.now }
+{
+    for cpu in cpus {
+        let _number = cpu.number(); // Called for its contract: `tied`.
+        let _last = cpu.last_stock(); // Called for its contract: `none_fresh`.
+    }
 }

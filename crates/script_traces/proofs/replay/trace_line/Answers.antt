@@ -2,6 +2,7 @@ use Rattle.std.proofs.Common.{◌≡◌, ◌∙◌, ◌++◌, Bor, List, ℕ, ap
 use Rattle.std.specs.String.{string_bytes}
 use Rattle.kill_notes.specs.Notes.{KnownNotes}
 use Rattle.mem_machine.specs.Machines.{KnownMachine}
+use Rattle.mem_history.specs.Kept.{AreTied}
 use Rattle.mem_system.specs.Locked.{KnownLocked}
 use Rattle.script_lines.specs.declared.line.Line.{Line}
 use Rattle.script_lines.specs.declared.line.Line.TheVariants.{At}
@@ -10,13 +11,19 @@ use Rattle.script_replay.specs.Lines.{SystemState, system_state}
 use Rattle.script_replay.specs.Routes.{ServesByRoute}
 use Rattle.script_replay.specs.Terms.{boot_tables}
 use Rattle.script_traces.specs.Traces.{GrowsBy, TracesLine, line_facts, notes_on, system_shown}
-use Rattle.script_traces.proofs.Traced.{line_traced, object_same, shown_after, shown_as, state_looked}
+use Rattle.script_traces.proofs.Traced.{line_traced, object_same, shown_after, shown_as, shown_stays, state_looked}
+use Rattle.script_traces.proofs.Rebuilds.{line_rebuilds}
 use Rattle.script_traces.proofs.replay.trace_line.Goals as goal
 
 pub returns-clause-shown : goal.returns-clause-shown
 returns-clause-shown g c =
     shown_after c.in_ok-now.now c.serve_traced_line.new.locked c.trace_state.new.locked c.serve_traced_line.new.cpus c.trace_state.new.cpus
     c.in_ok-now.ensures.shown c.trace_state.ensures.again
+
+pub returns-clause-tied : goal.returns-clause-tied
+returns-clause-tied g c =
+    subst (AreTied g.N.BootName.frames g.N.BootName.stocks) (sym c.trace_state.ensures.cpus)
+    (c.in_ok-route.ensures.served.so.keeps.tied c.requires.tied)
 
 pub returns-clause-traced : goal.returns-clause-traced
 returns-clause-traced g c =
@@ -38,6 +45,9 @@ returns-clause-traced g c =
     let serves : ServesByRoute t line before served route answer =
     subst (λ (r : Route). ServesByRoute t line before served r answer) (sym by.returned)
     (subst (λ (l : Line). ServesByRoute t l before served by.taken answer) is by.so.serves) in
+    let keeps = by.so.keeps in
+    let rebuilds = line_rebuilds t g.N.BootName.stocks c.args.line.now before served by.taken answer by.so.serves c.prove_quiet.ensures.consistent
+    keeps.holds.consistent c.requires.tied (keeps.tied c.requires.tied) in
     let looks = c.trace_state.ensures.looked in
     let machine : c.machine.result.now.notes ≡ left.locked.machine.notes =
     ap (λ (m : KnownMachine). m.notes) c.machine.ensures.machine ∙ ap (λ (l : KnownLocked). l.machine.notes) looks in
@@ -52,4 +62,4 @@ returns-clause-traced g c =
     subst (λ (l : Line). GrowsBy (TracesLine tables texts l before after) (string_bytes c.args.trace.now) (string_bytes c.write_object.new.text)) (sym is)
     (line_traced tables texts number cpu command route answer before served after notes (string_bytes c.args.trace.now)
     (string_bytes c.write_object.new.text) serves (state_looked left.locked c.trace_state.new.locked left.cpus c.trace_state.new.cpus looks c.trace_state.ensures.cpus)
-    (λ i. notes) object)
+    rebuilds (shown_stays left.locked c.trace_state.new.locked left.cpus c.trace_state.new.cpus c.trace_state.ensures.again) (λ i. notes) object)
