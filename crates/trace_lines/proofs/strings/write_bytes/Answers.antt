@@ -1,4 +1,4 @@
-use Rattle.std.proofs.Common.{◌≡◌, ◌-◌, ◌≤◌, arith, drop, length, take}
+use Rattle.std.proofs.Common.{◌-◌, arith, drop, length}
 use Rattle.std.proofs.lemmas.List.{length-drop, length-take-le}
 use Rattle.std.specs.String.{string_bytes}
 use Rattle.trace_lines.proofs.Bytes.{front_more}
