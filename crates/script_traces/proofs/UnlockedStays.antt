@@ -19,6 +19,8 @@ use Rattle.script_replay.specs.Routes.{AnswersByRoute, ServesByRoute, WritesByRo
 use Rattle.script_replay.specs.Works.{work_of}
 use Rattle.shown_states.specs.Frames.{flags_shown}
 use Rattle.shown_states.specs.Groups.{groups_shown}
+use Rattle.trace_lines.specs.TraceState.{KnownTraceState}
+use Rattle.script_traces.specs.Traces.{system_shown}
 
 -- behind the lock only the watch changed
 abbrev pub OnlyWatch : (before after : KnownLocked) → Type 0
@@ -84,3 +86,13 @@ pub unlocked_flags : (t : KnownTable) (line : Line) (before after : SystemState)
 unlocked_flags t line before after text is =
     ap (λ (l : KnownLocked). flags_shown l.machine) (unlocked_watch t line before after text is)
     ∙ flags_watched before.locked.machine after.locked.machine.watch
+
+-- so what was shown before the line has the groups and the flags that the machine has after it
+pub unlocked_shown : (t : KnownTable) (line : Line) (before after : SystemState) (text : List ℕ) (shown : KnownTraceState)
+    → ServesByRoute t line before after route.Unlocked text → shown ≡ system_shown before
+    → (shown.groups ≡ groups_shown after.locked.machine) × (shown.flags ≡ flags_shown after.locked.machine)
+unfolding system_shown
+unlocked_shown t line before after text shown is same = (
+  ap (λ (s : KnownTraceState). s.groups) same ∙ sym (unlocked_groups t line before after text is),
+  ap (λ (s : KnownTraceState). s.flags) same ∙ sym (unlocked_flags t line before after text is),
+)
