@@ -8,3 +8,4 @@ pub mod CpusShown
 pub mod GroupsShown
 pub mod OneBoot
 pub mod Filled
+pub mod Advanced

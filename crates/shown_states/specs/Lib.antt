@@ -3,3 +3,4 @@ pub mod Groups
 pub mod Cpus
 pub mod States
 pub mod Laws
+pub mod Advancing

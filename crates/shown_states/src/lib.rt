@@ -2,6 +2,7 @@
 //! script.
 #![tactic(auto)]
 
+mod advance_cpus;
 mod counts;
 mod cpus;
 mod flags;
@@ -9,6 +10,7 @@ mod frames;
 mod groups;
 mod laws;
 mod lists;
+mod part;
 mod states;
 
 pub use laws::{states_are_of_one_boot, steps_keep_stocks};
