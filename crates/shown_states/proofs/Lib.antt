@@ -1,6 +1,7 @@
 pub mod Looks
 pub mod FlagsSet
 pub mod FlagsKept
+pub mod GroupFlags
 pub mod FreshSet
 pub mod Numbered
 pub mod Distinct

@@ -3,6 +3,8 @@
 #![tactic(auto)]
 
 mod advance_cpus;
+mod advance_flags;
+mod advance_frames;
 mod counts;
 mod cpus;
 mod flags;
