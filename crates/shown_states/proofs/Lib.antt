@@ -10,3 +10,6 @@ pub mod GroupsShown
 pub mod OneBoot
 pub mod Filled
 pub mod Advanced
+pub mod AdvancedGroups
+pub mod AdvancedTexts
+pub mod SeenGroups

@@ -5,6 +5,7 @@
 mod advance_cpus;
 mod advance_flags;
 mod advance_frames;
+mod advance_groups;
 mod counts;
 mod cpus;
 mod flags;
@@ -13,6 +14,7 @@ mod groups;
 mod laws;
 mod lists;
 mod part;
+mod row_places;
 mod states;
 
 pub use laws::{states_are_of_one_boot, steps_keep_stocks};

@@ -84,8 +84,22 @@ pub(crate) fn unit_numbers<N: BootName>(
     ensures { IfOk result (λ numbers. numbers.items ≡ numbers_of (entries_in machine.now group list)) }
 {
     let mut numbers = Vec::with_capacity(alloc, machine.list_len(group, list) as usize)?;
+    add_units(machine, group, list, &mut numbers)?;
+    Ok(numbers)
+}
+
+// Adds the first frames of the units on one of a group's lists, from the oldest to the newest.
+pub(crate) fn add_units<N: BootName>(
+    machine: &Machine<N>,
+    group: GroupId,
+    list: LruList,
+    numbers: &mut Vec<u32>,
+) -> Result<(), AllocError>
+    ensures { IfOk result (λ _. numbers.new.items
+        ≡ numbers.old.items ++ numbers_of (entries_in machine.now group list)) }
+{
     for entry in machine.entries(group, list) {
         numbers.push(entry.number)?;
     }
-    Ok(numbers)
+    Ok(())
 }

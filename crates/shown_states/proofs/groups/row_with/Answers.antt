@@ -1,5 +1,5 @@
 use Rattle.std.proofs.Common.{rules}
-use Rattle.shown_states.proofs.groups.show_row.Goals as goal
+use Rattle.shown_states.proofs.groups.row_with.Goals as goal
 
 pub returns : goal.returns
 returns g c = search rules
