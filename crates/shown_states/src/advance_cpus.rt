@@ -5,6 +5,7 @@ ghost use Rattle.std.specs.String.{string_bytes};
 ghost use Rattle.trace_lines.specs.declared.lists.ListName.TheVariants.{Back, Fresh, Listed};
 ghost use Rattle.trace_lines.specs.Changes.{cpu_list_changes, list_change, pin_changes, stock_change};
 ghost use Rattle.trace_lines.specs.Writing.{AddsLists, AddsPins, AddsStocks};
+ghost use Rattle.shown_states.specs.Parts.{IsEmpty};
 ghost use Rattle.shown_states.specs.Advancing.{AddsCpu, AddsCpus};
 ghost use Rattle.shown_states.specs.Cpus.{cpu_with_stock, cpus_shown, locked_with_looks};
 
@@ -27,6 +28,29 @@ pub(crate) struct CpuParts {
     pub(crate) pins: Part,
     pub(crate) stocks: Part,
     pub(crate) numbers: Vec<u32>,
+}
+
+impl CpuParts {
+    // No changes.
+    pub(crate) fn new(alloc: Global) -> CpuParts {
+        CpuParts {
+            lists: Part::new(alloc),
+            pins: Part::new(alloc),
+            stocks: Part::new(alloc),
+            numbers: Vec::new(alloc),
+        }
+    }
+
+    // Drops the changes.
+    pub(crate) fn clear(&mut self)
+        ensures lists { IsEmpty self.new.lists }
+        ensures pins { IsEmpty self.new.pins }
+        ensures stocks { IsEmpty self.new.stocks }
+    {
+        self.lists.clear();
+        self.pins.clear();
+        self.stocks.clear();
+    }
 }
 
 // Sets all CPUs, each with its stock as one look at the stock's word finds it, and adds what changed. If memory runs

@@ -1,8 +1,8 @@
 //! A part of a line's object, whose items are added one by one.
 
-ghost use Rattle.std.specs.Prelude.{◌≡◌, ◌++◌, [], OnOk, true};
+ghost use Rattle.std.specs.Prelude.{◌≡◌, ◌++◌, OnOk};
 ghost use Rattle.std.specs.String.{string_bytes};
-ghost use Rattle.trace_lines.specs.Writing.{stop_text};
+ghost use Rattle.shown_states.specs.Parts.{IsEmpty, part_bytes};
 
 use std::alloc::{AllocError, Global};
 use trace_lines::parts::push_stop;
@@ -18,8 +18,7 @@ pub(crate) struct Part {
 impl Part {
     // A part without items.
     pub(crate) fn new(alloc: Global) -> Part
-        ensures first { result.is_first ≡ true }
-        ensures text { string_bytes result.text ≡ [] }
+        ensures { IsEmpty result }
     {
         Part {
             is_first: true,
@@ -29,8 +28,7 @@ impl Part {
 
     // Drops the items.
     pub(crate) fn clear(&mut self)
-        ensures first { self.new.is_first ≡ true }
-        ensures text { string_bytes self.new.text ≡ [] }
+        ensures { IsEmpty self.new }
     {
         self.is_first = true;
         self.text.clear();
@@ -38,8 +36,7 @@ impl Part {
 
     // Adds the part to the text, and what goes behind its last item.
     pub(crate) fn add_to(&self, text: &mut String) -> Result<(), AllocError>
-        ensures { OnOk result (string_bytes text.new
-            ≡ string_bytes text.old ++ (string_bytes self.now.text ++ stop_text self.now.is_first)) }
+        ensures { OnOk result (string_bytes text.new ≡ string_bytes text.old ++ part_bytes self.now) }
     {
         text.push_str(&self.text)?;
         push_stop(self.is_first, text)
