@@ -1,6 +1,6 @@
 //! The places of the frames.
 
-ghost use Rattle.std.specs.Prelude.{◌≡◌, IfOk, OnOk, map, slice_set};
+ghost use Rattle.std.specs.Prelude.{◌≡◌, IfOk, OnOk, length, map, slice_set};
 ghost use Rattle.trace_lines.specs.declared.place.ShownPlace.TheVariants.{Charged};
 ghost use Rattle.trace_lines.specs.Places.{places_of};
 ghost use Rattle.shown_states.specs.Frames.{places_shown, record_of, with_fresh, with_fresh_of, with_singles};
@@ -45,14 +45,22 @@ fn fill_recorded_places(
 ) -> Result<(), AllocError>
     ensures { OnOk result (places.new.items ≡ places_of (map record_of frame_states.now)) }
 {
-    places.clear();
-    let mut order = 0;
-    for frame_state in frame_states {
-        let frame = record_of(frame_state);
-        places.push(place_in(order, frame))?;
-        order = order_after(order, frame);
-    }
+    places.resize(frame_states.len(), ShownPlace::Free)?;
+    set_recorded_places(frame_states, places);
     Ok(())
+}
+
+// Sets the place of each frame by the zone's own records.
+fn set_recorded_places(frame_states: &[FrameState], places: &mut [ShownPlace])
+    requires { length places.old ≡ length frame_states.now }
+    ensures { places.new ≡ places_of (map record_of frame_states.now) }
+{
+    let mut order = 0;
+    for (frame, frame_state) in frame_states.iter().enumerate() {
+        let record = record_of(frame_state);
+        places[frame] = place_in(order, record);
+        order = order_after(order, record);
+    }
 }
 
 // Sets the places of the fresh frames of these CPUs.
