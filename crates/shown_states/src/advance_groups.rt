@@ -1,6 +1,6 @@
 //! The groups of a state, advanced in place to what the machine has now.
 
-ghost use Rattle.std.specs.Prelude.{◌≡◌, ◌∷◌, [], IsTrue, OnOk, Some, map};
+ghost use Rattle.std.specs.Prelude.{◌≡◌, ◌∷◌, [], IsTrue, OnOk, Some};
 ghost use Rattle.std.specs.String.{string_bytes};
 ghost use Rattle.group_tree.specs.Groups.{has_group};
 ghost use Rattle.trace_lines.specs.Changes.{group_list_changes, groups_list_changes, list_change, rows_beyond};

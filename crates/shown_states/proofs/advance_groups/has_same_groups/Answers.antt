@@ -1,4 +1,4 @@
-use Rattle.std.proofs.Common.{◌≡◌, ◌+◌, ◌≤◌, ℕ, arith, length, rules, subst, sym}
+use Rattle.std.proofs.Common.{◌≡◌, ◌+◌, ◌≤◌, ℕ, length, rules, subst, sym}
 use Rattle.shown_states.specs.Groups.{HasThisGroup}
 use Rattle.shown_states.proofs.SeenGroups.{Seen, seen_all, seen_more}
 use Rattle.shown_states.proofs.advance_groups.has_same_groups.Goals as goal

@@ -1,5 +1,5 @@
-use Rattle.std.proofs.Common.{◌≡◌, List, ◌∙◌, ap, rules, subst, sym, ℕ}
-use Rattle.std.specs.Prelude.{Option, Some, ◌<◌}
+use Rattle.std.proofs.Common.{◌≡◌, ◌∙◌, ap, rules}
+use Rattle.std.specs.Prelude.{Some, ◌<◌}
 use Rattle.std.specs.Option.{option_map}
 use Rattle.group_tree.specs.declared.group.Group.{Group}
 use Rattle.group_tree.specs.Groups.{group_at, path_of}

@@ -1,4 +1,4 @@
-use Rattle.std.proofs.Common.{◌≡◌, List, false, ◌∙◌, ap, rules, sym}
+use Rattle.std.proofs.Common.{◌≡◌, false, ap, rules, sym}
 use Rattle.std.specs.Prelude.{Option, Some}
 use Rattle.std.specs.Option.{option_map_or}
 use Rattle.group_tree.specs.declared.group.Group.{Group}

@@ -1,4 +1,4 @@
-use Rattle.std.proofs.Common.{◌≡◌, ℕ, Some, ap, eqb-true, get_or, subst, sym, ◌∙◌}
+use Rattle.std.proofs.Common.{◌≡◌, ℕ, Some, eqb-true, subst, sym, ◌∙◌}
 use Rattle.group_tree.specs.Groups.{group_at}
 use Rattle.group_tree.proofs.GroupLemmas.{group_at-there}
 use Rattle.shown_states.proofs.row_places.row_at.Goals as goal
