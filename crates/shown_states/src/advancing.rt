@@ -223,14 +223,7 @@ fn advance_parts<N: BootName>(
         &mut parts.rows,
     )?;
     text.clear();
-    advance_frames(
-        alloc,
-        machine,
-        cpus,
-        state,
-        &mut parts.spare_places,
-        text,
-    )?;
+    advance_frames(alloc, machine, cpus, state, &mut parts.spare_places, text)?;
     parts.cpus.lists.add_to(text)?;
     advance_flags(machine, state, &mut parts.spare_flags, text)?;
     add_last_parts(&parts.cpus.pins, &parts.cpus.stocks, &parts.rows, text)
@@ -270,14 +263,7 @@ fn advance_cpu_parts<N: BootName>(
     let machine = locked.machine();
     set_counts(machine, cpus, state, counts)?;
     text.clear();
-    advance_frames(
-        alloc,
-        machine,
-        cpus,
-        state,
-        &mut parts.spare_places,
-        text,
-    )?;
+    advance_frames(alloc, machine, cpus, state, &mut parts.spare_places, text)?;
     parts.cpus.lists.add_to(text)?;
     parts.cpus.pins.add_to(text)?;
     parts.cpus.stocks.add_to(text)
