@@ -13,3 +13,4 @@ pub mod Advanced
 pub mod AdvancedGroups
 pub mod AdvancedTexts
 pub mod SeenGroups
+pub mod Assembled
