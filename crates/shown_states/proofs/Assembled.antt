@@ -17,7 +17,7 @@ use Rattle.trace_lines.specs.declared.trace_state.Row.{Row}
 use Rattle.trace_lines.specs.TraceState.{KnownShownGroup, KnownTraceState}
 use Rattle.trace_lines.specs.Changes.{ListChange, active_of, are_same_events, are_same_flags, changes, count_change, cpus_list_changes, cpus_pin_changes, flag_change, flag_changes, frame_spans, group_list_changes, group_numbered, groups_beyond, groups_list_changes, has_row, inactive_of, is_same_flag, is_same_limit, is_same_row, is_unchanged, list_change, list_changes, most_groups, numbers_of, rows_beyond, stock_changes}
 use Rattle.trace_lines.specs.Parts.{changes_text, counts_part, first_parts_text, flag_change_text, frame_span_text, last_parts_text, list_change_text, made_text, part_text, pin_change_text, row_text, stock_change_text}
-use Rattle.trace_lines.specs.Writing.{AddsLists}
+use Rattle.trace_lines.specs.Writing.{AddsLists, AddsRows}
 use Rattle.trace_lines.proofs.Items.{adds_both, adds_part}
 use Rattle.mem_machine.specs.Machines.{KnownMachine}
 use Rattle.shown_states.specs.declared.advance_cpus.CpuParts.{CpuParts}
@@ -247,3 +247,21 @@ module _ (machine now : KnownMachine) (cpus others : List KnownCpu) (looked : no
 pub ok_any : {T E : Type 0} (P : Type 0) (r : Result T E) → P → OnOk r P
 ok_any P (Ok x) holds = holds
 ok_any P (Err x) holds = tt
+
+-- what was added of groups that were swapped out
+pub lists_swapped : {T E : Type 0} (r : Result T E) (old from new now : List KnownShownGroup) (first next : Bool) (text after : List ℕ) → from ≡ old
+    → OnOk r (new ≡ now) → OnOk r (AddsLists first next text after (groups_list_changes from new)) → OnOk r (AddsLists first next text after (groups_list_changes old now))
+lists_swapped (Err x) old from new now first next text after same is adds = tt
+lists_swapped (Ok x) old from new now first next text after same is adds =
+    subst (λ (g : List KnownShownGroup). AddsLists first next text after (groups_list_changes old g)) is
+    (subst (λ (g : List KnownShownGroup). AddsLists first next text after (groups_list_changes g new)) same adds)
+
+pub rows_swapped : {T E : Type 0} (r : Result T E) (old from new now : List KnownShownGroup) (first next : Bool) (text after : List ℕ) → from ≡ old
+    → first ≡ true → text ≡ [] → OnOk r (new ≡ now) → OnOk r (AddsRows first next text after (rows_beyond from new))
+    → OnOk r (AddsRows true next [] after (rows_beyond old now))
+rows_swapped (Err x) old from new now first next text after same start none is adds = tt
+rows_swapped (Ok x) old from new now first next text after same start none is adds =
+    subst (λ (t : List ℕ). AddsRows true next t after (rows_beyond old now)) none
+    (subst (λ (b : Bool). AddsRows b next text after (rows_beyond old now)) start
+    (subst (λ (g : List KnownShownGroup). AddsRows first next text after (rows_beyond old g)) is
+    (subst (λ (g : List KnownShownGroup). AddsRows first next text after (rows_beyond g new)) same adds)))
