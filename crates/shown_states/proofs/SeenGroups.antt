@@ -40,7 +40,8 @@ one_more group groups (suc count) = elim (cases_eq group.number count) [
   | inr other ↦
       let before = one_more group groups count in
       let same : one_if (has_group (group ∷ groups) count) ≡ one_if (has_group groups count)
-      = ap (λ (o : Option Group). one_if (is_some o)) (cond-false (group.number == count) (Some group) (group_at groups count) (ne_eqb group.number count other)) in
+      = ap (λ (o : Option Group). one_if (is_some o)) (
+      cond-false (group.number == count) (Some group) (group_at groups count) (ne_eqb group.number count other)) in
       (omega (arith, before.0, same), λ le. let less = before.1 (omega (arith, le)) in omega (arith, less, same))
 ]
 

@@ -69,7 +69,7 @@ fn show_row<N: BootName>(machine: &Machine<N>, group: GroupId) -> Row
     row_with(machine, group, machine.charges().oom_group(group))
 }
 
-// The same for who has the group's memory.oom.group.
+// The numbers of a group that exists and has this memory.oom.group.
 pub(crate) fn row_with<N: BootName>(machine: &Machine<N>, group: GroupId, oom_group: bool) -> Row
     requires there { IsTrue (has_group machine.now.ledger.groups group) }
     requires flag { oom_group ≡ is_oom_group machine.now.ledger.groups group }

@@ -1,4 +1,4 @@
-//! Where the tree's row of each group is. The tree itself looks through its rows for a path or a flag.
+//! Where each group's row is among the tree's rows. The tree itself searches them for each path and flag.
 
 ghost use Rattle.std.specs.Prelude.{◌≡◌, ◌≤◌, IfSome, IsTrue, Some, length};
 ghost use Rattle.group_tree.specs.Bounds.{most_groups};
@@ -8,8 +8,8 @@ use cpu_part::BootName;
 use group_tree::group::{Group, GroupId, MAX_GROUPS};
 use mem_machine::Machine;
 
-// The place of each group's row among these, by the group's number. Who reads a row by its place sees whether it is the
-// group's, so nothing rests on these.
+// The place of each group's row among these, by the group's number. `row_at` compares the number of the row that it
+// finds, so no proof rests on the places.
 pub(crate) fn row_places(rows: &[Group]) -> [u8; MAX_GROUPS]
     requires { length rows.now ≤ most_groups }
 {
