@@ -114,11 +114,10 @@ pub fn advance<N: BootName>(
         changes,
         counts,
     } = buffers;
-    if state.cpus().len() == cpus.len() && has_same_groups(locked.machine(), state.groups()) {
-        advance_parts(alloc, locked, tables, cpus, state, parts, changes, counts)
-    } else {
-        replace(alloc, locked, tables, cpus, state, changes, counts)
+    if is_alike(locked.machine(), cpus, state) {
+        return advance_parts(alloc, locked, tables, cpus, state, parts, changes, counts);
     }
+    replace(alloc, locked, tables, cpus, state, changes, counts)
 }
 
 /// The same after a line that took no lock: the groups and the flags of the state are those of the machine.
@@ -146,11 +145,25 @@ pub fn advance_unlocked<N: BootName>(
         changes,
         counts,
     } = buffers;
-    if state.cpus().len() == cpus.len() {
-        advance_cpu_parts(alloc, locked, tables, cpus, state, parts, changes, counts)
-    } else {
-        replace(alloc, locked, tables, cpus, state, changes, counts)
+    if has_as_many(cpus, state) {
+        return advance_cpu_parts(alloc, locked, tables, cpus, state, parts, changes, counts);
     }
+    replace(alloc, locked, tables, cpus, state, changes, counts)
+}
+
+// Whether the state has as many CPUs, and groups of the same numbers and paths as the machine.
+fn is_alike<N: BootName>(machine: &Machine<N>, cpus: &[Cpu<N>], state: &TraceState) -> bool
+    ensures cpus { IsTrue result → length state.now.cpus ≡ length cpus.now }
+    ensures groups { IsTrue result → AreSameGroups state.now.groups (groups_shown machine.now) }
+{
+    has_as_many(cpus, state) && has_same_groups(machine, state.groups())
+}
+
+// Whether the state has as many CPUs.
+fn has_as_many<N: BootName>(cpus: &[Cpu<N>], state: &TraceState) -> bool
+    ensures { IsTrue result → length state.now.cpus ≡ length cpus.now }
+{
+    state.cpus().len() == cpus.len()
 }
 
 // Replaces the state, and compares the two whole.
@@ -174,10 +187,10 @@ fn replace<N: BootName>(
     text.clear();
     counts.clear();
     let now = trace_state(alloc, locked, tables, cpus)?;
-    write_changes(alloc, state, &now, text)?;
     write_counts(state.counts(), now.counts(), counts)?;
+    let result = write_changes(alloc, state, &now, text);
     *state = now;
-    Ok(())
+    result
 }
 
 // Advances each part of a state that has as many CPUs and the same groups.
