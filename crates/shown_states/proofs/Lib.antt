@@ -9,6 +9,8 @@ pub mod CpusShown
 pub mod GroupsShown
 pub mod OneBoot
 pub mod Filled
+pub mod Advanced
 pub mod AdvancedGroups
 pub mod AdvancedTexts
 pub mod SeenGroups
+pub mod Assembled
