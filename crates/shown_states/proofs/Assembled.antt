@@ -1,9 +1,9 @@
 -- A state whose parts were advanced one by one, and the text of what changed. Serves `advance_parts` and
 -- `advance_cpu_parts`.
-use Rattle.std.proofs.Common.{◌≡◌, ◌∙◌, ℕ, zero, suc, ◌+◌, Bool, true, false, cond, not, Option, Some, None, List, [], ◌∷◌, ◌++◌, length, map, append_assoc, append-nil, refl, sym, ap, subst, eq-eqb, Result, Ok, Err}
-use Rattle.std.specs.Prelude.{OnOk, ◌==◌, ◌&&◌, ◌||◌, codes}
+use Rattle.std.proofs.Common.{◌≡◌, ◌∙◌, ℕ, ◌+◌, Bool, true, false, cond, not, Option, Some, None, List, [], ◌∷◌, ◌++◌, length, map, append_assoc, append-nil, refl, sym, ap, subst, eq-eqb, Result, Ok, Err}
+use Rattle.std.specs.Prelude.{OnOk, ◌==◌, ◌&&◌, codes}
 use Rattle.std.specs.Fmt.{decimal}
-use Rattle.std.specs.List.{filter, flat_map, list_any, range_with_len}
+use Rattle.std.specs.List.{filter, flat_map, range_with_len}
 use Rattle.std.specs.Str.{bytes_eq}
 use Rattle.std.specs.String.{string_bytes}
 use Rattle.std.proofs.lemmas.Bool.{and_from, or_left, or_right}
@@ -15,7 +15,7 @@ use Rattle.trace_lines.specs.declared.trace_state.Events.{Events}
 use Rattle.trace_lines.specs.declared.trace_state.Flags.{Flags}
 use Rattle.trace_lines.specs.declared.trace_state.Row.{Row}
 use Rattle.trace_lines.specs.TraceState.{KnownShownGroup, KnownTraceState}
-use Rattle.trace_lines.specs.Changes.{ListChange, active_of, are_same_events, are_same_flags, changes, count_change, cpus_list_changes, cpus_pin_changes, flag_change, flag_changes, frame_spans, group_list_changes, group_numbered, groups_beyond, groups_list_changes, has_row, inactive_of, is_same_flag, is_same_limit, is_same_row, is_unchanged, list_change, list_changes, most_groups, numbers_of, rows_beyond, stock_changes}
+use Rattle.trace_lines.specs.Changes.{ListChange, active_of, are_same_events, are_same_flags, changes, count_change, cpus_list_changes, cpus_pin_changes, flag_changes, frame_spans, group_list_changes, group_numbered, groups_list_changes, has_row, inactive_of, is_same_flag, is_same_limit, is_same_row, is_unchanged, list_change, list_changes, most_groups, numbers_of, rows_beyond, stock_changes}
 use Rattle.trace_lines.specs.Parts.{changes_text, counts_part, first_parts_text, flag_change_text, frame_span_text, last_parts_text, list_change_text, made_text, part_text, pin_change_text, row_text, stock_change_text}
 use Rattle.trace_lines.specs.Writing.{AddsLists, AddsRows}
 use Rattle.trace_lines.proofs.Items.{adds_both, adds_part}

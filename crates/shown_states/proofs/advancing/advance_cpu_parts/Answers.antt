@@ -1,4 +1,4 @@
-use Rattle.std.proofs.Common.{◌≡◌, ◌∙◌, List, ap}
+use Rattle.std.proofs.Common.{◌∙◌, ap}
 use Rattle.std.specs.String.{string_bytes}
 use Rattle.mem_system.specs.Locked.{KnownLocked}
 use Rattle.shown_states.proofs.Assembled.{counts_same, ok_any, own_advanced, own_text}
