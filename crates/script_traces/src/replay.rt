@@ -25,7 +25,7 @@ use script_replay::{Route, serve_traced_line};
 use shown_states::{Buffers, advance, advance_unlocked, trace_state};
 use std::alloc::{AllocError, Global};
 use trace_lines::trace_state::TraceState;
-use trace_lines::write_object_of;
+use trace_lines::write_object;
 
 /// Serves the lines one after the other, each for the CPU that it names, and adds the object of each to the trace.
 /// `texts` are those of the whole script, from which the objects have the text of each command. The changes in each
@@ -119,7 +119,7 @@ fn trace_line<N: BootName>(
     let (notes, more) = notes_on(&route, locked.machine());
     let facts = line_facts(*number, *cpu, &route);
     let command = command_at(texts, *number);
-    write_object_of(
+    write_object(
         &facts,
         command,
         answer.as_bytes(),

@@ -4,17 +4,16 @@ ghost use Rattle.std.specs.Prelude.{◌≡◌, ◌++◌, IfOk, codes};
 ghost use Rattle.std.specs.String.{string_bytes};
 ghost use Rattle.trace_lines.specs.Objects.{end_front, end_text, frame_sums_text, header_front, header_text};
 ghost use Rattle.trace_lines.specs.Objects.{keyed_string, keyed_text, line_number_text, line_text, lock_text};
-ghost use Rattle.trace_lines.specs.Objects.{failure_text, lock_word, object_text, object_with, reason_text, row_names};
+ghost use Rattle.trace_lines.specs.Objects.{failure_text, lock_word, object_with, reason_text, row_names};
 ghost use Rattle.trace_lines.specs.Objects.{sizes_text, unit_sums_text};
 ghost use Rattle.trace_lines.specs.Parts.{opening};
 
 use crate::notes::write_notes;
 use crate::numbers::push_count;
-use crate::parts::{push_opening, write_changes, write_counts};
+use crate::parts::push_opening;
 use crate::strings::write_string;
-use crate::trace_state::TraceState;
 use kill_notes::note::Note;
-use std::alloc::{AllocError, Global};
+use std::alloc::AllocError;
 
 /// The sizes of a boot.
 #[derive(Clone, Copy, Debug, PartialEq, Eq)]
@@ -126,33 +125,9 @@ fn push_keyed(key: &str, count: u64, text: &mut String) -> Result<(), AllocError
     push_count("\":", count, text)
 }
 
-/// Adds the object of a line: the line with its command and answer, what differs between what was shown `before` it and
-/// what is shown `after` it, its notes, which leave out `left_out` frames, and the counts, if they changed. It fails
-/// only if memory runs out.
-pub fn write_object(
-    alloc: Global,
-    line: &LineFacts,
-    command: &[u8],
-    answer: &[u8],
-    before: &TraceState,
-    after: &TraceState,
-    notes: &[Note],
-    left_out: u64,
-    text: &mut String,
-) -> Result<(), AllocError>
-    ensures { IfOk result (λ _. string_bytes text.new ≡ string_bytes text.old
-        ++ object_text line.now command.now answer.now before.now after.now notes.now left_out) }
-{
-    write_line(line, command, answer, text)?;
-    write_changes(alloc, before, after, text)?;
-    write_notes(notes, left_out, text)?;
-    write_counts(before.counts(), after.counts(), text)?;
-    text.push_str("}\n")
-}
-
 /// Adds the object of a line: the line with its command and answer, the text of what it changed, its notes, which leave
 /// out `left_out` frames, and the text of the counts. It fails only if memory runs out.
-pub fn write_object_of(
+pub fn write_object(
     line: &LineFacts,
     command: &[u8],
     answer: &[u8],

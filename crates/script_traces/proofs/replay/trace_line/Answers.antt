@@ -80,11 +80,11 @@ returns-clause-traced g c =
     (c.counts.ensures ∙ c.in_ok-advance_by_route.ensures.counts) c.requires.shown (shown_as left.locked left.cpus) in
     let object = object_same _ (line_facts number cpu route) _ _ _ answer c.changes.result.now (system_shown before) (system_shown served) _ notes.list
     _ notes.left_out c.counts.result.now
-    (string_bytes c.args.trace.now) (string_bytes c.write_object_of.new.text) c.in_ok-write_object_of.ensures c.line_facts-facts.ensures
+    (string_bytes c.args.trace.now) (string_bytes c.write_object.new.text) c.in_ok-write_object.ensures c.line_facts-facts.ensures
     c.command_at-command.ensures (c.as_bytes.ensures.value ∙ said) changed
     (c.notes_on-more.ensures.notes ∙ ap (λ (n : KnownNotes). n.list) are) (c.notes_on-more.ensures.more ∙ ap (λ (n : KnownNotes). n.left_out) are)
     counted in
-    subst (λ (l : Line). GrowsBy (TracesLine tables texts l before after) (string_bytes c.args.trace.now) (string_bytes c.write_object_of.new.text)) (sym is)
+    subst (λ (l : Line). GrowsBy (TracesLine tables texts l before after) (string_bytes c.args.trace.now) (string_bytes c.write_object.new.text)) (sym is)
     (line_traced tables texts number cpu command route answer before served after notes (string_bytes c.args.trace.now)
-    (string_bytes c.write_object_of.new.text) serves (state_looked left.locked c.advance_by_route.new.locked left.cpus c.advance_by_route.new.cpus looks c.advance_by_route.ensures.cpus)
+    (string_bytes c.write_object.new.text) serves (state_looked left.locked c.advance_by_route.new.locked left.cpus c.advance_by_route.new.cpus looks c.advance_by_route.ensures.cpus)
     rebuilds (shown_stays left.locked c.advance_by_route.new.locked left.cpus c.advance_by_route.new.cpus c.advance_by_route.ensures.again) (λ i. notes) object)
