@@ -15,10 +15,12 @@ use Rattle.script_replay.proofs.InOrder.{in_order_line}
 use Rattle.shown_states.specs.Cpus.{locked_with_looks}
 use Rattle.shown_states.specs.States.{trace_state_of}
 use Rattle.trace_lines.specs.declared.objects.LineFacts.{LineFacts}
-use Rattle.trace_lines.specs.Objects.{object_text}
+use Rattle.trace_lines.specs.Changes.{changes}
+use Rattle.trace_lines.specs.Objects.{object_text, object_with}
+use Rattle.trace_lines.specs.Parts.{changes_text, counts_part}
 use Rattle.trace_lines.specs.TraceState.{KnownTraceState}
 use Rattle.script_traces.specs.Commands.{command_at}
-use Rattle.script_traces.specs.Traces.{GrowsBy, TracesLine, line_facts, looked, notes_on, system_shown}
+use Rattle.script_traces.specs.Traces.{AreRebuilt, GrowsBy, TracesLine, line_facts, looked, notes_on, system_shown}
 
 -- ---- states
 
@@ -31,28 +33,43 @@ pub shown_after : (shown : KnownTraceState) (locked after : KnownLocked) (cpus o
     → trace_state_of after.machine others ≡ trace_state_of locked.machine cpus → shown ≡ system_shown (system_state after others)
 shown_after shown locked after cpus others is again = is ∙ sym again ∙ shown_as after others
 
+pub shown_stays : (locked after : KnownLocked) (cpus others : List KnownCpu) → trace_state_of after.machine others ≡ trace_state_of locked.machine cpus
+    → system_shown (system_state after others) ≡ system_shown (system_state locked cpus)
+shown_stays locked after cpus others again = sym (shown_as after others) ∙ again ∙ shown_as locked cpus
+
 pub state_looked : (locked after : KnownLocked) (cpus others : List KnownCpu) → after ≡ locked_with_looks locked (length cpus) → others ≡ cpus
     → system_state after others ≡ looked (system_state locked cpus)
 state_looked locked after cpus others looks same = λ i. system_state (looks i) (same i)
 
 -- ---- one line
 
+-- the text of what changed, and of the counts, between equal states
+pub changes_same : (text : List ℕ) (shown before after served : KnownTraceState) → text ≡ changes_text (changes shown after) → shown ≡ before
+    → after ≡ served → text ≡ changes_text (changes before served)
+changes_same text shown before after served is b s = is ∙ (λ i. changes_text (changes (b i) (s i)))
+
+pub counts_same : (text : List ℕ) (shown before after served : KnownTraceState) → text ≡ counts_part (changes shown after).counts → shown ≡ before
+    → after ≡ served → text ≡ counts_part (changes before served).counts
+counts_same text shown before after served is b s = is ∙ (λ i. counts_part (changes (b i) (s i)).counts)
+
 -- the same object, of equal parts
-pub object_same : (facts facts_are : LineFacts) (command command_is answer answer_is : List ℕ) (before before_is after after_is : KnownTraceState)
-    (notes notes_are : List Note) (more more_is : ℕ) (old new : List ℕ)
-    → new ≡ old ++ object_text facts command answer before after notes more
-    → facts ≡ facts_are → command ≡ command_is → answer ≡ answer_is → before ≡ before_is → after ≡ after_is → notes ≡ notes_are → more ≡ more_is
-    → new ≡ old ++ object_text facts_are command_is answer_is before_is after_is notes_are more_is
-object_same facts facts_are command command_is answer answer_is before before_is after after_is notes notes_are more more_is old new added f c a b s n m =
-    added ∙ (λ i. old ++ object_text (f i) (c i) (a i) (b i) (s i) (n i) (m i))
+pub object_same : (facts facts_are : LineFacts) (command command_is answer answer_is text : List ℕ) (before after : KnownTraceState)
+    (notes notes_are : List Note) (more more_is : ℕ) (counts old new : List ℕ)
+    → new ≡ old ++ object_with facts command answer text notes more counts
+    → facts ≡ facts_are → command ≡ command_is → answer ≡ answer_is → text ≡ changes_text (changes before after) → notes ≡ notes_are → more ≡ more_is
+    → counts ≡ counts_part (changes before after).counts
+    → new ≡ old ++ object_text facts_are command_is answer_is before after notes_are more_is
+object_same facts facts_are command command_is answer answer_is text before after notes notes_are more more_is counts old new added f c a t n m k =
+    added ∙ (λ i. old ++ object_with (f i) (c i) (a i) (t i) (n i) (m i) (k i))
 
 pub line_traced : (tables : BootTables) (texts : List (List ℕ)) (number cpu : ℕ) (command : Command) (route : Route) (answer : List ℕ)
     (before served after : SystemState) (notes : KnownNotes) (old new : List ℕ)
     → ServesByRoute tables.frames (At number cpu command) before served route answer → after ≡ looked served
+    → AreRebuilt (system_shown before) (system_shown served) → system_shown after ≡ system_shown served
     → notes ≡ notes_on route served.locked.machine.notes
     → new ≡ old ++ object_text (line_facts number cpu route) (command_at texts number) answer (system_shown before) (system_shown served) notes.list notes.left_out
     → GrowsBy (TracesLine tables texts (At number cpu command) before after) old new
-line_traced tables texts number cpu command route answer before served after notes old new serves left are added = record {
+line_traced tables texts number cpu command route answer before served after notes old new serves left rebuilds same are added = record {
   text = object_text (line_facts number cpu route) (command_at texts number) answer (system_shown before) (system_shown served) notes.list notes.left_out;
   so = record {
     route = route;
@@ -60,6 +77,8 @@ line_traced tables texts number cpu command route answer before served after not
     served = served;
     serves = serves;
     left = left;
+    rebuilds = rebuilds;
+    same_shown = same;
     notes = notes;
     notes_are = are;
     object_is = refl;

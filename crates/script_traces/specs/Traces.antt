@@ -17,7 +17,9 @@ use Rattle.shown_states.specs.States.{trace_state_of}
 use Rattle.trace_lines.specs.declared.objects.LineFacts.{LineFacts}
 use Rattle.trace_lines.specs.declared.objects.FastFailure.{FastFailure}
 use Rattle.trace_lines.specs.declared.objects.FastFailure.TheVariants as failure
+use Rattle.trace_lines.specs.Changes.{changes}
 use Rattle.trace_lines.specs.Objects.{object_text}
+use Rattle.trace_lines.specs.Rebuilding.{SaySame, applied, facts_of}
 use Rattle.trace_lines.specs.TraceState.{KnownTraceState}
 use Rattle.script_traces.specs.Commands.{command_at}
 
@@ -71,10 +73,15 @@ abbrev pub looked : SystemState → SystemState
 looked state =
     system_state (record state.locked { machine = with_looks state.locked.machine (length state.cpus) }) state.cpus
 
+-- the changes between the two, applied to the one before, say the same as the one after
+abbrev pub AreRebuilt : (before after : KnownTraceState) → Type 0
+AreRebuilt before after = SaySame (applied (changes before after) (facts_of before)) (facts_of after)
+
 -- ---- lines
 
 -- A command is served on a route, and then the stocks are looked at. Its object has the route, the command's text among
--- these texts of the script, the answer, what it changed of all that is shown, and its notes.
+-- these texts of the script, the answer, what it changed of all that is shown, and its notes. The changes rebuild what
+-- is shown after the command from what is shown before it, and the looks change nothing of that.
 pub record TracesCommand (tables : BootTables) (texts : List (List ℕ)) (number cpu : ℕ) (command : Command)
     (before after : SystemState) (object : List ℕ) : Type 0 where
   pub route : Route
@@ -82,6 +89,8 @@ pub record TracesCommand (tables : BootTables) (texts : List (List ℕ)) (number
   pub served : SystemState
   pub serves : ServesByRoute tables.frames (At number cpu command) before served route answer
   pub left : after ≡ looked served
+  pub rebuilds : AreRebuilt (system_shown before) (system_shown served)
+  pub same_shown : system_shown after ≡ system_shown served
   pub notes : KnownNotes
   pub notes_are : notes ≡ notes_on route served.locked.machine.notes
   pub object_is : object

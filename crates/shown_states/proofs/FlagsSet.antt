@@ -1,4 +1,4 @@
--- The flags of some units and then of others. Serves `set_flags` and `show_flags`.
+-- The flags of some units and then of others. Serves `set_flags`, `show_flags` and `advance_flags`.
 use Rattle.std.proofs.Common.{◌≡◌, ℕ, ◌+◌, ◌<◌, List, [], ◌∷◌, ◌++◌, length, refl, sym, ap, ◌∙◌, add-one, arith}
 use Rattle.std.specs.Prelude.{slice_set}
 use Rattle.std.proofs.lemmas.List.{length-set}

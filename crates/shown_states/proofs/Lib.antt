@@ -1,6 +1,7 @@
 pub mod Looks
 pub mod FlagsSet
 pub mod FlagsKept
+pub mod GroupFlags
 pub mod FreshSet
 pub mod Numbered
 pub mod Distinct
@@ -8,3 +9,8 @@ pub mod CpusShown
 pub mod GroupsShown
 pub mod OneBoot
 pub mod Filled
+pub mod Advanced
+pub mod AdvancedGroups
+pub mod AdvancedTexts
+pub mod SeenGroups
+pub mod Assembled

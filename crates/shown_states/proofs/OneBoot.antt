@@ -26,7 +26,7 @@ use Rattle.shown_states.proofs.FreshSet.{length_fresh}
 
 -- ---- as many as there are frames
 
-length_places : (order : ℕ) (frames : List TracedFrame) → length (places_from order frames) ≡ length frames
+pub length_places : (order : ℕ) (frames : List TracedFrame) → length (places_from order frames) ≡ length frames
 length_places order [] = refl
 length_places order (frame ∷ frames) = ap suc (length_places (order_after order frame) frames)
 

@@ -1,5 +1,5 @@
 -- What is shown of the groups.
-use Rattle.std.specs.Prelude.{ℕ, zero, suc, List, [], ◌++◌, map, option_map, option_to_list}
+use Rattle.std.specs.Prelude.{◌≡◌, ◌<◌, ℕ, zero, suc, ⊤, Some, List, [], ◌∷◌, ◌++◌, map, option_map, option_to_list}
 use Rattle.group_tree.specs.declared.event.EventKey.TheVariants.{Max, Oom, OomKill, OomGroupKill}
 use Rattle.group_tree.specs.Bounds.{most_groups}
 use Rattle.group_tree.specs.Events.{EventCounts, count_of}
@@ -59,3 +59,21 @@ groups_below machine (suc count) = groups_below machine count ++ group_if_there 
 -- all groups, by their numbers
 unfoldable pub groups_shown : KnownMachine → List KnownShownGroup
 groups_shown machine = groups_below machine most_groups
+
+-- ---- groups of a state that is advanced
+
+-- the two have the same numbers and paths, in the same order
+abbrev pub AreSameGroups : List KnownShownGroup → List KnownShownGroup → Type 0
+AreSameGroups [] [] = ⊤
+AreSameGroups (one ∷ ones) (other ∷ others) =
+    (one.number ≡ other.number) × (one.path ≡ other.path) × AreSameGroups ones others
+AreSameGroups _ _ = ⊥
+
+-- the machine has a group of this number and path
+pub record HasThisGroup (machine : KnownMachine) (group : KnownShownGroup) : Type 0 where
+  pub below : group.number < most_groups
+  pub path : path_of machine.ledger.groups group.number ≡ Some group.path
+
+-- the group of this number and path, as it is now
+abbrev pub group_now : KnownMachine → KnownShownGroup → KnownShownGroup
+group_now machine group = group_shown machine group.number group.path

@@ -3,3 +3,5 @@ pub mod Groups
 pub mod Cpus
 pub mod States
 pub mod Laws
+pub mod Parts
+pub mod Advancing

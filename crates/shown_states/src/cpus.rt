@@ -59,7 +59,7 @@ fn show_cpu<N: BootName>(alloc: Global, cpu: &Cpu<N>, stock: Stock) -> Result<Sh
 }
 
 // A stock; None if it was never filled.
-fn show_stock(stock: Stock) -> Option<ShownStock>
+pub(crate) fn show_stock(stock: Stock) -> Option<ShownStock>
     ensures { result ≡ stock_shown stock }
 {
     match stock {

@@ -1,6 +1,6 @@
 //! The flags of the kept units.
 
-ghost use Rattle.std.specs.Prelude.{◌≡◌, IfOk, length, replicate};
+ghost use Rattle.std.specs.Prelude.{◌≡◌, IfOk, OnOk, length, replicate};
 ghost use Rattle.trace_lines.specs.Rebuilding.{no_flags};
 ghost use Rattle.mem_machine.specs.Machines.{entries_in};
 ghost use Rattle.shown_states.specs.Frames.{flags_shown, kept_in, with_flags};
@@ -19,7 +19,9 @@ pub(crate) fn show_flags<N: BootName>(
 ) -> Result<Vec<Flags>, AllocError>
     ensures { IfOk result (λ flags. flags.items ≡ flags_shown machine.now) }
 {
-    let mut flags = no_flags(alloc, machine.frame_states().len())?;
+    let frames = machine.frame_states().len();
+    let mut flags = Vec::with_capacity(alloc, frames)?;
+    fill_no_flags(frames, &mut flags)?;
     for number in 0..MAX_GROUPS as u32 {
         let group = GroupId::of(number).unwrap();
         set_flags_of(machine, group, &mut flags);
@@ -27,18 +29,16 @@ pub(crate) fn show_flags<N: BootName>(
     Ok(flags)
 }
 
-// No flags for each of this many frames.
-fn no_flags(alloc: Global, frames: usize) -> Result<Vec<Flags>, AllocError>
-    ensures { IfOk result (λ flags. flags.items ≡ replicate frames no_flags) }
+// Replaces these flags by none for each of this many frames.
+pub(crate) fn fill_no_flags(frames: usize, flags: &mut Vec<Flags>) -> Result<(), AllocError>
+    ensures { OnOk result (flags.new.items ≡ replicate frames no_flags) }
 {
-    let mut flags = Vec::with_capacity(alloc, frames)?;
-    for _frame in 0..frames {
-        flags.push(Flags {
-            is_dirty: false,
-            is_marked: false,
-        })?;
-    }
-    Ok(flags)
+    let none = Flags {
+        is_dirty: false,
+        is_marked: false,
+    };
+    flags.clear();
+    flags.resize(frames, none)
 }
 
 // Sets the flags of the group's kept units.
@@ -52,7 +52,12 @@ fn set_flags_of<N: BootName>(machine: &Machine<N>, group: GroupId, flags: &mut [
 }
 
 // Sets the flags of the units on one of the group's lists.
-fn set_flags<N: BootName>(machine: &Machine<N>, group: GroupId, list: LruList, flags: &mut [Flags])
+pub(crate) fn set_flags<N: BootName>(
+    machine: &Machine<N>,
+    group: GroupId,
+    list: LruList,
+    flags: &mut [Flags],
+)
     requires { length flags.old ≡ length machine.now.frame_states }
     ensures set { flags.new ≡ with_flags flags.old (entries_in machine.now group list) }
     ensures length { length flags.new ≡ length flags.old }

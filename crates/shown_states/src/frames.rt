@@ -1,6 +1,6 @@
 //! The places of the frames.
 
-ghost use Rattle.std.specs.Prelude.{◌≡◌, IfOk, map, slice_set};
+ghost use Rattle.std.specs.Prelude.{◌≡◌, IfOk, OnOk, length, map, slice_set};
 ghost use Rattle.trace_lines.specs.declared.place.ShownPlace.TheVariants.{Charged};
 ghost use Rattle.trace_lines.specs.Places.{places_of};
 ghost use Rattle.shown_states.specs.Frames.{places_shown, record_of, with_fresh, with_fresh_of, with_singles};
@@ -10,7 +10,7 @@ use frame_word::Frame;
 use mem_machine::{FrameState, Machine};
 use std::alloc::{AllocError, Global};
 use stock_word::Stock;
-use trace_lines::place::{ShownPlace, TracedFrame, places};
+use trace_lines::place::{ShownPlace, TracedFrame, order_after, place_in};
 
 // The place of each frame. For the zone a fresh frame is lent to its CPU, but here it is charged.
 pub(crate) fn show_places<N: BootName>(
@@ -20,24 +20,47 @@ pub(crate) fn show_places<N: BootName>(
 ) -> Result<Vec<ShownPlace>, AllocError>
     ensures { IfOk result (λ places. places.items ≡ places_shown machine.now cpus.now) }
 {
-    let mut places = recorded_places(alloc, machine)?;
-    set_fresh(cpus, &mut places);
+    let mut places = Vec::with_capacity(alloc, machine.frame_states().len())?;
+    fill_places(machine, cpus, &mut places)?;
     Ok(places)
 }
 
-// The place of each frame by the zone's own records.
-fn recorded_places<N: BootName>(
-    alloc: Global,
+// Replaces these places by the place of each frame.
+pub(crate) fn fill_places<N: BootName>(
     machine: &Machine<N>,
-) -> Result<Vec<ShownPlace>, AllocError>
-    ensures { IfOk result (λ places. places.items ≡ places_of (map record_of machine.now.frame_states)) }
+    cpus: &[Cpu<N>],
+    places: &mut Vec<ShownPlace>,
+) -> Result<(), AllocError>
+    ensures { OnOk result (places.new.items ≡ places_shown machine.now cpus.now) }
 {
-    let frame_states = machine.frame_states();
-    let mut records = Vec::with_capacity(alloc, frame_states.len())?;
-    for frame_state in frame_states {
-        records.push(record_of(frame_state))?;
+    fill_recorded_places(machine.frame_states(), places)?;
+    set_fresh(cpus, places);
+    Ok(())
+}
+
+// Replaces these places by the place of each frame by the zone's own records.
+fn fill_recorded_places(
+    frame_states: &[FrameState],
+    places: &mut Vec<ShownPlace>,
+) -> Result<(), AllocError>
+    ensures { OnOk result (places.new.items ≡ places_of (map record_of frame_states.now)) }
+{
+    places.resize(frame_states.len(), ShownPlace::Free)?;
+    set_recorded_places(frame_states, places);
+    Ok(())
+}
+
+// Sets the place of each frame by the zone's own records.
+fn set_recorded_places(frame_states: &[FrameState], places: &mut [ShownPlace])
+    requires { length places.old ≡ length frame_states.now }
+    ensures { places.new ≡ places_of (map record_of frame_states.now) }
+{
+    let mut order = 0;
+    for (frame, frame_state) in frame_states.iter().enumerate() {
+        let record = record_of(frame_state);
+        places[frame] = place_in(order, record);
+        order = order_after(order, record);
     }
-    places(alloc, &records)
 }
 
 // Sets the places of the fresh frames of these CPUs.

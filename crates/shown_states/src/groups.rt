@@ -1,7 +1,7 @@
 //! What is shown of the groups.
 
 ghost use Rattle.std.specs.Prelude.{◌≡◌, ◌++◌, ◌∷◌, [], IfOk, IsTrue};
-ghost use Rattle.group_tree.specs.Groups.{has_group};
+ghost use Rattle.group_tree.specs.Groups.{has_group, is_oom_group};
 ghost use Rattle.shown_states.specs.Groups.{events_shown, group_if_there, groups_shown, row_shown};
 
 use crate::lists::unit_numbers;
@@ -66,6 +66,15 @@ fn show_row<N: BootName>(machine: &Machine<N>, group: GroupId) -> Row
     requires { IsTrue (has_group machine.now.ledger.groups group) }
     ensures { result ≡ row_shown machine.now group }
 {
+    row_with(machine, group, machine.charges().is_oom_group(group))
+}
+
+// The numbers of a group that exists and has this memory.oom.group.
+pub(crate) fn row_with<N: BootName>(machine: &Machine<N>, group: GroupId, oom_group: bool) -> Row
+    requires there { IsTrue (has_group machine.now.ledger.groups group) }
+    requires flag { oom_group ≡ is_oom_group machine.now.ledger.groups group }
+    ensures { result ≡ row_shown machine.now group }
+{
     let charges = machine.charges();
     Row {
         max: charges.max(group),
@@ -74,7 +83,7 @@ fn show_row<N: BootName>(machine: &Machine<N>, group: GroupId) -> Row
         events: show_events(charges.events(group)),
         events_local: show_events(charges.events_local(group)),
         is_killed: machine.is_killed(group),
-        oom_group: charges.is_oom_group(group),
+        oom_group,
     }
 }
 

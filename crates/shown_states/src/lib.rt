@@ -2,6 +2,11 @@
 //! script.
 #![tactic(auto)]
 
+mod advance_cpus;
+mod advance_flags;
+mod advance_frames;
+mod advance_groups;
+mod advancing;
 mod counts;
 mod cpus;
 mod flags;
@@ -9,7 +14,10 @@ mod frames;
 mod groups;
 mod laws;
 mod lists;
+mod part;
+mod row_places;
 mod states;
 
+pub use advancing::{Buffers, advance, advance_unlocked};
 pub use laws::{states_are_of_one_boot, steps_keep_stocks};
 pub use states::trace_state;

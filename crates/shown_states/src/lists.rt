@@ -1,6 +1,6 @@
 //! The numbers of frames and of units.
 
-ghost use Rattle.std.specs.Prelude.{◌≡◌, ◌++◌, IfOk};
+ghost use Rattle.std.specs.Prelude.{◌≡◌, ◌++◌, IfOk, IsTrue, OnOk};
 ghost use Rattle.mem_machine.specs.Machines.{entries_in};
 ghost use Rattle.shown_states.specs.Groups.{numbers_of};
 
@@ -25,6 +25,45 @@ pub(crate) fn frame_numbers(
     Ok(numbers)
 }
 
+// The same, in place of what the buffer had.
+pub(crate) fn set_numbers(
+    first: &[Frame],
+    rest: &[Frame],
+    numbers: &mut Vec<u32>,
+) -> Result<(), AllocError>
+    ensures { OnOk result (numbers.new.items ≡ first.now ++ rest.now) }
+{
+    numbers.clear();
+    add_frames(first, numbers)?;
+    add_frames(rest, numbers)
+}
+
+// Whether these are the numbers of the first frames, and behind them those of the rest.
+pub(crate) fn is_list(numbers: &[u32], first: &[Frame], rest: &[Frame]) -> bool
+    ensures { IsTrue result → numbers.now ≡ first.now ++ rest.now }
+{
+    if numbers.len() < first.len() {
+        return false;
+    }
+    let (front, end) = numbers.split_at(first.len());
+    are_frames(front, first) && are_frames(end, rest)
+}
+
+// Whether these are the numbers of these frames.
+fn are_frames(numbers: &[u32], frames: &[Frame]) -> bool
+    ensures { IsTrue result → numbers.now ≡ frames.now }
+{
+    if numbers.len() != frames.len() {
+        return false;
+    }
+    for index in 0..frames.len() {
+        if numbers[index] != frames[index].number() {
+            return false;
+        }
+    }
+    true
+}
+
 // Adds the numbers of these frames.
 fn add_frames(frames: &[Frame], numbers: &mut Vec<u32>) -> Result<(), AllocError>
     ensures { IfOk result (λ _. numbers.new.items ≡ numbers.old.items ++ frames.now) }
@@ -45,8 +84,22 @@ pub(crate) fn unit_numbers<N: BootName>(
     ensures { IfOk result (λ numbers. numbers.items ≡ numbers_of (entries_in machine.now group list)) }
 {
     let mut numbers = Vec::with_capacity(alloc, machine.list_len(group, list) as usize)?;
+    add_units(machine, group, list, &mut numbers)?;
+    Ok(numbers)
+}
+
+// Adds the first frames of the units on one of a group's lists, from the oldest to the newest.
+pub(crate) fn add_units<N: BootName>(
+    machine: &Machine<N>,
+    group: GroupId,
+    list: LruList,
+    numbers: &mut Vec<u32>,
+) -> Result<(), AllocError>
+    ensures { IfOk result (λ _. numbers.new.items
+        ≡ numbers.old.items ++ numbers_of (entries_in machine.now group list)) }
+{
     for entry in machine.entries(group, list) {
         numbers.push(entry.number)?;
     }
-    Ok(numbers)
+    Ok(())
 }

@@ -1,7 +1,7 @@
 -- How a part is written, an item at a time.
 use Rattle.std.proofs.Common.{◌≡◌, ◌∙◌, ℕ, Bool, true, false, List, [], ◌∷◌, ◌++◌, Result, Ok, Err, IfOk, append_assoc, ap, sym, refl}
 use Rattle.std.proofs.lemmas.List.{append-nil}
-use Rattle.std.specs.Prelude.{codes}
+use Rattle.std.specs.Prelude.{codes, if◌then◌else◌}
 use Rattle.std.specs.List.{flat_map}
 use Rattle.trace_lines.specs.Parts.{opening, part_text}
 use Rattle.trace_lines.specs.Writing.{Adds, items_text, start_text, still_first, stop_text}
@@ -115,6 +115,11 @@ adds_one key f b b' old t new x all e starts first adds = record {
       ∙ ap (λ (l : List _). old ++ items_text key f b l) (sym e);
   first = first ∙ ap (λ (l : List _). still_first b l) (sym e);
 }
+
+-- before an item the part is opened, or there is a comma
+pub starts : (opens key : List ℕ) (b : Bool) (old t : List ℕ) → opens ≡ opening key → t ≡ old ++ (if b then opens else codes ",") → t ≡ old ++ start_text key b
+starts opens key true old t e one = one ∙ ap (λ (l : List ℕ). old ++ l) e
+starts opens key false old t e one = one
 
 pub one_ok : {X T E : Type 0} (r : Result T E) (key : List ℕ) (f : X → List ℕ) (b b' : Bool) (old t new : List ℕ) (x : X) (all : List X) → all ≡ x ∷ []
     → t ≡ old ++ start_text key b → b' ≡ false → IfOk r (λ _. new ≡ t ++ f x) → IfOk r (λ _. Adds key f b b' old new all)

@@ -1,5 +1,7 @@
 pub mod Items
 pub mod Steps
+pub mod Spans
+pub mod Bytes
 pub mod Same
 pub mod RebuiltFrames
 pub mod RebuiltGroups

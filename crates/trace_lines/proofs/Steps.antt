@@ -1,9 +1,9 @@
 -- One step of each loop: the first of the rest is written, and the others are left.
 use Rattle.std.proofs.Common.{◌≡◌, ◌∙◌, ℕ, zero, suc, ◌+◌, ◌-◌, ◌<◌, ◌≤◌, Bool, true, false, cond, List, [], ◌∷◌, ◌++◌, length, get_or, drop, take, min, Result, Ok, Err, IfOk, inl, inr, append_assoc, arith, ap, sym, refl}
-use Rattle.std.specs.Prelude.{◌⊎◌, ◌==◌, not, if◌then◌else◌}
+use Rattle.std.specs.Prelude.{◌⊎◌, ◌==◌, ◌||◌, not, if◌then◌else◌}
 use Rattle.std.specs.List.{flat_map, fold, range_with_len}
 use Rattle.std.proofs.Math.Seq.{drop-cons}
-use Rattle.std.proofs.lemmas.Bool.{cases_lt, cond-true, cond-false, eq-eqb, ne_eqb}
+use Rattle.std.proofs.lemmas.Bool.{cases_Bool, cases_lt, cond-true, cond-false, eq-eqb, eqb-true, false≢true}
 use Rattle.trace_lines.specs.TraceState.{KnownShownGroup, KnownShownCpu}
 use Rattle.trace_lines.specs.declared.trace_state.Flags.{Flags}
 use Rattle.std.specs.Prelude.{codes}
@@ -11,16 +11,18 @@ use Rattle.std.proofs.Common.{Option, Some, None, max, subst}
 use Rattle.trace_lines.specs.declared.lists.ListName.{ListName}
 use Rattle.trace_lines.specs.declared.lists.ListName.TheVariants.{Listed, Fresh, Back, Inactive, Active}
 use Rattle.trace_lines.specs.TraceState.{KnownTraceState}
-use Rattle.trace_lines.specs.Changes.{active_of, came_of, changed_list, group_list_changes, group_numbered, groups_list_changes, inactive_of, left_of, list_change, list_changes}
+use Rattle.trace_lines.specs.Changes.{active_of, came_of, changed_list, group_list_changes, group_numbered, groups_list_changes, has_entry, inactive_of, is_change, left_of, list_change, list_changes}
 use Rattle.trace_lines.specs.Parts.{list_change_text, part_text}
-use Rattle.trace_lines.specs.Writing.{AddsLists, AddsPins, KeepsOne, count_changes, stop_text}
+use Rattle.trace_lines.specs.Writing.{AddsLists, AddsPins, count_changes, stop_text}
 use Rattle.std.specs.Str.{bytes_eq}
 use Rattle.trace_lines.specs.declared.place.ShownPlace.{ShownPlace}
 use Rattle.trace_lines.specs.Changes.{frame_spans}
 use Rattle.std.proofs.lemmas.Slice.Eq.{bytes_eq-Decides}
 use Rattle.trace_lines.proofs.Items.{adds_both, part_ok}
 use Rattle.trace_lines.specs.Changes.{ListChange, PinChange, cpu_list_changes, cpus_list_changes, cpus_pin_changes, flag_change, flag_changes}
-use Rattle.trace_lines.specs.Changes.{groups_beyond, has_group, has_row, numbers_of, pin_change, pin_changes, pins_on, rows_beyond, stock_changes}
+use Rattle.trace_lines.specs.Changes.{groups_beyond, has_group, has_row, numbers_of, pin_change, pin_changes, pins_on, rows_beyond, stock_change, stock_changes, is_same_stock}
+use Rattle.std.specs.Option.{option_map_or}
+use Rattle.trace_lines.specs.declared.trace_state.ShownStock.{ShownStock}
 
 -- an item, and those behind it
 pub at_item : {X : Type 0} (xs : List X) (i : ℕ) (x : X) → i < length xs → x ≡ get_or xs i x → drop i xs ≡ x ∷ drop (i + 1) xs
@@ -233,74 +235,41 @@ lists_ok r s s' b1 b2 old t1 t2 new cs cs' gs gs' ec ec' eg eg' one two stops =
     (subst (λ (x : List KnownShownGroup). AddsLists b1 b2 t1 t2 (groups_list_changes x gs')) eg two)))
     stops
 
--- one list: what left it, and what came
-pub list_ok : {T E : Type 0} (r : Result T E) (name : ListName) (o n left came : List ℕ) (b b1 : Bool) (old new : List ℕ) → left ≡ left_of o n → came ≡ came_of o n
-    → IfOk r (λ _. AddsLists b b1 old new (changed_list (record { name = name; left = left; came = came })))
-    → IfOk r (λ _. AddsLists b b1 old new (list_change name o n))
-list_ok r name o n left came b b1 old new el ec one =
-    subst (λ (x : List ℕ). IfOk r (λ _. AddsLists b b1 old new (changed_list (record { name = name; left = left_of o n; came = x })))) ec
-    (subst (λ (x : List ℕ). IfOk r (λ _. AddsLists b b1 old new (changed_list (record { name = name; left = x; came = came })))) el one)
+-- nothing left a list that is the same, and nothing came
+same_left : (l : List ℕ) → left_of l l ≡ []
+same_left [] = refl
+same_left (n ∷ l) = cond-true (n == n) (left_of l l) (n ∷ left_of l (n ∷ l)) (eq-eqb n n refl) ∙ same_left l
 
--- ---- what is kept of a list
+same_came : (l : List ℕ) → came_of l l ≡ []
+same_came [] = refl
+same_came (n ∷ l) = cond-true (n == n) (came_of l l) (came_of l (n ∷ l)) (eq-eqb n n refl) ∙ same_came l
 
-left_none : (old : List ℕ) → left_of old [] ≡ old
-left_none [] = refl
-left_none (o ∷ old) = refl
+pub list_equal : (name : ListName) (o n : List ℕ) → bytes_eq o n ≡ true → list_change name o n ≡ []
+list_equal name o n e =
+    let same : o ≡ n = (bytes_eq-Decides o n).0 e in
+    ap (λ (l : List ℕ). list_change name l n) same
+    ∙ ap (λ (l : List ℕ). changed_list (record { name = name; left = l; came = came_of n n })) (same_left n)
+    ∙ ap (λ (l : List ℕ). changed_list (record { name = name; left = []; came = l })) (same_came n)
 
-came_none : (old : List ℕ) → came_of old [] ≡ []
-came_none [] = refl
-came_none (o ∷ old) = refl
+-- a list that isn't the same changed
+has_changed : (o n : List ℕ) → (o ≡ n → ⊥) → (has_entry (left_of o n) || has_entry (came_of o n)) ≡ true
+has_changed [] [] ne = absurd (ne refl)
+has_changed [] (y ∷ n) ne = refl
+has_changed (x ∷ o) [] ne = refl
+has_changed (x ∷ o) (y ∷ n) ne = elim (cases_Bool (x == y)) [
+  | inl same ↦
+      ap (λ (l : List ℕ). has_entry l || has_entry (came_of (x ∷ o) (y ∷ n))) (cond-true (x == y) (left_of o n) (x ∷ left_of o (y ∷ n)) same)
+      ∙ ap (λ (l : List ℕ). has_entry (left_of o n) || has_entry l) (cond-true (x == y) (came_of o n) (came_of o (y ∷ n)) same)
+      ∙ has_changed o n (λ e. ne (ap (λ (k : ℕ). k ∷ o) (eqb-true x y same) ∙ ap (λ (l : List ℕ). y ∷ l) e))
+  | inr other ↦
+      ap (λ (l : List ℕ). has_entry l || has_entry (came_of (x ∷ o) (y ∷ n))) (cond-false (x == y) (left_of o n) (x ∷ left_of o (y ∷ n)) other)
+]
 
--- nothing is left of the new list: the entry left
-pub keeps_at_end : (o : ℕ) (a left new : List ℕ) (k : ℕ) → length a ≤ k → k ≤ length a → new ≡ left ++ o ∷ [] → KeepsOne o a k left new k
-keeps_at_end o a left new k ge le e =
-    let none : drop k a ≡ [] = no_more a k ge in
-    record {
-      within = le;
-      left_are = λ rest.
-          ap (λ (l : List ℕ). l ++ left_of rest (drop k a)) e
-          ∙ ap (λ (l : List ℕ). left ++ o ∷ [] ++ left_of rest l) none
-          ∙ ap (λ (l : List ℕ). left ++ o ∷ [] ++ l) (left_none rest)
-          ∙ append_assoc left (o ∷ []) rest
-          ∙ sym (ap (λ (l : List ℕ). left ++ left_of (o ∷ rest) l) none);
-      came_are = λ rest.
-          ap (λ (l : List ℕ). came_of rest l) none ∙ came_none rest ∙ sym (ap (λ (l : List ℕ). came_of (o ∷ rest) l) none);
-    }
-
--- the next entry of the new list is this one: it is kept
-pub keeps_same : (o : ℕ) (a left : List ℕ) (k d : ℕ) → k < length a → get_or a k d ≡ o → KeepsOne o a k left left (k + 1)
-keeps_same o a left k d lt e =
-    let here : drop k a ≡ o ∷ drop (k + 1) a = at_read a k d lt ∙ ap (λ (x : ℕ). x ∷ drop (k + 1) a) e in
-    let same : (o == o) ≡ true = eq-eqb o o refl in
-    record {
-      within = omega (arith, lt);
-      left_are = λ rest.
-          sym (ap (λ (l : List ℕ). left ++ left_of (o ∷ rest) l) here
-          ∙ ap (λ (l : List ℕ). left ++ l) (cond-true (o == o) (left_of rest (drop (k + 1) a)) (o ∷ left_of rest (o ∷ drop (k + 1) a)) same));
-      came_are = λ rest.
-          sym (ap (λ (l : List ℕ). came_of (o ∷ rest) l) here
-          ∙ cond-true (o == o) (came_of rest (drop (k + 1) a)) (came_of rest (o ∷ drop (k + 1) a)) same);
-    }
-
--- the next entry of the new list is another: this one left
-pub keeps_other : (o : ℕ) (a left new : List ℕ) (k d : ℕ) → k < length a → (get_or a k d ≡ o → ⊥) → new ≡ left ++ o ∷ [] → KeepsOne o a k left new k
-keeps_other o a left new k d lt ne e =
-    let x : ℕ = get_or a k d in
-    let here : drop k a ≡ x ∷ drop (k + 1) a = at_read a k d lt in
-    let other : (o == x) ≡ false = ne_eqb o x (λ s. ne (sym s)) in
-    record {
-      within = omega (arith, lt);
-      left_are = λ rest.
-          ap (λ (l : List ℕ). l ++ left_of rest (drop k a)) e
-          ∙ ap (λ (l : List ℕ). left ++ o ∷ [] ++ left_of rest l) here
-          ∙ append_assoc left (o ∷ []) (left_of rest (x ∷ drop (k + 1) a))
-          ∙ sym (ap (λ (l : List ℕ). left ++ left_of (o ∷ rest) l) here
-          ∙ ap (λ (l : List ℕ). left ++ l) (cond-false (o == x) (left_of rest (drop (k + 1) a)) (o ∷ left_of rest (x ∷ drop (k + 1) a)) other));
-      came_are = λ rest.
-          ap (λ (l : List ℕ). came_of rest l) here
-          ∙ sym (ap (λ (l : List ℕ). came_of (o ∷ rest) l) here
-          ∙ cond-false (o == x) (came_of rest (drop (k + 1) a)) (came_of rest (x ∷ drop (k + 1) a)) other);
-    }
+pub list_changed : (name : ListName) (o n : List ℕ) → bytes_eq o n ≡ false
+    → list_change name o n ≡ record { name = name; left = left_of o n; came = came_of o n } ∷ []
+list_changed name o n e =
+    let change : ListChange = record { name = name; left = left_of o n; came = came_of o n } in
+    cond-true (is_change change) (change ∷ []) [] (has_changed o n (λ same. false≢true (sym e ∙ (bytes_eq-Decides o n).1 same)))
 
 -- ---- counts of pins
 
@@ -377,6 +346,12 @@ pub pins_equal : (q frames : ℕ) (b a : List ℕ) → bytes_eq b a ≡ true →
 pins_equal q frames b a e =
     let same : b ≡ a = (bytes_eq-Decides b a).0 e in
     ap (λ (x : List ℕ). pin_changes q frames x a) same ∙ pins_same q a (range_with_len 0 frames)
+
+-- the stock changed
+pub stock_changed : (q : ℕ) (b : Option ShownStock) (n : ShownStock) → option_map_or (λ o. is_same_stock o n) b false ≡ false
+    → stock_change q b (Some n) ≡ record { cpu = q; stock = n } ∷ []
+stock_changed q None n e = refl
+stock_changed q (Some o) n e = cond-false (is_same_stock o n) [] (record { cpu = q; stock = n } ∷ []) e
 
 -- ---- frames
 

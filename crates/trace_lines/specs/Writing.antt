@@ -1,11 +1,13 @@
 -- How an optional part is written, an item at a time.
-use Rattle.std.specs.Prelude.{◌≡◌, ◌+◌, ◌≤◌, drop, length, ℕ, Bool, true, false, List, [], ◌∷◌, ◌++◌, codes}
+use Rattle.std.specs.Prelude.{◌≡◌, ◌+◌, ◌≤◌, ◌==◌, if◌then◌else◌, drop, length, ℕ, Bool, true, false, Option, Some}
+use Rattle.std.specs.Prelude.{None, List, [], ◌∷◌, ◌++◌, codes}
 use Rattle.trace_lines.specs.Changes.{FlagChange, ListChange, PinChange, StockChange, came_of, left_of, pin_change}
 use Rattle.trace_lines.specs.TraceState.{KnownShownGroup}
 use Rattle.trace_lines.specs.declared.frames.FrameSpan.{FrameSpan}
 use Rattle.std.specs.Fmt.{decimal}
-use Rattle.trace_lines.specs.Parts.{flag_change_text, frame_span_text, list_change_text, made_text, opening}
-use Rattle.trace_lines.specs.Parts.{pin_change_text, row_text, stock_change_text}
+use Rattle.trace_lines.specs.declared.numbers.Span.{Span}
+use Rattle.trace_lines.specs.Parts.{commas, flag_change_text, frame_span_text, list_change_text, made_text, opening}
+use Rattle.trace_lines.specs.Parts.{pin_change_text, row_text, span_text, spans_of, stock_change_text}
 
 -- before the first item the part is opened, before each other one there is a comma
 abbrev pub start_text : List ℕ → Bool → List ℕ
@@ -69,10 +71,35 @@ AddsRows before after old new items = Adds (codes "groups") row_text before afte
 abbrev pub AddsNotes : (before after : Bool) (old new : List ℕ) → List (List ℕ) → Type 0
 AddsNotes before after old new items = Adds (codes "notes") (λ note. note) before after old new items
 
--- One more entry of the old list was looked at: it is kept, so `now` is one more than `kept`, or it left.
-pub record KeepsOne (old : ℕ) (after : List ℕ) (kept : ℕ) (left new : List ℕ) (now : ℕ) : Type 0 where
+-- a span before these: it goes on with the first of them if that follows it
+abbrev pub with_span : Span → List Span → List Span
+with_span span [] = span ∷ []
+with_span span (next ∷ spans) =
+    if next.first == span.last + 1 then record { first = span.first; last = next.last } ∷ spans
+    else span ∷ next ∷ spans
+
+-- the spans of these numbers behind a span that isn't written yet, if there is one
+abbrev pub spans_behind : Option Span → List ℕ → List ℕ
+spans_behind None numbers = commas span_text (spans_of numbers)
+spans_behind (Some span) numbers = commas span_text (with_span span (spans_of numbers))
+
+-- a number was added behind the span that wasn't written yet, and now another isn't written
+abbrev pub AddsNumber : ℕ → (span : Option Span) → (now : Span) → (old new : List ℕ) → Type 0
+AddsNumber number span now old new =
+    (rest : List ℕ) → new ++ spans_behind (Some now) rest ≡ old ++ spans_behind span (number ∷ rest)
+
+-- whether the list begins with this number
+abbrev pub has_first : ℕ → List ℕ → Bool
+has_first number [] = false
+has_first number (first ∷ numbers) = number == first
+
+-- One more entry of the old list was looked at: it is kept, so `now` is one more than `kept`, or it left, and was added
+-- behind the span that wasn't written yet.
+pub record KeepsOne (old : ℕ) (after : List ℕ) (kept : ℕ) (span next : Option Span) (text new : List ℕ) (now : ℕ)
+    : Type 0 where
   pub within : now ≤ length after
-  pub left_are : (rest : List ℕ) → new ++ left_of rest (drop now after) ≡ left ++ left_of (old ∷ rest) (drop kept after)
+  pub left_are : (rest : List ℕ) → new ++ spans_behind next (left_of rest (drop now after))
+      ≡ text ++ spans_behind span (left_of (old ∷ rest) (drop kept after))
   pub came_are : (rest : List ℕ) → came_of rest (drop now after) ≡ came_of (old ∷ rest) (drop kept after)
 
 -- the frames from this one on whose number of pins changed

@@ -7,10 +7,9 @@ ghost use Rattle.trace_lines.specs.Changes.{cpus_pin_changes, is_same_stock, pin
 ghost use Rattle.trace_lines.specs.Changes.{stock_change, stock_changes};
 ghost use Rattle.trace_lines.specs.Parts.{part_text, pin_change_text, stock_change_text};
 ghost use Rattle.trace_lines.specs.Writing.{AddsPins, AddsStocks, count_changes};
-ghost use Rattle.std.specs.Str.{bytes_eq};
 
 use crate::groups::is_same_limit;
-use crate::numbers::{push_count, write_number};
+use crate::numbers::{are_same_numbers, push_behind, write_number};
 use crate::parts::{push_start, push_stop};
 use crate::trace_state::{ShownCpu, ShownStock};
 use std::alloc::{AllocError, Global};
@@ -79,19 +78,12 @@ pub fn add_pin_changes(
     ensures { IfOk result (λ _. AddsPins is_first.old is_first.new (string_bytes text.old) (string_bytes text.new)
         (pin_changes cpu frames before.now after.now)) }
 {
-    if are_same_pins(before, after) {
+    if are_same_numbers(before, after) {
         return Ok(());
     }
     let old = count_pins(alloc, frames, before)?;
     let new = count_pins(alloc, frames, after)?;
     add_counts(cpu, &old, &new, is_first, text)
-}
-
-// Whether the two are the same pins, in the same order.
-fn are_same_pins(one: &[u32], other: &[u32]) -> bool
-    ensures { result ≡ bytes_eq one.now other.now }
-{
-    one == other
 }
 
 // Adds a CPU's pins on each frame, if their number changed.
@@ -126,7 +118,7 @@ fn add_pins(
     if before == after {
         return Ok(());
     }
-    push_start("pins", is_first, text)?;
+    push_start(",\"pins\":[", is_first, text)?;
     write_pin_change(cpu, frame, after, text)
 }
 
@@ -166,7 +158,10 @@ fn write_pin_change(
     ensures { IfOk result (λ _. string_bytes text.new
         ≡ string_bytes text.old ++ pin_change_text (record { cpu = cpu; head = frame; pins = pins })) }
 {
-    write!(text, "[{cpu},{frame},{pins}]")
+    push_behind('[', cpu as u64, text)?;
+    push_behind(',', frame as u64, text)?;
+    push_behind(',', pins as u64, text)?;
+    text.push(']')
 }
 
 // Adds the part that tells of stocks.
@@ -223,7 +218,7 @@ pub fn add_stock(
     if is_stock(before, stock) {
         return Ok(());
     }
-    push_start("stocks", is_first, text)?;
+    push_start(",\"stocks\":[", is_first, text)?;
     write_stock_change(cpu, stock, text)
 }
 
@@ -242,9 +237,9 @@ fn write_stock_change(cpu: usize, stock: ShownStock, text: &mut String) -> Resul
     ensures { IfOk result (λ _. string_bytes text.new
         ≡ string_bytes text.old ++ stock_change_text (record { cpu = cpu; stock = stock })) }
 {
-    push_count("[", cpu as u64, text)?;
-    push_count(",", u64::from(stock.group), text)?;
-    text.push_str(",")?;
+    push_behind('[', cpu as u64, text)?;
+    push_behind(',', u64::from(stock.group), text)?;
+    text.push(',')?;
     write_number(stock.pages, text)?;
-    text.push_str("]")
+    text.push(']')
 }

@@ -6,6 +6,7 @@ ghost use Rattle.trace_lines.specs.Changes.{are_same_flags, flag_change, flag_ch
 ghost use Rattle.trace_lines.specs.Parts.{flag_change_text, flags_number, part_text};
 ghost use Rattle.trace_lines.specs.Writing.{AddsFlags};
 
+use crate::numbers::push_behind;
 use crate::parts::{push_start, push_stop};
 use crate::trace_state::Flags;
 use std::alloc::AllocError;
@@ -36,7 +37,7 @@ fn add_flags(
     if are_same_flags(before, after) {
         return Ok(());
     }
-    push_start("flags", is_first, text)?;
+    push_start(",\"flags\":[", is_first, text)?;
     write_flag_change(frame, after, text)
 }
 
@@ -52,8 +53,9 @@ fn write_flag_change(frame: usize, flags: Flags, text: &mut String) -> Result<()
     ensures { IfOk result (λ _. string_bytes text.new
         ≡ string_bytes text.old ++ flag_change_text (record { head = frame; flags = flags })) }
 {
-    let number = flags_number(flags);
-    write!(text, "[{frame},{number}]")
+    push_behind('[', frame as u64, text)?;
+    push_behind(',', u64::from(flags_number(flags)), text)?;
+    text.push(']')
 }
 
 // 1 for dirty, 2 for marked, 3 for both.

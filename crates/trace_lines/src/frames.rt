@@ -1,11 +1,13 @@
 //! The frames that have a new place.
 
 ghost use Rattle.std.specs.Prelude.{◌≡◌, ◌+◌, ◌<◌, ◌^◌, ◌++◌, IfOk, [], ◌∷◌, codes, reverse};
+ghost use Rattle.std.specs.Fmt.{decimal};
 ghost use Rattle.std.specs.String.{string_bytes};
 ghost use Rattle.trace_lines.specs.Changes.{frame_spans, joined};
 ghost use Rattle.trace_lines.specs.Parts.{frame_span_text, part_text, place_text};
 ghost use Rattle.trace_lines.specs.Writing.{AddsFrames};
 
+use crate::numbers::push_behind;
 use crate::parts::{push_start, push_stop};
 use crate::place::{ShownPlace, is_same_place};
 use std::alloc::{AllocError, Global};
@@ -100,7 +102,7 @@ fn add_frame_span(
     ensures { IfOk result (λ _. AddsFrames is_first.old is_first.new (string_bytes text.old) (string_bytes text.new)
         (span.now ∷ [])) }
 {
-    push_start("frames", is_first, text)?;
+    push_start(",\"frames\":[", is_first, text)?;
     write_frame_span(span, text)
 }
 
@@ -109,9 +111,11 @@ fn write_frame_span(span: &FrameSpan, text: &mut String) -> Result<(), AllocErro
     ensures { IfOk result (λ _. string_bytes text.new ≡ string_bytes text.old ++ frame_span_text span.now) }
 {
     let FrameSpan { first, last, place } = *span;
-    write!(text, "[{first},{last},")?;
+    push_behind('[', first as u64, text)?;
+    push_behind(',', last as u64, text)?;
+    text.push(',')?;
     write_place(place, text)?;
-    text.push_str("]")
+    text.push(']')
 }
 
 // Adds a place.
@@ -120,7 +124,21 @@ fn write_place(place: ShownPlace, text: &mut String) -> Result<(), AllocError>
 {
     match place {
         ShownPlace::Free => text.push_str("\"f\""),
-        ShownPlace::Listed { cpu } => write!(text, "\"c{cpu}\""),
-        ShownPlace::Charged { group, order } => write!(text, "\"g{group}\",{order}"),
+        ShownPlace::Listed { cpu } => write_place_name('c', cpu, text),
+        ShownPlace::Charged { group, order } => {
+            write_place_name('g', group, text)?;
+            push_behind(',', u64::from(order), text)
+        }
     }
+}
+
+// Adds the kind of a place and the number of its CPU or group, in quotes.
+fn write_place_name(kind: char, number: u32, text: &mut String) -> Result<(), AllocError>
+    requires { kind < 128 }
+    ensures { IfOk result (λ _. string_bytes text.new
+        ≡ string_bytes text.old ++ (codes "\"" ++ (kind ∷ decimal number) ++ codes "\"")) }
+{
+    text.push('"')?;
+    push_behind(kind, u64::from(number), text)?;
+    text.push('"')
 }

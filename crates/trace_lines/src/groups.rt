@@ -10,7 +10,7 @@ ghost use Rattle.trace_lines.specs.Parts.{events_text, group_kills_text, made_te
 ghost use Rattle.trace_lines.specs.Parts.{usage_text, row_front_text};
 ghost use Rattle.trace_lines.specs.Writing.{AddsGone, AddsMade, AddsRows};
 
-use crate::numbers::{flag_word, push_count, write_number};
+use crate::numbers::{flag_word, push_behind, push_decimal, write_number};
 use crate::parts::{push_start, push_stop};
 use crate::strings::write_string;
 use crate::trace_state::{Events, Row, ShownGroup};
@@ -45,8 +45,8 @@ fn add_gone(
     if has_group(after, group) {
         return Ok(());
     }
-    push_start("gone", is_first, text)?;
-    push_count("", u64::from(group.number), text)
+    push_start(",\"gone\":[", is_first, text)?;
+    push_decimal(u64::from(group.number), text)
 }
 
 // Adds the part that tells which groups were made.
@@ -78,7 +78,7 @@ fn add_made(
     if has_group(before, group) {
         return Ok(());
     }
-    push_start("made", is_first, text)?;
+    push_start(",\"made\":[", is_first, text)?;
     write_made_group(group, text)
 }
 
@@ -123,7 +123,7 @@ pub fn add_group_row(
     ensures { IfOk result (λ _. AddsRows is_first.old is_first.new (string_bytes text.old) (string_bytes text.new)
         (group.now ∷ [])) }
 {
-    push_start("groups", is_first, text)?;
+    push_start(",\"groups\":[", is_first, text)?;
     write_row(group, text)
 }
 
@@ -199,10 +199,10 @@ pub(crate) fn is_same_flag(one: bool, other: bool) -> bool
 fn write_made_group(group: &ShownGroup, text: &mut String) -> Result<(), AllocError>
     ensures { IfOk result (λ _. string_bytes text.new ≡ string_bytes text.old ++ made_text group.now) }
 {
-    push_count("[", u64::from(group.number), text)?;
-    text.push_str(",")?;
+    push_behind('[', u64::from(group.number), text)?;
+    text.push(',')?;
     write_string(group.path.as_bytes(), text)?;
-    text.push_str("]")
+    text.push(']')
 }
 
 // Adds a group's row.
@@ -220,7 +220,7 @@ fn write_row(group: &ShownGroup, text: &mut String) -> Result<(), AllocError>
 fn write_row_front(group: &ShownGroup, text: &mut String) -> Result<(), AllocError>
     ensures { IfOk result (λ _. string_bytes text.new ≡ string_bytes text.old ++ row_front_text group.now) }
 {
-    push_count("[", u64::from(group.number), text)?;
+    push_behind('[', u64::from(group.number), text)?;
     write_usage(&group.row, text)?;
     write_events(&group.row.events, text)
 }
@@ -229,28 +229,28 @@ fn write_row_front(group: &ShownGroup, text: &mut String) -> Result<(), AllocErr
 fn write_usage(row: &Row, text: &mut String) -> Result<(), AllocError>
     ensures { IfOk result (λ _. string_bytes text.new ≡ string_bytes text.old ++ usage_text row.now) }
 {
-    text.push_str(",")?;
+    text.push(',')?;
     write_number(row.max, text)?;
-    push_count(",", u64::from(row.current), text)?;
-    push_count(",", u64::from(row.peak), text)
+    push_behind(',', u64::from(row.current), text)?;
+    push_behind(',', u64::from(row.peak), text)
 }
 
 // Adds three counts of events.
 fn write_events(events: &Events, text: &mut String) -> Result<(), AllocError>
     ensures { IfOk result (λ _. string_bytes text.new ≡ string_bytes text.old ++ events_text events.now) }
 {
-    push_count(",", events.max, text)?;
-    push_count(",", events.oom, text)?;
-    push_count(",", events.oom_kill, text)
+    push_behind(',', events.max, text)?;
+    push_behind(',', events.oom, text)?;
+    push_behind(',', events.oom_kill, text)
 }
 
 // Adds whether the group was killed, and its memory.oom.group.
 fn write_marks(row: &Row, text: &mut String) -> Result<(), AllocError>
     ensures { IfOk result (λ _. string_bytes text.new ≡ string_bytes text.old ++ marks_text row.now) }
 {
-    text.push_str(",")?;
+    text.push(',')?;
     text.push_str(flag_word(row.is_killed))?;
-    text.push_str(",")?;
+    text.push(',')?;
     text.push_str(flag_word(row.oom_group))
 }
 
@@ -258,7 +258,7 @@ fn write_marks(row: &Row, text: &mut String) -> Result<(), AllocError>
 fn write_group_kills(row: &Row, text: &mut String) -> Result<(), AllocError>
     ensures { IfOk result (λ _. string_bytes text.new ≡ string_bytes text.old ++ group_kills_text row.now) }
 {
-    push_count(",", row.events.oom_group_kill, text)?;
-    push_count(",", row.events_local.oom_group_kill, text)?;
-    text.push_str("]")
+    push_behind(',', row.events.oom_group_kill, text)?;
+    push_behind(',', row.events_local.oom_group_kill, text)?;
+    text.push(']')
 }

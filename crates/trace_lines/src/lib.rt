@@ -17,6 +17,4 @@ mod strings;
 pub mod trace_state;
 
 pub use laws::changes_rebuild;
-pub use objects::{
-    End, FastFailure, Header, LineFacts, write_end, write_header, write_object, write_object_of,
-};
+pub use objects::{End, FastFailure, Header, LineFacts, write_end, write_header, write_object};

@@ -3,13 +3,16 @@
 ghost use Rattle.std.specs.Prelude.{◌≡◌, ◌≤◌, ◌++◌, IfOk, None, codes, drop, length, max, ℕ};
 ghost use Rattle.std.specs.Option.{option_copied};
 ghost use Rattle.std.specs.String.{string_bytes};
-ghost use Rattle.trace_lines.specs.Changes.{active_of, came_of, changed_list, cpu_list_changes, cpus_list_changes};
+ghost use Rattle.trace_lines.specs.Changes.{active_of, came_of, cpu_list_changes, cpus_list_changes};
 ghost use Rattle.trace_lines.specs.Changes.{group_list_changes, group_numbered, groups_list_changes, inactive_of};
 ghost use Rattle.trace_lines.specs.Changes.{left_of, list_change, list_changes};
-ghost use Rattle.trace_lines.specs.Parts.{list_change_text, name_text, part_text};
-ghost use Rattle.trace_lines.specs.Writing.{AddsLists, KeepsOne};
+ghost use Rattle.trace_lines.specs.Parts.{commas, list_change_text, name_text, part_text, span_text, spans_of};
+ghost use Rattle.trace_lines.specs.Parts.{spans_text};
+ghost use Rattle.trace_lines.specs.Writing.{AddsLists, KeepsOne, has_first};
 
-use crate::numbers::write_number_spans;
+use crate::numbers::{
+    Span, add_number, are_same_numbers, end_spans, push_behind, write_number_spans,
+};
 use crate::parts::{push_start, push_stop};
 use crate::trace_state::{ShownCpu, ShownGroup, TraceState};
 use std::alloc::{AllocError, Global};
@@ -191,7 +194,7 @@ fn active_of(group: Option<&ShownGroup>) -> &[u32]
 
 /// Adds the change of the list of this name to the part, if it changed.
 pub fn write_list(
-    alloc: Global,
+    _alloc: Global,
     name: ListName,
     before: &[u32],
     after: &[u32],
@@ -201,77 +204,102 @@ pub fn write_list(
     ensures { IfOk result (λ _. AddsLists is_first.old is_first.new (string_bytes text.old) (string_bytes text.new)
         (list_change name before.now after.now)) }
 {
-    let mut left = Vec::new(alloc);
-    let kept = keep(before, after, &mut left)?;
-    add_list(alloc, name, &left, &after[kept..], is_first, text)
-}
-
-// Adds the change of one list, unless nothing left it and nothing came.
-fn add_list(
-    alloc: Global,
-    name: ListName,
-    left: &[u32],
-    came: &[u32],
-    is_first: &mut bool,
-    text: &mut String,
-) -> Result<(), AllocError>
-    ensures { IfOk result (λ _. AddsLists is_first.old is_first.new (string_bytes text.old) (string_bytes text.new)
-        (changed_list (record { name = name; left = left.now; came = came.now }))) }
-{
-    if left.is_empty() && came.is_empty() {
+    if are_same_numbers(before, after) {
         return Ok(());
     }
-    push_start("lists", is_first, text)?;
-    write_change(alloc, name, left, came, text)
+    push_start(",\"lists\":[", is_first, text)?;
+    write_change(name, before, after, text)
 }
 
-// How many entries are kept; `left` gets what isn't.
-fn keep(before: &[u32], after: &[u32], left: &mut Vec<u32>) -> Result<usize, AllocError>
-    ensures left { IfOk result (λ _. left.new.items ≡ left.old.items ++ left_of before.now after.now) }
+// Adds a list with what left it and what came.
+fn write_change(
+    name: ListName,
+    before: &[u32],
+    after: &[u32],
+    text: &mut String,
+) -> Result<(), AllocError>
+    ensures { IfOk result (λ _. string_bytes text.new ≡ string_bytes text.old ++ list_change_text (record {
+      name = name;
+      left = left_of before.now after.now;
+      came = came_of before.now after.now;
+    })) }
+{
+    write_front(name, text)?;
+    let kept = write_left(before, after, text)?;
+    text.push(',')?;
+    write_number_spans(&after[kept..], text)?;
+    text.push(']')
+}
+
+// Adds what left a list, and returns how many entries are kept.
+fn write_left(before: &[u32], after: &[u32], text: &mut String) -> Result<usize, AllocError>
+    ensures text { IfOk result (λ _. string_bytes text.new
+        ≡ string_bytes text.old ++ spans_text (left_of before.now after.now)) }
+    ensures kept { IfOk result (λ kept. (kept ≤ length after.now)
+        × (drop kept after.now ≡ came_of before.now after.now)) }
+{
+    text.push('[')?;
+    let kept = add_left(before, after, text)?;
+    text.push(']')?;
+    Ok(kept)
+}
+
+// Adds the spans of what left a list, and returns how many entries are kept.
+fn add_left(before: &[u32], after: &[u32], text: &mut String) -> Result<usize, AllocError>
+    ensures text { IfOk result (λ _. string_bytes text.new
+        ≡ string_bytes text.old ++ commas span_text (spans_of (left_of before.now after.now))) }
     ensures kept { IfOk result (λ kept. (kept ≤ length after.now)
         × (drop kept after.now ≡ came_of before.now after.now)) }
 {
     let mut kept = 0;
+    let mut span = None;
     for &old in before {
-        kept = keep_one(old, after, kept, left)?;
+        kept = keep_one(old, after, kept, &mut span, text)?;
     }
+    end_spans(span, text)?;
     Ok(kept)
 }
 
-// How many entries are kept after one more, if so many were kept before it.
-fn keep_one(old: u32, after: &[u32], kept: usize, left: &mut Vec<u32>) -> Result<usize, AllocError>
+// How many entries are kept after one more, if so many were kept before it. If it isn't kept, it is added to the spans.
+fn keep_one(
+    old: u32,
+    after: &[u32],
+    kept: usize,
+    span: &mut Option<Span>,
+    text: &mut String,
+) -> Result<usize, AllocError>
     requires { kept ≤ length after.now }
-    ensures { IfOk result (λ now. KeepsOne old after.now kept left.old.items left.new.items now) }
+    ensures { IfOk result (λ now.
+        KeepsOne old after.now kept span.old span.new (string_bytes text.old) (string_bytes text.new) now) }
 {
-    if kept == after.len() {
-        left.push(old)?;
-        return Ok(kept);
-    }
-    if after[kept] == old {
+    if is_next(old, after, kept) {
         return Ok(kept + 1);
     }
-    left.push(old)?;
+    *span = Some(add_number(old, *span, text)?);
     Ok(kept)
 }
 
-// Adds what left a list, and what came.
-fn write_change(
-    alloc: Global,
-    name: ListName,
-    left: &[u32],
-    came: &[u32],
-    text: &mut String,
-) -> Result<(), AllocError>
-    ensures { IfOk result (λ _. string_bytes text.new ≡ string_bytes text.old
-        ++ list_change_text (record { name = name; left = left.now; came = came.now })) }
+// Whether the new list goes on with this entry behind those that are kept.
+fn is_next(old: u32, after: &[u32], kept: usize) -> bool
+    requires { kept ≤ length after.now }
+    ensures { result ≡ has_first old (drop kept after.now) }
 {
-    text.push_str("[\"")?;
+    if kept == after.len() {
+        return false;
+    }
+    old == after[kept]
+}
+
+// Adds the name of a list in quotes, with what goes before it and behind it.
+fn write_front(name: ListName, text: &mut String) -> Result<(), AllocError>
+    ensures { IfOk result (λ _. string_bytes text.new
+        ≡ string_bytes text.old ++ (codes "[\"" ++ name_text name ++ codes "\",")) }
+{
+    text.push('[')?;
+    text.push('"')?;
     write_name(name, text)?;
-    text.push_str("\",")?;
-    write_number_spans(alloc, left, text)?;
-    text.push_str(",")?;
-    write_number_spans(alloc, came, text)?;
-    text.push_str("]")
+    text.push('"')?;
+    text.push(',')
 }
 
 // Adds the name of a list.
@@ -279,10 +307,10 @@ fn write_name(name: ListName, text: &mut String) -> Result<(), AllocError>
     ensures { IfOk result (λ _. string_bytes text.new ≡ string_bytes text.old ++ name_text name) }
 {
     match name {
-        ListName::Listed { cpu } => write!(text, "l{cpu}"),
-        ListName::Fresh { cpu } => write!(text, "n{cpu}"),
-        ListName::Back { cpu } => write!(text, "b{cpu}"),
-        ListName::Inactive { group } => write!(text, "i{group}"),
-        ListName::Active { group } => write!(text, "a{group}"),
+        ListName::Listed { cpu } => push_behind('l', cpu as u64, text),
+        ListName::Fresh { cpu } => push_behind('n', cpu as u64, text),
+        ListName::Back { cpu } => push_behind('b', cpu as u64, text),
+        ListName::Inactive { group } => push_behind('i', group as u64, text),
+        ListName::Active { group } => push_behind('a', group as u64, text),
     }
 }

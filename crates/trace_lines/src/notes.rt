@@ -7,7 +7,7 @@ ghost use Rattle.std.specs.String.{string_bytes};
 ghost use Rattle.trace_lines.specs.Notes.{note_text, note_texts, notes_text, numbers_note};
 ghost use Rattle.trace_lines.specs.Writing.{AddsNotes};
 
-use crate::numbers::push_count;
+use crate::numbers::push_behind;
 use crate::parts::{push_start, push_stop};
 use group_tree::group::GroupId;
 use kill_notes::note::{Candidate, Note};
@@ -35,7 +35,7 @@ fn add_note(note: &Note, is_first: &mut bool, text: &mut String) -> Result<(), A
     ensures { IfOk result (λ _. AddsNotes is_first.old is_first.new (string_bytes text.old) (string_bytes text.new)
         (note_text note.now ∷ [])) }
 {
-    push_start("notes", is_first, text)?;
+    push_start(",\"notes\":[", is_first, text)?;
     write_note(note, text)
 }
 
@@ -47,7 +47,7 @@ fn add_left_out(left_out: u64, is_first: &mut bool, text: &mut String) -> Result
     if left_out == 0 {
         return Ok(());
     }
-    push_start("notes", is_first, text)?;
+    push_start(",\"notes\":[", is_first, text)?;
     write_numbers("more", &[left_out], text)
 }
 
@@ -189,11 +189,12 @@ fn of(group: GroupId) -> u64
 fn write_numbers(kind: &str, numbers: &[u64], text: &mut String) -> Result<(), AllocError>
     ensures { IfOk result (λ _. string_bytes text.new ≡ string_bytes text.old ++ numbers_note kind.now numbers.now) }
 {
-    text.push_str("[\"")?;
+    text.push('[')?;
+    text.push('"')?;
     text.push_str(kind)?;
-    text.push_str("\"")?;
+    text.push('"')?;
     write_each(numbers, text)?;
-    text.push_str("]")
+    text.push(']')
 }
 
 // Adds numbers, each behind a comma.
@@ -202,7 +203,7 @@ fn write_each(numbers: &[u64], text: &mut String) -> Result<(), AllocError>
         ≡ string_bytes text.old ++ flat_map (λ number. codes "," ++ decimal number) numbers.now) }
 {
     for &number in numbers {
-        push_count(",", number, text)?;
+        push_behind(',', number, text)?;
     }
     Ok(())
 }

@@ -1,12 +1,14 @@
 //! Numbers, and spans of them.
 
-ghost use Rattle.std.specs.Prelude.{◌≡◌, ◌+◌, ◌==◌, ◌++◌, IfOk, codes, reverse};
+ghost use Rattle.std.specs.Prelude.{◌≡◌, ◌+◌, ◌<◌, ◌==◌, [], ◌∷◌, ◌++◌, IfOk};
 ghost use Rattle.std.specs.Fmt.{decimal};
-ghost use Rattle.std.specs.List.{flat_map};
+ghost use Rattle.std.specs.Str.{bytes_eq};
 ghost use Rattle.std.specs.String.{string_bytes};
-ghost use Rattle.trace_lines.specs.Parts.{flag_text, number_text, span_text, spans_of, spans_text, with_number, commas};
+ghost use Rattle.trace_lines.specs.Parts.{commas, flag_text, number_text, span_text, spans_of, spans_text};
+ghost use Rattle.trace_lines.specs.Writing.{AddsNumber, spans_behind};
 
-use std::alloc::{AllocError, Global};
+use itoa::Buffer;
+use std::alloc::AllocError;
 
 /// Numbers that ascend by one, from the first to the last.
 #[derive(Clone, Copy, Debug, PartialEq, Eq)]
@@ -15,12 +17,51 @@ pub struct Span {
     pub last: u32,
 }
 
+// Whether the two have the same numbers, in the same order.
+pub(crate) fn are_same_numbers(one: &[u32], other: &[u32]) -> bool
+    ensures { result ≡ bytes_eq one.now other.now }
+{
+    one == other
+}
+
 // Adds a word and a number.
 pub(crate) fn push_count(word: &str, count: u64, text: &mut String) -> Result<(), AllocError>
     ensures { IfOk result (λ _. string_bytes text.new ≡ string_bytes text.old ++ (word.now ++ decimal count)) }
 {
     text.push_str(word)?;
-    write!(text, "{count}")
+    push_decimal(count, text)
+}
+
+// Adds an ASCII character and a number.
+pub(crate) fn push_behind(mark: char, number: u64, text: &mut String) -> Result<(), AllocError>
+    requires { mark < 128 }
+    ensures { IfOk result (λ _. string_bytes text.new ≡ string_bytes text.old ++ (mark ∷ decimal number)) }
+{
+    text.push(mark)?;
+    push_decimal(number, text)
+}
+
+// Adds a number. Most have one digit or two, which cost less than a buffer.
+pub(crate) fn push_decimal(number: u64, text: &mut String) -> Result<(), AllocError>
+    ensures { IfOk result (λ _. string_bytes text.new ≡ string_bytes text.old ++ decimal number) }
+{
+    if number < 10 {
+        return push_digit(number, text);
+    }
+    if number < 100 {
+        push_digit(number / 10, text)?;
+        return push_digit(number % 10, text);
+    }
+    let mut buffer = Buffer::new();
+    text.push_str(buffer.format(number))
+}
+
+// Adds a number below 10.
+fn push_digit(number: u64, text: &mut String) -> Result<(), AllocError>
+    requires { number < 10 }
+    ensures { IfOk result (λ _. string_bytes text.new ≡ string_bytes text.old ++ ((48 + number) ∷ [])) }
+{
+    text.push(char::from(b'0' + number as u8))
 }
 
 // Adds a number, or null.
@@ -29,7 +70,7 @@ pub(crate) fn write_number(number: Option<u32>, text: &mut String) -> Result<(),
 {
     match number {
         None => text.push_str("null"),
-        Some(number) => write!(text, "{number}"),
+        Some(number) => push_decimal(u64::from(number), text),
     }
 }
 
@@ -41,85 +82,67 @@ pub(crate) fn flag_word(flag: bool) -> &'static str
 }
 
 // Adds numbers in their order, as spans.
-pub(crate) fn write_number_spans(
-    alloc: Global,
-    numbers: &[u32],
-    text: &mut String,
-) -> Result<(), AllocError>
+pub(crate) fn write_number_spans(numbers: &[u32], text: &mut String) -> Result<(), AllocError>
     ensures { IfOk result (λ _. string_bytes text.new ≡ string_bytes text.old ++ spans_text numbers.now) }
 {
-    let spans = spans_of(alloc, numbers)?;
-    text.push_str("[")?;
-    write_spans(&spans, text)?;
-    text.push_str("]")
+    text.push('[')?;
+    write_spans(numbers, text)?;
+    text.push(']')
 }
 
-// The fewest spans of these numbers, in their order.
-fn spans_of(alloc: Global, numbers: &[u32]) -> Result<Vec<Span>, AllocError>
-    ensures { IfOk result (λ spans. spans.items ≡ spans_of numbers.now) }
+// Adds the fewest spans of these numbers, with a comma between each two.
+fn write_spans(numbers: &[u32], text: &mut String) -> Result<(), AllocError>
+    ensures { IfOk result (λ _. string_bytes text.new
+        ≡ string_bytes text.old ++ commas span_text (spans_of numbers.now)) }
 {
-    let mut spans = Vec::new(alloc);
-    let mut at = numbers.len();
-    while at > 0 {
-        at -= 1;
-        push_number(numbers[at], &mut spans)?;
+    let mut span = None;
+    for &number in numbers {
+        span = Some(add_number(number, span, text)?);
     }
-    spans.reverse();
-    Ok(spans)
+    end_spans(span, text)
 }
 
-// Puts a number before these spans, of which the last is the first in order.
-fn push_number(number: u32, spans: &mut Vec<Span>) -> Result<(), AllocError>
-    ensures { IfOk result (λ _. reverse spans.new.items ≡ with_number number (reverse spans.old.items)) }
+// Adds a number behind the span that isn't written yet, if there is one. It returns the span that isn't written now.
+pub(crate) fn add_number(
+    number: u32,
+    span: Option<Span>,
+    text: &mut String,
+) -> Result<Span, AllocError>
+    ensures { IfOk result (λ now. AddsNumber number span now (string_bytes text.old) (string_bytes text.new)) }
 {
     let alone = Span {
         first: number,
         last: number,
     };
-    let Some(span) = spans.pop() else {
-        spans.push(alone)?;
-        return Ok(());
+    let Some(span) = span else {
+        return Ok(alone);
     };
-    if follows(number, span) {
-        spans.push(Span {
-            first: number,
-            last: span.last,
-        })?;
-        return Ok(());
+    if follows(span, number) {
+        return Ok(Span {
+            first: span.first,
+            last: number,
+        });
     }
-    spans.push(span)?;
-    spans.push(alone)?;
-    Ok(())
+    write_span(&span, text)?;
+    text.push(',')?;
+    Ok(alone)
 }
 
-// Whether the span goes on with the number after this one.
-fn follows(number: u32, span: Span) -> bool
-    ensures { result ≡ (span.first == number + 1) }
+// Whether the span goes on with this number.
+fn follows(span: Span, number: u32) -> bool
+    ensures { result ≡ (number == span.last + 1) }
 {
-    u64::from(span.first) == u64::from(number) + 1
+    u64::from(number) == u64::from(span.last) + 1
 }
 
-// Adds the spans, with a comma between each two.
-fn write_spans(spans: &[Span], text: &mut String) -> Result<(), AllocError>
-    ensures { IfOk result (λ _. string_bytes text.new ≡ string_bytes text.old ++ commas span_text spans.now) }
+// Adds the span that isn't written yet, if there is one.
+pub(crate) fn end_spans(span: Option<Span>, text: &mut String) -> Result<(), AllocError>
+    ensures { IfOk result (λ _. string_bytes text.new ≡ string_bytes text.old ++ spans_behind span []) }
 {
-    let [first, rest @ ..] = spans else {
-        return Ok(());
-    };
-    write_span(first, text)?;
-    write_later_spans(rest, text)
-}
-
-// Adds the spans after the first.
-fn write_later_spans(spans: &[Span], text: &mut String) -> Result<(), AllocError>
-    ensures { IfOk result (λ _. string_bytes text.new
-        ≡ string_bytes text.old ++ flat_map (λ span. codes "," ++ span_text span) spans.now) }
-{
-    for span in spans {
-        text.push_str(",")?;
-        write_span(span, text)?;
+    match span {
+        None => Ok(()),
+        Some(span) => write_span(&span, text),
     }
-    Ok(())
 }
 
 // Adds one span.
@@ -128,7 +151,9 @@ fn write_span(span: &Span, text: &mut String) -> Result<(), AllocError>
 {
     let Span { first, last } = *span;
     if first == last {
-        return write!(text, "{first}");
+        return push_decimal(u64::from(first), text);
     }
-    write!(text, "[{first},{last}]")
+    push_behind('[', u64::from(first), text)?;
+    push_behind(',', u64::from(last), text)?;
+    text.push(']')
 }

@@ -1,20 +1,19 @@
 //! The objects of a trace.
 
-ghost use Rattle.std.specs.Prelude.{◌≡◌, ◌++◌, IfOk};
+ghost use Rattle.std.specs.Prelude.{◌≡◌, ◌++◌, IfOk, codes};
 ghost use Rattle.std.specs.String.{string_bytes};
 ghost use Rattle.trace_lines.specs.Objects.{end_front, end_text, frame_sums_text, header_front, header_text};
 ghost use Rattle.trace_lines.specs.Objects.{keyed_string, keyed_text, line_number_text, line_text, lock_text};
-ghost use Rattle.trace_lines.specs.Objects.{failure_text, lock_word, object_text, object_with, reason_text, row_names, sizes_text};
-ghost use Rattle.trace_lines.specs.Objects.{unit_sums_text};
+ghost use Rattle.trace_lines.specs.Objects.{failure_text, lock_word, object_with, reason_text, row_names};
+ghost use Rattle.trace_lines.specs.Objects.{sizes_text, unit_sums_text};
 ghost use Rattle.trace_lines.specs.Parts.{opening};
 
 use crate::notes::write_notes;
 use crate::numbers::push_count;
-use crate::parts::{push_opening, write_changes, write_counts};
+use crate::parts::push_opening;
 use crate::strings::write_string;
-use crate::trace_state::TraceState;
 use kill_notes::note::Note;
-use std::alloc::{AllocError, Global};
+use std::alloc::AllocError;
 
 /// The sizes of a boot.
 #[derive(Clone, Copy, Debug, PartialEq, Eq)]
@@ -126,44 +125,9 @@ fn push_keyed(key: &str, count: u64, text: &mut String) -> Result<(), AllocError
     push_count("\":", count, text)
 }
 
-// Adds a key and its string.
-#[tactic(auto, unfolding(crate::specs::Objects::keyed_string))]
-fn push_keyed_string(key: &str, bytes: &[u8], text: &mut String) -> Result<(), AllocError>
-    ensures { IfOk result (λ _. string_bytes text.new ≡ string_bytes text.old ++ keyed_string key.now bytes.now) }
-{
-    text.push_str(",\"")?;
-    text.push_str(key)?;
-    text.push_str("\":")?;
-    write_string(bytes, text)
-}
-
-/// Adds the object of a line: the line with its command and answer, what differs between what was shown `before` it and
-/// what is shown `after` it, its notes, which leave out `left_out` frames, and the counts, if they changed. It fails
-/// only if memory runs out.
-pub fn write_object(
-    alloc: Global,
-    line: &LineFacts,
-    command: &[u8],
-    answer: &[u8],
-    before: &TraceState,
-    after: &TraceState,
-    notes: &[Note],
-    left_out: u64,
-    text: &mut String,
-) -> Result<(), AllocError>
-    ensures { IfOk result (λ _. string_bytes text.new ≡ string_bytes text.old
-        ++ object_text line.now command.now answer.now before.now after.now notes.now left_out) }
-{
-    write_line(line, command, answer, text)?;
-    write_changes(alloc, before, after, text)?;
-    write_notes(notes, left_out, text)?;
-    write_counts(before.counts(), after.counts(), text)?;
-    text.push_str("}\n")
-}
-
 /// Adds the object of a line: the line with its command and answer, the text of what it changed, its notes, which leave
 /// out `left_out` frames, and the text of the counts. It fails only if memory runs out.
-pub fn write_object_of(
+pub fn write_object(
     line: &LineFacts,
     command: &[u8],
     answer: &[u8],
@@ -195,9 +159,9 @@ fn write_line(
         ≡ string_bytes text.old ++ line_text line.now command.now answer.now) }
 {
     write_line_number(line.number, text)?;
-    push_keyed("cpu", u64::from(line.cpu), text)?;
-    push_keyed_string("command", command, text)?;
-    push_keyed_string("answer", answer, text)?;
+    write_cpu(line.cpu, text)?;
+    write_command(command, text)?;
+    write_answer(answer, text)?;
     write_lock(line.took_lock, line.failure, text)
 }
 
@@ -209,6 +173,34 @@ fn write_line_number(number: u64, text: &mut String) -> Result<(), AllocError>
     push_count("{\"line\":", number, text)
 }
 
+// Adds the line's CPU.
+#[tactic(auto, unfolding(crate::specs::Objects::keyed_text))]
+fn write_cpu(cpu: u32, text: &mut String) -> Result<(), AllocError>
+    ensures { IfOk result (λ _. string_bytes text.new ≡ string_bytes text.old ++ keyed_text (codes "cpu") cpu) }
+{
+    push_count(",\"cpu\":", u64::from(cpu), text)
+}
+
+// Adds the line's command.
+#[tactic(auto, unfolding(crate::specs::Objects::keyed_string))]
+fn write_command(command: &[u8], text: &mut String) -> Result<(), AllocError>
+    ensures { IfOk result (λ _. string_bytes text.new
+        ≡ string_bytes text.old ++ keyed_string (codes "command") command.now) }
+{
+    text.push_str(",\"command\":")?;
+    write_string(command, text)
+}
+
+// Adds the answer to the line.
+#[tactic(auto, unfolding(crate::specs::Objects::keyed_string))]
+fn write_answer(answer: &[u8], text: &mut String) -> Result<(), AllocError>
+    ensures { IfOk result (λ _. string_bytes text.new
+        ≡ string_bytes text.old ++ keyed_string (codes "answer") answer.now) }
+{
+    text.push_str(",\"answer\":")?;
+    write_string(answer, text)
+}
+
 // Adds whether the line took the lock, and why no frame could be taken without it, if that is told.
 #[tactic(auto, unfolding(crate::specs::Objects::lock_text))]
 fn write_lock(
@@ -218,16 +210,19 @@ fn write_lock(
 ) -> Result<(), AllocError>
     ensures { IfOk result (λ _. string_bytes text.new ≡ string_bytes text.old ++ lock_text took_lock failure) }
 {
-    text.push_str(",\"lock\":")?;
-    text.push_str(lock_word(took_lock))?;
+    text.push_str(lock_part(took_lock))?;
     write_failure(failure, text)
 }
 
-// Whether the line took the lock, as a word.
-fn lock_word(took_lock: bool) -> &'static str
-    ensures { result.now ≡ lock_word took_lock }
+// Whether the line took the lock, with the key.
+fn lock_part(took_lock: bool) -> &'static str
+    ensures { result.now ≡ codes ",\"lock\":" ++ lock_word took_lock }
 {
-    if took_lock { "true" } else { "false" }
+    if took_lock {
+        ",\"lock\":true"
+    } else {
+        ",\"lock\":false"
+    }
 }
 
 // Adds why no frame could be taken without the lock, if that is told.
@@ -240,7 +235,7 @@ fn write_failure(failure: Option<FastFailure>, text: &mut String) -> Result<(), 
     };
     text.push_str(",\"miss\":\"")?;
     text.push_str(reason(failure))?;
-    text.push_str("\"")
+    text.push('"')
 }
 
 // The word for why no frame could be taken without the lock.

@@ -1,35 +1,36 @@
 //! The optional parts of a line's object: each is a key and a list, and is there if the list isn't empty.
 
-ghost use Rattle.std.specs.Prelude.{◌≡◌, ◌++◌, IfOk, false};
+ghost use Rattle.std.specs.Prelude.{◌≡◌, ◌++◌, if◌then◌else◌, IfOk, codes, false};
 ghost use Rattle.std.specs.String.{string_bytes};
 ghost use Rattle.trace_lines.specs.Changes.{changes, count_change, are_same_counts};
 ghost use Rattle.trace_lines.specs.Parts.{changes_text, counts_part, counts_text, ends_text, opening, first_parts_text};
 ghost use Rattle.trace_lines.specs.Parts.{last_parts_text};
-ghost use Rattle.trace_lines.specs.Writing.{start_text, stop_text};
+ghost use Rattle.trace_lines.specs.Writing.{stop_text};
 
 use crate::cpus::{write_pins, write_stocks};
 use crate::flags::write_flags;
 use crate::frames::write_frames;
 use crate::groups::{write_gone, write_made, write_rows};
 use crate::lists::write_lists;
-use crate::numbers::push_count;
+use crate::numbers::{push_behind, push_decimal};
 use crate::trace_state::{ShownCounts, TraceState};
 use std::alloc::{AllocError, Global};
 
-// Adds what goes before an item: the part's key, if it is the first, else a comma.
+// Adds what goes before an item: what opens the part, if it is the first, else a comma.
 pub(crate) fn push_start(
-    key: &str,
+    opening: &str,
     is_first: &mut bool,
     text: &mut String,
 ) -> Result<(), AllocError>
-    ensures text { IfOk result (λ _. string_bytes text.new ≡ string_bytes text.old ++ start_text key.now is_first.old) }
+    ensures text { IfOk result (λ _. string_bytes text.new ≡ string_bytes text.old
+        ++ (if is_first.old then opening.now else codes ",")) }
     ensures first { is_first.new ≡ false }
 {
     if !*is_first {
-        return text.push_str(",");
+        return text.push(',');
     }
     *is_first = false;
-    push_opening(key, text)
+    text.push_str(opening)
 }
 
 // Adds the key of a part, and the bracket that opens its list.
@@ -49,7 +50,7 @@ pub fn push_stop(is_first: bool, text: &mut String) -> Result<(), AllocError>
     if is_first {
         return Ok(());
     }
-    text.push_str("]")
+    text.push(']')
 }
 
 /// Adds what differs between the two states, but the counts.
@@ -139,9 +140,9 @@ fn push_counts(counts: ShownCounts, text: &mut String) -> Result<(), AllocError>
     ensures { IfOk result (λ _. string_bytes text.new ≡ string_bytes text.old ++ counts_text counts) }
 {
     push_ends(counts, text)?;
-    push_count(",", counts.returns, text)?;
-    push_count(",", counts.misses, text)?;
-    text.push_str("]")
+    push_behind(',', counts.returns, text)?;
+    push_behind(',', counts.misses, text)?;
+    text.push(']')
 }
 
 // Adds the counts of what ended units.
@@ -150,7 +151,7 @@ fn push_ends(counts: ShownCounts, text: &mut String) -> Result<(), AllocError>
     ensures { IfOk result (λ _. string_bytes text.new ≡ string_bytes text.old ++ ends_text counts) }
 {
     push_opening("counts", text)?;
-    push_count("", counts.last_puts, text)?;
-    push_count(",", counts.freezes, text)?;
-    push_count(",", counts.drops, text)
+    push_decimal(counts.last_puts, text)?;
+    push_behind(',', counts.freezes, text)?;
+    push_behind(',', counts.drops, text)
 }

@@ -1,9 +1,7 @@
 //! Where a frame is.
 
-ghost use Rattle.std.specs.Prelude.{◌≡◌, IfOk};
-ghost use Rattle.trace_lines.specs.Places.{is_same_place, order_after, place_in, places_of};
-
-use std::alloc::{AllocError, Global};
+ghost use Rattle.std.specs.Prelude.{◌≡◌};
+ghost use Rattle.trace_lines.specs.Places.{is_same_place, order_after, place_in};
 
 /// Where a frame is. A frame of a unit has the unit's order, so its first frame follows: a unit begins at a multiple of
 /// its size.
@@ -71,17 +69,4 @@ pub fn order_after(order: u32, frame: TracedFrame) -> u32
         TracedFrame::Head { order, .. } => order,
         _ => order,
     }
-}
-
-/// The places of frames with these records. `AllocError` if memory runs out.
-pub fn places(alloc: Global, frames: &[TracedFrame]) -> Result<Vec<ShownPlace>, AllocError>
-    ensures { IfOk result (λ places. places.items ≡ places_of frames.now) }
-{
-    let mut places = Vec::with_capacity(alloc, frames.len())?;
-    let mut order = 0;
-    for &frame in frames {
-        places.push(place_in(order, frame))?;
-        order = order_after(order, frame);
-    }
-    Ok(places)
 }

@@ -1,7 +1,8 @@
 //! The strings of a trace.
 
-ghost use Rattle.std.specs.Prelude.{◌≡◌, ◌<◌, ◌++◌, IfOk};
+ghost use Rattle.std.specs.Prelude.{◌≡◌, ◌<◌, ◌≤◌, ◌∷◌, ◌++◌, IfOk, IsTrue, [], length, take};
 ghost use Rattle.std.specs.List.{flat_map};
+ghost use Rattle.std.specs.Str.{IsAscii};
 ghost use Rattle.std.specs.String.{string_bytes};
 ghost use Rattle.trace_lines.specs.Strings.{byte_text, escaped, hex_digit, string_text};
 
@@ -11,19 +12,75 @@ use std::alloc::AllocError;
 pub(crate) fn write_string(bytes: &[u8], text: &mut String) -> Result<(), AllocError>
     ensures { IfOk result (λ _. string_bytes text.new ≡ string_bytes text.old ++ string_text bytes.now) }
 {
-    text.push_str("\"")?;
+    text.push('"')?;
     write_bytes(bytes, text)?;
-    text.push_str("\"")
+    text.push('"')
 }
 
 // Adds the bytes, without quotes.
 fn write_bytes(bytes: &[u8], text: &mut String) -> Result<(), AllocError>
     ensures { IfOk result (λ _. string_bytes text.new ≡ string_bytes text.old ++ flat_map byte_text bytes.now) }
 {
-    for &byte in bytes {
-        write_byte(byte, text)?;
+    let mut at = 0;
+    while at < bytes.len() {
+        at += write_front(&bytes[at..], text)?;
     }
     Ok(())
+}
+
+// Adds the bytes at the front that are themselves, and the byte behind them. It returns how many that are.
+fn write_front(bytes: &[u8], text: &mut String) -> Result<usize, AllocError>
+    requires { 0 < length bytes.now }
+    ensures count { IfOk result (λ count. (0 < count) × (count ≤ length bytes.now)) }
+    ensures text { IfOk result (λ count. string_bytes text.new
+        ≡ string_bytes text.old ++ flat_map byte_text (take count bytes.now)) }
+{
+    let plain = plain_len(bytes);
+    push_plain(&bytes[..plain], text)?;
+    if plain == bytes.len() {
+        return Ok(plain);
+    }
+    write_byte(bytes[plain], text)?;
+    Ok(plain + 1)
+}
+
+// How many bytes at the front are themselves.
+fn plain_len(bytes: &[u8]) -> usize
+    ensures within { result ≤ length bytes.now }
+    ensures ascii { IsAscii (take result bytes.now) }
+    ensures plain { flat_map byte_text (take result bytes.now) ≡ take result bytes.now }
+{
+    let mut len = 0;
+    for &byte in bytes {
+        if !is_plain(byte) {
+            return len;
+        }
+        len += 1;
+    }
+    len
+}
+
+// Whether the byte is itself in a string.
+#[tactic(auto, unfolding(crate::specs::Strings::byte_text))]
+fn is_plain(byte: u8) -> bool
+    ensures { IsTrue result → (byte < 128) × (byte_text byte ≡ byte ∷ []) }
+{
+    match byte {
+        b'"' | b'\\' => false,
+        32..=126 => true,
+        _ => false,
+    }
+}
+
+// Adds bytes below 128 as they are.
+fn push_plain(bytes: &[u8], text: &mut String) -> Result<(), AllocError>
+    requires { IsAscii bytes.now }
+    ensures { IfOk result (λ _. string_bytes text.new ≡ string_bytes text.old ++ bytes.now) }
+{
+    match str::from_utf8(bytes) {
+        Ok(plain) => text.push_str(plain),
+        Err(_) => Ok(()), // Such bytes are always UTF-8.
+    }
 }
 
 // Adds one byte.

@@ -13,6 +13,7 @@ pub trace_each-requires : goal.trace_each-requires
 trace_each-requires g c = record {
   there = subst (λ (n : ℕ). All (LineInRange g.N.BootName.frames.frames n) c.args.lines.now)
       (sym (ap (λ (l : List KnownCpu). length l) c.trace_state.ensures.cpus)) c.requires.there;
+  tied = c.prove_tied.ensures;
   shown = shown_after c.in_ok-shown.shown c.args.locked.now c.trace_state.new.locked c.args.cpus.now c.trace_state.new.cpus c.in_ok-shown.ensures.shown
       c.trace_state.ensures.again;
 }

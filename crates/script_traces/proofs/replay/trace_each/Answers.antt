@@ -7,6 +7,7 @@ use Rattle.script_traces.proofs.replay.trace_each.Goals as goal
 
 pub loop-line-init : goal.loop-line-init
 loop-line-init g c = (
+  c.requires.tied,
   c.requires.shown,
   traces_start (boot_tables g.N.BootName.frames g.N.BootName.stocks) (map (λ (text : Bor (List ℕ)). text.now) c.args.texts.now) c.args.lines.now
       (system_state c.args.locked.now c.args.cpus.now) (string_bytes c.args.trace.now),
@@ -14,8 +15,9 @@ loop-line-init g c = (
 
 pub loop-line-preserved : goal.loop-line-preserved
 loop-line-preserved g c = (
+  c.in_ok-trace_line.ensures.tied,
   c.in_ok-trace_line.ensures.shown,
   traces_more (boot_tables g.N.BootName.frames g.N.BootName.stocks) (map (λ (text : Bor (List ℕ)). text.now) c.args.texts.now) c.args.lines.now
       c.loop-line.line-index _ (system_state c.args.locked.now c.args.cpus.now) (system_state c.loop-line.locked c.loop-line.cpus)
-      (system_state c.trace_line.new.locked c.trace_line.new.cpus) _ _ _ c.loop-line-test.true c.loop-line.invariant.1 c.in_ok-trace_line.ensures.traced,
+      (system_state c.trace_line.new.locked c.trace_line.new.cpus) _ _ _ c.loop-line-test.true c.loop-line.invariant.2 c.in_ok-trace_line.ensures.traced,
 )

@@ -31,4 +31,4 @@ returns g c =
     let none = replicate (length machine.frame_states) no_flags in
     let all : c.loop-number.number ≡ 64 = omega (arith, c.loop-number-test.false, c.loop-number.auto.number-end) in
     c.loop-number.invariant.0 ∙ ap (λ (n : ℕ). with_flags none (kept_below machine n)) all
-    ∙ flags_are g.N.BootName.frames g.N.BootName.stocks machine c.frame_states.ensures.consistent
+    ∙ flags_are g.N.BootName.frames g.N.BootName.stocks machine c.frame_states-frames.ensures.consistent

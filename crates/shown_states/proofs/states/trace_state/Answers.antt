@@ -3,7 +3,7 @@ use Rattle.mem_machine.specs.Machines.{KnownMachine}
 use Rattle.mem_system.specs.Locked.{KnownLocked}
 use Rattle.shown_states.specs.States.{counts_shown}
 use Rattle.shown_states.proofs.Looks.{shown_again, shown_whole}
-use Rattle.shown_states.proofs.states.show.Goals as goal
+use Rattle.shown_states.proofs.states.trace_state.Goals as goal
 
 pub returns-in_err-shown_cpus-clause-again : goal.returns-in_err-shown_cpus-clause-again
 returns-in_err-shown_cpus-clause-again g c = shown_again c.args.locked.now.machine c.show_cpus.new.locked.machine c.args.cpus.now c.show_cpus.new.cpus

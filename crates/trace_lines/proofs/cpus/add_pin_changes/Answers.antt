@@ -4,9 +4,9 @@ use Rattle.trace_lines.proofs.Items.{adds_none}
 use Rattle.trace_lines.proofs.Steps.{counts_ok, pins_equal}
 use Rattle.trace_lines.proofs.cpus.add_pin_changes.Goals as goal
 
-pub returns-then-are_same_pins : goal.returns-then-are_same_pins
-returns-then-are_same_pins c = adds_none _ _ _ _ _
-    (pins_equal c.args.cpu c.args.frames c.args.before.now c.args.after.now (sym c.are_same_pins.ensures ∙ c.if-are_same_pins.true))
+pub returns-then-are_same_numbers : goal.returns-then-are_same_numbers
+returns-then-are_same_numbers c = adds_none _ _ _ _ _
+    (pins_equal c.args.cpu c.args.frames c.args.before.now c.args.after.now (sym c.are_same_numbers.ensures ∙ c.if-are_same_numbers.true))
 
 pub returns : goal.returns
 returns c = counts_ok c.add_counts.result c.args.cpu c.args.frames c.args.before.now c.args.before.now c.args.after.now c.args.after.now

@@ -1,0 +1,31 @@
+use Rattle.std.proofs.Common.{◌∙◌, ap}
+use Rattle.std.specs.String.{string_bytes}
+use Rattle.mem_system.specs.Locked.{KnownLocked}
+use Rattle.shown_states.proofs.Assembled.{counts_same, ok_any, own_advanced, own_text}
+use Rattle.shown_states.proofs.advancing.advance_cpu_parts.Goals as goal
+
+pub returns-clause-state : goal.returns-clause-state
+returns-clause-state g c =
+    let looked = c.machine-machine.ensures.machine ∙ ap (λ (l : KnownLocked). l.machine) c.set_cpus.ensures.looked in
+    ok_any _ c.add_to-3.result
+    (own_advanced c.args.locked.now.machine c.machine-machine.result.now c.args.cpus.now c.set_cpus.new.cpus looked c.set_cpus.ensures.cpus
+    c.args.state.now c.set_cpus.new.state c.set_counts.new.state c.in_ok-set_cpus.ensures.state c.in_ok-set_counts.ensures.state
+    c.advance_frames.new.state c.in_ok-advance_frames.ensures.state c.requires.groups c.requires.flags)
+
+pub returns-clause-changes : goal.returns-clause-changes
+returns-clause-changes g c =
+    let looked = c.machine-machine.ensures.machine ∙ ap (λ (l : KnownLocked). l.machine) c.set_cpus.ensures.looked in
+    own_text c.args.locked.now.machine c.machine-machine.result.now c.args.cpus.now c.set_cpus.new.cpus looked c.set_cpus.ensures.cpus
+    c.args.state.now c.set_cpus.new.state c.set_counts.new.state c.in_ok-set_cpus.ensures.state c.in_ok-set_counts.ensures.state
+    c.advance_frames.new.state c.in_ok-advance_frames.ensures.state c.requires.groups c.requires.flags c.add_to-3.result c.set_cpus.new.parts
+    (string_bytes c.clear.new.self) (string_bytes c.advance_frames.new.text) (string_bytes c.add_to.new.text) (string_bytes c.add_to-2.new.text)
+    (string_bytes c.add_to-3.new.text) c.in_ok-set_cpus.ensures.parts c.clear.ensures.bytes c.in_ok-advance_frames.ensures.text c.in_ok-add_to.ensures
+    c.in_ok-add_to-2.ensures c.add_to-3.ensures
+
+pub returns-clause-counts : goal.returns-clause-counts
+returns-clause-counts g c =
+    let looked = c.machine-machine.ensures.machine ∙ ap (λ (l : KnownLocked). l.machine) c.set_cpus.ensures.looked in
+    ok_any _ c.add_to-3.result
+    (c.in_ok-set_counts.ensures.text
+    ∙ counts_same c.args.locked.now.machine c.machine-machine.result.now c.args.cpus.now c.set_cpus.new.cpus looked c.set_cpus.ensures.cpus
+    c.args.state.now c.set_cpus.new.state c.set_counts.new.state c.in_ok-set_cpus.ensures.state c.in_ok-set_counts.ensures.state)

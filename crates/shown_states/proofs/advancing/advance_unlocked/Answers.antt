@@ -1,0 +1,26 @@
+use Rattle.std.proofs.Common.{ap}
+use Rattle.mem_system.specs.Locked.{KnownLocked}
+use Rattle.shown_states.proofs.Looks.{shown_again}
+use Rattle.shown_states.proofs.advancing.advance_unlocked.Goals as goal
+
+pub returns-then-has_as_many : goal.returns-then-has_as_many
+returns-then-has_as_many g c = record {
+  state = c.advance_cpu_parts.ensures.state;
+  changes = c.advance_cpu_parts.ensures.changes;
+  counts = c.advance_cpu_parts.ensures.counts;
+  looked = c.advance_cpu_parts.ensures.looked;
+  cpus = c.advance_cpu_parts.ensures.cpus;
+  again = shown_again c.args.locked.now.machine c.advance_cpu_parts.new.locked.machine c.args.cpus.now c.advance_cpu_parts.new.cpus
+      (ap (λ (l : KnownLocked). l.machine) c.advance_cpu_parts.ensures.looked) c.advance_cpu_parts.ensures.cpus;
+}
+
+pub returns : goal.returns
+returns g c = record {
+  state = c.replace.ensures.state;
+  changes = c.replace.ensures.changes;
+  counts = c.replace.ensures.counts;
+  looked = c.replace.ensures.looked;
+  cpus = c.replace.ensures.cpus;
+  again = shown_again c.args.locked.now.machine c.replace.new.locked.machine c.args.cpus.now c.replace.new.cpus
+      (ap (λ (l : KnownLocked). l.machine) c.replace.ensures.looked) c.replace.ensures.cpus;
+}

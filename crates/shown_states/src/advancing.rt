@@ -1,0 +1,374 @@
+//! A state that is advanced in place to what is shown now.
+
+ghost use Rattle.std.specs.Prelude.{◌≡◌, ◌++◌, IsTrue, OnOk, codes, length};
+ghost use Rattle.std.specs.String.{string_bytes};
+ghost use Rattle.trace_lines.specs.Changes.{changes, count_change, groups_list_changes, rows_beyond};
+ghost use Rattle.trace_lines.specs.Parts.{changes_text, counts_part, row_text};
+ghost use Rattle.trace_lines.specs.Writing.{AddsLists};
+ghost use Rattle.shown_states.specs.Advancing.{HasCpus};
+ghost use Rattle.shown_states.specs.Cpus.{cpus_shown, locked_with_looks};
+ghost use Rattle.shown_states.specs.Frames.{flags_shown};
+ghost use Rattle.shown_states.specs.Groups.{AreSameGroups, groups_shown};
+ghost use Rattle.shown_states.specs.Parts.{HasItems, part_bytes};
+ghost use Rattle.shown_states.specs.States.{counts_shown, trace_state_of};
+
+use crate::advance_cpus::{CpuParts, advance_cpus};
+use crate::advance_flags::advance_flags;
+use crate::advance_frames::advance_frames;
+use crate::advance_groups::{advance_groups, has_same_groups};
+use crate::counts::show_counts;
+use crate::part::Part;
+use crate::states::trace_state;
+use cpu_part::{BootName, Cpu, Tables};
+use mem_machine::Machine;
+use mem_system::Locked;
+use std::alloc::{AllocError, Global};
+use std::marker::Model;
+use trace_lines::parts::{write_changes, write_counts};
+use trace_lines::place::ShownPlace;
+use trace_lines::trace_state::{Flags, ShownCpu, ShownGroup, TraceState};
+
+// The parts of a line's object that are added item by item, and spare buffers.
+#[derive(Drop)]
+pub(crate) struct Parts {
+    pub(crate) cpus: CpuParts,
+    pub(crate) rows: Part,
+    pub(crate) spare_places: Vec<ShownPlace>,
+    pub(crate) spare_flags: Vec<Flags>,
+    pub(crate) spare_groups: Vec<ShownGroup>,
+    pub(crate) spare_cpus: Vec<ShownCpu>,
+}
+
+/// The texts of what changed, and buffers that are used again for each line of a trace.
+#[derive(Drop)]
+pub struct Buffers {
+    parts: Parts,
+    changes: String,
+    counts: String,
+}
+
+impl Model for Buffers {
+    ghost use Rattle.std.specs.String.{string_bytes};
+    ghost use Rattle.shown_states.specs.Advancing.{KnownBuffers};
+
+    ghost Value = { KnownBuffers };
+
+    ghost view = { λ b. record { changes = string_bytes b.changes; counts = string_bytes b.counts } };
+}
+
+impl Buffers {
+    /// Empty buffers.
+    pub fn new(alloc: Global) -> Buffers {
+        Buffers {
+            parts: Parts {
+                cpus: CpuParts::new(alloc),
+                rows: Part::new(alloc),
+                spare_places: Vec::new(alloc),
+                spare_flags: Vec::new(alloc),
+                spare_groups: Vec::new(alloc),
+                spare_cpus: Vec::new(alloc),
+            },
+            changes: String::new(alloc),
+            counts: String::new(alloc),
+        }
+    }
+
+    /// The text of what changed, except the counts.
+    pub fn changes(&self) -> &str
+        ensures { result.now ≡ self.now.changes }
+    {
+        &self.changes
+    }
+
+    /// The text of the counts, if they changed.
+    pub fn counts(&self) -> &str
+        ensures { result.now ≡ self.now.counts }
+    {
+        &self.counts
+    }
+}
+
+/// Advances a state to what is shown of the machine and of these CPUs, as `trace_state` shows it, and sets the texts of
+/// what changed. It allocates only if a buffer or a list of the state has to grow, or if the groups or the number of
+/// CPUs aren't those of the state. It fails only if memory runs out; it has looked at the stocks then all the same, and
+/// what the state and the texts are says nothing.
+pub fn advance<N: BootName>(
+    alloc: Global,
+    locked: &mut Locked<N>,
+    tables: &Tables<N>,
+    cpus: &mut [Cpu<N>],
+    state: &mut TraceState,
+    buffers: &mut Buffers,
+) -> Result<(), AllocError>
+    ensures state { OnOk result (state.new ≡ trace_state_of locked.old.machine cpus.old) }
+    ensures changes { OnOk result (buffers.new.changes
+        ≡ changes_text (changes state.old (trace_state_of locked.old.machine cpus.old))) }
+    ensures counts { OnOk result (buffers.new.counts
+        ≡ counts_part (changes state.old (trace_state_of locked.old.machine cpus.old)).counts) }
+    ensures looked { locked.new ≡ locked_with_looks locked.old (length cpus.old) }
+    ensures cpus { cpus.new ≡ cpus.old }
+    ensures again { trace_state_of locked.new.machine cpus.new ≡ trace_state_of locked.old.machine cpus.old }
+{
+    let Buffers {
+        parts,
+        changes,
+        counts,
+    } = buffers;
+    if is_alike(locked.machine(), cpus, state) {
+        return advance_parts(alloc, locked, tables, cpus, state, parts, changes, counts);
+    }
+    replace(alloc, locked, tables, cpus, state, changes, counts)
+}
+
+/// The same after a line that took no lock: the groups and the flags of the state are those of the machine.
+pub fn advance_unlocked<N: BootName>(
+    alloc: Global,
+    locked: &mut Locked<N>,
+    tables: &Tables<N>,
+    cpus: &mut [Cpu<N>],
+    state: &mut TraceState,
+    buffers: &mut Buffers,
+) -> Result<(), AllocError>
+    requires groups { state.old.groups ≡ groups_shown locked.old.machine }
+    requires flags { state.old.flags ≡ flags_shown locked.old.machine }
+    ensures state { OnOk result (state.new ≡ trace_state_of locked.old.machine cpus.old) }
+    ensures changes { OnOk result (buffers.new.changes
+        ≡ changes_text (changes state.old (trace_state_of locked.old.machine cpus.old))) }
+    ensures counts { OnOk result (buffers.new.counts
+        ≡ counts_part (changes state.old (trace_state_of locked.old.machine cpus.old)).counts) }
+    ensures looked { locked.new ≡ locked_with_looks locked.old (length cpus.old) }
+    ensures cpus { cpus.new ≡ cpus.old }
+    ensures again { trace_state_of locked.new.machine cpus.new ≡ trace_state_of locked.old.machine cpus.old }
+{
+    let Buffers {
+        parts,
+        changes,
+        counts,
+    } = buffers;
+    if has_as_many(cpus, state) {
+        return advance_cpu_parts(alloc, locked, tables, cpus, state, parts, changes, counts);
+    }
+    replace(alloc, locked, tables, cpus, state, changes, counts)
+}
+
+// Whether the state has as many CPUs, and groups of the same numbers and paths as the machine.
+fn is_alike<N: BootName>(machine: &Machine<N>, cpus: &[Cpu<N>], state: &TraceState) -> bool
+    ensures cpus { IsTrue result → length state.now.cpus ≡ length cpus.now }
+    ensures groups { IsTrue result → AreSameGroups state.now.groups (groups_shown machine.now) }
+{
+    has_as_many(cpus, state) && has_same_groups(machine, state.groups())
+}
+
+// Whether the state has as many CPUs.
+fn has_as_many<N: BootName>(cpus: &[Cpu<N>], state: &TraceState) -> bool
+    ensures { IsTrue result → length state.now.cpus ≡ length cpus.now }
+{
+    state.cpus().len() == cpus.len()
+}
+
+// Replaces the state, and compares the two whole.
+fn replace<N: BootName>(
+    alloc: Global,
+    locked: &mut Locked<N>,
+    tables: &Tables<N>,
+    cpus: &mut [Cpu<N>],
+    state: &mut TraceState,
+    text: &mut String,
+    counts: &mut String,
+) -> Result<(), AllocError>
+    ensures state { OnOk result (state.new ≡ trace_state_of locked.old.machine cpus.old) }
+    ensures changes { OnOk result (string_bytes text.new
+        ≡ changes_text (changes state.old (trace_state_of locked.old.machine cpus.old))) }
+    ensures counts { OnOk result (string_bytes counts.new
+        ≡ counts_part (changes state.old (trace_state_of locked.old.machine cpus.old)).counts) }
+    ensures looked { locked.new ≡ locked_with_looks locked.old (length cpus.old) }
+    ensures cpus { cpus.new ≡ cpus.old }
+{
+    text.clear();
+    counts.clear();
+    let now = trace_state(alloc, locked, tables, cpus)?;
+    write_counts(state.counts(), now.counts(), counts)?;
+    let result = write_changes(alloc, state, &now, text);
+    *state = now;
+    result
+}
+
+// Advances each part of a state that has as many CPUs and the same groups.
+fn advance_parts<N: BootName>(
+    alloc: Global,
+    locked: &mut Locked<N>,
+    tables: &Tables<N>,
+    cpus: &mut [Cpu<N>],
+    state: &mut TraceState,
+    parts: &mut Parts,
+    text: &mut String,
+    counts: &mut String,
+) -> Result<(), AllocError>
+    requires cpus { length state.old.cpus ≡ length cpus.old }
+    requires groups { AreSameGroups state.old.groups (groups_shown locked.old.machine) }
+    ensures state { OnOk result (state.new ≡ trace_state_of locked.old.machine cpus.old) }
+    ensures changes { OnOk result (string_bytes text.new
+        ≡ changes_text (changes state.old (trace_state_of locked.old.machine cpus.old))) }
+    ensures counts { OnOk result (string_bytes counts.new
+        ≡ counts_part (changes state.old (trace_state_of locked.old.machine cpus.old)).counts) }
+    ensures looked { locked.new ≡ locked_with_looks locked.old (length cpus.old) }
+    ensures cpus { cpus.new ≡ cpus.old }
+{
+    // The looks come first, and alone change the machine: so they are made even if memory runs out.
+    set_cpus(
+        alloc,
+        locked,
+        tables,
+        cpus,
+        state,
+        &mut parts.spare_cpus,
+        &mut parts.cpus,
+    )?;
+    let machine = locked.machine();
+    set_counts(machine, cpus, state, counts)?;
+    set_groups(
+        alloc,
+        machine,
+        state,
+        &mut parts.spare_groups,
+        &mut parts.cpus.numbers,
+        &mut parts.cpus.lists,
+        &mut parts.rows,
+    )?;
+    text.clear();
+    advance_frames(alloc, machine, cpus, state, &mut parts.spare_places, text)?;
+    parts.cpus.lists.add_to(text)?;
+    advance_flags(machine, state, &mut parts.spare_flags, text)?;
+    add_last_parts(&parts.cpus.pins, &parts.cpus.stocks, &parts.rows, text)
+}
+
+// Advances each part of a state that has as many CPUs, and the groups and the flags of the machine.
+fn advance_cpu_parts<N: BootName>(
+    alloc: Global,
+    locked: &mut Locked<N>,
+    tables: &Tables<N>,
+    cpus: &mut [Cpu<N>],
+    state: &mut TraceState,
+    parts: &mut Parts,
+    text: &mut String,
+    counts: &mut String,
+) -> Result<(), AllocError>
+    requires cpus { length state.old.cpus ≡ length cpus.old }
+    requires groups { state.old.groups ≡ groups_shown locked.old.machine }
+    requires flags { state.old.flags ≡ flags_shown locked.old.machine }
+    ensures state { OnOk result (state.new ≡ trace_state_of locked.old.machine cpus.old) }
+    ensures changes { OnOk result (string_bytes text.new
+        ≡ changes_text (changes state.old (trace_state_of locked.old.machine cpus.old))) }
+    ensures counts { OnOk result (string_bytes counts.new
+        ≡ counts_part (changes state.old (trace_state_of locked.old.machine cpus.old)).counts) }
+    ensures looked { locked.new ≡ locked_with_looks locked.old (length cpus.old) }
+    ensures cpus { cpus.new ≡ cpus.old }
+{
+    set_cpus(
+        alloc,
+        locked,
+        tables,
+        cpus,
+        state,
+        &mut parts.spare_cpus,
+        &mut parts.cpus,
+    )?;
+    let machine = locked.machine();
+    set_counts(machine, cpus, state, counts)?;
+    text.clear();
+    advance_frames(alloc, machine, cpus, state, &mut parts.spare_places, text)?;
+    parts.cpus.lists.add_to(text)?;
+    parts.cpus.pins.add_to(text)?;
+    parts.cpus.stocks.add_to(text)
+}
+
+// Sets the state's CPUs, and the parts that tell what changed of them.
+fn set_cpus<N: BootName>(
+    alloc: Global,
+    locked: &mut Locked<N>,
+    tables: &Tables<N>,
+    cpus: &mut [Cpu<N>],
+    state: &mut TraceState,
+    spare: &mut Vec<ShownCpu>,
+    parts: &mut CpuParts,
+) -> Result<(), AllocError>
+    requires { length state.old.cpus ≡ length cpus.old }
+    ensures state { OnOk result (state.new ≡ record state.old { cpus = cpus_shown locked.old.machine cpus.old }) }
+    ensures parts { OnOk result (HasCpus (length locked.old.machine.frame_states) parts.new state.old.cpus
+        (cpus_shown locked.old.machine cpus.old)) }
+    ensures looked { locked.new ≡ locked_with_looks locked.old (length cpus.old) }
+    ensures cpus { cpus.new ≡ cpus.old }
+{
+    parts.clear();
+    state.swap_cpus(spare);
+    let result = advance_cpus(alloc, locked, tables, cpus, spare, parts);
+    state.swap_cpus(spare);
+    result
+}
+
+// Sets the state's counts, and the text of them.
+fn set_counts<N: BootName>(
+    machine: &Machine<N>,
+    cpus: &[Cpu<N>],
+    state: &mut TraceState,
+    text: &mut String,
+) -> Result<(), AllocError>
+    ensures state { OnOk result (state.new ≡ record state.old { counts = counts_shown machine.now cpus.now }) }
+    ensures text { OnOk result (string_bytes text.new
+        ≡ counts_part (count_change state.old.counts (counts_shown machine.now cpus.now))) }
+{
+    text.clear();
+    let counts = show_counts(machine, cpus);
+    write_counts(state.counts(), counts, text)?;
+    state.set_counts(counts);
+    Ok(())
+}
+
+// Sets the state's groups, which have the numbers and paths of now, adds the changes of their lists, and sets the part
+// that tells the rows that changed.
+fn set_groups<N: BootName>(
+    alloc: Global,
+    machine: &Machine<N>,
+    state: &mut TraceState,
+    spare: &mut Vec<ShownGroup>,
+    units: &mut Vec<u32>,
+    lists: &mut Part,
+    rows: &mut Part,
+) -> Result<(), AllocError>
+    requires { AreSameGroups state.old.groups (groups_shown machine.now) }
+    ensures state { OnOk result (state.new ≡ record state.old { groups = groups_shown machine.now }) }
+    ensures lists { OnOk result (AddsLists lists.old.is_first lists.new.is_first (string_bytes lists.old.text)
+        (string_bytes lists.new.text) (groups_list_changes state.old.groups (groups_shown machine.now))) }
+    ensures rows { OnOk result (HasItems (codes "groups") row_text rows.new
+        (rows_beyond state.old.groups (groups_shown machine.now))) }
+{
+    rows.clear();
+    state.swap_groups(spare);
+    let result = advance_groups(
+        alloc,
+        machine,
+        spare,
+        units,
+        &mut lists.is_first,
+        &mut lists.text,
+        &mut rows.is_first,
+        &mut rows.text,
+    );
+    state.swap_groups(spare);
+    result
+}
+
+// Adds the parts that tell of pins, stocks and rows.
+fn add_last_parts(
+    pins: &Part,
+    stocks: &Part,
+    rows: &Part,
+    text: &mut String,
+) -> Result<(), AllocError>
+    ensures { OnOk result (string_bytes text.new
+        ≡ string_bytes text.old ++ (part_bytes pins.now ++ part_bytes stocks.now ++ part_bytes rows.now)) }
+{
+    pins.add_to(text)?;
+    stocks.add_to(text)?;
+    rows.add_to(text)
+}
