@@ -7,7 +7,7 @@ use Rattle.std.proofs.lemmas.Bool.{cond-true}
 use Rattle.std.proofs.lemmas.List.{take_all}
 use Rattle.trace_lines.specs.declared.lists.ListName.{ListName}
 use Rattle.trace_lines.specs.TraceState.{KnownShownCpu}
-use Rattle.trace_lines.specs.Changes.{came_of, changed_list, cpu_list_changes, cpus_list_changes, cpus_pin_changes, left_of, list_change, pin_changes, stock_change, stock_changes}
+use Rattle.trace_lines.specs.Changes.{added_of, changed_list, cpu_list_changes, cpus_list_changes, cpus_pin_changes, removed_of, list_change, pin_changes, stock_change, stock_changes}
 use Rattle.trace_lines.specs.Parts.{list_change_text, pin_change_text, stock_change_text}
 use Rattle.trace_lines.proofs.Items.{Goes, goes_end, goes_on, goes_start}
 use Rattle.trace_lines.proofs.Steps.{cpus_end, cpus_step, lists_none, no_more, pins_none, pins_same, stocks_none}
@@ -16,17 +16,17 @@ use Rattle.shown_states.specs.Advancing.{AddsCpu, AddsCpus}
 
 -- ---- a list that stays
 
-left_same : (l : List ℕ) → left_of l l ≡ []
+left_same : (l : List ℕ) → removed_of l l ≡ []
 left_same [] = refl
-left_same (n ∷ l) = cond-true (n == n) (left_of l l) (n ∷ left_of l (n ∷ l)) (eq-eqb n n refl) ∙ left_same l
+left_same (n ∷ l) = cond-true (n == n) (removed_of l l) (n ∷ removed_of l (n ∷ l)) (eq-eqb n n refl) ∙ left_same l
 
-came_same : (l : List ℕ) → came_of l l ≡ []
+came_same : (l : List ℕ) → added_of l l ≡ []
 came_same [] = refl
-came_same (n ∷ l) = cond-true (n == n) (came_of l l) (came_of l (n ∷ l)) (eq-eqb n n refl) ∙ came_same l
+came_same (n ∷ l) = cond-true (n == n) (added_of l l) (added_of l (n ∷ l)) (eq-eqb n n refl) ∙ came_same l
 
 pub list_same : (name : ListName) (l : List ℕ) → list_change name l l ≡ []
 list_same name l =
-    ap (λ (x : List ℕ). changed_list (record { name = name; left = x; came = came_of l l })) (left_same l)
+    ap (λ (x : List ℕ). changed_list (record { name = name; left = x; came = added_of l l })) (left_same l)
     ∙ ap (λ (x : List ℕ). changed_list (record { name = name; left = []; came = x })) (came_same l)
 
 pub list_stays : (name : ListName) (before after : List ℕ) → before ≡ after → list_change name before after ≡ []

@@ -7,8 +7,8 @@ use Rattle.std.proofs.lemmas.Bool.{eqb-true, eq-eqb, cond-true, cond-false, case
 use Rattle.trace_lines.specs.declared.lists.ListName.{ListName}
 use Rattle.trace_lines.specs.declared.lists.ListName.TheVariants.{Listed, Fresh, Back, Inactive, Active}
 use Rattle.trace_lines.specs.TraceState.{KnownTraceState, KnownShownGroup, KnownShownCpu}
-use Rattle.trace_lines.specs.Changes.{ListChange, active_of, came_of, cpu_list_changes, cpus_list_changes, group_list_changes, group_numbered}
-use Rattle.trace_lines.specs.Changes.{groups_list_changes, has_entry, inactive_of, left_of, list_change, list_changes}
+use Rattle.trace_lines.specs.Changes.{ListChange, active_of, added_of, cpu_list_changes, cpus_list_changes, group_list_changes, group_numbered}
+use Rattle.trace_lines.specs.Changes.{groups_list_changes, has_entry, inactive_of, removed_of, list_change, list_changes}
 use Rattle.trace_lines.specs.Rebuilding.{AreDistinct, AreNumbered, cpu_from, has_number, is_same_name, kept_of, list_after, list_named}
 use Rattle.trace_lines.proofs.RebuiltGroups.{either, head_isnt}
 
@@ -28,15 +28,15 @@ en_tests a b lt = grind arith
 -- ---- one list
 
 -- what left a list was in it
-left_among : (x : ℕ) (old new : List ℕ) → has_number old x ≡ false → has_number (left_of old new) x ≡ false
+left_among : (x : ℕ) (old new : List ℕ) → has_number old x ≡ false → has_number (removed_of old new) x ≡ false
 left_among x [] new e = refl
 left_among x (o ∷ old) [] e = e
 left_among x (o ∷ old) (n ∷ new) e =
     let parts = or_false (o == x) (has_number old x) e in
     either (o == n)
-    (λ is. ap (λ (l : List ℕ). has_number l x) (cond-true (o == n) (left_of old new) (o ∷ left_of old (n ∷ new)) is) ∙ left_among x old new parts.1)
-    (λ isnt. ap (λ (l : List ℕ). has_number l x) (cond-false (o == n) (left_of old new) (o ∷ left_of old (n ∷ new)) isnt)
-    ∙ both_false (o == x) (has_number (left_of old (n ∷ new)) x) parts.0 (left_among x old (n ∷ new) parts.1))
+    (λ is. ap (λ (l : List ℕ). has_number l x) (cond-true (o == n) (removed_of old new) (o ∷ removed_of old (n ∷ new)) is) ∙ left_among x old new parts.1)
+    (λ isnt. ap (λ (l : List ℕ). has_number l x) (cond-false (o == n) (removed_of old new) (o ∷ removed_of old (n ∷ new)) isnt)
+    ∙ both_false (o == x) (has_number (removed_of old (n ∷ new)) x) parts.0 (left_among x old (n ∷ new) parts.1))
 
 -- an entry that didn't leave is kept
 keeps_first : (left : List ℕ) (o : ℕ) (old : List ℕ) → has_number left o ≡ false → kept_of left (o ∷ old) ≡ o ∷ kept_of left old
@@ -49,22 +49,22 @@ keeps_none : (l : List ℕ) → kept_of l l ≡ []
 keeps_none [] = refl
 keeps_none (x ∷ l) = cond-true (x == x) (kept_of l l) (x ∷ kept_of (x ∷ l) l) (eq-eqb x x refl) ∙ keeps_none l
 
-pub kept_and_came : (old new : List ℕ) → AreDistinct old → kept_of (left_of old new) old ++ came_of old new ≡ new
+pub kept_and_came : (old new : List ℕ) → AreDistinct old → kept_of (removed_of old new) old ++ added_of old new ≡ new
 kept_and_came [] new all = refl
 kept_and_came (o ∷ old) [] all = append-nil (kept_of (o ∷ old) (o ∷ old)) ∙ keeps_none (o ∷ old)
 kept_and_came (o ∷ old) (n ∷ new) all = either (o == n)
     (λ is.
-    let stays : has_number (left_of old new) o ≡ false = left_among o old new all.0 in
-    ap (λ (l : List ℕ). kept_of l (o ∷ old) ++ came_of (o ∷ old) (n ∷ new)) (cond-true (o == n) (left_of old new) (o ∷ left_of old (n ∷ new)) is)
-    ∙ ap (λ (l : List ℕ). kept_of (left_of old new) (o ∷ old) ++ l) (cond-true (o == n) (came_of old new) (came_of old (n ∷ new)) is)
-    ∙ ap (λ (l : List ℕ). l ++ came_of old new) (keeps_first (left_of old new) o old stays)
+    let stays : has_number (removed_of old new) o ≡ false = left_among o old new all.0 in
+    ap (λ (l : List ℕ). kept_of l (o ∷ old) ++ added_of (o ∷ old) (n ∷ new)) (cond-true (o == n) (removed_of old new) (o ∷ removed_of old (n ∷ new)) is)
+    ∙ ap (λ (l : List ℕ). kept_of (removed_of old new) (o ∷ old) ++ l) (cond-true (o == n) (added_of old new) (added_of old (n ∷ new)) is)
+    ∙ ap (λ (l : List ℕ). l ++ added_of old new) (keeps_first (removed_of old new) o old stays)
     ∙ ap (λ (l : List ℕ). o ∷ l) (kept_and_came old new all.1)
     ∙ ap (λ (x : ℕ). x ∷ new) (eqb-true o n is))
     (λ isnt.
-    ap (λ (l : List ℕ). kept_of l (o ∷ old) ++ came_of (o ∷ old) (n ∷ new)) (cond-false (o == n) (left_of old new) (o ∷ left_of old (n ∷ new)) isnt)
-    ∙ ap (λ (l : List ℕ). kept_of (o ∷ left_of old (n ∷ new)) (o ∷ old) ++ l) (cond-false (o == n) (came_of old new) (came_of old (n ∷ new)) isnt)
-    ∙ ap (λ (l : List ℕ). l ++ came_of old (n ∷ new))
-    (cond-true (o == o) (kept_of (left_of old (n ∷ new)) old) (o ∷ kept_of (o ∷ left_of old (n ∷ new)) old) (eq-eqb o o refl))
+    ap (λ (l : List ℕ). kept_of l (o ∷ old) ++ added_of (o ∷ old) (n ∷ new)) (cond-false (o == n) (removed_of old new) (o ∷ removed_of old (n ∷ new)) isnt)
+    ∙ ap (λ (l : List ℕ). kept_of (o ∷ removed_of old (n ∷ new)) (o ∷ old) ++ l) (cond-false (o == n) (added_of old new) (added_of old (n ∷ new)) isnt)
+    ∙ ap (λ (l : List ℕ). l ++ added_of old (n ∷ new))
+    (cond-true (o == o) (kept_of (removed_of old (n ∷ new)) old) (o ∷ kept_of (o ∷ removed_of old (n ∷ new)) old) (eq-eqb o o refl))
     ∙ kept_and_came old (n ∷ new) all.1)
 
 -- a list that didn't change is the new one
@@ -90,31 +90,31 @@ pass : (xs ys : List ListChange) (name : ListName) (old : List ℕ) → has_name
 pass [] ys name old e = refl
 pass (x ∷ xs) ys name old e =
     let parts = or_false (is_same_name x.name name) (has_name xs name) e in
-    cond-false (is_same_name x.name name) (kept_of x.left old ++ x.came) (list_after (xs ++ ys) name old) parts.0 ∙ pass xs ys name old parts.1
+    cond-false (is_same_name x.name name) (kept_of x.removed old ++ x.added) (list_after (xs ++ ys) name old) parts.0 ∙ pass xs ys name old parts.1
 
 absent : (xs : List ListChange) (name : ListName) (old : List ℕ) → has_name xs name ≡ false → list_after xs name old ≡ old
 absent [] name old e = refl
 absent (x ∷ xs) name old e =
     let parts = or_false (is_same_name x.name name) (has_name xs name) e in
-    cond-false (is_same_name x.name name) (kept_of x.left old ++ x.came) (list_after xs name old) parts.0 ∙ absent xs name old parts.1
+    cond-false (is_same_name x.name name) (kept_of x.removed old ++ x.added) (list_after xs name old) parts.0 ∙ absent xs name old parts.1
 
 stop : (xs ys : List ListChange) (name : ListName) (old : List ℕ) → has_name ys name ≡ false → list_after (xs ++ ys) name old ≡ list_after xs name old
 stop [] ys name old e = absent ys name old e
 stop (x ∷ xs) ys name old e =
-    ap (λ (l : List ℕ). if is_same_name x.name name then kept_of x.left old ++ x.came else l) (stop xs ys name old e)
+    ap (λ (l : List ℕ). if is_same_name x.name name then kept_of x.removed old ++ x.added else l) (stop xs ys name old e)
 
 -- the change of one list
 change_is : (name : ListName) (old new : List ℕ) → is_same_name name name ≡ true → AreDistinct old → list_after (list_change name old new) name old ≡ new
-change_is name old new self all = either (has_entry (left_of old new) || has_entry (came_of old new))
+change_is name old new self all = either (has_entry (removed_of old new) || has_entry (added_of old new))
     (λ is.
     ap (λ (l : List ListChange). list_after l name old)
-    (cond-true (has_entry (left_of old new) || has_entry (came_of old new)) (record { name = name; left = left_of old new; came = came_of old new } ∷ []) [] is)
-    ∙ cond-true (is_same_name name name) (kept_of (left_of old new) old ++ came_of old new) old self
+    (cond-true (has_entry (removed_of old new) || has_entry (added_of old new)) (record { name = name; removed = removed_of old new; added = added_of old new } ∷ []) [] is)
+    ∙ cond-true (is_same_name name name) (kept_of (removed_of old new) old ++ added_of old new) old self
     ∙ kept_and_came old new all)
     (λ isnt.
     ap (λ (l : List ListChange). list_after l name old)
-    (cond-false (has_entry (left_of old new) || has_entry (came_of old new)) (record { name = name; left = left_of old new; came = came_of old new } ∷ []) [] isnt)
-    ∙ no_change old (left_of old new) (came_of old new) new (kept_and_came old new all) isnt)
+    (cond-false (has_entry (removed_of old new) || has_entry (added_of old new)) (record { name = name; removed = removed_of old new; added = added_of old new } ∷ []) [] isnt)
+    ∙ no_change old (removed_of old new) (added_of old new) new (kept_and_came old new all) isnt)
 
 other_name : (b : Bool) (c : ListChange) (name : ListName) → is_same_name c.name name ≡ false
     → has_name (cond b (c ∷ []) []) name ≡ false
@@ -123,8 +123,8 @@ other_name false c name e = refl
 
 change_isnt : (other name : ListName) (old new : List ℕ) → is_same_name other name ≡ false → has_name (list_change other old new) name ≡ false
 change_isnt other name old new e =
-    other_name (has_entry (left_of old new) || has_entry (came_of old new))
-    (record { name = other; left = left_of old new; came = came_of old new }) name e
+    other_name (has_entry (removed_of old new) || has_entry (added_of old new))
+    (record { name = other; removed = removed_of old new; added = added_of old new }) name e
 
 -- ---- the lists of CPUs
 

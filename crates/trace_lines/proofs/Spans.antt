@@ -5,7 +5,7 @@ use Rattle.std.specs.Prelude.{◌==◌, codes}
 use Rattle.std.proofs.lemmas.Bool.{cases_lt, cond-false, cond-true, false≢true}
 use Rattle.std.proofs.lemmas.List.{append-nil}
 use Rattle.trace_lines.specs.declared.numbers.Span.{Span}
-use Rattle.trace_lines.specs.Changes.{came_of, left_of}
+use Rattle.trace_lines.specs.Changes.{added_of, removed_of}
 use Rattle.trace_lines.specs.Parts.{commas, span_text, spans_of, with_number}
 use Rattle.trace_lines.specs.Writing.{AddsNumber, KeepsOne, has_first, spans_behind, with_span}
 use Rattle.trace_lines.proofs.Steps.{at_read, no_more}
@@ -84,21 +84,21 @@ spans_ok (Err x) span old text new all rest none so_far last = tt
 
 -- ---- what is kept of a list
 
-left_none : (old : List ℕ) → left_of old [] ≡ old
+left_none : (old : List ℕ) → removed_of old [] ≡ old
 left_none [] = refl
 left_none (o ∷ old) = refl
 
-came_none : (old : List ℕ) → came_of old [] ≡ []
+came_none : (old : List ℕ) → added_of old [] ≡ []
 came_none [] = refl
 came_none (o ∷ old) = refl
 
-left_out : (o : ℕ) (l rest : List ℕ) → has_first o l ≡ false → left_of (o ∷ rest) l ≡ o ∷ left_of rest l
+left_out : (o : ℕ) (l rest : List ℕ) → has_first o l ≡ false → removed_of (o ∷ rest) l ≡ o ∷ removed_of rest l
 left_out o [] rest e = ap (λ (l : List ℕ). o ∷ l) (sym (left_none rest))
-left_out o (n ∷ l) rest e = cond-false (o == n) (left_of rest l) (o ∷ left_of rest (n ∷ l)) e
+left_out o (n ∷ l) rest e = cond-false (o == n) (removed_of rest l) (o ∷ removed_of rest (n ∷ l)) e
 
-came_out : (o : ℕ) (l rest : List ℕ) → has_first o l ≡ false → came_of (o ∷ rest) l ≡ came_of rest l
+came_out : (o : ℕ) (l rest : List ℕ) → has_first o l ≡ false → added_of (o ∷ rest) l ≡ added_of rest l
 came_out o [] rest e = sym (came_none rest)
-came_out o (n ∷ l) rest e = cond-false (o == n) (came_of rest l) (came_of rest (n ∷ l)) e
+came_out o (n ∷ l) rest e = cond-false (o == n) (added_of rest l) (added_of rest (n ∷ l)) e
 
 first_within : (o : ℕ) (a : List ℕ) (k : ℕ) → has_first o (drop k a) ≡ true → k < length a
 first_within o a k e = elim (cases_lt k (length a)) [
@@ -115,12 +115,12 @@ keeps_same o a k span text e =
     let same : (o == x) ≡ true = sym (ap (λ (l : List ℕ). has_first o l) here) ∙ e in
     record {
       within = omega (arith, lt);
-      left_are = λ rest.
-          sym (ap (λ (l : List ℕ). text ++ spans_behind span (left_of (o ∷ rest) l)) here
-          ∙ ap (λ (l : List ℕ). text ++ spans_behind span l) (cond-true (o == x) (left_of rest (drop (k + 1) a)) (o ∷ left_of rest (x ∷ drop (k + 1) a)) same));
-      came_are = λ rest.
-          sym (ap (λ (l : List ℕ). came_of (o ∷ rest) l) here
-          ∙ cond-true (o == x) (came_of rest (drop (k + 1) a)) (came_of rest (x ∷ drop (k + 1) a)) same);
+      removed_are = λ rest.
+          sym (ap (λ (l : List ℕ). text ++ spans_behind span (removed_of (o ∷ rest) l)) here
+          ∙ ap (λ (l : List ℕ). text ++ spans_behind span l) (cond-true (o == x) (removed_of rest (drop (k + 1) a)) (o ∷ removed_of rest (x ∷ drop (k + 1) a)) same));
+      added_are = λ rest.
+          sym (ap (λ (l : List ℕ). added_of (o ∷ rest) l) here
+          ∙ cond-true (o == x) (added_of rest (drop (k + 1) a)) (added_of rest (x ∷ drop (k + 1) a)) same);
     }
 
 -- the next entry of the new list is another, or there is none: this one left
@@ -128,6 +128,6 @@ pub keeps_other : (o : ℕ) (a : List ℕ) (k : ℕ) (span : Option Span) (now :
     → AddsNumber o span now text new → KeepsOne o a k span (Some now) text new k
 keeps_other o a k span now text new le e adds = record {
   within = le;
-  left_are = λ rest. adds (left_of rest (drop k a)) ∙ ap (λ (l : List ℕ). text ++ spans_behind span l) (sym (left_out o (drop k a) rest e));
-  came_are = λ rest. sym (came_out o (drop k a) rest e);
+  removed_are = λ rest. adds (removed_of rest (drop k a)) ∙ ap (λ (l : List ℕ). text ++ spans_behind span l) (sym (left_out o (drop k a) rest e));
+  added_are = λ rest. sym (came_out o (drop k a) rest e);
 }

@@ -11,7 +11,7 @@ use Rattle.std.proofs.Common.{Option, Some, None, max, subst}
 use Rattle.trace_lines.specs.declared.lists.ListName.{ListName}
 use Rattle.trace_lines.specs.declared.lists.ListName.TheVariants.{Listed, Fresh, Back, Inactive, Active}
 use Rattle.trace_lines.specs.TraceState.{KnownTraceState}
-use Rattle.trace_lines.specs.Changes.{active_of, came_of, changed_list, group_list_changes, group_numbered, groups_list_changes, has_entry, inactive_of, is_change, left_of, list_change, list_changes}
+use Rattle.trace_lines.specs.Changes.{active_of, added_of, changed_list, group_list_changes, group_numbered, groups_list_changes, has_entry, inactive_of, is_change, removed_of, list_change, list_changes}
 use Rattle.trace_lines.specs.Parts.{list_change_text, part_text}
 use Rattle.trace_lines.specs.Writing.{AddsLists, AddsPins, count_changes, stop_text}
 use Rattle.std.specs.Str.{bytes_eq}
@@ -236,39 +236,39 @@ lists_ok r s s' b1 b2 old t1 t2 new cs cs' gs gs' ec ec' eg eg' one two stops =
     stops
 
 -- nothing left a list that is the same, and nothing came
-same_left : (l : List ℕ) → left_of l l ≡ []
+same_left : (l : List ℕ) → removed_of l l ≡ []
 same_left [] = refl
-same_left (n ∷ l) = cond-true (n == n) (left_of l l) (n ∷ left_of l (n ∷ l)) (eq-eqb n n refl) ∙ same_left l
+same_left (n ∷ l) = cond-true (n == n) (removed_of l l) (n ∷ removed_of l (n ∷ l)) (eq-eqb n n refl) ∙ same_left l
 
-same_came : (l : List ℕ) → came_of l l ≡ []
+same_came : (l : List ℕ) → added_of l l ≡ []
 same_came [] = refl
-same_came (n ∷ l) = cond-true (n == n) (came_of l l) (came_of l (n ∷ l)) (eq-eqb n n refl) ∙ same_came l
+same_came (n ∷ l) = cond-true (n == n) (added_of l l) (added_of l (n ∷ l)) (eq-eqb n n refl) ∙ same_came l
 
 pub list_equal : (name : ListName) (o n : List ℕ) → bytes_eq o n ≡ true → list_change name o n ≡ []
 list_equal name o n e =
     let same : o ≡ n = (bytes_eq-Decides o n).0 e in
     ap (λ (l : List ℕ). list_change name l n) same
-    ∙ ap (λ (l : List ℕ). changed_list (record { name = name; left = l; came = came_of n n })) (same_left n)
-    ∙ ap (λ (l : List ℕ). changed_list (record { name = name; left = []; came = l })) (same_came n)
+    ∙ ap (λ (l : List ℕ). changed_list (record { name = name; removed = l; added = added_of n n })) (same_left n)
+    ∙ ap (λ (l : List ℕ). changed_list (record { name = name; removed = []; added = l })) (same_came n)
 
 -- a list that isn't the same changed
-has_changed : (o n : List ℕ) → (o ≡ n → ⊥) → (has_entry (left_of o n) || has_entry (came_of o n)) ≡ true
+has_changed : (o n : List ℕ) → (o ≡ n → ⊥) → (has_entry (removed_of o n) || has_entry (added_of o n)) ≡ true
 has_changed [] [] ne = absurd (ne refl)
 has_changed [] (y ∷ n) ne = refl
 has_changed (x ∷ o) [] ne = refl
 has_changed (x ∷ o) (y ∷ n) ne = elim (cases_Bool (x == y)) [
   | inl same ↦
-      ap (λ (l : List ℕ). has_entry l || has_entry (came_of (x ∷ o) (y ∷ n))) (cond-true (x == y) (left_of o n) (x ∷ left_of o (y ∷ n)) same)
-      ∙ ap (λ (l : List ℕ). has_entry (left_of o n) || has_entry l) (cond-true (x == y) (came_of o n) (came_of o (y ∷ n)) same)
+      ap (λ (l : List ℕ). has_entry l || has_entry (added_of (x ∷ o) (y ∷ n))) (cond-true (x == y) (removed_of o n) (x ∷ removed_of o (y ∷ n)) same)
+      ∙ ap (λ (l : List ℕ). has_entry (removed_of o n) || has_entry l) (cond-true (x == y) (added_of o n) (added_of o (y ∷ n)) same)
       ∙ has_changed o n (λ e. ne (ap (λ (k : ℕ). k ∷ o) (eqb-true x y same) ∙ ap (λ (l : List ℕ). y ∷ l) e))
   | inr other ↦
-      ap (λ (l : List ℕ). has_entry l || has_entry (came_of (x ∷ o) (y ∷ n))) (cond-false (x == y) (left_of o n) (x ∷ left_of o (y ∷ n)) other)
+      ap (λ (l : List ℕ). has_entry l || has_entry (added_of (x ∷ o) (y ∷ n))) (cond-false (x == y) (removed_of o n) (x ∷ removed_of o (y ∷ n)) other)
 ]
 
 pub list_changed : (name : ListName) (o n : List ℕ) → bytes_eq o n ≡ false
-    → list_change name o n ≡ record { name = name; left = left_of o n; came = came_of o n } ∷ []
+    → list_change name o n ≡ record { name = name; removed = removed_of o n; added = added_of o n } ∷ []
 list_changed name o n e =
-    let change : ListChange = record { name = name; left = left_of o n; came = came_of o n } in
+    let change : ListChange = record { name = name; removed = removed_of o n; added = added_of o n } in
     cond-true (is_change change) (change ∷ []) [] (has_changed o n (λ same. false≢true (sym e ∙ (bytes_eq-Decides o n).1 same)))
 
 -- ---- counts of pins

@@ -17,11 +17,11 @@ use Rattle.trace_lines.specs.TraceState.{KnownTraceState, KnownShownGroup, Known
 
 -- ---- the kinds of change
 
--- what left a list, in the list's order, and what was added behind its newest entry
+-- what was removed from a list, in the list's order, and what was added behind its newest entry
 pub record ListChange : Type 0 where
   pub name : ListName
-  pub left : List ℕ
-  pub came : List ℕ
+  pub removed : List ℕ
+  pub added : List ℕ
 
 -- the unit that begins at this frame has these flags now
 pub record FlagChange : Type 0 where
@@ -143,17 +143,17 @@ flag_changes frame (old ∷ before) (new ∷ after) = flag_change frame old new 
 
 -- ---- lists
 
--- what isn't kept of a list: entries are kept as long as the new list has them in the same order from its oldest on
-abbrev pub left_of : (before after : List ℕ) → List ℕ
-left_of [] after = []
-left_of (old ∷ before) [] = old ∷ before
-left_of (old ∷ before) (new ∷ after) = if old == new then left_of before after else old ∷ left_of before (new ∷ after)
+-- what is removed from a list: entries are kept as long as the new list has them in the same order from its oldest on
+abbrev pub removed_of : (before after : List ℕ) → List ℕ
+removed_of [] after = []
+removed_of (old ∷ before) [] = old ∷ before
+removed_of (old ∷ before) (new ∷ after) = if old == new then removed_of before after else old ∷ removed_of before (new ∷ after)
 
 -- what the new list has behind the entries that are kept
-abbrev pub came_of : (before after : List ℕ) → List ℕ
-came_of [] after = after
-came_of (old ∷ before) [] = []
-came_of (old ∷ before) (new ∷ after) = if old == new then came_of before after else came_of before (new ∷ after)
+abbrev pub added_of : (before after : List ℕ) → List ℕ
+added_of [] after = after
+added_of (old ∷ before) [] = []
+added_of (old ∷ before) (new ∷ after) = if old == new then added_of before after else added_of before (new ∷ after)
 
 -- whether the list isn't empty
 abbrev pub has_entry : List ℕ → Bool
@@ -162,7 +162,7 @@ has_entry (entry ∷ entries) = true
 
 -- whether a list changed by this
 abbrev pub is_change : ListChange → Bool
-is_change change = has_entry change.left || has_entry change.came
+is_change change = has_entry change.removed || has_entry change.added
 
 -- the change, if the list changed by it
 abbrev pub changed_list : ListChange → List ListChange
@@ -171,7 +171,7 @@ changed_list change = filter is_change (change ∷ [])
 -- the change of one list, if it changed
 abbrev pub list_change : ListName → (before after : List ℕ) → List ListChange
 list_change name before after =
-    changed_list (record { name = name; left = left_of before after; came = came_of before after })
+    changed_list (record { name = name; removed = removed_of before after; added = added_of before after })
 
 -- the changes of a CPU's lists
 abbrev pub cpu_list_changes : ℕ → KnownShownCpu → KnownShownCpu → List ListChange

@@ -85,10 +85,10 @@ name_text (Back cpu) = codes "b" ++ decimal cpu
 name_text (Inactive group) = codes "i" ++ decimal group
 name_text (Active group) = codes "a" ++ decimal group
 
--- a list that changed: what left it, and what came
+-- a list that changed: what was removed from it, and what was added
 abbrev pub list_change_text : ListChange → List ℕ
 list_change_text change =
-    codes "[\"" ++ name_text change.name ++ codes "\"," ++ spans_text change.left ++ codes "," ++ spans_text change.came
+    codes "[\"" ++ name_text change.name ++ codes "\"," ++ spans_text change.removed ++ codes "," ++ spans_text change.added
     ++ codes "]"
 
 -- 1 for dirty, 2 for marked, 3 for both

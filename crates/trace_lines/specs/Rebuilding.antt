@@ -107,17 +107,17 @@ is_same_name (Inactive one) (Inactive other) = one == other
 is_same_name (Active one) (Active other) = one == other
 is_same_name _ _ = false
 
--- a list without the entries that left it, which are given in its order
-abbrev pub kept_of : (left old : List ℕ) → List ℕ
+-- a list without the entries that were removed, which are given in its order
+abbrev pub kept_of : (removed old : List ℕ) → List ℕ
 kept_of [] old = old
-kept_of (entry ∷ left) [] = []
-kept_of (entry ∷ left) (first ∷ old) = if entry == first then kept_of left old else first ∷ kept_of (entry ∷ left) old
+kept_of (entry ∷ removed) [] = []
+kept_of (entry ∷ removed) (first ∷ old) = if entry == first then kept_of removed old else first ∷ kept_of (entry ∷ removed) old
 
--- a list: without what left it, and with what came behind its newest entry; else the old one
+-- a list: without what was removed, and with what was added behind its newest entry; else the old one
 abbrev pub list_after : List ListChange → ListName → List ℕ → List ℕ
 list_after [] name old = old
 list_after (change ∷ changes) name old =
-    if is_same_name change.name name then kept_of change.left old ++ change.came else list_after changes name old
+    if is_same_name change.name name then kept_of change.removed old ++ change.added else list_after changes name old
 
 -- the pins of a CPU on a frame: those that changed, else the old ones
 abbrev pub pins_after : List PinChange → (cpu frame old : ℕ) → ℕ

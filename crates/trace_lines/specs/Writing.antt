@@ -1,7 +1,7 @@
 -- How an optional part is written, an item at a time.
 use Rattle.std.specs.Prelude.{◌≡◌, ◌+◌, ◌≤◌, ◌==◌, if◌then◌else◌, drop, length, ℕ, Bool, true, false, Option, Some}
 use Rattle.std.specs.Prelude.{None, List, [], ◌∷◌, ◌++◌, codes}
-use Rattle.trace_lines.specs.Changes.{FlagChange, ListChange, PinChange, StockChange, came_of, left_of, pin_change}
+use Rattle.trace_lines.specs.Changes.{FlagChange, ListChange, PinChange, StockChange, added_of, removed_of, pin_change}
 use Rattle.trace_lines.specs.TraceState.{KnownShownGroup}
 use Rattle.trace_lines.specs.declared.frames.FrameSpan.{FrameSpan}
 use Rattle.std.specs.Fmt.{decimal}
@@ -93,14 +93,14 @@ abbrev pub has_first : ℕ → List ℕ → Bool
 has_first number [] = false
 has_first number (first ∷ numbers) = number == first
 
--- One more entry of the old list was looked at: it is kept, so `now` is one more than `kept`, or it left, and was added
+-- One more entry of the old list was looked at: it is kept, so `now` is one more than `kept`, or it was removed, and is added
 -- behind the span that wasn't written yet.
 pub record KeepsOne (old : ℕ) (after : List ℕ) (kept : ℕ) (span next : Option Span) (text new : List ℕ) (now : ℕ)
     : Type 0 where
   pub within : now ≤ length after
-  pub left_are : (rest : List ℕ) → new ++ spans_behind next (left_of rest (drop now after))
-      ≡ text ++ spans_behind span (left_of (old ∷ rest) (drop kept after))
-  pub came_are : (rest : List ℕ) → came_of rest (drop now after) ≡ came_of (old ∷ rest) (drop kept after)
+  pub removed_are : (rest : List ℕ) → new ++ spans_behind next (removed_of rest (drop now after))
+      ≡ text ++ spans_behind span (removed_of (old ∷ rest) (drop kept after))
+  pub added_are : (rest : List ℕ) → added_of rest (drop now after) ≡ added_of (old ∷ rest) (drop kept after)
 
 -- the frames from this one on whose number of pins changed
 abbrev pub count_changes : (cpu frame : ℕ) → (before after : List ℕ) → List PinChange

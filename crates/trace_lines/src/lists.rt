@@ -3,9 +3,9 @@
 ghost use Rattle.std.specs.Prelude.{◌≡◌, ◌≤◌, ◌++◌, IfOk, None, codes, drop, length, max, ℕ};
 ghost use Rattle.std.specs.Option.{option_copied};
 ghost use Rattle.std.specs.String.{string_bytes};
-ghost use Rattle.trace_lines.specs.Changes.{active_of, came_of, cpu_list_changes, cpus_list_changes};
+ghost use Rattle.trace_lines.specs.Changes.{active_of, added_of, cpu_list_changes, cpus_list_changes};
 ghost use Rattle.trace_lines.specs.Changes.{group_list_changes, group_numbered, groups_list_changes, inactive_of};
-ghost use Rattle.trace_lines.specs.Changes.{left_of, list_change, list_changes};
+ghost use Rattle.trace_lines.specs.Changes.{removed_of, list_change, list_changes};
 ghost use Rattle.trace_lines.specs.Parts.{commas, list_change_text, name_text, part_text, span_text, spans_of};
 ghost use Rattle.trace_lines.specs.Parts.{spans_text};
 ghost use Rattle.trace_lines.specs.Writing.{AddsLists, KeepsOne, has_first};
@@ -211,7 +211,7 @@ pub fn write_list(
     write_change(name, before, after, text)
 }
 
-// Adds a list with what left it and what came.
+// Adds a list with what was removed from it and what was added.
 fn write_change(
     name: ListName,
     before: &[u32],
@@ -220,36 +220,36 @@ fn write_change(
 ) -> Result<(), AllocError>
     ensures { IfOk result (λ _. string_bytes text.new ≡ string_bytes text.old ++ list_change_text (record {
       name = name;
-      left = left_of before.now after.now;
-      came = came_of before.now after.now;
+      removed = removed_of before.now after.now;
+      added = added_of before.now after.now;
     })) }
 {
     write_front(name, text)?;
-    let kept = write_left(before, after, text)?;
+    let kept = write_removed(before, after, text)?;
     text.push(',')?;
     write_number_spans(&after[kept..], text)?;
     text.push(']')
 }
 
-// Adds what left a list, and returns how many entries are kept.
-fn write_left(before: &[u32], after: &[u32], text: &mut String) -> Result<usize, AllocError>
+// Adds what was removed from a list, and returns how many entries are kept.
+fn write_removed(before: &[u32], after: &[u32], text: &mut String) -> Result<usize, AllocError>
     ensures text { IfOk result (λ _. string_bytes text.new
-        ≡ string_bytes text.old ++ spans_text (left_of before.now after.now)) }
+        ≡ string_bytes text.old ++ spans_text (removed_of before.now after.now)) }
     ensures kept { IfOk result (λ kept. (kept ≤ length after.now)
-        × (drop kept after.now ≡ came_of before.now after.now)) }
+        × (drop kept after.now ≡ added_of before.now after.now)) }
 {
     text.push('[')?;
-    let kept = add_left(before, after, text)?;
+    let kept = add_removed(before, after, text)?;
     text.push(']')?;
     Ok(kept)
 }
 
-// Adds the spans of what left a list, and returns how many entries are kept.
-fn add_left(before: &[u32], after: &[u32], text: &mut String) -> Result<usize, AllocError>
+// Adds the spans of what was removed from a list, and returns how many entries are kept.
+fn add_removed(before: &[u32], after: &[u32], text: &mut String) -> Result<usize, AllocError>
     ensures text { IfOk result (λ _. string_bytes text.new
-        ≡ string_bytes text.old ++ commas span_text (spans_of (left_of before.now after.now))) }
+        ≡ string_bytes text.old ++ commas span_text (spans_of (removed_of before.now after.now))) }
     ensures kept { IfOk result (λ kept. (kept ≤ length after.now)
-        × (drop kept after.now ≡ came_of before.now after.now)) }
+        × (drop kept after.now ≡ added_of before.now after.now)) }
 {
     let mut kept = 0;
     let mut span = None;

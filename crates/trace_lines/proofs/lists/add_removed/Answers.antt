@@ -1,9 +1,9 @@
 use Rattle.std.proofs.Common.{◌≡◌, ◌∙◌, ◌+◌, ◌∷◌, ◌++◌, List, ℕ, ap, drop, get_or, sym}
 use Rattle.std.specs.String.{string_bytes}
-use Rattle.trace_lines.specs.Changes.{came_of, left_of}
+use Rattle.trace_lines.specs.Changes.{added_of, removed_of}
 use Rattle.trace_lines.specs.Writing.{spans_behind}
 use Rattle.trace_lines.proofs.Steps.{at_read}
-use Rattle.trace_lines.proofs.lists.add_left.Goals as goal
+use Rattle.trace_lines.proofs.lists.add_removed.Goals as goal
 
 pub loop-old-preserved : goal.loop-old-preserved
 loop-old-preserved c =
@@ -12,9 +12,9 @@ loop-old-preserved c =
     = at_read c.args.before.now c.loop-old.old-index 0 c.loop-old-test.true in
     record {
       within = c.in_ok-kept.ensures.within;
-      left = c.in_ok-kept.ensures.left_are rest
-          ∙ ap (λ (l : List ℕ). string_bytes c.loop-old.text ++ spans_behind c.loop-old.span (left_of l (drop c.loop-old.kept c.args.after.now))) (sym here)
-          ∙ c.loop-old.invariant.left;
-      came = c.in_ok-kept.ensures.came_are rest
-          ∙ ap (λ (l : List ℕ). came_of l (drop c.loop-old.kept c.args.after.now)) (sym here) ∙ c.loop-old.invariant.came;
+      removed = c.in_ok-kept.ensures.removed_are rest
+          ∙ ap (λ (l : List ℕ). string_bytes c.loop-old.text ++ spans_behind c.loop-old.span (removed_of l (drop c.loop-old.kept c.args.after.now))) (sym here)
+          ∙ c.loop-old.invariant.removed;
+      added = c.in_ok-kept.ensures.added_are rest
+          ∙ ap (λ (l : List ℕ). added_of l (drop c.loop-old.kept c.args.after.now)) (sym here) ∙ c.loop-old.invariant.added;
     }
