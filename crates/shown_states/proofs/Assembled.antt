@@ -13,7 +13,7 @@ use Rattle.cpu_part.specs.Cpus.{KnownCpu}
 use Rattle.trace_lines.specs.declared.lists.ListName.TheVariants.{Inactive, Active}
 use Rattle.trace_lines.specs.declared.trace_state.Events.{Events}
 use Rattle.trace_lines.specs.declared.trace_state.Flags.{Flags}
-use Rattle.trace_lines.specs.declared.trace_state.Row.{Row}
+use Rattle.trace_lines.specs.declared.trace_state.GroupRow.{GroupRow}
 use Rattle.trace_lines.specs.TraceState.{KnownShownGroup, KnownTraceState}
 use Rattle.trace_lines.specs.Changes.{ListChange, active_of, are_same_events, are_same_flags, changes, count_change, cpus_list_changes, cpus_pin_changes, flag_changes, frame_spans, group_list_changes, group_numbered, groups_list_changes, has_row, inactive_of, is_same_flag, is_same_limit, is_same_row, is_unchanged, list_change, list_changes, most_groups, numbers_of, rows_beyond, stock_changes}
 use Rattle.trace_lines.specs.Parts.{changes_text, counts_part, first_parts_text, flag_change_text, frame_span_text, last_parts_text, list_change_text, made_text, part_text, pin_change_text, row_text, stock_change_text}
@@ -105,7 +105,7 @@ same_events e =
     (and_from (e.max == e.max) (e.oom == e.oom) (eq-eqb e.max e.max refl) (eq-eqb e.oom e.oom refl))
     (and_from (e.oom_kill == e.oom_kill) (e.oom_group_kill == e.oom_group_kill) (eq-eqb e.oom_kill e.oom_kill refl) (eq-eqb e.oom_group_kill e.oom_group_kill refl))
 
-same_row : (r : Row) → is_same_row r r ≡ true
+same_row : (r : GroupRow) → is_same_row r r ≡ true
 same_row r =
     and_from ((is_same_limit r.max r.max && r.current == r.current) && (r.peak == r.peak && are_same_events r.events r.events))
     (are_same_events r.events_local r.events_local && (is_same_flag r.is_killed r.is_killed && is_same_flag r.oom_group r.oom_group))

@@ -7,7 +7,7 @@ use Rattle.group_tree.specs.Groups.{is_oom_group, limit_of, path_of}
 use Rattle.group_charge.specs.Charges.{current_of, events_local_of, events_of, peak_of}
 use Rattle.lru_lists.specs.declared.record.Entry.{Entry}
 use Rattle.trace_lines.specs.declared.trace_state.Events.{Events}
-use Rattle.trace_lines.specs.declared.trace_state.Row.{Row}
+use Rattle.trace_lines.specs.declared.trace_state.GroupRow.{GroupRow}
 use Rattle.trace_lines.specs.TraceState.{KnownShownGroup}
 use Rattle.mem_machine.specs.Machines.{KnownMachine, active_in, inactive_in, is_killed}
 
@@ -21,7 +21,7 @@ events_shown counts = record {
 }
 
 -- the numbers of the group
-abbrev pub row_shown : KnownMachine → ℕ → Row
+abbrev pub row_shown : KnownMachine → ℕ → GroupRow
 row_shown machine group = record {
   max = limit_of machine.ledger.groups group;
   current = current_of machine.ledger group;

@@ -11,7 +11,7 @@ use group_tree::group::{GroupId, MAX_GROUPS};
 use lru_lists::record::LruList;
 use mem_machine::Machine;
 use std::alloc::{AllocError, Global};
-use trace_lines::trace_state::{Events, Row, ShownGroup};
+use trace_lines::trace_state::{Events, GroupRow, ShownGroup};
 
 // All groups, by their numbers.
 pub(crate) fn show_groups<N: BootName>(
@@ -62,7 +62,7 @@ fn show_group<N: BootName>(
 }
 
 // The numbers of a group that exists.
-fn show_row<N: BootName>(machine: &Machine<N>, group: GroupId) -> Row
+fn show_row<N: BootName>(machine: &Machine<N>, group: GroupId) -> GroupRow
     requires { IsTrue (has_group machine.now.ledger.groups group) }
     ensures { result ≡ row_shown machine.now group }
 {
@@ -70,13 +70,13 @@ fn show_row<N: BootName>(machine: &Machine<N>, group: GroupId) -> Row
 }
 
 // The numbers of a group that exists and has this memory.oom.group.
-pub(crate) fn row_with<N: BootName>(machine: &Machine<N>, group: GroupId, oom_group: bool) -> Row
+pub(crate) fn row_with<N: BootName>(machine: &Machine<N>, group: GroupId, oom_group: bool) -> GroupRow
     requires there { IsTrue (has_group machine.now.ledger.groups group) }
     requires flag { oom_group ≡ is_oom_group machine.now.ledger.groups group }
     ensures { result ≡ row_shown machine.now group }
 {
     let charges = machine.charges();
-    Row {
+    GroupRow {
         max: charges.max(group),
         current: charges.current(group),
         peak: charges.peak(group),

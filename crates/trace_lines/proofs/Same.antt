@@ -5,7 +5,7 @@ use Rattle.std.proofs.lemmas.Bool.{and_parts, eqb-true, false≢true}
 use Rattle.trace_lines.specs.declared.place.ShownPlace.{ShownPlace}
 use Rattle.trace_lines.specs.declared.place.ShownPlace.TheVariants.{Free, Listed, Charged}
 use Rattle.trace_lines.specs.declared.trace_state.Events.{Events}
-use Rattle.trace_lines.specs.declared.trace_state.Row.{Row}
+use Rattle.trace_lines.specs.declared.trace_state.GroupRow.{GroupRow}
 use Rattle.trace_lines.specs.declared.trace_state.Flags.{Flags}
 use Rattle.trace_lines.specs.declared.trace_state.ShownStock.{ShownStock}
 use Rattle.trace_lines.specs.declared.trace_state.ShownCounts.{ShownCounts}
@@ -54,7 +54,7 @@ same_events f g e =
       oom_group_kill = eqb-true f.oom_group_kill g.oom_group_kill two.1 k;
     }
 
-pub same_row : (f g : Row) → is_same_row f g ≡ true → f ≡ g
+pub same_row : (f g : GroupRow) → is_same_row f g ≡ true → f ≡ g
 same_row f g e =
     let front = (is_same_limit f.max g.max && f.current == g.current) && (f.peak == g.peak && are_same_events f.events g.events) in
     let marks = is_same_flag f.is_killed g.is_killed && is_same_flag f.oom_group g.oom_group in

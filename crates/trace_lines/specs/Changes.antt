@@ -5,7 +5,7 @@ use Rattle.std.specs.List.{filter, find, flat_map, list_any, range_with_len, sum
 use Rattle.std.specs.Str.{bytes_eq}
 use Rattle.trace_lines.specs.declared.place.ShownPlace.{ShownPlace}
 use Rattle.trace_lines.specs.declared.trace_state.Events.{Events}
-use Rattle.trace_lines.specs.declared.trace_state.Row.{Row}
+use Rattle.trace_lines.specs.declared.trace_state.GroupRow.{GroupRow}
 use Rattle.trace_lines.specs.declared.trace_state.Flags.{Flags}
 use Rattle.trace_lines.specs.declared.trace_state.ShownStock.{ShownStock}
 use Rattle.trace_lines.specs.declared.trace_state.ShownCounts.{ShownCounts}
@@ -76,7 +76,7 @@ are_same_events one other =
     && (one.oom_kill == other.oom_kill && one.oom_group_kill == other.oom_group_kill)
 
 -- whether the two rows have the same numbers
-abbrev pub is_same_row : Row → Row → Bool
+abbrev pub is_same_row : GroupRow → GroupRow → Bool
 is_same_row one other =
     ((is_same_limit one.max other.max && one.current == other.current)
     && (one.peak == other.peak && are_same_events one.events other.events))

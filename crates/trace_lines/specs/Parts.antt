@@ -6,7 +6,7 @@ use Rattle.std.specs.Fmt.{decimal}
 use Rattle.trace_lines.specs.declared.place.ShownPlace.{ShownPlace}
 use Rattle.trace_lines.specs.declared.place.ShownPlace.TheVariants.{Free, Listed, Charged}
 use Rattle.trace_lines.specs.declared.trace_state.Events.{Events}
-use Rattle.trace_lines.specs.declared.trace_state.Row.{Row}
+use Rattle.trace_lines.specs.declared.trace_state.GroupRow.{GroupRow}
 use Rattle.trace_lines.specs.declared.trace_state.Flags.{Flags}
 use Rattle.trace_lines.specs.declared.trace_state.ShownCounts.{ShownCounts}
 use Rattle.trace_lines.specs.declared.numbers.Span.{Span}
@@ -112,7 +112,7 @@ stock_change_text change =
     ++ number_text change.stock.pages ++ codes "]"
 
 -- the limit, the usage and the peak
-abbrev pub usage_text : Row → List ℕ
+abbrev pub usage_text : GroupRow → List ℕ
 usage_text row = codes "," ++ number_text row.max ++ (codes "," ++ decimal row.current)
     ++ (codes "," ++ decimal row.peak)
 
@@ -122,11 +122,11 @@ events_text events = codes "," ++ decimal events.max ++ (codes "," ++ decimal ev
     ++ (codes "," ++ decimal events.oom_kill)
 
 -- whether the group was killed, and its memory.oom.group
-abbrev pub marks_text : Row → List ℕ
+abbrev pub marks_text : GroupRow → List ℕ
 marks_text row = codes "," ++ flag_text row.is_killed ++ codes "," ++ flag_text row.oom_group
 
 -- how often a group was killed as a whole: in the subtree, and the group itself
-abbrev pub group_kills_text : Row → List ℕ
+abbrev pub group_kills_text : GroupRow → List ℕ
 group_kills_text row =
     (codes "," ++ decimal row.events.oom_group_kill) ++ (codes "," ++ decimal row.events_local.oom_group_kill)
     ++ codes "]"

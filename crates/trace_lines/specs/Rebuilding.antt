@@ -5,7 +5,7 @@ use Rattle.std.specs.List.{list_any}
 use Rattle.std.specs.Option.{option_map}
 use Rattle.trace_lines.specs.declared.place.ShownPlace.{ShownPlace}
 use Rattle.trace_lines.specs.declared.place.ShownPlace.TheVariants.{Free}
-use Rattle.trace_lines.specs.declared.trace_state.Row.{Row}
+use Rattle.trace_lines.specs.declared.trace_state.GroupRow.{GroupRow}
 use Rattle.trace_lines.specs.declared.trace_state.Flags.{Flags}
 use Rattle.trace_lines.specs.declared.trace_state.ShownStock.{ShownStock}
 use Rattle.trace_lines.specs.declared.trace_state.ShownCounts.{ShownCounts}
@@ -23,7 +23,7 @@ pub record Facts : Type 0 where
   pub place : ℕ → ShownPlace
   pub flags : ℕ → Flags
   pub path : ℕ → Option (List ℕ)
-  pub row : ℕ → Option Row
+  pub row : ℕ → Option GroupRow
   pub listed : ListName → List ℕ
   pub pins : (cpu frame : ℕ) → ℕ
   pub stock : ℕ → Option ShownStock
@@ -51,7 +51,7 @@ abbrev pub path_of : Option KnownShownGroup → Option (List ℕ)
 path_of group = option_map (λ known. known.path) group
 
 -- the row of a group
-abbrev pub row_of : Option KnownShownGroup → Option Row
+abbrev pub row_of : Option KnownShownGroup → Option GroupRow
 row_of group = option_map (λ known. known.row) group
 
 -- the list of this name

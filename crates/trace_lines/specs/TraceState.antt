@@ -1,7 +1,7 @@
 -- What is shown of a state, as plain values.
 use Rattle.std.specs.Prelude.{ℕ, Option, List}
 use Rattle.trace_lines.specs.declared.place.ShownPlace.{ShownPlace}
-use Rattle.trace_lines.specs.declared.trace_state.Row.{Row}
+use Rattle.trace_lines.specs.declared.trace_state.GroupRow.{GroupRow}
 use Rattle.trace_lines.specs.declared.trace_state.Flags.{Flags}
 use Rattle.trace_lines.specs.declared.trace_state.ShownStock.{ShownStock}
 use Rattle.trace_lines.specs.declared.trace_state.ShownCounts.{ShownCounts}
@@ -10,7 +10,7 @@ use Rattle.trace_lines.specs.declared.trace_state.ShownCounts.{ShownCounts}
 pub record KnownShownGroup : Type 0 where
   pub number : ℕ
   pub path : List ℕ
-  pub row : Row
+  pub row : GroupRow
   pub inactive : List ℕ
   pub active : List ℕ
 

@@ -13,7 +13,7 @@ ghost use Rattle.trace_lines.specs.Writing.{AddsGone, AddsMade, AddsRows};
 use crate::numbers::{flag_word, push_behind, push_decimal, write_number};
 use crate::parts::{push_start, push_stop};
 use crate::strings::write_string;
-use crate::trace_state::{Events, Row, ShownGroup};
+use crate::trace_state::{Events, GroupRow, ShownGroup};
 use std::alloc::AllocError;
 
 // Adds the part that tells which groups are gone.
@@ -157,7 +157,7 @@ fn is_same_group(one: &ShownGroup, other: &ShownGroup) -> bool
 }
 
 /// Whether the two rows have the same numbers.
-pub fn is_same_row(one: &Row, other: &Row) -> bool
+pub fn is_same_row(one: &GroupRow, other: &GroupRow) -> bool
     ensures { result ≡ is_same_row one.now other.now }
 {
     is_same_limit(one.max, other.max)
@@ -226,7 +226,7 @@ fn write_row_front(group: &ShownGroup, text: &mut String) -> Result<(), AllocErr
 }
 
 // Adds the limit, the usage and the peak.
-fn write_usage(row: &Row, text: &mut String) -> Result<(), AllocError>
+fn write_usage(row: &GroupRow, text: &mut String) -> Result<(), AllocError>
     ensures { IfOk result (λ _. string_bytes text.new ≡ string_bytes text.old ++ usage_text row.now) }
 {
     text.push(',')?;
@@ -245,7 +245,7 @@ fn write_events(events: &Events, text: &mut String) -> Result<(), AllocError>
 }
 
 // Adds whether the group was killed, and its memory.oom.group.
-fn write_marks(row: &Row, text: &mut String) -> Result<(), AllocError>
+fn write_marks(row: &GroupRow, text: &mut String) -> Result<(), AllocError>
     ensures { IfOk result (λ _. string_bytes text.new ≡ string_bytes text.old ++ marks_text row.now) }
 {
     text.push(',')?;
@@ -255,7 +255,7 @@ fn write_marks(row: &Row, text: &mut String) -> Result<(), AllocError>
 }
 
 // Adds how often a group was killed as a whole, below and here.
-fn write_group_kills(row: &Row, text: &mut String) -> Result<(), AllocError>
+fn write_group_kills(row: &GroupRow, text: &mut String) -> Result<(), AllocError>
     ensures { IfOk result (λ _. string_bytes text.new ≡ string_bytes text.old ++ group_kills_text row.now) }
 {
     push_behind(',', row.events.oom_group_kill, text)?;

@@ -23,7 +23,7 @@ pub struct Events {
 
 /// The numbers of a group. Sizes are in pages of 4,096 bytes.
 #[derive(Clone, Copy, Debug, PartialEq, Eq)]
-pub struct Row {
+pub struct GroupRow {
     /// The limit of the group's usage, or None if it has no limit.
     pub max: Option<u32>,
     /// The usage of the group and of all groups below it.
@@ -71,7 +71,7 @@ pub struct ShownCounts {
 pub struct ShownGroup {
     pub(crate) number: u32,
     pub(crate) path: PathText,
-    pub(crate) row: Row,
+    pub(crate) row: GroupRow,
     pub(crate) inactive: Vec<u32>,
     pub(crate) active: Vec<u32>,
 }
@@ -93,7 +93,7 @@ impl ShownGroup {
     pub fn new(
         number: u32,
         path: PathText,
-        row: Row,
+        row: GroupRow,
         inactive: Vec<u32>,
         active: Vec<u32>,
     ) -> ShownGroup
@@ -129,7 +129,7 @@ impl ShownGroup {
     }
 
     /// Its numbers.
-    pub fn row(&self) -> &Row
+    pub fn row(&self) -> &GroupRow
         ensures { result.now ≡ self.now.row }
     {
         &self.row
@@ -150,7 +150,7 @@ impl ShownGroup {
     }
 
     /// Sets its numbers.
-    pub fn set_row(&mut self, row: Row)
+    pub fn set_row(&mut self, row: GroupRow)
         ensures { self.new ≡ record self.old { row = row } }
     {
         self.row = row;
