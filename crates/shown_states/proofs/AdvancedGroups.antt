@@ -10,7 +10,7 @@ use Rattle.std.proofs.lemmas.List.{map-append}
 use Rattle.std.proofs.lemmas.Slice.Eq.{bytes_eq-Decides}
 use Rattle.group_tree.specs.Groups.{path_of}
 use Rattle.trace_lines.specs.TraceState.{KnownShownGroup}
-use Rattle.trace_lines.specs.Changes.{groups_beyond, has_group, is_same_group}
+use Rattle.trace_lines.specs.Changes.{groups_not_in, has_group, is_same_group}
 use Rattle.mem_machine.specs.Machines.{KnownMachine}
 use Rattle.shown_states.specs.Groups.{AreSameGroups, HasThisGroup, group_if_there, group_now, group_shown, groups_below, groups_shown}
 
@@ -47,10 +47,10 @@ none_left has (this ∷ these) (group ∷ groups) all same =
     ap (λ (b : Bool). cond (not b) (group ∷ filter (λ other. not (has other)) groups) (filter (λ other. not (has other)) groups)) here
     ∙ none_left has these groups (λ other among. all other (or_right (is_same_group this other) (has_group these other) among)) same.2
 
-pub none_beyond : (these groups : List KnownShownGroup) → AreSameGroups these groups → groups_beyond these groups ≡ []
+pub none_beyond : (these groups : List KnownShownGroup) → AreSameGroups these groups → groups_not_in these groups ≡ []
 none_beyond these groups same = none_left (λ group. has_group these group) these groups (λ group among. among) same
 
-pub none_beyond_back : (these groups : List KnownShownGroup) → AreSameGroups these groups → groups_beyond groups these ≡ []
+pub none_beyond_back : (these groups : List KnownShownGroup) → AreSameGroups these groups → groups_not_in groups these ≡ []
 none_beyond_back these groups same = none_beyond groups these (same_back these groups same)
 
 -- ---- ascending numbers

@@ -7,7 +7,7 @@ use Rattle.std.specs.Str.{bytes_eq}
 use Rattle.std.proofs.lemmas.Bool.{and_left, cases_eq, cond-false, cond-true, ne_eqb, or_from}
 use Rattle.std.proofs.lemmas.List.{append-nil, drop_all, drop_more, get_or_at, length-map, length-take, take_all}
 use Rattle.trace_lines.specs.TraceState.{KnownShownGroup}
-use Rattle.trace_lines.specs.Changes.{ListChange, group_list_changes, group_numbered, groups_list_changes, has_row, is_same_row, is_unchanged, rows_beyond}
+use Rattle.trace_lines.specs.Changes.{ListChange, group_list_changes, group_numbered, groups_list_changes, has_row, is_same_row, is_unchanged, rows_not_in}
 use Rattle.mem_machine.specs.Machines.{KnownMachine}
 use Rattle.shown_states.specs.Groups.{HasThisGroup, group_now}
 use Rattle.shown_states.proofs.AdvancedGroups.{AreThere, Ascend}
@@ -52,7 +52,7 @@ module _ (machine : KnownMachine) where
 
   -- its row, if that changed
   abbrev pub rows_of : KnownShownGroup → List KnownShownGroup
-  rows_of group = rows_beyond (group ∷ []) (group_now machine group ∷ [])
+  rows_of group = rows_not_in (group ∷ []) (group_now machine group ∷ [])
 
   -- ---- lists
 
@@ -137,7 +137,7 @@ module _ (machine : KnownMachine) where
       ∙ kept_cons (not (is_unchanged group new || false)) new rest
       ∙ ap (λ (l : List KnownShownGroup). rows_of group ++ l) (rows_from has (group.number + 1) high groups later_is ascend.1)
 
-  pub rows_all : (groups : List KnownShownGroup) → Ascend 0 64 groups → rows_beyond groups (map (group_now machine) groups) ≡ flat_map rows_of groups
+  pub rows_all : (groups : List KnownShownGroup) → Ascend 0 64 groups → rows_not_in groups (map (group_now machine) groups) ≡ flat_map rows_of groups
   rows_all groups ascend = rows_from (has_row groups) 0 64 groups (λ group le. refl) ascend
 
   -- ---- the group that is advanced next

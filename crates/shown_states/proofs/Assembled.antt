@@ -15,7 +15,7 @@ use Rattle.trace_lines.specs.declared.trace_state.Events.{Events}
 use Rattle.trace_lines.specs.declared.trace_state.Flags.{Flags}
 use Rattle.trace_lines.specs.declared.trace_state.GroupRow.{GroupRow}
 use Rattle.trace_lines.specs.TraceState.{KnownShownGroup, KnownTraceState}
-use Rattle.trace_lines.specs.Changes.{ListChange, active_of, are_same_events, are_same_flags, changes, count_change, cpus_list_changes, cpus_pin_changes, flag_changes, frame_spans, group_list_changes, group_numbered, groups_list_changes, has_row, inactive_of, is_same_flag, is_same_limit, is_same_row, is_unchanged, list_change, list_changes, most_groups, numbers_of, rows_beyond, stock_changes}
+use Rattle.trace_lines.specs.Changes.{ListChange, active_of, are_same_events, are_same_flags, changes, count_change, cpus_list_changes, cpus_pin_changes, flag_changes, frame_spans, group_list_changes, group_numbered, groups_list_changes, has_row, inactive_of, is_same_flag, is_same_limit, is_same_row, is_unchanged, list_change, list_changes, most_groups, numbers_of, rows_not_in, stock_changes}
 use Rattle.trace_lines.specs.Parts.{changes_text, counts_part, first_parts_text, flag_change_text, frame_span_text, last_parts_text, list_change_text, made_text, part_text, pin_change_text, row_text, stock_change_text}
 use Rattle.trace_lines.specs.Writing.{AddsLists, AddsRows}
 use Rattle.trace_lines.proofs.Items.{adds_both, adds_part}
@@ -50,7 +50,7 @@ changed before after =
     ++ part_text (codes "flags") flag_change_text (flag_changes 0 before.flags after.flags)
     ++ (part_text (codes "pins") pin_change_text (cpus_pin_changes 1 (length after.places) before.cpus after.cpus)
     ++ part_text (codes "stocks") stock_change_text (stock_changes 1 before.cpus after.cpus)
-    ++ part_text (codes "groups") row_text (rows_beyond before.groups after.groups))
+    ++ part_text (codes "groups") row_text (rows_not_in before.groups after.groups))
 
 changes_same : (before after : KnownTraceState) → AreSameGroups before.groups after.groups → changes_text (changes before after) ≡ changed before after
 unfolding changes_text first_parts_text last_parts_text
@@ -63,7 +63,7 @@ changes_same before after same =
     ++ part_text (codes "flags") flag_change_text (flag_changes 0 before.flags after.flags)
     ++ (part_text (codes "pins") pin_change_text (cpus_pin_changes 1 (length after.places) before.cpus after.cpus)
     ++ part_text (codes "stocks") stock_change_text (stock_changes 1 before.cpus after.cpus)
-    ++ part_text (codes "groups") row_text (rows_beyond before.groups after.groups))
+    ++ part_text (codes "groups") row_text (rows_not_in before.groups after.groups))
 
 places_of_frames : (machine : KnownMachine) (cpus : List KnownCpu) → length machine.frame_states ≡ length (places_shown machine cpus)
 places_of_frames machine cpus =
@@ -128,7 +128,7 @@ none_changed has (group ∷ groups) all =
     ap (λ (b : Bool). cond (not b) (group ∷ filter (λ other. not (has other)) groups) (filter (λ other. not (has other)) groups)) here
     ∙ none_changed has groups (λ other among. all other (or_right (is_unchanged group other) (has_row groups other) among))
 
-rows_quiet : (groups : List KnownShownGroup) → rows_beyond groups groups ≡ []
+rows_quiet : (groups : List KnownShownGroup) → rows_not_in groups groups ≡ []
 rows_quiet groups = none_changed (λ group. has_row groups group) groups (λ group among. among)
 
 same_self : (groups : List KnownShownGroup) → AreSameGroups groups groups
@@ -185,7 +185,7 @@ module _ (machine now : KnownMachine) (cpus others : List KnownCpu) (looked : no
           let stocks_are = part_whole (codes "stocks") stock_change_text parts.stocks (stock_changes 1 old.cpus to.cpus) has.stocks in
           let same : AreSameGroups old.groups to.groups = subst (λ (g : List KnownShownGroup). AreSameGroups old.groups g) groups (same_self old.groups) in
           let no_flags : flag_changes 0 old.flags to.flags ≡ [] = ap (λ (f : List Flags). flag_changes 0 old.flags f) (sym flags) ∙ flags_quiet 0 old.flags in
-          let no_rows : rows_beyond old.groups to.groups ≡ [] = ap (λ (g : List KnownShownGroup). rows_beyond old.groups g) (sym groups) ∙ rows_quiet old.groups in
+          let no_rows : rows_not_in old.groups to.groups ≡ [] = ap (λ (g : List KnownShownGroup). rows_not_in old.groups g) (sym groups) ∙ rows_quiet old.groups in
           let frames = part_text (codes "frames") frame_span_text (frame_spans 0 old.places to.places) in
           let lists = part_text (codes "lists") list_change_text (list_changes old to) in
           let pins = part_text (codes "pins") pin_change_text (cpus_pin_changes 1 (length to.places) old.cpus to.cpus) in
@@ -214,7 +214,7 @@ module _ (machine now : KnownMachine) (cpus others : List KnownCpu) (looked : no
           → HasCpus (length machine.frame_states) cpu_parts old.cpus to.cpus
           → AddsLists cpu_parts.lists.is_first lists.is_first (string_bytes cpu_parts.lists.text) (string_bytes lists.text) (groups_list_changes s2.groups (groups_shown now))
           → pins ≡ cpu_parts.pins → stocks ≡ cpu_parts.stocks
-          → HasItems (codes "groups") row_text rows (rows_beyond s2.groups (groups_shown now))
+          → HasItems (codes "groups") row_text rows (rows_not_in s2.groups (groups_shown now))
           → t0 ≡ [] → t1 ≡ t0 ++ part_text (codes "frames") frame_span_text (frame_spans 0 s3.places s4.places)
           → t2 ≡ t1 ++ part_bytes lists → t3 ≡ t2 ++ part_text (codes "flags") flag_change_text (flag_changes 0 s4.flags s5.flags)
           → OnOk r (t4 ≡ t3 ++ (part_bytes pins ++ part_bytes stocks ++ part_bytes rows))
@@ -236,9 +236,9 @@ module _ (machine now : KnownMachine) (cpus others : List KnownCpu) (looked : no
           let stocks_are : part_bytes stocks ≡ part_text (codes "stocks") stock_change_text (stock_changes 1 old.cpus to.cpus) =
           ap (λ (p : Part). part_bytes p) are_stocks
           ∙ part_whole (codes "stocks") stock_change_text cpu_parts.stocks (stock_changes 1 old.cpus to.cpus) has.stocks in
-          let rows_are : part_bytes rows ≡ part_text (codes "groups") row_text (rows_beyond old.groups to.groups) =
-          part_whole (codes "groups") row_text rows (rows_beyond s2.groups (groups_shown now)) has_rows
-          ∙ (λ i. part_text (codes "groups") row_text (rows_beyond (groups i) (after i))) in
+          let rows_are : part_bytes rows ≡ part_text (codes "groups") row_text (rows_not_in old.groups to.groups) =
+          part_whole (codes "groups") row_text rows (rows_not_in s2.groups (groups_shown now)) has_rows
+          ∙ (λ i. part_text (codes "groups") row_text (rows_not_in (groups i) (after i))) in
           let t1_is : t1 ≡ part_text (codes "frames") frame_span_text (frame_spans 0 old.places to.places) =
           one ∙ (λ i. none i ++ part_text (codes "frames") frame_span_text (frame_spans 0 (three i).places (four i).places)) in
           four_is ∙ (λ i. (three_is ∙ (λ j. (two ∙ (λ k. t1_is k ++ lists_are k)) j ++ part_text (codes "flags") flag_change_text (flag_changes 0 (four j).flags (all_advanced j).flags))) i
@@ -257,11 +257,11 @@ lists_swapped (Ok x) old from new now first next text after same is adds =
     (subst (λ (g : List KnownShownGroup). AddsLists first next text after (groups_list_changes g new)) same adds)
 
 pub rows_swapped : {T E : Type 0} (r : Result T E) (old from new now : List KnownShownGroup) (first next : Bool) (text after : List ℕ) → from ≡ old
-    → first ≡ true → text ≡ [] → OnOk r (new ≡ now) → OnOk r (AddsRows first next text after (rows_beyond from new))
-    → OnOk r (AddsRows true next [] after (rows_beyond old now))
+    → first ≡ true → text ≡ [] → OnOk r (new ≡ now) → OnOk r (AddsRows first next text after (rows_not_in from new))
+    → OnOk r (AddsRows true next [] after (rows_not_in old now))
 rows_swapped (Err x) old from new now first next text after same start none is adds = tt
 rows_swapped (Ok x) old from new now first next text after same start none is adds =
-    subst (λ (t : List ℕ). AddsRows true next t after (rows_beyond old now)) none
-    (subst (λ (b : Bool). AddsRows b next text after (rows_beyond old now)) start
-    (subst (λ (g : List KnownShownGroup). AddsRows first next text after (rows_beyond old g)) is
-    (subst (λ (g : List KnownShownGroup). AddsRows first next text after (rows_beyond g new)) same adds)))
+    subst (λ (t : List ℕ). AddsRows true next t after (rows_not_in old now)) none
+    (subst (λ (b : Bool). AddsRows b next text after (rows_not_in old now)) start
+    (subst (λ (g : List KnownShownGroup). AddsRows first next text after (rows_not_in old g)) is
+    (subst (λ (g : List KnownShownGroup). AddsRows first next text after (rows_not_in g new)) same adds)))

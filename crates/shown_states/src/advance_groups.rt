@@ -3,7 +3,7 @@
 ghost use Rattle.std.specs.Prelude.{◌≡◌, ◌∷◌, [], IsTrue, OnOk, Some};
 ghost use Rattle.std.specs.String.{string_bytes};
 ghost use Rattle.group_tree.specs.Groups.{has_group};
-ghost use Rattle.trace_lines.specs.Changes.{group_list_changes, groups_list_changes, list_change, rows_beyond};
+ghost use Rattle.trace_lines.specs.Changes.{group_list_changes, groups_list_changes, list_change, rows_not_in};
 ghost use Rattle.trace_lines.specs.Writing.{AddsLists, AddsRows};
 ghost use Rattle.mem_machine.specs.Machines.{active_in, entries_in, inactive_in};
 ghost use Rattle.shown_states.specs.Groups.{AreSameGroups, HasThisGroup, group_now, groups_shown, numbers_of};
@@ -76,7 +76,7 @@ pub(crate) fn advance_groups<N: BootName>(
     ensures lists { OnOk result (AddsLists lists_first.old lists_first.new (string_bytes lists.old)
         (string_bytes lists.new) (groups_list_changes groups.old groups.new)) }
     ensures rows { OnOk result (AddsRows rows_first.old rows_first.new (string_bytes rows.old) (string_bytes rows.new)
-        (rows_beyond groups.old groups.new)) }
+        (rows_not_in groups.old groups.new)) }
 {
     let places = row_places(machine.charges().tree().groups());
     for group in groups.iter_mut() {
@@ -112,7 +112,7 @@ fn advance_group<N: BootName>(
     ensures lists { OnOk result (AddsLists lists_first.old lists_first.new (string_bytes lists.old)
         (string_bytes lists.new) (group_list_changes group.old.number (Some group.old) (Some group.new))) }
     ensures rows { OnOk result (AddsRows rows_first.old rows_first.new (string_bytes rows.old) (string_bytes rows.new)
-        (rows_beyond (group.old ∷ []) (group.new ∷ []))) }
+        (rows_not_in (group.old ∷ []) (group.new ∷ []))) }
 {
     let id = GroupId::of(group.number()).unwrap();
     advance_lists(alloc, machine, id, group, units, lists_first, lists)?;
@@ -206,7 +206,7 @@ fn advance_row<N: BootName>(
     requires { IsTrue (has_group machine.now.ledger.groups id) }
     ensures group { OnOk result (group.new ≡ record group.old { row = row_shown machine.now id }) }
     ensures added { OnOk result (AddsRows is_first.old is_first.new (string_bytes text.old) (string_bytes text.new)
-        (rows_beyond (group.old ∷ []) (group.new ∷ []))) }
+        (rows_not_in (group.old ∷ []) (group.new ∷ []))) }
 {
     let row = row_with(machine, id, is_oom_group(machine, places, id));
     if is_same_row(group.row(), &row) {

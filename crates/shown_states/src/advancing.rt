@@ -2,7 +2,7 @@
 
 ghost use Rattle.std.specs.Prelude.{◌≡◌, ◌++◌, IsTrue, OnOk, codes, length};
 ghost use Rattle.std.specs.String.{string_bytes};
-ghost use Rattle.trace_lines.specs.Changes.{changes, count_change, groups_list_changes, rows_beyond};
+ghost use Rattle.trace_lines.specs.Changes.{changes, count_change, groups_list_changes, rows_not_in};
 ghost use Rattle.trace_lines.specs.Parts.{changes_text, counts_part, row_text};
 ghost use Rattle.trace_lines.specs.Writing.{AddsLists};
 ghost use Rattle.shown_states.specs.Advancing.{HasCpus};
@@ -340,7 +340,7 @@ fn set_groups<N: BootName>(
     ensures lists { OnOk result (AddsLists lists.old.is_first lists.new.is_first (string_bytes lists.old.text)
         (string_bytes lists.new.text) (groups_list_changes state.old.groups (groups_shown machine.now))) }
     ensures rows { OnOk result (HasItems (codes "groups") row_text rows.new
-        (rows_beyond state.old.groups (groups_shown machine.now))) }
+        (rows_not_in state.old.groups (groups_shown machine.now))) }
 {
     rows.clear();
     state.swap_groups(spare);

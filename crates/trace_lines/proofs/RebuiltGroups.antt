@@ -6,7 +6,7 @@ use Rattle.std.specs.Option.{option_map, option_map_or, unwrap_or}
 use Rattle.std.specs.Str.{bytes_eq}
 use Rattle.std.proofs.lemmas.Bool.{eqb-true, cond-true, cond-false, true≢false}
 use Rattle.trace_lines.specs.TraceState.{KnownShownGroup}
-use Rattle.trace_lines.specs.Changes.{group_numbered, groups_beyond, has_group, numbers_of}
+use Rattle.trace_lines.specs.Changes.{group_numbered, groups_not_in, has_group, numbers_of}
 use Rattle.trace_lines.specs.Rebuilding.{AreNumbered, has_number, said_after}
 
 pub either : {A : Type 0} (b : Bool) → (b ≡ true → A) → (b ≡ false → A) → A
@@ -112,7 +112,7 @@ module _ {X : Type 0} (pr : KnownShownGroup → X) (s : KnownShownGroup → Know
   told = filter (λ g. not (has_by (λ h. s h g) before g.number)) after
 
   abbrev gone : List KnownShownGroup
-  gone = groups_beyond after before
+  gone = groups_not_in after before
 
   abbrev Rebuilt : Option KnownShownGroup → Option KnownShownGroup → Type 0
   Rebuilt b a = said_after (option_map pr (group_numbered told n)) (has_number (numbers_of gone) n) (option_map pr b) ≡ option_map pr a

@@ -20,7 +20,7 @@ use Rattle.trace_lines.specs.Changes.{frame_spans}
 use Rattle.std.proofs.lemmas.Slice.Eq.{bytes_eq-Decides}
 use Rattle.trace_lines.proofs.Items.{adds_both, part_ok}
 use Rattle.trace_lines.specs.Changes.{ListChange, PinChange, cpu_list_changes, cpus_list_changes, cpus_pin_changes, flag_change, flag_changes}
-use Rattle.trace_lines.specs.Changes.{groups_beyond, has_group, has_row, numbers_of, pin_change, pin_changes, pins_on, rows_beyond, stock_change, stock_changes, is_same_stock}
+use Rattle.trace_lines.specs.Changes.{groups_not_in, has_group, has_row, numbers_of, pin_change, pin_changes, pins_on, rows_not_in, stock_change, stock_changes, is_same_stock}
 use Rattle.std.specs.Option.{option_map_or}
 use Rattle.trace_lines.specs.declared.trace_state.ShownStock.{ShownStock}
 
@@ -48,22 +48,22 @@ number_cons true g gs = refl
 number_cons false g gs = refl
 
 pub gone_step : (a b : List KnownShownGroup) (i : ℕ) (g : KnownShownGroup) → i < length b → g ≡ get_or b i g
-    → numbers_of (groups_beyond a (drop i b)) ≡ numbers_of (groups_beyond a (g ∷ [])) ++ numbers_of (groups_beyond a (drop (i + 1) b))
+    → numbers_of (groups_not_in a (drop i b)) ≡ numbers_of (groups_not_in a (g ∷ [])) ++ numbers_of (groups_not_in a (drop (i + 1) b))
 gone_step a b i g lt is =
-    ap (λ (l : List KnownShownGroup). numbers_of (groups_beyond a l)) (at_item b i g lt is)
-    ∙ number_cons (not (has_group a g)) g (groups_beyond a (drop (i + 1) b))
+    ap (λ (l : List KnownShownGroup). numbers_of (groups_not_in a l)) (at_item b i g lt is)
+    ∙ number_cons (not (has_group a g)) g (groups_not_in a (drop (i + 1) b))
 
 pub made_step : (a b : List KnownShownGroup) (i : ℕ) (g : KnownShownGroup) → i < length b → g ≡ get_or b i g
-    → groups_beyond a (drop i b) ≡ groups_beyond a (g ∷ []) ++ groups_beyond a (drop (i + 1) b)
+    → groups_not_in a (drop i b) ≡ groups_not_in a (g ∷ []) ++ groups_not_in a (drop (i + 1) b)
 made_step a b i g lt is =
-    ap (λ (l : List KnownShownGroup). groups_beyond a l) (at_item b i g lt is)
-    ∙ kept_cons (not (has_group a g)) g (groups_beyond a (drop (i + 1) b))
+    ap (λ (l : List KnownShownGroup). groups_not_in a l) (at_item b i g lt is)
+    ∙ kept_cons (not (has_group a g)) g (groups_not_in a (drop (i + 1) b))
 
 pub row_step : (a b : List KnownShownGroup) (i : ℕ) (g : KnownShownGroup) → i < length b → g ≡ get_or b i g
-    → rows_beyond a (drop i b) ≡ rows_beyond a (g ∷ []) ++ rows_beyond a (drop (i + 1) b)
+    → rows_not_in a (drop i b) ≡ rows_not_in a (g ∷ []) ++ rows_not_in a (drop (i + 1) b)
 row_step a b i g lt is =
-    ap (λ (l : List KnownShownGroup). rows_beyond a l) (at_item b i g lt is)
-    ∙ kept_cons (not (has_row a g)) g (rows_beyond a (drop (i + 1) b))
+    ap (λ (l : List KnownShownGroup). rows_not_in a l) (at_item b i g lt is)
+    ∙ kept_cons (not (has_row a g)) g (rows_not_in a (drop (i + 1) b))
 
 -- a group that isn't kept, and one that is
 pub not_kept : (b : Bool) (g : KnownShownGroup) → b ≡ true → cond (not b) (g ∷ []) [] ≡ []

@@ -96,12 +96,12 @@ abbrev pub has_row : List KnownShownGroup → KnownShownGroup → Bool
 has_row groups group = list_any (λ other. is_unchanged other group) groups
 
 -- those of the groups that aren't among these
-abbrev pub groups_beyond : List KnownShownGroup → List KnownShownGroup → List KnownShownGroup
-groups_beyond these groups = filter (λ group. not (has_group these group)) groups
+abbrev pub groups_not_in : List KnownShownGroup → List KnownShownGroup → List KnownShownGroup
+groups_not_in these groups = filter (λ group. not (has_group these group)) groups
 
 -- those of the groups that aren't among these with the same row
-abbrev pub rows_beyond : List KnownShownGroup → List KnownShownGroup → List KnownShownGroup
-rows_beyond these groups = filter (λ group. not (has_row these group)) groups
+abbrev pub rows_not_in : List KnownShownGroup → List KnownShownGroup → List KnownShownGroup
+rows_not_in these groups = filter (λ group. not (has_row these group)) groups
 
 -- the numbers of groups
 abbrev pub numbers_of : List KnownShownGroup → List ℕ
@@ -277,13 +277,13 @@ count_change before after = if are_same_counts before after then None else Some 
 -- all that differs between the state before and the state after
 abbrev pub changes : KnownTraceState → KnownTraceState → Changes
 changes before after = record {
-  gone = numbers_of (groups_beyond after.groups before.groups);
-  made = groups_beyond before.groups after.groups;
+  gone = numbers_of (groups_not_in after.groups before.groups);
+  made = groups_not_in before.groups after.groups;
   frames = frame_spans 0 before.places after.places;
   lists = list_changes before after;
   flags = flag_changes 0 before.flags after.flags;
   pins = cpus_pin_changes 1 (length after.places) before.cpus after.cpus;
   stocks = stock_changes 1 before.cpus after.cpus;
-  groups = rows_beyond before.groups after.groups;
+  groups = rows_not_in before.groups after.groups;
   counts = count_change before.counts after.counts;
 }

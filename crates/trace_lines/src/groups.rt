@@ -3,9 +3,9 @@
 ghost use Rattle.std.specs.Prelude.{◌≡◌, ◌++◌, IfOk, [], ◌∷◌, codes};
 ghost use Rattle.std.specs.Fmt.{decimal};
 ghost use Rattle.std.specs.String.{string_bytes};
-ghost use Rattle.trace_lines.specs.Changes.{are_same_events, groups_beyond, has_group, has_row, is_same_flag};
+ghost use Rattle.trace_lines.specs.Changes.{are_same_events, groups_not_in, has_group, has_row, is_same_flag};
 ghost use Rattle.trace_lines.specs.Changes.{is_same_group, is_same_limit, is_same_row, is_unchanged, numbers_of};
-ghost use Rattle.trace_lines.specs.Changes.{rows_beyond};
+ghost use Rattle.trace_lines.specs.Changes.{rows_not_in};
 ghost use Rattle.trace_lines.specs.Parts.{events_text, group_kills_text, made_text, marks_text, part_text, row_text};
 ghost use Rattle.trace_lines.specs.Parts.{usage_text, row_front_text};
 ghost use Rattle.trace_lines.specs.Writing.{AddsGone, AddsMade, AddsRows};
@@ -23,7 +23,7 @@ pub(crate) fn write_gone(
     text: &mut String,
 ) -> Result<(), AllocError>
     ensures { IfOk result (λ _. string_bytes text.new
-        ≡ string_bytes text.old ++ part_text (codes "gone") decimal (numbers_of (groups_beyond after.now before.now))) }
+        ≡ string_bytes text.old ++ part_text (codes "gone") decimal (numbers_of (groups_not_in after.now before.now))) }
 {
     let mut is_first = true;
     for group in before {
@@ -40,7 +40,7 @@ fn add_gone(
     text: &mut String,
 ) -> Result<(), AllocError>
     ensures { IfOk result (λ _. AddsGone is_first.old is_first.new (string_bytes text.old) (string_bytes text.new)
-        (numbers_of (groups_beyond after.now (group.now ∷ [])))) }
+        (numbers_of (groups_not_in after.now (group.now ∷ [])))) }
 {
     if has_group(after, group) {
         return Ok(());
@@ -56,7 +56,7 @@ pub(crate) fn write_made(
     text: &mut String,
 ) -> Result<(), AllocError>
     ensures { IfOk result (λ _. string_bytes text.new
-        ≡ string_bytes text.old ++ part_text (codes "made") made_text (groups_beyond before.now after.now)) }
+        ≡ string_bytes text.old ++ part_text (codes "made") made_text (groups_not_in before.now after.now)) }
 {
     let mut is_first = true;
     for group in after {
@@ -73,7 +73,7 @@ fn add_made(
     text: &mut String,
 ) -> Result<(), AllocError>
     ensures { IfOk result (λ _. AddsMade is_first.old is_first.new (string_bytes text.old) (string_bytes text.new)
-        (groups_beyond before.now (group.now ∷ []))) }
+        (groups_not_in before.now (group.now ∷ []))) }
 {
     if has_group(before, group) {
         return Ok(());
@@ -89,7 +89,7 @@ pub(crate) fn write_rows(
     text: &mut String,
 ) -> Result<(), AllocError>
     ensures { IfOk result (λ _. string_bytes text.new
-        ≡ string_bytes text.old ++ part_text (codes "groups") row_text (rows_beyond before.now after.now)) }
+        ≡ string_bytes text.old ++ part_text (codes "groups") row_text (rows_not_in before.now after.now)) }
 {
     let mut is_first = true;
     for group in after {
@@ -106,7 +106,7 @@ fn add_row(
     text: &mut String,
 ) -> Result<(), AllocError>
     ensures { IfOk result (λ _. AddsRows is_first.old is_first.new (string_bytes text.old) (string_bytes text.new)
-        (rows_beyond before.now (group.now ∷ []))) }
+        (rows_not_in before.now (group.now ∷ []))) }
 {
     if has_row(before, group) {
         return Ok(());

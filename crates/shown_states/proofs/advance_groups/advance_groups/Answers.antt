@@ -4,7 +4,7 @@ use Rattle.std.specs.Prelude.{Some}
 use Rattle.std.specs.String.{string_bytes}
 use Rattle.std.proofs.lemmas.List.Edits.{map_over_more}
 use Rattle.trace_lines.specs.TraceState.{KnownShownGroup}
-use Rattle.trace_lines.specs.Changes.{ListChange, group_list_changes, groups_list_changes, rows_beyond}
+use Rattle.trace_lines.specs.Changes.{ListChange, group_list_changes, groups_list_changes, rows_not_in}
 use Rattle.trace_lines.specs.Writing.{AddsLists, AddsRows}
 use Rattle.trace_lines.proofs.Items.{goes_end, goes_on, goes_start}
 use Rattle.trace_lines.proofs.Steps.{no_more}
@@ -45,7 +45,7 @@ loop-group-preserved g c =
     let lists_were = subst (λ (group : KnownShownGroup). AddsLists c.loop-group.lists_first c.advance_group.new.lists_first (string_bytes c.loop-group.lists)
     (string_bytes c.advance_group.new.lists) (lists_of machine group)) is lists in
     let rows = subst (λ (group : KnownShownGroup). AddsRows c.loop-group.rows_first c.advance_group.new.rows_first (string_bytes c.loop-group.rows)
-    (string_bytes c.advance_group.new.rows) (rows_beyond (item ∷ []) (group ∷ []))) advanced c.in_ok-advance_group.ensures.rows in
+    (string_bytes c.advance_group.new.rows) (rows_not_in (item ∷ []) (group ∷ []))) advanced c.in_ok-advance_group.ensures.rows in
     let rows_were = subst (λ (group : KnownShownGroup). AddsRows c.loop-group.rows_first c.advance_group.new.rows_first (string_bytes c.loop-group.rows)
     (string_bytes c.advance_group.new.rows) (rows_of machine group)) is rows in
     record {
@@ -80,5 +80,5 @@ returns-clause-rows g c =
     let whole = now_to_end machine old c.loop-group.groups c.loop-group.group-index past c.loop-group.invariant.groups in
     subst (λ (changed : List KnownShownGroup). AddsRows c.args.rows_first.now c.loop-group.rows_first (string_bytes c.args.rows.now)
     (string_bytes c.loop-group.rows) changed)
-    (sym (rows_all machine old (ascend_all machine old c.requires)) ∙ ap (rows_beyond old) (sym whole))
+    (sym (rows_all machine old (ascend_all machine old c.requires)) ∙ ap (rows_not_in old) (sym whole))
     (goes_end _ _ _ _ _ _ _ _ c.loop-group.invariant.rows (ap (λ (l : List KnownShownGroup). flat_map (rows_of machine) l) (no_more old _ past)))
