@@ -8,14 +8,14 @@ use Rattle.trace_lines.specs.Writing.{Adds, items_text, start_text, still_first,
 
 -- What was written so far, and the rest of the items behind it, are what was to be written.
 pub record Goes {X : Type 0} (key : List ℕ) (f : X → List ℕ) (first : Bool) (text : List ℕ) (rest : List X) (start : Bool) (old : List ℕ) (all : List X) : Type 0 where
-  pub told : text ++ items_text key f first rest ≡ old ++ items_text key f start all
+  pub written : text ++ items_text key f first rest ≡ old ++ items_text key f start all
   pub still : still_first first rest ≡ still_first start all
 
 -- nothing is written at first
 pub goes_start : {X : Type 0} (key : List ℕ) (f : X → List ℕ) (first : Bool) (text : List ℕ) (rest all : List X) → rest ≡ all
     → Goes key f first text rest first text all
 goes_start key f first text rest all e = record {
-  told = ap (λ (l : List _). text ++ items_text key f first l) e;
+  written = ap (λ (l : List _). text ++ items_text key f first l) e;
   still = ap (λ (l : List _). still_first first l) e;
 }
 
@@ -40,13 +40,13 @@ still_both first (x ∷ xs) ys = sym (still_false ys)
 pub goes_on : {X : Type 0} (key : List ℕ) (f : X → List ℕ) (b b' start : Bool) (t t' old : List ℕ) (rest xs ys all : List X)
     → Goes key f b t rest start old all → rest ≡ xs ++ ys → Adds key f b b' t t' xs → Goes key f b' t' ys start old all
 goes_on key f b b' start t t' old rest xs ys all goes e adds = record {
-  told =
-      ap (λ (l : List ℕ). l ++ items_text key f b' ys) adds.told
+  written =
+      ap (λ (l : List ℕ). l ++ items_text key f b' ys) adds.written
       ∙ append_assoc t (items_text key f b xs) (items_text key f b' ys)
       ∙ ap (λ (c : Bool). t ++ (items_text key f b xs ++ items_text key f c ys)) adds.first
       ∙ ap (λ (l : List ℕ). t ++ l) (sym (items_both key f b xs ys))
       ∙ ap (λ (l : List _). t ++ items_text key f b l) (sym e)
-      ∙ goes.told;
+      ∙ goes.written;
   still =
       ap (λ (c : Bool). still_first c ys) adds.first
       ∙ sym (still_both b xs ys)
@@ -58,10 +58,10 @@ goes_on key f b b' start t t' old rest xs ys all goes e adds = record {
 pub goes_end : {X : Type 0} (key : List ℕ) (f : X → List ℕ) (b start : Bool) (t old : List ℕ) (rest all : List X)
     → Goes key f b t rest start old all → rest ≡ [] → Adds key f start b old t all
 goes_end key f b start t old rest all goes e = record {
-  told =
+  written =
       sym (append-nil t)
       ∙ ap (λ (l : List _). t ++ items_text key f b l) (sym e)
-      ∙ goes.told;
+      ∙ goes.written;
   first = ap (λ (l : List _). still_first b l) (sym e) ∙ goes.still;
 }
 
@@ -85,7 +85,7 @@ pub adds_part : {X : Type 0} (key : List ℕ) (f : X → List ℕ) (b : Bool) (o
     → Adds key f true b old t all → new ≡ t ++ stop_text b → new ≡ old ++ part_text key f all
 adds_part key f b old t new all adds stops =
     stops
-    ∙ ap (λ (l : List ℕ). l ++ stop_text b) adds.told
+    ∙ ap (λ (l : List ℕ). l ++ stop_text b) adds.written
     ∙ append_assoc old (items_text key f true all) (stop_text b)
     ∙ ap (λ (c : Bool). old ++ (items_text key f true all ++ stop_text c)) adds.first
     ∙ ap (λ (l : List ℕ). old ++ l) (sym (part_is key f all))
@@ -99,7 +99,7 @@ part_ok (Err x) key f b old t new all adds stops = tt
 pub adds_none : {X : Type 0} (key : List ℕ) (f : X → List ℕ) (b : Bool) (old : List ℕ) (all : List X) → all ≡ []
     → Adds key f b b old old all
 adds_none key f b old all e = record {
-  told = sym (append-nil old) ∙ ap (λ (l : List _). old ++ items_text key f b l) (sym e);
+  written = sym (append-nil old) ∙ ap (λ (l : List _). old ++ items_text key f b l) (sym e);
   first = ap (λ (l : List _). still_first b l) (sym e);
 }
 
@@ -107,7 +107,7 @@ adds_none key f b old all e = record {
 pub adds_one : {X : Type 0} (key : List ℕ) (f : X → List ℕ) (b b' : Bool) (old t new : List ℕ) (x : X) (all : List X) → all ≡ x ∷ []
     → t ≡ old ++ start_text key b → b' ≡ false → new ≡ t ++ f x → Adds key f b b' old new all
 adds_one key f b b' old t new x all e starts first adds = record {
-  told =
+  written =
       adds
       ∙ ap (λ (l : List ℕ). l ++ f x) starts
       ∙ append_assoc old (start_text key b) (f x)

@@ -32,7 +32,7 @@ still_first is_first (item ∷ items) = false
 -- Items were added to a part with this key: `before` and `after` say whether the next item is the first.
 pub record Adds {X : Type 0} (key : List ℕ) (text : X → List ℕ) (before after : Bool) (old new : List ℕ)
     (items : List X) : Type 0 where
-  pub told : new ≡ old ++ items_text key text before items
+  pub written : new ≡ old ++ items_text key text before items
   pub first : after ≡ still_first before items
 
 -- groups that are gone were added
