@@ -116,7 +116,7 @@ fn trace_line<N: BootName>(
     let mut answer = String::new(alloc);
     let route = serve_traced_line(locked, tables, cpus, line, &mut answer)?;
     advance_by_route(alloc, &route, locked, tables, cpus, shown, buffers)?;
-    let (notes, more) = notes_on(&route, locked.machine());
+    let (notes, left_out) = notes_on(&route, locked.machine());
     let facts = line_facts(*number, *cpu, &route);
     let command = command_at(texts, *number);
     write_object(
@@ -125,7 +125,7 @@ fn trace_line<N: BootName>(
         answer.as_bytes(),
         buffers.changes(),
         notes,
-        more,
+        left_out,
         buffers.counts(),
         trace,
     )?;

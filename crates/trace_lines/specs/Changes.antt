@@ -147,7 +147,8 @@ flag_changes frame (old ∷ before) (new ∷ after) = flag_change frame old new 
 abbrev pub removed_of : (before after : List ℕ) → List ℕ
 removed_of [] after = []
 removed_of (old ∷ before) [] = old ∷ before
-removed_of (old ∷ before) (new ∷ after) = if old == new then removed_of before after else old ∷ removed_of before (new ∷ after)
+removed_of (old ∷ before) (new ∷ after) =
+    if old == new then removed_of before after else old ∷ removed_of before (new ∷ after)
 
 -- what the new list has behind the entries that are kept
 abbrev pub added_of : (before after : List ℕ) → List ℕ

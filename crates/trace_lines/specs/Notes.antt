@@ -28,7 +28,7 @@ note_text (GroupKill group groups) = numbers_note (codes "group") (group ∷ gro
 note_text (Kill group returned pages pinned left usage) =
     numbers_note (codes "killed") (group ∷ returned ∷ pages ∷ pinned ∷ left ∷ usage ∷ [])
 
--- the texts of the notes, and a last one that tells how many frames were left out, if any
+-- the texts of the notes, and a last one that says how many frames were left out, if any
 abbrev pub note_texts : List Note → ℕ → List (List ℕ)
 note_texts [] left_out = if left_out == 0 then [] else numbers_note (codes "more") (left_out ∷ []) ∷ []
 note_texts (note ∷ notes) left_out = note_text note ∷ note_texts notes left_out

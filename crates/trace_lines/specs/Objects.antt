@@ -57,7 +57,7 @@ reason_text NoStock = codes "no-stock"
 reason_text Drained = codes "drained"
 reason_text OtherGroup = codes "other-group"
 
--- the part that tells why, if it is told
+-- the part that says why, if there is a reason
 unfoldable pub failure_text : Option FastFailure → List ℕ
 failure_text None = []
 failure_text (Some failure) = codes ",\"miss\":\"" ++ reason_text failure ++ codes "\""

@@ -88,8 +88,8 @@ name_text (Active group) = codes "a" ++ decimal group
 -- a list that changed: what was removed from it, and what was added
 abbrev pub list_change_text : ListChange → List ℕ
 list_change_text change =
-    codes "[\"" ++ name_text change.name ++ codes "\"," ++ spans_text change.removed ++ codes "," ++ spans_text change.added
-    ++ codes "]"
+    codes "[\"" ++ name_text change.name ++ codes "\"," ++ spans_text change.removed ++ codes ","
+    ++ spans_text change.added ++ codes "]"
 
 -- 1 for dirty, 2 for marked, 3 for both
 abbrev pub flags_number : Flags → ℕ
@@ -157,7 +157,7 @@ unfoldable pub counts_part : Option ShownCounts → List ℕ
 counts_part None = []
 counts_part (Some counts) = counts_text counts
 
--- the parts that tell of groups that are gone or made, of frames and of lists
+-- the parts about groups that are gone or made, of frames and of lists
 unfoldable pub first_parts_text : Changes → List ℕ
 first_parts_text changes =
     part_text (codes "gone") decimal changes.gone
@@ -165,14 +165,14 @@ first_parts_text changes =
     ++ part_text (codes "frames") frame_span_text changes.frames
     ++ part_text (codes "lists") list_change_text changes.lists
 
--- the parts that tell of pins, stocks and rows
+-- the parts about pins, stocks and rows
 unfoldable pub last_parts_text : Changes → List ℕ
 last_parts_text changes =
     part_text (codes "pins") pin_change_text changes.pins
     ++ part_text (codes "stocks") stock_change_text changes.stocks
     ++ part_text (codes "groups") row_text changes.groups
 
--- all parts that tell changes, except the counts, which follow the notes
+-- all parts with changes, except the counts, which follow the notes
 unfoldable pub changes_text : Changes → List ℕ
 changes_text changes =
     first_parts_text changes ++ part_text (codes "flags") flag_change_text changes.flags ++ last_parts_text changes

@@ -111,7 +111,8 @@ is_same_name _ _ = false
 abbrev pub kept_of : (removed old : List ℕ) → List ℕ
 kept_of [] old = old
 kept_of (entry ∷ removed) [] = []
-kept_of (entry ∷ removed) (first ∷ old) = if entry == first then kept_of removed old else first ∷ kept_of (entry ∷ removed) old
+kept_of (entry ∷ removed) (first ∷ old) =
+    if entry == first then kept_of removed old else first ∷ kept_of (entry ∷ removed) old
 
 -- a list: without what was removed, and with what was added behind its newest entry; else the old one
 abbrev pub list_after : List ListChange → ListName → List ℕ → List ℕ

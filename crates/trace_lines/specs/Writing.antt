@@ -93,8 +93,8 @@ abbrev pub has_first : ℕ → List ℕ → Bool
 has_first number [] = false
 has_first number (first ∷ numbers) = number == first
 
--- One more entry of the old list was looked at: it is kept, so `now` is one more than `kept`, or it was removed, and is added
--- behind the span that wasn't written yet.
+-- One more entry of the old list was looked at: it is kept, so `now` is one more than `kept`, or it was removed, and is
+-- added behind the span that wasn't written yet.
 pub record KeepsOne (old : ℕ) (after : List ℕ) (kept : ℕ) (span next : Option Span) (text new : List ℕ) (now : ℕ)
     : Type 0 where
   pub within : now ≤ length after

@@ -14,7 +14,7 @@ use crate::parts::{push_start, push_stop};
 use crate::trace_state::{ShownCpu, ShownStock};
 use std::alloc::{AllocError, Global};
 
-// Adds the part that tells of pins on frames below this many.
+// Adds the part about pins on frames below this many.
 pub(crate) fn write_pins(
     alloc: Global,
     frames: usize,
@@ -164,7 +164,7 @@ fn write_pin_change(
     text.push(']')
 }
 
-// Adds the part that tells of stocks.
+// Adds the part about stocks.
 pub(crate) fn write_stocks(
     before: &[ShownCpu],
     after: &[ShownCpu],

@@ -11,7 +11,7 @@ use crate::parts::{push_start, push_stop};
 use crate::trace_state::Flags;
 use std::alloc::AllocError;
 
-/// Adds the part that tells which frames have other flags after than before.
+/// Adds the part with the frames that have other flags after than before.
 pub fn write_flags(before: &[Flags], after: &[Flags], text: &mut String) -> Result<(), AllocError>
     ensures { IfOk result (λ _. string_bytes text.new
         ≡ string_bytes text.old ++ part_text (codes "flags") flag_change_text (flag_changes 0 before.now after.now)) }

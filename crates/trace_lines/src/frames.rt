@@ -20,7 +20,7 @@ pub struct FrameSpan {
     pub place: ShownPlace,
 }
 
-/// Adds the part that tells which frames have another place after than before.
+/// Adds the part with the frames that have another place after than before.
 pub fn write_frames(
     alloc: Global,
     before: &[ShownPlace],

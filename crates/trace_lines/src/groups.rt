@@ -16,7 +16,7 @@ use crate::strings::write_string;
 use crate::trace_state::{Events, GroupRow, ShownGroup};
 use std::alloc::AllocError;
 
-// Adds the part that tells which groups are gone.
+// Adds the part that names the groups that are gone.
 pub(crate) fn write_gone(
     before: &[ShownGroup],
     after: &[ShownGroup],
@@ -49,7 +49,7 @@ fn add_gone(
     push_decimal(u64::from(group.number), text)
 }
 
-// Adds the part that tells which groups were made.
+// Adds the part with the groups that were made.
 pub(crate) fn write_made(
     before: &[ShownGroup],
     after: &[ShownGroup],
@@ -82,7 +82,7 @@ fn add_made(
     write_made_group(group, text)
 }
 
-// Adds the part that tells the rows of groups that changed.
+// Adds the part with the rows of groups that changed.
 pub(crate) fn write_rows(
     before: &[ShownGroup],
     after: &[ShownGroup],

@@ -35,7 +35,7 @@ pub enum ListName {
     Active { group: usize },
 }
 
-// Adds the part that tells which lists changed: first those of the CPUs, then those of the groups, by number.
+// Adds the part with the lists that changed: first those of the CPUs, then those of the groups, by number.
 pub(crate) fn write_lists(
     alloc: Global,
     before: &TraceState,

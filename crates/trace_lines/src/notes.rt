@@ -63,7 +63,7 @@ fn write_note(note: &Note, text: &mut String) -> Result<(), AllocError>
             need,
         } => write_limit(group, max, usage, need, text),
         Note::Zone { order } => write_numbers("zone", &[order.into()], text),
-        Note::Asked { group, pages } => write_numbers("asked", &[of(group), pages], text),
+        Note::Asked { group, pages } => write_numbers("asked", &[number_of(group), pages], text),
         Note::Stock { cpu, pages } => write_numbers("stock", &[cpu.into(), pages.into()], text),
         Note::Reclaimed { group, first, last } => write_reclaimed(group, first, last, text),
         Note::Round {
@@ -73,14 +73,14 @@ fn write_note(note: &Note, text: &mut String) -> Result<(), AllocError>
             pages,
             usage,
         } => write_round(number, returned, missed, pages, usage, text),
-        Note::Oom { group } => write_numbers("oom", &[of(group)], text),
+        Note::Oom { group } => write_numbers("oom", &[number_of(group)], text),
         Note::Victim {
             victim,
             candidates,
             next,
         } => write_victim(victim, candidates, next, text),
         Note::GroupKill { group, groups } => {
-            write_numbers("group", &[of(group), groups.into()], text)
+            write_numbers("group", &[number_of(group), groups.into()], text)
         }
         Note::Kill {
             group,
@@ -104,7 +104,7 @@ fn write_limit(
     ensures { IfOk result (λ _. string_bytes text.new
         ≡ string_bytes text.old ++ numbers_note (codes "limit") (group ∷ max ∷ usage ∷ need ∷ [])) }
 {
-    let numbers = [of(group), max.into(), usage.into(), need.into()];
+    let numbers = [number_of(group), max.into(), usage.into(), need.into()];
     write_numbers("limit", &numbers, text)
 }
 
@@ -118,7 +118,7 @@ fn write_reclaimed(
     ensures { IfOk result (λ _. string_bytes text.new
         ≡ string_bytes text.old ++ numbers_note (codes "reclaimed") (group ∷ first ∷ last ∷ [])) }
 {
-    write_numbers("reclaimed", &[of(group), first, last], text)
+    write_numbers("reclaimed", &[number_of(group), first, last], text)
 }
 
 // Adds a note of a round.
@@ -150,7 +150,7 @@ fn write_killed(
     ensures { IfOk result (λ _. string_bytes text.new ≡ string_bytes text.old
         ++ numbers_note (codes "killed") (group ∷ returned ∷ pages ∷ pinned ∷ left ∷ usage ∷ [])) }
 {
-    let numbers = [of(group), returned, pages, pinned, left, usage.into()];
+    let numbers = [number_of(group), returned, pages, pinned, left, usage.into()];
     write_numbers("killed", &numbers, text)
 }
 
@@ -167,10 +167,10 @@ fn write_victim(
     write_numbers(
         "victim",
         &[
-            of(victim.group),
+            number_of(victim.group),
             victim.frames,
             candidates.into(),
-            of(next.group),
+            number_of(next.group),
             next.frames,
         ],
         text,
@@ -178,7 +178,7 @@ fn write_victim(
 }
 
 // The group's number.
-fn of(group: GroupId) -> u64
+fn number_of(group: GroupId) -> u64
     ensures { result ≡ group }
 {
     u64::from(group.number())

@@ -69,7 +69,7 @@ pub fn write_changes(
     write_last_parts(alloc, before, after, text)
 }
 
-// Adds the parts that tell of groups that are gone or made, of frames and of lists.
+// Adds the parts about groups that are gone or made, of frames and of lists.
 #[tactic(auto, unfolding(crate::specs::Parts::first_parts_text))]
 fn write_first_parts(
     alloc: Global,
@@ -86,7 +86,7 @@ fn write_first_parts(
     write_lists(alloc, before, after, text)
 }
 
-// Adds the parts that tell of pins, stocks and rows.
+// Adds the parts about pins, stocks and rows.
 #[tactic(auto, unfolding(crate::specs::Parts::last_parts_text))]
 fn write_last_parts(
     alloc: Global,
