@@ -21,7 +21,7 @@ struct Seen {
 }
 
 // What the first CPU sees.
-fn sees<N: BootName, R: Wait + Abort>(
+fn seen_by_first_cpu<N: BootName, R: Wait + Abort>(
     rt: &R,
     alloc: Global,
     system: &System<N>,
@@ -76,7 +76,7 @@ fn unpins<N: BootName, R: Abort>(rt: &R, system: &System<N>, cpus: &mut [Cpu<N>]
 }
 
 // A pin keeps the system from being shut down.
-fn is_held<N: BootName>(
+fn shutdown_is_refused<N: BootName>(
     rt: &impl Abort,
     system: System<N>,
     cpus: Vec<Cpu<N>>,
@@ -100,18 +100,18 @@ fn is_held<N: BootName>(
 
 // The life of a system that is taken apart and put together again. Then a pin prevents its shutdown. Neither changes
 // it.
-fn goes_on<N: BootName, R: Wait + Abort>(rt: &R, alloc: Global, boot: Boot)
+fn stays_unchanged<N: BootName, R: Wait + Abort>(rt: &R, alloc: Global, boot: Boot)
     requires { (boot.frames ≡ N.frames) × (boot.stocks ≡ N.stocks) }
 {
     let (system, mut cpus) = boot.start::<N>(alloc).expect(rt, "memory");
     charges_and_pins(rt, &system, &mut cpus);
-    let first = sees(rt, alloc, &system, &mut cpus);
+    let first = seen_by_first_cpu(rt, alloc, &system, &mut cpus);
     let (locked, tables) = system.into_parts();
     let system = System::of(locked, tables);
-    let again = sees(rt, alloc, &system, &mut cpus);
+    let again = seen_by_first_cpu(rt, alloc, &system, &mut cpus);
     are_same(rt, &first, &again);
-    let (system, mut cpus) = is_held(rt, system, cpus);
-    let last = sees(rt, alloc, &system, &mut cpus);
+    let (system, mut cpus) = shutdown_is_refused(rt, system, cpus);
+    let last = seen_by_first_cpu(rt, alloc, &system, &mut cpus);
     are_same(rt, &first, &last);
     unpins(rt, &system, &mut cpus);
     expect_true(rt, ends(rt, system, cpus).charged == 1);
@@ -120,5 +120,5 @@ fn goes_on<N: BootName, R: Wait + Abort>(rt: &R, alloc: Global, boot: Boot)
 #[test]
 fn a_system_goes_on_as_it_was(rt: HostRuntime) {
     let boot = boot(rt.alloc(), SIZES).expect(&rt, "a boot");
-    goes_on::<Brand, _>(&rt, rt.alloc(), boot);
+    stays_unchanged::<Brand, _>(&rt, rt.alloc(), boot);
 }

@@ -12,7 +12,7 @@ use std::marker::Brand;
 use std::process::Abort;
 
 // CPU 1 makes a group by value, and the boot ends.
-fn lives<N: BootName, R: Abort>(rt: &R, alloc: Global, boot: Boot)
+fn serves_by_value<N: BootName, R: Abort>(rt: &R, alloc: Global, boot: Boot)
     requires { (boot.frames ≡ N.frames) × (boot.stocks ≡ N.stocks) }
 {
     let (mut locked, tables, mut cpus) = boot.into_parts::<N>(alloc).expect(rt, "memory");
@@ -34,5 +34,5 @@ fn lives<N: BootName, R: Abort>(rt: &R, alloc: Global, boot: Boot)
 #[test]
 fn a_command_is_served_by_value(rt: HostRuntime) {
     let boot = boot(rt.alloc(), SIZES).expect(&rt, "a boot");
-    lives::<Brand, _>(&rt, rt.alloc(), boot);
+    serves_by_value::<Brand, _>(&rt, rt.alloc(), boot);
 }

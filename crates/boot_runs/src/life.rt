@@ -96,7 +96,7 @@ fn makes_and_reads<N: BootName, R: Wait + Abort>(rt: &R, system: &System<N>, cpu
 }
 
 // All frames are free, and the group's usage is 0.
-fn tells<N: BootName, R: Wait + Abort>(
+fn shows_all_free<N: BootName, R: Wait + Abort>(
     rt: &R,
     alloc: Global,
     system: &System<N>,
@@ -112,7 +112,7 @@ fn tells<N: BootName, R: Wait + Abort>(
 }
 
 // CPU 2 finds the group and removes it.
-fn takes_out<N: BootName, R: Wait + Abort>(rt: &R, system: &System<N>, cpu: &mut Cpu<N>) {
+fn removes_group<N: BootName, R: Wait + Abort>(rt: &R, system: &System<N>, cpu: &mut Cpu<N>) {
     let path: &[u8] = b"/a";
     let no_group = Reply::Refused(Fault::NoGroup);
     expect_true(rt, system.find(rt, path) == GroupId::of(1));
@@ -188,8 +188,8 @@ pub fn nothing_was_charged() -> Audit {
     }
 }
 
-// The whole life of a system.
-fn lives<N: BootName, R: Wait + Abort>(rt: &R, alloc: Global, boot: Boot)
+// The whole life of a system, in which each of the two CPUs is served.
+fn serves_each_cpu<N: BootName, R: Wait + Abort>(rt: &R, alloc: Global, boot: Boot)
     requires { (boot.frames ≡ N.frames) × (boot.stocks ≡ N.stocks) }
 {
     let (system, mut cpus) = boot.start::<N>(alloc).expect(rt, "memory");
@@ -210,9 +210,9 @@ fn visits<N: BootName, R: Wait + Abort>(
     for (at, cpu) in cpus.iter_mut().enumerate() {
         if at == 0 {
             makes_and_reads(rt, system, cpu);
-            tells(rt, alloc, system, cpu);
+            shows_all_free(rt, alloc, system, cpu);
         } else {
-            takes_out(rt, system, cpu);
+            removes_group(rt, system, cpu);
             passes_the_gate(rt, system, cpu);
         }
     }
@@ -221,7 +221,7 @@ fn visits<N: BootName, R: Wait + Abort>(
 #[test]
 fn a_group_is_made_and_read(rt: HostRuntime) {
     let boot = boot(rt.alloc(), SIZES).expect(&rt, "a boot");
-    lives::<Brand, _>(&rt, rt.alloc(), boot);
+    serves_each_cpu::<Brand, _>(&rt, rt.alloc(), boot);
 }
 
 #[test]

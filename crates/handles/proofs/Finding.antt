@@ -10,7 +10,7 @@ use Rattle.group_charge.specs.Charges.{AreCharges, Ledger}
 use Rattle.script_lines.specs.declared.line.Command.TheVariants as cmd
 use Rattle.script_replay.specs.declared.answer_value.AnswerValue.{AnswerValue}
 use Rattle.script_replay.specs.Terms.{boot_tables}
-use Rattle.script_replay.specs.Typed.{NamesItsGroups, SaysCommand, answer_of}
+use Rattle.script_replay.specs.ValueAnswers.{NamesItsGroups, SaysCommand, answer_of}
 use Rattle.handles.specs.Calls.{Calls}
 use Rattle.handles.specs.Commands.{SameButState}
 use Rattle.handles.specs.Known.{KnownLive}

@@ -15,7 +15,7 @@ use Rattle.reply_texts.specs.LineAnswer.{LineAnswer}
 use Rattle.script_lines.specs.declared.line.Command.{Command}
 use Rattle.script_lines.specs.declared.line.Command.TheVariants as cmd
 use Rattle.script_replay.specs.Terms.{boot_tables}
-use Rattle.script_replay.specs.Typed.{NamesItsGroups, SaysCommand, answer_of}
+use Rattle.script_replay.specs.ValueAnswers.{NamesItsGroups, SaysCommand, answer_of}
 use Rattle.handles.specs.Known.{KnownLive}
 use Rattle.handles.specs.Commands.{SameButState}
 use Rattle.handles.specs.declared.calls.FrameCall.{FrameCall}

@@ -85,7 +85,7 @@ pub enum FileText {
 impl FrameCall {
     ghost use Rattle.std.specs.Prelude.{◌≡◌, ◌<◌, ℕ};
     ghost use Rattle.script_replay.specs.Ranges.{CommandInRange};
-    ghost use Rattle.script_replay.specs.Typed.{IsShort};
+    ghost use Rattle.script_replay.specs.ValueAnswers.{HasValueAnswer};
     ghost use Rattle.script_replay.specs.Works.{work_of};
     ghost use Rattle.handles.specs.Calls.{frame_command};
 
@@ -94,7 +94,7 @@ impl FrameCall {
     pub fn command(self, frame: u32) -> Command<'static>
         ensures value { result ≡ frame_command self frame }
         ensures in_zone { (frames : ℕ) → frame < frames → CommandInRange frames result }
-        ensures short { IsShort (work_of result) }
+        ensures has_value { HasValueAnswer (work_of result) }
     {
         match self {
             FrameCall::Release => Command::Release { frame },

@@ -7,10 +7,10 @@
 //! `serve_call`, `show_file`).
 #![tactic(auto)]
 
+pub mod box_parts;
 pub mod calls;
 pub mod live;
 pub mod live_pointer;
-pub mod loose;
 pub mod raw;
 pub mod requests;
 pub mod serving;

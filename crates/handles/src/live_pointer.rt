@@ -4,8 +4,8 @@ ghost use Rattle.std.specs.Prelude.{◌≡◌, IsSome, None, Option, Some};
 ghost use Rattle.handles.specs.Known.{KnownLive};
 ghost use Rattle.handles.specs.Owned.{known_coded, live_owns};
 
+use crate::box_parts::BoxParts;
 use crate::live::Live;
-use crate::loose::Loose;
 use cpu_part::BootName;
 use std::alloc::Global;
 use std::marker::Model;
@@ -35,19 +35,19 @@ impl<N: BootName> LivePointer<N> {
     }
 
     /// A pointer to what is in this box.
-    pub fn of(loose: Loose<Live<N>, Global>) -> LivePointer<N>
-        ensures { result.live ≡ Some loose.value }
+    pub fn of(parts: BoxParts<Live<N>, Global>) -> LivePointer<N>
+        ensures { result.live ≡ Some parts.value }
     {
-        let Loose { ptr, alloc } = loose;
+        let BoxParts { ptr, alloc } = parts;
         LivePointer { ptr, alloc }
     }
 
     /// The box with what it points to.
-    pub fn into_loose(self) -> Loose<Live<N>, Global>
+    pub fn into_box_parts(self) -> BoxParts<Live<N>, Global>
         requires some { IsSome self.live }
         ensures { Some result.value ≡ self.live }
     {
         let LivePointer { ptr, alloc } = self;
-        Loose { ptr, alloc }
+        BoxParts { ptr, alloc }
     }
 }

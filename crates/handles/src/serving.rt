@@ -5,10 +5,10 @@ ghost use Rattle.handles.specs.Calls.{Calls, HasFile, ShowsFile};
 ghost use Rattle.handles.specs.Serving.{MayBeAsked, OnLive, Serves};
 ghost use Rattle.handles.specs.declared.requests.Request.TheVariants.{End, Lines, Start, StoreUnread, TakeUnread};
 
+use crate::box_parts::BoxParts;
 use crate::calls::{Call, CallAnswer, FileText};
 use crate::live::Live;
 use crate::live_pointer::LivePointer;
-use crate::loose::Loose;
 use crate::requests::{Request, RequestAnswer};
 use control_files::file::File;
 use cpu_part::BootName;
@@ -50,9 +50,9 @@ pub fn serve_call<N: BootName>(
     ensures serves { OnLive (λ from to. Calls N.frames N.stocks cpu call.now from to result.1)
         pointer.live result.0.live }
 {
-    let mut live = pointer.into_loose().into_box();
+    let mut live = pointer.into_box_parts().into_box();
     let answer = live.call(cpu, call);
-    (LivePointer::of(Loose::of(live)), answer)
+    (LivePointer::of(BoxParts::of(live)), answer)
 }
 
 /// Returns what a file of a group shows, on the parts of a boot that has the group. The root has no files.
@@ -64,9 +64,9 @@ pub fn show_file<N: BootName>(
     requires there { IsSomeAnd pointer.live (HasFile group file) }
     ensures shows { OnLive (λ from to. ShowsFile group file from to result.1) pointer.live result.0.live }
 {
-    let live = pointer.into_loose().into_box();
+    let live = pointer.into_box_parts().into_box();
     let shown = live.show(group, file);
-    (LivePointer::of(Loose::of(live)), shown)
+    (LivePointer::of(BoxParts::of(live)), shown)
 }
 
 fn start<N: BootName>(
@@ -85,7 +85,7 @@ fn start<N: BootName>(
         return (pointer, RequestAnswer::NoMemory);
     };
     match Box::new(alloc, live) {
-        Ok(live) => (LivePointer::of(Loose::of(live)), RequestAnswer::Done),
+        Ok(live) => (LivePointer::of(BoxParts::of(live)), RequestAnswer::Done),
         Err(_) => (pointer, RequestAnswer::NoMemory),
     }
 }
@@ -99,9 +99,9 @@ fn answer_lines<N: BootName>(
     requires some { IsSome pointer.live }
     ensures serves { Serves N.frames N.stocks pointer.live (Lines alloc text is_explained) result.0.live result.1 }
 {
-    let mut live = pointer.into_loose().into_box();
+    let mut live = pointer.into_box_parts().into_box();
     let answered = live.answer_lines(alloc, &text, is_explained);
-    let pointer = LivePointer::of(Loose::of(live));
+    let pointer = LivePointer::of(BoxParts::of(live));
     match answered {
         Ok(answers) => (pointer, RequestAnswer::Text(answers)),
         Err(ScriptFault::BadLine(number)) => (pointer, RequestAnswer::BadLine(number)),
@@ -116,9 +116,9 @@ fn store_unread<N: BootName>(
     requires some { IsSome pointer.live }
     ensures serves { Serves N.frames N.stocks pointer.live (StoreUnread text) result.0.live result.1 }
 {
-    let mut live = pointer.into_loose().into_box();
+    let mut live = pointer.into_box_parts().into_box();
     live.store_unread(text);
-    (LivePointer::of(Loose::of(live)), RequestAnswer::Done)
+    (LivePointer::of(BoxParts::of(live)), RequestAnswer::Done)
 }
 
 fn take_unread<N: BootName>(
@@ -128,16 +128,19 @@ fn take_unread<N: BootName>(
     requires some { IsSome pointer.live }
     ensures serves { Serves N.frames N.stocks pointer.live (TakeUnread alloc) result.0.live result.1 }
 {
-    let mut live = pointer.into_loose().into_box();
+    let mut live = pointer.into_box_parts().into_box();
     let text = live.take_unread(alloc);
-    (LivePointer::of(Loose::of(live)), RequestAnswer::Text(text))
+    (
+        LivePointer::of(BoxParts::of(live)),
+        RequestAnswer::Text(text),
+    )
 }
 
 fn finish<N: BootName>(pointer: LivePointer<N>, alloc: Global) -> (LivePointer<N>, RequestAnswer)
     requires some { IsSome pointer.live }
     ensures serves { Serves N.frames N.stocks pointer.live (End alloc) result.0.live result.1 }
 {
-    let live = Box::into_inner(pointer.into_loose().into_box());
+    let live = Box::into_inner(pointer.into_box_parts().into_box());
     let ended = live.finish();
     (LivePointer::none(alloc), RequestAnswer::Ended(ended))
 }

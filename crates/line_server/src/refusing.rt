@@ -6,7 +6,7 @@ ghost use Rattle.script_lines.specs.Script.{IsLineText, is_skipped};
 ghost use Rattle.script_lines.specs.Verb.{IsNames};
 ghost use Rattle.script_lines.specs.declared.line.Line.{Line};
 ghost use Rattle.script_lint.specs.Findings.{IsFoundInText};
-ghost use Rattle.script_lint.specs.Shapes.{HasZone};
+ghost use Rattle.script_lint.specs.Shapes.{HasValidCounts};
 ghost use Rattle.line_server.specs.Lines.{RefusesText, bad_text};
 
 use script_lines::verb::Names;
@@ -24,7 +24,7 @@ pub fn refuse_text(
     answer: &mut String,
 ) -> Result<(), AllocError>
     requires names { IsNames names.now }
-    requires zone { HasZone sizes.now }
+    requires counts { HasValidCounts sizes.now }
     requires asks { is_skipped text.now ≡ false }
     requires bad { (line : Line) → ¬ IsLineText sizes.now 1 line text.now }
     ensures { OnOk result ((said : List ℕ) × RefusesText sizes.now text.now said

@@ -4,7 +4,7 @@ ghost use Rattle.std.specs.Prelude.{◌≡◌, IfErr, IfOk, OnErr, OnOk, Some, l
 ghost use Rattle.std.specs.String.{string_bytes};
 ghost use Rattle.mem_system.specs.Boots.{IsSizedAs};
 ghost use Rattle.script_lines.specs.Verb.{IsNames};
-ghost use Rattle.script_lint.specs.Shapes.{HasZone};
+ghost use Rattle.script_lint.specs.Shapes.{HasValidCounts};
 ghost use Rattle.script_replay.specs.Lines.{system_state};
 ghost use Rattle.line_server.specs.Known.{KeepsTerms, terms_of};
 ghost use Rattle.line_server.specs.Sessions.{EndsTurn, FailsSession, FailsTurn, ServesSession};
@@ -40,7 +40,7 @@ impl<N: BootName> Model for Server<N> {
     ghost use Rattle.std.specs.Prelude.{◌≡◌, length};
     ghost use Rattle.mem_system.specs.Boots.{IsSizedAs};
     ghost use Rattle.script_lines.specs.Verb.{IsNames};
-    ghost use Rattle.script_lint.specs.Shapes.{HasZone};
+    ghost use Rattle.script_lint.specs.Shapes.{HasValidCounts};
     ghost use Rattle.script_replay.specs.Lines.{system_state};
     ghost use Rattle.line_server.specs.Known.{KnownServer};
 
@@ -53,7 +53,7 @@ impl<N: BootName> Model for Server<N> {
     } };
 
     ghost invariant = { λ s. (length s.cpus.items ≡ N.frames.cpus) × IsSizedAs s.sizes N.frames N.stocks
-        × HasZone s.sizes × IsNames s.names };
+        × HasValidCounts s.sizes × IsNames s.names };
 }
 
 impl<N: BootName> Server<N> {
@@ -69,7 +69,7 @@ impl<N: BootName> Server<N> {
         requires names { IsNames names }
         requires count { length cpus.items ≡ N.frames.cpus }
         requires sized { IsSizedAs sizes N.frames N.stocks }
-        requires zone { HasZone sizes }
+        requires counts { HasValidCounts sizes }
         ensures state { result.state ≡ system_state locked cpus.items }
         ensures sizes { result.sizes ≡ sizes }
         ensures is_explained { result.is_explained ≡ is_explained }

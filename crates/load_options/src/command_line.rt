@@ -91,7 +91,7 @@ pub fn words<R: Env + AllocGlobal>(rt: &R) -> Result<Vec<String>, WordsFault> {
 /// Parses the words after the program's name. They are `replay`, `run`, `lint` or `serve`, then any of `--frames`,
 /// `--cpus`, `--batch`, `--high` and `--stock`. After `replay` and `run` there may also be `--audit`, `--numbered` and
 /// `--strict`, and after `replay` `--explain` and `--check`. After `replay` there may be `--steps` or `--trace` instead
-/// of these five. After `serve` there may be `--audit` and `--explain`. Each stands at most once. Or the words are
+/// of these five. After `serve` there may be `--audit` and `--explain`. Each is given at most once. Or the words are
 /// `check` alone, or `--version` or `-V` alone. Anything else is a fault of the words, even a request for help.
 ///
 /// A size is a whole number in its own range: 1 to 1,048,576 frames, 1 to 64 CPUs, batch 1 to 64, high 1 to 256,

@@ -25,7 +25,7 @@ use Rattle.load_options.specs.declared.task.Task.TheVariants.{Replay, Steps, Tra
 use Rattle.load_run.specs.Ending.{WritesEnd}
 use Rattle.load_run.specs.Logs.{AreLoggedSteps}
 use Rattle.load_run.specs.Traced.{AreTraced}
--- what stands after a boot
+-- the state after a boot
 pub use Rattle.load_run.specs.Starting.{IsNewBootState}
 use Rattle.load_run.specs.Refusals.{answered_status}
 

@@ -1,4 +1,4 @@
--- What stands after a boot.
+-- The state after a boot.
 use Rattle.std.specs.Prelude.{◌≡◌}
 use Rattle.frame_word.specs.Seats.{KnownTable}
 use Rattle.stock_word.specs.Stock.{KnownStockTable}

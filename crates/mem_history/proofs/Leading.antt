@@ -453,7 +453,7 @@ pub fast_calls_lead : FastCallsLead
 fast_calls_lead = record {
   held = λ t w run m cpus k c d is f inside few answer.
       watched t m c d _ (leads_held t w run m cpus k c is d f inside few (c.pins ++ f ∷ []) answer.0 answer.1.0 answer.1.3 answer.2);
-  putted = λ t w run m cpus k c d is f answer answers. watched t m c d _ (puts t w run m cpus k c d is f answer answers);
+  is_put = λ t w run m cpus k c d is f answer answers. watched t m c d _ (puts t w run m cpus k c d is f answer answers);
   got = λ t w run m cpus k c d is g f answers decided.
       let stock = answers.4.2 in
       watched t m c d _ (leads_took t w run m cpus k c is d g f answers.1 (with_view c.stock_seat answers.3) answers.2 answers.0 answers.5

@@ -46,7 +46,7 @@ pub record FastCallsLead : Type 0 where
       (index : ℕ) (cpu later : KnownCpu) → IsPart table stock_table run machine cpus index cpu → (frame : ℕ)
       → frame < table.frames → length cpu.back + length cpu.pins < most_pins → PinAnswers frame get.Held cpu later
       → LeadsWatched table (visit_state machine cpu) (cpu_makes cpu.number (Get frame) Held ∷ []) later
-  pub putted : (table : KnownTable) (stock_table : KnownStockTable) (run : Run) (machine : KnownMachine)
+  pub is_put : (table : KnownTable) (stock_table : KnownStockTable) (run : Run) (machine : KnownMachine)
       (cpus : List KnownCpu)
       (index : ℕ) (cpu later : KnownCpu) → IsPart table stock_table run machine cpus index cpu → (frame : ℕ)
       (answer : Putted) → UnpinAnswers frame answer cpu later

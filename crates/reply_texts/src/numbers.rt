@@ -22,5 +22,6 @@ pub(crate) fn write_number(word: &str, number: u64, text: &mut String) -> Result
 {
     text.push_str(word)?;
     push_number(number, text)?;
-    text.push('\n') // One character costs a third of a text of one.
+    // `push` costs a third of `push_str` with a text of one character.
+    text.push('\n')
 }

@@ -16,7 +16,7 @@ use Rattle.script_lines.proofs.Readings.{begins, command_parts, is_command, not_
 use Rattle.script_lines.proofs.Verbs.{name_no_space, same_verb}
 use Rattle.script_lint.specs.Continuation.{GoesOn, IsFirstWord, IsStuck}
 use Rattle.script_lint.specs.Names.{BeginAlike, IsLongest}
-use Rattle.script_lint.specs.Shapes.{HasZone, IsCommand, IsShape, shape_of}
+use Rattle.script_lint.specs.Shapes.{HasValidCounts, IsCommand, IsShape, shape_of}
 use Rattle.script_lint.specs.declared.shape.Shape.TheVariants.{Alone}
 use Rattle.script_lint.proofs.Splits.{behind_first, first_inside, front_of_first, front_of_word, no_space_front, stuck_behind}
 
@@ -51,10 +51,10 @@ lent text = record { ref_ptr = (0, 0); now = text }
 abbrev HasItsArguments : Config → Verb → List ℕ → Type 0
 HasItsArguments sizes v r = (c : Command) × (its_verb c ≡ v) × HasArguments sizes c r
 
-from_shape : (sizes : Config) → HasZone sizes → (v : Verb) (r : List ℕ) → IsShape (shape_of sizes v) r → HasItsArguments sizes v r
-from_shape sizes zone Mkdir r is = (command.Mkdir (lent r), refl, (is, refl))
-from_shape sizes zone Rmdir r is = (command.Rmdir (lent r), refl, (is, refl))
-from_shape sizes zone Write r is =
+from_shape : (sizes : Config) → HasValidCounts sizes → (v : Verb) (r : List ℕ) → IsShape (shape_of sizes v) r → HasItsArguments sizes v r
+from_shape sizes counts Mkdir r is = (command.Mkdir (lent r), refl, (is, refl))
+from_shape sizes counts Rmdir r is = (command.Rmdir (lent r), refl, (is, refl))
+from_shape sizes counts Write r is =
     let more = is.4 in (
       command.Write (lent is.0) (lent more.0) (lent more.1),
       refl,
@@ -64,35 +64,35 @@ from_shape sizes zone Write r is =
         file_text = more.3;
       },
     )
-from_shape sizes zone Read r is = (command.Read (lent is.0) (lent is.1), refl, record { parts = is.2; path_text = is.3; file_text = is.4 })
-from_shape sizes zone Alloc r is =
+from_shape sizes counts Read r is = (command.Read (lent is.0) (lent is.1), refl, record { parts = is.2; path_text = is.3; file_text = is.4 })
+from_shape sizes counts Alloc r is =
     (command.Alloc (lent is.0) is.4.0, refl, record { digits = is.1; parts = is.2; path_text = is.3; writes = is.4.1 })
-from_shape sizes zone Fast r is = let high = is.3 in (command.Fast is.0, refl, record { writes = is.1; low = omega arith })
-from_shape sizes zone Release r is =
-    let high = is.3 in let some = zone.frames_low in (command.Release is.0, refl, record { writes = is.1; in_zone = omega arith })
-from_shape sizes zone Get r is =
-    let high = is.3 in let some = zone.frames_low in (command.Get is.0, refl, record { writes = is.1; in_zone = omega arith })
-from_shape sizes zone Put r is =
-    let high = is.3 in let some = zone.frames_low in (command.Put is.0, refl, record { writes = is.1; in_zone = omega arith })
-from_shape sizes zone Touch r is =
-    let high = is.3 in let some = zone.frames_low in (command.Touch is.0, refl, record { writes = is.1; in_zone = omega arith })
-from_shape sizes zone Dirty r is =
-    let high = is.3 in let some = zone.frames_low in (command.Dirty is.0, refl, record { writes = is.1; in_zone = omega arith })
-from_shape sizes zone Clean r is =
-    let high = is.3 in let some = zone.frames_low in (command.Clean is.0, refl, record { writes = is.1; in_zone = omega arith })
-from_shape sizes zone Owner r is =
-    let high = is.3 in let some = zone.frames_low in (command.Owner is.0, refl, record { writes = is.1; in_zone = omega arith })
-from_shape sizes zone Settle r is = absurd is
-from_shape sizes zone Blocks r is = absurd is
-from_shape sizes zone Show r is = absurd is
-from_shape sizes zone Stock r is = absurd is
-from_shape sizes zone Units r is = (command.Units (lent r), refl, (is, refl))
+from_shape sizes counts Fast r is = let high = is.3 in (command.Fast is.0, refl, record { writes = is.1; low = omega arith })
+from_shape sizes counts Release r is =
+    let high = is.3 in let some = counts.frames_low in (command.Release is.0, refl, record { writes = is.1; in_zone = omega arith })
+from_shape sizes counts Get r is =
+    let high = is.3 in let some = counts.frames_low in (command.Get is.0, refl, record { writes = is.1; in_zone = omega arith })
+from_shape sizes counts Put r is =
+    let high = is.3 in let some = counts.frames_low in (command.Put is.0, refl, record { writes = is.1; in_zone = omega arith })
+from_shape sizes counts Touch r is =
+    let high = is.3 in let some = counts.frames_low in (command.Touch is.0, refl, record { writes = is.1; in_zone = omega arith })
+from_shape sizes counts Dirty r is =
+    let high = is.3 in let some = counts.frames_low in (command.Dirty is.0, refl, record { writes = is.1; in_zone = omega arith })
+from_shape sizes counts Clean r is =
+    let high = is.3 in let some = counts.frames_low in (command.Clean is.0, refl, record { writes = is.1; in_zone = omega arith })
+from_shape sizes counts Owner r is =
+    let high = is.3 in let some = counts.frames_low in (command.Owner is.0, refl, record { writes = is.1; in_zone = omega arith })
+from_shape sizes counts Settle r is = absurd is
+from_shape sizes counts Blocks r is = absurd is
+from_shape sizes counts Show r is = absurd is
+from_shape sizes counts Stock r is = absurd is
+from_shape sizes counts Units r is = (command.Units (lent r), refl, (is, refl))
 
 -- a name, a space and what has the shape are a command, and nothing else behind the name is
-pub command_from : (sizes : Config) → HasZone sizes → (text : List ℕ) (v : Verb) (r : List ℕ) → IsCut text (name_of v) r
+pub command_from : (sizes : Config) → HasValidCounts sizes → (text : List ℕ) (v : Verb) (r : List ℕ) → IsCut text (name_of v) r
     → IsShape (shape_of sizes v) r → IsCommand sizes text
-command_from sizes zone text v r cut is =
-    let found = from_shape sizes zone v r is in
+command_from sizes counts text v r cut is =
+    let found = from_shape sizes counts v r is in
     (found.0, is_command sizes text r v cut found.0 found.1 found.2)
 
 pub command_to : (sizes : Config) (text : List ℕ) (v : Verb) (r : List ℕ) → IsCut text (name_of v) r → IsCommand sizes text
@@ -143,20 +143,20 @@ some_shape sizes Fast = inr (48 ∷ [], (0, nought, omega arith, omega arith))
 some_shape sizes other = inr (48 ∷ [], (0, nought, omega arith, omega arith))
 
 -- every name begins a command
-complete : (sizes : Config) → HasZone sizes → (v : Verb) → (rest : List ℕ) × IsCommand sizes (name_of v ++ rest)
-complete sizes zone v = elim (some_shape sizes v) [
+complete : (sizes : Config) → HasValidCounts sizes → (v : Verb) → (rest : List ℕ) × IsCommand sizes (name_of v ++ rest)
+complete sizes counts v = elim (some_shape sizes v) [
   | inl alone ↦ ([], subst (IsCommand sizes) (sym (append-nil (name_of v))) (is_alone sizes v alone))
-  | inr some ↦ (32 ∷ some.0, command_from sizes zone (name_of v ++ 32 ∷ some.0) v some.0 (record { parts = refl; no_space = name_no_space v }) some.1)
+  | inr some ↦ (32 ∷ some.0, command_from sizes counts (name_of v ++ 32 ∷ some.0) v some.0 (record { parts = refl; no_space = name_no_space v }) some.1)
 ]
 
 -- a name that lacks what should follow it
-pub stuck_behind_name : (sizes : Config) → HasZone sizes → (text : List ℕ) (v : Verb) → text ≡ name_of v → shape_of sizes v ≢ Alone
+pub stuck_behind_name : (sizes : Config) → HasValidCounts sizes → (text : List ℕ) (v : Verb) → text ≡ name_of v → shape_of sizes v ≢ Alone
     → IsStuck (IsCommand sizes) text (length text)
-stuck_behind_name sizes zone text v e more = record {
+stuck_behind_name sizes counts text v e more = record {
   inside = omega arith;
   goes_on =
       let whole : name_of v ≡ take (length text) text = sym e ∙ sym (take_all (length text) text (omega arith)) in
-      subst (GoesOn (IsCommand sizes)) whole (complete sizes zone v);
+      subst (GoesOn (IsCommand sizes)) whole (complete sizes counts v);
   stuck = λ h. absurd (omega arith);
   bad = λ is. not_alone sizes text v e (not_standing sizes v more) is.0 is.1;
 }
@@ -185,12 +185,12 @@ stuck_at_space sizes text v r cut alone =
     }
 
 -- what follows a name and a space can't be continued
-pub stuck_in_arguments : (sizes : Config) → HasZone sizes → (text : List ℕ) (v : Verb) (r : List ℕ) (place : ℕ) → IsCut text (name_of v) r
+pub stuck_in_arguments : (sizes : Config) → HasValidCounts sizes → (text : List ℕ) (v : Verb) (r : List ℕ) (place : ℕ) → IsCut text (name_of v) r
     → IsStuck (IsShape (shape_of sizes v)) r place → IsStuck (IsCommand sizes) text (length (name_of v) + 1 + place)
-stuck_in_arguments sizes zone text v r place cut is =
+stuck_in_arguments sizes counts text v r place cut is =
     let named : (t : List ℕ) → IsCut (name_of v ++ 32 ∷ t) (name_of v) t = λ t. record { parts = refl; no_space = name_no_space v } in
     stuck_behind (IsCommand sizes) (IsShape (shape_of sizes v)) (name_of v)
-    (λ t h. command_from sizes zone _ v t (named t) h) (λ t h. command_to sizes _ v t (named t) h) text r place cut.parts is
+    (λ t h. command_from sizes counts _ v t (named t) h) (λ t h. command_to sizes _ v t (named t) h) text r place cut.parts is
 
 -- the beginnings of a command's name that is no more than such
 pub alike_more : (word rest : List ℕ) (n : ℕ) (name : List ℕ) → n ≤ length word → take n word ++ rest ≡ name → BeginAlike word name n
@@ -201,7 +201,7 @@ alike_more word rest n name le e =
     = ap (take n) (sym e) ∙ take-append-le n (take n word) rest (omega arith) ∙ take_all n (take n word) (omega arith) in
     record { inside_one = le; inside_other = omega arith; same = sym front }
 
-module _ (sizes : Config) (zone : HasZone sizes) (text word : List ℕ) (first : IsFirstWord text word)
+module _ (sizes : Config) (counts : HasValidCounts sizes) (text word : List ℕ) (first : IsFirstWord text word)
     (none : (v : Verb) → ¬ BeginsWithName v text) (count : ℕ) (longest : IsLongest word count) where
   -- so many bytes and one more don't begin a command within the word
   not_within : count < length word → ¬ GoesOn (IsCommand sizes) (take (count + 1) text)
@@ -237,7 +237,7 @@ module _ (sizes : Config) (zone : HasZone sizes) (text word : List ℕ) (first :
       let alike = longest.alike in
       let inside = first_inside text word first in
       let le = alike.inside_one in
-      let done = complete sizes zone longest.verb in
+      let done = complete sizes counts longest.verb in
       record {
         inside = omega arith;
         goes_on =

@@ -10,7 +10,7 @@ use Rattle.script_lines.specs.Script.{IsPathText, WritesNumber}
 use Rattle.script_lines.proofs.Cuts.{NoSpace, digits_no_space, path_no_space}
 use Rattle.std.proofs.lemmas.Bool.{cases_lt}
 use Rattle.script_lint.specs.Continuation.{GoesOn, IsStuck}
-use Rattle.script_lint.specs.Shapes.{IsRange, IsWide, IsWord}
+use Rattle.script_lint.specs.Shapes.{HasFullRange, IsRange, IsWord}
 use Rattle.script_lint.specs.declared.shape.Kind.{Kind}
 use Rattle.script_lint.specs.declared.shape.Kind.TheVariants.{Number, Path}
 
@@ -160,6 +160,6 @@ word_no_space (Number least most) word is = digits_no_space word is.1.digits.1
 word_no_space Path word is = path_no_space word is
 
 -- there is a word of each kind
-pub some_word : (kind : Kind) → IsWide kind → (r : List ℕ) × IsWord kind r
-some_word (Number least most) wide = let on = number_goes_on least most wide [] tt (omega arith) in (on.0, on.1)
-some_word Path wide = let on = path_goes_on [] (λ k d h. absurd (omega arith)) in (on.0, on.1)
+pub some_word : (kind : Kind) → HasFullRange kind → (r : List ℕ) × IsWord kind r
+some_word (Number least most) full = let on = number_goes_on least most full [] tt (omega arith) in (on.0, on.1)
+some_word Path full = let on = path_goes_on [] (λ k d h. absurd (omega arith)) in (on.0, on.1)

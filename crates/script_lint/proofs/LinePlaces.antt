@@ -12,7 +12,7 @@ use Rattle.script_lines.specs.declared.verb.Verb.{Verb}
 use Rattle.script_lines.specs.declared.line.Command.TheVariants as command
 use Rattle.script_lint.specs.Continuation.{GoesOn, IsSplit, IsStuck}
 use Rattle.script_lint.specs.Names.{IsCommon}
-use Rattle.script_lint.specs.Shapes.{HasZone, IsCommand, IsGoodText, IsOpen, IsRequest, IsShape, IsWide, IsWord, LacksWord, behind_word, shape_of}
+use Rattle.script_lint.specs.Shapes.{HasFullRange, HasValidCounts, IsCommand, IsGoodText, IsOpen, IsRequest, IsShape, IsWord, LacksWord, behind_word, shape_of}
 use Rattle.script_lint.specs.declared.shape.Kind.{Kind}
 use Rattle.script_lint.specs.declared.shape.Kind.TheVariants.{Number}
 use Rattle.script_lint.proofs.Commands.{alike_more, command_from, stuck_in_arguments}
@@ -169,8 +169,8 @@ stuck_go sizes bs count other common =
         omega arith
 
 -- a word, a space, and nothing
-pub some_open : (kind : Kind) → IsWide kind → (r : List ℕ) × IsOpen kind r
-some_open kind wide = let some = some_word kind wide in (some.0 ++ 32 ∷ [], (some.0, [], refl, some.1, tt))
+pub some_open : (kind : Kind) → HasFullRange kind → (r : List ℕ) × IsOpen kind r
+some_open kind full = let some = some_word kind full in (some.0 ++ 32 ∷ [], (some.0, [], refl, some.1, tt))
 
 -- a text behind whose first word and space the rest is right or stuck
 pub split_behind : (kind : Kind) (Rest : List ℕ → Type 0) → ((r : List ℕ) × Rest r) → (text word rest : List ℕ) (found : Option ℕ)
@@ -181,11 +181,11 @@ split_behind kind Rest some text word rest (Some place) cut is stuck =
     stuck_in_rest (IsWord kind) Rest (word_no_space kind) some text word rest place cut is stuck
 
 -- the same behind the name of a command
-pub command_behind : (sizes : Config) → HasZone sizes → (text : List ℕ) (v : Verb) (rest : List ℕ) (found : Option ℕ) → IsCut text (name_of v) rest
+pub command_behind : (sizes : Config) → HasValidCounts sizes → (text : List ℕ) (v : Verb) (rest : List ℕ) (found : Option ℕ) → IsCut text (name_of v) rest
     → MatchOption found (IsShape (shape_of sizes v) rest) (λ place. IsStuck (IsShape (shape_of sizes v)) rest place)
     → MatchOption (behind_word (name_of v) found) (IsCommand sizes text) (λ place. IsStuck (IsCommand sizes) text place)
-command_behind sizes zone text v rest None cut is = command_from sizes zone text v rest cut is
-command_behind sizes zone text v rest (Some place) cut is = stuck_in_arguments sizes zone text v rest place cut is
+command_behind sizes counts text v rest None cut is = command_from sizes counts text v rest cut is
+command_behind sizes counts text v rest (Some place) cut is = stuck_in_arguments sizes counts text v rest place cut is
 
 -- a line that is neither empty nor a comment nor may be `go`
 pub line_found : (sizes : Config) (had_go : Bool) (text : List ℕ) (found : Option ℕ) → 0 < length text → get_or text 0 0 ≢ 35 → get_or text 0 0 ≢ 103

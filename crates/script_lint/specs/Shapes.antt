@@ -17,7 +17,7 @@ use Rattle.script_lint.specs.declared.start.Start.{Start}
 use Rattle.script_lint.specs.declared.start.Start.TheVariants as start
 
 -- there is a frame and a CPU, and no more of them than a zone may have
-pub record HasZone (sizes : Config) : Type 0 where
+pub record HasValidCounts (sizes : Config) : Type 0 where
   pub frames_low : 1 ≤ sizes.frames
   pub frames_high : sizes.frames ≤ most_frames
   pub cpus_low : 1 ≤ sizes.cpus
@@ -33,9 +33,9 @@ abbrev pub IsRange : (least most : ℕ) → Type 0
 IsRange least most = (least ≤ 1) × (least ≤ most) × (most < 2 ^ 32)
 
 -- a word of this kind may begin with any digit
-abbrev pub IsWide : Kind → Type 0
-IsWide (Number least most) = IsRange least most
-IsWide Path = ⊤
+abbrev pub HasFullRange : Kind → Type 0
+HasFullRange (Number least most) = IsRange least most
+HasFullRange Path = ⊤
 
 -- the numbers from 0 on
 abbrev pub up_to : ℕ → Kind
@@ -67,12 +67,12 @@ IsShape (One first) text = IsWord first text
 IsShape (Two first second) text = IsSplit (IsWord first) (IsWord second) text
 IsShape (Open first second) text = IsSplit (IsWord first) (IsOpen second) text
 
--- the words of this shape are wide
-abbrev pub IsWideShape : Shape → Type 0
-IsWideShape Alone = ⊤
-IsWideShape (One first) = IsWide first
-IsWideShape (Two first second) = IsWide first × IsWide second
-IsWideShape (Open first second) = IsWide first × IsWide second
+-- each word of this shape may begin with any digit
+abbrev pub HasFullRanges : Shape → Type 0
+HasFullRanges Alone = ⊤
+HasFullRanges (One first) = HasFullRange first
+HasFullRanges (Two first second) = HasFullRange first × HasFullRange second
+HasFullRanges (Open first second) = HasFullRange first × HasFullRange second
 
 -- the place in a text that has this word, a space, and a rest with this place
 abbrev pub behind_word : List ℕ → Option ℕ → Option ℕ

@@ -8,7 +8,8 @@ ghost use Rattle.script_lines.specs.Verb.{IsNames, name_of};
 ghost use Rattle.script_lint.specs.Continuation.{IsStuck};
 ghost use Rattle.script_lint.specs.declared.shape.Shape.TheVariants.{Alone};
 ghost use Rattle.script_lint.specs.Names.{IsCommon, IsLongest};
-ghost use Rattle.script_lint.specs.Shapes.{HasZone, IsCommand, IsOpen, IsShape, IsWide, IsWideShape, behind_word};
+ghost use Rattle.script_lint.specs.Shapes.{HasFullRange, HasFullRanges, HasValidCounts, IsCommand, IsOpen, IsShape};
+ghost use Rattle.script_lint.specs.Shapes.{behind_word};
 
 use crate::shape::{Kind, Shape, shape_of};
 use crate::start::{Start, start_of, word_place};
@@ -97,7 +98,7 @@ fn longest(text: &[u8]) -> usize
 
 // The place from which on the text doesn't go on to what follows a command's name and a space. None if it is that.
 fn shape_place(shape: Shape, text: &[u8]) -> Option<usize>
-    requires wide { IsWideShape shape }
+    requires ranges { HasFullRanges shape }
     requires more { shape ≢ Alone }
     ensures { MatchOption result (IsShape shape text.now) (λ place. IsStuck (IsShape shape) text.now place) }
 {
@@ -117,7 +118,7 @@ fn shape_place(shape: Shape, text: &[u8]) -> Option<usize>
 
 // The place from which on the text doesn't go on to a word of this kind, a space and any bytes. None if it is that.
 fn open_place(kind: Kind, text: &[u8]) -> Option<usize>
-    requires { IsWide kind }
+    requires { HasFullRange kind }
     ensures { MatchOption result (IsOpen kind text.now) (λ place. IsStuck (IsOpen kind) text.now place) }
 {
     match start_of(kind, text) {
@@ -141,7 +142,7 @@ pub(crate) fn behind(word: &[u8], rest: &[u8], place: Option<usize>) -> Option<u
 // The place from which on the text doesn't go on to a command. None if it is one.
 pub(crate) fn command_place(names: &Names, text: &[u8], sizes: &Config) -> Option<usize>
     requires names { IsNames names.now }
-    requires zone { HasZone sizes.now }
+    requires counts { HasValidCounts sizes.now }
     ensures { MatchOption result (IsCommand sizes.now text.now)
         (λ place. IsStuck (IsCommand sizes.now) text.now place) }
 {
@@ -153,7 +154,7 @@ pub(crate) fn command_place(names: &Names, text: &[u8], sizes: &Config) -> Optio
 
 // The place of a text that begins with this command's name, and goes on with a space and this rest, if there is one.
 fn named_place(verb: Verb, text: &[u8], rest: Option<&[u8]>, sizes: &Config) -> Option<usize>
-    requires zone { HasZone sizes.now }
+    requires counts { HasValidCounts sizes.now }
     requires named { IsNamed verb rest text.now }
     ensures { MatchOption result (IsCommand sizes.now text.now)
         (λ place. IsStuck (IsCommand sizes.now) text.now place) }
@@ -170,7 +171,7 @@ fn named_place(verb: Verb, text: &[u8], rest: Option<&[u8]>, sizes: &Config) -> 
 // The place of a text that begins with no command's name.
 fn name_place(text: &[u8]) -> usize
     requires { (verb : Verb) → ¬ BeginsWithName verb text.now }
-    ensures { (sizes : Config) → HasZone sizes → IsStuck (IsCommand sizes) text.now result }
+    ensures { (sizes : Config) → HasValidCounts sizes → IsStuck (IsCommand sizes) text.now result }
 {
     match first_word(text) {
         Some((word, _)) => longest(word),
@@ -180,7 +181,7 @@ fn name_place(text: &[u8]) -> usize
 
 // The place of a text that is this command's name, a space and this rest.
 fn arguments_place(verb: Verb, text: &[u8], rest: &[u8], sizes: &Config) -> Option<usize>
-    requires zone { HasZone sizes.now }
+    requires counts { HasValidCounts sizes.now }
     requires named { IsCut text.now (name_of verb) rest.now }
     ensures { MatchOption result (IsCommand sizes.now text.now)
         (λ place. IsStuck (IsCommand sizes.now) text.now place) }

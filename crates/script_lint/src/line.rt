@@ -5,7 +5,7 @@ ghost use Rattle.zone_sizes.specs.declared.config.Config.{Config};
 ghost use Rattle.script_lines.specs.Verb.{IsNames};
 ghost use Rattle.script_lint.specs.Continuation.{IsStuck};
 ghost use Rattle.script_lint.specs.Lines.{IsGoodHere, IsSpot, stuck_spot, whole_spot};
-ghost use Rattle.script_lint.specs.Shapes.{HasZone, IsGoodText};
+ghost use Rattle.script_lint.specs.Shapes.{HasValidCounts, IsGoodText};
 
 use crate::cause::cause_of;
 use crate::command::common;
@@ -25,7 +25,7 @@ pub(crate) fn lint_line(
     sizes: &Config,
 ) -> Option<Spot>
     requires names { IsNames names.now }
-    requires zone { HasZone sizes.now }
+    requires counts { HasValidCounts sizes.now }
     ensures { MatchOption result (IsGoodHere sizes.now had_go (is_within ≡ true) text.now)
         (λ spot. IsSpot sizes.now had_go (is_within ≡ true) text.now spot) }
 {
@@ -75,7 +75,7 @@ fn whole_spot(text: &[u8], is_within: bool) -> Option<Spot>
 // The place from which on the text, however long, doesn't go on to a good one. None if it is one.
 fn line_place(names: &Names, text: &[u8], had_go: bool, sizes: &Config) -> Option<usize>
     requires names { IsNames names.now }
-    requires zone { HasZone sizes.now }
+    requires counts { HasValidCounts sizes.now }
     ensures { MatchOption result (IsGoodText sizes.now had_go text.now)
         (λ place. IsStuck (IsGoodText sizes.now had_go) text.now place) }
 {

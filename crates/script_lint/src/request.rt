@@ -3,7 +3,7 @@
 ghost use Rattle.std.specs.Prelude.{MatchOption};
 ghost use Rattle.script_lines.specs.Verb.{IsNames};
 ghost use Rattle.script_lint.specs.Continuation.{IsStuck};
-ghost use Rattle.script_lint.specs.Shapes.{HasZone, IsRequest};
+ghost use Rattle.script_lint.specs.Shapes.{HasValidCounts, IsRequest};
 
 use crate::command::command_place;
 use crate::shape::Kind;
@@ -14,7 +14,7 @@ use zone_sizes::config::Config;
 // The place from which on the text doesn't go on to `P COMMAND`. None if it is that.
 pub(crate) fn request_place(names: &Names, text: &[u8], sizes: &Config) -> Option<usize>
     requires names { IsNames names.now }
-    requires zone { HasZone sizes.now }
+    requires counts { HasValidCounts sizes.now }
     ensures { MatchOption result (IsRequest sizes.now text.now)
         (λ place. IsStuck (IsRequest sizes.now) text.now place) }
 {

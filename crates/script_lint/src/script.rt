@@ -4,7 +4,7 @@ ghost use Rattle.std.specs.Prelude.{◌≤◌, IfOk, IfSome, OnOk, length};
 ghost use Rattle.script_lines.specs.Verb.{IsNames};
 ghost use Rattle.script_lint.specs.Findings.{IsLinted, IsTextLinted};
 ghost use Rattle.script_lint.specs.Script.{AddsSpot};
-ghost use Rattle.script_lint.specs.Shapes.{HasZone};
+ghost use Rattle.script_lint.specs.Shapes.{HasValidCounts};
 
 use crate::cause::word_at;
 use crate::finding::{Cause, Finding, Spot};
@@ -22,7 +22,7 @@ pub fn lint_script<'a>(
     input: &'a [u8],
     sizes: &Config,
 ) -> Result<Vec<Finding<'a>>, AllocError>
-    requires { HasZone sizes.now }
+    requires { HasValidCounts sizes.now }
     ensures { IfOk result (λ findings. IsLinted sizes.now input.entry.now findings.items) }
 {
     let names = command_names(alloc)?;
@@ -38,7 +38,7 @@ pub fn lint_text<'a>(
     sizes: &Config,
 ) -> Result<Option<Finding<'a>>, AllocError>
     requires names { IsNames names.now }
-    requires zone { HasZone sizes.now }
+    requires counts { HasValidCounts sizes.now }
     ensures { IfOk result (λ found. IsTextLinted sizes.now text.entry.now found) }
 {
     let Some(spot) = lint_line(names, text, false, true, sizes) else {
@@ -61,7 +61,7 @@ fn lint_lines<'a>(
     sizes: &Config,
 ) -> Result<Vec<Finding<'a>>, AllocError>
     requires names { IsNames names.now }
-    requires zone { HasZone sizes.now }
+    requires counts { HasValidCounts sizes.now }
     ensures { IfOk result (λ findings. IsLinted sizes.now input.entry.now findings.items) }
 {
     let over = line_over(input);

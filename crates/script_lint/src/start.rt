@@ -1,6 +1,6 @@
 //! How a text begins, if a word, a space and more are due.
 
-ghost use Rattle.script_lint.specs.Shapes.{IsWide, IsWord, Starts};
+ghost use Rattle.script_lint.specs.Shapes.{HasFullRange, IsWord, Starts};
 ghost use Rattle.script_lint.specs.Continuation.{IsStuck};
 ghost use Rattle.std.specs.Prelude.{MatchOption};
 
@@ -20,7 +20,7 @@ pub enum Start<'a> {
 
 // The place from which on the text doesn't go on to a word of this kind. None if it is one.
 pub(crate) fn word_place(kind: Kind, text: &[u8]) -> Option<usize>
-    requires { IsWide kind }
+    requires { HasFullRange kind }
     ensures { MatchOption result (IsWord kind text.now) (λ place. IsStuck (IsWord kind) text.now place) }
 {
     match kind {
@@ -31,7 +31,7 @@ pub(crate) fn word_place(kind: Kind, text: &[u8]) -> Option<usize>
 
 // How the text begins, if a word of this kind, a space and more are due.
 pub(crate) fn start_of(kind: Kind, text: &[u8]) -> Start<'_>
-    requires { IsWide kind }
+    requires { HasFullRange kind }
     ensures { Starts kind text.now result }
 {
     match first_word(text) {

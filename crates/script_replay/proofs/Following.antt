@@ -314,7 +314,7 @@ module _ (t : KnownTable) (w : KnownStockTable) (run : Run) (locked : KnownLocke
       Follows (put_steps p f answer) after
   put_follows f after (answer.Put putted) is kept legal =
       step_follows (step.Put f) (put_answer putted) after kept (put_number putted is.1) refl (put_made putted)
-      (fast_calls_lead.putted t w run m cpus k c after.cpu this_part f putted is.1 after.locked.machine.watch kept.watched) legal
+      (fast_calls_lead.is_put t w run m cpus k c after.cpu this_part f putted is.1 after.locked.machine.watch kept.watched) legal
     where
       put_number : (x : Putted) → UnpinAnswers f x c after.cpu → after.cpu.number ≡ p
       put_number (put.Left n) a = ap (λ (y : KnownCpu). y.number) a.3

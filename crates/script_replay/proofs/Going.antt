@@ -30,7 +30,7 @@ use Rattle.script_replay.specs.Answers.{AddsText, ServesCommand, WritesWork}
 use Rattle.script_replay.specs.Lines.{SystemState, system_state, AtPart, InOrder, ServesLine, ServesAll, StopsAt, number_in_script}
 use Rattle.script_replay.specs.History.{Past, past, past_line, HasHistory, Replays, ReplaysLegally, ServesAndKeeps}
 use Rattle.script_replay.specs.History.{StopsFor, HoldsInvariants}
-use Rattle.script_replay.specs.declared.value_replay.Stopped.TheVariants.{NotLegal}
+use Rattle.script_replay.specs.declared.owned_replay.Stopped.TheVariants.{NotLegal}
 use Rattle.script_replay.specs.Ranges.{LineInRange}
 use Rattle.script_replay.specs.declared.form.Form.{Form}
 use Rattle.script_replay.specs.Numbers.{numbered_text, text_with_number}

@@ -1,4 +1,4 @@
--- What a command says as a value. Serves `typed_answers` and `typed_calls`.
+-- What a command says as a value. Serves `value_answers` and `value_calls`.
 use Rattle.std.proofs.Common.{◌≡◌, ◌-◌, ℕ, Bool, true, false, Some, List, [], ◌∷◌, append-nil, arith, get_or, refl, subst, sym}
 use Rattle.std.specs.Prelude.{Option, Result, length, slice_set}
 use Rattle.std.specs.List.{slice_get}
@@ -24,7 +24,7 @@ use Rattle.script_replay.specs.History.{HoldsInvariants, ServesAndKeeps}
 use Rattle.script_replay.specs.Lines.{SystemState, system_state}
 use Rattle.script_replay.specs.Ranges.{CpuCommandInRange}
 use Rattle.script_replay.specs.Terms.{BootTables, Terms, terms}
-use Rattle.script_replay.specs.Typed.{SaysCommand, SaysWork}
+use Rattle.script_replay.specs.ValueAnswers.{SaysCommand, SaysWork}
 use Rattle.script_replay.specs.Works.{work_of}
 use Rattle.script_replay.proofs.Going.{all_replayed, tied_still}
 

@@ -16,8 +16,8 @@ use Rattle.mem_system.specs.Locked.{IsQuiet, KnownLocked}
 use Rattle.mem_system.specs.Visits.{transition}
 use Rattle.script_lines.specs.declared.line.Line.{Line}
 use Rattle.script_lines.specs.declared.line.Line.TheVariants.{Go}
-use Rattle.script_replay.specs.declared.value_replay.Stopped.{Stopped}
-use Rattle.script_replay.specs.declared.value_replay.Stopped.TheVariants.{NoMemory, NotLegal}
+use Rattle.script_replay.specs.declared.owned_replay.Stopped.{Stopped}
+use Rattle.script_replay.specs.declared.owned_replay.Stopped.TheVariants.{NoMemory, NotLegal}
 use Rattle.script_replay.specs.Lines.{SystemState, ServesAll, ServesLine, StopsAt, WritesLineOnTerms}
 use Rattle.script_replay.specs.Lines.{number_in_script}
 use Rattle.script_replay.specs.Ranges.{LineInRange}

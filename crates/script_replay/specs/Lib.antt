@@ -5,6 +5,6 @@ pub mod Numbers
 pub mod Ranges
 pub mod Routes
 pub mod Terms
-pub mod Typed
+pub mod ValueAnswers
 pub mod Visits
 pub mod Works

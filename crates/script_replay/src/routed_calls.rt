@@ -14,9 +14,9 @@ ghost use Rattle.script_replay.specs.Terms.{boot_tables};
 ghost use Rattle.script_replay.specs.Works.{work_of};
 
 use crate::locked_calls::{serve_frame_under_lock, serve_under_lock};
+use crate::owned_replay::{prove_invariants, serve_line};
 use crate::route::Route;
 use crate::unlocked_calls::try_relist;
-use crate::value_replay::{prove_invariants, serve_line};
 use crate::watched_steps::{watch_credit, watch_fast};
 use crate::work::{Work, work_of};
 use cpu_part::{BootName, Cpu, Fast, Tables};

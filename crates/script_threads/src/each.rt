@@ -37,12 +37,12 @@ pub fn run_each<N: BootName + Send + Sync, R: Threads + Wait + Sync, G: Gate + S
     ensures { IfOk result (λ text.
         AreAllAnswers (boot_tables N.frames N.stocks) (workers_from 1 cpus.old lines.now is_numbered) text.items) }
 {
-    run_named(rt, alloc, system, cpus, lines, is_numbered, gate)
+    run_in_range(rt, alloc, system, cpus, lines, is_numbered, gate)
 }
 
 // Serves the lines as `run_each` does. It requires only that the frames and groups in them are in range, not the
 // CPUs.
-fn run_named<N: BootName + Send + Sync, R: Threads + Wait + Sync, G: Gate + Sync>(
+fn run_in_range<N: BootName + Send + Sync, R: Threads + Wait + Sync, G: Gate + Sync>(
     rt: &R,
     alloc: Global,
     system: &System<N>,

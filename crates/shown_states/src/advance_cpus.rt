@@ -124,14 +124,7 @@ fn advance_cpu<N: BootName>(
     ensures added { OnOk result (AddsCpu number frames parts.old parts.new shown.old
         (cpu_with_stock cpu.now stock)) }
 {
-    advance_lists(
-        alloc,
-        number,
-        cpu,
-        shown,
-        &mut parts.numbers,
-        &mut parts.lists,
-    )?;
+    advance_lists(number, cpu, shown, &mut parts.numbers, &mut parts.lists)?;
     advance_pins(
         alloc,
         number,
@@ -146,7 +139,6 @@ fn advance_cpu<N: BootName>(
 
 // Sets the CPU's three lists, and adds what changed.
 fn advance_lists<N: BootName>(
-    alloc: Global,
     number: usize,
     cpu: &Cpu<N>,
     shown: &mut ShownCpu,
@@ -253,14 +245,7 @@ fn add_list_change(
         return Ok(false);
     }
     set_numbers(first, rest, numbers)?;
-    write_list(
-        alloc,
-        name,
-        before,
-        numbers,
-        &mut lists.is_first,
-        &mut lists.text,
-    )?;
+    write_list(name, before, numbers, &mut lists.is_first, &mut lists.text)?;
     Ok(true)
 }
 

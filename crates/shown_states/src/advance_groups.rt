@@ -16,7 +16,7 @@ use cpu_part::BootName;
 use group_tree::group::{GroupId, MAX_GROUPS};
 use lru_lists::record::LruList;
 use mem_machine::Machine;
-use std::alloc::{AllocError, Global};
+use std::alloc::AllocError;
 use trace_lines::groups::{add_group_row, is_same_row};
 use trace_lines::lists::{ListName, write_list};
 use trace_lines::trace_state::ShownGroup;
@@ -62,7 +62,6 @@ fn has_this_group<N: BootName>(
 // Advances these groups to what the machine has of them now, and adds the changes of their lists and their rows that
 // changed. `units` is a spare buffer.
 pub(crate) fn advance_groups<N: BootName>(
-    alloc: Global,
     machine: &Machine<N>,
     groups: &mut [ShownGroup],
     units: &mut Vec<u32>,
@@ -81,7 +80,6 @@ pub(crate) fn advance_groups<N: BootName>(
     let places = row_places(machine.charges().tree().groups());
     for group in groups.iter_mut() {
         advance_group(
-            alloc,
             machine,
             &places,
             group,
@@ -97,7 +95,6 @@ pub(crate) fn advance_groups<N: BootName>(
 
 // Advances one group, and adds the changes of its lists, and its row if that changed.
 fn advance_group<N: BootName>(
-    alloc: Global,
     machine: &Machine<N>,
     places: &[u8; MAX_GROUPS],
     group: &mut ShownGroup,
@@ -115,13 +112,12 @@ fn advance_group<N: BootName>(
         (rows_not_in (group.old ∷ []) (group.new ∷ []))) }
 {
     let id = GroupId::of(group.number()).unwrap();
-    advance_lists(alloc, machine, id, group, units, lists_first, lists)?;
+    advance_lists(machine, id, group, units, lists_first, lists)?;
     advance_row(machine, places, id, group, rows_first, rows)
 }
 
 // Advances the lists of the group of this number, and adds their changes.
 fn advance_lists<N: BootName>(
-    alloc: Global,
     machine: &Machine<N>,
     id: GroupId,
     group: &mut ShownGroup,
@@ -140,7 +136,6 @@ fn advance_lists<N: BootName>(
         group: id.number() as usize,
     };
     read_list(
-        alloc,
         machine,
         id,
         LruList::Inactive,
@@ -155,7 +150,6 @@ fn advance_lists<N: BootName>(
         group: id.number() as usize,
     };
     read_list(
-        alloc,
         machine,
         id,
         LruList::Active,
@@ -171,7 +165,6 @@ fn advance_lists<N: BootName>(
 
 // Fills `units` with the list as it is now, and adds the change from the list that was shown.
 fn read_list<N: BootName>(
-    alloc: Global,
     machine: &Machine<N>,
     id: GroupId,
     list: LruList,
@@ -191,7 +184,7 @@ fn read_list<N: BootName>(
         return Ok(());
     }
     add_units(machine, id, list, units)?;
-    write_list(alloc, name, shown, units, is_first, text)
+    write_list(name, shown, units, is_first, text)
 }
 
 // Advances the row of the group of this number, and adds it if it changed.

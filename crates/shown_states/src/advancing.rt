@@ -345,7 +345,6 @@ fn set_groups<N: BootName>(
     rows.clear();
     state.swap_groups(spare);
     let result = advance_groups(
-        alloc,
         machine,
         spare,
         units,

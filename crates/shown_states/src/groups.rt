@@ -70,7 +70,11 @@ fn show_row<N: BootName>(machine: &Machine<N>, group: GroupId) -> GroupRow
 }
 
 // The numbers of a group that exists and has this memory.oom.group.
-pub(crate) fn row_with<N: BootName>(machine: &Machine<N>, group: GroupId, oom_group: bool) -> GroupRow
+pub(crate) fn row_with<N: BootName>(
+    machine: &Machine<N>,
+    group: GroupId,
+    oom_group: bool,
+) -> GroupRow
     requires there { IsTrue (has_group machine.now.ledger.groups group) }
     requires flag { oom_group ≡ is_oom_group machine.now.ledger.groups group }
     ensures { result ≡ row_shown machine.now group }

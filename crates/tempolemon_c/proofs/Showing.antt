@@ -1,4 +1,4 @@
--- A call whose answer is the text of a file. Serves `serve_into` and `put_file`.
+-- A call whose answer is the text of a file. Serves `serve_into` and `write_file`.
 use Rattle.std.proofs.Common.{◌≡◌, ◌∙◌, ℕ, ◌≤◌, Some, None, List, ap, arith, inl, refl, subst, sym}
 use Rattle.std.specs.Prelude.{IfSome, IsSomeAnd, Option}
 use Rattle.std.proofs.lemmas.Option.{none-some}
@@ -8,7 +8,7 @@ use Rattle.mem_system.specs.declared.outcome.Outcome.TheVariants as outcome
 use Rattle.group_charge.specs.Charges.{Ledger}
 use Rattle.reply_texts.specs.LineAnswer.{LineAnswer}
 use Rattle.reply_texts.specs.LineAnswer as answer
-use Rattle.script_replay.specs.Typed.{answer_of}
+use Rattle.script_replay.specs.ValueAnswers.{answer_of}
 use Rattle.script_replay.specs.declared.answer_value.AnswerValue.{AnswerValue}
 use Rattle.script_replay.specs.declared.answer_value.AnswerValue.TheVariants.{Served}
 use Rattle.handles.specs.declared.calls.Call.{Call}

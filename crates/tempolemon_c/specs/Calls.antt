@@ -15,7 +15,7 @@ use Rattle.handles.specs.declared.calls.Call.TheVariants as call
 use Rattle.control_files.specs.declared.file.File.{File}
 use Rattle.handles.specs.Calls.{HasFile, IsCpu, Means, NamesMissingFrame, NamesMissingGroup, RefusesCall, ServesCommand}
 use Rattle.handles.specs.Known.{KnownLive}
-use Rattle.script_replay.specs.Typed.{NamesItsGroups, answer_of}
+use Rattle.script_replay.specs.ValueAnswers.{NamesItsGroups, answer_of}
 use Rattle.script_replay.specs.declared.answer_value.AnswerValue.{AnswerValue}
 use Rattle.script_replay.specs.declared.answer_value.AnswerValue.TheVariants as value
 use Rattle.tempolemon_c.specs.declared.typed_result.TypedResult.{TypedResult}

@@ -10,7 +10,7 @@ ghost use Rattle.tempolemon_c.specs.Replays.{config_of};
 ghost use Rattle.tempolemon_c.specs.Statuses.{IsAnswerStatus, IsBootStatus, IsEndStatus, IsLinesStatus};
 ghost use Rattle.tempolemon_c.specs.Statuses.{bad_config, bad_line, done, is_live, no_memory, not_live, small_buffer};
 
-use crate::buffers::put_answers;
+use crate::buffers::copy_answers;
 use crate::handle::Handle;
 use crate::report::Report;
 use crate::sizes::Sizes;
@@ -112,7 +112,7 @@ pub extern "C" fn tempolemon_command(
     ) {
         RequestAnswer::Text(told) => {
             *written = told.len();
-            if put_answers(&told, answers) {
+            if copy_answers(&told, answers) {
                 return DONE;
             }
             let _stored = handle.ask(alloc, Request::StoreUnread { text: told });
@@ -152,7 +152,7 @@ pub extern "C" fn tempolemon_answer(
     match handle.ask(alloc, Request::TakeUnread { alloc }) {
         RequestAnswer::Text(told) => {
             *written = told.len();
-            if put_answers(&told, answers) {
+            if copy_answers(&told, answers) {
                 return DONE;
             }
             let _still = handle.ask(alloc, Request::StoreUnread { text: told });

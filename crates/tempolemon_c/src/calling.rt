@@ -6,7 +6,7 @@ ghost use Rattle.script_replay.specs.declared.answer_value.AnswerValue.TheVarian
 ghost use Rattle.tempolemon_c.specs.Behind.{behind};
 ghost use Rattle.tempolemon_c.specs.Calls.{CallsBehind, CallsInto, HasFileBehind, HasGroupsBehind, ReturnsValue};
 
-use crate::buffers::put_answers;
+use crate::buffers::copy_answers;
 use crate::handle::Handle;
 use crate::kinds::{NOTHING, REFUSED, TEXT};
 use crate::status::{BAD_CPU, BAD_FRAME, BAD_GROUP, DONE, NOT_LIVE};
@@ -55,7 +55,7 @@ pub(crate) fn serve_into(
         return NOT_LIVE;
     }
     match handle.call(alloc, cpu, call) {
-        CallAnswer::Served(value) => put_value(alloc, handle, &value, buffer, out),
+        CallAnswer::Served(value) => write_value(alloc, handle, &value, buffer, out),
         CallAnswer::NoCpu => BAD_CPU,
         CallAnswer::NoFrame => BAD_FRAME,
         CallAnswer::NoGroup => BAD_GROUP,
@@ -66,7 +66,7 @@ pub(crate) fn serve_into(
 // one by one: a whole `TypedResult` is copied with the bytes between its fields, which the CPU has to wait for.
 #[inline(always)]
 #[tactic(auto, using(crate::proofs::Showing::plain_result))]
-fn put_value(
+fn write_value(
     alloc: Global,
     handle: &mut Handle,
     value: &AnswerValue,
@@ -79,7 +79,7 @@ fn put_value(
 {
     match *value {
         AnswerValue::Served(Outcome::Text(group, file)) => {
-            put_file(alloc, handle, group, file, buffer, out)
+            write_file(alloc, handle, group, file, buffer, out)
         }
         _ => {
             let answered = typed_answer_of(value);
@@ -94,7 +94,7 @@ fn put_value(
 // for a text, so that no other call clears that room.
 #[inline(never)]
 #[tactic(auto, using(crate::proofs::Numbers::number_low, crate::proofs::Showing::stays, crate::proofs::Showing::tells))]
-fn put_file(
+fn write_file(
     alloc: Global,
     handle: &mut Handle,
     group: GroupId,
@@ -110,7 +110,7 @@ fn put_file(
     match handle.show(alloc, group, file) {
         FileText::Text(text) => {
             let text = text.as_bytes();
-            let _fits = put_answers(text, buffer);
+            let _fits = copy_answers(text, buffer);
             *out = TypedResult {
                 number: text.len() as u64,
                 kind: TEXT,

@@ -26,7 +26,7 @@ mod sizes;
 mod status;
 mod typed_result;
 
-use crate::buffers::put_answers;
+use crate::buffers::copy_answers;
 use crate::fault::ReplayFault;
 use crate::replaying::answer_script;
 use crate::sizes::Sizes;
@@ -65,7 +65,7 @@ pub extern "C" fn tempolemon_replay(
     match answer_script(alloc, sizes.config(), script, is_explained, is_audited) {
         Ok(text) => {
             *written = text.len();
-            if put_answers(&text, answers) {
+            if copy_answers(&text, answers) {
                 DONE
             } else {
                 SMALL_BUFFER

@@ -3,7 +3,7 @@
 ghost use Rattle.std.specs.Prelude.{◌≡◌, List, ℕ};
 ghost use Rattle.group_charge.specs.Charges.{Ledger};
 ghost use Rattle.mem_system.specs.Outcomes.{reply_of};
-ghost use Rattle.script_replay.specs.Typed.{answer_of};
+ghost use Rattle.script_replay.specs.ValueAnswers.{answer_of};
 ghost use Rattle.tempolemon_c.specs.Calls.{IsPlain, IsPlainOutcome, PutsAnswer, PutsReply};
 ghost use Rattle.tempolemon_c.specs.Kinds.{fast_result, get_result, put_result, reply_result, reply_status};
 ghost use Rattle.tempolemon_c.specs.Kinds.{result_of, result_with, status_of};

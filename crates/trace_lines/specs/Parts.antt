@@ -142,15 +142,15 @@ row_text group =
     row_front_text group ++ events_text group.row.events_local ++ marks_text group.row ++ group_kills_text group.row
 
 -- the counts of what ended units
-unfoldable pub ends_text : ShownCounts → List ℕ
-ends_text counts =
+unfoldable pub unit_ends_text : ShownCounts → List ℕ
+unit_ends_text counts =
     opening (codes "counts") ++ decimal counts.last_puts ++ (codes "," ++ decimal counts.freezes)
     ++ (codes "," ++ decimal counts.drops)
 
 -- the five counts
 unfoldable pub counts_text : ShownCounts → List ℕ
 counts_text counts =
-    ends_text counts ++ (codes "," ++ decimal counts.returns) ++ (codes "," ++ decimal counts.misses) ++ codes "]"
+    unit_ends_text counts ++ (codes "," ++ decimal counts.returns) ++ (codes "," ++ decimal counts.misses) ++ codes "]"
 
 -- the counts, if they changed
 unfoldable pub counts_part : Option ShownCounts → List ℕ

@@ -215,15 +215,15 @@ pub fn add_stock(
     let Some(stock) = after else {
         return Ok(());
     };
-    if is_stock(before, stock) {
+    if is_same_stock(before, stock) {
         return Ok(());
     }
     push_start(",\"stocks\":[", is_first, text)?;
     write_stock_change(cpu, stock, text)
 }
 
-// Whether this is the stock.
-fn is_stock(before: Option<ShownStock>, stock: ShownStock) -> bool
+// Whether the stock is as before.
+fn is_same_stock(before: Option<ShownStock>, stock: ShownStock) -> bool
     ensures { result ≡ option_map_or (λ old. is_same_stock old stock) before false }
 {
     match before {

@@ -15,7 +15,7 @@ use crate::numbers::{
 };
 use crate::parts::{push_start, push_stop};
 use crate::trace_state::{ShownCpu, ShownGroup, TraceState};
-use std::alloc::{AllocError, Global};
+use std::alloc::AllocError;
 
 // How many numbers groups have at most.
 const MAX_GROUPS: usize = 64;
@@ -37,7 +37,6 @@ pub enum ListName {
 
 // Adds the part with the lists that changed: first those of the CPUs, then those of the groups, by number.
 pub(crate) fn write_lists(
-    alloc: Global,
     before: &TraceState,
     after: &TraceState,
     text: &mut String,
@@ -46,14 +45,13 @@ pub(crate) fn write_lists(
         ++ part_text (codes "lists") list_change_text (list_changes before.now after.now)) }
 {
     let mut is_first = true;
-    write_cpus_lists(alloc, before.cpus(), after.cpus(), &mut is_first, text)?;
-    write_groups_lists(alloc, before.groups(), after.groups(), &mut is_first, text)?;
+    write_cpus_lists(before.cpus(), after.cpus(), &mut is_first, text)?;
+    write_groups_lists(before.groups(), after.groups(), &mut is_first, text)?;
     push_stop(is_first, text)
 }
 
 // Adds the changes of the CPUs' lists.
 fn write_cpus_lists(
-    alloc: Global,
     before: &[ShownCpu],
     after: &[ShownCpu],
     is_first: &mut bool,
@@ -63,21 +61,13 @@ fn write_cpus_lists(
         (cpus_list_changes 1 before.now after.now)) }
 {
     for index in 0..before.len().min(after.len()) {
-        write_cpu_lists(
-            alloc,
-            index + 1,
-            &before[index],
-            &after[index],
-            is_first,
-            text,
-        )?;
+        write_cpu_lists(index + 1, &before[index], &after[index], is_first, text)?;
     }
     Ok(())
 }
 
 // Adds the changes of the lists of one CPU.
 fn write_cpu_lists(
-    alloc: Global,
     cpu: usize,
     before: &ShownCpu,
     after: &ShownCpu,
@@ -88,16 +78,15 @@ fn write_cpu_lists(
         (cpu_list_changes cpu before.now after.now)) }
 {
     let listed = ListName::Listed { cpu };
-    write_list(alloc, listed, before.list(), after.list(), is_first, text)?;
+    write_list(listed, before.list(), after.list(), is_first, text)?;
     let fresh = ListName::Fresh { cpu };
-    write_list(alloc, fresh, before.fresh(), after.fresh(), is_first, text)?;
+    write_list(fresh, before.fresh(), after.fresh(), is_first, text)?;
     let back = ListName::Back { cpu };
-    write_list(alloc, back, before.back(), after.back(), is_first, text)
+    write_list(back, before.back(), after.back(), is_first, text)
 }
 
 // Adds the changes of the groups' lists.
 fn write_groups_lists(
-    alloc: Global,
     before: &[ShownGroup],
     after: &[ShownGroup],
     is_first: &mut bool,
@@ -110,7 +99,7 @@ fn write_groups_lists(
     for number in 0..end.min(MAX_GROUPS) {
         let old = group_numbered(before, number);
         let new = group_numbered(after, number);
-        write_group_lists(alloc, number, old, new, is_first, text)?;
+        write_group_lists(number, old, new, is_first, text)?;
     }
     Ok(())
 }
@@ -142,7 +131,6 @@ fn group_numbered(groups: &[ShownGroup], number: usize) -> Option<&ShownGroup>
 
 // Adds the changes of the lists of one group.
 fn write_group_lists(
-    alloc: Global,
     number: usize,
     before: Option<&ShownGroup>,
     after: Option<&ShownGroup>,
@@ -154,7 +142,6 @@ fn write_group_lists(
 {
     let inactive = ListName::Inactive { group: number };
     write_list(
-        alloc,
         inactive,
         inactive_of(before),
         inactive_of(after),
@@ -162,14 +149,7 @@ fn write_group_lists(
         text,
     )?;
     let active = ListName::Active { group: number };
-    write_list(
-        alloc,
-        active,
-        active_of(before),
-        active_of(after),
-        is_first,
-        text,
-    )
+    write_list(active, active_of(before), active_of(after), is_first, text)
 }
 
 // A group's inactive units; none if there is no such group.
@@ -194,7 +174,6 @@ fn active_of(group: Option<&ShownGroup>) -> &[u32]
 
 /// Adds the change of the list of this name to the part, if it changed.
 pub fn write_list(
-    _alloc: Global,
     name: ListName,
     before: &[u32],
     after: &[u32],

@@ -150,7 +150,14 @@ fn write_killed(
     ensures { IfOk result (λ _. string_bytes text.new ≡ string_bytes text.old
         ++ numbers_note (codes "killed") (group ∷ returned ∷ pages ∷ pinned ∷ left ∷ usage ∷ [])) }
 {
-    let numbers = [number_of(group), returned, pages, pinned, left, usage.into()];
+    let numbers = [
+        number_of(group),
+        returned,
+        pages,
+        pinned,
+        left,
+        usage.into(),
+    ];
     write_numbers("killed", &numbers, text)
 }
 

@@ -3,7 +3,8 @@
 ghost use Rattle.std.specs.Prelude.{◌≡◌, ◌++◌, if◌then◌else◌, IfOk, codes, false};
 ghost use Rattle.std.specs.String.{string_bytes};
 ghost use Rattle.trace_lines.specs.Changes.{changes, count_change, are_same_counts};
-ghost use Rattle.trace_lines.specs.Parts.{changes_text, counts_part, counts_text, ends_text, opening, first_parts_text};
+ghost use Rattle.trace_lines.specs.Parts.{changes_text, counts_part, counts_text, unit_ends_text, opening};
+ghost use Rattle.trace_lines.specs.Parts.{first_parts_text};
 ghost use Rattle.trace_lines.specs.Parts.{last_parts_text};
 ghost use Rattle.trace_lines.specs.Writing.{stop_text};
 
@@ -83,7 +84,7 @@ fn write_first_parts(
     write_gone(before.groups(), after.groups(), text)?;
     write_made(before.groups(), after.groups(), text)?;
     write_frames(alloc, before.places(), after.places(), text)?;
-    write_lists(alloc, before, after, text)
+    write_lists(before, after, text)
 }
 
 // Adds the parts about pins, stocks and rows.
@@ -146,9 +147,9 @@ fn push_counts(counts: ShownCounts, text: &mut String) -> Result<(), AllocError>
 }
 
 // Adds the counts of what ended units.
-#[tactic(auto, unfolding(crate::specs::Parts::ends_text))]
+#[tactic(auto, unfolding(crate::specs::Parts::unit_ends_text))]
 fn push_ends(counts: ShownCounts, text: &mut String) -> Result<(), AllocError>
-    ensures { IfOk result (λ _. string_bytes text.new ≡ string_bytes text.old ++ ends_text counts) }
+    ensures { IfOk result (λ _. string_bytes text.new ≡ string_bytes text.old ++ unit_ends_text counts) }
 {
     push_opening("counts", text)?;
     push_decimal(counts.last_puts, text)?;

@@ -15,5 +15,5 @@ returns-in-Alone c =
 pub returns-in_default : goal.returns-in_default
 returns-in_default c =
     let name : c.as_bytes-name.result.now ≡ name_of c.args.verb = c.as_bytes-name.ensures.value ∙ c.name_of.ensures in
-    rw c.behind.ensures (rw name (command_behind c.args.sizes.now c.requires.zone c.args.text.now c.args.verb c.args.rest.now
+    rw c.behind.ensures (rw name (command_behind c.args.sizes.now c.requires.counts c.args.text.now c.args.verb c.args.rest.now
     c.shape_place.result c.requires.named (rw c.shape_of.ensures at c.shape_place.ensures)))

@@ -17,7 +17,7 @@ pub returns-in_default : goal.returns-in_default
 returns-in_default c =
     let v = c.args.verb in
     let named : c.args.text.now ≡ name_of v = subst (λ rest. IsNamed v rest c.args.text.now) c.in-None.is c.requires.named in
-    stuck_behind_name c.args.sizes.now c.requires.zone c.args.text.now v named (λ e. c.in_default.not-Alone (c.shape_of.ensures ∙ e))
+    stuck_behind_name c.args.sizes.now c.requires.counts c.args.text.now v named (λ e. c.in_default.not-Alone (c.shape_of.ensures ∙ e))
 
 pub arguments_place-requires-clause-named : goal.arguments_place-requires-clause-named
 arguments_place-requires-clause-named c = subst (λ rest. IsNamed c.args.verb rest c.args.text.now) c.in-Some.is c.requires.named

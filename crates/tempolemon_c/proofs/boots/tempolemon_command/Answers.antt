@@ -3,11 +3,11 @@ use Rattle.std.proofs.Common.{refl, arith, rules}
 use Rattle.tempolemon_c.specs.Behind.{behind}
 use Rattle.tempolemon_c.proofs.boots.tempolemon_command.Goals as goal
 
-pub returns-else-put_answers-clause-statuses : goal.returns-else-put_answers-clause-statuses
-returns-else-put_answers-clause-statuses c = (3, omega arith, refl)
+pub returns-else-copy_answers-clause-statuses : goal.returns-else-copy_answers-clause-statuses
+returns-else-copy_answers-clause-statuses c = (3, omega arith, refl)
 
-pub returns-else-put_answers-clause-too_small : goal.returns-else-put_answers-clause-too_small
-returns-else-put_answers-clause-too_small c = λ e. record {
+pub returns-else-copy_answers-clause-too_small : goal.returns-else-copy_answers-clause-too_small
+returns-else-copy_answers-clause-too_small c = λ e. record {
   text = c.in-Text.told.items;
   is = record {
     between = behind c.ask.new.self;

@@ -11,5 +11,5 @@ pub returns : goal.returns
 unfolding opening
 returns c = one_ok _ _ _ _ _ _ _ _ (record { cpu = c.args.cpu; stock = c.in-Some.stock }) _
     (ap (λ (o : Option ShownStock). stock_change c.args.cpu c.args.before o) c.in-Some.is
-    ∙ stock_changed c.args.cpu c.args.before c.in-Some.stock (sym c.is_stock.ensures ∙ c.if-is_stock.false))
+    ∙ stock_changed c.args.cpu c.args.before c.in-Some.stock (sym c.is_same_stock.ensures ∙ c.if-is_same_stock.false))
     (starts _ (codes "stocks") _ _ _ refl c.in_ok-push_start.ensures.text) c.in_ok-push_start.ensures.first c.write_stock_change.ensures

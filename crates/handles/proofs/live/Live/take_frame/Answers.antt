@@ -8,7 +8,7 @@ use Rattle.cpu_part.specs.Cpus.{KnownCpu}
 use Rattle.script_lines.specs.declared.line.Command.TheVariants as cmd
 use Rattle.script_replay.specs.Lines.{system_state}
 use Rattle.script_replay.specs.Terms.{boot_tables}
-use Rattle.script_replay.specs.Typed.{SaysCommand, answer_of}
+use Rattle.script_replay.specs.ValueAnswers.{SaysCommand, answer_of}
 use Rattle.handles.specs.Calls.{Calls}
 use Rattle.handles.specs.Known.{KnownLive}
 use Rattle.handles.specs.declared.calls.Call.TheVariants.{Alloc}

@@ -41,7 +41,7 @@ use Rattle.handles.proofs.Moves.{al, word, ptr_typed, word_typed, parts_out, par
 use Rattle.handles.specs.Owned.{live_owns}
 use Rattle.handles.specs.Known.{KnownLive}
 use Rattle.handles.specs.contracts.live.Live as Live
-use Rattle.handles.specs.contracts.loose.Loose as Loose
+use Rattle.handles.specs.contracts.box_parts.BoxParts as BoxParts
 use Rattle.handles.specs.contracts.live_pointer.LivePointer as LivePointer
 use Rattle.handles.specs.contracts.raw.RawBoot as RawBoot
 use Rattle.handles.specs.contracts.live_pointer.LivePointer.none as F

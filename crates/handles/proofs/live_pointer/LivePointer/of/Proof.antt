@@ -41,7 +41,7 @@ use Rattle.handles.proofs.Moves.{al, word, ptr_typed, word_typed, parts_out, par
 use Rattle.handles.specs.Owned.{live_owns}
 use Rattle.handles.specs.Known.{KnownLive}
 use Rattle.handles.specs.contracts.live.Live as Live
-use Rattle.handles.specs.contracts.loose.Loose as Loose
+use Rattle.handles.specs.contracts.box_parts.BoxParts as BoxParts
 use Rattle.handles.specs.contracts.live_pointer.LivePointer as LivePointer
 use Rattle.handles.specs.contracts.raw.RawBoot as RawBoot
 use Rattle.handles.specs.contracts.live_pointer.LivePointer.of as F
@@ -60,7 +60,7 @@ module _ (N : RattleType) (g : Ghosts N.Denot) (d : Dict) where
   ended = F.ended N g d
 
   abbrev From : RattleType
-  From = Loose.the_row (Live.the_row (param 0 N) g) Heap.the_row ghosts
+  From = BoxParts.the_row (Live.the_row (param 0 N) g) Heap.the_row ghosts
 
   abbrev To : RattleType
   To = LivePointer.the_row (param 0 N) g
@@ -82,7 +82,8 @@ module _ (N : RattleType) (g : Ghosts N.Denot) (d : Dict) where
         qed 𝓛 ((ts ⊛ ‵ (fsep (From.own_val x z.0.4.0) ftrue)) ∷ (raw (fact 𝓤 (z.0.0.0 ⊑ N.lives)) ⊛ ‵ ftrue) ∷ []) ∵
         move ! (1 ∷ []) $ split ! $ drop ! $ drop ! $ split ! $ move ! (1 ∷ []) $ fsplit ! $
         let F₀ : Fml = (box_owns (ghosts.dealloc_token x.alloc) (Live.the_row (param 0 N) g) x.ptr x.value) in
-        parts_out (shape (Loose.the_type (Live.the_row (param 0 N) g) Heap.the_row ghosts)) ! x.ptr x.alloc z.0.4.0 F₀ (λ hv ws fa. move ! (2 ∷ []) $ drop ! $
+        parts_out (shape (BoxParts.the_type (Live.the_row (param 0 N) g) Heap.the_row ghosts)) ! x.ptr x.alloc z.0.4.0 F₀
+        (λ hv ws fa. move ! (2 ∷ []) $ drop ! $
         -- [what the pointer owns; the handle; the tokens]
         let Γ : List (Item 𝓤) = ‵ F₀ ∷ ‵ (Heap.the_row.own_val x.alloc (hv ∷ [])) ∷ ts ∷ [] in
         by ! (subst (λ (us : List Val). ent 𝓤 (types.Kit.⋆ 𝓛 Γ) (WpFn 𝓤 H 𝓣.C 𝓣.Λ fn' (us ++ []) Post)) (sym ws)

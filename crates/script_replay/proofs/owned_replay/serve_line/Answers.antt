@@ -1,0 +1,15 @@
+use Rattle.std.proofs.Common.{◌-◌, get_or, ap, refl}
+use Rattle.cpu_part.specs.Cpus.{KnownCpu}
+use Rattle.script_replay.specs.Terms.{terms}
+use Rattle.script_replay.proofs.Going.{part_read}
+use Rattle.script_replay.proofs.owned_replay.serve_line.Goals as goal
+
+pub returns-in-At : goal.returns-in-At
+returns-in-At g c = record {
+  served = part_read (terms g.N.BootName.frames g.N.BootName.stocks c.args.is_explained) c.args.locked.now c.serve_at_cpu.new.locked c.args.cpus.now
+      c.args.line.now c.in-At.cpu c.in-At.command
+      (get_or c.args.cpus.now (c.in-At.cpu - 1) c.index-cpus-at.result) c.serve_at_cpu.new.cpu _ c.args.answers.now
+      c.serve_at_cpu.new.answers refl c.in-At.is c.requires.there
+      (ap (λ (d : KnownCpu). get_or c.args.cpus.now (c.in-At.cpu - 1) d) c.index-cpus-at.is)
+      c.serve_at_cpu.ensures.answered c.serve_at_cpu.ensures.invariants c.serve_at_cpu.ensures.tied c.serve_at_cpu.ensures.none_fresh;
+}

@@ -1,0 +1,122 @@
+//! Serving one command for the CPU of a number, by value of what lies behind the lock, with its answer as a value.
+
+ghost use Rattle.std.specs.Prelude.{◌≡◌, ◌≤◌, [], IsTrue, List, Some, length, ℕ};
+ghost use Rattle.std.specs.Borrow.{Bor};
+ghost use Rattle.group_tree.specs.Groups.{has_group, number_at};
+ghost use Rattle.stock_word.specs.declared.view.Stock.TheVariants.{NoGroup};
+ghost use Rattle.cpu_part.specs.Cpus.{IsTied};
+ghost use Rattle.mem_system.specs.Visits.{locked_state};
+ghost use Rattle.script_lines.specs.declared.line.Command.TheVariants.{Alloc};
+ghost use Rattle.script_replay.specs.declared.work.Work.TheVariants as work;
+ghost use Rattle.script_replay.specs.History.{HoldsInvariants};
+ghost use Rattle.script_replay.specs.Lines.{system_state};
+ghost use Rattle.script_replay.specs.Ranges.{CommandInRange, CpuCommandInRange};
+ghost use Rattle.script_replay.specs.Terms.{boot_tables};
+ghost use Rattle.script_replay.specs.ValueAnswers.{HasValueAnswer, NamesItsGroups, SaysCommand, SaysWork, answer_of};
+ghost use Rattle.script_replay.specs.Works.{work_of};
+
+use crate::answer_value::AnswerValue;
+use crate::owned_replay::prove_invariants;
+use crate::value_answers::{serve_value_alloc, serve_value_work};
+use crate::work::work_of;
+use cpu_part::{BootName, Cpu, Tables};
+use group_tree::group::GroupId;
+use mem_system::Locked;
+use script_lines::line::Command;
+
+/// Serves a command for the CPU of this number, from 1, as `replay` does, and returns its answer as a value. All that
+/// the command names is there, and it isn't `show`, `blocks`, `stock` or `units`. No memory is taken.
+///
+/// It is inlined with all that it calls for a Get or a Put, so that a caller that names one of them has its steps
+/// alone: no command and no answer is built in memory to be matched.
+#[inline(always)]
+pub fn serve_value<N: BootName>(
+    locked: &mut Locked<N>,
+    tables: &Tables<N>,
+    cpus: &mut [Cpu<N>],
+    cpu: u32,
+    command: &Command<'_>,
+) -> AnswerValue
+    requires there { CpuCommandInRange N.frames.frames (length cpus.old) cpu command.now }
+    requires has_value { HasValueAnswer (work_of command.now) }
+    ensures answer { SaysCommand (boot_tables N.frames N.stocks) cpu command.now
+        (system_state locked.old cpus.old) (system_state locked.new cpus.new)
+        (answer_of locked.new.machine.ledger result) }
+    ensures groups { NamesItsGroups locked.new.machine.ledger result }
+{
+    let at = (cpu - 1) as usize;
+    serve_value_at_cpu(locked, tables, &mut cpus[at], command)
+}
+
+/// Takes a single frame for an existing group, at the CPU of this number, as `serve_value` serves an Alloc of order 0
+/// for each path of that group. It looks up no path. No memory is taken.
+#[inline(always)]
+pub fn alloc_value<N: BootName>(
+    locked: &mut Locked<N>,
+    tables: &Tables<N>,
+    cpus: &mut [Cpu<N>],
+    cpu: u32,
+    group: GroupId,
+) -> AnswerValue
+    requires low { 1 ≤ cpu }
+    requires high { cpu ≤ length cpus.old }
+    requires there { IsTrue (has_group locked.old.machine.ledger.groups group) }
+    ensures answer { (path : Bor (List ℕ)) → number_at locked.old.machine.ledger.groups path.now ≡ Some group
+        → SaysCommand (boot_tables N.frames N.stocks) cpu (Alloc path 0)
+        (system_state locked.old cpus.old) (system_state locked.new cpus.new)
+        (answer_of locked.new.machine.ledger result) }
+    ensures groups { NamesItsGroups locked.new.machine.ledger result }
+{
+    let at = (cpu - 1) as usize;
+    alloc_value_at_cpu(locked, tables, &mut cpus[at], group)
+}
+
+// Takes a single frame for an existing group at this part.
+#[inline(always)]
+fn alloc_value_at_cpu<N: BootName>(
+    locked: &mut Locked<N>,
+    tables: &Tables<N>,
+    cpu: &mut Cpu<N>,
+    group: GroupId,
+) -> AnswerValue
+    requires there { IsTrue (has_group locked.old.machine.ledger.groups group) }
+    ensures answer { (path : Bor (List ℕ)) → number_at locked.old.machine.ledger.groups path.now ≡ Some group
+        → SaysWork N.frames (work.AllocFrame path) (locked_state locked.old cpu.old)
+        (locked_state locked.new cpu.new) (answer_of locked.new.machine.ledger result) }
+    ensures groups { NamesItsGroups locked.new.machine.ledger result }
+    ensures invariants { HoldsInvariants N.frames N.stocks locked.new }
+    ensures tied { IsTied N.frames N.stocks cpu.new }
+    ensures none_fresh { cpu.new.stock_seat.view.last ≡ NoGroup → cpu.new.fresh ≡ [] }
+{
+    let answer = serve_value_alloc(locked, tables, cpu, group);
+    let _cpu_number = cpu.number(); // Called for its contract: `tied`.
+    let _last = cpu.last_stock(); // Called for its contract: `none_fresh`.
+    prove_invariants(locked);
+    answer
+}
+
+// Serves a command at this part.
+#[inline(always)]
+#[tactic(auto, using(crate::proofs::InRange::work_in_range))]
+fn serve_value_at_cpu<N: BootName>(
+    locked: &mut Locked<N>,
+    tables: &Tables<N>,
+    cpu: &mut Cpu<N>,
+    command: &Command<'_>,
+) -> AnswerValue
+    requires in_range { CommandInRange N.frames.frames command.now }
+    requires has_value { HasValueAnswer (work_of command.now) }
+    ensures answer { SaysWork N.frames (work_of command.now) (locked_state locked.old cpu.old)
+        (locked_state locked.new cpu.new) (answer_of locked.new.machine.ledger result) }
+    ensures groups { NamesItsGroups locked.new.machine.ledger result }
+    ensures invariants { HoldsInvariants N.frames N.stocks locked.new }
+    ensures tied { IsTied N.frames N.stocks cpu.new }
+    ensures none_fresh { cpu.new.stock_seat.view.last ≡ NoGroup → cpu.new.fresh ≡ [] }
+{
+    let work = work_of(command);
+    let answer = serve_value_work(locked, tables, cpu, &work);
+    let _cpu_number = cpu.number(); // Called for its contract: `tied`.
+    let _last = cpu.last_stock(); // Called for its contract: `none_fresh`.
+    prove_invariants(locked);
+    answer
+}
