@@ -1,4 +1,4 @@
--- The log of lines and of the end. Serves `log_line`, `log_lines`, `log_and_end_boot`, `steps_on_boot`.
+-- The log of lines and of the end. Serves `log_line`, `log_each`, `log_and_end_boot`, `steps_on_boot`.
 use Rattle.std.proofs.Common.{◌≡◌, ℕ, zero, suc, ◌+◌, ◌<◌, ◌≤◌, false, true, List, [], ◌∷◌, ◌++◌, length, take, drop, get_or, All, Result, Ok, Err, refl, sym, ap, ◌∙◌, subst, arith}
 use Rattle.std.proofs.Common.{append_assoc, append-nil, length-append}
 use Rattle.std.specs.Prelude.{OnOk, codes}

@@ -63,7 +63,7 @@ fn log_line<N: BootName>(
 }
 
 // Serves the lines one after the other, and adds the comment and the steps of each.
-fn log_lines<N: BootName>(
+fn log_each<N: BootName>(
     alloc: Global,
     locked: &mut Locked<N>,
     tables: &Tables<N>,
@@ -108,7 +108,7 @@ fn log_and_end_boot<N: BootName>(
     ensures logged { OnOk result (GrowsBy (LogsAllAndEnd N.frames N.stocks (map (λ text. text.now) texts.now) lines.now
         (system_state locked cpus.items)) log.old.items log.new.items) }
 {
-    let served = log_lines(alloc, &mut locked, &tables, &mut cpus, lines, texts, log);
+    let served = log_each(alloc, &mut locked, &tables, &mut cpus, lines, texts, log);
     let log_start = locked.watch().log().len();
     let (_held, emptied) = empty_cpus(locked, tables, cpus);
     let ended = log_end(emptied.watch(), log_start, log);

@@ -55,7 +55,7 @@ fn parse_lines<'a>(
     ensures ok { IfOk result (λ lines. IsScript sizes.now input.now lines.items) }
     ensures bad_line { IfErr result (NamesFirstBadLine sizes.now input.now) }
 {
-    let over = line_over(input);
+    let over = first_line_past_limit(input);
     let mut lines = Vec::new(alloc);
     let mut had_go = false;
     let mut number = 0;
@@ -95,7 +95,7 @@ pub fn first_line(text: &[u8]) -> (&[u8], Option<&[u8]>)
 
 /// The number of the line with the first byte past the most, if there is one. A line feed belongs to the line that it
 /// ends.
-pub fn line_over(input: &[u8]) -> Option<usize>
+pub fn first_line_past_limit(input: &[u8]) -> Option<usize>
     ensures { MatchOption result (length input.now ≤ longest_script)
         (λ n. (longest_script < length input.now) × (n ≡ ended_lines (take longest_script input.now) + 1)) }
 {

@@ -140,7 +140,7 @@ pub(crate) fn behind(word: &[u8], rest: &[u8], place: Option<usize>) -> Option<u
 }
 
 // The place from which on the text doesn't go on to a command. None if it is one.
-pub(crate) fn command_place(names: &Names, text: &[u8], sizes: &Config) -> Option<usize>
+pub(crate) fn command_stuck_at(names: &Names, text: &[u8], sizes: &Config) -> Option<usize>
     requires names { IsNames names.now }
     requires counts { HasValidCounts sizes.now }
     ensures { MatchOption result (IsCommand sizes.now text.now)

@@ -29,7 +29,7 @@ pub(crate) fn lint_line(
     ensures { MatchOption result (IsGoodHere sizes.now had_go (is_within ≡ true) text.now)
         (λ spot. IsSpot sizes.now had_go (is_within ≡ true) text.now spot) }
 {
-    match line_place(names, text, had_go, sizes) {
+    match line_stuck_at(names, text, had_go, sizes) {
         Some(place) => Some(stuck_spot(text, place)),
         None => whole_spot(text, is_within),
     }
@@ -73,7 +73,7 @@ fn whole_spot(text: &[u8], is_within: bool) -> Option<Spot>
 }
 
 // The place from which on the text, however long, doesn't go on to a good one. None if it is one.
-fn line_place(names: &Names, text: &[u8], had_go: bool, sizes: &Config) -> Option<usize>
+fn line_stuck_at(names: &Names, text: &[u8], had_go: bool, sizes: &Config) -> Option<usize>
     requires names { IsNames names.now }
     requires counts { HasValidCounts sizes.now }
     ensures { MatchOption result (IsGoodText sizes.now had_go text.now)

@@ -6,7 +6,7 @@ ghost use Rattle.script_lint.specs.Shapes.{IsRange, IsWord};
 ghost use Rattle.script_lint.specs.declared.shape.Kind.TheVariants.{Number};
 
 // The place from which on the text doesn't go on to a number in this range. None if it is one.
-pub(crate) fn number_place(text: &[u8], least: u32, most: u32) -> Option<usize>
+pub(crate) fn number_stuck_at(text: &[u8], least: u32, most: u32) -> Option<usize>
     requires { IsRange least most }
     ensures { MatchOption result (IsWord (Number least most) text.now)
         (λ place. IsStuck (IsWord (Number least most)) text.now place) }

@@ -5,7 +5,7 @@ ghost use Rattle.script_lines.specs.Verb.{IsNames};
 ghost use Rattle.script_lint.specs.Continuation.{IsStuck};
 ghost use Rattle.script_lint.specs.Shapes.{HasValidCounts, IsRequest};
 
-use crate::command::command_place;
+use crate::command::command_stuck_at;
 use crate::shape::Kind;
 use crate::start::{Start, start_of};
 use script_lines::verb::Names;
@@ -24,7 +24,7 @@ pub(crate) fn request_place(names: &Names, text: &[u8], sizes: &Config) -> Optio
     };
     match start_of(cpu, text) {
         Start::Stuck(place) => Some(place),
-        Start::Word(word, rest) => match command_place(names, rest, sizes) {
+        Start::Word(word, rest) => match command_stuck_at(names, rest, sizes) {
             Some(place) => Some(word.len() + 1 + place),
             None => None,
         },

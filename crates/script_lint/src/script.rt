@@ -10,7 +10,7 @@ use crate::cause::word_at;
 use crate::finding::{Cause, Finding, Spot};
 use crate::line::lint_line;
 use crate::near::near_verb;
-use script_lines::script::{first_line, is_go, is_within, line_over};
+use script_lines::script::{first_line, first_line_past_limit, is_go, is_within};
 use script_lines::verb::{Names, Verb, command_names};
 use std::alloc::{AllocError, Global};
 use zone_sizes::config::Config;
@@ -64,7 +64,7 @@ fn lint_lines<'a>(
     requires counts { HasValidCounts sizes.now }
     ensures { IfOk result (λ findings. IsLinted sizes.now input.entry.now findings.items) }
 {
-    let over = line_over(input);
+    let over = first_line_past_limit(input);
     let mut findings = Vec::new(alloc);
     let mut had_go = false;
     let mut number = 0;

@@ -4,8 +4,8 @@ ghost use Rattle.script_lint.specs.Shapes.{HasFullRange, IsWord, Starts};
 ghost use Rattle.script_lint.specs.Continuation.{IsStuck};
 ghost use Rattle.std.specs.Prelude.{MatchOption};
 
-use crate::number::number_place;
-use crate::path::path_place;
+use crate::number::number_stuck_at;
+use crate::path::path_stuck_at;
 use crate::shape::Kind;
 use script_lines::script::first_word;
 
@@ -24,8 +24,8 @@ pub(crate) fn word_place(kind: Kind, text: &[u8]) -> Option<usize>
     ensures { MatchOption result (IsWord kind text.now) (λ place. IsStuck (IsWord kind) text.now place) }
 {
     match kind {
-        Kind::Number { least, most } => number_place(text, least, most),
-        Kind::Path => path_place(text),
+        Kind::Number { least, most } => number_stuck_at(text, least, most),
+        Kind::Path => path_stuck_at(text),
     }
 }
 

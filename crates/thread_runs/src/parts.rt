@@ -98,7 +98,7 @@ fn take_apart<N: BootName>(rt: &impl Abort, cpu: Cpu<N>) -> (FrameSeat, StockSea
 }
 
 // Takes the tables and both CPUs apart, which have nothing left.
-pub(crate) fn give_up<N: BootName>(
+pub(crate) fn take_all_apart<N: BootName>(
     rt: &impl Abort,
     tables: Tables<N>,
     first: Cpu<N>,
@@ -148,7 +148,7 @@ fn hands_over<N: BootName>(rt: &impl Abort, alloc: Global, parts: WordParts<8>)
     same(rt, second.number(), 2);
     give_back(&tables, &mut zone, &mut second);
     same(rt, second.list_len(), 0);
-    give_up(rt, tables, first, second);
+    take_all_apart(rt, tables, first, second);
 }
 
 #[test]
@@ -244,7 +244,7 @@ fn pays<N: BootName>(rt: &impl Abort, alloc: Global, parts: WordParts<8>)
         Some(paid),
     );
     same(rt, tables.stocks.absorb(&mut zone_stock, 1), 1);
-    give_up(rt, tables, cpu, second);
+    take_all_apart(rt, tables, cpu, second);
 }
 
 #[test]
@@ -355,7 +355,7 @@ fn pins_run_out<N: BootName>(rt: &impl Abort, alloc: Global, parts: WordParts<8>
     same(rt, cpu.number(), 1);
     give_back(&tables, &mut zone, &mut cpu);
     same(rt, take_last(&tables, &mut zone, &mut cpu), Some(one));
-    give_up(rt, tables, cpu, second);
+    take_all_apart(rt, tables, cpu, second);
 }
 
 #[test]
@@ -462,7 +462,7 @@ fn works_beside<N: BootName + Send + Sync, R: Threads + Abort + Sync>(
     same(rt, second.pin_count(), 0);
     drains_stock(rt, &tables, &mut zone_stock, 4);
     give_back(&tables, &mut zone, &mut first);
-    give_up(rt, tables, first, second);
+    take_all_apart(rt, tables, first, second);
 }
 
 #[test]

@@ -9,7 +9,7 @@ ghost use Rattle.trace_lines.specs.Parts.{part_text, pin_change_text, stock_chan
 ghost use Rattle.trace_lines.specs.Writing.{AddsPins, AddsStocks, count_changes};
 
 use crate::groups::is_same_limit;
-use crate::numbers::{are_same_numbers, push_behind, write_number};
+use crate::numbers::{are_same_numbers, push_char_and_number, write_number};
 use crate::parts::{push_start, push_stop};
 use crate::trace_state::{ShownCpu, ShownStock};
 use std::alloc::{AllocError, Global};
@@ -158,9 +158,9 @@ fn write_pin_change(
     ensures { IfOk result (λ _. string_bytes text.new
         ≡ string_bytes text.old ++ pin_change_text (record { cpu = cpu; head = frame; pins = pins })) }
 {
-    push_behind('[', cpu as u64, text)?;
-    push_behind(',', frame as u64, text)?;
-    push_behind(',', pins as u64, text)?;
+    push_char_and_number('[', cpu as u64, text)?;
+    push_char_and_number(',', frame as u64, text)?;
+    push_char_and_number(',', pins as u64, text)?;
     text.push(']')
 }
 
@@ -237,8 +237,8 @@ fn write_stock_change(cpu: usize, stock: ShownStock, text: &mut String) -> Resul
     ensures { IfOk result (λ _. string_bytes text.new
         ≡ string_bytes text.old ++ stock_change_text (record { cpu = cpu; stock = stock })) }
 {
-    push_behind('[', cpu as u64, text)?;
-    push_behind(',', u64::from(stock.group), text)?;
+    push_char_and_number('[', cpu as u64, text)?;
+    push_char_and_number(',', u64::from(stock.group), text)?;
     text.push(',')?;
     write_number(stock.pages, text)?;
     text.push(']')

@@ -6,7 +6,7 @@ ghost use Rattle.trace_lines.specs.Changes.{are_same_flags, flag_change, flag_ch
 ghost use Rattle.trace_lines.specs.Parts.{flag_change_text, flags_number, part_text};
 ghost use Rattle.trace_lines.specs.Writing.{AddsFlags};
 
-use crate::numbers::push_behind;
+use crate::numbers::push_char_and_number;
 use crate::parts::{push_start, push_stop};
 use crate::trace_state::Flags;
 use std::alloc::AllocError;
@@ -53,8 +53,8 @@ fn write_flag_change(frame: usize, flags: Flags, text: &mut String) -> Result<()
     ensures { IfOk result (λ _. string_bytes text.new
         ≡ string_bytes text.old ++ flag_change_text (record { head = frame; flags = flags })) }
 {
-    push_behind('[', frame as u64, text)?;
-    push_behind(',', u64::from(flags_number(flags)), text)?;
+    push_char_and_number('[', frame as u64, text)?;
+    push_char_and_number(',', u64::from(flags_number(flags)), text)?;
     text.push(']')
 }
 

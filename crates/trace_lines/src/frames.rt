@@ -7,7 +7,7 @@ ghost use Rattle.trace_lines.specs.Changes.{frame_spans, joined};
 ghost use Rattle.trace_lines.specs.Parts.{frame_span_text, part_text, place_text};
 ghost use Rattle.trace_lines.specs.Writing.{AddsFrames};
 
-use crate::numbers::push_behind;
+use crate::numbers::push_char_and_number;
 use crate::parts::{push_start, push_stop};
 use crate::place::{ShownPlace, is_same_place};
 use std::alloc::{AllocError, Global};
@@ -111,8 +111,8 @@ fn write_frame_span(span: &FrameSpan, text: &mut String) -> Result<(), AllocErro
     ensures { IfOk result (λ _. string_bytes text.new ≡ string_bytes text.old ++ frame_span_text span.now) }
 {
     let FrameSpan { first, last, place } = *span;
-    push_behind('[', first as u64, text)?;
-    push_behind(',', last as u64, text)?;
+    push_char_and_number('[', first as u64, text)?;
+    push_char_and_number(',', last as u64, text)?;
     text.push(',')?;
     write_place(place, text)?;
     text.push(']')
@@ -127,7 +127,7 @@ fn write_place(place: ShownPlace, text: &mut String) -> Result<(), AllocError>
         ShownPlace::Listed { cpu } => write_place_name('c', cpu, text),
         ShownPlace::Charged { group, order } => {
             write_place_name('g', group, text)?;
-            push_behind(',', u64::from(order), text)
+            push_char_and_number(',', u64::from(order), text)
         }
     }
 }
@@ -139,6 +139,6 @@ fn write_place_name(kind: char, number: u32, text: &mut String) -> Result<(), Al
         ≡ string_bytes text.old ++ (codes "\"" ++ (kind ∷ decimal number) ++ codes "\"")) }
 {
     text.push('"')?;
-    push_behind(kind, u64::from(number), text)?;
+    push_char_and_number(kind, u64::from(number), text)?;
     text.push('"')
 }

@@ -10,7 +10,7 @@ ghost use Rattle.trace_lines.specs.Parts.{events_text, group_kills_text, made_te
 ghost use Rattle.trace_lines.specs.Parts.{usage_text, row_front_text};
 ghost use Rattle.trace_lines.specs.Writing.{AddsGone, AddsMade, AddsRows};
 
-use crate::numbers::{flag_word, push_behind, push_decimal, write_number};
+use crate::numbers::{flag_word, push_char_and_number, push_decimal, write_number};
 use crate::parts::{push_start, push_stop};
 use crate::strings::write_string;
 use crate::trace_state::{Events, GroupRow, ShownGroup};
@@ -199,7 +199,7 @@ pub(crate) fn is_same_flag(one: bool, other: bool) -> bool
 fn write_made_group(group: &ShownGroup, text: &mut String) -> Result<(), AllocError>
     ensures { IfOk result (λ _. string_bytes text.new ≡ string_bytes text.old ++ made_text group.now) }
 {
-    push_behind('[', u64::from(group.number), text)?;
+    push_char_and_number('[', u64::from(group.number), text)?;
     text.push(',')?;
     write_string(group.path.as_bytes(), text)?;
     text.push(']')
@@ -211,7 +211,7 @@ fn write_row(group: &ShownGroup, text: &mut String) -> Result<(), AllocError>
 {
     write_row_front(group, text)?;
     write_events(&group.row.events_local, text)?;
-    write_marks(&group.row, text)?;
+    write_group_flags(&group.row, text)?;
     write_group_kills(&group.row, text)
 }
 
@@ -220,7 +220,7 @@ fn write_row(group: &ShownGroup, text: &mut String) -> Result<(), AllocError>
 fn write_row_front(group: &ShownGroup, text: &mut String) -> Result<(), AllocError>
     ensures { IfOk result (λ _. string_bytes text.new ≡ string_bytes text.old ++ row_front_text group.now) }
 {
-    push_behind('[', u64::from(group.number), text)?;
+    push_char_and_number('[', u64::from(group.number), text)?;
     write_usage(&group.row, text)?;
     write_events(&group.row.events, text)
 }
@@ -231,21 +231,21 @@ fn write_usage(row: &GroupRow, text: &mut String) -> Result<(), AllocError>
 {
     text.push(',')?;
     write_number(row.max, text)?;
-    push_behind(',', u64::from(row.current), text)?;
-    push_behind(',', u64::from(row.peak), text)
+    push_char_and_number(',', u64::from(row.current), text)?;
+    push_char_and_number(',', u64::from(row.peak), text)
 }
 
 // Adds three counts of events.
 fn write_events(events: &Events, text: &mut String) -> Result<(), AllocError>
     ensures { IfOk result (λ _. string_bytes text.new ≡ string_bytes text.old ++ events_text events.now) }
 {
-    push_behind(',', events.max, text)?;
-    push_behind(',', events.oom, text)?;
-    push_behind(',', events.oom_kill, text)
+    push_char_and_number(',', events.max, text)?;
+    push_char_and_number(',', events.oom, text)?;
+    push_char_and_number(',', events.oom_kill, text)
 }
 
 // Adds whether the group was killed, and its memory.oom.group.
-fn write_marks(row: &GroupRow, text: &mut String) -> Result<(), AllocError>
+fn write_group_flags(row: &GroupRow, text: &mut String) -> Result<(), AllocError>
     ensures { IfOk result (λ _. string_bytes text.new ≡ string_bytes text.old ++ marks_text row.now) }
 {
     text.push(',')?;
@@ -258,7 +258,7 @@ fn write_marks(row: &GroupRow, text: &mut String) -> Result<(), AllocError>
 fn write_group_kills(row: &GroupRow, text: &mut String) -> Result<(), AllocError>
     ensures { IfOk result (λ _. string_bytes text.new ≡ string_bytes text.old ++ group_kills_text row.now) }
 {
-    push_behind(',', row.events.oom_group_kill, text)?;
-    push_behind(',', row.events_local.oom_group_kill, text)?;
+    push_char_and_number(',', row.events.oom_group_kill, text)?;
+    push_char_and_number(',', row.events_local.oom_group_kill, text)?;
     text.push(']')
 }

@@ -11,7 +11,7 @@ ghost use Rattle.trace_lines.specs.Parts.{spans_text};
 ghost use Rattle.trace_lines.specs.Writing.{AddsLists, KeepsOne, has_first};
 
 use crate::numbers::{
-    Span, add_number, are_same_numbers, end_spans, push_behind, write_number_spans,
+    Span, add_number, are_same_numbers, end_spans, push_char_and_number, write_number_spans,
 };
 use crate::parts::{push_start, push_stop};
 use crate::trace_state::{ShownCpu, ShownGroup, TraceState};
@@ -286,10 +286,10 @@ fn write_name(name: ListName, text: &mut String) -> Result<(), AllocError>
     ensures { IfOk result (λ _. string_bytes text.new ≡ string_bytes text.old ++ name_text name) }
 {
     match name {
-        ListName::Listed { cpu } => push_behind('l', cpu as u64, text),
-        ListName::Fresh { cpu } => push_behind('n', cpu as u64, text),
-        ListName::Back { cpu } => push_behind('b', cpu as u64, text),
-        ListName::Inactive { group } => push_behind('i', group as u64, text),
-        ListName::Active { group } => push_behind('a', group as u64, text),
+        ListName::Listed { cpu } => push_char_and_number('l', cpu as u64, text),
+        ListName::Fresh { cpu } => push_char_and_number('n', cpu as u64, text),
+        ListName::Back { cpu } => push_char_and_number('b', cpu as u64, text),
+        ListName::Inactive { group } => push_char_and_number('i', group as u64, text),
+        ListName::Active { group } => push_char_and_number('a', group as u64, text),
     }
 }

@@ -7,7 +7,7 @@ ghost use Rattle.std.specs.String.{string_bytes};
 ghost use Rattle.trace_lines.specs.Notes.{note_text, note_texts, notes_text, numbers_note};
 ghost use Rattle.trace_lines.specs.Writing.{AddsNotes};
 
-use crate::numbers::push_behind;
+use crate::numbers::push_char_and_number;
 use crate::parts::{push_start, push_stop};
 use group_tree::group::GroupId;
 use kill_notes::note::{Candidate, Note};
@@ -210,7 +210,7 @@ fn write_each(numbers: &[u64], text: &mut String) -> Result<(), AllocError>
         ≡ string_bytes text.old ++ flat_map (λ number. codes "," ++ decimal number) numbers.now) }
 {
     for &number in numbers {
-        push_behind(',', number, text)?;
+        push_char_and_number(',', number, text)?;
     }
     Ok(())
 }

@@ -33,7 +33,11 @@ pub(crate) fn push_count(word: &str, count: u64, text: &mut String) -> Result<()
 }
 
 // Adds an ASCII character and a number.
-pub(crate) fn push_behind(mark: char, number: u64, text: &mut String) -> Result<(), AllocError>
+pub(crate) fn push_char_and_number(
+    mark: char,
+    number: u64,
+    text: &mut String,
+) -> Result<(), AllocError>
     requires { mark < 128 }
     ensures { IfOk result (λ _. string_bytes text.new ≡ string_bytes text.old ++ (mark ∷ decimal number)) }
 {
@@ -153,7 +157,7 @@ fn write_span(span: &Span, text: &mut String) -> Result<(), AllocError>
     if first == last {
         return push_decimal(u64::from(first), text);
     }
-    push_behind('[', u64::from(first), text)?;
-    push_behind(',', u64::from(last), text)?;
+    push_char_and_number('[', u64::from(first), text)?;
+    push_char_and_number(',', u64::from(last), text)?;
     text.push(']')
 }

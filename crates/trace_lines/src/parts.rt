@@ -13,7 +13,7 @@ use crate::flags::write_flags;
 use crate::frames::write_frames;
 use crate::groups::{write_gone, write_made, write_rows};
 use crate::lists::write_lists;
-use crate::numbers::{push_behind, push_decimal};
+use crate::numbers::{push_char_and_number, push_decimal};
 use crate::trace_state::{ShownCounts, TraceState};
 use std::alloc::{AllocError, Global};
 
@@ -140,19 +140,19 @@ fn are_same_counts(one: ShownCounts, other: ShownCounts) -> bool
 fn push_counts(counts: ShownCounts, text: &mut String) -> Result<(), AllocError>
     ensures { IfOk result (λ _. string_bytes text.new ≡ string_bytes text.old ++ counts_text counts) }
 {
-    push_ends(counts, text)?;
-    push_behind(',', counts.returns, text)?;
-    push_behind(',', counts.misses, text)?;
+    push_ended_counts(counts, text)?;
+    push_char_and_number(',', counts.returns, text)?;
+    push_char_and_number(',', counts.misses, text)?;
     text.push(']')
 }
 
 // Adds the counts of what ended units.
 #[tactic(auto, unfolding(crate::specs::Parts::unit_ends_text))]
-fn push_ends(counts: ShownCounts, text: &mut String) -> Result<(), AllocError>
+fn push_ended_counts(counts: ShownCounts, text: &mut String) -> Result<(), AllocError>
     ensures { IfOk result (λ _. string_bytes text.new ≡ string_bytes text.old ++ unit_ends_text counts) }
 {
     push_opening("counts", text)?;
     push_decimal(counts.last_puts, text)?;
-    push_behind(',', counts.freezes, text)?;
-    push_behind(',', counts.drops, text)
+    push_char_and_number(',', counts.freezes, text)?;
+    push_char_and_number(',', counts.drops, text)
 }

@@ -17,7 +17,7 @@ log_end-ended-requires g c =
     let at = ap length (c.log-log_start.ensures ∙ ap log_text c.watch.ensures) in
     record {
       within = λ whole. subst (λ (k : KnownWatch). length c.log-log_start.result.now ≤ length (log_text k)) (sym c.watch-2.ensures)
-          (wrote_more c.log_lines-served.new.locked.machine.watch leaves.steps c.empty_cpus-held.result.1.machine.watch _ at leaves.watched
+          (wrote_more c.log_each-served.new.locked.machine.watch leaves.steps c.empty_cpus-held.result.1.machine.watch _ at leaves.watched
           (ap has_whole_log (sym c.watch-2.ensures) ∙ whole));
     }
 
@@ -26,8 +26,8 @@ returns g c =
     let t = g.N.BootName.frames in
     let w = g.N.BootName.stocks in
     let first = c.deref_mut.ensures.value in
-    let now = c.log_lines-served.new in
-    let long : length now.cpus ≡ length c.args.cpus.items = c.log_lines-served.auto.cpus ∙ ap length first in
+    let now = c.log_each-served.new in
+    let long : length now.cpus ≡ length c.args.cpus.items = c.log_each-served.auto.cpus ∙ ap length first in
     let same = written_back c.args.cpus.len now.cpus c.args.cpus.items long (sym c.deref_mut.ensures.len ∙ ap length first) in
     let texts = map (λ (text : Bor (List ℕ)). text.now) c.args.texts.now in
     let s : SystemState = system_state c.args.locked c.args.cpus.items in

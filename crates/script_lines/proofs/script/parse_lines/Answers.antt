@@ -19,8 +19,8 @@ returns-then-text-gt-MAX_LINE-clause-bad_line c =
     (c.loop-rest.invariant.1 ∙ ap texts_left c.in-Some.is ∙ c.first_line.ensures) in
     is_first_bad _ _ _ _ _ _ _ c.loop-rest.invariant.0 next.0 (elim c.then-text-gt-MAX_LINE.branch [
       | then-text-gt-MAX_LINE-via-then-text-gt-MAX_LINE w ↦ not_long _ _ _ _ _ next.0 w.if-text-gt-MAX_LINE.true
-      | then-text-gt-MAX_LINE-via-else-text-gt-MAX_LINE+then-not-is_within w ↦ not_far c.args.sizes.now _ _ c.line_over-over.result
-          c.line_over-over.ensures (λ near. let bad : false ≡ true = rw w.if-not-is_within.true at (w.is_within.ensures.1 near) in cc)
+      | then-text-gt-MAX_LINE-via-else-text-gt-MAX_LINE+then-not-is_within w ↦ not_far c.args.sizes.now _ _ c.first_line_past_limit-over.result
+          c.first_line_past_limit-over.ensures (λ near. let bad : false ≡ true = rw w.if-not-is_within.true at (w.is_within.ensures.1 near) in cc)
     ])
 
 pub returns-then-goes-clause-bad_line : goal.returns-then-goes-clause-bad_line
@@ -35,7 +35,7 @@ loop-rest-preserved-then-is_skipped c =
     let next = next_of c.args.input.now c.loop-rest.number c.first_line.result.0.now (texts_left c.first_line.result.1)
     (c.loop-rest.invariant.1 ∙ ap texts_left c.in-Some.is ∙ c.first_line.ensures) in
     let is : is_skipped c.first_line.result.0.now ≡ true = sym c.is_skipped.ensures ∙ c.if-is_skipped.true in
-    let good = is_good c.args.sizes.now _ _ _ _ c.line_over-over.result next.0 c.if-text-gt-MAX_LINE.false c.line_over-over.ensures
+    let good = is_good c.args.sizes.now _ _ _ _ c.first_line_past_limit-over.result next.0 c.if-text-gt-MAX_LINE.false c.first_line_past_limit-over.ensures
     (search rules) (λ asks. let bad : false ≡ true = sym asks ∙ is in cc) (search rules) in
     let inside = next.0.inside in
     (passes_over _ _ _ c.loop-rest.had_go _ _ _ _ c.loop-rest.invariant.0 next.0 good is (search rules), next.1, omega arith)
@@ -44,7 +44,7 @@ pub loop-rest-preserved : goal.loop-rest-preserved
 loop-rest-preserved c =
     let next = next_of c.args.input.now c.loop-rest.number c.first_line.result.0.now (texts_left c.first_line.result.1)
     (c.loop-rest.invariant.1 ∙ ap texts_left c.in-Some.is ∙ c.first_line.ensures) in
-    let good = is_good c.args.sizes.now _ _ _ _ c.line_over-over.result next.0 c.if-text-gt-MAX_LINE.false c.line_over-over.ensures
+    let good = is_good c.args.sizes.now _ _ _ _ c.first_line_past_limit-over.result next.0 c.if-text-gt-MAX_LINE.false c.first_line_past_limit-over.ensures
     (search rules) (λ asks. (c.in-Some-parse_line.line, c.in-Some-parse_line.ensures)) (search rules) in
     let pushed : c.push.new.self.items ≡ c.loop-rest.lines.items ++ c.in-Some-parse_line.line ∷ [] = search rules in
     let inside = next.0.inside in (
@@ -64,5 +64,5 @@ returns-in-None-clause-bad_line c =
 pub returns-clause-ok : goal.returns-clause-ok
 returns-clause-ok c =
     let none : c.loop-rest.rest ≡ None = search rules in
-    is_whole _ _ _ _ _ c.line_over-over.result c.loop-rest.invariant.0
-    (all_read c.args.input.now c.loop-rest.number c.loop-rest.invariant.2 (c.loop-rest.invariant.1 ∙ ap texts_left none)) c.line_over-over.ensures
+    is_whole _ _ _ _ _ c.first_line_past_limit-over.result c.loop-rest.invariant.0
+    (all_read c.args.input.now c.loop-rest.number c.loop-rest.invariant.2 (c.loop-rest.invariant.1 ∙ ap texts_left none)) c.first_line_past_limit-over.ensures

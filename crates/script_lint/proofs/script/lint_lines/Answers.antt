@@ -25,11 +25,11 @@ returns-then-not-is_within c =
     (c.loop-rest.invariant.1 ∙ ap texts_left c.in-Some.is ∙ c.first_line.ensures) in
     let adds = adds_of sizes (index + 1) c.loop-rest.had_go c.is_within-is_within.result c.first_line.result.0 c.lint_line-found.result
     c.loop-rest.findings.items c.add_finding.new.findings.items c.lint_line-found.ensures c.in_ok-add_finding.ensures in
-    let are = next_linted sizes script index index c.first_line.result.0 c.loop-rest.had_go c.is_within-is_within.result c.line_over-over.result
-    c.loop-rest.findings.items c.add_finding.new.findings.items c.loop-rest.invariant.0 next.0 c.line_over-over.ensures
+    let are = next_linted sizes script index index c.first_line.result.0 c.loop-rest.had_go c.is_within-is_within.result c.first_line_past_limit-over.result
+    c.loop-rest.findings.items c.add_finding.new.findings.items c.loop-rest.invariant.0 next.0 c.first_line_past_limit-over.ensures
     c.is_within-is_within.ensures adds in
-    ends_over sizes script index c.line_over-over.result c.is_within-is_within.result c.add_finding.new.findings.items
-    c.line_over-over.ensures c.is_within-is_within.ensures c.if-not-is_within.true are
+    ends_over sizes script index c.first_line_past_limit-over.result c.is_within-is_within.result c.add_finding.new.findings.items
+    c.first_line_past_limit-over.ensures c.is_within-is_within.ensures c.if-not-is_within.true are
 
 pub loop-rest-preserved-then-had_go : goal.loop-rest-preserved-then-had_go
 loop-rest-preserved-then-had_go c =
@@ -40,8 +40,8 @@ loop-rest-preserved-then-had_go c =
     (c.loop-rest.invariant.1 ∙ ap texts_left c.in-Some.is ∙ c.first_line.ensures) in
     let adds = adds_of sizes (index + 1) c.loop-rest.had_go c.is_within-is_within.result c.first_line.result.0 c.lint_line-found.result
     c.loop-rest.findings.items c.add_finding.new.findings.items c.lint_line-found.ensures c.in_ok-add_finding.ensures in
-    let are = next_linted sizes script index index c.first_line.result.0 c.loop-rest.had_go c.is_within-is_within.result c.line_over-over.result
-    c.loop-rest.findings.items c.add_finding.new.findings.items c.loop-rest.invariant.0 next.0 c.line_over-over.ensures
+    let are = next_linted sizes script index index c.first_line.result.0 c.loop-rest.had_go c.is_within-is_within.result c.first_line_past_limit-over.result
+    c.loop-rest.findings.items c.add_finding.new.findings.items c.loop-rest.invariant.0 next.0 c.first_line_past_limit-over.ensures
     c.is_within-is_within.ensures adds in
     let further = goes_further sizes script index index c.first_line.result.0.now c.loop-rest.had_go c.loop-rest.findings.items
     c.add_finding.new.findings.items c.loop-rest.invariant.0 next.0 are in
@@ -60,8 +60,8 @@ loop-rest-preserved c =
     (c.loop-rest.invariant.1 ∙ ap texts_left c.in-Some.is ∙ c.first_line.ensures) in
     let adds = adds_of sizes (index + 1) c.loop-rest.had_go c.is_within-is_within.result c.first_line.result.0 c.lint_line-found.result
     c.loop-rest.findings.items c.add_finding.new.findings.items c.lint_line-found.ensures c.in_ok-add_finding.ensures in
-    let are = next_linted sizes script index index c.first_line.result.0 c.loop-rest.had_go c.is_within-is_within.result c.line_over-over.result
-    c.loop-rest.findings.items c.add_finding.new.findings.items c.loop-rest.invariant.0 next.0 c.line_over-over.ensures
+    let are = next_linted sizes script index index c.first_line.result.0 c.loop-rest.had_go c.is_within-is_within.result c.first_line_past_limit-over.result
+    c.loop-rest.findings.items c.add_finding.new.findings.items c.loop-rest.invariant.0 next.0 c.first_line_past_limit-over.ensures
     c.is_within-is_within.ensures adds in
     let further = goes_further sizes script index index c.first_line.result.0.now c.loop-rest.had_go c.loop-rest.findings.items
     c.add_finding.new.findings.items c.loop-rest.invariant.0 next.0 are in

@@ -2,7 +2,7 @@ use Rattle.std.proofs.Common.{false}
 use Rattle.script_replay.specs.Lines.{system_state}
 use Rattle.script_replay.specs.Terms.{terms}
 use Rattle.load_run.proofs.Logged.{logs_more}
-use Rattle.load_run.proofs.logging.log_lines.Goals as goal
+use Rattle.load_run.proofs.logging.log_each.Goals as goal
 
 pub loop-next-preserved : goal.loop-next-preserved
 loop-next-preserved g c =

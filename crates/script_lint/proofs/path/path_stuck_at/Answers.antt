@@ -2,7 +2,7 @@ use Rattle.std.proofs.Common.{◌≡◌, ◌<◌, ◌⊎◌, arith, get_or, inl,
 use Rattle.std.proofs.lemmas.List.{take_all}
 use Rattle.std.proofs.lemmas.List.Elements.{All-more}
 use Rattle.script_lint.proofs.KindPlaces.{IsGraphic, no_path, path_stuck}
-use Rattle.script_lint.proofs.path.path_place.Goals as goal
+use Rattle.script_lint.proofs.path.path_stuck_at.Goals as goal
 
 pub returns-then-not-is_ascii_graphic : goal.returns-then-not-is_ascii_graphic
 returns-then-not-is_ascii_graphic c =

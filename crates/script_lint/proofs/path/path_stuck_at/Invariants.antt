@@ -1,6 +1,6 @@
 use Rattle.std.proofs.Common.{◌-◌, ◌≤◌, All, length, take}
 use Rattle.script_lint.proofs.KindPlaces.{IsGraphic}
-use Rattle.script_lint.proofs.path.path_place.Given as goal
+use Rattle.script_lint.proofs.path.path_stuck_at.Given as goal
 
 -- the bytes so far are those of a path
 abbrev pub invariant-loop-place : goal.invariant-loop-place

@@ -4,8 +4,8 @@ use Rattle.std.proofs.lemmas.List.{take_all}
 use Rattle.std.specs.Char.{digit_value}
 use Rattle.std.specs.Str.Parse.{AllDigits, digits_value}
 use Rattle.script_lint.proofs.KindPlaces.{no_digit, too_great, too_low}
-use Rattle.script_lint.proofs.number.number_place.Goals as goal
-use Rattle.script_lint.proofs.number.number_place.Goals.{then-place-eq0-via-then-place-eq0, then-place-eq0-via-else-place-eq0+then-value-least}
+use Rattle.script_lint.proofs.number.number_stuck_at.Goals as goal
+use Rattle.script_lint.proofs.number.number_stuck_at.Goals.{then-place-eq0-via-then-place-eq0, then-place-eq0-via-else-place-eq0+then-value-least}
 
 pub returns-in-None : goal.returns-in-None
 returns-in-None c =

@@ -1,6 +1,6 @@
 use Rattle.std.proofs.Common.{◌≡◌, ◌-◌, ◌≤◌, length, take}
 use Rattle.std.specs.Str.Parse.{AllDigits, digits_value}
-use Rattle.script_lint.proofs.number.number_place.Given as goal
+use Rattle.script_lint.proofs.number.number_stuck_at.Given as goal
 
 -- the digits so far, and the number that they write
 abbrev pub invariant-loop-place : goal.invariant-loop-place

@@ -1,6 +1,6 @@
 use Rattle.std.proofs.Common.{rules, ◌≢◌, ◌<◌, get_or, length}
 use Rattle.script_lint.proofs.LinePlaces.{line_found}
-use Rattle.script_lint.proofs.line.line_place.Goals as goal
+use Rattle.script_lint.proofs.line.line_stuck_at.Goals as goal
 
 pub returns : goal.returns
 returns c =
