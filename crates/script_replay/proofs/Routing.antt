@@ -94,8 +94,8 @@ module _ (call : Transition LockedState) (text : List ℕ) where
   unnoted (Units path) taken is writes = on_route (Units path) route.Settled taken writes is
 
 -- what else a command is, of which the machine may have notes
-pub noted_cases : (work : Work) → unnoted_route work ≡ None → ((cmd : Cmd) → work ≢ Visit cmd) → ((path : Bor (List ℕ)) → work ≢ Frame path)
-    → ((frame : ℕ) → work ≢ Release frame) → ⊥
+pub noted_cases : (work : Work) → unnoted_route work ≡ None → ((cmd : Cmd) → work ≢ Visit cmd)
+    → ((path : Bor (List ℕ)) → work ≢ AllocFrame path) → ((frame : ℕ) → work ≢ Release frame) → ⊥
 noted_cases (Visit cmd) is not_visit not_frame not_release = not_visit cmd refl
 noted_cases (AllocFrame path) is not_visit not_frame not_release = not_frame path refl
 noted_cases (Fast group) is not_visit not_frame not_release = none-some route.Unlocked (sym is)
