@@ -30,7 +30,7 @@ use Rattle.script_lines.specs.declared.line.Line.TheVariants.{Go, At}
 use Rattle.script_replay.specs.declared.route.Route.{Route}
 use Rattle.script_replay.specs.declared.route.Route.TheVariants as route
 use Rattle.script_replay.specs.declared.work.Work.{Work}
-use Rattle.script_replay.specs.declared.work.Work.TheVariants.{Visit, Frame, Fast, Release, Get, Put, Settle, Blocks, Show, Stock, Units}
+use Rattle.script_replay.specs.declared.work.Work.TheVariants.{Visit, AllocFrame, Fast, Release, Get, Put, Settle, Blocks, Show, Stock, Units}
 use Rattle.script_replay.specs.Answers.{AnswersFrame, CanNotList, GetsPin, IsServedUnderLock, OnlyWatched, PutsPin, RepliesServed}
 use Rattle.script_replay.specs.Answers.{locked_with_unit_notes}
 use Rattle.script_replay.specs.Lines.{SystemState}
@@ -119,8 +119,8 @@ frame_keeps path call said is = absurd is
 answer_keeps : (work : Work) (taken : Route) (call : Transition LockedState) (said : LineAnswer) → AnswersByRoute work taken call said
     → Keeps call.before call.after
 answer_keeps (Visit cmd) route.Locked call said is = replied_keeps true cmd call said is
-answer_keeps (Frame path) route.Unlocked call said is = frame_keeps path call said is
-answer_keeps (Frame path) (route.LockedAfter reason) call (answer.Served reply) is =
+answer_keeps (AllocFrame path) route.Unlocked call said is = frame_keeps path call said is
+answer_keeps (AllocFrame path) (route.LockedAfter reason) call (answer.Served reply) is =
     let none = is.allocates.none in
     served_keeps true (cmd.Alloc path 0) is.allocates.seen reply call
     (fast_number none.group none.fast call.before.cpu is.allocates.seen none.answers) is.allocates.served

@@ -12,7 +12,7 @@ use Rattle.script_lines.specs.declared.line.Line.{Line}
 use Rattle.script_lines.specs.declared.line.Line.TheVariants.{Go, At}
 use Rattle.script_replay.specs.declared.route.Route.TheVariants as route
 use Rattle.script_replay.specs.declared.work.Work.{Work}
-use Rattle.script_replay.specs.declared.work.Work.TheVariants.{Visit, Frame, Fast, Release, Get, Put, Settle, Blocks, Show, Stock, Units}
+use Rattle.script_replay.specs.declared.work.Work.TheVariants.{Visit, AllocFrame, Fast, Release, Get, Put, Settle, Blocks, Show, Stock, Units}
 use Rattle.script_replay.specs.Answers.{locked_with_watch}
 use Rattle.script_replay.specs.Lines.{SystemState}
 use Rattle.script_replay.specs.Routes.{AnswersByRoute, ServesByRoute, WritesByRoute}
@@ -33,8 +33,8 @@ not_even before after same = same ∙ ap (λ (l : KnownLocked). locked_with_watc
 
 answered_unlocked : (work : Work) (call : Transition LockedState) (said : LineAnswer) → AnswersByRoute work route.Unlocked call said
     → OnlyWatch call.before.locked call.after.locked
-answered_unlocked (Frame path) call (answer.Fast (Got frame)) is = is.alone.locked.locked
-answered_unlocked (Frame path) call (answer.Served reply) is = not_even call.before.locked call.after.locked is.0.same_locked
+answered_unlocked (AllocFrame path) call (answer.Fast (Got frame)) is = is.alone.locked.locked
+answered_unlocked (AllocFrame path) call (answer.Served reply) is = not_even call.before.locked call.after.locked is.0.same_locked
 answered_unlocked (Fast group) call (answer.Fast fast) is = is.1.locked.locked
 answered_unlocked (Release frame) call answer.Listed is = is.1.locked.locked
 answered_unlocked (Get frame) call said is = is.1.locked.locked
@@ -44,7 +44,7 @@ answered_unlocked work call said is = absurd is
 written_unlocked : (work : Work) (call : Transition LockedState) (text : List ℕ) → WritesByRoute work route.Unlocked call text
     → OnlyWatch call.before.locked call.after.locked
 written_unlocked (Visit cmd) call text is = answered_unlocked (Visit cmd) call is.answer is.answered
-written_unlocked (Frame path) call text is = answered_unlocked (Frame path) call is.answer is.answered
+written_unlocked (AllocFrame path) call text is = answered_unlocked (AllocFrame path) call is.answer is.answered
 written_unlocked (Fast group) call text is = answered_unlocked (Fast group) call is.answer is.answered
 written_unlocked (Release frame) call text is = answered_unlocked (Release frame) call is.answer is.answered
 written_unlocked (Get frame) call text is = answered_unlocked (Get frame) call is.answer is.answered

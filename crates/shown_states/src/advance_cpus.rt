@@ -159,14 +159,13 @@ fn advance_lists<N: BootName>(
 {
     let (list, list_end) = cpu.list();
     let (back, back_end) = cpu.back();
-    advance_listed(alloc, number, list, list_end, shown, numbers, lists)?;
-    advance_fresh(alloc, number, cpu.fresh(), shown, numbers, lists)?;
-    advance_back(alloc, number, back, back_end, shown, numbers, lists)
+    advance_listed(number, list, list_end, shown, numbers, lists)?;
+    advance_fresh(number, cpu.fresh(), shown, numbers, lists)?;
+    advance_back(number, back, back_end, shown, numbers, lists)
 }
 
 // Sets the frames on the CPU's list, and adds the change.
 fn advance_listed(
-    alloc: Global,
     number: usize,
     first: &[Frame],
     rest: &[Frame],
@@ -179,7 +178,7 @@ fn advance_listed(
         (string_bytes lists.new.text) (list_change (Listed number) shown.old.list (first.now ++ rest.now))) }
 {
     let name = ListName::Listed { cpu: number };
-    if add_list_change(alloc, name, shown.list(), first, rest, numbers, lists)? {
+    if add_list_change(name, shown.list(), first, rest, numbers, lists)? {
         shown.swap_list(numbers);
     }
     Ok(())
@@ -187,7 +186,6 @@ fn advance_listed(
 
 // Sets the CPU's fresh frames, and adds the change.
 fn advance_fresh(
-    alloc: Global,
     number: usize,
     fresh: &[Frame],
     shown: &mut ShownCpu,
@@ -199,7 +197,7 @@ fn advance_fresh(
         (string_bytes lists.new.text) (list_change (Fresh number) shown.old.fresh fresh.now)) }
 {
     let name = ListName::Fresh { cpu: number };
-    if add_list_change(alloc, name, shown.fresh(), fresh, &[], numbers, lists)? {
+    if add_list_change(name, shown.fresh(), fresh, &[], numbers, lists)? {
         shown.swap_fresh(numbers);
     }
     Ok(())
@@ -207,7 +205,6 @@ fn advance_fresh(
 
 // Sets the CPU's units whose last reference it put, and adds the change.
 fn advance_back(
-    alloc: Global,
     number: usize,
     first: &[Frame],
     rest: &[Frame],
@@ -220,7 +217,7 @@ fn advance_back(
         (string_bytes lists.new.text) (list_change (Back number) shown.old.back (first.now ++ rest.now))) }
 {
     let name = ListName::Back { cpu: number };
-    if add_list_change(alloc, name, shown.back(), first, rest, numbers, lists)? {
+    if add_list_change(name, shown.back(), first, rest, numbers, lists)? {
         shown.swap_back(numbers);
     }
     Ok(())
@@ -228,7 +225,6 @@ fn advance_back(
 
 // Adds the change of the list of this name, and returns whether there is one: `numbers` has then what it changed to.
 fn add_list_change(
-    alloc: Global,
     name: ListName,
     before: &[u32],
     first: &[Frame],

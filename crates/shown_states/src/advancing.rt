@@ -227,7 +227,6 @@ fn advance_parts<N: BootName>(
     let machine = locked.machine();
     set_counts(machine, cpus, state, counts)?;
     set_groups(
-        alloc,
         machine,
         state,
         &mut parts.spare_groups,
@@ -327,7 +326,6 @@ fn set_counts<N: BootName>(
 // Sets the state's groups, which have the numbers and paths of now, adds the changes of their lists, and sets the part
 // that tells the rows that changed.
 fn set_groups<N: BootName>(
-    alloc: Global,
     machine: &Machine<N>,
     state: &mut TraceState,
     spare: &mut Vec<ShownGroup>,
