@@ -26,8 +26,8 @@ came_same (n ∷ l) = cond-true (n == n) (added_of l l) (added_of l (n ∷ l)) (
 
 pub list_same : (name : ListName) (l : List ℕ) → list_change name l l ≡ []
 list_same name l =
-    ap (λ (x : List ℕ). changed_list (record { name = name; left = x; came = added_of l l })) (left_same l)
-    ∙ ap (λ (x : List ℕ). changed_list (record { name = name; left = []; came = x })) (came_same l)
+    ap (λ (x : List ℕ). changed_list (record { name = name; removed = x; added = added_of l l })) (left_same l)
+    ∙ ap (λ (x : List ℕ). changed_list (record { name = name; removed = []; added = x })) (came_same l)
 
 pub list_stays : (name : ListName) (before after : List ℕ) → before ≡ after → list_change name before after ≡ []
 list_stays name before after same = ap (λ (l : List ℕ). list_change name l after) same ∙ list_same name after
