@@ -168,10 +168,10 @@ written_keeps Blocks route.Settled call text is = served_keeps false cmd.Settle 
 written_keeps Show route.Settled call text is = served_keeps false cmd.Settle call.before.cpu _ call refl is.settles
 written_keeps Stock route.Settled call text is =
     let settled = served_keeps false cmd.Settle call.before.cpu _ (transition call.table call.before call.steps is.settled) refl is.settles in
-    looked_keeps call is.settled settled (stock_filled is.settled.locked.machine call.after.locked.machine is.written.look) is.cpu
+    looked_keeps call is.settled settled (stock_filled is.settled.locked.machine call.after.locked.machine is.told.look) is.cpu
 written_keeps (Units path) route.Settled call text is =
     let settled = served_keeps false cmd.Settle call.before.cpu _ (transition call.table call.before call.steps is.settled) refl is.settles in
-    looked_keeps call is.settled settled (units_filled _ _ _ is.settled.locked.machine call.after.locked.machine is.written) is.cpu
+    looked_keeps call is.settled settled (units_filled _ _ _ is.settled.locked.machine call.after.locked.machine is.told) is.cpu
 written_keeps work taken call text is = answer_keeps work taken call is.answer is.answered
 
 -- ---- a line
