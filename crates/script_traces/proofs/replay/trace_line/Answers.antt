@@ -82,7 +82,7 @@ returns-clause-traced g c =
     _ notes.left_out c.counts.result.now
     (string_bytes c.args.trace.now) (string_bytes c.write_object.new.text) c.in_ok-write_object.ensures c.line_facts-facts.ensures
     c.command_at-command.ensures (c.as_bytes.ensures.value ∙ said) changed
-    (c.notes_on-more.ensures.notes ∙ ap (λ (n : KnownNotes). n.list) are) (c.notes_on-more.ensures.more ∙ ap (λ (n : KnownNotes). n.left_out) are)
+    (c.notes_on-left_out.ensures.notes ∙ ap (λ (n : KnownNotes). n.list) are) (c.notes_on-left_out.ensures.more ∙ ap (λ (n : KnownNotes). n.left_out) are)
     counted in
     subst (λ (l : Line). GrowsBy (TracesLine tables texts l before after) (string_bytes c.args.trace.now) (string_bytes c.write_object.new.text)) (sym is)
     (line_traced tables texts number cpu command route answer before served after notes (string_bytes c.args.trace.now)
