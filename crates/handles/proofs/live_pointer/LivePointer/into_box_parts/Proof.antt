@@ -103,9 +103,9 @@ module _ (N : RattleType) (g : Ghosts N.Denot) (d : Dict) where
         suffices ! _ (ends_at 𝓛 ended stayed held z (word x.ptr hv) (record { ptr = x.ptr; alloc = x.alloc; value = there.0 }) (rest (From.exit no) x, tt) (tt, tt)) $ says ! there.1 $
         nothing ! $ nothing ! $ fjoin ! $ join ! $ move ! (1 ∷ 0 ∷ []) $ join ! $ done !)))))
 
-pub into_loose_spec : {M : Type 1} → stated.statement M
+pub into_box_parts_spec : {M : Type 1} → stated.statement M
 unfolding tables_of
-into_loose_spec 𝓤 𝓛 𝓜 𝓡 wired N L g d met =
+into_box_parts_spec 𝓤 𝓛 𝓜 𝓡 wired N L g d met =
     let 𝓣 : Tables 𝓤 𝓛.H = tables_of 𝓤 𝓛.H 𝓜 (tables 𝓤 𝓛.H 𝓜 𝓡 𝓡.env) in
     entered 𝓤 𝓛.H (triple_of 𝓛 (ended N g d).signature (F.spec N g d 𝓛 𝓜.mem 𝓡.returns)) 𝓣.C 𝓣.Λ (#self (args N g d)) (fn' N g d) (code.unfolded 𝓤 𝓛.H 𝓜 𝓡 wired (N, tt) d)
     (walk_Meets 𝓛 (ended N g d) (stayed N g d) (Goes-blank 𝓛 1 (plain (λ _. From N g d)) no (λ κs x f. tt), tt) (held N g d 𝓛 𝓜.mem 𝓡.returns 𝓣) (WpFn 𝓤 𝓛.H 𝓣.C 𝓣.Λ (fn' N g d)) (WpFn-mono 𝓤 𝓛.H 𝓛.laws 𝓣 (fn' N g d))
