@@ -1,0 +1,1 @@
+use Rattle.tracked_vec.proofs.tracked_vec.TrackedVec.set.Goals as goal
