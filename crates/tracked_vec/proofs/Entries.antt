@@ -1,9 +1,10 @@
 -- Lists that are the same except at some indices.
-use Rattle.std.proofs.Common.{◌≡◌, ◌≢◌, ◌⊎◌, ◌∙◌, ℕ, zero, suc, ◌+◌, ◌<◌, List, [], ◌∷◌, ◌++◌, length, set, take, drop, refl, sym, ap, inl, inr, subst, arith}
-use Rattle.std.specs.Prelude.{Some, None, Option, get_or}
-use Rattle.std.specs.List.{slice_get, All, Contains}
-use Rattle.std.proofs.lemmas.List.{length-set, take_more_set, drop_more, drop_all}
-use Rattle.std.proofs.lemmas.List.Elements.{Contains-append_left, Contains-push, Contains-push_cases, Contains-append_cases, All-push}
+use Rattle.std.proofs.Common.{◌≡◌, ◌≢◌, ◌∙◌, ℕ, zero, suc, ◌+◌, ◌<◌, List, [], ◌∷◌, ◌++◌, length, set, take}
+use Rattle.std.proofs.Common.{refl, sym, ap, inl, inr, subst, arith}
+use Rattle.std.specs.Prelude.{Some}
+use Rattle.std.specs.List.{slice_get, Contains}
+use Rattle.std.proofs.lemmas.List.{length-set, take_more_set}
+use Rattle.std.proofs.lemmas.List.Elements.{Contains-append_left, Contains-push, Contains-append_cases, All-push}
 use Rattle.std.proofs.lemmas.Bool.{cases_eq}
 use Rattle.tracked_vec.specs.Tracked.{IsSameBut, AreIndicesOf}
 
@@ -36,7 +37,7 @@ pub same_entries : {X : Type 0} (xs ys : List X) → length xs ≡ length ys
 same_entries [] [] lengths same = refl
 same_entries [] (y ∷ ys) lengths same = absurd (omega (arith, lengths))
 same_entries (x ∷ xs) [] lengths same = absurd (omega (arith, lengths))
-same_entries {X} (x ∷ xs) (y ∷ ys) lengths same =
+same_entries (x ∷ xs) (y ∷ ys) lengths same =
     let head : x ≡ y = grind (arith, same 0) in
     let tail : xs ≡ ys = same_entries xs ys (omega (arith, lengths)) (λ i. same (suc i)) in
     rw (head, tail) refl
@@ -52,7 +53,8 @@ pub same_but_noted : {X : Type 0} (indices : List ℕ) (before after : List X) (
 same_but_noted indices before after index value same = record {
   lengths = length-set after index value ∙ same.lengths;
   others = λ other absent.
-      let apart : other ≢ index = λ e. absent (subst (λ i. Contains (indices ++ index ∷ []) i) (sym e) (Contains-push indices index)) in
+      let apart : other ≢ index = λ e.
+      absent (subst (λ i. Contains (indices ++ index ∷ []) i) (sym e) (Contains-push indices index)) in
       get_set_other after index other value apart
       ∙ same.others other (λ within. absent (Contains-append_left indices (index ∷ []) other within));
 }
