@@ -7,7 +7,7 @@ ghost use Rattle.tracked_vec.specs.Tracked.{IsSameBut, AreIndicesOf};
 use std::alloc::{AllocError, Global};
 use std::marker::Model;
 
-// How many writes the vector can note. A reader that finds more of them looks at all entries.
+// How many writes a vector notes at most. A reader of one with more of them looks at all entries.
 const NOTED_WRITES: usize = 4_096;
 
 /// A vector of fixed length, and what its entries were at the last snapshot. It knows which entries were written
@@ -16,8 +16,8 @@ const NOTED_WRITES: usize = 4_096;
 pub struct TrackedVec<T: Copy> {
     entries: Vec<T>,
     snapshot: Vec<T>,
-    // The first `count` are the indices written since the snapshot. If `count` is the length, writes may be missing,
-    // so there is one comparison in a write, whether or not a snapshot was taken.
+    // The first `count` are the indices written since the snapshot. If `count` is the length, writes may be missing, as
+    // they are if no snapshot was taken: a write then costs one comparison.
     written: Vec<u32>,
     count: usize,
 }
@@ -64,6 +64,13 @@ impl<T: Copy> TrackedVec<T> {
         self.entries.as_slice()
     }
 
+    /// What all entries were at the last snapshot. Empty if none was taken.
+    pub fn snapshot(&self) -> &[T]
+        ensures { result.now ≡ self.now.snapshot }
+    {
+        self.snapshot.as_slice()
+    }
+
     /// One entry.
     #[inline]
     pub fn get(&self, index: usize) -> T
@@ -95,7 +102,11 @@ impl<T: Copy> TrackedVec<T> {
         ensures failed { OnErr result (self.new ≡ self.old) }
     {
         if self.count < self.written.len() {
-            copy_entries(&self.entries, &mut self.snapshot, &self.written[..self.count]);
+            copy_entries(
+                &self.entries,
+                &mut self.snapshot,
+                &self.written[..self.count],
+            );
         } else if self.snapshot.len() == self.entries.len() {
             self.snapshot.copy_from_slice(&self.entries);
         } else {
