@@ -23,21 +23,23 @@ pub struct TrackedVec<T: Copy> {
 }
 
 impl<T: Copy> Model for TrackedVec<T> {
-    ghost use Rattle.std.specs.Prelude.{◌<◌, length, take};
+    ghost use Rattle.std.specs.Prelude.{◌<◌, ◌^◌, length, take};
     ghost use Rattle.tracked_vec.specs.Tracked.{KnownTracked, IsSameBut, AreIndicesOf};
 
     ghost Value = { KnownTracked T };
 
     ghost view = { λ t. record { now = t.entries.items; snapshot = t.snapshot.items } };
 
-    ghost invariant = { λ t. t.count < length t.written.items
+    ghost invariant = { λ t. (length t.entries.items < 2 ^ 32)
+        × (t.count < length t.written.items
         → IsSameBut (take t.count t.written.items) t.snapshot.items t.entries.items
-        × AreIndicesOf t.entries.items (take t.count t.written.items) };
+        × AreIndicesOf t.entries.items (take t.count t.written.items)) };
 }
 
 impl<T: Copy> TrackedVec<T> {
-    /// The vector, of which no snapshot was taken yet.
+    /// The vector, of which no snapshot was taken yet. Its indices have to fit a `u32`.
     pub fn new(entries: Vec<T>) -> Self
+        requires { length entries.items < 2 ^ 32 }
         ensures now { result.now ≡ entries.items }
         ensures snapshot { result.snapshot ≡ [] }
     {
@@ -84,8 +86,7 @@ impl<T: Copy> TrackedVec<T> {
     /// Writes one entry.
     #[inline]
     pub fn set(&mut self, index: usize, value: T)
-        requires in_range { index < length self.old.now }
-        requires small { index < 2 ^ 32 }
+        requires { index < length self.old.now }
         ensures { self.new ≡ record self.old { now = slice_set self.old.now index value } }
     {
         self.entries[index] = value;
