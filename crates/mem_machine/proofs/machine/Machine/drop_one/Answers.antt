@@ -3,8 +3,7 @@ use Rattle.mem_machine.proofs.Fresh.{drop_all, was_fresh, drop_charged, drop_in_
 use Rattle.step_watch.specs.Watched.{Watches}
 use Rattle.step_watch.proofs.Watching.{watches_both}
 use Rattle.mem_machine.specs.Settling.{drop_steps}
-use Rattle.mem_machine.proofs.Followed.{makes_watched}
-use Rattle.mem_machine.proofs.Watched.{consistent_still, drops_still, visits_still, consistent_tracked, visits_tracked, makes_tracked, drops_tracked, snapshot_kept}
+use Rattle.mem_machine.proofs.Watched.{consistent_tracked, visits_tracked, makes_tracked, drops_tracked, snapshot_kept}
 use Rattle.mem_machine.proofs.machine.Machine.drop_one.Goals as goal
 
 pub free_unit-requires-clause-in_use : goal.free_unit-requires-clause-in_use

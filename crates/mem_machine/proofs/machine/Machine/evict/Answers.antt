@@ -6,7 +6,7 @@ use Rattle.step_watch.specs.Watched.{Watches}
 use Rattle.step_watch.proofs.Watching.{watches_both}
 use Rattle.mem_machine.specs.Evicting.{evict_steps}
 use Rattle.mem_machine.proofs.Followed.{makes_watched}
-use Rattle.mem_machine.proofs.Watched.{consistent_still, misses_still, evicts_still, visits_still, consistent_tracked, visits_tracked, makes_tracked, evicts_tracked, snapshot_kept}
+use Rattle.mem_machine.proofs.Watched.{consistent_still, misses_still, visits_still, consistent_tracked, visits_tracked, makes_tracked, evicts_tracked, snapshot_kept}
 use Rattle.mem_machine.proofs.machine.Machine.evict.Goals as goal
 
 pub invariant_of-self : goal.invariant_of-self

@@ -3,8 +3,7 @@ use Rattle.mem_machine.proofs.Fresh.{keep_all, was_fresh, in_hand_then}
 use Rattle.step_watch.specs.Watched.{Watches}
 use Rattle.step_watch.proofs.Watching.{watches_both}
 use Rattle.mem_machine.specs.Settling.{keep_steps}
-use Rattle.mem_machine.proofs.Followed.{makes_watched}
-use Rattle.mem_machine.proofs.Watched.{consistent_still, keeps_still, visits_still, consistent_tracked, visits_tracked, makes_tracked, keeps_tracked}
+use Rattle.mem_machine.proofs.Watched.{consistent_tracked, visits_tracked, makes_tracked, keeps_tracked}
 use Rattle.tracked_vec.specs.Tracked.{KnownTracked}
 use Rattle.mem_machine.specs.declared.frame_state.FrameState.{FrameState}
 use Rattle.mem_machine.specs.FrameStates.{free_of}

@@ -4,8 +4,7 @@ use Rattle.mem_machine.proofs.GivenFrames.{given_all, given_free, given_hand}
 use Rattle.step_watch.specs.Watched.{Watches}
 use Rattle.step_watch.proofs.Watching.{watches_both}
 use Rattle.mem_machine.specs.Steps.{lend_steps}
-use Rattle.mem_machine.proofs.Followed.{makes_watched}
-use Rattle.mem_machine.proofs.Watched.{consistent_still, lends_still, visits_still, consistent_tracked, visits_tracked, makes_tracked, lends_tracked}
+use Rattle.mem_machine.proofs.Watched.{consistent_tracked, visits_tracked, makes_tracked, lends_tracked}
 use Rattle.tracked_vec.specs.Tracked.{KnownTracked}
 use Rattle.mem_machine.specs.declared.frame_state.FrameState.{FrameState}
 use Rattle.mem_machine.specs.FrameStates.{free_of}

@@ -6,7 +6,7 @@ use Rattle.step_watch.proofs.Watching.{watches_both}
 use Rattle.mem_machine.specs.declared.releasing.Released.TheVariants.{Left, Returned}
 use Rattle.mem_machine.specs.Releasing.{release_steps}
 use Rattle.mem_machine.proofs.Followed.{makes_watched}
-use Rattle.mem_machine.proofs.Watched.{consistent_still, returned_still, visits_still, consistent_tracked, visits_tracked, makes_tracked, returned_tracked, snapshot_kept}
+use Rattle.mem_machine.proofs.Watched.{consistent_still, visits_still, consistent_tracked, visits_tracked, makes_tracked, returned_tracked, snapshot_kept}
 use Rattle.mem_machine.proofs.machine.Machine.put_zone_reference.Goals as goal
 
 pub free_unit-requires-clause-in_use : goal.free_unit-requires-clause-in_use

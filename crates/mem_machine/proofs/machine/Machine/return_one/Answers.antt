@@ -6,8 +6,7 @@ use Rattle.mem_machine.proofs.Back.{WasBack, back_passes, read_head, back_in_use
 use Rattle.step_watch.specs.Watched.{Watches}
 use Rattle.step_watch.proofs.Watching.{watches_both}
 use Rattle.mem_machine.specs.Settling.{return_steps}
-use Rattle.mem_machine.proofs.Followed.{makes_watched}
-use Rattle.mem_machine.proofs.Watched.{consistent_still, returns_still, visits_still, consistent_tracked, visits_tracked, makes_tracked, returns_tracked, snapshot_kept}
+use Rattle.mem_machine.proofs.Watched.{consistent_tracked, visits_tracked, makes_tracked, returns_tracked, snapshot_kept}
 use Rattle.mem_machine.proofs.machine.Machine.return_one.Goals as goal
 
 pub collect-requires-clause-passes : goal.collect-requires-clause-passes

@@ -14,7 +14,7 @@ use Rattle.step_watch.proofs.Watching.{watches_both}
 use Rattle.step_rules.specs.declared.step.Action.TheVariants.{Grant, Ungrant, PlaceBlock, Unfreeze, Publish}
 use Rattle.step_rules.specs.declared.step.Answer.TheVariants.{Done, Granted, Placed, NoFreeBlock}
 use Rattle.mem_machine.proofs.Followed.{LeadsAs, makes_watched}
-use Rattle.mem_machine.proofs.Watched.{consistent_still, takes_block_still, takes_none_still, visits_still, consistent_tracked, visits_tracked, makes_tracked, takes_block_tracked, snapshot_kept}
+use Rattle.mem_machine.proofs.Watched.{takes_none_still, consistent_tracked, visits_tracked, makes_tracked, takes_block_tracked, snapshot_kept}
 use Rattle.mem_machine.proofs.machine.Machine.take_block.Goals as goal
 
 pub returns-in_default-take : goal.returns-in_default-take

@@ -5,8 +5,7 @@ use Rattle.mem_machine.proofs.Takes.{take_all, may_give, passes_back_to}
 use Rattle.step_watch.specs.Watched.{Watches}
 use Rattle.step_watch.proofs.Watching.{watches_both}
 use Rattle.mem_machine.specs.Steps.{unlist_steps}
-use Rattle.mem_machine.proofs.Followed.{makes_watched}
-use Rattle.mem_machine.proofs.Watched.{consistent_still, takes_still, visits_still, consistent_tracked, visits_tracked, makes_tracked, takes_tracked}
+use Rattle.mem_machine.proofs.Watched.{consistent_tracked, visits_tracked, makes_tracked, takes_tracked}
 use Rattle.tracked_vec.specs.Tracked.{KnownTracked}
 use Rattle.mem_machine.specs.declared.frame_state.FrameState.{FrameState}
 use Rattle.mem_machine.specs.FrameStates.{free_of}
