@@ -102,7 +102,7 @@ local_at table now = local_of table now.machine now.cpu
 
 -- These steps, of the CPU of this number and of the zone's seat, lead from one visit state to another. They are local
 -- steps between the two local states. The ledger's peaks and event counts follow them, and so do the machine's counts.
--- The machine's watch took them, in this order. The snapshot stays.
+-- The machine's watch took them, in this order. No step takes a snapshot.
 pub record MakesAs (table : KnownTable) (cpu_number : ℕ) (before : VisitState) (steps : Run)
     (after : VisitState) : Type 0 where
   pub leads : IsLocalRun cpu_number (local_at table before) steps (local_at table after)

@@ -1,6 +1,6 @@
 //! The machine: what it holds, how it is made, and how it is taken apart.
 
-ghost use Rattle.std.specs.Prelude.{◌≡◌, IfOk};
+ghost use Rattle.std.specs.Prelude.{◌≡◌, [], IfOk};
 ghost use Rattle.frame_word.specs.Seats.{first_zone_view};
 ghost use Rattle.step_watch.specs.Watched.{watch_off};
 ghost use Rattle.stock_word.specs.Stock.{first_zone_stock_view};
@@ -81,6 +81,7 @@ impl<N: BootName> Machine<N> {
         requires stock_seat { stock_seat ≡ record { table = N.stocks.table; view = first_zone_stock_view } }
         requires cpus { N.stocks.cpus ≡ N.frames.cpus }
         ensures first { IfOk result (λ machine. IsFirst N.frames N.stocks machine) }
+        ensures no_snapshot { IfOk result (λ machine. machine.snapshot ≡ []) }
         ensures off { IfOk result (λ machine. machine.watch ≡ watch_off) }
     {
         let (zone, frame_states, links) = frame_parts(alloc, tables.frames.frames())?;

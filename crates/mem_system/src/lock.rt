@@ -83,7 +83,7 @@ impl<N: BootName> Locked<N> {
         self.machine.set_unit_notes(is_on);
     }
 
-    /// Makes the records of all frames the machine's snapshot. Nothing else changes.
+    /// Takes a snapshot of the records of all frames: the machine knows from then on which of them are written.
     pub fn take_snapshot(&mut self, alloc: Global) -> Result<(), AllocError>
         ensures taken { OnOk result (self.new ≡ record self.old { machine = with_snapshot self.old.machine }) }
         ensures failed { OnErr result (self.new ≡ self.old) }
