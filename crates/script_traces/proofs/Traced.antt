@@ -3,6 +3,7 @@ use Rattle.std.proofs.Common.{◌≡◌, ℕ, ◌+◌, ◌<◌, List, [], ◌∷
 use Rattle.cpu_part.specs.Cpus.{KnownCpu}
 use Rattle.kill_notes.specs.declared.note.Note.{Note}
 use Rattle.kill_notes.specs.Notes.{KnownNotes}
+use Rattle.mem_machine.specs.Machines.{KnownMachine, with_snapshot}
 use Rattle.mem_system.specs.Locked.{KnownLocked}
 use Rattle.script_lines.specs.declared.line.Command.{Command}
 use Rattle.script_lines.specs.declared.line.Line.{Line}
@@ -13,6 +14,8 @@ use Rattle.script_replay.specs.Routes.{ServesByRoute}
 use Rattle.script_replay.specs.Terms.{BootTables}
 use Rattle.script_replay.proofs.InOrder.{in_order_line}
 use Rattle.shown_states.specs.Cpus.{locked_with_looks}
+use Rattle.shown_states.specs.Frames.{flags_shown}
+use Rattle.shown_states.specs.Groups.{groups_shown}
 use Rattle.shown_states.specs.States.{trace_state_of}
 use Rattle.trace_lines.specs.declared.objects.LineFacts.{LineFacts}
 use Rattle.trace_lines.specs.Changes.{changes}
@@ -20,7 +23,7 @@ use Rattle.trace_lines.specs.Objects.{object_text, object_with}
 use Rattle.trace_lines.specs.Parts.{changes_text, counts_part}
 use Rattle.trace_lines.specs.TraceState.{KnownTraceState}
 use Rattle.script_traces.specs.Commands.{command_at}
-use Rattle.script_traces.specs.Traces.{AreRebuilt, GrowsBy, TracesLine, line_facts, looked, notes_on, system_shown}
+use Rattle.script_traces.specs.Traces.{AreRebuilt, GrowsBy, TracesLine, line_facts, locked_observed, notes_on, observed, system_shown}
 
 -- ---- states
 
@@ -28,7 +31,7 @@ pub shown_as : (locked : KnownLocked) (cpus : List KnownCpu) → trace_state_of 
 unfolding system_shown
 shown_as locked cpus = refl
 
--- what was shown before the looks is shown after them
+-- what was shown before the state was observed is shown after it
 pub shown_after : (shown : KnownTraceState) (locked after : KnownLocked) (cpus others : List KnownCpu) → shown ≡ trace_state_of locked.machine cpus
     → trace_state_of after.machine others ≡ trace_state_of locked.machine cpus → shown ≡ system_shown (system_state after others)
 shown_after shown locked after cpus others is again = is ∙ sym again ∙ shown_as after others
@@ -37,9 +40,19 @@ pub shown_stays : (locked after : KnownLocked) (cpus others : List KnownCpu) →
     → system_shown (system_state after others) ≡ system_shown (system_state locked cpus)
 shown_stays locked after cpus others again = sym (shown_as after others) ∙ again ∙ shown_as locked cpus
 
-pub state_looked : (locked after : KnownLocked) (cpus others : List KnownCpu) → after ≡ locked_with_looks locked (length cpus) → others ≡ cpus
-    → system_state after others ≡ looked (system_state locked cpus)
-state_looked locked after cpus others looks same = λ i. system_state (looks i) (same i)
+pub state_observed : (locked after : KnownLocked) (cpus others : List KnownCpu) → after ≡ locked_observed locked (length cpus) → others ≡ cpus
+    → system_state after others ≡ observed (system_state locked cpus)
+state_observed locked after cpus others is same = λ i. system_state (is i) (same i)
+
+-- nobody sees the snapshot
+pub snapshot_unseen : (machine : KnownMachine) (cpus : List KnownCpu) → trace_state_of (with_snapshot machine) cpus ≡ trace_state_of machine cpus
+unfolding (flags_shown, groups_shown)
+snapshot_unseen machine cpus = refl
+
+-- the snapshot is taken after the looks
+pub then_snapshot : (locked looked after : KnownLocked) (count : ℕ) → looked ≡ locked_with_looks locked count
+    → after ≡ record looked { machine = with_snapshot looked.machine } → after ≡ locked_observed locked count
+then_snapshot locked looked after count looks taken = taken ∙ ap (λ (l : KnownLocked). record l { machine = with_snapshot l.machine }) looks
 
 -- ---- one line
 
@@ -64,7 +77,7 @@ object_same facts facts_are command command_is answer answer_is text before afte
 
 pub line_traced : (tables : BootTables) (texts : List (List ℕ)) (number cpu : ℕ) (command : Command) (route : Route) (answer : List ℕ)
     (before served after : SystemState) (notes : KnownNotes) (old new : List ℕ)
-    → ServesByRoute tables.frames (At number cpu command) before served route answer → after ≡ looked served
+    → ServesByRoute tables.frames (At number cpu command) before served route answer → after ≡ observed served
     → AreRebuilt (system_shown before) (system_shown served) → system_shown after ≡ system_shown served
     → notes ≡ notes_on route served.locked.machine.notes
     → new ≡ old ++ object_text (line_facts number cpu route) (command_at texts number) answer (system_shown before) (system_shown served) notes.list notes.left_out

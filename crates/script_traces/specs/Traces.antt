@@ -3,7 +3,8 @@ use Rattle.std.specs.Prelude.{◌≡◌, ℕ, Bool, true, false, List, [], ◌++
 use Rattle.cpu_part.specs.declared.answers.Fast.{Fast}
 use Rattle.cpu_part.specs.declared.answers.Fast.TheVariants as fast
 use Rattle.kill_notes.specs.Notes.{KnownNotes, no_notes}
-use Rattle.mem_machine.specs.Machines.{KnownMachine}
+use Rattle.mem_machine.specs.Machines.{with_snapshot}
+use Rattle.mem_system.specs.Locked.{KnownLocked}
 use Rattle.script_lines.specs.declared.line.Command.{Command}
 use Rattle.script_lines.specs.declared.line.Line.{Line}
 use Rattle.script_lines.specs.declared.line.Line.TheVariants.{Go, At}
@@ -67,11 +68,14 @@ notes_on other notes = no_notes
 unfoldable pub system_shown : SystemState → KnownTraceState
 system_shown state = trace_state_of state.locked.machine state.cpus
 
--- The state after each CPU's stock was looked at once. The zone's seat made as many steps, and nothing else changed. So
--- the same is shown of it.
-abbrev pub looked : SystemState → SystemState
-looked state =
-    system_state (record state.locked { machine = with_looks state.locked.machine (length state.cpus) }) state.cpus
+-- what lies behind the lock after it was observed: each of so many CPUs' stocks was looked at once, which the zone's
+-- seat counts as steps, and a snapshot of the frames' records was taken
+abbrev pub locked_observed : KnownLocked → (count : ℕ) → KnownLocked
+locked_observed locked count = record locked { machine = with_snapshot (with_looks locked.machine count) }
+
+-- the state after it was observed; nothing else changed, so the same is shown of it
+abbrev pub observed : SystemState → SystemState
+observed state = system_state (locked_observed state.locked (length state.cpus)) state.cpus
 
 -- the changes between the two, applied to the one before, say the same as the one after
 abbrev pub AreRebuilt : (before after : KnownTraceState) → Type 0
@@ -79,16 +83,16 @@ AreRebuilt before after = SaySame (applied (changes before after) (facts_of befo
 
 -- ---- lines
 
--- A command is served on a route, and then the stocks are looked at. Its object has the route, the command's text among
+-- A command is served on a route, and then the state is observed. Its object has the route, the command's text among
 -- these texts of the script, the answer, what it changed of all that is shown, and its notes. The changes rebuild what
--- is shown after the command from what is shown before it, and the looks change nothing of that.
+-- is shown after the command from what is shown before it, and observing changes nothing of that.
 pub record TracesCommand (tables : BootTables) (texts : List (List ℕ)) (number cpu : ℕ) (command : Command)
     (before after : SystemState) (object : List ℕ) : Type 0 where
   pub route : Route
   pub answer : List ℕ
   pub served : SystemState
   pub serves : ServesByRoute tables.frames (At number cpu command) before served route answer
-  pub left : after ≡ looked served
+  pub left : after ≡ observed served
   pub rebuilds : AreRebuilt (system_shown before) (system_shown served)
   pub same_shown : system_shown after ≡ system_shown served
   pub notes : KnownNotes
@@ -104,11 +108,11 @@ TracesLine tables texts Go before after object = (object ≡ []) × (after ≡ b
 TracesLine tables texts (At number cpu command) before after object =
     TracesCommand tables texts number cpu command before after object
 
--- The objects of lines that are served one after the other. The stocks are looked at once before the first.
+-- The objects of lines that are served one after the other. The state is observed once before the first.
 abbrev pub TracesAll : BootTables → (texts : List (List ℕ)) → List Line → (before after : SystemState)
     (objects : List ℕ) → Type 0
 TracesAll tables texts lines before after objects =
-    InOrder (TracesLine tables texts) lines (looked before) after objects
+    InOrder (TracesLine tables texts) lines (observed before) after objects
 
 -- bytes that have grown by a text of which `is_added` holds
 pub record GrowsBy (is_added : List ℕ → Type 0) (before after : List ℕ) : Type 0 where

@@ -8,13 +8,13 @@ ghost use Rattle.script_replay.specs.declared.route.Route.TheVariants.{Unlocked}
 ghost use Rattle.script_replay.specs.Lines.{InOrder, system_state};
 ghost use Rattle.script_replay.specs.Ranges.{LineInRange};
 ghost use Rattle.script_replay.specs.Terms.{boot_tables};
-ghost use Rattle.shown_states.specs.Cpus.{locked_with_looks};
+ghost use Rattle.shown_states.specs.Advancing.{FollowLine};
 ghost use Rattle.shown_states.specs.Frames.{flags_shown};
 ghost use Rattle.shown_states.specs.Groups.{groups_shown};
 ghost use Rattle.shown_states.specs.States.{trace_state_of};
 ghost use Rattle.trace_lines.specs.Changes.{changes};
 ghost use Rattle.trace_lines.specs.Parts.{changes_text, counts_part};
-ghost use Rattle.script_traces.specs.Traces.{GrowsBy, TracesAll, TracesLine, looked, system_shown};
+ghost use Rattle.script_traces.specs.Traces.{GrowsBy, TracesAll, TracesLine, locked_observed, system_shown};
 
 use crate::commands::command_at;
 use crate::facts::{line_facts, notes_on};
@@ -46,6 +46,7 @@ pub fn replay_traced<N: BootName>(
         (string_bytes trace.old) (string_bytes trace.new)) }
 {
     let mut shown = trace_state(alloc, locked, tables, cpus)?;
+    locked.take_snapshot(alloc)?;
     prove_tied(cpus);
     let mut buffers = Buffers::new(alloc);
     trace_each(
@@ -76,6 +77,7 @@ fn trace_each<N: BootName>(
     requires there { All (LineInRange N.frames.frames (length cpus.old)) lines.now }
     requires tied { AreTied N.frames N.stocks cpus.old }
     requires shown { shown.old ≡ system_shown (system_state locked.old cpus.old) }
+    requires follow { FollowLine locked.old.machine.snapshot shown.old buffers.old }
     ensures traced { OnOk result (GrowsBy (InOrder (TracesLine (boot_tables N.frames N.stocks)
         (map (λ text. text.now) texts.now)) lines.now (system_state locked.old cpus.old)
         (system_state locked.new cpus.new)) (string_bytes trace.old) (string_bytes trace.new)) }
@@ -103,8 +105,10 @@ fn trace_line<N: BootName>(
     requires there { LineInRange N.frames.frames (length cpus.old) line.now }
     requires tied { AreTied N.frames N.stocks cpus.old }
     requires shown { shown.old ≡ system_shown (system_state locked.old cpus.old) }
+    requires follow { FollowLine locked.old.machine.snapshot shown.old buffers.old }
     ensures tied { OnOk result (AreTied N.frames N.stocks cpus.new) }
     ensures shown { OnOk result (shown.new ≡ system_shown (system_state locked.new cpus.new)) }
+    ensures follow { OnOk result (FollowLine locked.new.machine.snapshot shown.new buffers.new) }
     ensures traced { OnOk result (GrowsBy (TracesLine (boot_tables N.frames N.stocks) (map (λ text. text.now) texts.now)
         line.now (system_state locked.old cpus.old) (system_state locked.new cpus.new))
         (string_bytes trace.old) (string_bytes trace.new)) }
@@ -132,7 +136,7 @@ fn trace_line<N: BootName>(
     Ok(())
 }
 
-// Advances what is shown by a line that was served on this route.
+// Advances what is shown by a line that was served on this route, and takes a snapshot of the frames' records.
 fn advance_by_route<N: BootName>(
     alloc: Global,
     route: &Route,
@@ -142,6 +146,7 @@ fn advance_by_route<N: BootName>(
     shown: &mut TraceState,
     buffers: &mut Buffers,
 ) -> Result<(), AllocError>
+    requires follow { FollowLine locked.old.machine.snapshot shown.old buffers.old }
     requires groups { route.now ≡ Unlocked → shown.old.groups ≡ groups_shown locked.old.machine }
     requires flags { route.now ≡ Unlocked → shown.old.flags ≡ flags_shown locked.old.machine }
     ensures shown { OnOk result (shown.new ≡ trace_state_of locked.old.machine cpus.old) }
@@ -149,14 +154,17 @@ fn advance_by_route<N: BootName>(
         ≡ changes_text (changes shown.old (trace_state_of locked.old.machine cpus.old))) }
     ensures counts { OnOk result (buffers.new.counts
         ≡ counts_part (changes shown.old (trace_state_of locked.old.machine cpus.old)).counts) }
-    ensures looked { locked.new ≡ locked_with_looks locked.old (length cpus.old) }
+    ensures follow { OnOk result (FollowLine locked.new.machine.snapshot shown.new buffers.new) }
+    ensures observed { OnOk result (locked.new ≡ locked_observed locked.old (length cpus.old)) }
     ensures cpus { cpus.new ≡ cpus.old }
-    ensures again { trace_state_of locked.new.machine cpus.new ≡ trace_state_of locked.old.machine cpus.old }
+    ensures again { OnOk result
+        (trace_state_of locked.new.machine cpus.new ≡ trace_state_of locked.old.machine cpus.old) }
 {
     match route {
-        Route::Unlocked => advance_unlocked(alloc, locked, tables, cpus, shown, buffers),
-        _ => advance(alloc, locked, tables, cpus, shown, buffers),
+        Route::Unlocked => advance_unlocked(alloc, locked, tables, cpus, shown, buffers)?,
+        _ => advance(alloc, locked, tables, cpus, shown, buffers)?,
     }
+    locked.take_snapshot(alloc)
 }
 
 // Shows what always holds of the CPUs: their lists and pins are what their seats know. It does nothing.

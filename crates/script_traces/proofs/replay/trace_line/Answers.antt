@@ -1,6 +1,7 @@
 use Rattle.std.proofs.Common.{◌≡◌, ◌∙◌, ◌++◌, Bor, List, ℕ, ap, map, sym, subst}
 use Rattle.std.specs.String.{string_bytes}
 use Rattle.kill_notes.specs.Notes.{KnownNotes}
+use Rattle.mem_machine.specs.declared.frame_state.FrameState.{FrameState}
 use Rattle.mem_machine.specs.Machines.{KnownMachine}
 use Rattle.mem_history.specs.Kept.{AreTied}
 use Rattle.mem_system.specs.Locked.{KnownLocked}
@@ -12,9 +13,11 @@ use Rattle.script_replay.specs.Lines.{SystemState, system_state}
 use Rattle.script_replay.specs.Routes.{ServesByRoute}
 use Rattle.script_replay.specs.Terms.{boot_tables}
 use Rattle.script_traces.specs.Traces.{GrowsBy, TracesLine, line_facts, notes_on, system_shown}
+use Rattle.shown_states.specs.Advancing.{FollowLine}
 use Rattle.shown_states.specs.States.{trace_state_of}
 use Rattle.trace_lines.specs.TraceState.{KnownTraceState}
-use Rattle.script_traces.proofs.Traced.{changes_same, counts_same, line_traced, object_same, shown_after, shown_as, shown_stays, state_looked}
+use Rattle.script_traces.proofs.Traced.{changes_same, counts_same, line_traced, object_same, shown_after, shown_as, shown_stays, state_observed}
+use Rattle.script_traces.proofs.LineKeeps.{line_keeps}
 use Rattle.script_traces.proofs.UnlockedStays.{unlocked_shown}
 use Rattle.script_traces.proofs.Rebuilds.{line_rebuilds}
 use Rattle.script_traces.proofs.replay.trace_line.Goals as goal
@@ -28,6 +31,8 @@ advance_by_route-requires g c =
     let of = λ (is : c.in_ok-route.route ≡ Unlocked). unlocked_shown t c.args.line.now before served by.text c.args.shown.now
     (subst (λ (r : Route). ServesByRoute t c.args.line.now before served r by.text) (sym by.returned ∙ is) by.so.serves) c.requires.shown in
     record {
+      follow = subst (λ (x : List FrameState). FollowLine x c.args.shown.now c.args.buffers.now)
+          (sym (line_keeps t c.args.line.now before served by.taken by.text by.so.serves).snapshot) c.requires.follow;
       groups = λ is. (of is).0;
       flags = λ is. (of is).1;
     }
@@ -35,7 +40,7 @@ advance_by_route-requires g c =
 pub returns-clause-shown : goal.returns-clause-shown
 returns-clause-shown g c =
     shown_after c.advance_by_route.new.shown c.serve_traced_line.new.locked c.advance_by_route.new.locked c.serve_traced_line.new.cpus
-    c.advance_by_route.new.cpus c.in_ok-advance_by_route.ensures.shown c.advance_by_route.ensures.again
+    c.advance_by_route.new.cpus c.in_ok-advance_by_route.ensures.shown c.in_ok-advance_by_route.ensures.again
 
 pub returns-clause-tied : goal.returns-clause-tied
 returns-clause-tied g c =
@@ -65,9 +70,9 @@ returns-clause-traced g c =
     let keeps = by.so.keeps in
     let rebuilds = line_rebuilds t g.N.BootName.stocks c.args.line.now before served by.taken answer by.so.serves c.prove_quiet.ensures.consistent
     keeps.holds.consistent c.requires.tied (keeps.tied c.requires.tied) in
-    let looks = c.advance_by_route.ensures.looked in
+    let observed = c.in_ok-advance_by_route.ensures.observed in
     let machine : c.machine.result.now.notes ≡ left.locked.machine.notes =
-    ap (λ (m : KnownMachine). m.notes) c.machine.ensures.machine ∙ ap (λ (l : KnownLocked). l.machine.notes) looks in
+    ap (λ (m : KnownMachine). m.notes) c.machine.ensures.machine ∙ ap (λ (l : KnownLocked). l.machine.notes) observed in
     let notes : KnownNotes = notes_on route left.locked.machine.notes in
     let are : notes_on route c.machine.result.now.notes ≡ notes = ap (notes_on route) machine in
     let said : string_bytes left.answer ≡ answer =
@@ -86,5 +91,5 @@ returns-clause-traced g c =
     counted in
     subst (λ (l : Line). GrowsBy (TracesLine tables texts l before after) (string_bytes c.args.trace.now) (string_bytes c.write_object.new.text)) (sym is)
     (line_traced tables texts number cpu command route answer before served after notes (string_bytes c.args.trace.now)
-    (string_bytes c.write_object.new.text) serves (state_looked left.locked c.advance_by_route.new.locked left.cpus c.advance_by_route.new.cpus looks c.advance_by_route.ensures.cpus)
-    rebuilds (shown_stays left.locked c.advance_by_route.new.locked left.cpus c.advance_by_route.new.cpus c.advance_by_route.ensures.again) (λ i. notes) object)
+    (string_bytes c.write_object.new.text) serves (state_observed left.locked c.advance_by_route.new.locked left.cpus c.advance_by_route.new.cpus observed c.advance_by_route.ensures.cpus)
+    rebuilds (shown_stays left.locked c.advance_by_route.new.locked left.cpus c.advance_by_route.new.cpus c.in_ok-advance_by_route.ensures.again) (λ i. notes) object)
