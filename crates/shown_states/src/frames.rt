@@ -103,7 +103,7 @@ fn set_single(group: u32, frame: usize, places: &mut [ShownPlace])
 }
 
 // What is recorded of a frame in this state.
-fn record_of(frame_state: &FrameState) -> TracedFrame
+pub(crate) fn record_of(frame_state: &FrameState) -> TracedFrame
     ensures { result ≡ record_of frame_state.now }
 {
     match *frame_state {

@@ -7,6 +7,7 @@ mod advance_flags;
 mod advance_frames;
 mod advance_groups;
 mod advancing;
+mod changed_places;
 mod counts;
 mod cpus;
 mod flags;

@@ -1,0 +1,228 @@
+-- Places that are brought up to now at some frames. Serves the functions of `changed_places` and `place_tables`.
+use Rattle.std.proofs.Common.{◌≡◌, ℕ, zero, suc, ◌+◌, ◌-◌, ◌<◌, ◌≤◌, ◌⊎◌, Option, Some, None, List, [], ◌∷◌, get_or, length, map, refl, sym, ap, ◌∙◌, subst, inl, inr, add-one, arith}
+use Rattle.std.specs.Prelude.{option_map, slice_get, slice_set}
+use Rattle.std.specs.List.{Contains, slice_index_or}
+use Rattle.std.specs.List.Sorted.{IsNonDecreasing}
+use Rattle.std.specs.Option.{unwrap_or}
+use Rattle.std.proofs.lemmas.Bool.{cases_eq}
+use Rattle.std.proofs.lemmas.List.{length-set}
+use Rattle.std.proofs.lemmas.Grind.{get_or_default_zero}
+use Rattle.std.proofs.lemmas.Option.{none-some, same_Some, unwrap_or-slice_get}
+use Rattle.trace_lines.specs.declared.place.ShownPlace.{ShownPlace}
+use Rattle.trace_lines.specs.declared.place.ShownPlace.TheVariants as place
+use Rattle.trace_lines.specs.declared.place.TracedFrame.{TracedFrame}
+use Rattle.trace_lines.specs.declared.place.TracedFrame.TheVariants as recorded
+use Rattle.trace_lines.specs.Places.{order_after, place_in, places_from, places_of}
+use Rattle.mem_machine.specs.declared.frame_state.FrameState.{FrameState}
+use Rattle.mem_machine.specs.declared.frame_state.FrameState.TheVariants as state
+use Rattle.shown_states.specs.Frames.{record_of}
+use Rattle.shown_states.specs.Changed.{AllFit, FitsAt, IsSameBut, order_of, place_before, place_behind}
+
+-- ---- entries by their index
+
+pub get_set_other : {X : Type 0} (xs : List X) (i j : ℕ) (v : X) → (j ≡ i → ⊥) → slice_get (slice_set xs i v) j ≡ slice_get xs j
+get_set_other [] i j v other = refl
+get_set_other (x ∷ xs) zero zero v other = absurd (other refl)
+get_set_other (x ∷ xs) zero (suc j) v other = refl
+get_set_other (x ∷ xs) (suc i) zero v other = refl
+get_set_other (x ∷ xs) (suc i) (suc j) v other = get_set_other xs i j v (λ same. other (ap suc same))
+
+pub get_set_same : {X : Type 0} (xs : List X) (i : ℕ) (v : X) → i < length xs → slice_get (slice_set xs i v) i ≡ Some v
+get_set_same [] i v inside = absurd (omega arith)
+get_set_same (x ∷ xs) zero v inside = refl
+get_set_same (x ∷ xs) (suc i) v inside = get_set_same xs i v (omega (arith, inside))
+
+-- the same entry, also past the end
+pub same_get_or : {X : Type 0} (xs ys : List X) (i : ℕ) (d : X) → slice_get xs i ≡ slice_get ys i → get_or xs i d ≡ get_or ys i d
+same_get_or xs ys i d same = sym (unwrap_or-slice_get xs i d) ∙ ap (λ (o : Option _). unwrap_or o d) same ∙ unwrap_or-slice_get ys i d
+
+-- lists of the same length with the same entries are the same
+pub same_lists : {X : Type 0} (xs ys : List X) → length xs ≡ length ys → ((i : ℕ) → slice_get xs i ≡ slice_get ys i) → xs ≡ ys
+same_lists [] [] long same = refl
+same_lists [] (y ∷ ys) long same = absurd (omega (arith, long))
+same_lists (x ∷ xs) [] long same = absurd (omega (arith, long))
+same_lists (x ∷ xs) (y ∷ ys) long same =
+    let front : x ≡ y = same_Some x y (same 0) in
+    let rest : xs ≡ ys = same_lists xs ys (omega (arith, long)) (λ i. same (suc i)) in
+    cc
+
+-- ---- frames among others
+
+-- a frame that is neither the first nor among the rest
+not_more : (first : ℕ) (frames : List ℕ) (frame : ℕ) → (first ≡ frame → ⊥) → ¬ Contains frames frame → (k : ℕ) → k < length (first ∷ frames)
+    → slice_index_or (first ∷ frames) k frame ≡ frame → ⊥
+not_more first frames frame other none zero inside is = other is
+not_more first frames frame other none (suc k) inside is = none (k, omega (arith, inside), is)
+
+-- whether a frame is among these
+pub among : (frames : List ℕ) (frame : ℕ) → Contains frames frame ⊎ ¬ Contains frames frame
+among [] frame = inr (λ has. absurd (omega (arith, has.1)))
+among (first ∷ frames) frame = elim (cases_eq first frame) [
+  | inl same ↦ inl (0, omega arith, same)
+  | inr other ↦ elim (among frames frame) [
+    | inl has ↦ inl (suc has.0, omega (arith, has.1), has.2)
+    | inr none ↦ inr (λ has. not_more first frames frame other none has.0 has.1 has.2)
+  ]
+]
+
+-- another frame isn't this one
+not_one : (one frame : ℕ) → (frame ≡ one → ⊥) → ¬ Contains (one ∷ []) frame
+not_one one frame other has = not_more one [] frame (λ same. other (sym same)) (λ h. absurd (omega (arith, h.1))) has.0 has.1 has.2
+
+-- a frame at its index
+contains_at : (frames : List ℕ) (frame : ℕ) (has : Contains frames frame) → get_or frames has.0 0 ≡ frame
+contains_at frames frame has = sym (get_or_default_zero frames has.0 frame has.1) ∙ has.2
+
+at_contains : (frames : List ℕ) (frame k : ℕ) → k < length frames → get_or frames k 0 ≡ frame → Contains frames frame
+at_contains frames frame k inside is = (k, inside, get_or_default_zero frames k frame inside ∙ is)
+
+-- ---- one place is set
+
+pub same_itself : {X : Type 0} (frames : List ℕ) (xs : List X) → IsSameBut frames xs xs
+same_itself frames xs = record { lengths = refl; others = λ frame none. refl }
+
+pub same_but_set : (places : List ShownPlace) (frame : ℕ) (one : ShownPlace) → IsSameBut (frame ∷ []) places (slice_set places frame one)
+same_but_set places frame one = record {
+  lengths = length-set places frame one;
+  others = λ other none. get_set_other places frame other one (λ same. none (0, omega arith, sym same));
+}
+
+pub before_is : (places : List ShownPlace) (frame : ℕ) → 0 < frame → place_before places frame ≡ get_or places (frame - 1) place.Free
+before_is places zero some = absurd (omega (arith, some))
+before_is places (suc frame) some = ap (λ (k : ℕ). get_or places k place.Free) (let e : frame ≡ suc frame - 1 = omega arith in e)
+
+-- the frame before has the same place
+before_same : (places new : List ShownPlace) (frame : ℕ) → ((k : ℕ) → k + 1 ≡ frame → slice_get new k ≡ slice_get places k)
+    → place_before new frame ≡ place_before places frame
+before_same places new zero same = refl
+before_same places new (suc k) same = same_get_or new places k place.Free (same k (add-one k))
+
+-- a frame still fits if its state, its place and the place before it are the same
+still_fits : (places new : List ShownPlace) (before states : List FrameState) (frame : ℕ) → place_before new frame ≡ place_before places frame
+    → slice_get new frame ≡ slice_get places frame → slice_get states frame ≡ slice_get before frame → FitsAt places before frame
+    → FitsAt new states frame
+still_fits places new before states frame behind place_same state_same fits =
+    (λ i. place_behind (behind i) (record_of (same_get_or states before frame state.Free state_same i)))
+    ∙ fits ∙ ap Some (sym (same_get_or new places frame place.Free place_same))
+
+-- a frame still fits if the one place that is set is that of a later frame
+fits_below : (now new : List ShownPlace) (states : List FrameState) (later frame : ℕ) → IsSameBut (later ∷ []) now new → frame < later
+    → FitsAt now states frame → FitsAt new states frame
+fits_below now new states later frame one below fits =
+    still_fits now new states states frame
+    (before_same now new frame (λ k is. one.others k (not_one later k (λ same. omega (arith, below, is, same)))))
+    (one.others frame (not_one later frame (λ same. omega (arith, below, same)))) refl fits
+
+-- ---- the changed places are set one by one
+
+-- all frames but the first `count` of these have the same place
+abbrev pub AreSameButFirst : (count : ℕ) (changed : List ℕ) (old now : List ShownPlace) → Type 0
+AreSameButFirst count changed old now =
+    (frame : ℕ) → ((k : ℕ) → k < count → get_or changed k 0 ≡ frame → ⊥) → slice_get now frame ≡ slice_get old frame
+
+-- the first `count` of these frames fit
+abbrev pub FirstFit : (count : ℕ) (changed : List ℕ) (places : List ShownPlace) (states : List FrameState) → Type 0
+FirstFit count changed places states =
+    (k : ℕ) → k < count → get_or changed k 0 < length states → FitsAt places states (get_or changed k 0)
+
+pub same_more : (changed : List ℕ) (old now new : List ShownPlace) (at frame : ℕ) → frame ≡ get_or changed at 0
+    → AreSameButFirst at changed old now → IsSameBut (frame ∷ []) now new → AreSameButFirst (at + 1) changed old new
+same_more changed old now new at frame is so_far one other none =
+    one.others other (not_one frame other (λ same. none at (omega arith) (sym is ∙ sym same)))
+    ∙ so_far other (λ k below. none k (omega (arith, below)))
+
+pub fit_more : (changed : List ℕ) (now new : List ShownPlace) (states : List FrameState) (at frame : ℕ) → IsNonDecreasing changed
+    → at < length changed → frame ≡ get_or changed at 0 → FirstFit at changed now states → IsSameBut (frame ∷ []) now new
+    → (frame < length states → FitsAt new states frame) → FirstFit (at + 1) changed new states
+fit_more changed now new states at frame ascending inside is so_far one fits k below there = elim (cases_eq (get_or changed k 0) frame) [
+  | inl same ↦
+      subst (λ (f : ℕ). FitsAt new states f) (sym same) (fits (subst (λ (f : ℕ). f < length states) same there))
+  | inr other ↦
+      let before : k < at = omega (arith, below, (λ (e : k ≡ at). other (ap (λ (j : ℕ). get_or changed j 0) e ∙ sym is))) in
+      let most : get_or changed k 0 ≤ get_or changed at 0 = ascending k at 0 (omega (arith, before)) inside in
+      fits_below now new states frame (get_or changed k 0) one (omega (arith, most, is, other)) (so_far k before there)
+]
+
+pub same_all : (changed : List ℕ) (old now : List ShownPlace) (count : ℕ) → count ≤ length changed → length now ≡ length old
+    → AreSameButFirst count changed old now → IsSameBut changed old now
+same_all changed old now count most long first = record {
+  lengths = long;
+  others = λ frame none. first frame (λ k below is. none (at_contains changed frame k (omega (arith, below, most)) is));
+}
+
+pub fit_all : (changed : List ℕ) (now : List ShownPlace) (states : List FrameState) → FirstFit (length changed) changed now states
+    → (frame : ℕ) → Contains changed frame → frame < length states → FitsAt now states frame
+fit_all changed now states first frame has inside =
+    let at = contains_at changed frame has in
+    subst (λ (f : ℕ). FitsAt now states f) at
+    (first has.0 has.1 (subst (λ (f : ℕ). f < length states) (sym at) inside))
+
+-- ---- all fit
+
+module _ (old new : List ShownPlace) (before states : List FrameState) (changed : List ℕ) (fit : AllFit old before)
+    (states_same : IsSameBut changed before states) (same : IsSameBut changed old new) where
+  kept : (frame : ℕ) → frame < length states → ¬ Contains changed frame → place_before new frame ≡ place_before old frame
+      → FitsAt new states frame
+  kept frame inside none behind =
+      let long = states_same.lengths in
+      still_fits old new before states frame behind (same.others frame none) (states_same.others frame none)
+      (fit.each frame (omega (arith, inside, long)))
+
+  unchanged : ((frame : ℕ) → Contains changed frame → frame + 1 < length states → FitsAt new states (frame + 1))
+      → (frame : ℕ) → frame < length states → ¬ Contains changed frame → FitsAt new states frame
+  unchanged behind zero inside none = kept zero inside none refl
+  unchanged behind (suc frame) inside none = elim (among changed frame) [
+    | inl has ↦ subst (λ (f : ℕ). FitsAt new states f) (add-one frame) (behind frame has (omega (arith, inside)))
+    | inr none_before ↦
+        kept (suc frame) inside none (same_get_or new old frame place.Free (same.others frame none_before))
+  ]
+
+  pub all_fit : ((frame : ℕ) → Contains changed frame → frame < length states → FitsAt new states frame)
+      → ((frame : ℕ) → Contains changed frame → frame + 1 < length states → FitsAt new states (frame + 1)) → AllFit new states
+  all_fit set behind = record {
+    frames = same.lengths ∙ fit.frames ∙ sym states_same.lengths;
+    each = λ frame inside. elim (among changed frame) [
+      | inl has ↦ set frame has inside
+      | inr none ↦ unchanged behind frame inside none
+    ];
+  }
+
+-- ---- places that all fit are those by the records
+
+one_fits : (before : ShownPlace) (order : ℕ) (one : TracedFrame) (here : ShownPlace) → place_behind before one ≡ Some here
+    → ((o : ℕ) → order_of before ≡ Some o → o ≡ order)
+    → (here ≡ place_in order one) × ((o : ℕ) → order_of here ≡ Some o → o ≡ order_after order one)
+one_fits before order recorded.Free here is orders =
+    let there = same_Some place.Free here is in
+    (sym there, λ o has. absurd (none-some o (ap order_of there ∙ has)))
+one_fits before order (recorded.Lent cpu) here is orders =
+    let there = same_Some (place.Listed cpu) here is in
+    (sym there, λ o has. absurd (none-some o (ap order_of there ∙ has)))
+one_fits before order (recorded.Head group own) here is orders =
+    let there = same_Some (place.Charged group own) here is in
+    (sym there, λ o has. sym (same_Some own o (ap order_of there ∙ has)))
+one_fits before order (recorded.Tail group) here is orders = go (order_of before) refl is
+  where
+    go : (o : Option ℕ) → order_of before ≡ o → option_map (place.Charged group) o ≡ Some here
+        → (here ≡ place.Charged group order) × ((o : ℕ) → order_of here ≡ Some o → o ≡ order)
+    go None none made = absurd (none-some here made)
+    go (Some own) some made =
+        let there = same_Some (place.Charged group own) here made in
+        let same = orders own some in
+        (sym there ∙ ap (place.Charged group) same, λ o has. sym (same_Some own o (ap order_of there ∙ has)) ∙ same)
+
+fit_from : (before : ShownPlace) (order : ℕ) (places : List ShownPlace) (states : List FrameState) → length places ≡ length states
+    → ((frame : ℕ) → frame < length states
+    → place_behind (get_or (before ∷ places) frame place.Free) (record_of (get_or states frame state.Free)) ≡ Some (get_or places frame place.Free))
+    → ((o : ℕ) → order_of before ≡ Some o → o ≡ order) → places ≡ places_from order (map record_of states)
+fit_from before order [] [] long fits orders = refl
+fit_from before order [] (one ∷ states) long fits orders = absurd (omega (arith, long))
+fit_from before order (here ∷ places) [] long fits orders = absurd (omega (arith, long))
+fit_from before order (here ∷ places) (one ∷ states) long fits orders =
+    let first = one_fits before order (record_of one) here (fits 0 (omega arith)) orders in
+    let rest : places ≡ places_from (order_after order (record_of one)) (map record_of states) =
+    fit_from here (order_after order (record_of one)) places states (omega (arith, long)) (λ frame inside. fits (suc frame) (omega (arith, inside))) first.1 in
+    λ i. first.0 i ∷ rest i
+
+pub fit_are : (places : List ShownPlace) (states : List FrameState) → AllFit places states → places ≡ places_of (map record_of states)
+fit_are places states fit = fit_from place.Free 0 places states fit.frames fit.each (λ o has. absurd (none-some o has))

@@ -1,0 +1,49 @@
+-- Places that are brought up to now at some frames only.
+use Rattle.std.specs.Prelude.{◌≡◌, ℕ, ◌<◌, Option, Some, None, List, ◌∷◌, length, option_map, slice_get}
+use Rattle.std.specs.List.{Contains, slice_index_or}
+use Rattle.trace_lines.specs.declared.place.ShownPlace.{ShownPlace}
+use Rattle.trace_lines.specs.declared.place.ShownPlace.TheVariants.{Free, Listed, Charged}
+use Rattle.trace_lines.specs.declared.place.TracedFrame.{TracedFrame}
+use Rattle.trace_lines.specs.declared.place.TracedFrame.TheVariants as recorded
+use Rattle.mem_machine.specs.declared.frame_state.FrameState.{FrameState}
+use Rattle.mem_machine.specs.FrameStates.{frame_state_at}
+use Rattle.shown_states.specs.Frames.{record_of}
+
+-- the lists have the same length, and the same entries except at these frames
+pub record IsSameBut {T : Type 0} (frames : List ℕ) (before after : List T) : Type 0 where
+  pub lengths : length after ≡ length before
+  pub others : (frame : ℕ) → ¬ Contains frames frame → slice_get after frame ≡ slice_get before frame
+
+-- these frames were copied: each has the entry of `from`, and the others are as before
+pub record AreCopied {T : Type 0} (frames : List ℕ) (from before after : List T) : Type 0 where
+  pub lengths : length after ≡ length before
+  pub copied : (frame : ℕ) → Contains frames frame → slice_get after frame ≡ slice_get from frame
+  pub others : (frame : ℕ) → ¬ Contains frames frame → slice_get after frame ≡ slice_get before frame
+
+-- the order of a charged frame
+abbrev pub order_of : ShownPlace → Option ℕ
+order_of Free = None
+order_of (Listed cpu) = None
+order_of (Charged group order) = Some order
+
+-- The place of a frame with this record, if the frame before it is at this place. A later frame of a unit has the
+-- order of the frame before it, which is charged too.
+abbrev pub place_behind : ShownPlace → TracedFrame → Option ShownPlace
+place_behind before recorded.Free = Some Free
+place_behind before (recorded.Lent cpu) = Some (Listed cpu)
+place_behind before (recorded.Head group order) = Some (Charged group order)
+place_behind before (recorded.Tail group) = option_map (Charged group) (order_of before)
+
+-- the place of the frame before this one; the first frame has none before it, and counts as behind a free one
+abbrev pub place_before : List ShownPlace → ℕ → ShownPlace
+place_before places frame = slice_index_or (Free ∷ places) frame Free
+
+-- the frame's place is the one by its state and by the place of the frame before it
+abbrev pub FitsAt : List ShownPlace → List FrameState → ℕ → Type 0
+FitsAt places states frame = place_behind (place_before places frame) (record_of (frame_state_at states frame))
+    ≡ Some (slice_index_or places frame Free)
+
+-- there is a place for each frame, and each fits
+pub record AllFit (places : List ShownPlace) (states : List FrameState) : Type 0 where
+  pub frames : length places ≡ length states
+  pub each : (frame : ℕ) → frame < length states → FitsAt places states frame
