@@ -1,11 +1,13 @@
 -- Places that are brought up to now at some frames. Serves the functions of `changed_places` and `place_tables`.
-use Rattle.std.proofs.Common.{◌≡◌, ℕ, zero, suc, ◌+◌, ◌-◌, ◌<◌, ◌≤◌, ◌⊎◌, Option, Some, None, List, [], ◌∷◌, get_or, length, map, refl, sym, ap, ◌∙◌, subst, inl, inr, add-one, arith}
+use Rattle.std.proofs.Common.{◌≡◌, ℕ, zero, suc, ◌+◌, ◌-◌, ◌<◌, ◌≤◌, ◌⊎◌, Option, Some, None, List, [], ◌∷◌, ◌++◌, get_or, length, map, take, refl, sym, ap, ◌∙◌, subst, inl, inr, add-one, arith}
 use Rattle.std.specs.Prelude.{option_map, slice_get, slice_set}
 use Rattle.std.specs.List.{Contains, slice_index_or}
-use Rattle.std.specs.List.Sorted.{IsNonDecreasing}
+use Rattle.std.specs.List.Sorted.{IsNonDecreasing, IsPermutation}
 use Rattle.std.specs.Option.{unwrap_or}
 use Rattle.std.proofs.lemmas.Bool.{cases_eq}
-use Rattle.std.proofs.lemmas.List.{length-set}
+use Rattle.std.proofs.lemmas.List.{length-set, take_more}
+use Rattle.std.proofs.lemmas.List.Elements.{Contains-append_cases, Contains-append_left, Contains-append_right}
+use Rattle.std.proofs.lemmas.List.Sorted.{Contains-permutation}
 use Rattle.std.proofs.lemmas.Grind.{get_or_default_zero}
 use Rattle.std.proofs.lemmas.Option.{none-some, same_Some, unwrap_or-slice_get}
 use Rattle.trace_lines.specs.declared.place.ShownPlace.{ShownPlace}
@@ -13,10 +15,14 @@ use Rattle.trace_lines.specs.declared.place.ShownPlace.TheVariants as place
 use Rattle.trace_lines.specs.declared.place.TracedFrame.{TracedFrame}
 use Rattle.trace_lines.specs.declared.place.TracedFrame.TheVariants as recorded
 use Rattle.trace_lines.specs.Places.{order_after, place_in, places_from, places_of}
+use Rattle.trace_lines.specs.Touched.{DifferOnlyAt}
 use Rattle.mem_machine.specs.declared.frame_state.FrameState.{FrameState}
 use Rattle.mem_machine.specs.declared.frame_state.FrameState.TheVariants as state
-use Rattle.shown_states.specs.Frames.{record_of}
-use Rattle.shown_states.specs.Changed.{AllFit, FitsAt, IsSameBut, order_of, place_before, place_behind}
+use Rattle.stock_word.specs.declared.view.Stock.{Stock}
+use Rattle.stock_word.specs.declared.view.Stock.TheVariants.{NoGroup, HeldBy, DrainedOf}
+use Rattle.cpu_part.specs.Cpus.{KnownCpu}
+use Rattle.shown_states.specs.Frames.{record_of, with_fresh, with_fresh_of, with_singles}
+use Rattle.shown_states.specs.Changed.{AllFit, AreCopied, FitsAt, IsSameBut, fresh_of, order_of, place_before, place_behind}
 
 -- ---- entries by their index
 
@@ -26,11 +32,6 @@ get_set_other (x ∷ xs) zero zero v other = absurd (other refl)
 get_set_other (x ∷ xs) zero (suc j) v other = refl
 get_set_other (x ∷ xs) (suc i) zero v other = refl
 get_set_other (x ∷ xs) (suc i) (suc j) v other = get_set_other xs i j v (λ same. other (ap suc same))
-
-pub get_set_same : {X : Type 0} (xs : List X) (i : ℕ) (v : X) → i < length xs → slice_get (slice_set xs i v) i ≡ Some v
-get_set_same [] i v inside = absurd (omega arith)
-get_set_same (x ∷ xs) zero v inside = refl
-get_set_same (x ∷ xs) (suc i) v inside = get_set_same xs i v (omega (arith, inside))
 
 -- the same entry, also past the end
 pub same_get_or : {X : Type 0} (xs ys : List X) (i : ℕ) (d : X) → slice_get xs i ≡ slice_get ys i → get_or xs i d ≡ get_or ys i d
@@ -75,6 +76,74 @@ contains_at frames frame has = sym (get_or_default_zero frames has.0 frame has.1
 
 at_contains : (frames : List ℕ) (frame k : ℕ) → k < length frames → get_or frames k 0 ≡ frame → Contains frames frame
 at_contains frames frame k inside is = (k, inside, get_or_default_zero frames k frame inside ∙ is)
+
+-- the same frames in another order
+pub same_reordered : {X : Type 0} (frames others : List ℕ) (xs ys : List X) → IsPermutation frames others → IsSameBut frames xs ys
+    → IsSameBut others xs ys
+same_reordered frames others xs ys order same = record {
+  lengths = same.lengths;
+  others = λ frame none. same.others frame (λ has. none (Contains-permutation frames others frame order has));
+}
+
+pub same_back : {X : Type 0} (frames : List ℕ) (xs ys : List X) → IsSameBut frames xs ys → IsSameBut frames ys xs
+same_back frames xs ys same = record { lengths = sym same.lengths; others = λ frame none. sym (same.others frame none) }
+
+-- one list of frames, and then another
+pub same_both : {X : Type 0} (some others : List ℕ) (xs ys zs : List X) → IsSameBut some xs ys → IsSameBut others ys zs
+    → IsSameBut (some ++ others) xs zs
+same_both some others xs ys zs first second = record {
+  lengths = second.lengths ∙ first.lengths;
+  others = λ frame none.
+  second.others frame (λ has. none (Contains-append_right some others frame has))
+  ∙ first.others frame (λ has. none (Contains-append_left some others frame has));
+}
+
+-- the frames of a list that is sorted are those of the list
+pub differ_only : (frames ascending : List ℕ) (before after : List ShownPlace) → IsPermutation frames ascending → IsNonDecreasing ascending
+    → IsSameBut frames before after → DifferOnlyAt ascending before after
+differ_only frames ascending before after order up same = record {
+  ascending = up;
+  frames = sym same.lengths;
+  others = λ frame none. sym (same.others frame (λ has. none (Contains-permutation frames ascending frame order has)));
+}
+
+-- ---- frames are copied
+
+pub copied_both : {X : Type 0} (some others : List ℕ) (from xs ys zs : List X) → AreCopied some from xs ys → AreCopied others from ys zs
+    → AreCopied (some ++ others) from xs zs
+copied_both some others from xs ys zs first second = record {
+  lengths = second.lengths ∙ first.lengths;
+  copied = λ frame has. elim (among others frame) [
+    | inl last ↦ second.copied frame last
+    | inr not_last ↦
+        second.others frame not_last
+        ∙ first.copied frame (elim (Contains-append_cases some others frame has) [ inl early ↦ early | inr last ↦ absurd (not_last last) ])
+  ];
+  others = λ frame none.
+  second.others frame (λ has. none (Contains-append_right some others frame has))
+  ∙ first.others frame (λ has. none (Contains-append_left some others frame has));
+}
+
+pub copied_none : {X : Type 0} (from xs : List X) → AreCopied [] from xs xs
+copied_none from xs = record { lengths = refl; copied = λ frame has. absurd (omega (arith, has.1)); others = λ frame none. refl }
+
+pub same_copied : {X : Type 0} (frames : List ℕ) (from xs ys : List X) → AreCopied frames from xs ys → IsSameBut frames xs ys
+same_copied frames from xs ys copied = record { lengths = copied.lengths; others = copied.others }
+
+-- what differed only at the frames that are copied is the same then
+pub all_copied : {X : Type 0} (frames : List ℕ) (from xs ys : List X) → IsSameBut frames from xs → AreCopied frames from xs ys → ys ≡ from
+all_copied frames from xs ys same copied =
+    same_lists ys from (copied.lengths ∙ same.lengths) (λ frame. elim (among frames frame) [
+      | inl has ↦ copied.copied frame has
+      | inr none ↦ copied.others frame none ∙ same.others frame none
+    ])
+
+-- one more frame is copied
+pub copied_more : (frames : List ℕ) (from xs now new : List ShownPlace) (at frame : ℕ) → at < length frames → frame ≡ get_or frames at 0
+    → AreCopied (take at frames) from xs now → AreCopied (frame ∷ []) from now new → AreCopied (take (at + 1) frames) from xs new
+copied_more frames from xs now new at frame inside is so_far one =
+    let both = copied_both (take at frames) (frame ∷ []) from xs now new so_far one in
+    subst (λ (l : List ℕ). AreCopied l from xs new) (ap (λ (f : ℕ). take at frames ++ f ∷ []) is ∙ sym (take_more frames at 0 inside)) both
 
 -- ---- one place is set
 
@@ -226,3 +295,24 @@ fit_from before order (here ∷ places) (one ∷ states) long fits orders =
 
 pub fit_are : (places : List ShownPlace) (states : List FrameState) → AllFit places states → places ≡ places_of (map record_of states)
 fit_are places states fit = fit_from place.Free 0 places states fit.frames fit.each (λ o has. absurd (none-some o has))
+
+-- ---- fresh frames
+
+pub same_singles : (group : ℕ) (places : List ShownPlace) (frames : List ℕ) → IsSameBut frames places (with_singles group places frames)
+same_singles group places [] = same_itself [] places
+same_singles group places (frame ∷ frames) =
+    let set = slice_set places frame (place.Charged group 0) in
+    same_both (frame ∷ []) frames places set (with_singles group set frames) (same_but_set places frame (place.Charged group 0))
+    (same_singles group set frames)
+
+same_fresh_of : (stock : Stock) (places : List ShownPlace) (fresh : List ℕ) → IsSameBut fresh places (with_fresh_of stock places fresh)
+same_fresh_of NoGroup places fresh = same_itself fresh places
+same_fresh_of (HeldBy group pages) places fresh = same_singles group places fresh
+same_fresh_of (DrainedOf group) places fresh = same_singles group places fresh
+
+pub same_fresh : (places : List ShownPlace) (cpus : List KnownCpu) → IsSameBut (fresh_of cpus) places (with_fresh places cpus)
+same_fresh places [] = same_itself [] places
+same_fresh places (cpu ∷ cpus) =
+    let one = with_fresh_of cpu.stock_seat.view.last places cpu.fresh in
+    same_both cpu.fresh (fresh_of cpus) places one (with_fresh one cpus) (same_fresh_of cpu.stock_seat.view.last places cpu.fresh)
+    (same_fresh one cpus)

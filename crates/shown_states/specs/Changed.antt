@@ -1,6 +1,7 @@
 -- Places that are brought up to now at some frames only.
 use Rattle.std.specs.Prelude.{◌≡◌, ℕ, ◌<◌, Option, Some, None, List, ◌∷◌, length, option_map, slice_get}
-use Rattle.std.specs.List.{Contains, slice_index_or}
+use Rattle.std.specs.List.{Contains, flat_map, slice_index_or}
+use Rattle.cpu_part.specs.Cpus.{KnownCpu}
 use Rattle.trace_lines.specs.declared.place.ShownPlace.{ShownPlace}
 use Rattle.trace_lines.specs.declared.place.ShownPlace.TheVariants.{Free, Listed, Charged}
 use Rattle.trace_lines.specs.declared.place.TracedFrame.{TracedFrame}
@@ -19,6 +20,10 @@ pub record AreCopied {T : Type 0} (frames : List ℕ) (from before after : List 
   pub lengths : length after ≡ length before
   pub copied : (frame : ℕ) → Contains frames frame → slice_get after frame ≡ slice_get from frame
   pub others : (frame : ℕ) → ¬ Contains frames frame → slice_get after frame ≡ slice_get before frame
+
+-- the fresh frames of these CPUs
+abbrev pub fresh_of : List KnownCpu → List ℕ
+fresh_of cpus = flat_map (λ cpu. cpu.fresh) cpus
 
 -- the order of a charged frame
 abbrev pub order_of : ShownPlace → Option ℕ

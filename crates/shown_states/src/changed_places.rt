@@ -77,6 +77,19 @@ fn fit_behind(frame_states: &[FrameState], changed: &[u32], places: &[ShownPlace
     true
 }
 
+// Whether all places fit.
+pub(crate) fn all_fit(frame_states: &[FrameState], places: &[ShownPlace]) -> bool
+    requires { length places.now ≡ length frame_states.now }
+    ensures { IsTrue result → AllFit places.now frame_states.now }
+{
+    for frame in 0..frame_states.len() {
+        if !fits_at(frame_states, places, frame) {
+            return false;
+        }
+    }
+    true
+}
+
 // Whether this frame fits, if there is such a frame.
 fn fits_at(frame_states: &[FrameState], places: &[ShownPlace], frame: usize) -> bool
     requires { length places.now ≡ length frame_states.now }
