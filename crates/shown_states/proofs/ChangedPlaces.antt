@@ -138,6 +138,14 @@ all_copied frames from xs ys same copied =
       | inr none ↦ copied.others frame none ∙ same.others frame none
     ])
 
+-- after a swap of two lists that differ only at the touched frames, these frames alone have to be copied
+pub copied_back : (touched : List ℕ) (before after from to new : List ShownPlace) → DifferOnlyAt touched before after → from ≡ after → to ≡ before
+    → AreCopied touched from to new → new ≡ after
+copied_back touched before after from to new differ from_is to_is copied =
+    let same : IsSameBut touched after before = record { lengths = differ.frames; others = λ frame none. differ.others frame none } in
+    all_copied touched after before new same
+    (subst (λ (l : List ShownPlace). AreCopied touched l before new) from_is (subst (λ (l : List ShownPlace). AreCopied touched from l new) to_is copied))
+
 -- one more frame is copied
 pub copied_more : (frames : List ℕ) (from xs now new : List ShownPlace) (at frame : ℕ) → at < length frames → frame ≡ get_or frames at 0
     → AreCopied (take at frames) from xs now → AreCopied (frame ∷ []) from now new → AreCopied (take (at + 1) frames) from xs new
@@ -316,3 +324,23 @@ same_fresh places (cpu ∷ cpus) =
     let one = with_fresh_of cpu.stock_seat.view.last places cpu.fresh in
     same_both cpu.fresh (fresh_of cpus) places one (with_fresh one cpus) (same_fresh_of cpu.stock_seat.view.last places cpu.fresh)
     (same_fresh one cpus)
+
+-- the shown places differ from the recorded ones only at the fresh frames
+pub fresh_differ : (cpus : List KnownCpu) (recorded shown : List ShownPlace) (fresh : List ℕ) → fresh ≡ fresh_of cpus → shown ≡ with_fresh recorded cpus
+    → IsSameBut fresh recorded shown
+fresh_differ cpus recorded shown fresh fresh_is shown_is =
+    subst (λ (l : List ℕ). IsSameBut l recorded shown) (sym fresh_is)
+    (subst (IsSameBut (fresh_of cpus) recorded) (sym shown_is) (same_fresh recorded cpus))
+
+-- they differ from the recorded ones of now only at the fresh frames and at the changed ones
+pub may_differ : (fresh changed : List ℕ) (old new shown : List ShownPlace) → IsSameBut fresh old shown → IsSameBut changed old new
+    → IsSameBut (fresh ++ changed) new shown
+may_differ fresh changed old new shown same_shown same_new =
+    same_back (fresh ++ changed) shown new (same_both fresh changed shown old new (same_back fresh old shown same_shown) same_new)
+
+pub length_recorded : (places : List ShownPlace) (states : List FrameState) → places ≡ places_of (map record_of states) → length places ≡ length states
+length_recorded places states are = ap length are ∙ from_any 0 states
+  where
+    from_any : (order : ℕ) (states : List FrameState) → length (places_from order (map record_of states)) ≡ length states
+    from_any order [] = refl
+    from_any order (one ∷ states) = let rest = from_any (order_after order (record_of one)) states in omega (arith, rest)

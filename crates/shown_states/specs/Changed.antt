@@ -1,14 +1,20 @@
 -- Places that are brought up to now at some frames only.
-use Rattle.std.specs.Prelude.{◌≡◌, ℕ, ◌<◌, Option, Some, None, List, ◌∷◌, length, option_map, slice_get}
+use Rattle.std.specs.Prelude.{◌≡◌, ℕ, ◌<◌, Option, Some, None, List, ◌∷◌, ◌++◌, codes, length, map, option_map}
+use Rattle.std.specs.Prelude.{slice_get}
 use Rattle.std.specs.List.{Contains, flat_map, slice_index_or}
 use Rattle.cpu_part.specs.Cpus.{KnownCpu}
 use Rattle.trace_lines.specs.declared.place.ShownPlace.{ShownPlace}
 use Rattle.trace_lines.specs.declared.place.ShownPlace.TheVariants.{Free, Listed, Charged}
 use Rattle.trace_lines.specs.declared.place.TracedFrame.{TracedFrame}
 use Rattle.trace_lines.specs.declared.place.TracedFrame.TheVariants as recorded
+use Rattle.trace_lines.specs.Changes.{frame_spans}
+use Rattle.trace_lines.specs.Parts.{frame_span_text, part_text}
+use Rattle.trace_lines.specs.Places.{places_of}
+use Rattle.trace_lines.specs.TraceState.{KnownTraceState}
 use Rattle.mem_machine.specs.declared.frame_state.FrameState.{FrameState}
 use Rattle.mem_machine.specs.FrameStates.{frame_state_at}
-use Rattle.shown_states.specs.Frames.{record_of}
+use Rattle.shown_states.specs.declared.place_tables.PlaceTables.{PlaceTables}
+use Rattle.shown_states.specs.Frames.{record_of, with_fresh}
 
 -- the lists have the same length, and the same entries except at these frames
 pub record IsSameBut {T : Type 0} (frames : List ℕ) (before after : List T) : Type 0 where
@@ -52,3 +58,17 @@ FitsAt places states frame = place_behind (place_before places frame) (record_of
 pub record AllFit (places : List ShownPlace) (states : List FrameState) : Type 0 where
   pub frames : length places ≡ length states
   pub each : (frame : ℕ) → frame < length states → FitsAt places states frame
+
+-- The tables are those of the last line, at which the frames had these states: the recorded places fit the states, the
+-- shown places are those of the state that is advanced, and the two tables differ only at the fresh frames.
+pub record PlacesAreReady (states : List FrameState) (places : List ShownPlace) (tables : PlaceTables) : Type 0 where
+  pub recorded : AllFit tables.recorded.items states
+  pub shown : tables.shown.items ≡ places
+  pub fresh : IsSameBut tables.fresh.items tables.recorded.items tables.shown.items
+
+-- The places of the state were set to those by these states of the frames and by the fresh frames of these CPUs, and
+-- the part that tells which frames have a new place was added to the text.
+pub record AdvancesPlaces (states : List FrameState) (cpus : List KnownCpu) (before after : KnownTraceState)
+    (old new : List ℕ) : Type 0 where
+  pub state : after ≡ record before { places = with_fresh (places_of (map record_of states)) cpus }
+  pub text : new ≡ old ++ part_text (codes "frames") frame_span_text (frame_spans 0 before.places after.places)

@@ -27,7 +27,7 @@ pub(crate) struct PlaceTables {
     pub(crate) shown: Vec<ShownPlace>,
     // The fresh frames, the only ones at which the two tables differ.
     pub(crate) fresh: Vec<u32>,
-    pub(crate) changed: Vec<u32>,
+    pub(crate) ascending: Vec<u32>,
     pub(crate) touched: Vec<u32>,
     pub(crate) spans: Vec<FrameSpan>,
 }
@@ -40,7 +40,7 @@ impl PlaceTables {
             recorded: Vec::new(alloc),
             shown: Vec::new(alloc),
             fresh: Vec::new(alloc),
-            changed: Vec::new(alloc),
+            ascending: Vec::new(alloc),
             touched: Vec::new(alloc),
             spans: Vec::new(alloc),
         }
