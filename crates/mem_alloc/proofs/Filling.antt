@@ -167,7 +167,7 @@ module _ (t : KnownTable) (m n : KnownMachine) (c d : KnownCpu) (seen : n ≡ wi
     steps = [];
     does = inl (record { is = page; does = record { machine = seen; cpu = mine; steps_are = refl } });
     makes = subst (λ (z : KnownMachine × KnownCpu). MakesAs t c.number (visit_state m c) [] (visit_state z.0 z.1)) (λ i. (sym seen i, sym mine i))
-        (makes_stay t m (with_look m) c c refl refl refl refl);
+        (makes_stay t m (with_look m) c c refl refl refl refl refl);
   }
 
 -- ---- frames that are lent
@@ -292,7 +292,7 @@ module _ (t : KnownTable) (pages q : ℕ) (m k x : KnownMachine) (c e : KnownCpu
                   steps_are = refl;
                 });
           };
-          makes = record { leads = looked.leads; follows = looked.follows; counts = looked.counts; watched = looked.watched };
+          makes = record { leads = looked.leads; follows = looked.follows; counts = looked.counts; watched = looked.watched; snapshot = looked.snapshot };
         }
 
     pub pays_anew : (r : Result (Unit {0}) AllocFault) → BySteps t (FillsDrainedStock sizes g r) (visit_state x e) (visit_state n d)

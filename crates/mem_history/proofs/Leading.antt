@@ -447,7 +447,7 @@ consume_same p g x y same is = (
 -- the steps lead to the machine with a watch that took them
 watched : (t : KnownTable) (m : KnownMachine) (c d : KnownCpu) (steps : Run) → LeadsAs t c.number (visit_state m c) steps (visit_state m d)
     → LeadsWatched t (visit_state m c) steps d
-watched t m c d steps made w took = makes_watched t c.number m m refl c d steps m made w took
+watched t m c d steps made w took = makes_watched t c.number m m refl c d steps m made w took refl
 
 pub fast_calls_lead : FastCallsLead
 fast_calls_lead = record {

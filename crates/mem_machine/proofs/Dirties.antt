@@ -107,5 +107,5 @@ dirty_all t w m now same ok f i inside is h home lru read links d now_stands ent
     subst (λ (x : KnownMachine). AllDirtied t w x f d (record m { links = links })) same (record {
       consistent = dirty_consistent t w m ok f inside h at lru read links d now_stands told changes others all;
       dirties = dirty_does t w m ok f inside h at lru read links d now_stands told changes others all;
-      steps = λ c. makes_stay t m (record m { links = links }) c c refl refl refl refl;
+      steps = λ c. makes_stay t m (record m { links = links }) c c refl refl refl refl refl;
     })

@@ -131,6 +131,7 @@ makes_both t p one two a b c first second =
       };
       counts = second.counts ∙ ap (counts_along u two) first.counts ∙ sym (counts_both p s one two u a.machine.counts first.leads);
       watched = watches_both a.machine.watch one b.machine.watch two c.machine.watch first.watched second.watched;
+      snapshot = second.snapshot ∙ first.snapshot;
     }
 
 -- ---- the watch
@@ -147,13 +148,14 @@ LeadsForAny table before steps after = (cpu : KnownCpu) → LeadsAs table cpu.nu
 
 -- a watch took the steps, and the machine after them has this watch
 pub makes_watched : (t : KnownTable) (p : ℕ) (m now : KnownMachine) → m ≡ now → (c d : KnownCpu) (steps : Run) (n : KnownMachine)
-    → LeadsAs t p (visit_state now c) steps (visit_state n d) → (w : KnownWatch) → Watches m.watch steps w
+    → LeadsAs t p (visit_state now c) steps (visit_state n d) → (w : KnownWatch) → Watches m.watch steps w → n.snapshot ≡ m.snapshot
     → MakesAs t p (visit_state now c) steps (visit_state (record n { watch = w }) d)
-makes_watched t p m now same c d steps n made w took = record {
+makes_watched t p m now same c d steps n made w took kept = record {
   leads = made.leads;
   follows = made.follows;
   counts = made.counts;
   watched = subst (λ (x : KnownMachine). Watches x.watch steps w) same took;
+  snapshot = kept ∙ ap (λ (x : KnownMachine). x.snapshot) same;
 }
 
 -- ---- steps that move nothing
@@ -237,12 +239,13 @@ follows_same s l steps still = follows_still s l steps l still (λ m. refl) (sam
 -- ---- no step
 
 pub makes_none : (t : KnownTable) (p : ℕ) (a : VisitState) → MakesAs t p a [] a
-makes_none t p a = record { leads = refl; follows = follows_same _ _ _ refl; counts = refl; watched = watches_none a.machine.watch }
+makes_none t p a = record { leads = refl; follows = follows_same _ _ _ refl; counts = refl; watched = watches_none a.machine.watch; snapshot = refl }
 
 -- what is seen stays, and the ledger, the counts and the watch
 pub makes_stay : (t : KnownTable) (m n : KnownMachine) (c d : KnownCpu) → local_of t m c ≡ local_of t n d → n.ledger ≡ m.ledger
-    → n.counts ≡ m.counts → n.watch ≡ m.watch → MakesAs t c.number (visit_state m c) [] (visit_state n d)
-makes_stay t m n c d seen same counted unwatched = record {
+    → n.counts ≡ m.counts → n.watch ≡ m.watch → n.snapshot ≡ m.snapshot → MakesAs t c.number (visit_state m c) [] (visit_state n d)
+makes_stay t m n c d seen same counted unwatched kept = record {
+  snapshot = kept;
   leads = seen;
   counts = counted;
   watched = subst (Watches m.watch []) (sym unwatched) (watches_none m.watch);

@@ -143,6 +143,7 @@ pub unit_kept : (t : KnownTable) (w : KnownStockTable) (m : KnownMachine) → Is
     → IsConsistent t w (record {
       blocks = blocks;
       frame_states = frame_states;
+      snapshot = m.snapshot;
       ledger = ledger;
       links = links;
       lists = lists;

@@ -61,7 +61,7 @@ looked_once t w m ok f pins =
       };
       machine = refl;
       visit = λ c visit. visit_stays t m n c f (looked (pins + 1)) refl (λ k. refl) (λ k. refl) (λ k. refl) visit;
-      steps = λ c. makes_stay t m n c c (sym (look_unseen t m f pins c)) refl refl refl;
+      steps = λ c. makes_stay t m n c c (sym (look_unseen t m f pins c)) refl refl refl refl;
     }
 
 -- the same, of the machine as it was seen before, and of the word that was found

@@ -88,5 +88,5 @@ touch_all t w m now same ok f i inside is h home lru read links new touched now_
     subst (λ (x : KnownMachine). AllTouched t w x f touched n) same (record {
       consistent = touch_consistent t w m ok f inside h at lru read links new touched now_stands owner told changes others all;
       touches = touch_does t w m ok f inside h at lru read links new touched now_stands owner told changes others all;
-      steps = λ c. makes_stay t m n c c refl refl refl refl;
+      steps = λ c. makes_stay t m n c c refl refl refl refl refl;
     })

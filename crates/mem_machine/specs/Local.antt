@@ -102,13 +102,14 @@ local_at table now = local_of table now.machine now.cpu
 
 -- These steps, of the CPU of this number and of the zone's seat, lead from one visit state to another. They are local
 -- steps between the two local states. The ledger's peaks and event counts follow them, and so do the machine's counts.
--- The machine's watch took them, in this order.
+-- The machine's watch took them, in this order. The snapshot stays.
 pub record MakesAs (table : KnownTable) (cpu_number : ℕ) (before : VisitState) (steps : Run)
     (after : VisitState) : Type 0 where
   pub leads : IsLocalRun cpu_number (local_at table before) steps (local_at table after)
   pub follows : FollowsSteps (local_at table before) before.machine.ledger steps after.machine.ledger
   pub counts : after.machine.counts ≡ counts_along (local_at table before) steps before.machine.counts
   pub watched : Watches before.machine.watch steps after.machine.watch
+  pub snapshot : after.machine.snapshot ≡ before.machine.snapshot
 
 -- these steps lead the CPU that holds the lock from one visit state to the other
 abbrev pub Makes : KnownTable → VisitState → Run → VisitState → Type 0

@@ -38,13 +38,15 @@ use Rattle.mem_machine.specs.Counts.{no_counts}
 use Rattle.mem_machine.specs.FrameStates.{AreUnits, frame_state_at, free_of, is_in_hand, some_cpu, lent_to}
 use Rattle.mem_machine.specs.FrameStates.{frame_state_group, head_group_of, one_if_is}
 
--- The machine holds the free areas, a record for each frame, and the groups with their charges. It holds the links of
--- all kept units, and two lists for each group number. It holds the zone's seats at the two tables, and which group
+-- The machine holds the free areas, a record for each frame, and the groups with their charges. It holds the records as
+-- they were at the last snapshot; if none was taken, there are none. It holds the links of all kept units, and two
+-- lists for each group number. It holds the zone's seats at the two tables, and which group
 -- numbers are killed. It counts how units ended, how many were freed and how many were missed. It holds the notes since
 -- the last `forget_notes`, and the watch, which takes each step right behind it.
 pub record KnownMachine : Type 0 where
   pub blocks : List Block
   pub frame_states : List FrameState
+  pub snapshot : List FrameState
   pub ledger : Ledger
   pub links : List Link
   pub lists : List Lru
@@ -70,6 +72,10 @@ with_unit_notes machine is_on = record machine { notes = record machine.notes { 
 -- the machine with another watch
 abbrev pub with_watch : KnownMachine → KnownWatch → KnownMachine
 with_watch machine watch = record machine { watch = watch }
+
+-- the machine with its frames' records as the snapshot
+abbrev pub with_snapshot : KnownMachine → KnownMachine
+with_snapshot machine = record machine { snapshot = machine.frame_states }
 
 -- an empty list
 abbrev pub no_queue : Queue

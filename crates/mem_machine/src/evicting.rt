@@ -30,7 +30,7 @@ impl<N: BootName> Machine<N> {
             return None;
         }
         self.watch.froze(at, 1);
-        let FrameState::Head(unit) = self.frame_states[at as usize] else {
+        let FrameState::Head(unit) = self.frame_states.get(at as usize) else {
             unreachable!()
         };
         let group = unit.group;

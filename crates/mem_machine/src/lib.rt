@@ -42,6 +42,7 @@ mod readers;
 mod releasing;
 mod settling;
 mod showing;
+mod snapshots;
 mod start;
 mod stocks;
 mod visits;

@@ -20,6 +20,7 @@ use std::alloc::{AllocError, Global};
 use std::marker::{Model, PhantomData};
 use step_watch::Watch;
 use stock_word::StockSeat;
+use tracked_vec::TrackedVec;
 use zone_buddy::buddy::Buddy;
 
 /// All that lies behind the zone's lock. `IsConsistent` says what always holds of its parts together.
@@ -27,8 +28,8 @@ use zone_buddy::buddy::Buddy;
 pub struct Machine<N: BootName> {
     // The free areas: the maximal blocks of the frames whose record is Free.
     pub(crate) zone: Buddy,
-    // A record for each frame, by its number.
-    pub(crate) frame_states: Vec<FrameState>,
+    // A record for each frame, by its number, and what the records were at the last snapshot.
+    pub(crate) frame_states: TrackedVec<FrameState>,
     // The groups, with the pages charged to each: its frames, and the pages booked to its stocks.
     pub(crate) charges: Charges,
     // A link for each frame, by its number. Only the heads of kept units are linked into their groups' lists.
@@ -87,7 +88,7 @@ impl<N: BootName> Machine<N> {
         let notes = Notes::new(alloc)?;
         Ok(Machine {
             zone,
-            frame_states,
+            frame_states: TrackedVec::new(frame_states),
             charges,
             links,
             lists,

@@ -41,7 +41,7 @@ impl<N: BootName> Machine<N> {
             }
             Put::Last => {
                 self.watch.put_last(at);
-                let FrameState::Head(unit) = self.frame_states[at as usize] else {
+                let FrameState::Head(unit) = self.frame_states.get(at as usize) else {
                     unreachable!()
                 };
                 free_unit(

@@ -1,4 +1,5 @@
--- What a line keeps: the CPUs' numbers, and a group for each stock that was filled once. Serves `trace_line`.
+-- What a line keeps: the CPUs' numbers, the snapshot, and a group for each stock that was filled once. Serves
+-- `trace_line`.
 use Rattle.std.proofs.Common.{◌≡◌, ◌∙◌, ℕ, ◌-◌, Bool, true, false, List, Option, Some, None, refl, sym, ap, subst, map, inl, inr}
 use Rattle.std.specs.Prelude.{slice_set}
 use Rattle.std.specs.List.{slice_get}
@@ -40,15 +41,19 @@ use Rattle.shown_states.specs.Laws.{StayFilled, numbers_in}
 use Rattle.shown_states.proofs.Filled.{steps_keep}
 use Rattle.script_traces.proofs.Holder.{same_number}
 
--- the CPU has the same number, and each stock that was filled once still has a group
+-- the CPU has the same number, the snapshot stays, and each stock that was filled once still has a group
 record Keeps (before after : LockedState) : Type 0 where
   number : after.cpu.number ≡ before.cpu.number
+  snapshot : after.locked.machine.snapshot ≡ before.locked.machine.snapshot
   filled : StayFilled before.locked.machine after.locked.machine
 
 -- ---- behind the lock
 
 filled_same : (before after : KnownLocked) → after ≡ before → StayFilled before.machine after.machine
 filled_same before after same = subst (λ (l : KnownLocked). StayFilled before.machine l.machine) (sym same) (λ cpu has. has)
+
+snapshot_watched : (steps : Run) (before after : KnownLocked) → OnlyWatched steps before after → after.machine.snapshot ≡ before.machine.snapshot
+snapshot_watched steps before after only = ap (λ (l : KnownLocked). l.machine.snapshot) only.locked
 
 filled_watched : (steps : Run) (before after : KnownLocked) → OnlyWatched steps before after → StayFilled before.machine after.machine
 filled_watched steps before after only = subst (λ (l : KnownLocked). StayFilled before.machine l.machine) (sym only.locked) (λ cpu has. has)
@@ -63,6 +68,7 @@ served_keeps is_explained cmd seen reply call same is =
     let noted = locked_with_unit_notes call.before.locked is_explained in
     record {
       number = same_number call.table found is.served.steps left made ∙ same;
+      snapshot = snapshot_watched _ is.left call.after.locked is.unlock ∙ made.snapshot ∙ snapshot_watched _ noted is.found is.lock;
       filled = λ cpu has.
           filled_watched _ is.left call.after.locked is.unlock cpu
           (steps_keep call.table seen.number found is.served.steps left made cpu
@@ -108,10 +114,12 @@ frame_keeps : (path : Bor (List ℕ)) (call : Transition LockedState) (said : Li
     → Keeps call.before call.after
 frame_keeps path call (answer.Fast (Got frame)) is = record {
   number = fast_number is.gets.group (Got frame) call.before.cpu call.after.cpu is.gets.got;
+  snapshot = snapshot_watched _ call.before.locked call.after.locked is.alone.locked;
   filled = filled_watched _ call.before.locked call.after.locked is.alone.locked;
 }
 frame_keeps path call (answer.Served reply) is = record {
   number = ap (λ (x : KnownCpu). x.number) is.0.same_cpu;
+  snapshot = ap (λ (l : KnownLocked). l.machine.snapshot) is.0.same_locked;
   filled = filled_same call.before.locked call.after.locked is.0.same_locked;
 }
 frame_keeps path call said is = absurd is
@@ -126,20 +134,24 @@ answer_keeps (AllocFrame path) (route.LockedAfter reason) call (answer.Served re
     (fast_number none.group none.fast call.before.cpu is.allocates.seen none.answers) is.allocates.served
 answer_keeps (Fast group) route.Unlocked call (answer.Fast fast) is = record {
   number = fast_number group fast call.before.cpu call.after.cpu is.0;
+  snapshot = snapshot_watched _ call.before.locked call.after.locked is.1.locked;
   filled = filled_watched _ call.before.locked call.after.locked is.1.locked;
 }
 answer_keeps (Release frame) route.Unlocked call answer.Listed is = record {
   number = ap (λ (x : KnownCpu). x.number) is.0.listed.5;
+  snapshot = snapshot_watched _ call.before.locked call.after.locked is.1.locked;
   filled = filled_watched _ call.before.locked call.after.locked is.1.locked;
 }
 answer_keeps (Release frame) route.Locked call (answer.Served reply) is =
     served_keeps true (cmd.Release frame) is.seen reply call (list_number frame call.before.cpu is.seen is.not_listed) is.served
 answer_keeps (Get frame) route.Unlocked call said is = record {
   number = get_number frame said call.before.cpu call.after.cpu is.0;
+  snapshot = snapshot_watched _ call.before.locked call.after.locked is.1.locked;
   filled = filled_watched _ call.before.locked call.after.locked is.1.locked;
 }
 answer_keeps (Put frame) route.Unlocked call said is = record {
   number = put_number frame said call.before.cpu call.after.cpu is.0;
+  snapshot = snapshot_watched _ call.before.locked call.after.locked is.1.locked;
   filled = filled_watched _ call.before.locked call.after.locked is.1.locked;
 }
 answer_keeps Settle route.Settled call answer.Settled is = served_keeps false cmd.Settle call.before.cpu _ call refl is
@@ -150,15 +162,22 @@ answer_keeps work taken call said is = absurd is
 stock_filled : (before after : KnownMachine) → after ≡ with_look before → StayFilled before after
 stock_filled before after looked = subst (StayFilled before) (sym looked) (λ cpu has. has)
 
+units_snapshot : (group : Option ℕ) (none : Type 0) (tells : List ℕ → Type 0) (before after : KnownMachine) → UnitsAt group none tells before after
+    → after.snapshot ≡ before.snapshot
+units_snapshot None none tells before after is = ap (λ (m : KnownMachine). m.snapshot) is.1
+units_snapshot (Some group) none tells before after is = ap (λ (m : KnownMachine). m.snapshot) is.looks.machine
+
 units_filled : (group : Option ℕ) (none : Type 0) (tells : List ℕ → Type 0) (before after : KnownMachine) → UnitsAt group none tells before after
     → StayFilled before after
 units_filled None none tells before after is = subst (StayFilled before) (sym is.1) (λ cpu has. has)
 units_filled (Some group) none tells before after is = subst (StayFilled before) (sym is.looks.machine) (λ cpu has. has)
 
 looked_keeps : (call : Transition LockedState) (settled : LockedState) → Keeps call.before settled
-    → StayFilled settled.locked.machine call.after.locked.machine → call.after.cpu ≡ settled.cpu → Keeps call.before call.after
-looked_keeps call settled keeps looked same = record {
+    → StayFilled settled.locked.machine call.after.locked.machine → call.after.locked.machine.snapshot ≡ settled.locked.machine.snapshot
+    → call.after.cpu ≡ settled.cpu → Keeps call.before call.after
+looked_keeps call settled keeps looked stays same = record {
   number = ap (λ (x : KnownCpu). x.number) same ∙ keeps.number;
+  snapshot = stays ∙ keeps.snapshot;
   filled = λ cpu has. looked cpu (keeps.filled cpu has);
 }
 
@@ -168,10 +187,12 @@ written_keeps Blocks route.Settled call text is = served_keeps false cmd.Settle 
 written_keeps Show route.Settled call text is = served_keeps false cmd.Settle call.before.cpu _ call refl is.settles
 written_keeps Stock route.Settled call text is =
     let settled = served_keeps false cmd.Settle call.before.cpu _ (transition call.table call.before call.steps is.settled) refl is.settles in
-    looked_keeps call is.settled settled (stock_filled is.settled.locked.machine call.after.locked.machine is.told.look) is.cpu
+    looked_keeps call is.settled settled (stock_filled is.settled.locked.machine call.after.locked.machine is.told.look)
+    (ap (λ (m : KnownMachine). m.snapshot) is.told.look) is.cpu
 written_keeps (Units path) route.Settled call text is =
     let settled = served_keeps false cmd.Settle call.before.cpu _ (transition call.table call.before call.steps is.settled) refl is.settles in
-    looked_keeps call is.settled settled (units_filled _ _ _ is.settled.locked.machine call.after.locked.machine is.told) is.cpu
+    looked_keeps call is.settled settled (units_filled _ _ _ is.settled.locked.machine call.after.locked.machine is.told)
+    (units_snapshot _ _ _ is.settled.locked.machine call.after.locked.machine is.told) is.cpu
 written_keeps work taken call text is = answer_keeps work taken call is.answer is.answered
 
 -- ---- a line
@@ -187,12 +208,13 @@ same_numbers cpus at part left is same =
 -- what a line leaves as it was
 pub record LineKeeps (before after : SystemState) : Type 0 where
   pub numbers : numbers_in before.cpus ≡ numbers_in after.cpus
+  pub snapshot : after.locked.machine.snapshot ≡ before.locked.machine.snapshot
   pub filled : StayFilled before.locked.machine after.locked.machine
 
 pub line_keeps : (t : KnownTable) (line : Line) (before after : SystemState) (taken : Route) (text : List ℕ)
     → ServesByRoute t line before after taken text → LineKeeps before after
 line_keeps t Go before after route.Unlocked text is =
-    subst (LineKeeps before) (sym is.writes.stays) (record { numbers = refl; filled = λ cpu has. has })
+    subst (LineKeeps before) (sym is.writes.stays) (record { numbers = refl; snapshot = refl; filled = λ cpu has. has })
 line_keeps t Go before after taken text is = absurd is.writes
 line_keeps t (At number cpu command) before after taken text is =
     let at = is.writes in
@@ -200,5 +222,6 @@ line_keeps t (At number cpu command) before after taken text is =
     let keeps = written_keeps (work_of command) taken call text at.done in
     record {
       numbers = sym (ap numbers_in at.cpus ∙ same_numbers before.cpus (cpu - 1) at.part at.left at.is_part keeps.number);
+      snapshot = keeps.snapshot;
       filled = keeps.filled;
     }

@@ -1,4 +1,4 @@
-use Rattle.std.proofs.Common.{ℕ, rules, ap, subst}
+use Rattle.std.proofs.Common.{ℕ, rules, ap, subst, refl}
 use Rattle.cpu_part.specs.Cpus.{KnownCpu}
 use Rattle.mem_machine.proofs.Holds.{shuts, is_shut_then}
 use Rattle.step_watch.specs.Watched.{Watches}
@@ -12,7 +12,7 @@ returns-clause-shut g c = is_shut_then _ _ _ _ c.shut.ensures.zone (ap (λ (d : 
 pub returns-clause-steps : goal.returns-clause-steps
 returns-clause-steps g c = makes_watched _ _ _ _ c.self.view_is _ _ _ _
     (shuts g.N.BootName.frames _ _ c.self.view_is _ _ c.shut.ensures.cpu _ c.shut.ensures.zone c.requires (c.self.invariant.consistent.absorbed _)) _
-    (subst (λ (n : ℕ). Watches c.self.inside.watch (shut_steps n) c.visit_shut.new.self) c.number-cpu_number.ensures.number c.visit_shut.ensures)
+    (subst (λ (n : ℕ). Watches c.self.inside.watch (shut_steps n) c.visit_shut.new.self) c.number-cpu_number.ensures.number c.visit_shut.ensures) refl
 
 pub invariant_of-self : goal.invariant_of-self
 invariant_of-self g c = search rules

@@ -30,5 +30,5 @@ returns g c =
       pays = pays_still _ _ _ _ _ _ all.pays;
       frame = c.take_front-frame.ensures.frame;
       visit = visits_still _ _ _ _ all.visit;
-      steps = makes_watched _ _ _ _ c.self.view_is _ _ _ _ all.steps _ took;
+      steps = makes_watched _ _ _ _ c.self.view_is _ _ _ _ all.steps _ took refl;
     }
