@@ -22,7 +22,9 @@ use Rattle.stock_word.specs.declared.view.Stock.{Stock}
 use Rattle.stock_word.specs.declared.view.Stock.TheVariants.{NoGroup, HeldBy, DrainedOf}
 use Rattle.cpu_part.specs.Cpus.{KnownCpu}
 use Rattle.shown_states.specs.Frames.{record_of, with_fresh, with_fresh_of, with_singles}
-use Rattle.shown_states.specs.Changed.{AllFit, AreCopied, FitsAt, IsSameBut, fresh_of, order_of, place_before, place_behind}
+use Rattle.tracked_vec.specs.Tracked.{IsSameBut}
+use Rattle.shown_states.specs.declared.place_tables.PlaceTables.{PlaceTables}
+use Rattle.shown_states.specs.Changed.{AllFit, AreCopied, FitsAt, PlacesFollow, fresh_of, order_of, place_before, place_behind}
 
 -- ---- entries by their index
 
@@ -344,3 +346,10 @@ length_recorded places states are = ap length are ∙ from_any 0 states
     from_any : (order : ℕ) (states : List FrameState) → length (places_from order (map record_of states)) ≡ length states
     from_any order [] = refl
     from_any order (one ∷ states) = let rest = from_any (order_after order (record_of one)) states in omega (arith, rest)
+
+-- the same states of the frames and the same places
+pub follow_same : (states before : List FrameState) (places shown : List ShownPlace) (tables : PlaceTables) → states ≡ before → places ≡ shown
+    → PlacesFollow before shown tables → PlacesFollow states places tables
+follow_same states before places shown tables states_same places_same follow =
+    subst (λ (l : List FrameState). PlacesFollow l places tables) (sym states_same)
+    (subst (λ (l : List ShownPlace). PlacesFollow before l tables) (sym places_same) follow)

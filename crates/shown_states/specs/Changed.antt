@@ -1,25 +1,21 @@
 -- Places that are brought up to now at some frames only.
-use Rattle.std.specs.Prelude.{◌≡◌, ℕ, ◌<◌, Option, Some, None, List, ◌∷◌, ◌++◌, codes, length, map, option_map}
+use Rattle.std.specs.Prelude.{◌≡◌, ℕ, ◌<◌, Option, Some, None, List, ◌∷◌, ◌++◌, IsTrue, codes, length, option_map}
 use Rattle.std.specs.Prelude.{slice_get}
 use Rattle.std.specs.List.{Contains, flat_map, slice_index_or}
 use Rattle.cpu_part.specs.Cpus.{KnownCpu}
+use Rattle.tracked_vec.specs.Tracked.{IsSameBut}
 use Rattle.trace_lines.specs.declared.place.ShownPlace.{ShownPlace}
 use Rattle.trace_lines.specs.declared.place.ShownPlace.TheVariants.{Free, Listed, Charged}
 use Rattle.trace_lines.specs.declared.place.TracedFrame.{TracedFrame}
 use Rattle.trace_lines.specs.declared.place.TracedFrame.TheVariants as recorded
 use Rattle.trace_lines.specs.Changes.{frame_spans}
 use Rattle.trace_lines.specs.Parts.{frame_span_text, part_text}
-use Rattle.trace_lines.specs.Places.{places_of}
 use Rattle.trace_lines.specs.TraceState.{KnownTraceState}
 use Rattle.mem_machine.specs.declared.frame_state.FrameState.{FrameState}
 use Rattle.mem_machine.specs.FrameStates.{frame_state_at}
+use Rattle.mem_machine.specs.Machines.{KnownMachine}
 use Rattle.shown_states.specs.declared.place_tables.PlaceTables.{PlaceTables}
-use Rattle.shown_states.specs.Frames.{record_of, with_fresh}
-
--- the lists have the same length, and the same entries except at these frames
-pub record IsSameBut {T : Type 0} (frames : List ℕ) (before after : List T) : Type 0 where
-  pub lengths : length after ≡ length before
-  pub others : (frame : ℕ) → ¬ Contains frames frame → slice_get after frame ≡ slice_get before frame
+use Rattle.shown_states.specs.Frames.{places_shown, record_of}
 
 -- these frames were copied: each has the entry of `from`, and the others are as before
 pub record AreCopied {T : Type 0} (frames : List ℕ) (from before after : List T) : Type 0 where
@@ -66,9 +62,13 @@ pub record PlacesAreReady (states : List FrameState) (places : List ShownPlace) 
   pub shown : tables.shown.items ≡ places
   pub fresh : IsSameBut tables.fresh.items tables.recorded.items tables.shown.items
 
--- The places of the state were set to those by these states of the frames and by the fresh frames of these CPUs, and
--- the part that tells which frames have a new place was added to the text.
-pub record AdvancesPlaces (states : List FrameState) (cpus : List KnownCpu) (before after : KnownTraceState)
+-- if the tables are those of a line, the frames had these states at it, and these places were shown
+abbrev pub PlacesFollow : List FrameState → List ShownPlace → PlaceTables → Type 0
+PlacesFollow states places tables = IsTrue tables.is_ready → PlacesAreReady states places tables
+
+-- The places of the state were set to those that the machine and these CPUs show, and the part that tells which frames
+-- have a new place was added to the text.
+pub record AdvancesPlaces (machine : KnownMachine) (cpus : List KnownCpu) (before after : KnownTraceState)
     (old new : List ℕ) : Type 0 where
-  pub state : after ≡ record before { places = with_fresh (places_of (map record_of states)) cpus }
+  pub state : after ≡ record before { places = places_shown machine cpus }
   pub text : new ≡ old ++ part_text (codes "frames") frame_span_text (frame_spans 0 before.places after.places)

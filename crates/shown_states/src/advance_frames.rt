@@ -1,12 +1,12 @@
 //! The places of the frames in a state that is advanced in place.
 
-ghost use Rattle.std.specs.Prelude.{◌≡◌, ◌++◌, IfOk, IfSome, IsTrue, List, OnOk, codes, false};
+ghost use Rattle.std.specs.Prelude.{◌≡◌, ◌++◌, IfOk, IsTrue, OnOk, codes, false};
 ghost use Rattle.std.specs.String.{string_bytes};
 ghost use Rattle.trace_lines.specs.Changes.{frame_spans};
 ghost use Rattle.trace_lines.specs.Parts.{frame_span_text, part_text};
 ghost use Rattle.trace_lines.specs.Touched.{DifferOnlyAt};
-ghost use Rattle.mem_machine.specs.declared.frame_state.FrameState.{FrameState};
-ghost use Rattle.shown_states.specs.Changed.{AdvancesPlaces, IsSameBut, PlacesAreReady};
+ghost use Rattle.shown_states.specs.Changed.{AdvancesPlaces, PlacesAreReady, PlacesFollow};
+ghost use Rattle.tracked_vec.specs.Tracked.{IsSameBut};
 ghost use Rattle.shown_states.specs.Frames.{places_shown};
 
 use crate::changed_places::all_fit;
@@ -14,7 +14,7 @@ use crate::copied_places::{copy_all, copy_places};
 use crate::frames::{fill_recorded_places, set_fresh};
 use crate::place_tables::{PlaceTables, refresh_recorded, refresh_shown, set_fresh_frames};
 use cpu_part::{BootName, Cpu};
-use mem_machine::{FrameState, Machine};
+use mem_machine::Machine;
 use std::alloc::{AllocError, Global};
 use trace_lines::frames::{FrameSpan, write_frames, write_frames_at};
 use trace_lines::place::ShownPlace;
@@ -26,55 +26,42 @@ use trace_lines::trace_state::TraceState;
 pub(crate) fn advance_frames<N: BootName>(
     alloc: Global,
     machine: &Machine<N>,
-    changed: Option<&[u32]>,
     cpus: &[Cpu<N>],
     state: &mut TraceState,
     tables: &mut PlaceTables,
     text: &mut String,
 ) -> Result<(), AllocError>
-    ghost before: { List FrameState }
-    requires changed { IfSome changed (λ frames. IsSameBut frames.now before machine.now.frame_states) }
-    requires ready { IsTrue tables.old.is_ready → PlacesAreReady before state.old.places tables.old }
+    requires { PlacesFollow machine.now.snapshot state.old.places tables.old }
     ensures state { OnOk result (state.new ≡ record state.old { places = places_shown machine.now cpus.now }) }
     ensures text { OnOk result (string_bytes text.new ≡ string_bytes text.old
         ++ part_text (codes "frames") frame_span_text (frame_spans 0 state.old.places state.new.places)) }
-    ensures ready { IsTrue tables.new.is_ready
-        → PlacesAreReady machine.now.frame_states state.new.places tables.new }
+    ensures ready { OnOk result (PlacesFollow machine.now.frame_states state.new.places tables.new) }
 {
-    let frame_states = machine.frame_states();
-    if advance_known(frame_states, changed, cpus, state, tables, text)? {
-        tables.is_ready = true;
+    if advance_known(machine, cpus, state, tables, text)? {
         return Ok(());
     }
-    advance_all(alloc, frame_states, cpus, state, tables, text)
+    advance_all(alloc, machine, cpus, state, tables, text)
 }
 
-// Does this at the frames that may have changed, if they are known. The tables aren't ready then until all is done,
-// since memory may run out before. If the result is false, only the tables changed.
+// Does this at the frames that may have changed, if they are known. If the result is false, only the tables changed.
 fn advance_known<N: BootName>(
-    frame_states: &[FrameState],
-    changed: Option<&[u32]>,
+    machine: &Machine<N>,
     cpus: &[Cpu<N>],
     state: &mut TraceState,
     tables: &mut PlaceTables,
     text: &mut String,
 ) -> Result<bool, AllocError>
-    ghost before: { List FrameState }
-    requires changed { IfSome changed (λ frames. IsSameBut frames.now before frame_states.now) }
-    requires ready { IsTrue tables.old.is_ready → PlacesAreReady before state.old.places tables.old }
-    ensures advanced { IfOk result (λ is_done. IsTrue is_done → AdvancesPlaces frame_states.now cpus.now
+    requires { PlacesFollow machine.now.snapshot state.old.places tables.old }
+    ensures advanced { IfOk result (λ is_done. IsTrue is_done → AdvancesPlaces machine.now cpus.now
         state.old state.new (string_bytes text.old) (string_bytes text.new)) }
     ensures ready { IfOk result (λ is_done. IsTrue is_done
-        → PlacesAreReady frame_states.now state.new.places tables.new) }
+        → PlacesAreReady machine.now.frame_states state.new.places tables.new) }
     ensures state { IfOk result (λ is_done. is_done ≡ false → state.new ≡ state.old) }
     ensures text { IfOk result (λ is_done. is_done ≡ false → string_bytes text.new ≡ string_bytes text.old) }
-    ensures not_ready { tables.new.is_ready ≡ false }
 {
-    let is_ready = tables.is_ready;
-    tables.is_ready = false;
-    match changed {
-        Some(changed) if is_ready => {
-            advance_changed(frame_states, changed, cpus, state, tables, text)
+    match machine.written_frames() {
+        Some(changed) if tables.is_ready => {
+            advance_changed(machine, changed, cpus, state, tables, text)
         }
         _ => Ok(false),
     }
@@ -82,23 +69,21 @@ fn advance_known<N: BootName>(
 
 // Does this at the changed frames and the fresh frames.
 fn advance_changed<N: BootName>(
-    frame_states: &[FrameState],
+    machine: &Machine<N>,
     changed: &[u32],
     cpus: &[Cpu<N>],
     state: &mut TraceState,
     tables: &mut PlaceTables,
     text: &mut String,
 ) -> Result<bool, AllocError>
-    ghost before: { List FrameState }
-    requires changed { IsSameBut changed.now before frame_states.now }
-    requires ready { PlacesAreReady before state.old.places tables.old }
-    ensures advanced { IfOk result (λ is_done. IsTrue is_done → AdvancesPlaces frame_states.now cpus.now
+    requires changed { IsSameBut changed.now machine.now.snapshot machine.now.frame_states }
+    requires ready { PlacesAreReady machine.now.snapshot state.old.places tables.old }
+    ensures advanced { IfOk result (λ is_done. IsTrue is_done → AdvancesPlaces machine.now cpus.now
         state.old state.new (string_bytes text.old) (string_bytes text.new)) }
     ensures ready { IfOk result (λ is_done. IsTrue is_done
-        → PlacesAreReady frame_states.now state.new.places tables.new) }
+        → PlacesAreReady machine.now.frame_states state.new.places tables.new) }
     ensures state { IfOk result (λ is_done. is_done ≡ false → state.new ≡ state.old) }
     ensures text { IfOk result (λ is_done. is_done ≡ false → string_bytes text.new ≡ string_bytes text.old) }
-    ensures is_ready { tables.new.is_ready ≡ tables.old.is_ready }
 {
     let PlaceTables {
         recorded,
@@ -109,7 +94,7 @@ fn advance_changed<N: BootName>(
         spans,
         ..
     } = tables;
-    if !refresh_recorded(frame_states, changed, ascending, recorded)? {
+    if !refresh_recorded(machine.frame_states(), changed, ascending, recorded)? {
         return Ok(false);
     }
     refresh_shown(cpus, changed, recorded, shown, fresh, touched)?;
@@ -140,17 +125,15 @@ fn write_touched(
 // Does this at all frames.
 fn advance_all<N: BootName>(
     alloc: Global,
-    frame_states: &[FrameState],
+    machine: &Machine<N>,
     cpus: &[Cpu<N>],
     state: &mut TraceState,
     tables: &mut PlaceTables,
     text: &mut String,
 ) -> Result<(), AllocError>
-    requires { tables.old.is_ready ≡ false }
-    ensures advanced { OnOk result (AdvancesPlaces frame_states.now cpus.now state.old state.new
+    ensures advanced { OnOk result (AdvancesPlaces machine.now cpus.now state.old state.new
         (string_bytes text.old) (string_bytes text.new)) }
-    ensures ready { IsTrue tables.new.is_ready
-        → PlacesAreReady frame_states.now state.new.places tables.new }
+    ensures ready { OnOk result (PlacesFollow machine.now.frame_states state.new.places tables.new) }
 {
     let PlaceTables {
         is_ready,
@@ -159,6 +142,7 @@ fn advance_all<N: BootName>(
         fresh,
         ..
     } = tables;
+    let frame_states = machine.frame_states();
     fill_recorded_places(frame_states, recorded)?;
     copy_all(recorded, shown)?;
     set_fresh(cpus, shown);

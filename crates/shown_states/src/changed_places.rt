@@ -5,7 +5,8 @@ ghost use Rattle.std.specs.List.{Contains};
 ghost use Rattle.std.specs.List.Sorted.{IsNonDecreasing};
 ghost use Rattle.mem_machine.specs.declared.frame_state.FrameState.{FrameState};
 ghost use Rattle.trace_lines.specs.declared.place.ShownPlace.TheVariants.{Charged};
-ghost use Rattle.shown_states.specs.Changed.{AllFit, FitsAt, IsSameBut, order_of, place_before, place_behind};
+ghost use Rattle.tracked_vec.specs.Tracked.{IsSameBut};
+ghost use Rattle.shown_states.specs.Changed.{AllFit, FitsAt, order_of, place_before, place_behind};
 ghost use Rattle.shown_states.specs.Frames.{record_of};
 
 use crate::frames::record_of;

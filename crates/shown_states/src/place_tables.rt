@@ -3,7 +3,8 @@
 ghost use Rattle.std.specs.Prelude.{◌≡◌, ◌++◌, IfOk, IsTrue, List, OnOk, length};
 ghost use Rattle.trace_lines.specs.Touched.{DifferOnlyAt};
 ghost use Rattle.mem_machine.specs.declared.frame_state.FrameState.{FrameState};
-ghost use Rattle.shown_states.specs.Changed.{AllFit, IsSameBut, fresh_of};
+ghost use Rattle.tracked_vec.specs.Tracked.{IsSameBut};
+ghost use Rattle.shown_states.specs.Changed.{AllFit, fresh_of};
 ghost use Rattle.shown_states.specs.Frames.{with_fresh};
 
 use crate::changed_places::refresh;

@@ -2,7 +2,8 @@ use Rattle.std.proofs.Common.{◌≡◌, ◌++◌, ℕ, List, ap, rules, subst, 
 use Rattle.std.specs.List.Sorted.{IsPermutation}
 use Rattle.std.proofs.lemmas.List.Sorted.{IsNonDecreasingBy-from_sort}
 use Rattle.trace_lines.specs.declared.place.ShownPlace.{ShownPlace}
-use Rattle.shown_states.specs.Changed.{AreCopied, IsSameBut, fresh_of}
+use Rattle.tracked_vec.specs.Tracked.{IsSameBut}
+use Rattle.shown_states.specs.Changed.{AreCopied, fresh_of}
 use Rattle.shown_states.specs.Frames.{with_fresh}
 use Rattle.shown_states.proofs.ChangedPlaces.{all_copied, differ_only, same_both, same_copied, same_fresh}
 use Rattle.shown_states.proofs.place_tables.refresh_shown.Goals as goal
