@@ -96,8 +96,8 @@ pub same_both : {X : Type 0} (some others : List ℕ) (xs ys zs : List X) → Is
 same_both some others xs ys zs first second = record {
   lengths = second.lengths ∙ first.lengths;
   others = λ frame none.
-  second.others frame (λ has. none (Contains-append_right some others frame has))
-  ∙ first.others frame (λ has. none (Contains-append_left some others frame has));
+      second.others frame (λ has. none (Contains-append_right some others frame has))
+      ∙ first.others frame (λ has. none (Contains-append_left some others frame has));
 }
 
 -- the frames of a list that is sorted are those of the list
@@ -122,8 +122,8 @@ copied_both some others from xs ys zs first second = record {
         ∙ first.copied frame (elim (Contains-append_cases some others frame has) [ inl early ↦ early | inr last ↦ absurd (not_last last) ])
   ];
   others = λ frame none.
-  second.others frame (λ has. none (Contains-append_right some others frame has))
-  ∙ first.others frame (λ has. none (Contains-append_left some others frame has));
+      second.others frame (λ has. none (Contains-append_right some others frame has))
+      ∙ first.others frame (λ has. none (Contains-append_left some others frame has));
 }
 
 pub copied_none : {X : Type 0} (from xs : List X) → AreCopied [] from xs xs

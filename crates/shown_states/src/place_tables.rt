@@ -1,6 +1,6 @@
 //! Tables of the places of all frames, which are brought up to now at the frames that may have changed.
 
-ghost use Rattle.std.specs.Prelude.{◌≡◌, ◌++◌, IfOk, IsTrue, List, OnOk, length};
+ghost use Rattle.std.specs.Prelude.{◌≡◌, ◌++◌, IfOk, IsTrue, List, OnOk, false, length};
 ghost use Rattle.trace_lines.specs.Touched.{DifferOnlyAt};
 ghost use Rattle.mem_machine.specs.declared.frame_state.FrameState.{FrameState};
 ghost use Rattle.tracked_vec.specs.Tracked.{IsSameBut};
@@ -35,7 +35,9 @@ pub(crate) struct PlaceTables {
 
 impl PlaceTables {
     // Tables of no line.
-    pub(crate) fn new(alloc: Global) -> PlaceTables {
+    pub(crate) fn new(alloc: Global) -> PlaceTables
+        ensures { result.is_ready ≡ false }
+    {
         PlaceTables {
             is_ready: false,
             recorded: Vec::new(alloc),

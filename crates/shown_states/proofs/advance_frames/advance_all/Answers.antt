@@ -28,10 +28,10 @@ returns-clause-ready g c whole =
     let shown : c.copy_all-2.new.to.items ≡ c.swap_places.new.self.places = search rules in
     record {
       recorded =
-      subst (λ (l : List ShownPlace). AllFit l c.args.machine.now.frame_states) c.deref-3.ensures.value
-      (subst (AllFit c.deref-3.result.now) states (c.all_fit.ensures whole));
+          subst (λ (l : List ShownPlace). AllFit l c.args.machine.now.frame_states) c.deref-3.ensures.value
+          (subst (AllFit c.deref-3.result.now) states (c.all_fit.ensures whole));
       shown = shown;
       fresh =
-      fresh_differ c.args.cpus.now c.fill_recorded_places.new.places.items c.copy_all-2.new.to.items c.set_fresh_frames.new.frames.items
-      c.in_ok-set_fresh_frames.ensures (shown ∙ set ∙ ap (λ (l : List ShownPlace). with_fresh l c.args.cpus.now) (sym recorded));
+          fresh_differ c.args.cpus.now c.fill_recorded_places.new.places.items c.copy_all-2.new.to.items c.set_fresh_frames.new.frames.items
+          c.in_ok-set_fresh_frames.ensures (shown ∙ set ∙ ap (λ (l : List ShownPlace). with_fresh l c.args.cpus.now) (sym recorded));
     }

@@ -46,8 +46,8 @@ returns-clause-advanced g c done =
     record {
       state = state;
       text = c.in_ok-write_touched.ensures.text
-      ∙ ap (λ (l : List ShownPlace). string_bytes c.args.text.now ++ part_text (codes "frames") frame_span_text (frame_spans 0 c.args.state.now.places l))
-      (sym (ap (λ (s : KnownTraceState). s.places) c.in_ok-write_touched.ensures.state));
+          ∙ ap (λ (l : List ShownPlace). string_bytes c.args.text.now ++ part_text (codes "frames") frame_span_text (frame_spans 0 c.args.state.now.places l))
+          (sym (ap (λ (s : KnownTraceState). s.places) c.in_ok-write_touched.ensures.state));
     }
 
 pub returns-clause-ready : goal.returns-clause-ready
@@ -69,8 +69,8 @@ returns-clause-ready g c done =
       recorded = subst (λ (l : List ShownPlace). AllFit l c.args.machine.now.frame_states) (sym written) fit;
       shown = c.in_ok-write_touched.ensures.shown ∙ sym (ap (λ (s : KnownTraceState). s.places) c.in_ok-write_touched.ensures.state);
       fresh =
-      fresh_differ c.args.cpus.now (with_items old.recorded new).items c.write_touched.new.shown.items c.refresh_shown.new.fresh.items
-      c.in_ok-refresh_shown.ensures.fresh
-      (c.in_ok-write_touched.ensures.shown ∙ shown ∙ c.in_ok-refresh_shown.ensures.shown
-      ∙ ap (λ (l : List ShownPlace). with_fresh l c.args.cpus.now) c.deref.ensures.value);
+          fresh_differ c.args.cpus.now (with_items old.recorded new).items c.write_touched.new.shown.items c.refresh_shown.new.fresh.items
+          c.in_ok-refresh_shown.ensures.fresh
+          (c.in_ok-write_touched.ensures.shown ∙ shown ∙ c.in_ok-refresh_shown.ensures.shown
+          ∙ ap (λ (l : List ShownPlace). with_fresh l c.args.cpus.now) c.deref.ensures.value);
     }

@@ -13,7 +13,7 @@ loop-frame-preserved c =
       lengths = one.lengths ∙ c.loop-frame.invariant.lengths;
       same = same_more changed c.args.places.now now new at _ refl c.loop-frame.invariant.same one;
       fit = fit_more changed now new c.args.frame_states.now at _ c.requires.ascending c.loop-frame-test.true refl c.loop-frame.invariant.fit one
-      (c.if-not-set_changed_place.ensures.fits refl);
+          (c.if-not-set_changed_place.ensures.fits refl);
     }
 
 pub returns-then-not-set_changed_place-clause-others : goal.returns-then-not-set_changed_place-clause-others
