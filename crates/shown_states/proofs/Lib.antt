@@ -3,6 +3,7 @@ pub mod FlagsSet
 pub mod FlagsKept
 pub mod GroupFlags
 pub mod FreshSet
+pub mod ChangedPlaces
 pub mod Numbered
 pub mod Distinct
 pub mod CpusShown

@@ -1,11 +1,14 @@
 //! A state that is advanced in place to what is shown now.
 
-ghost use Rattle.std.specs.Prelude.{◌≡◌, ◌++◌, IsTrue, OnOk, codes, length};
+ghost use Rattle.std.specs.Prelude.{◌≡◌, ◌++◌, IsTrue, List, OnOk, codes, length};
 ghost use Rattle.std.specs.String.{string_bytes};
 ghost use Rattle.trace_lines.specs.Changes.{changes, count_change, groups_list_changes, rows_not_in};
 ghost use Rattle.trace_lines.specs.Parts.{changes_text, counts_part, row_text};
 ghost use Rattle.trace_lines.specs.Writing.{AddsLists};
-ghost use Rattle.shown_states.specs.Advancing.{HasCpus};
+ghost use Rattle.trace_lines.specs.TraceState.{KnownTraceState};
+ghost use Rattle.mem_machine.specs.declared.frame_state.FrameState.{FrameState};
+ghost use Rattle.shown_states.specs.Advancing.{FollowLine, HasCpus};
+ghost use Rattle.shown_states.specs.Changed.{PlacesFollow};
 ghost use Rattle.shown_states.specs.Cpus.{cpus_shown, locked_with_looks};
 ghost use Rattle.shown_states.specs.Frames.{flags_shown};
 ghost use Rattle.shown_states.specs.Groups.{AreSameGroups, groups_shown};
@@ -18,6 +21,7 @@ use crate::advance_frames::advance_frames;
 use crate::advance_groups::{advance_groups, has_same_groups};
 use crate::counts::show_counts;
 use crate::part::Part;
+use crate::place_tables::PlaceTables;
 use crate::states::trace_state;
 use cpu_part::{BootName, Cpu, Tables};
 use mem_machine::Machine;
@@ -25,15 +29,14 @@ use mem_system::Locked;
 use std::alloc::{AllocError, Global};
 use std::marker::Model;
 use trace_lines::parts::{write_changes, write_counts};
-use trace_lines::place::ShownPlace;
 use trace_lines::trace_state::{Flags, ShownCpu, ShownGroup, TraceState};
 
-// The parts of a line's object that are added item by item, and spare buffers.
+// The parts of a line's object that are added item by item, the places of the last line, and spare buffers.
 #[derive(Drop)]
 pub(crate) struct Parts {
     pub(crate) cpus: CpuParts,
     pub(crate) rows: Part,
-    pub(crate) spare_places: Vec<ShownPlace>,
+    pub(crate) places: PlaceTables,
     pub(crate) spare_flags: Vec<Flags>,
     pub(crate) spare_groups: Vec<ShownGroup>,
     pub(crate) spare_cpus: Vec<ShownCpu>,
@@ -53,17 +56,23 @@ impl Model for Buffers {
 
     ghost Value = { KnownBuffers };
 
-    ghost view = { λ b. record { changes = string_bytes b.changes; counts = string_bytes b.counts } };
+    ghost view = { λ b. record {
+      changes = string_bytes b.changes;
+      counts = string_bytes b.counts;
+      places = b.parts.places;
+    } };
 }
 
 impl Buffers {
-    /// Empty buffers.
-    pub fn new(alloc: Global) -> Buffers {
+    /// Buffers of no line.
+    pub fn new(alloc: Global) -> Buffers
+        ensures { (states : List FrameState) → (state : KnownTraceState) → FollowLine states state result }
+    {
         Buffers {
             parts: Parts {
                 cpus: CpuParts::new(alloc),
                 rows: Part::new(alloc),
-                spare_places: Vec::new(alloc),
+                places: PlaceTables::new(alloc),
                 spare_flags: Vec::new(alloc),
                 spare_groups: Vec::new(alloc),
                 spare_cpus: Vec::new(alloc),
@@ -91,7 +100,8 @@ impl Buffers {
 /// Advances a state to what is shown of the machine and of these CPUs, as `trace_state` shows it, and sets the texts of
 /// what changed. It allocates only if a buffer or a list of the state has to grow, or if the groups or the number of
 /// CPUs aren't those of the state. It fails only if memory runs out; it has looked at the stocks then all the same, and
-/// what the state and the texts are says nothing.
+/// what the state and the texts are says nothing. If the machine's snapshot was taken behind the last line, only the
+/// frames whose records were written since and the fresh frames are looked at.
 pub fn advance<N: BootName>(
     alloc: Global,
     locked: &mut Locked<N>,
@@ -100,11 +110,13 @@ pub fn advance<N: BootName>(
     state: &mut TraceState,
     buffers: &mut Buffers,
 ) -> Result<(), AllocError>
+    requires { FollowLine locked.old.machine.snapshot state.old buffers.old }
     ensures state { OnOk result (state.new ≡ trace_state_of locked.old.machine cpus.old) }
     ensures changes { OnOk result (buffers.new.changes
         ≡ changes_text (changes state.old (trace_state_of locked.old.machine cpus.old))) }
     ensures counts { OnOk result (buffers.new.counts
         ≡ counts_part (changes state.old (trace_state_of locked.old.machine cpus.old)).counts) }
+    ensures follow { OnOk result (FollowLine locked.old.machine.frame_states state.new buffers.new) }
     ensures looked { locked.new ≡ locked_with_looks locked.old (length cpus.old) }
     ensures cpus { cpus.new ≡ cpus.old }
     ensures again { trace_state_of locked.new.machine cpus.new ≡ trace_state_of locked.old.machine cpus.old }
@@ -117,6 +129,7 @@ pub fn advance<N: BootName>(
     if is_alike(locked.machine(), cpus, state) {
         return advance_parts(alloc, locked, tables, cpus, state, parts, changes, counts);
     }
+    parts.places.is_ready = false;
     replace(alloc, locked, tables, cpus, state, changes, counts)
 }
 
@@ -129,6 +142,7 @@ pub fn advance_unlocked<N: BootName>(
     state: &mut TraceState,
     buffers: &mut Buffers,
 ) -> Result<(), AllocError>
+    requires follow { FollowLine locked.old.machine.snapshot state.old buffers.old }
     requires groups { state.old.groups ≡ groups_shown locked.old.machine }
     requires flags { state.old.flags ≡ flags_shown locked.old.machine }
     ensures state { OnOk result (state.new ≡ trace_state_of locked.old.machine cpus.old) }
@@ -136,6 +150,7 @@ pub fn advance_unlocked<N: BootName>(
         ≡ changes_text (changes state.old (trace_state_of locked.old.machine cpus.old))) }
     ensures counts { OnOk result (buffers.new.counts
         ≡ counts_part (changes state.old (trace_state_of locked.old.machine cpus.old)).counts) }
+    ensures follow { OnOk result (FollowLine locked.old.machine.frame_states state.new buffers.new) }
     ensures looked { locked.new ≡ locked_with_looks locked.old (length cpus.old) }
     ensures cpus { cpus.new ≡ cpus.old }
     ensures again { trace_state_of locked.new.machine cpus.new ≡ trace_state_of locked.old.machine cpus.old }
@@ -148,6 +163,7 @@ pub fn advance_unlocked<N: BootName>(
     if has_as_many(cpus, state) {
         return advance_cpu_parts(alloc, locked, tables, cpus, state, parts, changes, counts);
     }
+    parts.places.is_ready = false;
     replace(alloc, locked, tables, cpus, state, changes, counts)
 }
 
@@ -206,11 +222,13 @@ fn advance_parts<N: BootName>(
 ) -> Result<(), AllocError>
     requires cpus { length state.old.cpus ≡ length cpus.old }
     requires groups { AreSameGroups state.old.groups (groups_shown locked.old.machine) }
+    requires places { PlacesFollow locked.old.machine.snapshot state.old.places parts.old.places }
     ensures state { OnOk result (state.new ≡ trace_state_of locked.old.machine cpus.old) }
     ensures changes { OnOk result (string_bytes text.new
         ≡ changes_text (changes state.old (trace_state_of locked.old.machine cpus.old))) }
     ensures counts { OnOk result (string_bytes counts.new
         ≡ counts_part (changes state.old (trace_state_of locked.old.machine cpus.old)).counts) }
+    ensures places { OnOk result (PlacesFollow locked.old.machine.frame_states state.new.places parts.new.places) }
     ensures looked { locked.new ≡ locked_with_looks locked.old (length cpus.old) }
     ensures cpus { cpus.new ≡ cpus.old }
 {
@@ -235,7 +253,7 @@ fn advance_parts<N: BootName>(
         &mut parts.rows,
     )?;
     text.clear();
-    advance_frames(alloc, machine, cpus, state, &mut parts.spare_places, text)?;
+    advance_frames(alloc, machine, cpus, state, &mut parts.places, text)?;
     parts.cpus.lists.add_to(text)?;
     advance_flags(machine, state, &mut parts.spare_flags, text)?;
     add_last_parts(&parts.cpus.pins, &parts.cpus.stocks, &parts.rows, text)
@@ -255,11 +273,13 @@ fn advance_cpu_parts<N: BootName>(
     requires cpus { length state.old.cpus ≡ length cpus.old }
     requires groups { state.old.groups ≡ groups_shown locked.old.machine }
     requires flags { state.old.flags ≡ flags_shown locked.old.machine }
+    requires places { PlacesFollow locked.old.machine.snapshot state.old.places parts.old.places }
     ensures state { OnOk result (state.new ≡ trace_state_of locked.old.machine cpus.old) }
     ensures changes { OnOk result (string_bytes text.new
         ≡ changes_text (changes state.old (trace_state_of locked.old.machine cpus.old))) }
     ensures counts { OnOk result (string_bytes counts.new
         ≡ counts_part (changes state.old (trace_state_of locked.old.machine cpus.old)).counts) }
+    ensures places { OnOk result (PlacesFollow locked.old.machine.frame_states state.new.places parts.new.places) }
     ensures looked { locked.new ≡ locked_with_looks locked.old (length cpus.old) }
     ensures cpus { cpus.new ≡ cpus.old }
 {
@@ -275,7 +295,7 @@ fn advance_cpu_parts<N: BootName>(
     let machine = locked.machine();
     set_counts(machine, cpus, state, counts)?;
     text.clear();
-    advance_frames(alloc, machine, cpus, state, &mut parts.spare_places, text)?;
+    advance_frames(alloc, machine, cpus, state, &mut parts.places, text)?;
     parts.cpus.lists.add_to(text)?;
     parts.cpus.pins.add_to(text)?;
     parts.cpus.stocks.add_to(text)

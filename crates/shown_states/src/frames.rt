@@ -39,7 +39,7 @@ pub(crate) fn fill_places<N: BootName>(
 }
 
 // Replaces these places by the place of each frame by the zone's own records.
-fn fill_recorded_places(
+pub(crate) fn fill_recorded_places(
     frame_states: &[FrameState],
     places: &mut Vec<ShownPlace>,
 ) -> Result<(), AllocError>
@@ -64,7 +64,7 @@ fn set_recorded_places(frame_states: &[FrameState], places: &mut [ShownPlace])
 }
 
 // Sets the places of the fresh frames of these CPUs.
-fn set_fresh<N: BootName>(cpus: &[Cpu<N>], places: &mut [ShownPlace])
+pub(crate) fn set_fresh<N: BootName>(cpus: &[Cpu<N>], places: &mut [ShownPlace])
     ensures { places.new ≡ with_fresh places.old cpus.now }
 {
     for cpu in cpus {
@@ -103,7 +103,7 @@ fn set_single(group: u32, frame: usize, places: &mut [ShownPlace])
 }
 
 // What is recorded of a frame in this state.
-fn record_of(frame_state: &FrameState) -> TracedFrame
+pub(crate) fn record_of(frame_state: &FrameState) -> TracedFrame
     ensures { result ≡ record_of frame_state.now }
 {
     match *frame_state {

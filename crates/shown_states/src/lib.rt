@@ -7,6 +7,8 @@ mod advance_flags;
 mod advance_frames;
 mod advance_groups;
 mod advancing;
+mod changed_places;
+mod copied_places;
 mod counts;
 mod cpus;
 mod flags;
@@ -15,6 +17,7 @@ mod groups;
 mod laws;
 mod lists;
 mod part;
+mod place_tables;
 mod row_places;
 mod states;
 

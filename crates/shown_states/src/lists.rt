@@ -65,7 +65,7 @@ fn are_frames(numbers: &[u32], frames: &[Frame]) -> bool
 }
 
 // Adds the numbers of these frames.
-fn add_frames(frames: &[Frame], numbers: &mut Vec<u32>) -> Result<(), AllocError>
+pub(crate) fn add_frames(frames: &[Frame], numbers: &mut Vec<u32>) -> Result<(), AllocError>
     ensures { IfOk result (λ _. numbers.new.items ≡ numbers.old.items ++ frames.now) }
 {
     for frame in frames {

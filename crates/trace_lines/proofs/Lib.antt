@@ -8,3 +8,4 @@ pub mod RebuiltGroups
 pub mod RebuiltLists
 pub mod RebuiltCpus
 pub mod Rebuilt
+pub mod Touched

@@ -7,3 +7,4 @@ pub mod Writing
 pub mod Notes
 pub mod Objects
 pub mod Rebuilding
+pub mod Touched

@@ -4,6 +4,7 @@ ghost use Rattle.std.specs.Prelude.{◌≡◌, ◌++◌, IfOk, codes};
 ghost use Rattle.std.specs.String.{string_bytes};
 ghost use Rattle.trace_lines.specs.Changes.{are_same_flags, flag_change, flag_changes};
 ghost use Rattle.trace_lines.specs.Parts.{flag_change_text, flags_number, part_text};
+ghost use Rattle.trace_lines.specs.Touched.{DifferOnlyAt};
 ghost use Rattle.trace_lines.specs.Writing.{AddsFlags};
 
 use crate::numbers::push_char_and_number;
@@ -19,6 +20,31 @@ pub fn write_flags(before: &[Flags], after: &[Flags], text: &mut String) -> Resu
     let mut is_first = true;
     for frame in 0..before.len().min(after.len()) {
         add_flags(frame, before[frame], after[frame], &mut is_first, text)?;
+    }
+    push_stop(is_first, text)
+}
+
+/// Adds the part with the frames that have other flags after than before. It looks at the touched frames alone.
+pub fn write_flags_at(
+    before: &[Flags],
+    after: &[Flags],
+    touched: &[u32],
+    text: &mut String,
+) -> Result<(), AllocError>
+    requires { DifferOnlyAt touched.now before.now after.now }
+    ensures { IfOk result (λ _. string_bytes text.new
+        ≡ string_bytes text.old ++ part_text (codes "flags") flag_change_text (flag_changes 0 before.now after.now)) }
+{
+    let mut is_first = true;
+    let mut next = 0;
+    for &number in touched {
+        let frame = number as usize;
+        // A touched frame may be given twice, or be beyond the last one.
+        if frame < next || frame >= before.len() {
+            continue;
+        }
+        add_flags(frame, before[frame], after[frame], &mut is_first, text)?;
+        next = frame + 1;
     }
     push_stop(is_first, text)
 }

@@ -1,10 +1,12 @@
 //! The frames that have a new place.
 
-ghost use Rattle.std.specs.Prelude.{◌≡◌, ◌+◌, ◌<◌, ◌^◌, ◌++◌, IfOk, [], ◌∷◌, codes, reverse};
+ghost use Rattle.std.specs.Prelude.{◌≡◌, ◌+◌, ◌<◌, ◌^◌, ◌++◌, IfOk, [], ◌∷◌, codes, if◌then◌else◌, reverse};
 ghost use Rattle.std.specs.Fmt.{decimal};
 ghost use Rattle.std.specs.String.{string_bytes};
 ghost use Rattle.trace_lines.specs.Changes.{frame_spans, joined};
 ghost use Rattle.trace_lines.specs.Parts.{frame_span_text, part_text, place_text};
+ghost use Rattle.trace_lines.specs.Places.{is_same_place};
+ghost use Rattle.trace_lines.specs.Touched.{DifferOnlyAt};
 ghost use Rattle.trace_lines.specs.Writing.{AddsFrames};
 
 use crate::numbers::push_char_and_number;
@@ -46,12 +48,71 @@ fn frame_spans(
     let mut frame = before.len().min(after.len());
     while frame > 0 {
         frame -= 1;
-        if !is_same_place(before[frame], after[frame]) {
-            push_frame(frame, after[frame], &mut spans)?;
-        }
+        push_changed_frame(frame, before[frame], after[frame], &mut spans)?;
     }
     spans.reverse();
     Ok(spans)
+}
+
+/// Adds the part with the frames that have another place after than before. It looks at the touched frames alone, and
+/// keeps the spans in a buffer that a caller can use again.
+pub fn write_frames_at(
+    before: &[ShownPlace],
+    after: &[ShownPlace],
+    touched: &[u32],
+    spans: &mut Vec<FrameSpan>,
+    text: &mut String,
+) -> Result<(), AllocError>
+    requires { DifferOnlyAt touched.now before.now after.now }
+    ensures { IfOk result (λ _. string_bytes text.new
+        ≡ string_bytes text.old ++ part_text (codes "frames") frame_span_text (frame_spans 0 before.now after.now)) }
+{
+    find_frame_spans(before, after, touched, spans)?;
+    write_frame_spans(spans, text)
+}
+
+// Puts the longest spans of frames that have another place after than before into the buffer.
+fn find_frame_spans(
+    before: &[ShownPlace],
+    after: &[ShownPlace],
+    touched: &[u32],
+    spans: &mut Vec<FrameSpan>,
+) -> Result<(), AllocError>
+    requires { DifferOnlyAt touched.now before.now after.now }
+    ensures { IfOk result (λ _. spans.new.items ≡ frame_spans 0 before.now after.now) }
+{
+    spans.clear();
+    let mut limit = before.len();
+    let mut index = touched.len();
+    while index > 0 {
+        index -= 1;
+        let frame = touched[index] as usize;
+        // A touched frame may be given twice, or be beyond the last one.
+        if frame >= limit {
+            continue;
+        }
+        limit = frame;
+        push_changed_frame(frame, before[frame], after[frame], spans)?;
+    }
+    spans.reverse();
+    Ok(())
+}
+
+// Puts a frame before these spans, of which the last is the first in order, if its place changed.
+fn push_changed_frame(
+    frame: usize,
+    before: ShownPlace,
+    after: ShownPlace,
+    spans: &mut Vec<FrameSpan>,
+) -> Result<(), AllocError>
+    requires { frame + 1 < 2 ^ 64 }
+    ensures { IfOk result (λ _. let old = reverse spans.old.items in
+        reverse spans.new.items ≡ (if is_same_place before after then old else joined frame after old)) }
+{
+    if is_same_place(before, after) {
+        return Ok(());
+    }
+    push_frame(frame, after, spans)
 }
 
 // Puts a frame at a place before these spans, of which the last is the first in order.

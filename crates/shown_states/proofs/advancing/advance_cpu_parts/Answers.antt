@@ -1,7 +1,9 @@
-use Rattle.std.proofs.Common.{◌∙◌, ap}
+use Rattle.std.proofs.Common.{◌∙◌, ap, refl, sym}
 use Rattle.std.specs.String.{string_bytes}
+use Rattle.mem_machine.specs.Machines.{KnownMachine}
 use Rattle.mem_system.specs.Locked.{KnownLocked}
 use Rattle.shown_states.proofs.Assembled.{counts_same, ok_any, own_advanced, own_text}
+use Rattle.shown_states.proofs.ChangedPlaces.{follow_same}
 use Rattle.shown_states.proofs.advancing.advance_cpu_parts.Goals as goal
 
 pub returns-clause-state : goal.returns-clause-state
@@ -29,3 +31,18 @@ returns-clause-counts g c =
     (c.in_ok-set_counts.ensures.text
     ∙ counts_same c.args.locked.now.machine c.machine-machine.result.now c.args.cpus.now c.set_cpus.new.cpus looked c.set_cpus.ensures.cpus
     c.args.state.now c.set_cpus.new.state c.set_counts.new.state c.in_ok-set_cpus.ensures.state c.in_ok-set_counts.ensures.state)
+
+pub advance_frames-requires : goal.advance_frames-requires
+advance_frames-requires g c =
+    let looked = c.machine-machine.ensures.machine ∙ ap (λ (l : KnownLocked). l.machine) c.set_cpus.ensures.looked in
+    follow_same c.machine-machine.result.now.snapshot c.args.locked.now.machine.snapshot c.set_counts.new.state.places c.args.state.now.places
+    c.args.parts.now.places (ap (λ (m : KnownMachine). m.snapshot) looked)
+    ((λ i. (c.in_ok-set_counts.ensures.state i).places) ∙ (λ i. (c.in_ok-set_cpus.ensures.state i).places)) c.requires.places
+
+pub returns-clause-places : goal.returns-clause-places
+returns-clause-places g c =
+    let looked = c.machine-machine.ensures.machine ∙ ap (λ (l : KnownLocked). l.machine) c.set_cpus.ensures.looked in
+    ok_any _ c.add_to-3.result
+    (follow_same c.args.locked.now.machine.frame_states c.machine-machine.result.now.frame_states c.advance_frames.new.state.places
+    c.advance_frames.new.state.places c.advance_frames.new.tables (sym (ap (λ (m : KnownMachine). m.frame_states) looked)) refl
+    c.in_ok-advance_frames.ensures.ready)
