@@ -1,4 +1,5 @@
 pub mod Frames
+pub mod FlagTables
 pub mod Groups
 pub mod Cpus
 pub mod States

@@ -17,6 +17,7 @@ use crate::advance_flags::advance_flags;
 use crate::advance_frames::advance_frames;
 use crate::advance_groups::{advance_groups, has_same_groups};
 use crate::counts::show_counts;
+use crate::flag_table::FlagTable;
 use crate::part::Part;
 use crate::states::trace_state;
 use cpu_part::{BootName, Cpu, Tables};
@@ -26,7 +27,7 @@ use std::alloc::{AllocError, Global};
 use std::marker::Model;
 use trace_lines::parts::{write_changes, write_counts};
 use trace_lines::place::ShownPlace;
-use trace_lines::trace_state::{Flags, ShownCpu, ShownGroup, TraceState};
+use trace_lines::trace_state::{ShownCpu, ShownGroup, TraceState};
 
 // The parts of a line's object that are added item by item, and spare buffers.
 #[derive(Drop)]
@@ -34,7 +35,7 @@ pub(crate) struct Parts {
     pub(crate) cpus: CpuParts,
     pub(crate) rows: Part,
     pub(crate) spare_places: Vec<ShownPlace>,
-    pub(crate) spare_flags: Vec<Flags>,
+    pub(crate) flags: FlagTable,
     pub(crate) spare_groups: Vec<ShownGroup>,
     pub(crate) spare_cpus: Vec<ShownCpu>,
 }
@@ -64,7 +65,7 @@ impl Buffers {
                 cpus: CpuParts::new(alloc),
                 rows: Part::new(alloc),
                 spare_places: Vec::new(alloc),
-                spare_flags: Vec::new(alloc),
+                flags: FlagTable::new(alloc),
                 spare_groups: Vec::new(alloc),
                 spare_cpus: Vec::new(alloc),
             },
@@ -237,7 +238,8 @@ fn advance_parts<N: BootName>(
     text.clear();
     advance_frames(alloc, machine, cpus, state, &mut parts.spare_places, text)?;
     parts.cpus.lists.add_to(text)?;
-    advance_flags(machine, state, &mut parts.spare_flags, text)?;
+    parts.flags.is_ready = false;
+    advance_flags(machine, state, &mut parts.flags, text)?;
     add_last_parts(&parts.cpus.pins, &parts.cpus.stocks, &parts.rows, text)
 }
 

@@ -9,6 +9,7 @@ mod advance_groups;
 mod advancing;
 mod counts;
 mod cpus;
+mod flag_table;
 mod flags;
 mod frames;
 mod groups;

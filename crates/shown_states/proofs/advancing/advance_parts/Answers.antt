@@ -1,13 +1,8 @@
-use Rattle.std.proofs.Common.{◌≡◌, ◌∙◌, List, ap, subst, sym, refl}
+use Rattle.std.proofs.Common.{◌∙◌, List, ap, subst, sym, refl}
 use Rattle.std.specs.String.{string_bytes}
-use Rattle.trace_lines.specs.Changes.{count_change}
-use Rattle.trace_lines.specs.Parts.{counts_part}
-use Rattle.trace_lines.specs.TraceState.{KnownShownGroup, KnownTraceState}
-use Rattle.mem_machine.specs.Machines.{KnownMachine}
+use Rattle.trace_lines.specs.TraceState.{KnownShownGroup}
 use Rattle.mem_system.specs.Locked.{KnownLocked}
-use Rattle.shown_states.specs.Cpus.{with_looks}
 use Rattle.shown_states.specs.Groups.{AreSameGroups, groups_shown}
-use Rattle.shown_states.specs.States.{trace_state_of}
 use Rattle.shown_states.proofs.Assembled.{all_advanced, all_text, counts_same, groups_before, groups_now, ok_any}
 use Rattle.shown_states.proofs.advancing.advance_parts.Goals as goal
 
@@ -20,8 +15,8 @@ set_groups-requires g c =
     subst (λ (gs : List KnownShownGroup). AreSameGroups gs (groups_shown c.machine-machine.result.now)) (sym before)
     (subst (λ (gs : List KnownShownGroup). AreSameGroups c.args.state.now.groups gs) now c.requires.groups)
 
-pub advance_flags-requires : goal.advance_flags-requires
-advance_flags-requires g c = (λ i. (c.in_ok-advance_frames.ensures.state i).groups) ∙ (λ i. (c.in_ok-set_groups.ensures.state i).groups)
+pub advance_flags-requires-clause-groups : goal.advance_flags-requires-clause-groups
+advance_flags-requires-clause-groups g c = (λ i. (c.in_ok-advance_frames.ensures.state i).groups) ∙ (λ i. (c.in_ok-set_groups.ensures.state i).groups)
 
 pub returns-clause-state : goal.returns-clause-state
 returns-clause-state g c =
