@@ -13,7 +13,7 @@ use Rattle.trace_lines.specs.TraceState.{KnownShownGroup, KnownTraceState}
 use Rattle.trace_lines.specs.Rebuilding.{no_flags}
 use Rattle.trace_lines.specs.Touched.{DifferOnlyAt}
 use Rattle.shown_states.specs.declared.flag_table.FlagTable.{FlagTable}
-use Rattle.shown_states.specs.FlagTables.{HasFlagsOf, OthersHaveNoFlags, TouchesFlags, units_on_lists}
+use Rattle.shown_states.specs.FlagTables.{AreFlagsReady, AreFlagsUnset, HasFlagsOf, OthersHaveNoFlags, TouchesFlags, units_on_lists}
 
 -- ---- what is touched
 
@@ -191,3 +191,14 @@ ready_after state table groups flags same_groups same_flags copied others = reco
   others = subst (λ (l : List KnownShownGroup). OthersHaveNoFlags (units_on_lists l) state.flags) (sym same_groups)
       (subst (λ (l : List Flags). OthersHaveNoFlags (units_on_lists groups) l) (sym same_flags) others);
 }
+
+-- ---- a state with the same flags
+
+pub ready_same : (state other : KnownTraceState) (table : FlagTable) → other.flags ≡ state.flags → other.groups ≡ state.groups
+    → AreFlagsReady state table → AreFlagsReady other table
+ready_same state other table same_flags same_groups ready is =
+    let has = ready is in
+    ready_after other table state.groups state.flags same_groups same_flags (has.flags ∙ sym same_flags) has.others
+
+pub unset_same : (flags other : List Flags) (table : FlagTable) → other ≡ flags → AreFlagsUnset flags table → AreFlagsUnset other table
+unset_same flags other table same unset = subst (λ (l : List Flags). AreFlagsUnset l table) (sym same) unset

@@ -1,12 +1,14 @@
 -- A state that is advanced in place: what was added to the parts of a line's object.
 use Rattle.std.specs.Prelude.{ℕ, List, codes}
 use Rattle.std.specs.String.{string_bytes}
-use Rattle.trace_lines.specs.TraceState.{KnownShownCpu}
+use Rattle.trace_lines.specs.TraceState.{KnownShownCpu, KnownTraceState}
 use Rattle.trace_lines.specs.Changes.{cpu_list_changes, cpus_list_changes, cpus_pin_changes, pin_changes, stock_change}
 use Rattle.trace_lines.specs.Changes.{ListChange, PinChange, StockChange, stock_changes}
 use Rattle.trace_lines.specs.Parts.{list_change_text, pin_change_text, stock_change_text}
 use Rattle.trace_lines.specs.Writing.{AddsLists, AddsPins, AddsStocks}
+use Rattle.shown_states.specs.FlagTables.{AreFlagsReady}
 use Rattle.shown_states.specs.Parts.{HasItems}
+use Rattle.shown_states.specs.declared.flag_table.FlagTable.{FlagTable}
 use Rattle.shown_states.specs.declared.advance_cpus.CpuParts.{CpuParts}
 
 -- changes of lists, pins and stocks were added
@@ -36,7 +38,12 @@ pub record HasCpus (frames : ℕ) (parts : CpuParts) (old new : List KnownShownC
   pub pins : HasItems (codes "pins") pin_change_text parts.pins (cpus_pin_changes 1 frames old new)
   pub stocks : HasItems (codes "stocks") stock_change_text parts.stocks (stock_changes 1 old new)
 
--- the texts that a `Buffers` has
+-- the texts that a `Buffers` has, and the flags that it keeps from one line to the next
 pub record KnownBuffers : Type 0 where
   pub changes : List ℕ
   pub counts : List ℕ
+  pub flags : FlagTable
+
+-- the buffers are of no line, or of the one that left the state as it is
+abbrev pub FollowLine : KnownTraceState → KnownBuffers → Type 0
+FollowLine state buffers = AreFlagsReady state buffers.flags

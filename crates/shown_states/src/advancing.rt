@@ -5,8 +5,10 @@ ghost use Rattle.std.specs.String.{string_bytes};
 ghost use Rattle.trace_lines.specs.Changes.{changes, count_change, groups_list_changes, rows_not_in};
 ghost use Rattle.trace_lines.specs.Parts.{changes_text, counts_part, row_text};
 ghost use Rattle.trace_lines.specs.Writing.{AddsLists};
-ghost use Rattle.shown_states.specs.Advancing.{HasCpus};
+ghost use Rattle.trace_lines.specs.TraceState.{KnownTraceState};
+ghost use Rattle.shown_states.specs.Advancing.{FollowLine, HasCpus};
 ghost use Rattle.shown_states.specs.Cpus.{cpus_shown, locked_with_looks};
+ghost use Rattle.shown_states.specs.FlagTables.{AreFlagsReady};
 ghost use Rattle.shown_states.specs.Frames.{flags_shown};
 ghost use Rattle.shown_states.specs.Groups.{AreSameGroups, groups_shown};
 ghost use Rattle.shown_states.specs.Parts.{HasItems, part_bytes};
@@ -29,7 +31,7 @@ use trace_lines::parts::{write_changes, write_counts};
 use trace_lines::place::ShownPlace;
 use trace_lines::trace_state::{ShownCpu, ShownGroup, TraceState};
 
-// The parts of a line's object that are added item by item, and spare buffers.
+// The parts of a line's object that are added item by item, the flags of the last line, and spare buffers.
 #[derive(Drop)]
 pub(crate) struct Parts {
     pub(crate) cpus: CpuParts,
@@ -54,12 +56,18 @@ impl Model for Buffers {
 
     ghost Value = { KnownBuffers };
 
-    ghost view = { λ b. record { changes = string_bytes b.changes; counts = string_bytes b.counts } };
+    ghost view = { λ b. record {
+      changes = string_bytes b.changes;
+      counts = string_bytes b.counts;
+      flags = b.parts.flags;
+    } };
 }
 
 impl Buffers {
-    /// Empty buffers.
-    pub fn new(alloc: Global) -> Buffers {
+    /// Buffers of no line.
+    pub fn new(alloc: Global) -> Buffers
+        ensures { (state : KnownTraceState) → FollowLine state result }
+    {
         Buffers {
             parts: Parts {
                 cpus: CpuParts::new(alloc),
@@ -101,11 +109,13 @@ pub fn advance<N: BootName>(
     state: &mut TraceState,
     buffers: &mut Buffers,
 ) -> Result<(), AllocError>
+    requires { FollowLine state.old buffers.old }
     ensures state { OnOk result (state.new ≡ trace_state_of locked.old.machine cpus.old) }
     ensures changes { OnOk result (buffers.new.changes
         ≡ changes_text (changes state.old (trace_state_of locked.old.machine cpus.old))) }
     ensures counts { OnOk result (buffers.new.counts
         ≡ counts_part (changes state.old (trace_state_of locked.old.machine cpus.old)).counts) }
+    ensures follow { OnOk result (FollowLine state.new buffers.new) }
     ensures looked { locked.new ≡ locked_with_looks locked.old (length cpus.old) }
     ensures cpus { cpus.new ≡ cpus.old }
     ensures again { trace_state_of locked.new.machine cpus.new ≡ trace_state_of locked.old.machine cpus.old }
@@ -118,6 +128,7 @@ pub fn advance<N: BootName>(
     if is_alike(locked.machine(), cpus, state) {
         return advance_parts(alloc, locked, tables, cpus, state, parts, changes, counts);
     }
+    parts.flags.is_ready = false;
     replace(alloc, locked, tables, cpus, state, changes, counts)
 }
 
@@ -130,6 +141,7 @@ pub fn advance_unlocked<N: BootName>(
     state: &mut TraceState,
     buffers: &mut Buffers,
 ) -> Result<(), AllocError>
+    requires follow { FollowLine state.old buffers.old }
     requires groups { state.old.groups ≡ groups_shown locked.old.machine }
     requires flags { state.old.flags ≡ flags_shown locked.old.machine }
     ensures state { OnOk result (state.new ≡ trace_state_of locked.old.machine cpus.old) }
@@ -137,6 +149,7 @@ pub fn advance_unlocked<N: BootName>(
         ≡ changes_text (changes state.old (trace_state_of locked.old.machine cpus.old))) }
     ensures counts { OnOk result (buffers.new.counts
         ≡ counts_part (changes state.old (trace_state_of locked.old.machine cpus.old)).counts) }
+    ensures follow { OnOk result (FollowLine state.new buffers.new) }
     ensures looked { locked.new ≡ locked_with_looks locked.old (length cpus.old) }
     ensures cpus { cpus.new ≡ cpus.old }
     ensures again { trace_state_of locked.new.machine cpus.new ≡ trace_state_of locked.old.machine cpus.old }
@@ -149,6 +162,7 @@ pub fn advance_unlocked<N: BootName>(
     if has_as_many(cpus, state) {
         return advance_cpu_parts(alloc, locked, tables, cpus, state, parts, changes, counts);
     }
+    parts.flags.is_ready = false;
     replace(alloc, locked, tables, cpus, state, changes, counts)
 }
 
@@ -207,11 +221,13 @@ fn advance_parts<N: BootName>(
 ) -> Result<(), AllocError>
     requires cpus { length state.old.cpus ≡ length cpus.old }
     requires groups { AreSameGroups state.old.groups (groups_shown locked.old.machine) }
+    requires flags { AreFlagsReady state.old parts.old.flags }
     ensures state { OnOk result (state.new ≡ trace_state_of locked.old.machine cpus.old) }
     ensures changes { OnOk result (string_bytes text.new
         ≡ changes_text (changes state.old (trace_state_of locked.old.machine cpus.old))) }
     ensures counts { OnOk result (string_bytes counts.new
         ≡ counts_part (changes state.old (trace_state_of locked.old.machine cpus.old)).counts) }
+    ensures flags { OnOk result (AreFlagsReady state.new parts.new.flags) }
     ensures looked { locked.new ≡ locked_with_looks locked.old (length cpus.old) }
     ensures cpus { cpus.new ≡ cpus.old }
 {
@@ -227,6 +243,7 @@ fn advance_parts<N: BootName>(
     )?;
     let machine = locked.machine();
     set_counts(machine, cpus, state, counts)?;
+    parts.flags.unset(state)?;
     set_groups(
         machine,
         state,
@@ -238,7 +255,6 @@ fn advance_parts<N: BootName>(
     text.clear();
     advance_frames(alloc, machine, cpus, state, &mut parts.spare_places, text)?;
     parts.cpus.lists.add_to(text)?;
-    parts.flags.is_ready = false;
     advance_flags(machine, state, &mut parts.flags, text)?;
     add_last_parts(&parts.cpus.pins, &parts.cpus.stocks, &parts.rows, text)
 }
@@ -257,11 +273,13 @@ fn advance_cpu_parts<N: BootName>(
     requires cpus { length state.old.cpus ≡ length cpus.old }
     requires groups { state.old.groups ≡ groups_shown locked.old.machine }
     requires flags { state.old.flags ≡ flags_shown locked.old.machine }
+    requires table { AreFlagsReady state.old parts.old.flags }
     ensures state { OnOk result (state.new ≡ trace_state_of locked.old.machine cpus.old) }
     ensures changes { OnOk result (string_bytes text.new
         ≡ changes_text (changes state.old (trace_state_of locked.old.machine cpus.old))) }
     ensures counts { OnOk result (string_bytes counts.new
         ≡ counts_part (changes state.old (trace_state_of locked.old.machine cpus.old)).counts) }
+    ensures table { OnOk result (AreFlagsReady state.new parts.new.flags) }
     ensures looked { locked.new ≡ locked_with_looks locked.old (length cpus.old) }
     ensures cpus { cpus.new ≡ cpus.old }
 {

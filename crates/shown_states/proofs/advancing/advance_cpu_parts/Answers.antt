@@ -2,6 +2,7 @@ use Rattle.std.proofs.Common.{◌∙◌, ap}
 use Rattle.std.specs.String.{string_bytes}
 use Rattle.mem_system.specs.Locked.{KnownLocked}
 use Rattle.shown_states.proofs.Assembled.{counts_same, ok_any, own_advanced, own_text}
+use Rattle.shown_states.proofs.TouchedFlags.{ready_same}
 use Rattle.shown_states.proofs.advancing.advance_cpu_parts.Goals as goal
 
 pub returns-clause-state : goal.returns-clause-state
@@ -29,3 +30,12 @@ returns-clause-counts g c =
     (c.in_ok-set_counts.ensures.text
     ∙ counts_same c.args.locked.now.machine c.machine-machine.result.now c.args.cpus.now c.set_cpus.new.cpus looked c.set_cpus.ensures.cpus
     c.args.state.now c.set_cpus.new.state c.set_counts.new.state c.in_ok-set_cpus.ensures.state c.in_ok-set_counts.ensures.state)
+
+pub returns-clause-table : goal.returns-clause-table
+returns-clause-table g c =
+    ok_any _ c.add_to-3.result
+    (ready_same c.args.state.now c.advance_frames.new.state c.args.parts.now.flags
+    ((λ i. (c.in_ok-advance_frames.ensures.state i).flags) ∙ (λ i. (c.in_ok-set_counts.ensures.state i).flags)
+    ∙ (λ i. (c.in_ok-set_cpus.ensures.state i).flags))
+    ((λ i. (c.in_ok-advance_frames.ensures.state i).groups) ∙ (λ i. (c.in_ok-set_counts.ensures.state i).groups)
+    ∙ (λ i. (c.in_ok-set_cpus.ensures.state i).groups)) c.requires.table)
