@@ -19,10 +19,13 @@ use Rattle.trace_lines.specs.Changes.{ListChange, active_of, are_same_events, ar
 use Rattle.trace_lines.specs.Parts.{changes_text, counts_part, first_parts_text, flag_change_text, frame_span_text, last_parts_text, list_change_text, made_text, part_text, pin_change_text, row_text, stock_change_text}
 use Rattle.trace_lines.specs.Writing.{AddsLists, AddsRows}
 use Rattle.trace_lines.proofs.Items.{adds_both, adds_part}
+use Rattle.mem_machine.specs.declared.frame_state.FrameState.{FrameState}
 use Rattle.mem_machine.specs.Machines.{KnownMachine}
 use Rattle.shown_states.specs.declared.advance_cpus.CpuParts.{CpuParts}
 use Rattle.shown_states.specs.declared.part.Part.{Part}
-use Rattle.shown_states.specs.Advancing.{HasCpus}
+use Rattle.shown_states.specs.Advancing.{FollowLine, HasCpus, KnownBuffers}
+use Rattle.shown_states.specs.Changed.{PlacesFollow}
+use Rattle.shown_states.specs.FlagTables.{AreFlagsReady}
 use Rattle.shown_states.specs.Cpus.{cpus_shown, with_looks}
 use Rattle.shown_states.specs.Frames.{flags_shown, places_shown, record_of}
 use Rattle.shown_states.specs.Groups.{AreSameGroups, groups_shown}
@@ -247,6 +250,12 @@ module _ (machine now : KnownMachine) (cpus others : List KnownCpu) (looked : no
 pub ok_any : {T E : Type 0} (P : Type 0) (r : Result T E) → P → OnOk r P
 ok_any P (Ok x) holds = holds
 ok_any P (Err x) holds = tt
+
+-- buffers that follow a line for both their places and their flags
+pub ok_follow : {T E : Type 0} (r : Result T E) (records : List FrameState) (state : KnownTraceState) (buffers : KnownBuffers)
+    → OnOk r (PlacesFollow records state.places buffers.places) → OnOk r (AreFlagsReady state buffers.flags) → OnOk r (FollowLine records state buffers)
+ok_follow (Ok x) records state buffers places flags = record { places = places; flags = flags }
+ok_follow (Err x) records state buffers places flags = tt
 
 -- what was added of groups that were swapped out
 pub lists_swapped : {T E : Type 0} (r : Result T E) (old from new now : List KnownShownGroup) (first next : Bool) (text after : List ℕ) → from ≡ old

@@ -1,9 +1,10 @@
 -- The flags of the kept units, set group by group. Serves `advance_flags`.
-use Rattle.std.proofs.Common.{◌≡◌, ℕ, zero, suc, ◌+◌, ◌<◌, ◌≤◌, Bool, true, false, All, Option, Some, None, List, [], ◌∷◌, ◌++◌, get_or, length, take, refl, sym, ap, ◌∙◌, subst, append-nil, append_assoc, arith}
-use Rattle.std.specs.Prelude.{IfSome, option_map, option_to_list, replicate}
-use Rattle.std.proofs.lemmas.Bool.{false≢true}
-use Rattle.std.proofs.lemmas.List.{take_all, take_more}
-use Rattle.std.proofs.lemmas.List.Elements.{All-append, All-cons, All-nil}
+use Rattle.std.proofs.Common.{◌≡◌, ℕ, zero, suc, ◌+◌, ◌<◌, ◌≤◌, Bool, true, false, All, Option, Some, None, List, [], ◌∷◌, ◌++◌, get_or, length, take, refl, sym, ap, ◌∙◌, subst, inl, inr, append-nil, append_assoc, arith}
+use Rattle.std.specs.Prelude.{IfSome, option_map, option_to_list, replicate, slice_set}
+use Rattle.std.specs.List.{Contains}
+use Rattle.std.proofs.lemmas.Bool.{cases_lt, false≢true}
+use Rattle.std.proofs.lemmas.List.{get_or-replicate, get_or-set_other, get_or_past, length-replicate, map-append, take_all, take_more}
+use Rattle.std.proofs.lemmas.List.Elements.{All-append, All-cons, All-head, All-nil, All-tail}
 use Rattle.frame_word.specs.Seats.{KnownTable}
 use Rattle.stock_word.specs.Stock.{KnownStockTable}
 use Rattle.group_tree.specs.Groups.{has_group, path_of}
@@ -20,11 +21,12 @@ use Rattle.mem_machine.specs.declared.frame_state.FrameState.{FrameState}
 use Rattle.mem_machine.specs.declared.frame_state.FrameState.TheVariants.{Free, Lent, Head, Tail}
 use Rattle.mem_machine.specs.declared.frame_state.Place.TheVariants as place
 use Rattle.mem_machine.specs.FrameStates.{frame_state_at, head_group_of, place_of}
-use Rattle.mem_machine.specs.Machines.{KnownMachine, IsConsistent, entries_in}
+use Rattle.mem_machine.specs.Machines.{KnownMachine, IsConsistent, active_in, entries_in, inactive_in}
 use Rattle.mem_machine.proofs.Keepers.{keeper_there}
 use Rattle.mem_machine.proofs.Listing.{has_mid, has_unit, home_inside, listed_is}
-use Rattle.shown_states.specs.Frames.{flags_shown, kept_below, kept_in, with_flags}
-use Rattle.shown_states.specs.Groups.{group_if_there, group_shown, groups_below, groups_shown}
+use Rattle.shown_states.specs.FlagTables.{OthersHaveNoFlags, units_on_lists}
+use Rattle.shown_states.specs.Frames.{flags_of, flags_shown, kept_below, kept_in, with_flags}
+use Rattle.shown_states.specs.Groups.{group_if_there, group_shown, groups_below, groups_shown, numbers_of}
 use Rattle.shown_states.proofs.FlagsKept.{flags_are}
 use Rattle.shown_states.proofs.FlagsSet.{flags_both}
 use Rattle.shown_states.proofs.Numbered.{none_there, one_there}
@@ -137,3 +139,45 @@ module _ (t : KnownTable) (w : KnownStockTable) (machine : KnownMachine) (ok : I
   groups_end flags now groups at past is none are =
       is ∙ ap (λ (l : List KnownShownGroup). with_flags flags (kept_of machine l)) (take_all at groups past)
       ∙ (λ i. with_flags (none i) (kept_of machine (are i))) ∙ flags_by_groups
+
+-- ---- the frames on no list
+
+-- a frame that isn't the first of one of these units keeps its flags
+others_keep : (flags : List Flags) (units : List Entry) (frame : ℕ) → (Contains (numbers_of units) frame → ⊥)
+    → get_or (with_flags flags units) frame no_flags ≡ get_or flags frame no_flags
+others_keep flags [] frame not = refl
+others_keep flags (unit ∷ units) frame not =
+    others_keep (slice_set flags unit.number (flags_of unit)) units frame (λ (k, inside, is). not (suc k, omega (arith, inside), is))
+    ∙ get_or-set_other flags unit.number frame (flags_of unit) no_flags (λ same. not (zero, omega arith, sym same))
+
+none_filled : (frames frame : ℕ) → get_or (replicate frames no_flags) frame no_flags ≡ no_flags
+none_filled frames frame = elim (cases_lt frame frames) [
+  | inl inside ↦ get_or-replicate frames frame no_flags no_flags inside
+  | inr past ↦
+      let long = length-replicate frames no_flags in
+      get_or_past (replicate frames no_flags) frame no_flags (omega (arith, past, long))
+]
+
+-- the kept units of the groups are those on the lists that are shown
+kept_shown : (machine : KnownMachine) (groups : List KnownShownGroup) → All (IsShown machine) groups
+    → numbers_of (kept_of machine groups) ≡ units_on_lists groups
+kept_shown machine [] shown = refl
+kept_shown machine (group ∷ groups) shown =
+    let is = (All-head (IsShown machine) group groups shown).shown in
+    let number = λ (entry : Entry). entry.number in
+    map-append number (kept_in machine group.number) (kept_of machine groups)
+    ∙ (λ i. map-append number (inactive_in machine group.number) (active_in machine group.number) i
+    ++ kept_shown machine groups (All-tail (IsShown machine) group groups shown) i)
+    ∙ append_assoc (numbers_of (inactive_in machine group.number)) (numbers_of (active_in machine group.number)) (units_on_lists groups)
+    ∙ sym (λ i. (is i).inactive ++ ((is i).active ++ units_on_lists groups))
+
+pub others_end : (machine : KnownMachine) (flags now : List Flags) (groups : List KnownShownGroup) (at : ℕ) → length groups ≤ at
+    → now ≡ with_flags flags (kept_of machine (take at groups)) → flags ≡ replicate (length machine.frame_states) no_flags
+    → groups ≡ groups_shown machine → OthersHaveNoFlags (units_on_lists groups) now
+others_end machine flags now groups at past is none are frame not =
+    let shown = subst (λ (l : List KnownShownGroup). All (IsShown machine) l) (sym are) (all_shown machine) in
+    let whole = is ∙ ap (λ (l : List KnownShownGroup). with_flags flags (kept_of machine l)) (take_all at groups past) in
+    ap (λ (l : List Flags). get_or l frame no_flags) whole
+    ∙ others_keep flags (kept_of machine groups) frame
+    (λ among. not (subst (λ (l : List ℕ). Contains l frame) (kept_shown machine groups shown) among))
+    ∙ ap (λ (l : List Flags). get_or l frame no_flags) none ∙ none_filled (length machine.frame_states) frame

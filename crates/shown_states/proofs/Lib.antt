@@ -1,5 +1,6 @@
 pub mod Looks
 pub mod FlagsSet
+pub mod TouchedFlags
 pub mod FlagsKept
 pub mod GroupFlags
 pub mod FreshSet

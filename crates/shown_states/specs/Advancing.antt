@@ -9,7 +9,9 @@ use Rattle.trace_lines.specs.Writing.{AddsLists, AddsPins, AddsStocks}
 use Rattle.mem_machine.specs.declared.frame_state.FrameState.{FrameState}
 use Rattle.shown_states.specs.Parts.{HasItems}
 use Rattle.shown_states.specs.Changed.{PlacesFollow}
+use Rattle.shown_states.specs.FlagTables.{AreFlagsReady}
 use Rattle.shown_states.specs.declared.place_tables.PlaceTables.{PlaceTables}
+use Rattle.shown_states.specs.declared.flag_table.FlagTable.{FlagTable}
 use Rattle.shown_states.specs.declared.advance_cpus.CpuParts.{CpuParts}
 
 -- changes of lists, pins and stocks were added
@@ -39,12 +41,14 @@ pub record HasCpus (frames : ℕ) (parts : CpuParts) (old new : List KnownShownC
   pub pins : HasItems (codes "pins") pin_change_text parts.pins (cpus_pin_changes 1 frames old new)
   pub stocks : HasItems (codes "stocks") stock_change_text parts.stocks (stock_changes 1 old new)
 
--- the texts that a `Buffers` has, and the places that it keeps from one line to the next
+-- the texts that a `Buffers` has, and the places and flags that it keeps from one line to the next
 pub record KnownBuffers : Type 0 where
   pub changes : List ℕ
   pub counts : List ℕ
   pub places : PlaceTables
+  pub flags : FlagTable
 
--- the buffers are of no line, or of the one at which the frames had these states and the state was this one
-abbrev pub FollowLine : List FrameState → KnownTraceState → KnownBuffers → Type 0
-FollowLine states state buffers = PlacesFollow states state.places buffers.places
+-- the buffers are of no line, or of the one at which the frames had these records and the state was this one
+pub record FollowLine (records : List FrameState) (state : KnownTraceState) (buffers : KnownBuffers) : Type 0 where
+  pub places : PlacesFollow records state.places buffers.places
+  pub flags : AreFlagsReady state buffers.flags

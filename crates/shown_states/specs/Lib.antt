@@ -1,5 +1,6 @@
 pub mod Frames
 pub mod Changed
+pub mod FlagTables
 pub mod Groups
 pub mod Cpus
 pub mod States

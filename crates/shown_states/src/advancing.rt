@@ -10,6 +10,7 @@ ghost use Rattle.mem_machine.specs.declared.frame_state.FrameState.{FrameState};
 ghost use Rattle.shown_states.specs.Advancing.{FollowLine, HasCpus};
 ghost use Rattle.shown_states.specs.Changed.{PlacesFollow};
 ghost use Rattle.shown_states.specs.Cpus.{cpus_shown, locked_with_looks};
+ghost use Rattle.shown_states.specs.FlagTables.{AreFlagsReady};
 ghost use Rattle.shown_states.specs.Frames.{flags_shown};
 ghost use Rattle.shown_states.specs.Groups.{AreSameGroups, groups_shown};
 ghost use Rattle.shown_states.specs.Parts.{HasItems, part_bytes};
@@ -20,6 +21,7 @@ use crate::advance_flags::advance_flags;
 use crate::advance_frames::advance_frames;
 use crate::advance_groups::{advance_groups, has_same_groups};
 use crate::counts::show_counts;
+use crate::flag_table::FlagTable;
 use crate::part::Part;
 use crate::place_tables::PlaceTables;
 use crate::states::trace_state;
@@ -29,15 +31,15 @@ use mem_system::Locked;
 use std::alloc::{AllocError, Global};
 use std::marker::Model;
 use trace_lines::parts::{write_changes, write_counts};
-use trace_lines::trace_state::{Flags, ShownCpu, ShownGroup, TraceState};
+use trace_lines::trace_state::{ShownCpu, ShownGroup, TraceState};
 
-// The parts of a line's object that are added item by item, the places of the last line, and spare buffers.
+// The parts of a line's object that are added item by item, the places and flags of the last line, and spare buffers.
 #[derive(Drop)]
 pub(crate) struct Parts {
     pub(crate) cpus: CpuParts,
     pub(crate) rows: Part,
     pub(crate) places: PlaceTables,
-    pub(crate) spare_flags: Vec<Flags>,
+    pub(crate) flags: FlagTable,
     pub(crate) spare_groups: Vec<ShownGroup>,
     pub(crate) spare_cpus: Vec<ShownCpu>,
 }
@@ -60,20 +62,21 @@ impl Model for Buffers {
       changes = string_bytes b.changes;
       counts = string_bytes b.counts;
       places = b.parts.places;
+      flags = b.parts.flags;
     } };
 }
 
 impl Buffers {
     /// Buffers of no line.
     pub fn new(alloc: Global) -> Buffers
-        ensures { (states : List FrameState) → (state : KnownTraceState) → FollowLine states state result }
+        ensures { (records : List FrameState) → (state : KnownTraceState) → FollowLine records state result }
     {
         Buffers {
             parts: Parts {
                 cpus: CpuParts::new(alloc),
                 rows: Part::new(alloc),
                 places: PlaceTables::new(alloc),
-                spare_flags: Vec::new(alloc),
+                flags: FlagTable::new(alloc),
                 spare_groups: Vec::new(alloc),
                 spare_cpus: Vec::new(alloc),
             },
@@ -130,6 +133,7 @@ pub fn advance<N: BootName>(
         return advance_parts(alloc, locked, tables, cpus, state, parts, changes, counts);
     }
     parts.places.is_ready = false;
+    parts.flags.is_ready = false;
     replace(alloc, locked, tables, cpus, state, changes, counts)
 }
 
@@ -164,6 +168,7 @@ pub fn advance_unlocked<N: BootName>(
         return advance_cpu_parts(alloc, locked, tables, cpus, state, parts, changes, counts);
     }
     parts.places.is_ready = false;
+    parts.flags.is_ready = false;
     replace(alloc, locked, tables, cpus, state, changes, counts)
 }
 
@@ -223,12 +228,14 @@ fn advance_parts<N: BootName>(
     requires cpus { length state.old.cpus ≡ length cpus.old }
     requires groups { AreSameGroups state.old.groups (groups_shown locked.old.machine) }
     requires places { PlacesFollow locked.old.machine.snapshot state.old.places parts.old.places }
+    requires flags { AreFlagsReady state.old parts.old.flags }
     ensures state { OnOk result (state.new ≡ trace_state_of locked.old.machine cpus.old) }
     ensures changes { OnOk result (string_bytes text.new
         ≡ changes_text (changes state.old (trace_state_of locked.old.machine cpus.old))) }
     ensures counts { OnOk result (string_bytes counts.new
         ≡ counts_part (changes state.old (trace_state_of locked.old.machine cpus.old)).counts) }
     ensures places { OnOk result (PlacesFollow locked.old.machine.frame_states state.new.places parts.new.places) }
+    ensures flags { OnOk result (AreFlagsReady state.new parts.new.flags) }
     ensures looked { locked.new ≡ locked_with_looks locked.old (length cpus.old) }
     ensures cpus { cpus.new ≡ cpus.old }
 {
@@ -244,6 +251,7 @@ fn advance_parts<N: BootName>(
     )?;
     let machine = locked.machine();
     set_counts(machine, cpus, state, counts)?;
+    parts.flags.unset(state)?;
     set_groups(
         machine,
         state,
@@ -255,7 +263,7 @@ fn advance_parts<N: BootName>(
     text.clear();
     advance_frames(alloc, machine, cpus, state, &mut parts.places, text)?;
     parts.cpus.lists.add_to(text)?;
-    advance_flags(machine, state, &mut parts.spare_flags, text)?;
+    advance_flags(machine, state, &mut parts.flags, text)?;
     add_last_parts(&parts.cpus.pins, &parts.cpus.stocks, &parts.rows, text)
 }
 
@@ -274,12 +282,14 @@ fn advance_cpu_parts<N: BootName>(
     requires groups { state.old.groups ≡ groups_shown locked.old.machine }
     requires flags { state.old.flags ≡ flags_shown locked.old.machine }
     requires places { PlacesFollow locked.old.machine.snapshot state.old.places parts.old.places }
+    requires table { AreFlagsReady state.old parts.old.flags }
     ensures state { OnOk result (state.new ≡ trace_state_of locked.old.machine cpus.old) }
     ensures changes { OnOk result (string_bytes text.new
         ≡ changes_text (changes state.old (trace_state_of locked.old.machine cpus.old))) }
     ensures counts { OnOk result (string_bytes counts.new
         ≡ counts_part (changes state.old (trace_state_of locked.old.machine cpus.old)).counts) }
     ensures places { OnOk result (PlacesFollow locked.old.machine.frame_states state.new.places parts.new.places) }
+    ensures table { OnOk result (AreFlagsReady state.new parts.new.flags) }
     ensures looked { locked.new ≡ locked_with_looks locked.old (length cpus.old) }
     ensures cpus { cpus.new ≡ cpus.old }
 {

@@ -11,6 +11,7 @@ mod changed_places;
 mod copied_places;
 mod counts;
 mod cpus;
+mod flag_table;
 mod flags;
 mod frames;
 mod groups;

@@ -4,6 +4,7 @@ use Rattle.mem_machine.specs.Machines.{KnownMachine}
 use Rattle.mem_system.specs.Locked.{KnownLocked}
 use Rattle.shown_states.proofs.Assembled.{counts_same, ok_any, own_advanced, own_text}
 use Rattle.shown_states.proofs.ChangedPlaces.{follow_same}
+use Rattle.shown_states.proofs.TouchedFlags.{ready_same}
 use Rattle.shown_states.proofs.advancing.advance_cpu_parts.Goals as goal
 
 pub returns-clause-state : goal.returns-clause-state
@@ -46,3 +47,12 @@ returns-clause-places g c =
     (follow_same c.args.locked.now.machine.frame_states c.machine-machine.result.now.frame_states c.advance_frames.new.state.places
     c.advance_frames.new.state.places c.advance_frames.new.tables (sym (ap (λ (m : KnownMachine). m.frame_states) looked)) refl
     c.in_ok-advance_frames.ensures.ready)
+
+pub returns-clause-table : goal.returns-clause-table
+returns-clause-table g c =
+    ok_any _ c.add_to-3.result
+    (ready_same c.args.state.now c.advance_frames.new.state c.args.parts.now.flags
+    ((λ i. (c.in_ok-advance_frames.ensures.state i).flags) ∙ (λ i. (c.in_ok-set_counts.ensures.state i).flags)
+    ∙ (λ i. (c.in_ok-set_cpus.ensures.state i).flags))
+    ((λ i. (c.in_ok-advance_frames.ensures.state i).groups) ∙ (λ i. (c.in_ok-set_counts.ensures.state i).groups)
+    ∙ (λ i. (c.in_ok-set_cpus.ensures.state i).groups)) c.requires.table)

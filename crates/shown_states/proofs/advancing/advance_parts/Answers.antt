@@ -1,15 +1,12 @@
-use Rattle.std.proofs.Common.{◌≡◌, ◌∙◌, List, ap, subst, sym, refl}
+use Rattle.std.proofs.Common.{◌∙◌, List, ap, subst, sym, refl}
 use Rattle.std.specs.String.{string_bytes}
-use Rattle.trace_lines.specs.Changes.{count_change}
-use Rattle.trace_lines.specs.Parts.{counts_part}
-use Rattle.trace_lines.specs.TraceState.{KnownShownGroup, KnownTraceState}
+use Rattle.trace_lines.specs.TraceState.{KnownShownGroup}
 use Rattle.mem_machine.specs.Machines.{KnownMachine}
 use Rattle.mem_system.specs.Locked.{KnownLocked}
-use Rattle.shown_states.specs.Cpus.{with_looks}
 use Rattle.shown_states.specs.Groups.{AreSameGroups, groups_shown}
-use Rattle.shown_states.specs.States.{trace_state_of}
 use Rattle.shown_states.proofs.Assembled.{all_advanced, all_text, counts_same, groups_before, groups_now, ok_any}
 use Rattle.shown_states.proofs.ChangedPlaces.{follow_same}
+use Rattle.shown_states.proofs.TouchedFlags.{ready_same, unset_same}
 use Rattle.shown_states.proofs.advancing.advance_parts.Goals as goal
 
 pub set_groups-requires : goal.set_groups-requires
@@ -21,8 +18,22 @@ set_groups-requires g c =
     subst (λ (gs : List KnownShownGroup). AreSameGroups gs (groups_shown c.machine-machine.result.now)) (sym before)
     (subst (λ (gs : List KnownShownGroup). AreSameGroups c.args.state.now.groups gs) now c.requires.groups)
 
-pub advance_flags-requires : goal.advance_flags-requires
-advance_flags-requires g c = (λ i. (c.in_ok-advance_frames.ensures.state i).groups) ∙ (λ i. (c.in_ok-set_groups.ensures.state i).groups)
+pub advance_flags-requires-clause-groups : goal.advance_flags-requires-clause-groups
+advance_flags-requires-clause-groups g c = (λ i. (c.in_ok-advance_frames.ensures.state i).groups) ∙ (λ i. (c.in_ok-set_groups.ensures.state i).groups)
+
+pub unset-requires : goal.unset-requires
+unset-requires g c =
+    ready_same c.args.state.now c.set_counts.new.state c.args.parts.now.flags
+    ((λ i. (c.in_ok-set_counts.ensures.state i).flags) ∙ (λ i. (c.in_ok-set_cpus.ensures.state i).flags))
+    ((λ i. (c.in_ok-set_counts.ensures.state i).groups) ∙ (λ i. (c.in_ok-set_cpus.ensures.state i).groups)) c.requires.flags
+
+pub advance_flags-requires-clause-unset : goal.advance_flags-requires-clause-unset
+advance_flags-requires-clause-unset g c =
+    unset_same c.set_counts.new.state.flags c.advance_frames.new.state.flags c.unset.new.self
+    ((λ i. (c.in_ok-advance_frames.ensures.state i).flags) ∙ (λ i. (c.in_ok-set_groups.ensures.state i).flags)) c.in_ok-unset.ensures
+
+pub returns-clause-flags : goal.returns-clause-flags
+returns-clause-flags g c = ok_any _ c.add_last_parts.result (λ ready. c.in_ok-advance_flags.ensures.ready)
 
 pub returns-clause-state : goal.returns-clause-state
 returns-clause-state g c =
