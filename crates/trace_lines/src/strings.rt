@@ -1,6 +1,6 @@
 //! The strings of a trace.
 
-ghost use Rattle.std.specs.Prelude.{◌≡◌, ◌<◌, ◌≤◌, ◌∷◌, ◌++◌, IfOk, IsTrue, [], length, take};
+ghost use Rattle.std.specs.Prelude.{◌≡◌, ◌<◌, ◌≤◌, ◌∷◌, ◌++◌, IfOk, IsTrue, [], codes, length, take};
 ghost use Rattle.std.specs.List.{flat_map};
 ghost use Rattle.std.specs.Str.{IsAscii};
 ghost use Rattle.std.specs.String.{string_bytes};
@@ -13,6 +13,14 @@ pub(crate) fn write_string(bytes: &[u8], text: &mut String) -> Result<(), AllocE
     ensures { IfOk result (λ _. string_bytes text.new ≡ string_bytes text.old ++ string_text bytes.now) }
 {
     text.push('"')?;
+    end_string(bytes, text)
+}
+
+// Adds the bytes, in ASCII alone, and the quote behind them.
+pub(crate) fn end_string(bytes: &[u8], text: &mut String) -> Result<(), AllocError>
+    ensures { IfOk result (λ _. string_bytes text.new
+        ≡ string_bytes text.old ++ (flat_map byte_text bytes.now ++ codes "\"")) }
+{
     write_bytes(bytes, text)?;
     text.push('"')
 }
