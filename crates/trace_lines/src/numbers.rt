@@ -4,7 +4,7 @@ ghost use Rattle.std.specs.Prelude.{◌≡◌, ◌+◌, ◌<◌, ◌==◌, [], �
 ghost use Rattle.std.specs.Fmt.{decimal};
 ghost use Rattle.std.specs.Str.{bytes_eq};
 ghost use Rattle.std.specs.String.{string_bytes};
-ghost use Rattle.trace_lines.specs.Parts.{commas, flag_text, number_text, span_text, spans_of};
+ghost use Rattle.trace_lines.specs.Parts.{commas, number_text, span_text, spans_of};
 ghost use Rattle.trace_lines.specs.Writing.{AddsNumber, spans_behind};
 
 use itoa::Buffer;
@@ -76,13 +76,6 @@ pub(crate) fn write_number(number: Option<u32>, text: &mut String) -> Result<(),
         None => text.push_str("null"),
         Some(number) => push_decimal(u64::from(number), text),
     }
-}
-
-// 1 for true, and 0 for false.
-pub(crate) fn flag_word(flag: bool) -> &'static str
-    ensures { result.now ≡ flag_text flag }
-{
-    if flag { "1" } else { "0" }
 }
 
 // Adds the fewest spans of these numbers, with a comma between each two.
