@@ -82,15 +82,26 @@ fn trace_each<N: BootName>(
         (map (λ text. text.now) texts.now)) lines.now (system_state locked.old cpus.old)
         (system_state locked.new cpus.new)) (string_bytes trace.old) (string_bytes trace.new)) }
 {
+    let mut answer = String::new(alloc);
     for line in lines {
         trace_line(
-            alloc, locked, tables, cpus, line, texts, shown, buffers, trace,
+            alloc,
+            locked,
+            tables,
+            cpus,
+            line,
+            texts,
+            shown,
+            &mut answer,
+            buffers,
+            trace,
         )?;
     }
     Ok(())
 }
 
-// Serves the line, and adds its object. `shown` is what is shown before it, and then what is shown after it.
+// Serves the line, and adds its object. `shown` is what is shown before it, and then what is shown after it. `answer` is
+// a spare buffer.
 fn trace_line<N: BootName>(
     alloc: Global,
     locked: &mut Locked<N>,
@@ -99,6 +110,7 @@ fn trace_line<N: BootName>(
     line: &Line<'_>,
     texts: &[&[u8]],
     shown: &mut TraceState,
+    answer: &mut String,
     buffers: &mut Buffers,
     trace: &mut String,
 ) -> Result<(), AllocError>
@@ -117,8 +129,8 @@ fn trace_line<N: BootName>(
         return Ok(());
     };
     locked.prove_quiet(); // Called for its contract: `consistent`.
-    let mut answer = String::new(alloc);
-    let route = serve_traced_line(locked, tables, cpus, line, &mut answer)?;
+    answer.clear();
+    let route = serve_traced_line(locked, tables, cpus, line, answer)?;
     advance_by_route(alloc, &route, locked, tables, cpus, shown, buffers)?;
     let (notes, left_out) = notes_on(&route, locked.machine());
     let facts = line_facts(*number, *cpu, &route);

@@ -38,7 +38,9 @@ impl Part {
     pub(crate) fn add_to(&self, text: &mut String) -> Result<(), AllocError>
         ensures { OnOk result (string_bytes text.new ≡ string_bytes text.old ++ part_bytes self.now) }
     {
-        text.push_str(&self.text)?;
+        if !self.text.is_empty() {
+            text.push_str(&self.text)?;
+        }
         push_stop(self.is_first, text)
     }
 }

@@ -27,6 +27,30 @@ plain_more bs i lt one plain =
     ∙ ap (λ (l : List ℕ). take i bs ++ (l ++ [])) one
     ∙ sym more
 
+-- as many bytes more are plain
+pub ascii_both : (bs : List ℕ) (i n : ℕ) → IsAscii (take i bs) → IsAscii (take n (drop i bs)) → IsAscii (take (i + n) bs)
+ascii_both bs i n one two = subst IsAscii (sym (take-add i n bs)) (IsAscii-append (take i bs) (take n (drop i bs)) one two)
+
+pub plain_both : (bs : List ℕ) (i n : ℕ) → flat_map byte_text (take i bs) ≡ take i bs
+    → flat_map byte_text (take n (drop i bs)) ≡ take n (drop i bs) → flat_map byte_text (take (i + n) bs) ≡ take (i + n) bs
+plain_both bs i n one two =
+    ap (λ (l : List ℕ). flat_map byte_text l) (take-add i n bs)
+    ∙ flat_map-append byte_text (take i bs) (take n (drop i bs))
+    ∙ ap (λ (l : List ℕ). l ++ flat_map byte_text (take n (drop i bs))) one
+    ∙ ap (λ (l : List ℕ). take i bs ++ l) two
+    ∙ sym (take-add i n bs)
+
+-- the same, of a front of what is left
+pub ascii_rest : (bs : List ℕ) (i n : ℕ) → IsAscii (take i bs) → IsAscii (take n (take (length bs - i) (drop i bs)))
+    → IsAscii (take (i + n) bs)
+ascii_rest bs i n one two = ascii_both bs i n one (subst (λ (l : List ℕ). IsAscii (take n l)) (take_rest bs i) two)
+
+pub plain_rest : (bs : List ℕ) (i n : ℕ) → flat_map byte_text (take i bs) ≡ take i bs
+    → flat_map byte_text (take n (take (length bs - i) (drop i bs))) ≡ take n (take (length bs - i) (drop i bs))
+    → flat_map byte_text (take (i + n) bs) ≡ take (i + n) bs
+plain_rest bs i n one two =
+    plain_both bs i n one (subst (λ (l : List ℕ). flat_map byte_text (take n l) ≡ take n l) (take_rest bs i) two)
+
 -- a front of what is left is written
 pub front_more : (bs old t new : List ℕ) (i n : ℕ) → t ≡ old ++ flat_map byte_text (take i bs)
     → new ≡ t ++ flat_map byte_text (take n (take (length bs - i) (drop i bs))) → new ≡ old ++ flat_map byte_text (take (i + n) bs)

@@ -1,4 +1,5 @@
 pub mod Items
+pub mod NoneCounted
 pub mod Steps
 pub mod Spans
 pub mod Bytes

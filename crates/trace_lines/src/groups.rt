@@ -10,7 +10,7 @@ ghost use Rattle.trace_lines.specs.Parts.{events_text, group_kills_text, made_te
 ghost use Rattle.trace_lines.specs.Parts.{usage_text, row_front_text};
 ghost use Rattle.trace_lines.specs.Writing.{AddsGone, AddsMade, AddsRows};
 
-use crate::numbers::{flag_word, push_char_and_number, push_decimal, write_number};
+use crate::numbers::{push_char_and_number, push_decimal, write_number};
 use crate::parts::{push_start, push_stop};
 use crate::strings::write_string;
 use crate::trace_state::{Events, GroupRow, ShownGroup};
@@ -235,10 +235,13 @@ fn write_usage(row: &GroupRow, text: &mut String) -> Result<(), AllocError>
     push_char_and_number(',', u64::from(row.peak), text)
 }
 
-// Adds three counts of events.
+// Adds three counts of events. Most often all are 0.
 fn write_events(events: &Events, text: &mut String) -> Result<(), AllocError>
     ensures { IfOk result (λ _. string_bytes text.new ≡ string_bytes text.old ++ events_text events.now) }
 {
+    if events.max == 0 && events.oom == 0 && events.oom_kill == 0 {
+        return text.push_str(",0,0,0");
+    }
     push_char_and_number(',', events.max, text)?;
     push_char_and_number(',', events.oom, text)?;
     push_char_and_number(',', events.oom_kill, text)
@@ -248,16 +251,28 @@ fn write_events(events: &Events, text: &mut String) -> Result<(), AllocError>
 fn write_group_flags(row: &GroupRow, text: &mut String) -> Result<(), AllocError>
     ensures { IfOk result (λ _. string_bytes text.new ≡ string_bytes text.old ++ marks_text row.now) }
 {
-    text.push(',')?;
-    text.push_str(flag_word(row.is_killed))?;
-    text.push(',')?;
-    text.push_str(flag_word(row.oom_group))
+    text.push_str(marks_word(row))
 }
 
-// Adds how often a group was killed as a whole, below and here.
+// Whether the group was killed, and its memory.oom.group.
+fn marks_word(row: &GroupRow) -> &'static str
+    ensures { result.now ≡ marks_text row.now }
+{
+    match (row.is_killed, row.oom_group) {
+        (false, false) => ",0,0",
+        (false, true) => ",0,1",
+        (true, false) => ",1,0",
+        (true, true) => ",1,1",
+    }
+}
+
+// Adds how often a group was killed as a whole, below and here. Most often both are 0.
 fn write_group_kills(row: &GroupRow, text: &mut String) -> Result<(), AllocError>
     ensures { IfOk result (λ _. string_bytes text.new ≡ string_bytes text.old ++ group_kills_text row.now) }
 {
+    if row.events.oom_group_kill == 0 && row.events_local.oom_group_kill == 0 {
+        return text.push_str(",0,0]");
+    }
     push_char_and_number(',', row.events.oom_group_kill, text)?;
     push_char_and_number(',', row.events_local.oom_group_kill, text)?;
     text.push(']')

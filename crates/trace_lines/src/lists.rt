@@ -7,12 +7,9 @@ ghost use Rattle.trace_lines.specs.Changes.{active_of, added_of, cpu_list_change
 ghost use Rattle.trace_lines.specs.Changes.{group_list_changes, group_numbered, groups_list_changes, inactive_of};
 ghost use Rattle.trace_lines.specs.Changes.{removed_of, list_change, list_changes};
 ghost use Rattle.trace_lines.specs.Parts.{commas, list_change_text, name_text, part_text, span_text, spans_of};
-ghost use Rattle.trace_lines.specs.Parts.{spans_text};
 ghost use Rattle.trace_lines.specs.Writing.{AddsLists, KeepsOne, has_first};
 
-use crate::numbers::{
-    Span, add_number, are_same_numbers, end_spans, push_char_and_number, write_number_spans,
-};
+use crate::numbers::{Span, add_number, are_same_numbers, end_spans, push_decimal, write_spans};
 use crate::parts::{push_start, push_stop};
 use crate::trace_state::{ShownCpu, ShownGroup, TraceState};
 use std::alloc::AllocError;
@@ -204,23 +201,10 @@ fn write_change(
     })) }
 {
     write_front(name, text)?;
-    let kept = write_removed(before, after, text)?;
-    text.push(',')?;
-    write_number_spans(&after[kept..], text)?;
-    text.push(']')
-}
-
-// Adds what was removed from a list, and returns how many entries are kept.
-fn write_removed(before: &[u32], after: &[u32], text: &mut String) -> Result<usize, AllocError>
-    ensures text { IfOk result (λ _. string_bytes text.new
-        ≡ string_bytes text.old ++ spans_text (removed_of before.now after.now)) }
-    ensures kept { IfOk result (λ kept. (kept ≤ length after.now)
-        × (drop kept after.now ≡ added_of before.now after.now)) }
-{
-    text.push('[')?;
     let kept = add_removed(before, after, text)?;
-    text.push(']')?;
-    Ok(kept)
+    text.push_str("],[")?;
+    write_spans(&after[kept..], text)?;
+    text.push_str("]]")
 }
 
 // Adds the spans of what was removed from a list, and returns how many entries are kept.
@@ -272,24 +256,23 @@ fn is_next(old: u32, after: &[u32], kept: usize) -> bool
 // Adds the name of a list in quotes, with what goes before it and behind it.
 fn write_front(name: ListName, text: &mut String) -> Result<(), AllocError>
     ensures { IfOk result (λ _. string_bytes text.new
-        ≡ string_bytes text.old ++ (codes "[\"" ++ name_text name ++ codes "\",")) }
+        ≡ string_bytes text.old ++ (codes "[\"" ++ name_text name ++ codes "\",[")) }
 {
-    text.push('[')?;
-    text.push('"')?;
     write_name(name, text)?;
-    text.push('"')?;
-    text.push(',')
+    text.push_str("\",[")
 }
 
-// Adds the name of a list.
+// Adds the name of a list, with what goes before it.
 fn write_name(name: ListName, text: &mut String) -> Result<(), AllocError>
-    ensures { IfOk result (λ _. string_bytes text.new ≡ string_bytes text.old ++ name_text name) }
+    ensures { IfOk result (λ _. string_bytes text.new ≡ string_bytes text.old ++ (codes "[\"" ++ name_text name)) }
 {
-    match name {
-        ListName::Listed { cpu } => push_char_and_number('l', cpu as u64, text),
-        ListName::Fresh { cpu } => push_char_and_number('n', cpu as u64, text),
-        ListName::Back { cpu } => push_char_and_number('b', cpu as u64, text),
-        ListName::Inactive { group } => push_char_and_number('i', group as u64, text),
-        ListName::Active { group } => push_char_and_number('a', group as u64, text),
-    }
+    let (letter, number) = match name {
+        ListName::Listed { cpu } => ("[\"l", cpu),
+        ListName::Fresh { cpu } => ("[\"n", cpu),
+        ListName::Back { cpu } => ("[\"b", cpu),
+        ListName::Inactive { group } => ("[\"i", group),
+        ListName::Active { group } => ("[\"a", group),
+    };
+    text.push_str(letter)?;
+    push_decimal(number as u64, text)
 }

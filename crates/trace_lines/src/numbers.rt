@@ -4,7 +4,7 @@ ghost use Rattle.std.specs.Prelude.{◌≡◌, ◌+◌, ◌<◌, ◌==◌, [], �
 ghost use Rattle.std.specs.Fmt.{decimal};
 ghost use Rattle.std.specs.Str.{bytes_eq};
 ghost use Rattle.std.specs.String.{string_bytes};
-ghost use Rattle.trace_lines.specs.Parts.{commas, flag_text, number_text, span_text, spans_of, spans_text};
+ghost use Rattle.trace_lines.specs.Parts.{commas, number_text, span_text, spans_of};
 ghost use Rattle.trace_lines.specs.Writing.{AddsNumber, spans_behind};
 
 use itoa::Buffer;
@@ -78,24 +78,8 @@ pub(crate) fn write_number(number: Option<u32>, text: &mut String) -> Result<(),
     }
 }
 
-// 1 for true, and 0 for false.
-pub(crate) fn flag_word(flag: bool) -> &'static str
-    ensures { result.now ≡ flag_text flag }
-{
-    if flag { "1" } else { "0" }
-}
-
-// Adds numbers in their order, as spans.
-pub(crate) fn write_number_spans(numbers: &[u32], text: &mut String) -> Result<(), AllocError>
-    ensures { IfOk result (λ _. string_bytes text.new ≡ string_bytes text.old ++ spans_text numbers.now) }
-{
-    text.push('[')?;
-    write_spans(numbers, text)?;
-    text.push(']')
-}
-
 // Adds the fewest spans of these numbers, with a comma between each two.
-fn write_spans(numbers: &[u32], text: &mut String) -> Result<(), AllocError>
+pub(crate) fn write_spans(numbers: &[u32], text: &mut String) -> Result<(), AllocError>
     ensures { IfOk result (λ _. string_bytes text.new
         ≡ string_bytes text.old ++ commas span_text (spans_of numbers.now)) }
 {

@@ -11,7 +11,7 @@ ghost use Rattle.trace_lines.specs.Parts.{opening};
 use crate::notes::write_notes;
 use crate::numbers::push_count;
 use crate::parts::push_opening;
-use crate::strings::write_string;
+use crate::strings::end_string;
 use kill_notes::note::Note;
 use std::alloc::AllocError;
 
@@ -187,8 +187,8 @@ fn write_command(command: &[u8], text: &mut String) -> Result<(), AllocError>
     ensures { IfOk result (λ _. string_bytes text.new
         ≡ string_bytes text.old ++ keyed_string (codes "command") command.now) }
 {
-    text.push_str(",\"command\":")?;
-    write_string(command, text)
+    text.push_str(",\"command\":\"")?;
+    end_string(command, text)
 }
 
 // Adds the answer to the line.
@@ -197,8 +197,8 @@ fn write_answer(answer: &[u8], text: &mut String) -> Result<(), AllocError>
     ensures { IfOk result (λ _. string_bytes text.new
         ≡ string_bytes text.old ++ keyed_string (codes "answer") answer.now) }
 {
-    text.push_str(",\"answer\":")?;
-    write_string(answer, text)
+    text.push_str(",\"answer\":\"")?;
+    end_string(answer, text)
 }
 
 // Adds whether the line took the lock, and why no frame could be taken without it, if that is told.

@@ -1,6 +1,6 @@
 //! The strings of a trace.
 
-ghost use Rattle.std.specs.Prelude.{◌≡◌, ◌<◌, ◌≤◌, ◌∷◌, ◌++◌, IfOk, IsTrue, [], length, take};
+ghost use Rattle.std.specs.Prelude.{◌≡◌, ◌<◌, ◌≤◌, ◌∷◌, ◌++◌, IfOk, IsTrue, [], codes, length, take};
 ghost use Rattle.std.specs.List.{flat_map};
 ghost use Rattle.std.specs.Str.{IsAscii};
 ghost use Rattle.std.specs.String.{string_bytes};
@@ -13,6 +13,14 @@ pub(crate) fn write_string(bytes: &[u8], text: &mut String) -> Result<(), AllocE
     ensures { IfOk result (λ _. string_bytes text.new ≡ string_bytes text.old ++ string_text bytes.now) }
 {
     text.push('"')?;
+    end_string(bytes, text)
+}
+
+// Adds the bytes, in ASCII alone, and the quote behind them.
+pub(crate) fn end_string(bytes: &[u8], text: &mut String) -> Result<(), AllocError>
+    ensures { IfOk result (λ _. string_bytes text.new
+        ≡ string_bytes text.old ++ (flat_map byte_text bytes.now ++ codes "\"")) }
+{
     write_bytes(bytes, text)?;
     text.push('"')
 }
@@ -50,6 +58,32 @@ fn plain_len(bytes: &[u8]) -> usize
     ensures ascii { IsAscii (take result bytes.now) }
     ensures plain { flat_map byte_text (take result bytes.now) ≡ take result bytes.now }
 {
+    let eights = plain_eights(bytes);
+    eights + plain_singles(&bytes[eights..])
+}
+
+// How many bytes at the front are themselves, by eights: the compiler tests eight at once.
+fn plain_eights(bytes: &[u8]) -> usize
+    ensures within { result ≤ length bytes.now }
+    ensures ascii { IsAscii (take result bytes.now) }
+    ensures plain { flat_map byte_text (take result bytes.now) ≡ take result bytes.now }
+{
+    let mut len = 0;
+    while bytes.len() - len >= 8 {
+        if !are_plain(&bytes[len..len + 8]) {
+            return len;
+        }
+        len += 8;
+    }
+    len
+}
+
+// How many bytes at the front are themselves, one by one.
+fn plain_singles(bytes: &[u8]) -> usize
+    ensures within { result ≤ length bytes.now }
+    ensures ascii { IsAscii (take result bytes.now) }
+    ensures plain { flat_map byte_text (take result bytes.now) ≡ take result bytes.now }
+{
     let mut len = 0;
     for &byte in bytes {
         if !is_plain(byte) {
@@ -60,16 +94,24 @@ fn plain_len(bytes: &[u8]) -> usize
     len
 }
 
+// Whether all these bytes are themselves in a string. It looks at each, so that the compiler needs no branches.
+fn are_plain(bytes: &[u8]) -> bool
+    ensures ascii { IsTrue result → IsAscii bytes.now }
+    ensures plain { IsTrue result → flat_map byte_text bytes.now ≡ bytes.now }
+{
+    let mut are_plain = true;
+    for &byte in bytes {
+        are_plain = are_plain & is_plain(byte);
+    }
+    are_plain
+}
+
 // Whether the byte is itself in a string.
 #[tactic(auto, unfolding(crate::specs::Strings::byte_text))]
 fn is_plain(byte: u8) -> bool
     ensures { IsTrue result → (byte < 128) × (byte_text byte ≡ byte ∷ []) }
 {
-    match byte {
-        b'"' | b'\\' => false,
-        32..=126 => true,
-        _ => false,
-    }
+    (32 <= byte) & (byte <= 126) & (byte != b'"') & (byte != b'\\')
 }
 
 // Adds bytes below 128 as they are.
@@ -77,10 +119,7 @@ fn push_plain(bytes: &[u8], text: &mut String) -> Result<(), AllocError>
     requires { IsAscii bytes.now }
     ensures { IfOk result (λ _. string_bytes text.new ≡ string_bytes text.old ++ bytes.now) }
 {
-    match str::from_utf8(bytes) {
-        Ok(plain) => text.push_str(plain),
-        Err(_) => Ok(()), // Such bytes are always UTF-8.
-    }
+    text.push_str(unsafe { str::from_utf8_unchecked(bytes) })
 }
 
 // Adds one byte.

@@ -76,7 +76,7 @@ returns-clause-traced g c =
     let notes : KnownNotes = notes_on route left.locked.machine.notes in
     let are : notes_on route c.machine.result.now.notes ≡ notes = ap (notes_on route) machine in
     let said : string_bytes left.answer ≡ answer =
-    by.added ∙ ap (λ (l : List ℕ). l ++ answer) c.new-answer.ensures.bytes in
+    by.added ∙ ap (λ (l : List ℕ). l ++ answer) c.clear.ensures.bytes in
     let shown : KnownTraceState = c.args.shown.now in
     let now : KnownTraceState = trace_state_of left.locked.machine left.cpus in
     let changed = changes_same c.changes.result.now shown (system_shown before) now (system_shown served)

@@ -2,7 +2,7 @@ use Rattle.std.proofs.Common.{◌≡◌, take}
 use Rattle.std.specs.List.{flat_map}
 use Rattle.std.specs.Str.{IsAscii}
 use Rattle.trace_lines.specs.Strings.{byte_text}
-use Rattle.trace_lines.proofs.strings.plain_len.Given as goal
+use Rattle.trace_lines.proofs.strings.plain_singles.Given as goal
 
 abbrev pub invariant-loop-byte : goal.invariant-loop-byte
 invariant-loop-byte l = record {
