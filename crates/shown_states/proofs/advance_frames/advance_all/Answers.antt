@@ -1,5 +1,6 @@
-use Rattle.std.proofs.Common.{◌≡◌, List, ap, length, map, rules, subst, sym, ◌∙◌}
+use Rattle.std.proofs.Common.{◌≡◌, List, ap, arith, length, map, rules, subst, sym, ◌∙◌}
 use Rattle.trace_lines.specs.declared.place.ShownPlace.{ShownPlace}
+use Rattle.std.proofs.lemmas.Grind.{common_steps}
 use Rattle.std.proofs.lemmas.List.{with_items_is}
 use Rattle.trace_lines.specs.TraceState.{KnownTraceState}
 use Rattle.shown_states.proofs.FreshSet.{length_fresh}
@@ -13,6 +14,9 @@ use Rattle.shown_states.proofs.advance_frames.advance_all.Goals as goal
 pub all_fit-requires : goal.all_fit-requires
 all_fit-requires g c =
     length_recorded c.deref-3.result.now c.frame_states-frame_states.result.now (c.deref-3.ensures.value ∙ c.in_ok-fill_recorded_places.ensures)
+
+pub returns-clause-advanced : goal.returns-clause-advanced
+returns-clause-advanced g c = grind (arith, common_steps)
 
 pub returns-clause-ready : goal.returns-clause-ready
 returns-clause-ready g c whole =
