@@ -9,3 +9,6 @@ returns-clause-ready g c =
     (ap (λ (s : KnownTraceState). s.groups) c.swap_flags.ensures.state ∙ sym c.groups.ensures)
     (ap (λ (s : KnownTraceState). s.flags) c.swap_flags.ensures.state)
     (search rules) c.in_ok-fill_flags.ensures.others
+
+pub returns-clause-text : goal.returns-clause-text
+returns-clause-text g c = search rules
