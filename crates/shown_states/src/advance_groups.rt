@@ -3,6 +3,7 @@
 ghost use Rattle.std.specs.Prelude.{◌≡◌, ◌∷◌, [], IsTrue, OnOk, Some};
 ghost use Rattle.std.specs.String.{string_bytes};
 ghost use Rattle.group_tree.specs.Groups.{has_group};
+ghost use Rattle.trace_lines.specs.declared.lists.ListName.TheVariants.{Active, Inactive};
 ghost use Rattle.trace_lines.specs.Changes.{group_list_changes, groups_list_changes, list_change, rows_not_in};
 ghost use Rattle.trace_lines.specs.Writing.{AddsLists, AddsRows};
 ghost use Rattle.mem_machine.specs.Machines.{active_in, entries_in, inactive_in};
@@ -132,28 +133,69 @@ fn advance_lists<N: BootName>(
     ensures added { OnOk result (AddsLists is_first.old is_first.new (string_bytes text.old) (string_bytes text.new)
         (group_list_changes id (Some group.old) (Some group.new))) }
 {
-    let inactive = ListName::Inactive {
+    advance_inactive(machine, id, group, units, is_first, text)?;
+    advance_active(machine, id, group, units, is_first, text)
+}
+
+// Advances the inactive units of the group of this number, and adds their change.
+fn advance_inactive<N: BootName>(
+    machine: &Machine<N>,
+    id: GroupId,
+    group: &mut ShownGroup,
+    units: &mut Vec<u32>,
+    is_first: &mut bool,
+    text: &mut String,
+) -> Result<(), AllocError>
+    ensures group { OnOk result (group.new ≡ record group.old { inactive = numbers_of (inactive_in machine.now id) }) }
+    ensures added { OnOk result (AddsLists is_first.old is_first.new (string_bytes text.old) (string_bytes text.new)
+        (list_change (Inactive id) group.old.inactive (numbers_of (inactive_in machine.now id)))) }
+{
+    let list = LruList::Inactive;
+    if is_still_empty(machine, id, list, group.inactive()) {
+        return Ok(());
+    }
+    let name = ListName::Inactive {
         group: id.number() as usize,
     };
     read_list(
         machine,
         id,
-        LruList::Inactive,
-        inactive,
+        list,
+        name,
         group.inactive(),
         units,
         is_first,
         text,
     )?;
     group.swap_inactive(units);
-    let active = ListName::Active {
+    Ok(())
+}
+
+// Advances the active units of the group of this number, and adds their change.
+fn advance_active<N: BootName>(
+    machine: &Machine<N>,
+    id: GroupId,
+    group: &mut ShownGroup,
+    units: &mut Vec<u32>,
+    is_first: &mut bool,
+    text: &mut String,
+) -> Result<(), AllocError>
+    ensures group { OnOk result (group.new ≡ record group.old { active = numbers_of (active_in machine.now id) }) }
+    ensures added { OnOk result (AddsLists is_first.old is_first.new (string_bytes text.old) (string_bytes text.new)
+        (list_change (Active id) group.old.active (numbers_of (active_in machine.now id)))) }
+{
+    let list = LruList::Active;
+    if is_still_empty(machine, id, list, group.active()) {
+        return Ok(());
+    }
+    let name = ListName::Active {
         group: id.number() as usize,
     };
     read_list(
         machine,
         id,
-        LruList::Active,
-        active,
+        list,
+        name,
         group.active(),
         units,
         is_first,
@@ -161,6 +203,19 @@ fn advance_lists<N: BootName>(
     )?;
     group.swap_active(units);
     Ok(())
+}
+
+// Whether the list is empty, and was shown so. Most lists are.
+fn is_still_empty<N: BootName>(
+    machine: &Machine<N>,
+    id: GroupId,
+    list: LruList,
+    shown: &[u32],
+) -> bool
+    ensures shown { IsTrue result → shown.now ≡ [] }
+    ensures now { IsTrue result → numbers_of (entries_in machine.now id list) ≡ [] }
+{
+    machine.list_len(id, list) == 0 && shown.is_empty()
 }
 
 // Fills `units` with the list as it is now, and adds the change from the list that was shown.
@@ -179,10 +234,6 @@ fn read_list<N: BootName>(
         (list_change name shown.now units.new.items)) }
 {
     units.clear();
-    // Most lists are empty, before and after.
-    if machine.list_len(id, list) == 0 && shown.is_empty() {
-        return Ok(());
-    }
     add_units(machine, id, list, units)?;
     write_list(name, shown, units, is_first, text)
 }
