@@ -56,12 +56,12 @@ fn are_frames(numbers: &[u32], frames: &[Frame]) -> bool
     if numbers.len() != frames.len() {
         return false;
     }
+    let mut are_same = true;
     for index in 0..frames.len() {
-        if numbers[index] != frames[index].number() {
-            return false;
-        }
+        // There is no branch, so that the compiler compares several at once.
+        are_same = are_same & (numbers[index] == frames[index].number());
     }
-    true
+    are_same
 }
 
 // Adds the numbers of these frames.
