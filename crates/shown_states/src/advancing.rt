@@ -129,7 +129,7 @@ pub fn advance<N: BootName>(
         changes,
         counts,
     } = buffers;
-    if is_alike(locked.machine(), cpus, state) {
+    if has_as_many(cpus, state) {
         return advance_parts(alloc, locked, tables, cpus, state, parts, changes, counts);
     }
     parts.places.is_ready = false;
@@ -172,14 +172,6 @@ pub fn advance_unlocked<N: BootName>(
     replace(alloc, locked, tables, cpus, state, changes, counts)
 }
 
-// Whether the state has as many CPUs, and groups of the same numbers and paths as the machine.
-fn is_alike<N: BootName>(machine: &Machine<N>, cpus: &[Cpu<N>], state: &TraceState) -> bool
-    ensures cpus { IsTrue result → length state.now.cpus ≡ length cpus.now }
-    ensures groups { IsTrue result → AreSameGroups state.now.groups (groups_shown machine.now) }
-{
-    has_as_many(cpus, state) && has_same_groups(machine, state.groups())
-}
-
 // Whether the state has as many CPUs.
 fn has_as_many<N: BootName>(cpus: &[Cpu<N>], state: &TraceState) -> bool
     ensures { IsTrue result → length state.now.cpus ≡ length cpus.now }
@@ -214,7 +206,7 @@ fn replace<N: BootName>(
     result
 }
 
-// Advances each part of a state that has as many CPUs and the same groups.
+// Advances each part of a state that has as many CPUs.
 fn advance_parts<N: BootName>(
     alloc: Global,
     locked: &mut Locked<N>,
@@ -226,7 +218,6 @@ fn advance_parts<N: BootName>(
     counts: &mut String,
 ) -> Result<(), AllocError>
     requires cpus { length state.old.cpus ≡ length cpus.old }
-    requires groups { AreSameGroups state.old.groups (groups_shown locked.old.machine) }
     requires places { PlacesFollow locked.old.machine.snapshot state.old.places parts.old.places }
     requires flags { AreFlagsReady state.old parts.old.flags }
     ensures state { OnOk result (state.new ≡ trace_state_of locked.old.machine cpus.old) }
@@ -252,15 +243,8 @@ fn advance_parts<N: BootName>(
     let machine = locked.machine();
     set_counts(machine, cpus, state, counts)?;
     parts.flags.unset(state)?;
-    set_groups(
-        machine,
-        state,
-        &mut parts.spare_groups,
-        &mut parts.cpus.numbers,
-        &mut parts.cpus.lists,
-        &mut parts.rows,
-    )?;
     text.clear();
+    set_groups(alloc, machine, state, parts, text)?;
     advance_frames(alloc, machine, cpus, state, &mut parts.places, text)?;
     parts.cpus.lists.add_to(text)?;
     advance_flags(machine, state, &mut parts.flags, text)?;
@@ -353,9 +337,69 @@ fn set_counts<N: BootName>(
     Ok(())
 }
 
-// Sets the state's groups, which have the numbers and paths of now, adds the changes of their lists, and sets the part
-// that tells the rows that changed.
+// Sets the state's groups, adds the parts that name the groups that are gone and those that were made, adds the changes
+// of the lists, and sets the part of the rows that changed.
 fn set_groups<N: BootName>(
+    alloc: Global,
+    machine: &Machine<N>,
+    state: &mut TraceState,
+    parts: &mut Parts,
+    text: &mut String,
+) -> Result<(), AllocError>
+    ensures state { OnOk result (state.new ≡ record state.old { groups = groups_shown machine.now }) }
+    ensures text { OnOk result (string_bytes text.new
+        ≡ string_bytes text.old ++ gone_and_made_text state.old.groups (groups_shown machine.now)) }
+    ensures lists { OnOk result (AddsLists parts.old.cpus.lists.is_first parts.new.cpus.lists.is_first
+        (string_bytes parts.old.cpus.lists.text) (string_bytes parts.new.cpus.lists.text)
+        (groups_list_changes state.old.groups (groups_shown machine.now))) }
+    ensures rows { OnOk result (HasItems (codes "groups") row_text parts.new.rows
+        (rows_not_in state.old.groups (groups_shown machine.now))) }
+    ensures others { KeepsOtherParts parts.old parts.new }
+{
+    let lists = &mut parts.cpus.lists;
+    if has_same_groups(machine, state.groups()) {
+        let spare = &mut parts.spare_groups;
+        let units = &mut parts.cpus.numbers;
+        return set_same_groups(machine, state, spare, units, lists, &mut parts.rows);
+    }
+    replace_groups(alloc, machine, state, lists, &mut parts.rows, text)
+}
+
+// Sets the state's groups, which may be others, and adds the parts and the changes.
+fn replace_groups<N: BootName>(
+    alloc: Global,
+    machine: &Machine<N>,
+    state: &mut TraceState,
+    lists: &mut Part,
+    rows: &mut Part,
+    text: &mut String,
+) -> Result<(), AllocError>
+    ensures state { OnOk result (state.new ≡ record state.old { groups = groups_shown machine.now }) }
+    ensures text { OnOk result (string_bytes text.new
+        ≡ string_bytes text.old ++ gone_and_made_text state.old.groups (groups_shown machine.now)) }
+    ensures lists { OnOk result (AddsLists lists.old.is_first lists.new.is_first (string_bytes lists.old.text)
+        (string_bytes lists.new.text) (groups_list_changes state.old.groups (groups_shown machine.now))) }
+    ensures rows { OnOk result (HasItems (codes "groups") row_text rows.new
+        (rows_not_in state.old.groups (groups_shown machine.now))) }
+{
+    rows.clear();
+    let mut groups = show_groups(alloc, machine)?;
+    write_gone(state.groups(), &groups, text)?;
+    write_made(state.groups(), &groups, text)?;
+    write_groups_lists(
+        state.groups(),
+        &groups,
+        &mut lists.is_first,
+        &mut lists.text,
+    )?;
+    add_rows(state.groups(), &groups, &mut rows.is_first, &mut rows.text)?;
+    state.swap_groups(&mut groups);
+    Ok(())
+}
+
+// Sets the state's groups, which have the numbers and paths of now, adds the changes of their lists, and sets the part
+// of the rows that changed.
+fn set_same_groups<N: BootName>(
     machine: &Machine<N>,
     state: &mut TraceState,
     spare: &mut Vec<ShownGroup>,
