@@ -16,6 +16,12 @@ pub flags_both : (flags : List Flags) (units others : List Entry)
 flags_both flags [] others = refl
 flags_both flags (unit ∷ units) others = flags_both (slice_set flags unit.number (flags_of unit)) units others
 
+-- one more unit
+pub unit_more : (flags now new : List Flags) (met : List Entry) (unit : Entry) → now ≡ with_flags flags met
+    → new ≡ slice_set now unit.number (flags_of unit) → new ≡ with_flags flags (met ++ unit ∷ [])
+unit_more flags now new met unit so_far is =
+    is ∙ ap (λ (l : List Flags). slice_set l unit.number (flags_of unit)) so_far ∙ sym (flags_both flags met (unit ∷ []))
+
 -- the units of one more group
 pub flags_more : (flags : List Flags) (machine : KnownMachine) (count : ℕ)
     → with_flags (with_flags flags (kept_below machine count)) (kept_in machine count)

@@ -1,9 +1,6 @@
 use Rattle.std.proofs.Common.{List, [], ◌∷◌, ◌++◌, ap, sym, ◌∙◌, append_assoc}
-use Rattle.std.specs.Prelude.{slice_set}
 use Rattle.lru_lists.specs.declared.record.Entry.{Entry}
-use Rattle.trace_lines.specs.declared.trace_state.Flags.{Flags}
-use Rattle.shown_states.specs.Frames.{flags_of}
-use Rattle.shown_states.proofs.FlagsSet.{flags_both}
+use Rattle.shown_states.proofs.FlagsSet.{unit_more}
 use Rattle.shown_states.proofs.TouchedFlags.{touches_both}
 use Rattle.shown_states.proofs.advance_flags.set_list_flags.Goals as goal
 
@@ -14,9 +11,7 @@ loop-entry-preserved g c =
     let unit = c.in-Some.entry in
     let steps = (c.in-Some.ensures {u = tt}).steps in
     record {
-      set = c.in_ok-set_flags_at.ensures.set
-          ∙ ap (λ (l : List Flags). slice_set l unit.number (flags_of unit)) c.loop-entry.invariant.set
-          ∙ sym (flags_both c.args.flags.now c.loop-entry.yielded (unit ∷ []));
+      set = unit_more c.args.flags.now flags new c.loop-entry.yielded unit c.loop-entry.invariant.set c.in_ok-set_flags_at.ensures.set;
       touched = touches_both c.args.touched.now.items c.loop-entry.touched.items c.set_flags_at.new.touched.items c.args.flags.now flags new
           c.loop-entry.invariant.touched c.in_ok-set_flags_at.ensures.touched;
       left = append_assoc c.loop-entry.yielded (unit ∷ []) c.next.new.self
