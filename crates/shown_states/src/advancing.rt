@@ -13,7 +13,7 @@ ghost use Rattle.shown_states.specs.Cpus.{cpus_shown, locked_with_looks};
 ghost use Rattle.shown_states.specs.FlagTables.{AreFlagsReady};
 ghost use Rattle.shown_states.specs.Frames.{flags_shown};
 ghost use Rattle.shown_states.specs.Groups.{AreSameGroups, groups_shown};
-ghost use Rattle.shown_states.specs.Parts.{HasItems, part_bytes};
+ghost use Rattle.shown_states.specs.Parts.{HasItems, gone_and_made_text, part_bytes};
 ghost use Rattle.shown_states.specs.States.{counts_shown, trace_state_of};
 
 use crate::advance_cpus::{CpuParts, advance_cpus};
@@ -22,6 +22,7 @@ use crate::advance_frames::advance_frames;
 use crate::advance_groups::{advance_groups, has_same_groups};
 use crate::counts::show_counts;
 use crate::flag_table::FlagTable;
+use crate::groups::show_groups;
 use crate::part::Part;
 use crate::place_tables::PlaceTables;
 use crate::states::trace_state;
@@ -30,6 +31,8 @@ use mem_machine::Machine;
 use mem_system::Locked;
 use std::alloc::{AllocError, Global};
 use std::marker::Model;
+use trace_lines::groups::{add_rows, write_gone, write_made};
+use trace_lines::lists::write_groups_lists;
 use trace_lines::parts::{write_changes, write_counts};
 use trace_lines::trace_state::{ShownCpu, ShownGroup, TraceState};
 
@@ -244,7 +247,16 @@ fn advance_parts<N: BootName>(
     set_counts(machine, cpus, state, counts)?;
     parts.flags.unset(state)?;
     text.clear();
-    set_groups(alloc, machine, state, parts, text)?;
+    set_groups(
+        alloc,
+        machine,
+        state,
+        &mut parts.spare_groups,
+        &mut parts.cpus.numbers,
+        &mut parts.cpus.lists,
+        &mut parts.rows,
+        text,
+    )?;
     advance_frames(alloc, machine, cpus, state, &mut parts.places, text)?;
     parts.cpus.lists.add_to(text)?;
     advance_flags(machine, state, &mut parts.flags, text)?;
@@ -343,26 +355,24 @@ fn set_groups<N: BootName>(
     alloc: Global,
     machine: &Machine<N>,
     state: &mut TraceState,
-    parts: &mut Parts,
+    spare: &mut Vec<ShownGroup>,
+    units: &mut Vec<u32>,
+    lists: &mut Part,
+    rows: &mut Part,
     text: &mut String,
 ) -> Result<(), AllocError>
     ensures state { OnOk result (state.new ≡ record state.old { groups = groups_shown machine.now }) }
     ensures text { OnOk result (string_bytes text.new
         ≡ string_bytes text.old ++ gone_and_made_text state.old.groups (groups_shown machine.now)) }
-    ensures lists { OnOk result (AddsLists parts.old.cpus.lists.is_first parts.new.cpus.lists.is_first
-        (string_bytes parts.old.cpus.lists.text) (string_bytes parts.new.cpus.lists.text)
-        (groups_list_changes state.old.groups (groups_shown machine.now))) }
-    ensures rows { OnOk result (HasItems (codes "groups") row_text parts.new.rows
+    ensures lists { OnOk result (AddsLists lists.old.is_first lists.new.is_first (string_bytes lists.old.text)
+        (string_bytes lists.new.text) (groups_list_changes state.old.groups (groups_shown machine.now))) }
+    ensures rows { OnOk result (HasItems (codes "groups") row_text rows.new
         (rows_not_in state.old.groups (groups_shown machine.now))) }
-    ensures others { KeepsOtherParts parts.old parts.new }
 {
-    let lists = &mut parts.cpus.lists;
     if has_same_groups(machine, state.groups()) {
-        let spare = &mut parts.spare_groups;
-        let units = &mut parts.cpus.numbers;
-        return set_same_groups(machine, state, spare, units, lists, &mut parts.rows);
+        return set_same_groups(machine, state, spare, units, lists, rows);
     }
-    replace_groups(alloc, machine, state, lists, &mut parts.rows, text)
+    replace_groups(alloc, machine, state, lists, rows, text)
 }
 
 // Sets the state's groups, which may be others, and adds the parts and the changes.
