@@ -15,7 +15,7 @@ use Rattle.trace_lines.specs.declared.trace_state.Events.{Events}
 use Rattle.trace_lines.specs.declared.trace_state.Flags.{Flags}
 use Rattle.trace_lines.specs.declared.trace_state.GroupRow.{GroupRow}
 use Rattle.trace_lines.specs.TraceState.{KnownShownGroup, KnownTraceState}
-use Rattle.trace_lines.specs.Changes.{ListChange, active_of, are_same_events, are_same_flags, changes, count_change, cpus_list_changes, cpus_pin_changes, flag_changes, frame_spans, group_list_changes, group_numbered, groups_list_changes, has_row, inactive_of, is_same_flag, is_same_limit, is_same_row, is_unchanged, list_change, list_changes, most_groups, numbers_of, rows_not_in, stock_changes}
+use Rattle.trace_lines.specs.Changes.{active_of, are_same_events, are_same_flags, changes, count_change, cpus_list_changes, cpus_pin_changes, flag_changes, frame_spans, group_list_changes, group_numbered, groups_list_changes, groups_not_in, has_row, inactive_of, is_same_flag, is_same_limit, is_same_row, is_unchanged, list_change, list_changes, ListChange, most_groups, numbers_of, rows_not_in, stock_changes}
 use Rattle.trace_lines.specs.Parts.{changes_text, counts_part, first_parts_text, flag_change_text, frame_span_text, last_parts_text, list_change_text, made_text, part_text, pin_change_text, row_text, stock_change_text}
 use Rattle.trace_lines.specs.Writing.{AddsLists, AddsRows}
 use Rattle.trace_lines.proofs.Items.{adds_both, adds_part}
@@ -29,7 +29,7 @@ use Rattle.shown_states.specs.FlagTables.{AreFlagsReady}
 use Rattle.shown_states.specs.Cpus.{cpus_shown, with_looks}
 use Rattle.shown_states.specs.Frames.{flags_shown, places_shown, record_of}
 use Rattle.shown_states.specs.Groups.{AreSameGroups, groups_shown}
-use Rattle.shown_states.specs.Parts.{HasItems, part_bytes}
+use Rattle.shown_states.specs.Parts.{HasItems, gone_and_made_text, part_bytes}
 use Rattle.shown_states.specs.States.{counts_shown, trace_state_of}
 use Rattle.trace_lines.specs.Places.{places_of}
 use Rattle.shown_states.proofs.Advanced.{list_same}
@@ -45,7 +45,7 @@ part_whole : {X : Type 0} (key : List ℕ) (f : X → List ℕ) (part : Part) (i
     → part_bytes part ≡ part_text key f items
 part_whole key f part items has = adds_part key f part.is_first [] (string_bytes part.text) (part_bytes part) items has refl
 
--- the text of what changed, if no group is gone or was made
+-- the text of what changed, without the groups that are gone or were made
 abbrev changed : KnownTraceState → KnownTraceState → List ℕ
 changed before after =
     part_text (codes "frames") frame_span_text (frame_spans 0 before.places after.places)
@@ -54,6 +54,24 @@ changed before after =
     ++ (part_text (codes "pins") pin_change_text (cpus_pin_changes 1 (length after.places) before.cpus after.cpus)
     ++ part_text (codes "stocks") stock_change_text (stock_changes 1 before.cpus after.cpus)
     ++ part_text (codes "groups") row_text (rows_not_in before.groups after.groups))
+
+-- if no group is gone or was made, nothing is said of that
+pub none_gone : (before after : List KnownShownGroup) → AreSameGroups before after → gone_and_made_text before after ≡ []
+none_gone before after same =
+    let gone = none_beyond_back before after same in
+    let made = none_beyond before after same in
+    λ i. part_text (codes "gone") decimal (numbers_of (gone i)) ++ part_text (codes "made") made_text (made i)
+
+changes_are : (before after : KnownTraceState) → changes_text (changes before after)
+    ≡ gone_and_made_text before.groups after.groups
+    ++ part_text (codes "frames") frame_span_text (frame_spans 0 before.places after.places)
+    ++ part_text (codes "lists") list_change_text (list_changes before after)
+    ++ part_text (codes "flags") flag_change_text (flag_changes 0 before.flags after.flags)
+    ++ (part_text (codes "pins") pin_change_text (cpus_pin_changes 1 (length after.places) before.cpus after.cpus)
+    ++ part_text (codes "stocks") stock_change_text (stock_changes 1 before.cpus after.cpus)
+    ++ part_text (codes "groups") row_text (rows_not_in before.groups after.groups))
+unfolding changes_text first_parts_text last_parts_text
+changes_are before after = refl
 
 changes_same : (before after : KnownTraceState) → AreSameGroups before.groups after.groups → changes_text (changes before after) ≡ changed before after
 unfolding changes_text first_parts_text last_parts_text
@@ -213,17 +231,16 @@ module _ (machine now : KnownMachine) (cpus others : List KnownCpu) (looked : no
       all_advanced = e5 ∙ (λ i. record (four i) { flags = (again i).flags })
 
       pub all_text : {T E : Type 0} (r : Result T E) (cpu_parts : CpuParts) (lists pins stocks rows : Part) (t0 t1 t2 t3 t4 : List ℕ)
-          → AreSameGroups old.groups to.groups
           → HasCpus (length machine.frame_states) cpu_parts old.cpus to.cpus
           → AddsLists cpu_parts.lists.is_first lists.is_first (string_bytes cpu_parts.lists.text) (string_bytes lists.text) (groups_list_changes s2.groups (groups_shown now))
           → pins ≡ cpu_parts.pins → stocks ≡ cpu_parts.stocks
           → HasItems (codes "groups") row_text rows (rows_not_in s2.groups (groups_shown now))
-          → t0 ≡ [] → t1 ≡ t0 ++ part_text (codes "frames") frame_span_text (frame_spans 0 s3.places s4.places)
+          → t0 ≡ gone_and_made_text s2.groups (groups_shown now) → t1 ≡ t0 ++ part_text (codes "frames") frame_span_text (frame_spans 0 s3.places s4.places)
           → t2 ≡ t1 ++ part_bytes lists → t3 ≡ t2 ++ part_text (codes "flags") flag_change_text (flag_changes 0 s4.flags s5.flags)
           → OnOk r (t4 ≡ t3 ++ (part_bytes pins ++ part_bytes stocks ++ part_bytes rows))
           → OnOk r (t4 ≡ changes_text (changes old to))
-      all_text (Err x) cpu_parts lists pins stocks rows t0 t1 t2 t3 t4 same has adds are_pins are_stocks has_rows none one two three_is four_is = tt
-      all_text (Ok x) cpu_parts lists pins stocks rows t0 t1 t2 t3 t4 same has adds are_pins are_stocks has_rows none one two three_is four_is =
+      all_text (Err x) cpu_parts lists pins stocks rows t0 t1 t2 t3 t4 has adds are_pins are_stocks has_rows named one two three_is four_is = tt
+      all_text (Ok x) cpu_parts lists pins stocks rows t0 t1 t2 t3 t4 has adds are_pins are_stocks has_rows named one two three_is four_is =
           let groups : s2.groups ≡ old.groups = groups_before in
           let after : groups_shown now ≡ to.groups = sym groups_now in
           let lists_are : part_bytes lists ≡ part_text (codes "lists") list_change_text (list_changes old to) =
@@ -242,10 +259,11 @@ module _ (machine now : KnownMachine) (cpus others : List KnownCpu) (looked : no
           let rows_are : part_bytes rows ≡ part_text (codes "groups") row_text (rows_not_in old.groups to.groups) =
           part_whole (codes "groups") row_text rows (rows_not_in s2.groups (groups_shown now)) has_rows
           ∙ (λ i. part_text (codes "groups") row_text (rows_not_in (groups i) (after i))) in
-          let t1_is : t1 ≡ part_text (codes "frames") frame_span_text (frame_spans 0 old.places to.places) =
-          one ∙ (λ i. none i ++ part_text (codes "frames") frame_span_text (frame_spans 0 (three i).places (four i).places)) in
+          let named_is : t0 ≡ gone_and_made_text old.groups to.groups = named ∙ (λ i. gone_and_made_text (groups i) (after i)) in
+          let t1_is : t1 ≡ gone_and_made_text old.groups to.groups ++ part_text (codes "frames") frame_span_text (frame_spans 0 old.places to.places) =
+          one ∙ (λ i. named_is i ++ part_text (codes "frames") frame_span_text (frame_spans 0 (three i).places (four i).places)) in
           four_is ∙ (λ i. (three_is ∙ (λ j. (two ∙ (λ k. t1_is k ++ lists_are k)) j ++ part_text (codes "flags") flag_change_text (flag_changes 0 (four j).flags (all_advanced j).flags))) i
-          ++ (pins_are i ++ stocks_are i ++ rows_are i)) ∙ sym (changes_same old to same)
+          ++ (pins_are i ++ stocks_are i ++ rows_are i)) ∙ sym (changes_are old to)
 
 pub ok_any : {T E : Type 0} (P : Type 0) (r : Result T E) → P → OnOk r P
 ok_any P (Ok x) holds = holds
@@ -270,6 +288,32 @@ pub rows_swapped : {T E : Type 0} (r : Result T E) (old from new now : List Know
     → OnOk r (AddsRows true next [] after (rows_not_in old now))
 rows_swapped (Err x) old from new now first next text after same start none is adds = tt
 rows_swapped (Ok x) old from new now first next text after same start none is adds =
+    subst (λ (t : List ℕ). AddsRows true next t after (rows_not_in old now)) none
+    (subst (λ (b : Bool). AddsRows b next text after (rows_not_in old now)) start
+    (subst (λ (g : List KnownShownGroup). AddsRows first next text after (rows_not_in old g)) is
+    (subst (λ (g : List KnownShownGroup). AddsRows first next text after (rows_not_in g new)) same adds)))
+
+-- what was added of groups that were replaced
+pub text_named : (old now gone_old gone_now made_old made_now : List KnownShownGroup) (start one two : List ℕ)
+    → gone_old ≡ old → gone_now ≡ now → made_old ≡ old → made_now ≡ now
+    → one ≡ start ++ part_text (codes "gone") decimal (numbers_of (groups_not_in gone_now gone_old))
+    → two ≡ one ++ part_text (codes "made") made_text (groups_not_in made_old made_now)
+    → two ≡ start ++ gone_and_made_text old now
+text_named old now gone_old gone_now made_old made_now start one two go gn mo mn one_is two_is =
+    two_is
+    ∙ (λ i. (one_is ∙ (λ j. start ++ part_text (codes "gone") decimal (numbers_of (groups_not_in (gn j) (go j))))) i
+    ++ part_text (codes "made") made_text (groups_not_in (mo i) (mn i)))
+    ∙ append_assoc start (part_text (codes "gone") decimal (numbers_of (groups_not_in now old))) (part_text (codes "made") made_text (groups_not_in old now))
+
+pub lists_replaced : (old now from new : List KnownShownGroup) (first next : Bool) (text after : List ℕ) → from ≡ old → new ≡ now
+    → AddsLists first next text after (groups_list_changes from new) → AddsLists first next text after (groups_list_changes old now)
+lists_replaced old now from new first next text after same is adds =
+    subst (λ (g : List KnownShownGroup). AddsLists first next text after (groups_list_changes old g)) is
+    (subst (λ (g : List KnownShownGroup). AddsLists first next text after (groups_list_changes g new)) same adds)
+
+pub rows_replaced : (old now from new : List KnownShownGroup) (first next : Bool) (text after : List ℕ) → from ≡ old → new ≡ now
+    → first ≡ true → text ≡ [] → AddsRows first next text after (rows_not_in from new) → AddsRows true next [] after (rows_not_in old now)
+rows_replaced old now from new first next text after same is start none adds =
     subst (λ (t : List ℕ). AddsRows true next t after (rows_not_in old now)) none
     (subst (λ (b : Bool). AddsRows b next text after (rows_not_in old now)) start
     (subst (λ (g : List KnownShownGroup). AddsRows first next text after (rows_not_in old g)) is

@@ -13,7 +13,7 @@ ghost use Rattle.shown_states.specs.Cpus.{cpus_shown, locked_with_looks};
 ghost use Rattle.shown_states.specs.FlagTables.{AreFlagsReady};
 ghost use Rattle.shown_states.specs.Frames.{flags_shown};
 ghost use Rattle.shown_states.specs.Groups.{AreSameGroups, groups_shown};
-ghost use Rattle.shown_states.specs.Parts.{HasItems, part_bytes};
+ghost use Rattle.shown_states.specs.Parts.{HasItems, gone_and_made_text, part_bytes};
 ghost use Rattle.shown_states.specs.States.{counts_shown, trace_state_of};
 
 use crate::advance_cpus::{CpuParts, advance_cpus};
@@ -22,6 +22,7 @@ use crate::advance_frames::advance_frames;
 use crate::advance_groups::{advance_groups, has_same_groups};
 use crate::counts::show_counts;
 use crate::flag_table::FlagTable;
+use crate::groups::show_groups;
 use crate::part::Part;
 use crate::place_tables::PlaceTables;
 use crate::states::trace_state;
@@ -30,6 +31,8 @@ use mem_machine::Machine;
 use mem_system::Locked;
 use std::alloc::{AllocError, Global};
 use std::marker::Model;
+use trace_lines::groups::{add_rows, write_gone, write_made};
+use trace_lines::lists::write_groups_lists;
 use trace_lines::parts::{write_changes, write_counts};
 use trace_lines::trace_state::{ShownCpu, ShownGroup, TraceState};
 
@@ -129,7 +132,7 @@ pub fn advance<N: BootName>(
         changes,
         counts,
     } = buffers;
-    if is_alike(locked.machine(), cpus, state) {
+    if has_as_many(cpus, state) {
         return advance_parts(alloc, locked, tables, cpus, state, parts, changes, counts);
     }
     parts.places.is_ready = false;
@@ -172,14 +175,6 @@ pub fn advance_unlocked<N: BootName>(
     replace(alloc, locked, tables, cpus, state, changes, counts)
 }
 
-// Whether the state has as many CPUs, and groups of the same numbers and paths as the machine.
-fn is_alike<N: BootName>(machine: &Machine<N>, cpus: &[Cpu<N>], state: &TraceState) -> bool
-    ensures cpus { IsTrue result → length state.now.cpus ≡ length cpus.now }
-    ensures groups { IsTrue result → AreSameGroups state.now.groups (groups_shown machine.now) }
-{
-    has_as_many(cpus, state) && has_same_groups(machine, state.groups())
-}
-
 // Whether the state has as many CPUs.
 fn has_as_many<N: BootName>(cpus: &[Cpu<N>], state: &TraceState) -> bool
     ensures { IsTrue result → length state.now.cpus ≡ length cpus.now }
@@ -214,7 +209,7 @@ fn replace<N: BootName>(
     result
 }
 
-// Advances each part of a state that has as many CPUs and the same groups.
+// Advances each part of a state that has as many CPUs.
 fn advance_parts<N: BootName>(
     alloc: Global,
     locked: &mut Locked<N>,
@@ -226,7 +221,6 @@ fn advance_parts<N: BootName>(
     counts: &mut String,
 ) -> Result<(), AllocError>
     requires cpus { length state.old.cpus ≡ length cpus.old }
-    requires groups { AreSameGroups state.old.groups (groups_shown locked.old.machine) }
     requires places { PlacesFollow locked.old.machine.snapshot state.old.places parts.old.places }
     requires flags { AreFlagsReady state.old parts.old.flags }
     ensures state { OnOk result (state.new ≡ trace_state_of locked.old.machine cpus.old) }
@@ -252,15 +246,17 @@ fn advance_parts<N: BootName>(
     let machine = locked.machine();
     set_counts(machine, cpus, state, counts)?;
     parts.flags.unset(state)?;
+    text.clear();
     set_groups(
+        alloc,
         machine,
         state,
         &mut parts.spare_groups,
         &mut parts.cpus.numbers,
         &mut parts.cpus.lists,
         &mut parts.rows,
+        text,
     )?;
-    text.clear();
     advance_frames(alloc, machine, cpus, state, &mut parts.places, text)?;
     parts.cpus.lists.add_to(text)?;
     advance_flags(machine, state, &mut parts.flags, text)?;
@@ -353,9 +349,67 @@ fn set_counts<N: BootName>(
     Ok(())
 }
 
-// Sets the state's groups, which have the numbers and paths of now, adds the changes of their lists, and sets the part
-// that tells the rows that changed.
+// Sets the state's groups, adds the parts that name the groups that are gone and those that were made, adds the changes
+// of the lists, and sets the part of the rows that changed.
 fn set_groups<N: BootName>(
+    alloc: Global,
+    machine: &Machine<N>,
+    state: &mut TraceState,
+    spare: &mut Vec<ShownGroup>,
+    units: &mut Vec<u32>,
+    lists: &mut Part,
+    rows: &mut Part,
+    text: &mut String,
+) -> Result<(), AllocError>
+    ensures state { OnOk result (state.new ≡ record state.old { groups = groups_shown machine.now }) }
+    ensures text { OnOk result (string_bytes text.new
+        ≡ string_bytes text.old ++ gone_and_made_text state.old.groups (groups_shown machine.now)) }
+    ensures lists { OnOk result (AddsLists lists.old.is_first lists.new.is_first (string_bytes lists.old.text)
+        (string_bytes lists.new.text) (groups_list_changes state.old.groups (groups_shown machine.now))) }
+    ensures rows { OnOk result (HasItems (codes "groups") row_text rows.new
+        (rows_not_in state.old.groups (groups_shown machine.now))) }
+{
+    if has_same_groups(machine, state.groups()) {
+        return set_same_groups(machine, state, spare, units, lists, rows);
+    }
+    replace_groups(alloc, machine, state, lists, rows, text)
+}
+
+// Sets the state's groups, which may be others, and adds the parts and the changes.
+fn replace_groups<N: BootName>(
+    alloc: Global,
+    machine: &Machine<N>,
+    state: &mut TraceState,
+    lists: &mut Part,
+    rows: &mut Part,
+    text: &mut String,
+) -> Result<(), AllocError>
+    ensures state { OnOk result (state.new ≡ record state.old { groups = groups_shown machine.now }) }
+    ensures text { OnOk result (string_bytes text.new
+        ≡ string_bytes text.old ++ gone_and_made_text state.old.groups (groups_shown machine.now)) }
+    ensures lists { OnOk result (AddsLists lists.old.is_first lists.new.is_first (string_bytes lists.old.text)
+        (string_bytes lists.new.text) (groups_list_changes state.old.groups (groups_shown machine.now))) }
+    ensures rows { OnOk result (HasItems (codes "groups") row_text rows.new
+        (rows_not_in state.old.groups (groups_shown machine.now))) }
+{
+    rows.clear();
+    let mut groups = show_groups(alloc, machine)?;
+    write_gone(state.groups(), &groups, text)?;
+    write_made(state.groups(), &groups, text)?;
+    write_groups_lists(
+        state.groups(),
+        &groups,
+        &mut lists.is_first,
+        &mut lists.text,
+    )?;
+    add_rows(state.groups(), &groups, &mut rows.is_first, &mut rows.text)?;
+    state.swap_groups(&mut groups);
+    Ok(())
+}
+
+// Sets the state's groups, which have the numbers and paths of now, adds the changes of their lists, and sets the part
+// of the rows that changed.
+fn set_same_groups<N: BootName>(
     machine: &Machine<N>,
     state: &mut TraceState,
     spare: &mut Vec<ShownGroup>,

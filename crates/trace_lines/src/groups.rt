@@ -16,8 +16,8 @@ use crate::strings::write_string;
 use crate::trace_state::{Events, GroupRow, ShownGroup};
 use std::alloc::AllocError;
 
-// Adds the part that names the groups that are gone.
-pub(crate) fn write_gone(
+/// Adds the part that names the groups that are gone.
+pub fn write_gone(
     before: &[ShownGroup],
     after: &[ShownGroup],
     text: &mut String,
@@ -49,8 +49,8 @@ fn add_gone(
     push_decimal(u64::from(group.number), text)
 }
 
-// Adds the part with the groups that were made.
-pub(crate) fn write_made(
+/// Adds the part with the groups that were made.
+pub fn write_made(
     before: &[ShownGroup],
     after: &[ShownGroup],
     text: &mut String,
@@ -92,10 +92,24 @@ pub(crate) fn write_rows(
         ≡ string_bytes text.old ++ part_text (codes "groups") row_text (rows_not_in before.now after.now)) }
 {
     let mut is_first = true;
-    for group in after {
-        add_row(before, group, &mut is_first, text)?;
-    }
+    add_rows(before, after, &mut is_first, text)?;
     push_stop(is_first, text)
+}
+
+/// Adds the rows of groups that changed to the part.
+pub fn add_rows(
+    before: &[ShownGroup],
+    after: &[ShownGroup],
+    is_first: &mut bool,
+    text: &mut String,
+) -> Result<(), AllocError>
+    ensures { IfOk result (λ _. AddsRows is_first.old is_first.new (string_bytes text.old) (string_bytes text.new)
+        (rows_not_in before.now after.now)) }
+{
+    for group in after {
+        add_row(before, group, is_first, text)?;
+    }
+    Ok(())
 }
 
 // Adds the group's row to the part, if it changed.

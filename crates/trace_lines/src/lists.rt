@@ -82,8 +82,8 @@ fn write_cpu_lists(
     write_list(back, before.back(), after.back(), is_first, text)
 }
 
-// Adds the changes of the groups' lists.
-fn write_groups_lists(
+/// Adds the changes of the groups' lists to the part.
+pub fn write_groups_lists(
     before: &[ShownGroup],
     after: &[ShownGroup],
     is_first: &mut bool,

@@ -4,8 +4,8 @@ use Rattle.shown_states.proofs.Looks.{shown_again}
 use Rattle.shown_states.proofs.Assembled.{ok_any, ok_follow}
 use Rattle.shown_states.proofs.advancing.advance.Goals as goal
 
-pub returns-then-is_alike : goal.returns-then-is_alike
-returns-then-is_alike g c = record {
+pub returns-then-has_as_many : goal.returns-then-has_as_many
+returns-then-has_as_many g c = record {
   state = c.advance_parts.ensures.state;
   changes = c.advance_parts.ensures.changes;
   counts = c.advance_parts.ensures.counts;

@@ -1,22 +1,13 @@
-use Rattle.std.proofs.Common.{◌∙◌, List, ap, subst, sym, refl}
+use Rattle.std.proofs.Common.{◌∙◌, ◌++◌, ℕ, List, ap, sym, refl}
 use Rattle.std.specs.String.{string_bytes}
-use Rattle.trace_lines.specs.TraceState.{KnownShownGroup}
 use Rattle.mem_machine.specs.Machines.{KnownMachine}
 use Rattle.mem_system.specs.Locked.{KnownLocked}
-use Rattle.shown_states.specs.Groups.{AreSameGroups, groups_shown}
-use Rattle.shown_states.proofs.Assembled.{all_advanced, all_text, counts_same, groups_before, groups_now, ok_any}
+use Rattle.shown_states.specs.Groups.{groups_shown}
+use Rattle.shown_states.specs.Parts.{gone_and_made_text}
+use Rattle.shown_states.proofs.Assembled.{all_advanced, all_text, counts_same, ok_any}
 use Rattle.shown_states.proofs.ChangedPlaces.{follow_same}
 use Rattle.shown_states.proofs.TouchedFlags.{ready_same, unset_same}
 use Rattle.shown_states.proofs.advancing.advance_parts.Goals as goal
-
-pub set_groups-requires : goal.set_groups-requires
-set_groups-requires g c =
-    let looked = c.machine-machine.ensures.machine ∙ ap (λ (l : KnownLocked). l.machine) c.set_cpus.ensures.looked in
-    let before = groups_before c.args.locked.now.machine c.machine-machine.result.now c.args.cpus.now c.set_cpus.new.cpus looked c.set_cpus.ensures.cpus
-    c.args.state.now c.set_cpus.new.state c.set_counts.new.state c.in_ok-set_cpus.ensures.state c.in_ok-set_counts.ensures.state in
-    let now = groups_now c.args.locked.now.machine c.machine-machine.result.now c.args.cpus.now c.set_cpus.new.cpus looked c.set_cpus.ensures.cpus in
-    subst (λ (gs : List KnownShownGroup). AreSameGroups gs (groups_shown c.machine-machine.result.now)) (sym before)
-    (subst (λ (gs : List KnownShownGroup). AreSameGroups c.args.state.now.groups gs) now c.requires.groups)
 
 pub advance_flags-requires-clause-groups : goal.advance_flags-requires-clause-groups
 advance_flags-requires-clause-groups g c = (λ i. (c.in_ok-advance_frames.ensures.state i).groups) ∙ (λ i. (c.in_ok-set_groups.ensures.state i).groups)
@@ -51,9 +42,10 @@ returns-clause-changes g c =
     c.args.state.now c.set_cpus.new.state c.set_counts.new.state c.in_ok-set_cpus.ensures.state c.in_ok-set_counts.ensures.state
     c.set_groups.new.state c.advance_frames.new.state c.advance_flags.new.state c.in_ok-set_groups.ensures.state c.in_ok-advance_frames.ensures.state
     c.in_ok-advance_flags.ensures.state c.add_last_parts.result c.set_cpus.new.parts c.set_groups.new.lists c.set_cpus.new.parts.pins c.set_cpus.new.parts.stocks
-    c.set_groups.new.rows (string_bytes c.clear.new.self) (string_bytes c.advance_frames.new.text) (string_bytes c.add_to.new.text) (string_bytes c.advance_flags.new.text)
-    (string_bytes c.add_last_parts.new.text) c.requires.groups c.in_ok-set_cpus.ensures.parts c.in_ok-set_groups.ensures.lists refl refl c.in_ok-set_groups.ensures.rows
-    c.clear.ensures.bytes c.in_ok-advance_frames.ensures.text c.in_ok-add_to.ensures c.in_ok-advance_flags.ensures.text c.add_last_parts.ensures
+    c.set_groups.new.rows (string_bytes c.set_groups.new.text) (string_bytes c.advance_frames.new.text) (string_bytes c.add_to.new.text) (string_bytes c.advance_flags.new.text)
+    (string_bytes c.add_last_parts.new.text) c.in_ok-set_cpus.ensures.parts c.in_ok-set_groups.ensures.lists refl refl c.in_ok-set_groups.ensures.rows
+    (c.in_ok-set_groups.ensures.text ∙ ap (λ (text : List ℕ). text ++ gone_and_made_text c.set_counts.new.state.groups (groups_shown c.machine-machine.result.now)) c.clear.ensures.bytes)
+    c.in_ok-advance_frames.ensures.text c.in_ok-add_to.ensures c.in_ok-advance_flags.ensures.text c.add_last_parts.ensures
 
 pub returns-clause-counts : goal.returns-clause-counts
 returns-clause-counts g c =
