@@ -1,6 +1,6 @@
 //! Each CPU as it is now, in place of what was shown of it.
 
-ghost use Rattle.std.specs.Prelude.{◌≡◌, ◌++◌, IfOk, IsOk, OnOk, false, length, true};
+ghost use Rattle.std.specs.Prelude.{◌≡◌, ◌++◌, IsOk, OnOk, length};
 ghost use Rattle.std.specs.String.{string_bytes};
 ghost use Rattle.trace_lines.specs.declared.lists.ListName.TheVariants.{Back, Fresh, Listed};
 ghost use Rattle.trace_lines.specs.Changes.{cpu_list_changes, list_change, pin_changes, stock_change};
@@ -177,10 +177,12 @@ fn advance_listed(
     ensures added { OnOk result (AddsLists lists.old.is_first lists.new.is_first (string_bytes lists.old.text)
         (string_bytes lists.new.text) (list_change (Listed number) shown.old.list (first.now ++ rest.now))) }
 {
-    let name = ListName::Listed { cpu: number };
-    if add_list_change(name, shown.list(), first, rest, numbers, lists)? {
-        shown.swap_list(numbers);
+    if is_list(shown.list(), first, rest) {
+        return Ok(());
     }
+    let name = ListName::Listed { cpu: number };
+    add_list(name, shown.list(), first, rest, numbers, lists)?;
+    shown.swap_list(numbers);
     Ok(())
 }
 
@@ -196,10 +198,12 @@ fn advance_fresh(
     ensures added { OnOk result (AddsLists lists.old.is_first lists.new.is_first (string_bytes lists.old.text)
         (string_bytes lists.new.text) (list_change (Fresh number) shown.old.fresh fresh.now)) }
 {
-    let name = ListName::Fresh { cpu: number };
-    if add_list_change(name, shown.fresh(), fresh, &[], numbers, lists)? {
-        shown.swap_fresh(numbers);
+    if is_list(shown.fresh(), fresh, &[]) {
+        return Ok(());
     }
+    let name = ListName::Fresh { cpu: number };
+    add_list(name, shown.fresh(), fresh, &[], numbers, lists)?;
+    shown.swap_fresh(numbers);
     Ok(())
 }
 
@@ -216,33 +220,30 @@ fn advance_back(
     ensures added { OnOk result (AddsLists lists.old.is_first lists.new.is_first (string_bytes lists.old.text)
         (string_bytes lists.new.text) (list_change (Back number) shown.old.back (first.now ++ rest.now))) }
 {
-    let name = ListName::Back { cpu: number };
-    if add_list_change(name, shown.back(), first, rest, numbers, lists)? {
-        shown.swap_back(numbers);
+    if is_list(shown.back(), first, rest) {
+        return Ok(());
     }
+    let name = ListName::Back { cpu: number };
+    add_list(name, shown.back(), first, rest, numbers, lists)?;
+    shown.swap_back(numbers);
     Ok(())
 }
 
-// Adds the change of the list of this name, and returns whether there is one: `numbers` has then what it changed to.
-fn add_list_change(
+// Sets `numbers` to what the list of this name has now, and adds the change.
+fn add_list(
     name: ListName,
     before: &[u32],
     first: &[Frame],
     rest: &[Frame],
     numbers: &mut Vec<u32>,
     lists: &mut Part,
-) -> Result<bool, AllocError>
-    ensures same { IfOk result (λ changed. changed ≡ false → before.now ≡ first.now ++ rest.now) }
-    ensures numbers { IfOk result (λ changed. changed ≡ true → numbers.new.items ≡ first.now ++ rest.now) }
+) -> Result<(), AllocError>
+    ensures numbers { OnOk result (numbers.new.items ≡ first.now ++ rest.now) }
     ensures added { OnOk result (AddsLists lists.old.is_first lists.new.is_first (string_bytes lists.old.text)
         (string_bytes lists.new.text) (list_change name before.now (first.now ++ rest.now))) }
 {
-    if is_list(before, first, rest) {
-        return Ok(false);
-    }
     set_numbers(first, rest, numbers)?;
-    write_list(name, before, numbers, &mut lists.is_first, &mut lists.text)?;
-    Ok(true)
+    write_list(name, before, numbers, &mut lists.is_first, &mut lists.text)
 }
 
 // Sets the CPU's pins, and adds on which frames their number changed.
