@@ -1,14 +1,15 @@
 //! Each CPU as it is now, in place of what was shown of it.
 
-ghost use Rattle.std.specs.Prelude.{◌≡◌, ◌++◌, IsOk, OnOk, length};
+ghost use Rattle.std.specs.Prelude.{◌≡◌, ◌++◌, IsOk, IsTrue, OnOk, [], length, ℕ};
 ghost use Rattle.std.specs.String.{string_bytes};
 ghost use Rattle.trace_lines.specs.declared.lists.ListName.TheVariants.{Back, Fresh, Listed};
-ghost use Rattle.trace_lines.specs.Changes.{cpu_list_changes, list_change, pin_changes, stock_change};
+ghost use Rattle.trace_lines.specs.Changes.{cpu_list_changes, is_same_stock, list_change, pin_changes, stock_change};
 ghost use Rattle.trace_lines.specs.Writing.{AddsLists, AddsPins, AddsStocks};
 ghost use Rattle.shown_states.specs.Parts.{IsEmpty};
 ghost use Rattle.shown_states.specs.Advancing.{AddsCpu, AddsCpus};
 ghost use Rattle.shown_states.specs.Cpus.{cpu_with_stock, cpus_shown, locked_with_looks};
 
+use crate::advance_groups::is_same_limit;
 use crate::cpus::show_stock;
 use crate::lists::{is_list, set_numbers};
 use crate::part::Part;
@@ -288,6 +289,9 @@ fn advance_stock(
     ensures added { OnOk result (AddsStocks part.old.is_first part.new.is_first (string_bytes part.old.text)
         (string_bytes part.new.text) (stock_change number shown.old.stock stock)) }
 {
+    if is_stock(shown.stock(), stock) {
+        return Ok(());
+    }
     add_stock(
         number,
         shown.stock(),
@@ -297,4 +301,22 @@ fn advance_stock(
     )?;
     shown.set_stock(stock);
     Ok(())
+}
+
+// Whether the stock was filled once, and is as before.
+fn is_stock(before: Option<ShownStock>, stock: Option<ShownStock>) -> bool
+    ensures same { IsTrue result → before ≡ stock }
+    ensures unchanged { (number : ℕ) → IsTrue result → stock_change number before stock ≡ [] }
+{
+    match (before, stock) {
+        (Some(before), Some(stock)) => is_same_stock(before, stock),
+        _ => false,
+    }
+}
+
+// Whether the two are the same stock.
+fn is_same_stock(one: ShownStock, other: ShownStock) -> bool
+    ensures { result ≡ is_same_stock one other }
+{
+    one.group == other.group && is_same_limit(one.pages, other.pages)
 }

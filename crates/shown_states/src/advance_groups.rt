@@ -294,7 +294,7 @@ fn are_events_now(shown: &Events, counts: EventCounts) -> bool
 }
 
 // Whether the two limits are the same.
-fn is_same_limit(one: Option<u32>, other: Option<u32>) -> bool
+pub(crate) fn is_same_limit(one: Option<u32>, other: Option<u32>) -> bool
     ensures { result ≡ is_same_limit one other }
 {
     match (one, other) {
