@@ -1,14 +1,15 @@
 //! Each CPU as it is now, in place of what was shown of it.
 
-ghost use Rattle.std.specs.Prelude.{◌≡◌, ◌++◌, IfOk, IsOk, OnOk, false, length, true};
+ghost use Rattle.std.specs.Prelude.{◌≡◌, ◌++◌, IsOk, IsTrue, OnOk, [], length, ℕ};
 ghost use Rattle.std.specs.String.{string_bytes};
 ghost use Rattle.trace_lines.specs.declared.lists.ListName.TheVariants.{Back, Fresh, Listed};
-ghost use Rattle.trace_lines.specs.Changes.{cpu_list_changes, list_change, pin_changes, stock_change};
+ghost use Rattle.trace_lines.specs.Changes.{cpu_list_changes, is_same_stock, list_change, pin_changes, stock_change};
 ghost use Rattle.trace_lines.specs.Writing.{AddsLists, AddsPins, AddsStocks};
 ghost use Rattle.shown_states.specs.Parts.{IsEmpty};
 ghost use Rattle.shown_states.specs.Advancing.{AddsCpu, AddsCpus};
 ghost use Rattle.shown_states.specs.Cpus.{cpu_with_stock, cpus_shown, locked_with_looks};
 
+use crate::advance_groups::is_same_limit;
 use crate::cpus::show_stock;
 use crate::lists::{is_list, set_numbers};
 use crate::part::Part;
@@ -177,10 +178,12 @@ fn advance_listed(
     ensures added { OnOk result (AddsLists lists.old.is_first lists.new.is_first (string_bytes lists.old.text)
         (string_bytes lists.new.text) (list_change (Listed number) shown.old.list (first.now ++ rest.now))) }
 {
-    let name = ListName::Listed { cpu: number };
-    if add_list_change(name, shown.list(), first, rest, numbers, lists)? {
-        shown.swap_list(numbers);
+    if is_list(shown.list(), first, rest) {
+        return Ok(());
     }
+    let name = ListName::Listed { cpu: number };
+    add_list(name, shown.list(), first, rest, numbers, lists)?;
+    shown.swap_list(numbers);
     Ok(())
 }
 
@@ -196,10 +199,12 @@ fn advance_fresh(
     ensures added { OnOk result (AddsLists lists.old.is_first lists.new.is_first (string_bytes lists.old.text)
         (string_bytes lists.new.text) (list_change (Fresh number) shown.old.fresh fresh.now)) }
 {
-    let name = ListName::Fresh { cpu: number };
-    if add_list_change(name, shown.fresh(), fresh, &[], numbers, lists)? {
-        shown.swap_fresh(numbers);
+    if is_list(shown.fresh(), fresh, &[]) {
+        return Ok(());
     }
+    let name = ListName::Fresh { cpu: number };
+    add_list(name, shown.fresh(), fresh, &[], numbers, lists)?;
+    shown.swap_fresh(numbers);
     Ok(())
 }
 
@@ -216,33 +221,30 @@ fn advance_back(
     ensures added { OnOk result (AddsLists lists.old.is_first lists.new.is_first (string_bytes lists.old.text)
         (string_bytes lists.new.text) (list_change (Back number) shown.old.back (first.now ++ rest.now))) }
 {
-    let name = ListName::Back { cpu: number };
-    if add_list_change(name, shown.back(), first, rest, numbers, lists)? {
-        shown.swap_back(numbers);
+    if is_list(shown.back(), first, rest) {
+        return Ok(());
     }
+    let name = ListName::Back { cpu: number };
+    add_list(name, shown.back(), first, rest, numbers, lists)?;
+    shown.swap_back(numbers);
     Ok(())
 }
 
-// Adds the change of the list of this name, and returns whether there is one: `numbers` has then what it changed to.
-fn add_list_change(
+// Sets `numbers` to what the list of this name has now, and adds the change.
+fn add_list(
     name: ListName,
     before: &[u32],
     first: &[Frame],
     rest: &[Frame],
     numbers: &mut Vec<u32>,
     lists: &mut Part,
-) -> Result<bool, AllocError>
-    ensures same { IfOk result (λ changed. changed ≡ false → before.now ≡ first.now ++ rest.now) }
-    ensures numbers { IfOk result (λ changed. changed ≡ true → numbers.new.items ≡ first.now ++ rest.now) }
+) -> Result<(), AllocError>
+    ensures numbers { OnOk result (numbers.new.items ≡ first.now ++ rest.now) }
     ensures added { OnOk result (AddsLists lists.old.is_first lists.new.is_first (string_bytes lists.old.text)
         (string_bytes lists.new.text) (list_change name before.now (first.now ++ rest.now))) }
 {
-    if is_list(before, first, rest) {
-        return Ok(false);
-    }
     set_numbers(first, rest, numbers)?;
-    write_list(name, before, numbers, &mut lists.is_first, &mut lists.text)?;
-    Ok(true)
+    write_list(name, before, numbers, &mut lists.is_first, &mut lists.text)
 }
 
 // Sets the CPU's pins, and adds on which frames their number changed.
@@ -287,6 +289,9 @@ fn advance_stock(
     ensures added { OnOk result (AddsStocks part.old.is_first part.new.is_first (string_bytes part.old.text)
         (string_bytes part.new.text) (stock_change number shown.old.stock stock)) }
 {
+    if is_stock(shown.stock(), stock) {
+        return Ok(());
+    }
     add_stock(
         number,
         shown.stock(),
@@ -296,4 +301,22 @@ fn advance_stock(
     )?;
     shown.set_stock(stock);
     Ok(())
+}
+
+// Whether the stock was filled once, and is as before.
+fn is_stock(before: Option<ShownStock>, stock: Option<ShownStock>) -> bool
+    ensures same { IsTrue result → before ≡ stock }
+    ensures unchanged { (number : ℕ) → IsTrue result → stock_change number before stock ≡ [] }
+{
+    match (before, stock) {
+        (Some(before), Some(stock)) => is_same_stock(before, stock),
+        _ => false,
+    }
+}
+
+// Whether the two are the same stock.
+fn is_same_stock(one: ShownStock, other: ShownStock) -> bool
+    ensures { result ≡ is_same_stock one other }
+{
+    one.group == other.group && is_same_limit(one.pages, other.pages)
 }

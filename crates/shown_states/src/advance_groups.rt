@@ -2,25 +2,27 @@
 
 ghost use Rattle.std.specs.Prelude.{◌≡◌, ◌∷◌, [], IsTrue, OnOk, Some};
 ghost use Rattle.std.specs.String.{string_bytes};
-ghost use Rattle.group_tree.specs.Groups.{has_group};
+ghost use Rattle.group_tree.specs.Groups.{has_group, is_oom_group};
 ghost use Rattle.trace_lines.specs.declared.lists.ListName.TheVariants.{Active, Inactive};
+ghost use Rattle.trace_lines.specs.Changes.{are_same_events, is_same_flag, is_same_limit, is_same_row};
 ghost use Rattle.trace_lines.specs.Changes.{group_list_changes, groups_list_changes, list_change, rows_not_in};
 ghost use Rattle.trace_lines.specs.Writing.{AddsLists, AddsRows};
 ghost use Rattle.mem_machine.specs.Machines.{active_in, entries_in, inactive_in};
 ghost use Rattle.shown_states.specs.Groups.{AreSameGroups, HasThisGroup, group_now, groups_shown, numbers_of};
-ghost use Rattle.shown_states.specs.Groups.{row_shown};
+ghost use Rattle.shown_states.specs.Groups.{events_shown, row_shown};
 
 use crate::groups::row_with;
 use crate::lists::add_units;
 use crate::row_places::{is_oom_group, row_at, row_places};
 use cpu_part::BootName;
+use group_tree::event::{EventCounts, EventKey};
 use group_tree::group::{GroupId, MAX_GROUPS};
 use lru_lists::record::LruList;
 use mem_machine::Machine;
 use std::alloc::AllocError;
-use trace_lines::groups::{add_group_row, is_same_row};
+use trace_lines::groups::add_group_row;
 use trace_lines::lists::{ListName, write_list};
-use trace_lines::trace_state::ShownGroup;
+use trace_lines::trace_state::{Events, GroupRow, ShownGroup};
 
 // Whether these groups, by their numbers, have the numbers and paths of the machine's groups.
 pub(crate) fn has_same_groups<N: BootName>(machine: &Machine<N>, groups: &[ShownGroup]) -> bool
@@ -252,10 +254,59 @@ fn advance_row<N: BootName>(
     ensures added { OnOk result (AddsRows is_first.old is_first.new (string_bytes text.old) (string_bytes text.new)
         (rows_not_in (group.old ∷ []) (group.new ∷ []))) }
 {
-    let row = row_with(machine, id, is_oom_group(machine, places, id));
-    if is_same_row(group.row(), &row) {
+    let oom_group = is_oom_group(machine, places, id);
+    if is_row_now(machine, id, oom_group, group.row()) {
         return Ok(());
     }
-    group.set_row(row);
+    group.set_row(row_with(machine, id, oom_group));
     add_group_row(group, is_first, text)
+}
+
+// Whether the row has the numbers of a group that exists and has this memory.oom.group. It compares each where it is,
+// because a row that is made first costs more.
+fn is_row_now<N: BootName>(
+    machine: &Machine<N>,
+    id: GroupId,
+    oom_group: bool,
+    row: &GroupRow,
+) -> bool
+    requires there { IsTrue (has_group machine.now.ledger.groups id) }
+    requires flag { oom_group ≡ is_oom_group machine.now.ledger.groups id }
+    ensures { result ≡ is_same_row row.now (row_shown machine.now id) }
+{
+    let charges = machine.charges();
+    is_same_limit(row.max, charges.max(id))
+        && row.current == charges.current(id)
+        && (row.peak == charges.peak(id) && are_events_now(&row.events, charges.events(id)))
+        && (are_events_now(&row.events_local, charges.events_local(id))
+            && (is_same_flag(row.is_killed, machine.is_killed(id))
+                && is_same_flag(row.oom_group, oom_group)))
+}
+
+// Whether these are the counts of the events.
+fn are_events_now(shown: &Events, counts: EventCounts) -> bool
+    ensures { result ≡ are_same_events shown.now (events_shown counts) }
+{
+    shown.max == counts.count(EventKey::Max)
+        && shown.oom == counts.count(EventKey::Oom)
+        && (shown.oom_kill == counts.count(EventKey::OomKill)
+            && shown.oom_group_kill == counts.count(EventKey::OomGroupKill))
+}
+
+// Whether the two limits are the same.
+pub(crate) fn is_same_limit(one: Option<u32>, other: Option<u32>) -> bool
+    ensures { result ≡ is_same_limit one other }
+{
+    match (one, other) {
+        (None, None) => true,
+        (Some(one), Some(other)) => one == other,
+        _ => false,
+    }
+}
+
+// Whether the two flags are the same.
+fn is_same_flag(one: bool, other: bool) -> bool
+    ensures { result ≡ is_same_flag one other }
+{
+    if one { other } else { !other }
 }

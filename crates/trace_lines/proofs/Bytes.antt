@@ -1,10 +1,10 @@
 -- The bytes of strings, of which a front that is plain is written whole.
-use Rattle.std.proofs.Common.{◌≡◌, ◌∙◌, ℕ, zero, suc, ◌+◌, ◌-◌, ◌<◌, List, [], ◌∷◌, ◌++◌, length, get_or, drop, take, append_assoc, arith, ap, subst, sym}
+use Rattle.std.proofs.Common.{◌≡◌, ◌∙◌, ℕ, zero, suc, ◌+◌, ◌-◌, ◌<◌, List, [], ◌∷◌, ◌++◌, Result, Ok, Err, IfOk, length, get_or, drop, take, append_assoc, arith, ap, subst, sym}
 use Rattle.std.specs.List.{flat_map}
 use Rattle.std.specs.Str.{IsAscii}
 use Rattle.std.proofs.Math.Seq.{take-add}
 use Rattle.std.proofs.lemmas.Grind.{flat_map-append}
-use Rattle.std.proofs.lemmas.List.{take_more, take_rest}
+use Rattle.std.proofs.lemmas.List.{take-append-drop, take_more, take_rest}
 use Rattle.std.proofs.lemmas.Str.{IsAscii-append}
 use Rattle.trace_lines.specs.Strings.{byte_text}
 
@@ -61,3 +61,15 @@ front_more bs old t new i n told tells =
     ∙ append_assoc old (flat_map byte_text (take i bs)) (flat_map byte_text (take n (drop i bs)))
     ∙ ap (λ (l : List ℕ). old ++ l) (sym (flat_map-append byte_text (take i bs) (take n (drop i bs))))
     ∙ ap (λ (l : List ℕ). old ++ flat_map byte_text l) (sym (take-add i n bs))
+
+-- behind a front that is plain all that is left is written
+pub rest_ok : {T E : Type 0} (r : Result T E) (bs old t new : List ℕ) (i : ℕ) → t ≡ old ++ take i bs → flat_map byte_text (take i bs) ≡ take i bs
+    → IfOk r (λ _. new ≡ t ++ flat_map byte_text (take (length bs - i) (drop i bs))) → IfOk r (λ _. new ≡ old ++ flat_map byte_text bs)
+rest_ok (Err x) bs old t new i told plain tells = tt
+rest_ok (Ok x) bs old t new i told plain tells =
+    tells
+    ∙ ap (λ (l : List ℕ). t ++ flat_map byte_text l) (take_rest bs i)
+    ∙ ap (λ (l : List ℕ). l ++ flat_map byte_text (drop i bs)) (told ∙ ap (λ (l : List ℕ). old ++ l) (sym plain))
+    ∙ append_assoc old (flat_map byte_text (take i bs)) (flat_map byte_text (drop i bs))
+    ∙ ap (λ (l : List ℕ). old ++ l) (sym (flat_map-append byte_text (take i bs) (drop i bs)))
+    ∙ ap (λ (l : List ℕ). old ++ flat_map byte_text l) (take-append-drop i bs)

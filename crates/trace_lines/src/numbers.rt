@@ -56,6 +56,14 @@ pub(crate) fn push_decimal(number: u64, text: &mut String) -> Result<(), AllocEr
         push_digit(number / 10, text)?;
         return push_digit(number % 10, text);
     }
+    push_long(number, text)
+}
+
+// Adds a number by a buffer. This is no part of `push_decimal`, which would keep registers for it.
+#[inline(never)]
+fn push_long(number: u64, text: &mut String) -> Result<(), AllocError>
+    ensures { IfOk result (λ _. string_bytes text.new ≡ string_bytes text.old ++ decimal number) }
+{
     let mut buffer = Buffer::new();
     text.push_str(buffer.format(number))
 }

@@ -25,8 +25,21 @@ pub(crate) fn end_string(bytes: &[u8], text: &mut String) -> Result<(), AllocErr
     text.push('"')
 }
 
-// Adds the bytes, without quotes.
+// Adds the bytes, without quotes. Most often all are themselves.
 fn write_bytes(bytes: &[u8], text: &mut String) -> Result<(), AllocError>
+    ensures { IfOk result (λ _. string_bytes text.new ≡ string_bytes text.old ++ flat_map byte_text bytes.now) }
+{
+    let plain = plain_len(bytes);
+    push_plain(&bytes[..plain], text)?;
+    if plain == bytes.len() {
+        return Ok(());
+    }
+    write_pieces(&bytes[plain..], text)
+}
+
+// Adds the bytes, piece by piece. This is no part of `write_bytes`, which would keep registers for it.
+#[inline(never)]
+fn write_pieces(bytes: &[u8], text: &mut String) -> Result<(), AllocError>
     ensures { IfOk result (λ _. string_bytes text.new ≡ string_bytes text.old ++ flat_map byte_text bytes.now) }
 {
     let mut at = 0;

@@ -2,7 +2,7 @@ use Rattle.std.proofs.Common.{◌≡◌, ◌≤◌, ◌-◌, ◌++◌, length, t
 use Rattle.std.specs.String.{string_bytes}
 use Rattle.std.specs.List.{flat_map}
 use Rattle.trace_lines.specs.Strings.{byte_text}
-use Rattle.trace_lines.proofs.strings.write_bytes.Given as goal
+use Rattle.trace_lines.proofs.strings.write_pieces.Given as goal
 
 abbrev pub decreases-loop-at : goal.decreases-loop-at
 decreases-loop-at l = length l.bytes - l.at
