@@ -1,5 +1,6 @@
 -- The objects of lines. Serves `trace_line`, `trace_each` and `replay_traced`.
-use Rattle.std.proofs.Common.{◌≡◌, ℕ, ◌+◌, ◌<◌, List, [], ◌∷◌, ◌++◌, length, take, get_or, append_assoc, append-nil, ap, refl, sym, ◌∙◌}
+use Rattle.std.proofs.Common.{◌≡◌, ℕ, ◌+◌, ◌<◌, List, [], ◌++◌, length, take, get_or, append_assoc, append-nil, ap, refl, subst, sym, ◌∙◌, Result, Ok, Err}
+use Rattle.std.specs.Prelude.{OnOk}
 use Rattle.cpu_part.specs.Cpus.{KnownCpu}
 use Rattle.kill_notes.specs.declared.note.Note.{Note}
 use Rattle.kill_notes.specs.Notes.{KnownNotes}
@@ -13,6 +14,7 @@ use Rattle.script_replay.specs.Lines.{InOrder, SystemState, system_state}
 use Rattle.script_replay.specs.Routes.{ServesByRoute}
 use Rattle.script_replay.specs.Terms.{BootTables}
 use Rattle.script_replay.proofs.InOrder.{in_order_line}
+use Rattle.shown_states.specs.Advancing.{FollowLine, KnownBuffers}
 use Rattle.shown_states.specs.Cpus.{locked_with_looks}
 use Rattle.shown_states.specs.Frames.{flags_shown}
 use Rattle.shown_states.specs.Groups.{groups_shown}
@@ -46,13 +48,33 @@ state_observed locked after cpus others is same = λ i. system_state (is i) (sam
 
 -- nobody sees the snapshot
 pub snapshot_unseen : (machine : KnownMachine) (cpus : List KnownCpu) → trace_state_of (with_snapshot machine) cpus ≡ trace_state_of machine cpus
-unfolding (flags_shown, groups_shown)
+unfolding flags_shown groups_shown
 snapshot_unseen machine cpus = refl
+
+pub seen_again : {T E : Type 0} (r : Result T E) (looked after : KnownLocked) (cpus : List KnownCpu) (shown : KnownTraceState)
+    → OnOk r (after ≡ record looked { machine = with_snapshot looked.machine }) → trace_state_of looked.machine cpus ≡ shown
+    → OnOk r (trace_state_of after.machine cpus ≡ shown)
+seen_again (Err x) looked after cpus shown taken is = tt
+seen_again (Ok x) looked after cpus shown taken is =
+    ap (λ (l : KnownLocked). trace_state_of l.machine cpus) taken ∙ snapshot_unseen looked.machine cpus ∙ is
 
 -- the snapshot is taken after the looks
 pub then_snapshot : (locked looked after : KnownLocked) (count : ℕ) → looked ≡ locked_with_looks locked count
     → after ≡ record looked { machine = with_snapshot looked.machine } → after ≡ locked_observed locked count
 then_snapshot locked looked after count looks taken = taken ∙ ap (λ (l : KnownLocked). record l { machine = with_snapshot l.machine }) looks
+
+pub ok_observed : {T E : Type 0} (r : Result T E) (locked looked after : KnownLocked) (count : ℕ) → looked ≡ locked_with_looks locked count
+    → OnOk r (after ≡ record looked { machine = with_snapshot looked.machine }) → OnOk r (after ≡ locked_observed locked count)
+ok_observed (Err x) locked looked after count looks taken = tt
+ok_observed (Ok x) locked looked after count looks taken = then_snapshot locked looked after count looks taken
+
+-- what follows the records of now follows them as the snapshot
+pub ok_follows : {T E : Type 0} (r : Result T E) (locked looked after : KnownLocked) (count : ℕ) (shown : KnownTraceState) (buffers : KnownBuffers)
+    → looked ≡ locked_with_looks locked count → OnOk r (after ≡ record looked { machine = with_snapshot looked.machine })
+    → FollowLine locked.machine.frame_states shown buffers → OnOk r (FollowLine after.machine.snapshot shown buffers)
+ok_follows (Err x) locked looked after count shown buffers looks taken follow = tt
+ok_follows (Ok x) locked looked after count shown buffers looks taken follow =
+    subst (λ (l : KnownLocked). FollowLine l.machine.snapshot shown buffers) (sym (then_snapshot locked looked after count looks taken)) follow
 
 -- ---- one line
 

@@ -9,6 +9,7 @@ ghost use Rattle.script_replay.specs.Lines.{InOrder, system_state};
 ghost use Rattle.script_replay.specs.Ranges.{LineInRange};
 ghost use Rattle.script_replay.specs.Terms.{boot_tables};
 ghost use Rattle.shown_states.specs.Advancing.{FollowLine};
+ghost use Rattle.shown_states.specs.Cpus.{locked_with_looks};
 ghost use Rattle.shown_states.specs.Frames.{flags_shown};
 ghost use Rattle.shown_states.specs.Groups.{groups_shown};
 ghost use Rattle.shown_states.specs.States.{trace_state_of};
@@ -131,7 +132,7 @@ fn trace_line<N: BootName>(
     locked.prove_quiet(); // Called for its contract: `consistent`.
     answer.clear();
     let route = serve_traced_line(locked, tables, cpus, line, answer)?;
-    advance_by_route(alloc, &route, locked, tables, cpus, shown, buffers)?;
+    observe(alloc, &route, locked, tables, cpus, shown, buffers)?;
     let (notes, left_out) = notes_on(&route, locked.machine());
     let facts = line_facts(*number, *cpu, &route);
     let command = command_at(texts, *number);
@@ -149,7 +150,7 @@ fn trace_line<N: BootName>(
 }
 
 // Advances what is shown by a line that was served on this route, and takes a snapshot of the frames' records.
-fn advance_by_route<N: BootName>(
+fn observe<N: BootName>(
     alloc: Global,
     route: &Route,
     locked: &mut Locked<N>,
@@ -172,11 +173,37 @@ fn advance_by_route<N: BootName>(
     ensures again { OnOk result
         (trace_state_of locked.new.machine cpus.new ≡ trace_state_of locked.old.machine cpus.old) }
 {
-    match route {
-        Route::Unlocked => advance_unlocked(alloc, locked, tables, cpus, shown, buffers)?,
-        _ => advance(alloc, locked, tables, cpus, shown, buffers)?,
-    }
+    advance_by_route(alloc, route, locked, tables, cpus, shown, buffers)?;
     locked.take_snapshot(alloc)
+}
+
+// Advances what is shown by a line that was served on this route.
+fn advance_by_route<N: BootName>(
+    alloc: Global,
+    route: &Route,
+    locked: &mut Locked<N>,
+    tables: &Tables<N>,
+    cpus: &mut [Cpu<N>],
+    shown: &mut TraceState,
+    buffers: &mut Buffers,
+) -> Result<(), AllocError>
+    requires follow { FollowLine locked.old.machine.snapshot shown.old buffers.old }
+    requires groups { route.now ≡ Unlocked → shown.old.groups ≡ groups_shown locked.old.machine }
+    requires flags { route.now ≡ Unlocked → shown.old.flags ≡ flags_shown locked.old.machine }
+    ensures shown { OnOk result (shown.new ≡ trace_state_of locked.old.machine cpus.old) }
+    ensures changes { OnOk result (buffers.new.changes
+        ≡ changes_text (changes shown.old (trace_state_of locked.old.machine cpus.old))) }
+    ensures counts { OnOk result (buffers.new.counts
+        ≡ counts_part (changes shown.old (trace_state_of locked.old.machine cpus.old)).counts) }
+    ensures follow { OnOk result (FollowLine locked.old.machine.frame_states shown.new buffers.new) }
+    ensures looked { locked.new ≡ locked_with_looks locked.old (length cpus.old) }
+    ensures cpus { cpus.new ≡ cpus.old }
+    ensures again { trace_state_of locked.new.machine cpus.new ≡ trace_state_of locked.old.machine cpus.old }
+{
+    match route {
+        Route::Unlocked => advance_unlocked(alloc, locked, tables, cpus, shown, buffers),
+        _ => advance(alloc, locked, tables, cpus, shown, buffers),
+    }
 }
 
 // Shows what always holds of the CPUs: their lists and pins are what their seats know. It does nothing.

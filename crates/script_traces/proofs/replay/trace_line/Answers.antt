@@ -22,8 +22,8 @@ use Rattle.script_traces.proofs.UnlockedStays.{unlocked_shown}
 use Rattle.script_traces.proofs.Rebuilds.{line_rebuilds}
 use Rattle.script_traces.proofs.replay.trace_line.Goals as goal
 
-pub advance_by_route-requires : goal.advance_by_route-requires
-advance_by_route-requires g c =
+pub observe-requires : goal.observe-requires
+observe-requires g c =
     let by = c.in_ok-route.ensures.served in
     let t = g.N.BootName.frames in
     let before : SystemState = system_state c.args.locked.now c.args.cpus.now in
@@ -39,12 +39,12 @@ advance_by_route-requires g c =
 
 pub returns-clause-shown : goal.returns-clause-shown
 returns-clause-shown g c =
-    shown_after c.advance_by_route.new.shown c.serve_traced_line.new.locked c.advance_by_route.new.locked c.serve_traced_line.new.cpus
-    c.advance_by_route.new.cpus c.in_ok-advance_by_route.ensures.shown c.in_ok-advance_by_route.ensures.again
+    shown_after c.observe.new.shown c.serve_traced_line.new.locked c.observe.new.locked c.serve_traced_line.new.cpus
+    c.observe.new.cpus c.in_ok-observe.ensures.shown c.in_ok-observe.ensures.again
 
 pub returns-clause-tied : goal.returns-clause-tied
 returns-clause-tied g c =
-    subst (AreTied g.N.BootName.frames g.N.BootName.stocks) (sym c.advance_by_route.ensures.cpus)
+    subst (AreTied g.N.BootName.frames g.N.BootName.stocks) (sym c.observe.ensures.cpus)
     (c.in_ok-route.ensures.served.so.keeps.tied c.requires.tied)
 
 pub returns-clause-traced : goal.returns-clause-traced
@@ -55,7 +55,7 @@ returns-clause-traced g c =
     let left = c.serve_traced_line.new in
     let before : SystemState = system_state c.args.locked.now c.args.cpus.now in
     let served : SystemState = system_state left.locked left.cpus in
-    let after : SystemState = system_state c.advance_by_route.new.locked c.advance_by_route.new.cpus in
+    let after : SystemState = system_state c.observe.new.locked c.observe.new.cpus in
     let number = c.in-At.number in
     let cpu = c.in-At.cpu in
     let command = c.in-At.command in
@@ -70,7 +70,7 @@ returns-clause-traced g c =
     let keeps = by.so.keeps in
     let rebuilds = line_rebuilds t g.N.BootName.stocks c.args.line.now before served by.taken answer by.so.serves c.prove_quiet.ensures.consistent
     keeps.holds.consistent c.requires.tied (keeps.tied c.requires.tied) in
-    let observed = c.in_ok-advance_by_route.ensures.observed in
+    let observed = c.in_ok-observe.ensures.observed in
     let machine : c.machine.result.now.notes ≡ left.locked.machine.notes =
     ap (λ (m : KnownMachine). m.notes) c.machine.ensures.machine ∙ ap (λ (l : KnownLocked). l.machine.notes) observed in
     let notes : KnownNotes = notes_on route left.locked.machine.notes in
@@ -80,9 +80,9 @@ returns-clause-traced g c =
     let shown : KnownTraceState = c.args.shown.now in
     let now : KnownTraceState = trace_state_of left.locked.machine left.cpus in
     let changed = changes_same c.changes.result.now shown (system_shown before) now (system_shown served)
-    (c.changes.ensures ∙ c.in_ok-advance_by_route.ensures.changes) c.requires.shown (shown_as left.locked left.cpus) in
+    (c.changes.ensures ∙ c.in_ok-observe.ensures.changes) c.requires.shown (shown_as left.locked left.cpus) in
     let counted = counts_same c.counts.result.now shown (system_shown before) now (system_shown served)
-    (c.counts.ensures ∙ c.in_ok-advance_by_route.ensures.counts) c.requires.shown (shown_as left.locked left.cpus) in
+    (c.counts.ensures ∙ c.in_ok-observe.ensures.counts) c.requires.shown (shown_as left.locked left.cpus) in
     let object = object_same _ (line_facts number cpu route) _ _ _ answer c.changes.result.now (system_shown before) (system_shown served) _ notes.list
     _ notes.left_out c.counts.result.now
     (string_bytes c.args.trace.now) (string_bytes c.write_object.new.text) c.in_ok-write_object.ensures c.line_facts-facts.ensures
@@ -91,5 +91,5 @@ returns-clause-traced g c =
     counted in
     subst (λ (l : Line). GrowsBy (TracesLine tables texts l before after) (string_bytes c.args.trace.now) (string_bytes c.write_object.new.text)) (sym is)
     (line_traced tables texts number cpu command route answer before served after notes (string_bytes c.args.trace.now)
-    (string_bytes c.write_object.new.text) serves (state_observed left.locked c.advance_by_route.new.locked left.cpus c.advance_by_route.new.cpus observed c.advance_by_route.ensures.cpus)
-    rebuilds (shown_stays left.locked c.advance_by_route.new.locked left.cpus c.advance_by_route.new.cpus c.in_ok-advance_by_route.ensures.again) (λ i. notes) object)
+    (string_bytes c.write_object.new.text) serves (state_observed left.locked c.observe.new.locked left.cpus c.observe.new.cpus observed c.observe.ensures.cpus)
+    rebuilds (shown_stays left.locked c.observe.new.locked left.cpus c.observe.new.cpus c.in_ok-observe.ensures.again) (λ i. notes) object)
