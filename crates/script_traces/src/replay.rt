@@ -101,8 +101,8 @@ fn trace_each<N: BootName>(
     Ok(())
 }
 
-// Serves the line, and adds its object. `shown` is what is shown before it, and then what is shown after it. `answer` is
-// a spare buffer.
+// Serves the line, and adds its object. `shown` is what is shown before it, and then what is shown after it. `answer`
+// is a spare buffer.
 fn trace_line<N: BootName>(
     alloc: Global,
     locked: &mut Locked<N>,

@@ -24,7 +24,9 @@ use trace_lines::groups::add_group_row;
 use trace_lines::lists::{ListName, write_list};
 use trace_lines::trace_state::{Events, GroupRow, ShownGroup};
 
-// Whether these groups, by their numbers, have the numbers and paths of the machine's groups.
+// Whether these groups, by their numbers, have the numbers and paths of the machine's groups. It isn't inlined, because
+// its caller has no registers left for its loop.
+#[inline(never)]
 pub(crate) fn has_same_groups<N: BootName>(machine: &Machine<N>, groups: &[ShownGroup]) -> bool
     ensures { IsTrue result → AreSameGroups groups.now (groups_shown machine.now) }
 {
@@ -63,7 +65,8 @@ fn has_this_group<N: BootName>(
 }
 
 // Advances these groups to what the machine has of them now, and adds the changes of their lists and their rows that
-// changed. `units` is a spare buffer.
+// changed. `units` is a spare buffer. It isn't inlined, because its caller has no registers left for its loop.
+#[inline(never)]
 pub(crate) fn advance_groups<N: BootName>(
     machine: &Machine<N>,
     groups: &mut [ShownGroup],
@@ -283,14 +286,14 @@ fn is_row_now<N: BootName>(
                 && is_same_flag(row.oom_group, oom_group)))
 }
 
-// Whether these are the counts of the events.
+// Whether these are the counts of the events. There is no branch, so that the compiler compares several at once.
 fn are_events_now(shown: &Events, counts: EventCounts) -> bool
     ensures { result ≡ are_same_events shown.now (events_shown counts) }
 {
-    shown.max == counts.count(EventKey::Max)
-        && shown.oom == counts.count(EventKey::Oom)
-        && (shown.oom_kill == counts.count(EventKey::OomKill)
-            && shown.oom_group_kill == counts.count(EventKey::OomGroupKill))
+    (shown.max == counts.count(EventKey::Max))
+        & (shown.oom == counts.count(EventKey::Oom))
+        & ((shown.oom_kill == counts.count(EventKey::OomKill))
+            & (shown.oom_group_kill == counts.count(EventKey::OomGroupKill)))
 }
 
 // Whether the two limits are the same.

@@ -266,13 +266,13 @@ fn write_front(name: ListName, text: &mut String) -> Result<(), AllocError>
 fn write_name(name: ListName, text: &mut String) -> Result<(), AllocError>
     ensures { IfOk result (λ _. string_bytes text.new ≡ string_bytes text.old ++ (codes "[\"" ++ name_text name)) }
 {
-    let (letter, number) = match name {
+    let (front, number) = match name {
         ListName::Listed { cpu } => ("[\"l", cpu),
         ListName::Fresh { cpu } => ("[\"n", cpu),
         ListName::Back { cpu } => ("[\"b", cpu),
         ListName::Inactive { group } => ("[\"i", group),
         ListName::Active { group } => ("[\"a", group),
     };
-    text.push_str(letter)?;
+    text.push_str(front)?;
     push_decimal(number as u64, text)
 }
