@@ -9,3 +9,4 @@ pub mod RebuiltLists
 pub mod RebuiltCpus
 pub mod Rebuilt
 pub mod Touched
+pub mod Pins
