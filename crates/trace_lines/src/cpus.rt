@@ -1,6 +1,7 @@
 //! The pins and the stocks that changed.
 
-ghost use Rattle.std.specs.Prelude.{◌≡◌, ◌≢◌, ◌<◌, ◌≤◌, ◌++◌, ℕ, IfOk, codes, false, length, slice_index, slice_index_or};
+ghost use Rattle.std.specs.Prelude.{◌≡◌, ◌≢◌, ◌<◌, ◌≤◌, ◌++◌, ℕ, IfOk, codes, false, length};
+ghost use Rattle.std.specs.Prelude.{slice_index, slice_index_or};
 ghost use Rattle.std.specs.List.Sorted.{IsNonDecreasing, IsPermutation};
 ghost use Rattle.std.specs.Option.{option_map_or};
 ghost use Rattle.std.specs.String.{string_bytes};
@@ -97,8 +98,8 @@ fn sorted_pins(alloc: Global, pins: &[u32]) -> Result<Vec<u32>, AllocError>
     Ok(sorted)
 }
 
-// Adds the changes of one CPU's pins, which ascend. Each round takes the least frame that is left, so that frames without
-// pins cost nothing.
+// Adds the changes of one CPU's pins, which ascend. Each round takes the least frame that is left, so that frames
+// without pins cost nothing.
 fn add_sorted_pin_changes(
     cpu: usize,
     frames: usize,
