@@ -10,3 +10,4 @@ pub mod RebuiltLists
 pub mod RebuiltCpus
 pub mod Rebuilt
 pub mod Touched
+pub mod Pins

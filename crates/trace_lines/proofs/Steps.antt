@@ -1,7 +1,7 @@
 -- One step of each loop: the first of the rest is written, and the others are left.
-use Rattle.std.proofs.Common.{◌≡◌, ◌∙◌, ℕ, zero, suc, ◌+◌, ◌-◌, ◌<◌, ◌≤◌, Bool, true, false, cond, List, [], ◌∷◌, ◌++◌, length, get_or, drop, take, min, Result, Ok, Err, IfOk, inl, inr, append_assoc, arith, ap, sym, refl}
-use Rattle.std.specs.Prelude.{◌⊎◌, ◌==◌, ◌||◌, not, if◌then◌else◌}
-use Rattle.std.specs.List.{flat_map, fold, range_with_len}
+use Rattle.std.proofs.Common.{◌≡◌, ◌∙◌, ℕ, zero, suc, ◌+◌, ◌-◌, ◌<◌, ◌≤◌, Bool, true, false, cond, List, [], ◌∷◌, ◌++◌, length, get_or, drop, min, Result, Ok, Err, IfOk, inl, inr, append_assoc, arith, ap, sym, refl}
+use Rattle.std.specs.Prelude.{◌⊎◌, ◌==◌, ◌||◌, not}
+use Rattle.std.specs.List.{flat_map, range_with_len}
 use Rattle.std.proofs.Math.Seq.{drop-cons}
 use Rattle.std.proofs.lemmas.Bool.{cases_Bool, cases_lt, cond-true, cond-false, eq-eqb, eqb-true, false≢true}
 use Rattle.trace_lines.specs.TraceState.{KnownShownGroup, KnownShownCpu}
@@ -13,7 +13,7 @@ use Rattle.trace_lines.specs.declared.lists.ListName.TheVariants.{Listed, Fresh,
 use Rattle.trace_lines.specs.TraceState.{KnownTraceState}
 use Rattle.trace_lines.specs.Changes.{active_of, added_of, changed_list, group_list_changes, group_numbered, groups_list_changes, has_entry, inactive_of, is_change, removed_of, list_change, list_changes}
 use Rattle.trace_lines.specs.Parts.{list_change_text, part_text}
-use Rattle.trace_lines.specs.Writing.{AddsLists, AddsPins, count_changes, stop_text}
+use Rattle.trace_lines.specs.Writing.{AddsLists, stop_text}
 use Rattle.std.specs.Str.{bytes_eq}
 use Rattle.trace_lines.specs.declared.place.ShownPlace.{ShownPlace}
 use Rattle.trace_lines.specs.Changes.{frame_spans}
@@ -271,75 +271,7 @@ list_changed name o n e =
     let change : ListChange = record { name = name; removed = removed_of o n; added = added_of o n } in
     cond-true (is_change change) (change ∷ []) [] (has_changed o n (λ same. false≢true (sym e ∙ (bytes_eq-Decides o n).1 same)))
 
--- ---- counts of pins
-
-one_most : (b : Bool) → (if b then 1 else 0) ≤ 1
-one_most true = omega arith
-one_most false = omega arith
-
-most_from : (frame start i : ℕ) (pins : List ℕ)
-    → fold (λ (sum : ℕ) (pin : ℕ). sum + (if pin == frame then 1 else 0)) start (take i pins) ≤ start + i
-most_from frame start zero pins = omega arith
-most_from frame start (suc i) [] = omega arith
-most_from frame start (suc i) (p ∷ pins) =
-    let one = one_most (p == frame) in
-    let rest = most_from frame (start + (if p == frame then 1 else 0)) i pins in
-    omega (arith, one, rest)
-
--- of so many pins, no more are on one frame
-pub pins_on_most : (frame i : ℕ) (pins : List ℕ) → pins_on frame (take i pins) ≤ i
-pins_on_most frame i pins =
-    let most : pins_on frame (take i pins) ≤ 0 + i = most_from frame 0 i pins in
-    omega (arith, most)
-
-pub counts_read : (q k i : ℕ) (b a : List ℕ) (d : ℕ) → i < min (length b) (length a)
-    → count_changes q k (drop i b) (drop i a) ≡ pin_change q k (get_or b i d) (get_or a i d) ++ count_changes q (k + 1) (drop (i + 1) b) (drop (i + 1) a)
-counts_read q k i b a d lt =
-    ap (λ (l : List ℕ). count_changes q k l (drop i a)) (at_read b i d (omega arith))
-    ∙ ap (λ (l : List ℕ). count_changes q k (get_or b i d ∷ drop (i + 1) b) l) (at_read a i d (omega arith))
-
-counts_none : (q k : ℕ) (b : List ℕ) → count_changes q k b [] ≡ []
-counts_none q k [] = refl
-counts_none q k (o ∷ b) = refl
-
-pub counts_end : (q k i : ℕ) (b a : List ℕ) → min (length b) (length a) ≤ i → count_changes q k (drop i b) (drop i a) ≡ []
-counts_end q k i b a le = elim (either_ends (length b) (length a) i le) [
-  | inl lb ↦ ap (λ (l : List ℕ). count_changes q k l (drop i a)) (no_more b i lb)
-  | inr la ↦ ap (λ (l : List ℕ). count_changes q k (drop i b) l) (no_more a i la) ∙ counts_none q k (drop i b)
-]
-
--- the counts are those of the pins
-counts_from : (q k m : ℕ) (b a old new : List ℕ) → length old ≡ m → length new ≡ m
-    → ((i : ℕ) → i < m → get_or old i 0 ≡ pins_on (k + i) b) → ((i : ℕ) → i < m → get_or new i 0 ≡ pins_on (k + i) a)
-    → count_changes q k old new ≡ flat_map (λ f. pin_change q f (pins_on f b) (pins_on f a)) (range_with_len k m)
-counts_from q k zero b a [] new lo ln co cn = refl
-counts_from q k zero b a (o ∷ old) new lo ln co cn = absurd (omega arith)
-counts_from q k (suc m) b a [] new lo ln co cn = absurd (omega arith)
-counts_from q k (suc m) b a (o ∷ old) [] lo ln co cn = absurd (omega arith)
-counts_from q k (suc m) b a (o ∷ old) (n ∷ new) lo ln co cn =
-    let here : k + 0 ≡ k = omega arith in
-    let eo : o ≡ pins_on k b = co 0 (omega arith) ∙ ap (λ (f : ℕ). pins_on f b) here in
-    let en : n ≡ pins_on k a = cn 0 (omega arith) ∙ ap (λ (f : ℕ). pins_on f a) here in
-    let next : (i : ℕ) → k + suc i ≡ k + 1 + i = λ i. omega arith in
-    ap (λ (x : ℕ). pin_change q k x n ++ count_changes q (k + 1) old new) eo
-    ∙ ap (λ (x : ℕ). pin_change q k (pins_on k b) x ++ count_changes q (k + 1) old new) en
-    ∙ ap (λ (l : List PinChange). pin_change q k (pins_on k b) (pins_on k a) ++ l)
-    (counts_from q (k + 1) m b a old new (omega arith) (omega arith)
-    (λ i lt. co (suc i) (omega arith) ∙ ap (λ (f : ℕ). pins_on f b) (next i))
-    (λ i lt. cn (suc i) (omega arith) ∙ ap (λ (f : ℕ). pins_on f a) (next i)))
-
-pub counts_ok : {T E : Type 0} (r : Result T E) (q frames : ℕ) (b b' a a' old new : List ℕ) (f f' : Bool) (t t' : List ℕ) → b ≡ b' → a ≡ a'
-    → length old ≡ frames → length new ≡ frames
-    → ((i : ℕ) → i < frames → get_or old i 0 ≡ pins_on i b) → ((i : ℕ) → i < frames → get_or new i 0 ≡ pins_on i a)
-    → IfOk r (λ _. AddsPins f f' t t' (count_changes q 0 old new)) → IfOk r (λ _. AddsPins f f' t t' (pin_changes q frames b' a'))
-counts_ok r q frames b b' a a' old new f f' t t' eb ea lo ln co cn one =
-    let none : (i : ℕ) → i ≡ 0 + i = λ i. omega arith in
-    let are : count_changes q 0 old new ≡ pin_changes q frames b a =
-    counts_from q 0 frames b a old new lo ln
-    (λ i lt. co i lt ∙ ap (λ (x : ℕ). pins_on x b) (none i)) (λ i lt. cn i lt ∙ ap (λ (x : ℕ). pins_on x a) (none i)) in
-    subst (λ (x : List ℕ). IfOk r (λ _. AddsPins f f' t t' (pin_changes q frames b' x))) ea
-    (subst (λ (x : List ℕ). IfOk r (λ _. AddsPins f f' t t' (pin_changes q frames x a))) eb
-    (subst (λ (x : List PinChange). IfOk r (λ _. AddsPins f f' t t' x)) are one))
+-- ---- pins and stocks
 
 -- equal pins
 pub pins_equal : (q frames : ℕ) (b a : List ℕ) → bytes_eq b a ≡ true → pin_changes q frames b a ≡ []

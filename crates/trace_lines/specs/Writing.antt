@@ -1,7 +1,7 @@
 -- How an optional part is written, an item at a time.
 use Rattle.std.specs.Prelude.{◌≡◌, ◌+◌, ◌≤◌, ◌==◌, if◌then◌else◌, drop, length, ℕ, Bool, true, false, Option, Some}
 use Rattle.std.specs.Prelude.{None, List, [], ◌∷◌, ◌++◌, codes}
-use Rattle.trace_lines.specs.Changes.{FlagChange, ListChange, PinChange, StockChange, added_of, removed_of, pin_change}
+use Rattle.trace_lines.specs.Changes.{FlagChange, ListChange, PinChange, StockChange, added_of, removed_of}
 use Rattle.trace_lines.specs.TraceState.{KnownShownGroup}
 use Rattle.trace_lines.specs.declared.frames.FrameSpan.{FrameSpan}
 use Rattle.std.specs.Fmt.{decimal}
@@ -101,10 +101,3 @@ pub record KeepsOne (old : ℕ) (after : List ℕ) (kept : ℕ) (span next : Opt
   pub removed_are : (rest : List ℕ) → new ++ spans_behind next (removed_of rest (drop now after))
       ≡ text ++ spans_behind span (removed_of (old ∷ rest) (drop kept after))
   pub added_are : (rest : List ℕ) → added_of rest (drop now after) ≡ added_of (old ∷ rest) (drop kept after)
-
--- the frames from this one on whose number of pins changed
-abbrev pub count_changes : (cpu frame : ℕ) → (before after : List ℕ) → List PinChange
-count_changes cpu frame [] after = []
-count_changes cpu frame (old ∷ before) [] = []
-count_changes cpu frame (old ∷ before) (new ∷ after) = pin_change cpu frame old new
-    ++ count_changes cpu (frame + 1) before after

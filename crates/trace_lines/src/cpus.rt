@@ -1,12 +1,14 @@
 //! The pins and the stocks that changed.
 
-ghost use Rattle.std.specs.Prelude.{◌≡◌, ◌++◌, IfOk, codes, false, ℕ, ◌<◌, length, get_or};
+ghost use Rattle.std.specs.Prelude.{◌≡◌, ◌≢◌, ◌<◌, ◌≤◌, ◌++◌, ℕ, IfOk, codes, false, length};
+ghost use Rattle.std.specs.Prelude.{slice_index, slice_index_or};
+ghost use Rattle.std.specs.List.Sorted.{IsNonDecreasing, IsPermutation};
 ghost use Rattle.std.specs.Option.{option_map_or};
 ghost use Rattle.std.specs.String.{string_bytes};
 ghost use Rattle.trace_lines.specs.Changes.{cpus_pin_changes, is_same_stock, pin_change, pin_changes, pins_on};
 ghost use Rattle.trace_lines.specs.Changes.{stock_change, stock_changes};
 ghost use Rattle.trace_lines.specs.Parts.{part_text, pin_change_text, stock_change_text};
-ghost use Rattle.trace_lines.specs.Writing.{AddsPins, AddsStocks, count_changes};
+ghost use Rattle.trace_lines.specs.Writing.{AddsPins, AddsStocks};
 
 use crate::groups::is_same_limit;
 use crate::numbers::{are_same_numbers, push_char_and_number, write_number};
@@ -81,26 +83,74 @@ pub fn add_pin_changes(
     if are_same_numbers(before, after) {
         return Ok(());
     }
-    let old = count_pins(alloc, frames, before)?;
-    let new = count_pins(alloc, frames, after)?;
-    add_counts(cpu, &old, &new, is_first, text)
+    let before = sorted_pins(alloc, before)?;
+    let after = sorted_pins(alloc, after)?;
+    add_sorted_pin_changes(cpu, frames, &before, &after, is_first, text)
 }
 
-// Adds a CPU's pins on each frame, if their number changed.
-fn add_counts(
+// The pins in ascending order.
+fn sorted_pins(alloc: Global, pins: &[u32]) -> Result<Vec<u32>, AllocError>
+    ensures ascending { IfOk result (λ sorted. IsNonDecreasing sorted.items) }
+    ensures same { IfOk result (λ sorted. IsPermutation pins.now sorted.items) }
+{
+    let mut sorted = Vec::from_slice(alloc, pins)?;
+    sorted.sort_unstable();
+    Ok(sorted)
+}
+
+// Adds the changes of one CPU's pins, which ascend. Each round takes the least frame that is left, so that frames
+// without pins cost nothing.
+fn add_sorted_pin_changes(
     cpu: usize,
-    before: &[usize],
-    after: &[usize],
+    frames: usize,
+    before: &[u32],
+    after: &[u32],
     is_first: &mut bool,
     text: &mut String,
 ) -> Result<(), AllocError>
+    requires before { IsNonDecreasing before.now }
+    requires after { IsNonDecreasing after.now }
     ensures { IfOk result (λ _. AddsPins is_first.old is_first.new (string_bytes text.old) (string_bytes text.new)
-        (count_changes cpu 0 before.now after.now)) }
+        (pin_changes cpu frames before.now after.now)) }
 {
-    for frame in 0..before.len().min(after.len()) {
-        add_pins(cpu, frame, before[frame], after[frame], is_first, text)?;
+    let mut old = 0;
+    let mut new = 0;
+    loop {
+        let frame = pin_or(before, old, frames).min(pin_or(after, new, frames));
+        if frame >= frames {
+            return Ok(());
+        }
+        let old_end = end_of_pins(before, old, frame);
+        let new_end = end_of_pins(after, new, frame);
+        add_pins(cpu, frame, old_end - old, new_end - new, is_first, text)?;
+        old = old_end;
+        new = new_end;
     }
-    Ok(())
+}
+
+// The frame of the pin at this index, or the other one, if there is no such pin.
+fn pin_or(pins: &[u32], index: usize, other: usize) -> usize
+    ensures { result ≡ slice_index_or pins.now index other }
+{
+    match pins.get(index) {
+        Some(&pin) => pin as usize,
+        None => other,
+    }
+}
+
+// The index behind the pins on this frame, from `start` on.
+fn end_of_pins(pins: &[u32], start: usize, frame: usize) -> usize
+    requires { start ≤ length pins.now }
+    ensures least { start ≤ result }
+    ensures most { result ≤ length pins.now }
+    ensures on_frame { (index : ℕ) → start ≤ index → index < result → slice_index pins.now index ≡ frame }
+    ensures ends { result < length pins.now → slice_index pins.now result ≢ frame }
+{
+    let mut end = start;
+    while end < pins.len() && pins[end] as usize == frame {
+        end += 1;
+    }
+    end
 }
 
 // Adds a CPU's pins on one frame, if their number changed.
@@ -120,32 +170,6 @@ fn add_pins(
     }
     push_start(",\"pins\":[", is_first, text)?;
     write_pin_change(cpu, frame, after, text)
-}
-
-// How many of the pins are on each of so many frames.
-fn count_pins(alloc: Global, frames: usize, pins: &[u32]) -> Result<Vec<usize>, AllocError>
-    ensures length { IfOk result (λ counts. length counts.items ≡ frames) }
-    ensures counts { IfOk result (λ counts. (frame : ℕ) → frame < frames
-        → get_or counts.items frame 0 ≡ pins_on frame pins.now) }
-{
-    let mut counts = vec![in alloc; 0; frames]?;
-    count_each(pins, &mut counts);
-    Ok(counts)
-}
-
-// Counts the pins on each frame, from 0 on.
-#[tactic(auto, using(crate::proofs::Steps::pins_on_most))]
-fn count_each(pins: &[u32], counts: &mut [usize])
-    requires { (frame : ℕ) → get_or counts.old frame 0 ≡ 0 }
-    ensures length { length counts.new ≡ length counts.old }
-    ensures counts { (frame : ℕ) → frame < length counts.old → get_or counts.new frame 0 ≡ pins_on frame pins.now }
-{
-    for &pin in pins {
-        let frame = pin as usize;
-        if frame < counts.len() {
-            counts[frame] += 1;
-        }
-    }
 }
 
 // Adds how many pins a CPU has on a frame.
