@@ -25,7 +25,7 @@ use Rattle.shown_states.specs.declared.advance_cpus.CpuParts.{CpuParts}
 use Rattle.shown_states.specs.declared.part.Part.{Part}
 use Rattle.shown_states.specs.Advancing.{FollowLine, HasCpus, KnownBuffers}
 use Rattle.shown_states.specs.Changed.{PlacesFollow}
-use Rattle.shown_states.specs.FlagTables.{AreFlagsReady}
+use Rattle.shown_states.specs.FlagTables.{FlagsFollow}
 use Rattle.shown_states.specs.Cpus.{cpus_shown, with_looks}
 use Rattle.shown_states.specs.Frames.{flags_shown, places_shown, record_of}
 use Rattle.shown_states.specs.Groups.{AreSameGroups, groups_shown}
@@ -271,7 +271,7 @@ ok_any P (Err x) holds = tt
 
 -- buffers that follow a line for both their places and their flags
 pub ok_follow : {T E : Type 0} (r : Result T E) (records : List FrameState) (state : KnownTraceState) (buffers : KnownBuffers)
-    → OnOk r (PlacesFollow records state.places buffers.places) → OnOk r (AreFlagsReady state buffers.flags) → OnOk r (FollowLine records state buffers)
+    → OnOk r (PlacesFollow records state.places buffers.places) → OnOk r (FlagsFollow state buffers.flags) → OnOk r (FollowLine records state buffers)
 ok_follow (Ok x) records state buffers places flags = record { places = places; flags = flags }
 ok_follow (Err x) records state buffers places flags = tt
 

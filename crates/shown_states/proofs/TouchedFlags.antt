@@ -13,12 +13,9 @@ use Rattle.trace_lines.specs.TraceState.{KnownShownGroup, KnownTraceState}
 use Rattle.trace_lines.specs.Rebuilding.{no_flags}
 use Rattle.trace_lines.specs.Touched.{DifferOnlyAt}
 use Rattle.shown_states.specs.declared.flag_table.FlagTable.{FlagTable}
-use Rattle.shown_states.specs.FlagTables.{AreFlagsReady, AreFlagsUnset, HasFlagsOf, OthersHaveNoFlags, TouchesFlags, units_on_lists}
+use Rattle.shown_states.specs.FlagTables.{FlagsFollow, AreFlagsUnset, FlagsAreReady, OthersHaveNoFlags, TouchesFlags, units_on_lists}
 
 -- ---- what is touched
-
-pub touches_none : (touched : List ℕ) (flags : List Flags) → TouchesFlags touched touched flags flags
-touches_none touched flags = record { frames = refl; kept = λ frame is. is; others = λ frame not. refl }
 
 pub touches_both : (first mid last : List ℕ) (old now new : List Flags) → TouchesFlags first mid old now → TouchesFlags mid last now new
     → TouchesFlags first last old new
@@ -185,7 +182,7 @@ differ_read touched its_touched before its_before after its_after same_touched s
 
 -- the table has the flags of a state with these groups and flags
 pub ready_after : (state : KnownTraceState) (table : FlagTable) (groups : List KnownShownGroup) (flags : List Flags) → state.groups ≡ groups
-    → state.flags ≡ flags → table.flags.items ≡ state.flags → OthersHaveNoFlags (units_on_lists groups) flags → HasFlagsOf state table
+    → state.flags ≡ flags → table.flags.items ≡ state.flags → OthersHaveNoFlags (units_on_lists groups) flags → FlagsAreReady state table
 ready_after state table groups flags same_groups same_flags copied others = record {
   flags = copied;
   others = subst (λ (l : List KnownShownGroup). OthersHaveNoFlags (units_on_lists l) state.flags) (sym same_groups)
@@ -195,7 +192,7 @@ ready_after state table groups flags same_groups same_flags copied others = reco
 -- ---- a state with the same flags
 
 pub ready_same : (state other : KnownTraceState) (table : FlagTable) → other.flags ≡ state.flags → other.groups ≡ state.groups
-    → AreFlagsReady state table → AreFlagsReady other table
+    → FlagsFollow state table → FlagsFollow other table
 ready_same state other table same_flags same_groups ready is =
     let has = ready is in
     ready_after other table state.groups state.flags same_groups same_flags (has.flags ∙ sym same_flags) has.others

@@ -9,7 +9,7 @@ use Rattle.trace_lines.specs.Writing.{AddsLists, AddsPins, AddsStocks}
 use Rattle.mem_machine.specs.declared.frame_state.FrameState.{FrameState}
 use Rattle.shown_states.specs.Parts.{HasItems}
 use Rattle.shown_states.specs.Changed.{PlacesFollow}
-use Rattle.shown_states.specs.FlagTables.{AreFlagsReady}
+use Rattle.shown_states.specs.FlagTables.{FlagsFollow}
 use Rattle.shown_states.specs.declared.place_tables.PlaceTables.{PlaceTables}
 use Rattle.shown_states.specs.declared.flag_table.FlagTable.{FlagTable}
 use Rattle.shown_states.specs.declared.advance_cpus.CpuParts.{CpuParts}
@@ -51,4 +51,4 @@ pub record KnownBuffers : Type 0 where
 -- the buffers are of no line, or of the one at which the frames had these records and the state was this one
 pub record FollowLine (records : List FrameState) (state : KnownTraceState) (buffers : KnownBuffers) : Type 0 where
   pub places : PlacesFollow records state.places buffers.places
-  pub flags : AreFlagsReady state buffers.flags
+  pub flags : FlagsFollow state buffers.flags

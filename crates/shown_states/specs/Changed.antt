@@ -66,8 +66,8 @@ pub record PlacesAreReady (states : List FrameState) (places : List ShownPlace) 
 abbrev pub PlacesFollow : List FrameState → List ShownPlace → PlaceTables → Type 0
 PlacesFollow states places tables = IsTrue tables.is_ready → PlacesAreReady states places tables
 
--- The places of the state were set to those that the machine and these CPUs show, and the part that tells which frames
--- have a new place was added to the text.
+-- The places of the state were set to those that the machine and these CPUs show. The part with the frames that have a
+-- new place was added to the text.
 pub record AdvancesPlaces (machine : KnownMachine) (cpus : List KnownCpu) (before after : KnownTraceState)
     (old new : List ℕ) : Type 0 where
   pub state : after ≡ record before { places = places_shown machine cpus }

@@ -23,15 +23,15 @@ pub record TouchesFlags (before after : List ℕ) (old new : List Flags) : Type 
   pub others : (frame : ℕ) → (Contains after frame → ⊥) → get_or old frame no_flags ≡ get_or new frame no_flags
 
 -- The table is ready for the next line: it has the flags of the state, and only units of the state's groups have any.
-pub record HasFlagsOf (state : KnownTraceState) (table : FlagTable) : Type 0 where
+pub record FlagsAreReady (state : KnownTraceState) (table : FlagTable) : Type 0 where
   pub flags : table.flags.items ≡ state.flags
   pub others : OthersHaveNoFlags (units_on_lists state.groups) state.flags
 
 -- the table is ready if it says so
-abbrev pub AreFlagsReady : KnownTraceState → FlagTable → Type 0
-AreFlagsReady state table = IsTrue table.is_ready → HasFlagsOf state table
+abbrev pub FlagsFollow : KnownTraceState → FlagTable → Type 0
+FlagsFollow state table = IsTrue table.is_ready → FlagsAreReady state table
 
--- no frame has flags in the table any more, and those that had these are touched
+-- no frame has flags in the table any more, and each frame that had some is among the touched ones
 pub record HasFlagsUnset (flags : List Flags) (table : FlagTable) : Type 0 where
   pub none : table.flags.items ≡ replicate (length flags) no_flags
   pub touched : TouchesFlags [] table.touched.items flags table.flags.items

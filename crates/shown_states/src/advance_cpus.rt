@@ -22,7 +22,7 @@ use trace_lines::cpus::{add_pin_changes, add_stock};
 use trace_lines::lists::{ListName, write_list};
 use trace_lines::trace_state::{ShownCpu, ShownStock};
 
-// The parts that tell of the CPUs, and a spare buffer for the entries of one list.
+// The parts of the CPUs, and a spare buffer for the entries of one list.
 #[derive(Drop)]
 pub(crate) struct CpuParts {
     pub(crate) lists: Part,

@@ -7,7 +7,7 @@ ghost use Rattle.trace_lines.specs.Changes.{flag_changes};
 ghost use Rattle.trace_lines.specs.Parts.{flag_change_text, part_text};
 ghost use Rattle.trace_lines.specs.Rebuilding.{no_flags};
 ghost use Rattle.mem_machine.specs.Machines.{entries_in};
-ghost use Rattle.shown_states.specs.FlagTables.{AreFlagsUnset, HasFlagsOf, HasFlagsUnset, OthersHaveNoFlags};
+ghost use Rattle.shown_states.specs.FlagTables.{AreFlagsUnset, FlagsAreReady, HasFlagsUnset, OthersHaveNoFlags};
 ghost use Rattle.shown_states.specs.FlagTables.{TouchesFlags, units_on_lists};
 ghost use Rattle.shown_states.specs.Frames.{flags_shown, kept_in, with_flags};
 ghost use Rattle.shown_states.specs.Groups.{group_shown, groups_shown, numbers_of};
@@ -36,7 +36,7 @@ pub(crate) fn advance_flags<N: BootName>(
     ensures state { OnOk result (state.new ≡ record state.old { flags = flags_shown machine.now }) }
     ensures text { OnOk result (string_bytes text.new ≡ string_bytes text.old
         ++ part_text (codes "flags") flag_change_text (flag_changes 0 state.old.flags state.new.flags)) }
-    ensures ready { OnOk result (HasFlagsOf state.new table.new) }
+    ensures ready { OnOk result (FlagsAreReady state.new table.new) }
 {
     if table.is_ready && table.flags.len() == machine.frame_states().len() {
         return advance_touched(machine, state, table, text);
@@ -58,7 +58,7 @@ fn advance_touched<N: BootName>(
     ensures state { OnOk result (state.new ≡ record state.old { flags = flags_shown machine.now }) }
     ensures text { OnOk result (string_bytes text.new ≡ string_bytes text.old
         ++ part_text (codes "flags") flag_change_text (flag_changes 0 state.old.flags state.new.flags)) }
-    ensures ready { OnOk result (HasFlagsOf state.new table.new) }
+    ensures ready { OnOk result (FlagsAreReady state.new table.new) }
 {
     set_flags_of_groups(
         machine,
@@ -84,7 +84,7 @@ fn replace_flags<N: BootName>(
     ensures state { OnOk result (state.new ≡ record state.old { flags = flags_shown machine.now }) }
     ensures text { OnOk result (string_bytes text.new ≡ string_bytes text.old
         ++ part_text (codes "flags") flag_change_text (flag_changes 0 state.old.flags state.new.flags)) }
-    ensures ready { OnOk result (HasFlagsOf state.new table.new) }
+    ensures ready { OnOk result (FlagsAreReady state.new table.new) }
 {
     fill_flags(
         machine,

@@ -20,9 +20,9 @@ use trace_lines::frames::{FrameSpan, write_frames, write_frames_at};
 use trace_lines::place::ShownPlace;
 use trace_lines::trace_state::TraceState;
 
-// Sets the places of the state to those that the machine and the CPUs show now, and adds the part that tells which
-// frames have a new place. If the tables are ready, and the frames whose states changed since are known, it looks at
-// these and at the fresh frames alone.
+// Sets the places of the state to those that the machine and the CPUs show now, and adds the part with the frames that
+// have a new place. If the tables are ready, and the machine says which records were written since, it looks only at
+// the frames of these and at the fresh ones.
 pub(crate) fn advance_frames<N: BootName>(
     alloc: Global,
     machine: &Machine<N>,

@@ -10,7 +10,7 @@ ghost use Rattle.mem_machine.specs.declared.frame_state.FrameState.{FrameState};
 ghost use Rattle.shown_states.specs.Advancing.{FollowLine, HasCpus};
 ghost use Rattle.shown_states.specs.Changed.{PlacesFollow};
 ghost use Rattle.shown_states.specs.Cpus.{cpus_shown, locked_with_looks};
-ghost use Rattle.shown_states.specs.FlagTables.{AreFlagsReady};
+ghost use Rattle.shown_states.specs.FlagTables.{FlagsFollow};
 ghost use Rattle.shown_states.specs.Frames.{flags_shown};
 ghost use Rattle.shown_states.specs.Groups.{AreSameGroups, groups_shown};
 ghost use Rattle.shown_states.specs.Parts.{HasItems, gone_and_made_text, part_bytes};
@@ -105,9 +105,14 @@ impl Buffers {
 
 /// Advances a state to what is shown of the machine and of these CPUs, as `trace_state` shows it, and sets the texts of
 /// what changed. It allocates only if a buffer or a list of the state has to grow, or if the groups or the number of
-/// CPUs aren't those of the state. It fails only if memory runs out; it has looked at the stocks then all the same, and
-/// what the state and the texts are says nothing. If the machine's snapshot was taken behind the last line, only the
-/// frames whose records were written since and the fresh frames are looked at.
+/// CPUs aren't those of the state.
+///
+/// It fails only if memory runs out. It has looked at the stocks then all the same, and what the state, the texts and
+/// the buffers are says nothing: go on with new buffers and a new `trace_state`.
+///
+/// For the places of frames it looks only at those whose records were written since the machine's snapshot, and at the
+/// fresh ones. It looks at all if these buffers are new, or if the machine can't say which were written. So take a
+/// snapshot (`Locked::take_snapshot`) after each call.
 pub fn advance<N: BootName>(
     alloc: Global,
     locked: &mut Locked<N>,
@@ -222,14 +227,14 @@ fn advance_parts<N: BootName>(
 ) -> Result<(), AllocError>
     requires cpus { length state.old.cpus ≡ length cpus.old }
     requires places { PlacesFollow locked.old.machine.snapshot state.old.places parts.old.places }
-    requires flags { AreFlagsReady state.old parts.old.flags }
+    requires flags { FlagsFollow state.old parts.old.flags }
     ensures state { OnOk result (state.new ≡ trace_state_of locked.old.machine cpus.old) }
     ensures changes { OnOk result (string_bytes text.new
         ≡ changes_text (changes state.old (trace_state_of locked.old.machine cpus.old))) }
     ensures counts { OnOk result (string_bytes counts.new
         ≡ counts_part (changes state.old (trace_state_of locked.old.machine cpus.old)).counts) }
     ensures places { OnOk result (PlacesFollow locked.old.machine.frame_states state.new.places parts.new.places) }
-    ensures flags { OnOk result (AreFlagsReady state.new parts.new.flags) }
+    ensures flags { OnOk result (FlagsFollow state.new parts.new.flags) }
     ensures looked { locked.new ≡ locked_with_looks locked.old (length cpus.old) }
     ensures cpus { cpus.new ≡ cpus.old }
 {
@@ -278,14 +283,14 @@ fn advance_cpu_parts<N: BootName>(
     requires groups { state.old.groups ≡ groups_shown locked.old.machine }
     requires flags { state.old.flags ≡ flags_shown locked.old.machine }
     requires places { PlacesFollow locked.old.machine.snapshot state.old.places parts.old.places }
-    requires table { AreFlagsReady state.old parts.old.flags }
+    requires table { FlagsFollow state.old parts.old.flags }
     ensures state { OnOk result (state.new ≡ trace_state_of locked.old.machine cpus.old) }
     ensures changes { OnOk result (string_bytes text.new
         ≡ changes_text (changes state.old (trace_state_of locked.old.machine cpus.old))) }
     ensures counts { OnOk result (string_bytes counts.new
         ≡ counts_part (changes state.old (trace_state_of locked.old.machine cpus.old)).counts) }
     ensures places { OnOk result (PlacesFollow locked.old.machine.frame_states state.new.places parts.new.places) }
-    ensures table { OnOk result (AreFlagsReady state.new parts.new.flags) }
+    ensures table { OnOk result (FlagsFollow state.new parts.new.flags) }
     ensures looked { locked.new ≡ locked_with_looks locked.old (length cpus.old) }
     ensures cpus { cpus.new ≡ cpus.old }
 {
@@ -307,7 +312,7 @@ fn advance_cpu_parts<N: BootName>(
     parts.cpus.stocks.add_to(text)
 }
 
-// Sets the state's CPUs, and the parts that tell what changed of them.
+// Sets the state's CPUs, and the parts of what changed of them.
 fn set_cpus<N: BootName>(
     alloc: Global,
     locked: &mut Locked<N>,
@@ -349,8 +354,8 @@ fn set_counts<N: BootName>(
     Ok(())
 }
 
-// Sets the state's groups, adds the parts that name the groups that are gone and those that were made, adds the changes
-// of the lists, and sets the part of the rows that changed.
+// Sets the state's groups. It adds the parts of the groups that are gone and that were made, adds the changes of the
+// lists, and sets the part of the rows that changed.
 fn set_groups<N: BootName>(
     alloc: Global,
     machine: &Machine<N>,
@@ -439,7 +444,7 @@ fn set_same_groups<N: BootName>(
     result
 }
 
-// Adds the parts that tell of pins, stocks and rows.
+// Adds the parts of pins, stocks and rows.
 fn add_last_parts(
     pins: &Part,
     stocks: &Part,

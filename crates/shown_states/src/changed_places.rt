@@ -14,8 +14,10 @@ use mem_machine::FrameState;
 use trace_lines::place::{ShownPlace, TracedFrame};
 
 // Brings places up to now that fit earlier states of the frames. Only the states of the changed frames may differ from
-// those, and these frames ascend, since a later frame of a unit needs the place of the frame before it. The result is
-// false if a place doesn't follow from the frame before it.
+// those, and these frames ascend, since a later frame of a unit needs the place of the frame before it.
+//
+// The result is false if a place doesn't follow from the frame before it. A consistent machine has no such frame: the
+// test stands in for the proof of that.
 pub(crate) fn refresh(
     frame_states: &[FrameState],
     changed: &[u32],

@@ -3,7 +3,7 @@
 ghost use Rattle.std.specs.Prelude.{◌≡◌, ◌++◌, ℕ, false, IsTrue, List, OnOk, length, replicate, slice_set};
 ghost use Rattle.trace_lines.specs.Rebuilding.{no_flags};
 ghost use Rattle.trace_lines.specs.Touched.{DifferOnlyAt};
-ghost use Rattle.shown_states.specs.FlagTables.{AreFlagsReady, AreFlagsUnset, OthersHaveNoFlags, TouchesFlags};
+ghost use Rattle.shown_states.specs.FlagTables.{FlagsFollow, AreFlagsUnset, OthersHaveNoFlags, TouchesFlags};
 ghost use Rattle.shown_states.specs.FlagTables.{units_on_lists};
 
 use std::alloc::{AllocError, Global};
@@ -12,7 +12,8 @@ use trace_lines::trace_state::{Flags, ShownGroup, TraceState};
 // Between two lines, the flags of the frames as the state has them.
 #[derive(Drop)]
 pub(crate) struct FlagTable {
-    // Whether the table has them. It doesn't before the first line, and after memory ran out.
+    // Whether the table has them. It doesn't before the first line that took the lock. After a failure this says
+    // nothing.
     pub(crate) is_ready: bool,
     pub(crate) flags: Vec<Flags>,
     // The frames whose flags may have changed in this line.
@@ -34,7 +35,7 @@ impl FlagTable {
     // Sets all flags to none, if the table is ready. The caller advances the state's groups only after this, since it
     // needs the units on their old lists.
     pub(crate) fn unset(&mut self, state: &TraceState) -> Result<(), AllocError>
-        requires { AreFlagsReady state.now self.old }
+        requires { FlagsFollow state.now self.old }
         ensures { OnOk result (AreFlagsUnset state.now.flags self.new) }
     {
         self.touched.clear();

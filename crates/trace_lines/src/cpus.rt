@@ -5,7 +5,7 @@ ghost use Rattle.std.specs.Prelude.{slice_index, slice_index_or};
 ghost use Rattle.std.specs.List.Sorted.{IsNonDecreasing, IsPermutation};
 ghost use Rattle.std.specs.Option.{option_map_or};
 ghost use Rattle.std.specs.String.{string_bytes};
-ghost use Rattle.trace_lines.specs.Changes.{cpus_pin_changes, is_same_stock, pin_change, pin_changes, pins_on};
+ghost use Rattle.trace_lines.specs.Changes.{cpus_pin_changes, is_same_stock, pin_change, pin_changes};
 ghost use Rattle.trace_lines.specs.Changes.{stock_change, stock_changes};
 ghost use Rattle.trace_lines.specs.Parts.{part_text, pin_change_text, stock_change_text};
 ghost use Rattle.trace_lines.specs.Writing.{AddsPins, AddsStocks};
@@ -98,7 +98,7 @@ fn sorted_pins(alloc: Global, pins: &[u32]) -> Result<Vec<u32>, AllocError>
     Ok(sorted)
 }
 
-// Adds the changes of one CPU's pins, which ascend. Each round takes the least frame that is left, so that frames
+// Adds the changes of one CPU's pins, which ascend. Each turn of the loop takes the least frame left, so that frames
 // without pins cost nothing.
 fn add_sorted_pin_changes(
     cpu: usize,

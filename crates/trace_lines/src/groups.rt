@@ -265,11 +265,11 @@ fn write_events(events: &Events, text: &mut String) -> Result<(), AllocError>
 fn write_group_flags(row: &GroupRow, text: &mut String) -> Result<(), AllocError>
     ensures { IfOk result (λ _. string_bytes text.new ≡ string_bytes text.old ++ marks_text row.now) }
 {
-    text.push_str(marks_word(row))
+    text.push_str(group_flags_text(row))
 }
 
-// Whether the group was killed, and its memory.oom.group.
-fn marks_word(row: &GroupRow) -> &'static str
+// The text of both flags: whether the group was killed, and its memory.oom.group.
+fn group_flags_text(row: &GroupRow) -> &'static str
     ensures { result.now ≡ marks_text row.now }
 {
     match (row.is_killed, row.oom_group) {

@@ -59,7 +59,7 @@ pub(crate) fn push_decimal(number: u64, text: &mut String) -> Result<(), AllocEr
     push_long(number, text)
 }
 
-// Adds a number by a buffer. This is no part of `push_decimal`, which would keep registers for it.
+// Adds a number by a buffer. It is not inlined, so that `push_decimal` saves no registers for it.
 #[inline(never)]
 fn push_long(number: u64, text: &mut String) -> Result<(), AllocError>
     ensures { IfOk result (λ _. string_bytes text.new ≡ string_bytes text.old ++ decimal number) }

@@ -37,7 +37,7 @@ fn write_bytes(bytes: &[u8], text: &mut String) -> Result<(), AllocError>
     write_pieces(&bytes[plain..], text)
 }
 
-// Adds the bytes, piece by piece. This is no part of `write_bytes`, which would keep registers for it.
+// Adds the bytes, piece by piece. It is not inlined, so that `write_bytes` saves no registers for it.
 #[inline(never)]
 fn write_pieces(bytes: &[u8], text: &mut String) -> Result<(), AllocError>
     ensures { IfOk result (λ _. string_bytes text.new ≡ string_bytes text.old ++ flat_map byte_text bytes.now) }
