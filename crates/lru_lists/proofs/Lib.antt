@@ -1,3 +1,4 @@
+mod Leaving
 mod Linking
 mod Lists
 mod Packing
