@@ -11,3 +11,4 @@ pub mod RebuiltCpus
 pub mod Rebuilt
 pub mod Touched
 pub mod Pins
+pub mod Moves

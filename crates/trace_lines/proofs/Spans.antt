@@ -92,11 +92,11 @@ came_none : (old : List ℕ) → added_of old [] ≡ []
 came_none [] = refl
 came_none (o ∷ old) = refl
 
-left_out : (o : ℕ) (l rest : List ℕ) → has_first o l ≡ false → removed_of (o ∷ rest) l ≡ o ∷ removed_of rest l
+pub left_out : (o : ℕ) (l rest : List ℕ) → has_first o l ≡ false → removed_of (o ∷ rest) l ≡ o ∷ removed_of rest l
 left_out o [] rest e = ap (λ (l : List ℕ). o ∷ l) (sym (left_none rest))
 left_out o (n ∷ l) rest e = cond-false (o == n) (removed_of rest l) (o ∷ removed_of rest (n ∷ l)) e
 
-came_out : (o : ℕ) (l rest : List ℕ) → has_first o l ≡ false → added_of (o ∷ rest) l ≡ added_of rest l
+pub came_out : (o : ℕ) (l rest : List ℕ) → has_first o l ≡ false → added_of (o ∷ rest) l ≡ added_of rest l
 came_out o [] rest e = sym (came_none rest)
 came_out o (n ∷ l) rest e = cond-false (o == n) (added_of rest l) (added_of rest (n ∷ l)) e
 

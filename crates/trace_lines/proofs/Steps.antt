@@ -236,11 +236,11 @@ lists_ok r s s' b1 b2 old t1 t2 new cs cs' gs gs' ec ec' eg eg' one two stops =
     stops
 
 -- nothing left a list that is the same, and nothing came
-same_left : (l : List ℕ) → removed_of l l ≡ []
+pub same_left : (l : List ℕ) → removed_of l l ≡ []
 same_left [] = refl
 same_left (n ∷ l) = cond-true (n == n) (removed_of l l) (n ∷ removed_of l (n ∷ l)) (eq-eqb n n refl) ∙ same_left l
 
-same_came : (l : List ℕ) → added_of l l ≡ []
+pub same_came : (l : List ℕ) → added_of l l ≡ []
 same_came [] = refl
 same_came (n ∷ l) = cond-true (n == n) (added_of l l) (added_of l (n ∷ l)) (eq-eqb n n refl) ∙ same_came l
 
@@ -252,7 +252,7 @@ list_equal name o n e =
     ∙ ap (λ (l : List ℕ). changed_list (record { name = name; removed = []; added = l })) (same_came n)
 
 -- a list that isn't the same changed
-has_changed : (o n : List ℕ) → (o ≡ n → ⊥) → (has_entry (removed_of o n) || has_entry (added_of o n)) ≡ true
+pub has_changed : (o n : List ℕ) → (o ≡ n → ⊥) → (has_entry (removed_of o n) || has_entry (added_of o n)) ≡ true
 has_changed [] [] ne = absurd (ne refl)
 has_changed [] (y ∷ n) ne = refl
 has_changed (x ∷ o) [] ne = refl

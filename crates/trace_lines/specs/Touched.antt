@@ -1,5 +1,5 @@
--- Two states that differ at most at given frames.
-use Rattle.std.specs.Prelude.{◌≡◌, ℕ, List, length, slice_get}
+-- Two states that differ at most at given frames, and lists that differ at most by given units.
+use Rattle.std.specs.Prelude.{◌≡◌, ℕ, Bool, true, List, [], ◌∷◌, length, slice_get}
 use Rattle.std.specs.List.{Contains}
 use Rattle.std.specs.List.Sorted.{IsNonDecreasing}
 
@@ -8,3 +8,9 @@ pub record DifferOnlyAt {T : Type 0} (touched : List ℕ) (before after : List T
   pub ascending : IsNonDecreasing touched
   pub frames : length before ≡ length after
   pub others : (frame : ℕ) → (Contains touched frame → ⊥) → slice_get before frame ≡ slice_get after frame
+
+-- the last unit stays, if there is one
+abbrev pub EndsKept : (stays : ℕ → Bool) → List ℕ → Type 0
+EndsKept stays [] = Unit {0}
+EndsKept stays (unit ∷ []) = stays unit ≡ true
+EndsKept stays (unit ∷ next ∷ units) = EndsKept stays (next ∷ units)

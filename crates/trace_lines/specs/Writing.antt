@@ -88,6 +88,11 @@ abbrev pub AddsNumber : ℕ → (span : Option Span) → (now : Span) → (old n
 AddsNumber number span now old new =
     (rest : List ℕ) → new ++ spans_behind (Some now) rest ≡ old ++ spans_behind span (number ∷ rest)
 
+-- numbers were added, except the span that isn't written now, if there is one
+abbrev pub AddsNumbers : (numbers : List ℕ) → (now : Option Span) → (old new : List ℕ) → Type 0
+AddsNumbers numbers now old new =
+    (rest : List ℕ) → new ++ spans_behind now rest ≡ old ++ spans_behind None (numbers ++ rest)
+
 -- whether the list begins with this number
 abbrev pub has_first : ℕ → List ℕ → Bool
 has_first number [] = false

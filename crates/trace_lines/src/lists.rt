@@ -1,15 +1,17 @@
 //! The lists that changed.
 
-ghost use Rattle.std.specs.Prelude.{◌≡◌, ◌≤◌, ◌++◌, IfOk, None, codes, drop, length, max, ℕ};
+ghost use Rattle.std.specs.Prelude.{◌≡◌, ◌≤◌, ◌++◌, ◌||◌, IfOk, None, codes, drop, length, max, ℕ};
 ghost use Rattle.std.specs.Option.{option_copied};
 ghost use Rattle.std.specs.String.{string_bytes};
-ghost use Rattle.trace_lines.specs.Changes.{active_of, added_of, cpu_list_changes, cpus_list_changes};
-ghost use Rattle.trace_lines.specs.Changes.{group_list_changes, group_numbered, groups_list_changes, inactive_of};
-ghost use Rattle.trace_lines.specs.Changes.{removed_of, list_change, list_changes};
+ghost use Rattle.trace_lines.specs.Changes.{active_of, added_of, changed_list, cpu_list_changes, cpus_list_changes};
+ghost use Rattle.trace_lines.specs.Changes.{group_list_changes, group_numbered, groups_list_changes, has_entry};
+ghost use Rattle.trace_lines.specs.Changes.{inactive_of, removed_of, list_change, list_changes};
 ghost use Rattle.trace_lines.specs.Parts.{commas, list_change_text, name_text, part_text, span_text, spans_of};
-ghost use Rattle.trace_lines.specs.Writing.{AddsLists, KeepsOne, has_first};
+ghost use Rattle.trace_lines.specs.Writing.{AddsLists, KeepsOne, has_first, spans_behind};
 
-use crate::numbers::{Span, add_number, are_same_numbers, end_spans, push_decimal, write_spans};
+use crate::numbers::{
+    Span, add_number, add_numbers, are_same_numbers, end_spans, push_decimal, write_spans,
+};
 use crate::parts::{push_start, push_stop};
 use crate::trace_state::{ShownCpu, ShownGroup, TraceState};
 use std::alloc::AllocError;
@@ -201,21 +203,99 @@ fn write_change(
     })) }
 {
     write_front(name, text)?;
-    let kept = add_removed(before, after, text)?;
+    let kept = add_removed(None, before, after, text)?;
     text.push_str("],[")?;
     write_spans(&after[kept..], text)?;
     text.push_str("]]")
 }
 
-// Adds the spans of what was removed from a list, and returns how many entries are kept.
-fn add_removed(before: &[u32], after: &[u32], text: &mut String) -> Result<usize, AllocError>
+/// Adds the change of the list of this name to the part, if it changed. The units `removed` were removed from its front,
+/// and its end, `behind`, was replaced by `added`.
+pub fn write_moves(
+    name: ListName,
+    removed: &[u32],
+    behind: &[u32],
+    added: &[u32],
+    is_first: &mut bool,
+    text: &mut String,
+) -> Result<(), AllocError>
+    ensures { IfOk result (λ _. AddsLists is_first.old is_first.new (string_bytes text.old) (string_bytes text.new)
+        (changed_list (record {
+          name = name;
+          removed = removed.now ++ removed_of behind.now added.now;
+          added = added_of behind.now added.now;
+        }))) }
+{
+    if !has_moves(removed, behind, added) {
+        return Ok(());
+    }
+    push_start(",\"lists\":[", is_first, text)?;
+    write_moved(name, removed, behind, added, text)
+}
+
+// Whether a list changed by these moves.
+fn has_moves(removed: &[u32], behind: &[u32], added: &[u32]) -> bool
+    ensures { result ≡ (has_entry (removed.now ++ removed_of behind.now added.now)
+        || has_entry (added_of behind.now added.now)) }
+{
+    if !removed.is_empty() {
+        return true;
+    }
+    !are_same_numbers(behind, added)
+}
+
+// Adds a list with what was removed from its front and from its end, and what was added.
+fn write_moved(
+    name: ListName,
+    removed: &[u32],
+    behind: &[u32],
+    added: &[u32],
+    text: &mut String,
+) -> Result<(), AllocError>
+    ensures { IfOk result (λ _. string_bytes text.new ≡ string_bytes text.old ++ list_change_text (record {
+      name = name;
+      removed = removed.now ++ removed_of behind.now added.now;
+      added = added_of behind.now added.now;
+    })) }
+{
+    write_front(name, text)?;
+    let kept = add_both_removed(removed, behind, added, text)?;
+    text.push_str("],[")?;
+    write_spans(&added[kept..], text)?;
+    text.push_str("]]")
+}
+
+// Adds the spans of what was removed from a list, from its front and from its end. It returns how many entries of the
+// end are kept.
+fn add_both_removed(
+    removed: &[u32],
+    behind: &[u32],
+    added: &[u32],
+    text: &mut String,
+) -> Result<usize, AllocError>
+    ensures text { IfOk result (λ _. string_bytes text.new ≡ string_bytes text.old
+        ++ commas span_text (spans_of (removed.now ++ removed_of behind.now added.now))) }
+    ensures kept { IfOk result (λ kept. (kept ≤ length added.now)
+        × (drop kept added.now ≡ added_of behind.now added.now)) }
+{
+    let span = add_numbers(removed, text)?;
+    add_removed(span, behind, added, text)
+}
+
+// Adds the spans of what was removed from a list, behind a span that isn't written yet, if there is one. It returns how
+// many entries are kept.
+fn add_removed(
+    mut span: Option<Span>,
+    before: &[u32],
+    after: &[u32],
+    text: &mut String,
+) -> Result<usize, AllocError>
     ensures text { IfOk result (λ _. string_bytes text.new
-        ≡ string_bytes text.old ++ commas span_text (spans_of (removed_of before.now after.now))) }
+        ≡ string_bytes text.old ++ spans_behind span (removed_of before.now after.now)) }
     ensures kept { IfOk result (λ kept. (kept ≤ length after.now)
         × (drop kept after.now ≡ added_of before.now after.now)) }
 {
     let mut kept = 0;
-    let mut span = None;
     for &old in before {
         kept = keep_one(old, after, kept, &mut span, text)?;
     }

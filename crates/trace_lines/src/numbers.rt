@@ -5,7 +5,7 @@ ghost use Rattle.std.specs.Fmt.{decimal};
 ghost use Rattle.std.specs.Str.{bytes_eq};
 ghost use Rattle.std.specs.String.{string_bytes};
 ghost use Rattle.trace_lines.specs.Parts.{commas, number_text, span_text, spans_of};
-ghost use Rattle.trace_lines.specs.Writing.{AddsNumber, spans_behind};
+ghost use Rattle.trace_lines.specs.Writing.{AddsNumber, AddsNumbers, spans_behind};
 
 use itoa::Buffer;
 use std::alloc::AllocError;
@@ -91,11 +91,20 @@ pub(crate) fn write_spans(numbers: &[u32], text: &mut String) -> Result<(), Allo
     ensures { IfOk result (λ _. string_bytes text.new
         ≡ string_bytes text.old ++ commas span_text (spans_of numbers.now)) }
 {
+    let span = add_numbers(numbers, text)?;
+    end_spans(span, text)
+}
+
+// Adds the spans of these numbers except the last span. It returns that one, if there is one: other numbers may go on
+// with it.
+pub(crate) fn add_numbers(numbers: &[u32], text: &mut String) -> Result<Option<Span>, AllocError>
+    ensures { IfOk result (λ span. AddsNumbers numbers.now span (string_bytes text.old) (string_bytes text.new)) }
+{
     let mut span = None;
     for &number in numbers {
         span = Some(add_number(number, span, text)?);
     }
-    end_spans(span, text)
+    Ok(span)
 }
 
 // Adds a number behind the span that isn't written yet, if there is one. It returns the span that isn't written now.
