@@ -193,6 +193,7 @@ taken_machine m g b blocks frame_states links lists = record {
   frame_seat = seat_with m.frame_seat b.at (unfrozen 1);
   stock_seat = m.stock_seat;
   snapshot = m.snapshot;
+  list_notes = m.list_notes;
   killed = m.killed;
   counts = m.counts;
   notes = m.notes;

@@ -11,7 +11,8 @@ use Rattle.kill_notes.specs.Notes.{KnownNotes}
 use Rattle.step_watch.specs.Watched.{KnownWatch, Watches}
 use Rattle.step_rules.specs.After.{Run}
 use Rattle.mem_machine.specs.Local.{MakesAs}
-use Rattle.mem_machine.specs.Machines.{KnownMachine, VisitState, IsConsistent, Visits, visit_state, with_watch}
+use Rattle.mem_machine.specs.Machines.{KnownMachine, VisitState, IsConsistent, Visits, lists_of, visit_state, with_watch}
+use Rattle.mem_machine.specs.ListNotes.{NotesGoOn}
 use Rattle.mem_machine.specs.Lending.{LendsFrame, LendsOne, UnlistsOne}
 use Rattle.mem_machine.specs.Settling.{KeepsFresh, DropsFresh, ReturnsBack}
 use Rattle.mem_machine.specs.Releasing.{LeavesReferences, ReturnsUnit}
@@ -160,9 +161,10 @@ module _ (n : KnownMachine) (v : KnownWatch) (states : KnownTracked FrameState)
 
   pub makes_tracked : (t : KnownTable) (p : ℕ) (m now : KnownMachine) → m ≡ now → (c d : KnownCpu) (steps : Run)
       → LeadsAs t p (visit_state now c) steps (visit_state n d) → Watches m.watch steps v → n.snapshot ≡ m.snapshot
+      → NotesGoOn m.list_notes n.list_notes (lists_of m) (lists_of n)
       → MakesAs t p (visit_state now c) steps (visit_state (with_states states) d)
-  makes_tracked t p m now is c d steps leads took kept =
-      tracked (λ x. MakesAs t p (visit_state now c) steps (visit_state x d)) (makes_watched t p m now is c d steps n leads v took kept)
+  makes_tracked t p m now is c d steps leads took kept lists =
+      tracked (λ x. MakesAs t p (visit_state now c) steps (visit_state x d)) (makes_watched t p m now is c d steps n leads v took kept lists)
 
   pub lends_tracked : (f : ℕ) (a : VisitState) (d : KnownCpu) → LendsFrame f a (visit_state n d) → LendsFrame f a (visit_state (with_states states) d)
   lends_tracked f a d does = tracked (λ x. LendsFrame f a (visit_state x d)) (lends_still a n d v f does)

@@ -15,6 +15,7 @@ machine_of fields = record {
   ledger = fields.charges;
   links = fields.links;
   lists = fields.lists.items;
+  list_notes = fields.list_log;
   frame_seat = fields.frame_seat;
   stock_seat = fields.stock_seat;
   killed = fields.killed.items;

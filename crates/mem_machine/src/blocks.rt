@@ -89,7 +89,13 @@ impl<N: BootName> Machine<N> {
         self.watch.placed(group, order, Block { at, order });
         tables.frames.unfreeze(&mut self.frame_seat, head, 1);
         self.watch.unfroze(at, 1);
-        join_list(&mut self.links, &mut self.lists, group, at);
+        join_list(
+            &mut self.links,
+            &mut self.lists,
+            &mut self.list_log,
+            group,
+            at,
+        );
         self.watch.published(at);
         Ok(head)
     }

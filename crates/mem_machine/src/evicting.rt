@@ -35,7 +35,7 @@ impl<N: BootName> Machine<N> {
         };
         let group = unit.group;
         let order = unit.order;
-        leave_list(&mut self.links, &mut self.lists, at);
+        leave_list(&mut self.links, &mut self.lists, &mut self.list_log, at);
         free_unit(
             &mut self.zone,
             &mut self.frame_states,

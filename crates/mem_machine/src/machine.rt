@@ -9,6 +9,7 @@ ghost use Rattle.mem_machine.specs.Machines.{IsConsistent, IsFirst};
 use crate::booked_seat::BookedSeat;
 use crate::counts::Counts;
 use crate::frame_state::FrameState;
+use crate::list_log::ListLog;
 use crate::start::{frame_parts, group_parts};
 use cpu_part::{BootName, Tables};
 use frame_word::FrameSeat;
@@ -36,6 +37,8 @@ pub struct Machine<N: BootName> {
     pub(crate) links: Links,
     // The ends and lengths of the two lists of each of the 64 group numbers, by the number.
     pub(crate) lists: Vec<Lru>,
+    // What is noted of these lists since the last snapshot.
+    pub(crate) list_log: ListLog,
     // The zone's seat at the frames' table: which frames are in its hand, which frames it lent to which CPU, and its
     // references, one on the head of each kept unit.
     pub(crate) frame_seat: FrameSeat,
@@ -87,12 +90,14 @@ impl<N: BootName> Machine<N> {
         let (zone, frame_states, links) = frame_parts(alloc, tables.frames.frames())?;
         let (charges, lists, killed) = group_parts(alloc)?;
         let notes = Notes::new(alloc)?;
+        let list_log = ListLog::new(alloc)?;
         Ok(Machine {
             zone,
             frame_states: TrackedVec::new(frame_states),
             charges,
             links,
             lists,
+            list_log,
             frame_seat,
             stock_seat: BookedSeat::new(stock_seat),
             killed,
@@ -122,6 +127,7 @@ impl<N: BootName> Machine<N> {
             charges: _,
             links: _,
             lists: _,
+            list_log: _,
             frame_seat,
             stock_seat,
             killed: _,

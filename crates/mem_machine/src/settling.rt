@@ -53,7 +53,13 @@ impl<N: BootName> Machine<N> {
         let order = Order::of(0).unwrap();
         let unit = ChargedUnit { group, order };
         self.frame_states.set(at as usize, FrameState::Head(unit));
-        join_list(&mut self.links, &mut self.lists, group, at);
+        join_list(
+            &mut self.links,
+            &mut self.lists,
+            &mut self.list_log,
+            group,
+            at,
+        );
         self.watch.published(at);
         frame
     }

@@ -4,6 +4,7 @@ use Rattle.step_watch.specs.Watched.{Watches}
 use Rattle.step_watch.proofs.Watching.{watches_both}
 use Rattle.mem_machine.specs.Settling.{drop_steps}
 use Rattle.mem_machine.proofs.Watched.{consistent_tracked, visits_tracked, makes_tracked, drops_tracked, snapshot_kept}
+use Rattle.mem_machine.proofs.ListNotes.{notes_same}
 use Rattle.mem_machine.proofs.machine.Machine.drop_one.Goals as goal
 
 pub free_unit-requires-clause-in_use : goal.free_unit-requires-clause-in_use
@@ -60,5 +61,5 @@ returns g c =
     record {
       drops = drops_tracked _ _ _ (snapshot_kept c.self.inside.frame_states c.free_unit.new.frame_states c.free_unit.ensures.snapshot) _ _ _ _ all.drops;
       visit = visits_tracked _ _ _ (snapshot_kept c.self.inside.frame_states c.free_unit.new.frame_states c.free_unit.ensures.snapshot) _ _ all.visit;
-      steps = makes_tracked _ _ _ (snapshot_kept c.self.inside.frame_states c.free_unit.new.frame_states c.free_unit.ensures.snapshot) _ _ _ _ c.self.view_is _ _ _ all.steps took refl;
+      steps = makes_tracked _ _ _ (snapshot_kept c.self.inside.frame_states c.free_unit.new.frame_states c.free_unit.ensures.snapshot) _ _ _ _ c.self.view_is _ _ _ all.steps took refl (notes_same _ _);
     }

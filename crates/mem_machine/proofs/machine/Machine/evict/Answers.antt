@@ -7,6 +7,8 @@ use Rattle.step_watch.proofs.Watching.{watches_both}
 use Rattle.mem_machine.specs.Evicting.{evict_steps}
 use Rattle.mem_machine.proofs.Followed.{makes_watched}
 use Rattle.mem_machine.proofs.Watched.{consistent_still, misses_still, visits_still, consistent_tracked, visits_tracked, makes_tracked, evicts_tracked, snapshot_kept}
+use Rattle.mem_machine.proofs.ListNotes.{notes_same}
+use Rattle.mem_machine.proofs.Logged.{consistent_logged, evicts_logged, leads_logged, visits_logged}
 use Rattle.mem_machine.proofs.machine.Machine.evict.Goals as goal
 
 pub invariant_of-self : goal.invariant_of-self
@@ -24,7 +26,7 @@ returns-then-not-freeze g c =
     record {
       evicts = misses_still _ _ _ _ all.misses;
       visit = λ cpu visit. visits_still _ _ _ _ (all.visit cpu visit);
-      steps = λ cpu. makes_watched _ _ _ _ c.self.view_is cpu cpu _ _ (all.steps cpu) _ took refl;
+      steps = λ cpu. makes_watched _ _ _ _ c.self.view_is cpu cpu _ _ (all.steps cpu) _ took refl (notes_same _ _);
     }
 
 pub free_unit-requires-clause-in_use : goal.free_unit-requires-clause-in_use
@@ -55,7 +57,7 @@ invariant_of-self-2 g c =
     c.free_unit.ensures.frames c.free_unit.ensures.areas c.free_unit.ensures.charges c.free_unit.ensures.usage
     c.with_freeze-self-inside.ensures c.frames-pages.ensures.frames in
     record {
-      consistent = consistent_tracked _ _ _ (snapshot_kept c.self.inside.frame_states c.free_unit.new.frame_states c.free_unit.ensures.snapshot) _ _ all.consistent;
+      consistent = consistent_tracked _ _ _ (snapshot_kept c.self.inside.frame_states c.free_unit.new.frame_states c.free_unit.ensures.snapshot) _ _ (consistent_logged _ c.leave_list.new.log _ _ all.consistent);
       free = all.free_is;
     }
 
@@ -71,7 +73,7 @@ returns g c =
     let took = subst (λ (x : ℕ). Watches c.self.inside.watch (evict_steps x (Some c.frames-pages.result)) c.returned.new.self)
     c.number-at.ensures (watches_both _ _ _ _ _ c.froze.ensures c.returned.ensures) in
     record {
-      evicts = evicts_tracked _ _ _ (snapshot_kept c.self.inside.frame_states c.free_unit.new.frame_states c.free_unit.ensures.snapshot) _ _ _ all.evicts;
-      visit = λ cpu visit. visits_tracked _ _ _ (snapshot_kept c.self.inside.frame_states c.free_unit.new.frame_states c.free_unit.ensures.snapshot) _ _ (all.visit cpu visit);
-      steps = λ cpu. makes_tracked _ _ _ (snapshot_kept c.self.inside.frame_states c.free_unit.new.frame_states c.free_unit.ensures.snapshot) _ _ _ _ c.self.view_is cpu cpu _ (all.steps cpu) took refl;
+      evicts = evicts_tracked _ _ _ (snapshot_kept c.self.inside.frame_states c.free_unit.new.frame_states c.free_unit.ensures.snapshot) _ _ _ (evicts_logged _ c.leave_list.new.log _ _ _ all.evicts);
+      visit = λ cpu visit. visits_tracked _ _ _ (snapshot_kept c.self.inside.frame_states c.free_unit.new.frame_states c.free_unit.ensures.snapshot) _ _ (visits_logged _ c.leave_list.new.log _ _ (all.visit cpu visit));
+      steps = λ cpu. makes_tracked _ _ _ (snapshot_kept c.self.inside.frame_states c.free_unit.new.frame_states c.free_unit.ensures.snapshot) _ _ _ _ c.self.view_is cpu cpu _ (leads_logged _ c.leave_list.new.log _ _ _ _ _ (all.steps cpu)) took refl c.leave_list.ensures.noted;
     }

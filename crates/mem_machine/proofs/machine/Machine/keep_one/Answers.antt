@@ -7,6 +7,7 @@ use Rattle.mem_machine.proofs.Watched.{consistent_tracked, visits_tracked, makes
 use Rattle.tracked_vec.specs.Tracked.{KnownTracked}
 use Rattle.mem_machine.specs.declared.frame_state.FrameState.{FrameState}
 use Rattle.mem_machine.specs.FrameStates.{free_of}
+use Rattle.mem_machine.proofs.Logged.{consistent_logged, keeps_logged, leads_logged, visits_logged}
 use Rattle.mem_machine.proofs.machine.Machine.keep_one.Goals as goal
 
 pub unfreeze-requires-clause-hand : goal.unfreeze-requires-clause-hand
@@ -25,7 +26,7 @@ invariant_of-self g c =
     e.zone c.unfreeze.ensures.seat _ e.seat _ _
     (record { joins = a.joins; stand = a.lists.stand; frames = a.frames; groups = a.lists.groups })) in
     record {
-      consistent = consistent_tracked _ _ _ c.set.ensures _ _ all.consistent;
+      consistent = consistent_tracked _ _ _ c.set.ensures _ _ (consistent_logged _ c.join_list.new.log _ _ all.consistent);
       free = all.free_is ∙ ap (λ (x : KnownTracked FrameState). free_of x.now) (sym c.set.ensures);
     }
 
@@ -44,7 +45,7 @@ returns g c =
     let took = subst (λ (x : ℕ × ℕ). Watches c.self.inside.watch (keep_steps x.0 x.1) c.published.new.self)
     (λ i. (c.number-cpu_number.ensures.number i, c.number-at.ensures i)) (watches_both _ _ _ _ _ c.watch_collected.ensures (watches_both _ _ _ _ _ c.unfroze.ensures c.published.ensures)) in
     record {
-      keeps = keeps_tracked _ _ _ c.set.ensures _ _ _ _ all.keeps;
-      visit = visits_tracked _ _ _ c.set.ensures _ _ all.visit;
-      steps = makes_tracked _ _ _ c.set.ensures _ _ _ _ c.self.view_is _ _ _ all.steps took refl;
+      keeps = keeps_tracked _ _ _ c.set.ensures _ _ _ _ (keeps_logged _ c.join_list.new.log _ _ _ _ all.keeps);
+      visit = visits_tracked _ _ _ c.set.ensures _ _ (visits_logged _ c.join_list.new.log _ _ all.visit);
+      steps = makes_tracked _ _ _ c.set.ensures _ _ _ _ c.self.view_is _ _ _ (leads_logged _ c.join_list.new.log _ _ _ _ _ all.steps) took refl a.noted;
     }

@@ -8,6 +8,7 @@ use Rattle.mem_machine.proofs.Watched.{consistent_tracked, visits_tracked, makes
 use Rattle.tracked_vec.specs.Tracked.{KnownTracked}
 use Rattle.mem_machine.specs.declared.frame_state.FrameState.{FrameState}
 use Rattle.mem_machine.specs.FrameStates.{free_of}
+use Rattle.mem_machine.proofs.ListNotes.{notes_same}
 use Rattle.mem_machine.proofs.machine.Machine.lend.Goals as goal
 
 pub take_frame-requires : goal.take_frame-requires
@@ -48,5 +49,5 @@ returns g c =
     record {
       lends = lends_tracked _ _ _ c.set.ensures _ _ _ all.lends;
       visit = visits_tracked _ _ _ c.set.ensures _ _ all.visit;
-      steps = makes_tracked _ _ _ c.set.ensures _ _ _ _ c.self.view_is _ _ _ all.steps took refl;
+      steps = makes_tracked _ _ _ c.set.ensures _ _ _ _ c.self.view_is _ _ _ all.steps took refl (notes_same _ _);
     }

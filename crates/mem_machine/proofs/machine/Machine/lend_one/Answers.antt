@@ -8,6 +8,7 @@ use Rattle.mem_machine.proofs.Watched.{consistent_tracked, visits_tracked, makes
 use Rattle.tracked_vec.specs.Tracked.{KnownTracked}
 use Rattle.mem_machine.specs.declared.frame_state.FrameState.{FrameState}
 use Rattle.mem_machine.specs.FrameStates.{free_of}
+use Rattle.mem_machine.proofs.ListNotes.{notes_same}
 use Rattle.mem_machine.proofs.machine.Machine.lend_one.Goals as goal
 
 pub returns-in_default-clause-lends : goal.returns-in_default-clause-lends
@@ -57,7 +58,7 @@ returns g c =
       lends = record {
         frame = c.in-Some-frame.frame;
         lends = lends_one_tracked _ _ _ c.set.ensures _ _ _ all.lends;
-        steps = makes_tracked _ _ _ c.set.ensures _ _ _ _ c.self.view_is _ _ _ all.steps took refl;
+        steps = makes_tracked _ _ _ c.set.ensures _ _ _ _ c.self.view_is _ _ _ all.steps took refl (notes_same _ _);
       };
       visit = visits_tracked _ _ _ c.set.ensures _ _ all.visit;
     }

@@ -7,6 +7,7 @@ use Rattle.step_watch.specs.Watched.{Watches}
 use Rattle.step_watch.proofs.Watching.{watches_both}
 use Rattle.mem_machine.specs.Settling.{return_steps}
 use Rattle.mem_machine.proofs.Watched.{consistent_tracked, visits_tracked, makes_tracked, returns_tracked, snapshot_kept}
+use Rattle.mem_machine.proofs.ListNotes.{notes_same}
 use Rattle.mem_machine.proofs.machine.Machine.return_one.Goals as goal
 
 pub collect-requires-clause-passes : goal.collect-requires-clause-passes
@@ -76,5 +77,5 @@ returns g c =
     record {
       returns = returns_tracked _ _ _ (snapshot_kept c.self.inside.frame_states c.free_unit.new.frame_states c.free_unit.ensures.snapshot) _ _ _ all.returns;
       visit = visits_tracked _ _ _ (snapshot_kept c.self.inside.frame_states c.free_unit.new.frame_states c.free_unit.ensures.snapshot) _ _ all.visit;
-      steps = makes_tracked _ _ _ (snapshot_kept c.self.inside.frame_states c.free_unit.new.frame_states c.free_unit.ensures.snapshot) _ _ _ _ c.self.view_is _ _ _ all.steps took refl;
+      steps = makes_tracked _ _ _ (snapshot_kept c.self.inside.frame_states c.free_unit.new.frame_states c.free_unit.ensures.snapshot) _ _ _ _ c.self.view_is _ _ _ all.steps took refl (notes_same _ _);
     }

@@ -15,6 +15,8 @@ use Rattle.step_rules.specs.declared.step.Action.TheVariants.{Grant, Ungrant, Pl
 use Rattle.step_rules.specs.declared.step.Answer.TheVariants.{Done, Granted, Placed, NoFreeBlock}
 use Rattle.mem_machine.proofs.Followed.{LeadsAs, makes_watched}
 use Rattle.mem_machine.proofs.Watched.{takes_none_still, consistent_tracked, visits_tracked, makes_tracked, takes_block_tracked, snapshot_kept}
+use Rattle.mem_machine.proofs.ListNotes.{notes_same}
+use Rattle.mem_machine.proofs.Logged.{consistent_logged, leads_logged, takes_block_logged, visits_logged}
 use Rattle.mem_machine.proofs.machine.Machine.take_block.Goals as goal
 
 pub returns-in_default-take : goal.returns-in_default-take
@@ -39,7 +41,7 @@ returns-in_default-take g c =
       refuses = takes_none_still _ _ _ _ _ all.none;
       cpu = search rules;
       visit = search rules;
-      steps = makes_watched _ _ _ _ c.self.view_is _ _ _ _ all.steps _ took refl;
+      steps = makes_watched _ _ _ _ c.self.view_is _ _ _ _ all.steps _ took refl (notes_same _ _);
     }
 
 pub unreachable-requires : goal.unreachable-requires
@@ -78,7 +80,7 @@ invariant_of-self-2 g c =
     c.number-at.ensures c.unfreeze.ensures.no_reference _ c.unfreeze.ensures.seat _ _
     (record { joins = j.joins; stand = j.lists.stand; frames = j.frames; groups = j.lists.groups }) in
     record {
-      consistent = consistent_tracked _ _ _ (snapshot_kept c.self.inside.frame_states c.place_unit.new.frame_states c.place_unit.ensures.snapshot) _ _ all.consistent;
+      consistent = consistent_tracked _ _ _ (snapshot_kept c.self.inside.frame_states c.place_unit.new.frame_states c.place_unit.ensures.snapshot) _ _ (consistent_logged _ c.join_list.new.log _ _ all.consistent);
       free = all.free_is;
     }
 
@@ -106,11 +108,11 @@ returns g c =
     (watches_both _ _ _ _ _ c.granted.ensures (watches_both _ _ _ _ _ c.placed.ensures
     (watches_both _ _ _ _ _ c.unfroze.ensures c.published.ensures))) in
     record {
-      takes = takes_block_tracked _ _ _ (snapshot_kept c.self.inside.frame_states c.place_unit.new.frame_states c.place_unit.ensures.snapshot) _ _ _ _ all.takes;
+      takes = takes_block_tracked _ _ _ (snapshot_kept c.self.inside.frame_states c.place_unit.new.frame_states c.place_unit.ensures.snapshot) _ _ _ _ (takes_block_logged _ c.join_list.new.log _ _ _ _ all.takes);
       refuses = search rules;
       cpu = search rules;
-      visit = visits_tracked _ _ _ (snapshot_kept c.self.inside.frame_states c.place_unit.new.frame_states c.place_unit.ensures.snapshot) _ _ all.visit;
-      steps = makes_tracked _ _ _ (snapshot_kept c.self.inside.frame_states c.place_unit.new.frame_states c.place_unit.ensures.snapshot) _ _ _ _ c.self.view_is _ _ _ all.steps took refl;
+      visit = visits_tracked _ _ _ (snapshot_kept c.self.inside.frame_states c.place_unit.new.frame_states c.place_unit.ensures.snapshot) _ _ (visits_logged _ c.join_list.new.log _ _ all.visit);
+      steps = makes_tracked _ _ _ (snapshot_kept c.self.inside.frame_states c.place_unit.new.frame_states c.place_unit.ensures.snapshot) _ _ _ _ c.self.view_is _ _ _ (leads_logged _ c.join_list.new.log _ _ _ _ _ all.steps) took refl j.noted;
     }
 
 pub invariant_of-self : goal.invariant_of-self
@@ -132,4 +134,4 @@ returns-in-Err-clause-steps g c =
     c.number-cpu_number.ensures.tied c.requires.visit c.requires.none_fresh c.requires.charges.there c.requires.charges.alive
     (subst (λ (n : ℕ). IsLowestOver m.ledger.groups (current_of m.ledger) c.args.group n over) c.frames-pages.ensures.frames low)) in
     makes_watched _ _ _ _ c.self.view_is _ _ _ _ refused _
-    (subst (λ (n : ℕ). Watches c.self.inside.watch (over_steps c.args.group n over) c.refused.new.self) c.frames-pages.ensures.frames c.refused.ensures) refl
+    (subst (λ (n : ℕ). Watches c.self.inside.watch (over_steps c.args.group n over) c.refused.new.self) c.frames-pages.ensures.frames c.refused.ensures) refl (notes_same _ _)
