@@ -4,7 +4,9 @@ use Rattle.std.specs.Prelude.{OnOk}
 use Rattle.cpu_part.specs.Cpus.{KnownCpu}
 use Rattle.kill_notes.specs.declared.note.Note.{Note}
 use Rattle.kill_notes.specs.Notes.{KnownNotes}
-use Rattle.mem_machine.specs.Machines.{KnownMachine, with_snapshot}
+use Rattle.mem_machine.specs.declared.frame_state.FrameState.{FrameState}
+use Rattle.mem_machine.specs.ListNotes.{NotesGoOn}
+use Rattle.mem_machine.specs.Machines.{KnownMachine, lists_of, with_snapshot}
 use Rattle.mem_system.specs.Locked.{KnownLocked}
 use Rattle.script_lines.specs.declared.line.Command.{Command}
 use Rattle.script_lines.specs.declared.line.Line.{Line}
@@ -15,10 +17,13 @@ use Rattle.script_replay.specs.Routes.{ServesByRoute}
 use Rattle.script_replay.specs.Terms.{BootTables}
 use Rattle.script_replay.proofs.InOrder.{in_order_line}
 use Rattle.shown_states.specs.Advancing.{FollowLine, KnownBuffers}
-use Rattle.shown_states.specs.Cpus.{locked_with_looks}
+use Rattle.shown_states.specs.Changed.{PlacesFollow}
+use Rattle.shown_states.specs.Cpus.{locked_with_looks, with_looks}
 use Rattle.shown_states.specs.Frames.{flags_shown}
 use Rattle.shown_states.specs.Groups.{groups_shown}
+use Rattle.shown_states.specs.Noted.{NotesSay}
 use Rattle.shown_states.specs.States.{trace_state_of}
+use Rattle.shown_states.proofs.Noted.{follow_on, say_none}
 use Rattle.trace_lines.specs.declared.objects.LineFacts.{LineFacts}
 use Rattle.trace_lines.specs.Changes.{changes}
 use Rattle.trace_lines.specs.Objects.{object_text, object_with}
@@ -68,13 +73,41 @@ pub ok_observed : {T E : Type 0} (r : Result T E) (locked looked after : KnownLo
 ok_observed (Err x) locked looked after count looks taken = tt
 ok_observed (Ok x) locked looked after count looks taken = then_snapshot locked looked after count looks taken
 
--- what follows the records of now follows them as the snapshot
+-- the looks change nothing that is compared with the next line
+follow_looked : (machine : KnownMachine) (count : ℕ) (shown : KnownTraceState) (buffers : KnownBuffers)
+    → FollowLine (with_snapshot machine) shown buffers → FollowLine (with_snapshot (with_looks machine count)) shown buffers
+unfolding flags_shown
+follow_looked machine count shown buffers follow = record {
+  places = follow.places;
+  flags = follow.flags;
+  notes = λ notes are.
+      let shows = follow.notes notes are in
+      record { numbers = shows.numbers; inactive = shows.inactive; active = shows.active; flags = shows.flags };
+}
+
+-- what follows the machine as it is at a snapshot follows it after the snapshot was taken
 pub ok_follows : {T E : Type 0} (r : Result T E) (locked looked after : KnownLocked) (count : ℕ) (shown : KnownTraceState) (buffers : KnownBuffers)
     → looked ≡ locked_with_looks locked count → OnOk r (after ≡ record looked { machine = with_snapshot looked.machine })
-    → FollowLine locked.machine.frame_states shown buffers → OnOk r (FollowLine after.machine.snapshot shown buffers)
+    → FollowLine (with_snapshot locked.machine) shown buffers → OnOk r (FollowLine after.machine shown buffers)
 ok_follows (Err x) locked looked after count shown buffers looks taken follow = tt
 ok_follows (Ok x) locked looked after count shown buffers looks taken follow =
-    subst (λ (l : KnownLocked). FollowLine l.machine.snapshot shown buffers) (sym (then_snapshot locked looked after count looks taken)) follow
+    subst (λ (l : KnownLocked). FollowLine l.machine shown buffers) (sym (then_snapshot locked looked after count looks taken))
+    (follow_looked locked.machine count shown buffers follow)
+
+-- a line takes no snapshot, and its notes go on from those before it
+pub line_follows : (before after : KnownMachine) (shown : KnownTraceState) (buffers : KnownBuffers) → after.snapshot ≡ before.snapshot
+    → NotesGoOn before.list_notes after.list_notes (lists_of before) (lists_of after) → FollowLine before shown buffers → FollowLine after shown buffers
+line_follows before after shown buffers same goes follow = record {
+  places = subst (λ (records : List FrameState). PlacesFollow records shown.places buffers.places) (sym same) follow.places;
+  flags = follow.flags;
+  notes = follow_on before after shown goes follow.notes;
+}
+
+-- just after the first snapshot there are no notes
+pub notes_start : (looked after : KnownLocked) (cpus : List KnownCpu) (shown : KnownTraceState)
+    → after ≡ record looked { machine = with_snapshot looked.machine } → shown ≡ trace_state_of looked.machine cpus → NotesSay after.machine shown
+notes_start looked after cpus shown taken is =
+    subst (λ (l : KnownLocked). NotesSay l.machine shown) (sym taken) (say_none looked.machine cpus shown is)
 
 -- ---- one line
 

@@ -3,6 +3,7 @@
 ghost use Rattle.std.specs.Prelude.{◌≡◌, All, IfOk, OnOk, length, map};
 ghost use Rattle.std.specs.String.{string_bytes};
 ghost use Rattle.mem_history.specs.Kept.{AreTied};
+ghost use Rattle.mem_machine.specs.Machines.{with_snapshot};
 ghost use Rattle.script_lines.specs.declared.line.Line.TheVariants.{At};
 ghost use Rattle.script_replay.specs.declared.route.Route.TheVariants.{Unlocked};
 ghost use Rattle.script_replay.specs.Lines.{InOrder, system_state};
@@ -23,9 +24,8 @@ use cpu_part::{BootName, Cpu, Tables};
 use mem_system::Locked;
 use script_lines::line::Line;
 use script_replay::{Route, serve_traced_line};
-use shown_states::{Buffers, advance, advance_unlocked, trace_state};
+use shown_states::{Buffers, LiveState, advance, advance_unlocked, live_state};
 use std::alloc::{AllocError, Global};
-use trace_lines::trace_state::TraceState;
 use trace_lines::write_object;
 
 /// Serves the lines one after the other, each for the CPU that it names, and adds the object of each to the trace.
@@ -46,7 +46,7 @@ pub fn replay_traced<N: BootName>(
         lines.now (system_state locked.old cpus.old) (system_state locked.new cpus.new))
         (string_bytes trace.old) (string_bytes trace.new)) }
 {
-    let mut shown = trace_state(alloc, locked, tables, cpus)?;
+    let mut shown = live_state(alloc, locked, tables, cpus)?;
     locked.take_snapshot(alloc)?;
     prove_tied(cpus);
     let mut buffers = Buffers::new(alloc);
@@ -71,14 +71,14 @@ fn trace_each<N: BootName>(
     cpus: &mut [Cpu<N>],
     lines: &[Line<'_>],
     texts: &[&[u8]],
-    shown: &mut TraceState,
+    shown: &mut LiveState,
     buffers: &mut Buffers,
     trace: &mut String,
 ) -> Result<(), AllocError>
     requires there { All (LineInRange N.frames.frames (length cpus.old)) lines.now }
     requires tied { AreTied N.frames N.stocks cpus.old }
     requires shown { shown.old ≡ system_shown (system_state locked.old cpus.old) }
-    requires follow { FollowLine locked.old.machine.snapshot shown.old buffers.old }
+    requires follow { FollowLine locked.old.machine shown.old buffers.old }
     ensures traced { OnOk result (GrowsBy (InOrder (TracesLine (boot_tables N.frames N.stocks)
         (map (λ text. text.now) texts.now)) lines.now (system_state locked.old cpus.old)
         (system_state locked.new cpus.new)) (string_bytes trace.old) (string_bytes trace.new)) }
@@ -110,7 +110,7 @@ fn trace_line<N: BootName>(
     cpus: &mut [Cpu<N>],
     line: &Line<'_>,
     texts: &[&[u8]],
-    shown: &mut TraceState,
+    shown: &mut LiveState,
     answer: &mut String,
     buffers: &mut Buffers,
     trace: &mut String,
@@ -118,10 +118,10 @@ fn trace_line<N: BootName>(
     requires there { LineInRange N.frames.frames (length cpus.old) line.now }
     requires tied { AreTied N.frames N.stocks cpus.old }
     requires shown { shown.old ≡ system_shown (system_state locked.old cpus.old) }
-    requires follow { FollowLine locked.old.machine.snapshot shown.old buffers.old }
+    requires follow { FollowLine locked.old.machine shown.old buffers.old }
     ensures tied { OnOk result (AreTied N.frames N.stocks cpus.new) }
     ensures shown { OnOk result (shown.new ≡ system_shown (system_state locked.new cpus.new)) }
-    ensures follow { OnOk result (FollowLine locked.new.machine.snapshot shown.new buffers.new) }
+    ensures follow { OnOk result (FollowLine locked.new.machine shown.new buffers.new) }
     ensures traced { OnOk result (GrowsBy (TracesLine (boot_tables N.frames N.stocks) (map (λ text. text.now) texts.now)
         line.now (system_state locked.old cpus.old) (system_state locked.new cpus.new))
         (string_bytes trace.old) (string_bytes trace.new)) }
@@ -149,17 +149,18 @@ fn trace_line<N: BootName>(
     Ok(())
 }
 
-// Advances what is shown by a line that was served on this route, and takes a snapshot of the frames' records.
+// Advances what is shown by a line that was served on this route, and takes a snapshot of the frames' records. The
+// machine drops its notes of the lists with that.
 fn observe<N: BootName>(
     alloc: Global,
     route: &Route,
     locked: &mut Locked<N>,
     tables: &Tables<N>,
     cpus: &mut [Cpu<N>],
-    shown: &mut TraceState,
+    shown: &mut LiveState,
     buffers: &mut Buffers,
 ) -> Result<(), AllocError>
-    requires follow { FollowLine locked.old.machine.snapshot shown.old buffers.old }
+    requires follow { FollowLine locked.old.machine shown.old buffers.old }
     requires groups { route.now ≡ Unlocked → shown.old.groups ≡ groups_shown locked.old.machine }
     requires flags { route.now ≡ Unlocked → shown.old.flags ≡ flags_shown locked.old.machine }
     ensures shown { OnOk result (shown.new ≡ trace_state_of locked.old.machine cpus.old) }
@@ -167,7 +168,7 @@ fn observe<N: BootName>(
         ≡ changes_text (changes shown.old (trace_state_of locked.old.machine cpus.old))) }
     ensures counts { OnOk result (buffers.new.counts
         ≡ counts_part (changes shown.old (trace_state_of locked.old.machine cpus.old)).counts) }
-    ensures follow { OnOk result (FollowLine locked.new.machine.snapshot shown.new buffers.new) }
+    ensures follow { OnOk result (FollowLine locked.new.machine shown.new buffers.new) }
     ensures observed { OnOk result (locked.new ≡ locked_observed locked.old (length cpus.old)) }
     ensures cpus { cpus.new ≡ cpus.old }
     ensures again { OnOk result
@@ -184,10 +185,10 @@ fn advance_by_route<N: BootName>(
     locked: &mut Locked<N>,
     tables: &Tables<N>,
     cpus: &mut [Cpu<N>],
-    shown: &mut TraceState,
+    shown: &mut LiveState,
     buffers: &mut Buffers,
 ) -> Result<(), AllocError>
-    requires follow { FollowLine locked.old.machine.snapshot shown.old buffers.old }
+    requires follow { FollowLine locked.old.machine shown.old buffers.old }
     requires groups { route.now ≡ Unlocked → shown.old.groups ≡ groups_shown locked.old.machine }
     requires flags { route.now ≡ Unlocked → shown.old.flags ≡ flags_shown locked.old.machine }
     ensures shown { OnOk result (shown.new ≡ trace_state_of locked.old.machine cpus.old) }
@@ -195,7 +196,7 @@ fn advance_by_route<N: BootName>(
         ≡ changes_text (changes shown.old (trace_state_of locked.old.machine cpus.old))) }
     ensures counts { OnOk result (buffers.new.counts
         ≡ counts_part (changes shown.old (trace_state_of locked.old.machine cpus.old)).counts) }
-    ensures follow { OnOk result (FollowLine locked.old.machine.frame_states shown.new buffers.new) }
+    ensures follow { OnOk result (FollowLine (with_snapshot locked.old.machine) shown.new buffers.new) }
     ensures looked { locked.new ≡ locked_with_looks locked.old (length cpus.old) }
     ensures cpus { cpus.new ≡ cpus.old }
     ensures again { trace_state_of locked.new.machine cpus.new ≡ trace_state_of locked.old.machine cpus.old }

@@ -1,17 +1,18 @@
 -- Groups that have the numbers and paths of a machine's groups, and what they are once they are advanced. Serves
 -- `advance_groups`.
 use Rattle.std.proofs.Common.{◌≡◌, ℕ, zero, suc, ◌+◌, ◌<◌, ◌≤◌, ◌==◌, ◌||◌, not, Bool, true, cond, Option, Some, None}
-use Rattle.std.proofs.Common.{List, [], ◌∷◌, ◌++◌, map, refl, sym, ap, ◌∙◌, subst, arith, append-nil, eq-eqb}
+use Rattle.std.proofs.Common.{List, [], ◌∷◌, ◌++◌, get_or, length, map, take, refl, sym, ap, ◌∙◌, subst, arith, append-nil, eq-eqb}
 use Rattle.std.specs.List.{filter}
 use Rattle.std.specs.Prelude.{⊤, option_map, option_to_list}
 use Rattle.std.specs.Str.{bytes_eq}
 use Rattle.std.proofs.lemmas.Bool.{and_from, or_right}
-use Rattle.std.proofs.lemmas.List.{map-append}
+use Rattle.std.proofs.lemmas.List.{map-append, take_all, take_more}
 use Rattle.std.proofs.lemmas.Slice.Eq.{bytes_eq-Decides}
 use Rattle.group_tree.specs.Groups.{path_of}
 use Rattle.trace_lines.specs.TraceState.{KnownShownGroup}
 use Rattle.trace_lines.specs.Changes.{groups_not_in, has_group, is_same_group}
 use Rattle.mem_machine.specs.Machines.{KnownMachine}
+use Rattle.shown_states.specs.ChangedGroups.{NumbersAscend}
 use Rattle.shown_states.specs.Groups.{AreSameGroups, HasThisGroup, group_if_there, group_now, group_shown, groups_below, groups_shown}
 
 -- ---- the same groups
@@ -57,8 +58,7 @@ none_beyond_back these groups same = none_beyond groups these (same_back these g
 
 -- the numbers ascend from `low` on, and all are below `high`
 abbrev pub Ascend : (low high : ℕ) → List KnownShownGroup → Type 0
-Ascend low high [] = low ≤ high
-Ascend low high (group ∷ groups) = (low ≤ group.number) × Ascend (group.number + 1) high groups
+Ascend low high groups = NumbersAscend low high groups
 
 pub ascend_wider : (low high : ℕ) (groups : List KnownShownGroup) → Ascend low high groups → Ascend low (suc high) groups
 ascend_wider low high [] ascend = omega (arith, ascend)
@@ -68,6 +68,35 @@ pub ascend_more : (low high : ℕ) (groups : List KnownShownGroup) (group : Know
     → Ascend low (suc high) (groups ++ group ∷ [])
 ascend_more low high [] group ascend is = (omega (arith, ascend, is), omega (arith, is))
 ascend_more low high (first ∷ groups) group ascend is = (ascend.0, ascend_more (first.number + 1) high groups group ascend.1 is)
+
+-- the numbers ascend, and all are below `least`
+pub record Ascending (least : ℕ) (groups : List KnownShownGroup) : Type 0 where
+  pub few : least ≤ 64
+  pub ascend : Ascend 0 least groups
+
+ascend_higher : (low high higher : ℕ) (groups : List KnownShownGroup) → high ≤ higher → Ascend low high groups → Ascend low higher groups
+ascend_higher low high higher [] above ascend = omega (arith, above, ascend)
+ascend_higher low high higher (group ∷ groups) above ascend = (ascend.0, ascend_higher (group.number + 1) high higher groups above ascend.1)
+
+ascend_push : (low high : ℕ) (groups : List KnownShownGroup) (group : KnownShownGroup) → Ascend low high groups → high ≤ group.number
+    → Ascend low (group.number + 1) (groups ++ group ∷ [])
+ascend_push low high [] group ascend above = (omega (arith, ascend, above), omega arith)
+ascend_push low high (first ∷ groups) group ascend above = (ascend.0, ascend_push (first.number + 1) high groups group ascend.1 above)
+
+-- one group more
+pub ascending_more : (groups : List KnownShownGroup) (at least : ℕ) (group : KnownShownGroup) → Ascending least (take at groups) → at < length groups
+    → group ≡ get_or groups at group → least ≤ group.number → group.number < 64 → Ascending (group.number + 1) (take (at + 1) groups)
+ascending_more groups at least group before inside is above below = record {
+  few = omega (arith, below);
+  ascend = subst (λ (l : List KnownShownGroup). Ascend 0 (group.number + 1) l)
+      (sym (take_more groups at group inside ∙ ap (λ (g : KnownShownGroup). take at groups ++ g ∷ []) (sym is)))
+      (ascend_push 0 least (take at groups) group before.ascend above);
+}
+
+-- all groups
+pub ascending_all : (groups : List KnownShownGroup) (at least : ℕ) → Ascending least (take at groups) → length groups ≤ at → Ascend 0 64 groups
+ascending_all groups at least before past =
+    ascend_higher 0 least 64 groups before.few (subst (λ (l : List KnownShownGroup). Ascend 0 least l) (take_all at groups past) before.ascend)
 
 pub ascend_same : (low high : ℕ) (ones others : List KnownShownGroup) → AreSameGroups ones others → Ascend low high others → Ascend low high ones
 ascend_same low high [] [] same ascend = ascend

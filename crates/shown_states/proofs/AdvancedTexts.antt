@@ -2,19 +2,22 @@
 use Rattle.std.proofs.Common.{◌≡◌, ℕ, zero, suc, ◌+◌, ◌<◌, ◌≤◌, ◌==◌, ◌||◌, ◌&&◌, not, Bool, true, false, cond, Option, Some, None}
 use Rattle.std.proofs.Common.{List, [], ◌∷◌, ◌++◌, map, length, take, drop, get_or, refl, sym, ap, ◌∙◌, subst, inl, inr, arith, eq-eqb}
 use Rattle.std.specs.List.{filter, flat_map, range_with_len}
-use Rattle.std.specs.Prelude.{option_map}
+use Rattle.std.specs.Prelude.{codes, option_map}
 use Rattle.std.specs.Str.{bytes_eq}
 use Rattle.std.proofs.lemmas.Bool.{and_left, cases_eq, cond-false, cond-true, ne_eqb, or_from}
 use Rattle.std.proofs.lemmas.List.{append-nil, drop_all, drop_more, get_or_at, length-map, length-take, take_all}
 use Rattle.trace_lines.specs.TraceState.{KnownShownGroup}
 use Rattle.trace_lines.specs.Changes.{ListChange, group_list_changes, group_numbered, groups_list_changes, has_row, is_same_row, is_unchanged, rows_not_in}
+use Rattle.trace_lines.specs.Parts.{row_front_text, row_text}
+use Rattle.trace_lines.specs.Writing.{AddsRows, start_text}
 use Rattle.mem_machine.specs.Machines.{KnownMachine}
 use Rattle.shown_states.specs.Groups.{HasThisGroup, group_now}
+use Rattle.shown_states.specs.LiveStates.{row_now}
 use Rattle.shown_states.proofs.AdvancedGroups.{AreThere, Ascend}
 
 -- ---- numbers below those of all groups
 
-ascend_within : (low high : ℕ) (groups : List KnownShownGroup) → Ascend low high groups → low ≤ high
+pub ascend_within : (low high : ℕ) (groups : List KnownShownGroup) → Ascend low high groups → low ≤ high
 ascend_within low high [] ascend = ascend
 ascend_within low high (group ∷ groups) ascend =
     let rest = ascend_within (group.number + 1) high groups ascend.1 in
@@ -163,11 +166,32 @@ pub rest_more : {X : Type 0} (f : KnownShownGroup → List X) (groups : List Kno
     → flat_map f (drop at groups) ≡ f (get_or groups at default) ++ flat_map f (drop (at + 1) groups)
 rest_more f groups at default inside = ap (λ (l : List KnownShownGroup). flat_map f l) (drop_more groups at default inside)
 
--- at the end all groups are as they are now
-pub now_to_end : (machine : KnownMachine) (before now : List KnownShownGroup) (at : ℕ) → length before ≤ at
-    → now ≡ map (group_now machine) (take at before) ++ drop at before → now ≡ map (group_now machine) before
-now_to_end machine before now at past so_far =
+-- at the end all groups are changed
+pub now_to_end : (f : KnownShownGroup → KnownShownGroup) (before now : List KnownShownGroup) (at : ℕ) → length before ≤ at
+    → now ≡ map f (take at before) ++ drop at before → now ≡ map f before
+now_to_end f before now at past so_far =
     so_far
-    ∙ ap (λ (l : List KnownShownGroup). map (group_now machine) l ++ drop at before) (take_all at before past)
-    ∙ ap (λ (l : List KnownShownGroup). map (group_now machine) before ++ l) (drop_all at before past)
-    ∙ append-nil (map (group_now machine) before)
+    ∙ ap (λ (l : List KnownShownGroup). map f l ++ drop at before) (take_all at before past)
+    ∙ ap (λ (l : List KnownShownGroup). map f before ++ l) (drop_all at before past)
+    ∙ append-nil (map f before)
+
+-- ---- one row
+
+adds_if : (first next : Bool) (old new : List ℕ) (b : Bool) (one other : KnownShownGroup) → row_text one ≡ row_text other
+    → AddsRows first next old new (cond b (one ∷ []) []) → AddsRows first next old new (cond b (other ∷ []) [])
+adds_if first next old new true one other same adds = record {
+  written = adds.written ∙ ap (λ (l : List ℕ). old ++ (start_text (codes "groups") first ++ l ++ [])) same;
+  first = adds.first;
+}
+adds_if first next old new false one other same adds = adds
+
+same_text : (machine : KnownMachine) (group : KnownShownGroup) → row_text (row_now machine group) ≡ row_text (group_now machine group)
+unfolding row_front_text
+same_text machine group = refl
+
+-- what is written of a row doesn't depend on the lists
+pub row_written : (machine : KnownMachine) (first next : Bool) (old new : List ℕ) (group : KnownShownGroup)
+    → AddsRows first next old new (rows_not_in (group ∷ []) (row_now machine group ∷ [])) → AddsRows first next old new (rows_of machine group)
+row_written machine first next old new group adds =
+    adds_if first next old new (not (is_unchanged group (row_now machine group) || false)) (row_now machine group) (group_now machine group)
+    (same_text machine group) adds

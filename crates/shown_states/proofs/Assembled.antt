@@ -6,7 +6,7 @@ use Rattle.std.specs.Fmt.{decimal}
 use Rattle.std.specs.List.{filter, flat_map, range_with_len}
 use Rattle.std.specs.Str.{bytes_eq}
 use Rattle.std.specs.String.{string_bytes}
-use Rattle.std.proofs.lemmas.Bool.{and_from, or_left, or_right}
+use Rattle.std.proofs.lemmas.Bool.{and_from, false≢true, or_left, or_right}
 use Rattle.std.proofs.lemmas.List.{length-map}
 use Rattle.std.proofs.lemmas.Slice.Eq.{bytes_eq-Decides}
 use Rattle.cpu_part.specs.Cpus.{KnownCpu}
@@ -19,8 +19,7 @@ use Rattle.trace_lines.specs.Changes.{active_of, are_same_events, are_same_flags
 use Rattle.trace_lines.specs.Parts.{changes_text, counts_part, first_parts_text, flag_change_text, frame_span_text, last_parts_text, list_change_text, made_text, part_text, pin_change_text, row_text, stock_change_text}
 use Rattle.trace_lines.specs.Writing.{AddsLists, AddsRows}
 use Rattle.trace_lines.proofs.Items.{adds_both, adds_part}
-use Rattle.mem_machine.specs.declared.frame_state.FrameState.{FrameState}
-use Rattle.mem_machine.specs.Machines.{KnownMachine}
+use Rattle.mem_machine.specs.Machines.{KnownMachine, with_snapshot}
 use Rattle.shown_states.specs.declared.advance_cpus.CpuParts.{CpuParts}
 use Rattle.shown_states.specs.declared.part.Part.{Part}
 use Rattle.shown_states.specs.Advancing.{FollowLine, HasCpus, KnownBuffers}
@@ -29,11 +28,14 @@ use Rattle.shown_states.specs.FlagTables.{FlagsFollow}
 use Rattle.shown_states.specs.Cpus.{cpus_shown, with_looks}
 use Rattle.shown_states.specs.Frames.{flags_shown, places_shown, record_of}
 use Rattle.shown_states.specs.Groups.{AreSameGroups, groups_shown}
+use Rattle.shown_states.specs.LiveStates.{groups_with}
 use Rattle.shown_states.specs.Parts.{HasItems, gone_and_made_text, part_bytes}
 use Rattle.shown_states.specs.States.{counts_shown, trace_state_of}
 use Rattle.trace_lines.specs.Places.{places_of}
 use Rattle.shown_states.proofs.Advanced.{list_same}
 use Rattle.shown_states.proofs.AdvancedGroups.{none_beyond, none_beyond_back}
+use Rattle.shown_states.proofs.LiveLists.{rows_with}
+use Rattle.shown_states.proofs.Noted.{say_none}
 use Rattle.shown_states.proofs.FreshSet.{length_fresh}
 use Rattle.shown_states.proofs.Looks.{shown_again}
 use Rattle.shown_states.proofs.OneBoot.{length_places}
@@ -152,7 +154,7 @@ none_changed has (group ∷ groups) all =
 rows_quiet : (groups : List KnownShownGroup) → rows_not_in groups groups ≡ []
 rows_quiet groups = none_changed (λ group. has_row groups group) groups (λ group among. among)
 
-same_self : (groups : List KnownShownGroup) → AreSameGroups groups groups
+pub same_self : (groups : List KnownShownGroup) → AreSameGroups groups groups
 same_self [] = tt
 same_self (group ∷ groups) = (refl, refl, same_self groups)
 
@@ -269,29 +271,41 @@ pub ok_any : {T E : Type 0} (P : Type 0) (r : Result T E) → P → OnOk r P
 ok_any P (Ok x) holds = holds
 ok_any P (Err x) holds = tt
 
--- buffers that follow a line for both their places and their flags
-pub ok_follow : {T E : Type 0} (r : Result T E) (records : List FrameState) (state : KnownTraceState) (buffers : KnownBuffers)
-    → OnOk r (PlacesFollow records state.places buffers.places) → OnOk r (FlagsFollow state buffers.flags) → OnOk r (FollowLine records state buffers)
-ok_follow (Ok x) records state buffers places flags = record { places = places; flags = flags }
-ok_follow (Err x) records state buffers places flags = tt
+-- buffers that follow a line, after which a snapshot is taken
+pub ok_follow : {T E : Type 0} (r : Result T E) (machine : KnownMachine) (cpus : List KnownCpu) (state : KnownTraceState) (buffers : KnownBuffers)
+    → OnOk r (PlacesFollow machine.frame_states state.places buffers.places) → OnOk r (FlagsFollow state buffers.flags)
+    → OnOk r (state ≡ trace_state_of machine cpus) → OnOk r (FollowLine (with_snapshot machine) state buffers)
+ok_follow (Ok x) machine cpus state buffers places flags is = record { places = places; flags = flags; notes = say_none machine cpus state is }
+ok_follow (Err x) machine cpus state buffers places flags is = tt
 
--- what was added of groups that were swapped out
-pub lists_swapped : {T E : Type 0} (r : Result T E) (old from new now : List KnownShownGroup) (first next : Bool) (text after : List ℕ) → from ≡ old
-    → OnOk r (new ≡ now) → OnOk r (AddsLists first next text after (groups_list_changes from new)) → OnOk r (AddsLists first next text after (groups_list_changes old now))
-lists_swapped (Err x) old from new now first next text after same is adds = tt
-lists_swapped (Ok x) old from new now first next text after same is adds =
-    subst (λ (g : List KnownShownGroup). AddsLists first next text after (groups_list_changes old g)) is
-    (subst (λ (g : List KnownShownGroup). AddsLists first next text after (groups_list_changes g new)) same adds)
+-- buffers that keep nothing
+pub ok_follow_none : {T E : Type 0} (r : Result T E) (machine : KnownMachine) (cpus : List KnownCpu) (state : KnownTraceState) (buffers : KnownBuffers)
+    → buffers.places.is_ready ≡ false → buffers.flags.is_ready ≡ false
+    → OnOk r (state ≡ trace_state_of machine cpus) → OnOk r (FollowLine (with_snapshot machine) state buffers)
+ok_follow_none (Ok x) machine cpus state buffers places flags is = record {
+  places = λ ready. absurd (false≢true (sym places ∙ ready));
+  flags = λ ready. absurd (false≢true (sym flags ∙ ready));
+  notes = say_none machine cpus state is;
+}
+ok_follow_none (Err x) machine cpus state buffers places flags is = tt
 
-pub rows_swapped : {T E : Type 0} (r : Result T E) (old from new now : List KnownShownGroup) (first next : Bool) (text after : List ℕ) → from ≡ old
-    → first ≡ true → text ≡ [] → OnOk r (new ≡ now) → OnOk r (AddsRows first next text after (rows_not_in from new))
+-- what was added of rows that were swapped out
+pub rows_swapped : {T E : Type 0} (r : Result T E) (old from now : List KnownShownGroup) (first next : Bool) (text after : List ℕ)
+    → from ≡ old → first ≡ true → text ≡ [] → OnOk r (AddsRows first next text after (rows_not_in from now))
     → OnOk r (AddsRows true next [] after (rows_not_in old now))
-rows_swapped (Err x) old from new now first next text after same start none is adds = tt
-rows_swapped (Ok x) old from new now first next text after same start none is adds =
+rows_swapped (Err x) old from now first next text after same start none adds = tt
+rows_swapped (Ok x) old from now first next text after same start none adds =
     subst (λ (t : List ℕ). AddsRows true next t after (rows_not_in old now)) none
     (subst (λ (b : Bool). AddsRows b next text after (rows_not_in old now)) start
-    (subst (λ (g : List KnownShownGroup). AddsRows first next text after (rows_not_in old g)) is
-    (subst (λ (g : List KnownShownGroup). AddsRows first next text after (rows_not_in g new)) same adds)))
+    (subst (λ (g : List KnownShownGroup). AddsRows first next text after (rows_not_in g now)) same adds))
+
+-- the same rows of groups with lists from a table
+pub rows_listed : {T E : Type 0} (r : Result T E) (lists : List (List ℕ)) (old now : List KnownShownGroup) (part : Part)
+    → OnOk r (HasItems (codes "groups") row_text part (rows_not_in old now))
+    → OnOk r (HasItems (codes "groups") row_text part (rows_not_in (groups_with lists old) now))
+rows_listed (Err x) lists old now part has = tt
+rows_listed (Ok x) lists old now part has =
+    subst (AddsRows true part.is_first [] (string_bytes part.text)) (rows_with lists old now) has
 
 -- what was added of groups that were replaced
 pub text_named : (old now gone_old gone_now made_old made_now : List KnownShownGroup) (start one two : List ℕ)

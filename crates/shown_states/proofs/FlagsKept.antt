@@ -1,4 +1,4 @@
--- The flags that were set unit by unit are those of the links. Serves `show_flags` and `advance_flags`.
+-- The flags that were set unit by unit are those of the links. Serves `fill_flags`.
 use Rattle.std.proofs.Common.{◌≡◌, ℕ, zero, suc, ◌<◌, ◌≤◌, ◌==◌, ◌||◌, Bool, true, false, Option, Some, None, List, [], ◌∷◌, ◌++◌, get_or, length, map, refl, sym, ap, ◌∙◌, subst, inl, inr, eq-eqb, arith}
 use Rattle.std.specs.Prelude.{IfSome, is_some, if◌then◌else◌, replicate, slice_set}
 use Rattle.std.proofs.lemmas.Bool.{cases_eq, ne_eqb, or_right, true≢false}

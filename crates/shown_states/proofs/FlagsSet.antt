@@ -1,4 +1,4 @@
--- The flags of some units and then of others. Serves `set_flags`, `show_flags` and `advance_flags`.
+-- The flags of some units and then of others. Serves `set_flags` and `fill_flags`.
 use Rattle.std.proofs.Common.{◌≡◌, ℕ, ◌+◌, ◌<◌, List, [], ◌∷◌, ◌++◌, length, refl, sym, ap, ◌∙◌, add-one, arith}
 use Rattle.std.specs.Prelude.{slice_set}
 use Rattle.std.proofs.lemmas.List.{length-set}
@@ -15,12 +15,6 @@ pub flags_both : (flags : List Flags) (units others : List Entry)
     → with_flags flags (units ++ others) ≡ with_flags (with_flags flags units) others
 flags_both flags [] others = refl
 flags_both flags (unit ∷ units) others = flags_both (slice_set flags unit.number (flags_of unit)) units others
-
--- one more unit
-pub unit_more : (flags now new : List Flags) (met : List Entry) (unit : Entry) → now ≡ with_flags flags met
-    → new ≡ slice_set now unit.number (flags_of unit) → new ≡ with_flags flags (met ++ unit ∷ [])
-unit_more flags now new met unit so_far is =
-    is ∙ ap (λ (l : List Flags). slice_set l unit.number (flags_of unit)) so_far ∙ sym (flags_both flags met (unit ∷ []))
 
 -- the units of one more group
 pub flags_more : (flags : List Flags) (machine : KnownMachine) (count : ℕ)

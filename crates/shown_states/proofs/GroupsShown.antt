@@ -45,6 +45,12 @@ module _ (P : Option KnownShownGroup → Type 0) (machine : KnownMachine) (numbe
 
 -- ---- each number is one group's alone
 
+-- a group of another number hasn't this one
+pub none_if : (machine : KnownMachine) (group number : ℕ) (path : Option (List ℕ)) → (group ≡ number → ⊥)
+    → group_numbered (option_to_list (option_map (group_shown machine group) path)) number ≡ None
+none_if machine group number None other = refl
+none_if machine group number (Some text) other = cond-false (group == number) (Some (group_shown machine group text)) None (ne_eqb group number other)
+
 -- no group has a number that is not below the count
 pub none_from : (machine : KnownMachine) (count number : ℕ) → count ≤ number → group_numbered (groups_below machine count) number ≡ None
 none_from machine zero number above = refl
@@ -52,11 +58,7 @@ none_from machine (suc count) number above =
     let test : KnownShownGroup → Bool = λ group. group.number == number in
     find-append test (groups_below machine count) (group_if_there machine count)
     ∙ (λ i. option_or (none_from machine count number (omega (arith, above)) i) (group_numbered (group_if_there machine count) number))
-    ∙ other (path_of machine.ledger.groups count)
-  where
-    other : (path : Option (List ℕ)) → group_numbered (option_to_list (option_map (group_shown machine count) path)) number ≡ None
-    other None = refl
-    other (Some text) = cond-false (count == number) (Some (group_shown machine count text)) None (ne_eqb count number (λ same. omega (arith, same, above)))
+    ∙ none_if machine count number (path_of machine.ledger.groups count) (λ same. omega (arith, same, above))
 
 -- one more group, whose number none of them has
 numbered_more : (groups : List KnownShownGroup) (group : KnownShownGroup) → AreNumbered groups → group_numbered groups group.number ≡ None

@@ -2,7 +2,8 @@ pub mod Looks
 pub mod FlagsSet
 pub mod TouchedFlags
 pub mod FlagsKept
-pub mod GroupFlags
+pub mod KeptFlags
+pub mod Noted
 pub mod FreshSet
 pub mod ChangedPlaces
 pub mod Numbered
@@ -16,3 +17,14 @@ pub mod AdvancedGroups
 pub mod AdvancedTexts
 pub mod SeenGroups
 pub mod Assembled
+pub mod ListTables
+pub mod MovedLists
+pub mod SetLists
+pub mod JoinedLists
+pub mod LeftLists
+pub mod LiveLists
+pub mod LiveStates
+pub mod ChangedGroups
+pub mod ChangedTexts
+pub mod ListTablesMoved
+pub mod ListTablesRows

@@ -1,19 +1,19 @@
 -- The flags of some frames are set, and these frames are touched. Serves `flag_table` and `advance_flags`.
-use Rattle.std.proofs.Common.{◌≡◌, ℕ, zero, suc, ◌+◌, ◌<◌, ◌≤◌, ◌⊎◌, Some, List, [], ◌∷◌, ◌++◌, drop, get_or, length, refl, sym, ap, ◌∙◌, subst, inl, inr, arith}
-use Rattle.std.specs.Prelude.{replicate, slice_get, slice_set, unwrap_or}
+use Rattle.std.proofs.Common.{◌≡◌, ℕ, zero, suc, ◌+◌, ◌<◌, ◌≤◌, ◌⊎◌, Some, List, [], ◌∷◌, drop, get_or, length, sym, ap, ◌∙◌, subst, inl, inr, arith}
+use Rattle.std.specs.Prelude.{slice_get, slice_set, unwrap_or}
 use Rattle.std.specs.List.{Contains}
 use Rattle.std.specs.List.Sorted.{IsNonDecreasing, IsPermutation, IsSorted}
 use Rattle.std.specs.Ordering.{nat_cmp}
 use Rattle.std.proofs.lemmas.Bool.{cases_eq, cases_lt}
-use Rattle.std.proofs.lemmas.List.{drop_all, drop_more, ext_get_or, get_or-replicate, get_or-set_other, get_or-set_same, get_or_past, length-replicate, length-set}
+use Rattle.std.proofs.lemmas.List.{drop_all, drop_more, ext_get_or, get_or-set_other, get_or-set_same, get_or_past}
 use Rattle.std.proofs.lemmas.List.Sorted.{Contains-permutation, IsNonDecreasingBy-from_sort}
 use Rattle.std.proofs.lemmas.Option.{slice_get-get_or, slice_get_past, unwrap_or-slice_get}
 use Rattle.trace_lines.specs.declared.trace_state.Flags.{Flags}
-use Rattle.trace_lines.specs.TraceState.{KnownShownGroup, KnownTraceState}
+use Rattle.trace_lines.specs.TraceState.{KnownTraceState}
 use Rattle.trace_lines.specs.Rebuilding.{no_flags}
 use Rattle.trace_lines.specs.Touched.{DifferOnlyAt}
 use Rattle.shown_states.specs.declared.flag_table.FlagTable.{FlagTable}
-use Rattle.shown_states.specs.FlagTables.{FlagsFollow, AreFlagsUnset, FlagsAreReady, OthersHaveNoFlags, TouchesFlags, units_on_lists}
+use Rattle.shown_states.specs.FlagTables.{FlagsFollow, TouchesFlags}
 
 -- ---- what is touched
 
@@ -25,65 +25,10 @@ touches_both first mid last old now new one two = record {
   others = λ frame not. one.others frame (λ is. not (two.kept frame is)) ∙ two.others frame not;
 }
 
--- ---- frames without flags
-
 -- a unit is the first of these or one of the others
 first_or_others : (unit frame : ℕ) (units : List ℕ) → Contains (unit ∷ units) frame → (unit ≡ frame) ⊎ Contains units frame
 first_or_others unit frame units (zero, inside, is) = inl is
 first_or_others unit frame units (suc k, inside, is) = inr (k, omega (arith, inside), is)
-
--- a frame that is set to the default has it, even if it is beyond the last one
-set_to_default : {X : Type 0} (xs : List X) (at : ℕ) (default : X) → get_or (slice_set xs at default) at default ≡ default
-set_to_default xs at default = elim (cases_lt at (length xs)) [
-  | inl inside ↦ get_or-set_same xs at default default inside
-  | inr past ↦
-      let long = length-set xs at default in
-      get_or_past (slice_set xs at default) at default (omega (arith, past, long))
-]
-
--- one unit fewer has flags
-pub unset_one : (unit : ℕ) (units : List ℕ) (flags : List Flags) → OthersHaveNoFlags (unit ∷ units) flags
-    → OthersHaveNoFlags units (slice_set flags unit no_flags)
-unset_one unit units flags none frame not = elim (cases_eq frame unit) [
-  | inl is ↦
-      ap (λ (f : ℕ). get_or (slice_set flags unit no_flags) f no_flags) is ∙ set_to_default flags unit no_flags
-  | inr other ↦
-      get_or-set_other flags unit frame no_flags no_flags other
-      ∙ none frame (λ among. elim (first_or_others unit frame units among) [
-        | inl is ↦ other (sym is)
-        | inr behind ↦ not behind
-      ])
-]
-
--- the next unit of a walk
-pub unset_more : (units others : List ℕ) (at default : ℕ) (flags : List Flags) → at < length units
-    → OthersHaveNoFlags (drop at units ++ others) flags
-    → OthersHaveNoFlags (drop (at + 1) units ++ others) (slice_set flags (get_or units at default) no_flags)
-unset_more units others at default flags inside none =
-    unset_one (get_or units at default) (drop (at + 1) units ++ others) flags
-    (subst (λ (left : List ℕ). OthersHaveNoFlags (left ++ others) flags) (drop_more units at default inside) none)
-
-pub unset_end : (units others : List ℕ) (at : ℕ) (flags : List Flags) → length units ≤ at → OthersHaveNoFlags (drop at units ++ others) flags
-    → OthersHaveNoFlags others flags
-unset_end units others at flags past none =
-    subst (λ (left : List ℕ). OthersHaveNoFlags (left ++ others) flags) (drop_all at units past) none
-
--- the next group of a walk
-pub group_next : (groups : List KnownShownGroup) (at : ℕ) (default : KnownShownGroup) (flags : List Flags) → at < length groups
-    → OthersHaveNoFlags (units_on_lists (drop at groups)) flags
-    → OthersHaveNoFlags ((get_or groups at default).inactive ++ ((get_or groups at default).active ++ units_on_lists (drop (at + 1) groups))) flags
-group_next groups at default flags inside none =
-    subst (λ (left : List KnownShownGroup). OthersHaveNoFlags (units_on_lists left) flags) (drop_more groups at default inside) none
-
--- no unit has flags
-pub none_left : (groups : List KnownShownGroup) (at : ℕ) (old flags : List Flags) → length groups ≤ at → length flags ≡ length old
-    → OthersHaveNoFlags (units_on_lists (drop at groups)) flags → flags ≡ replicate (length old) no_flags
-none_left groups at old flags past long none =
-    let all = subst (λ (left : List KnownShownGroup). OthersHaveNoFlags (units_on_lists left) flags) (drop_all at groups past) none in
-    let filled = length-replicate (length old) no_flags in
-    ext_get_or no_flags flags (replicate (length old) no_flags) (long ∙ sym filled)
-    (λ frame inside. all frame (λ (k, below, is). absurd (omega (arith, below)))
-    ∙ sym (get_or-replicate (length old) frame no_flags no_flags (omega (arith, inside, long))))
 
 -- ---- flags that are copied
 
@@ -165,12 +110,11 @@ sorted_differ touched sorted old now touches moved up = record {
       (touches.others frame (λ among. not (Contains-permutation touched sorted frame moved among)));
 }
 
--- the flags were unset, then set to those of now, and the touched frames were sorted
-pub line_differs : (first touched sorted : List ℕ) (old unset now : List Flags) → TouchesFlags [] first old unset
-    → TouchesFlags first touched unset now → IsPermutation touched sorted → IsSorted nat_cmp sorted → DifferOnlyAt sorted old now
-line_differs first touched sorted old unset now one two moved up =
-    sorted_differ touched sorted old now (touches_both [] first touched old unset now one two) moved
-    (IsNonDecreasingBy-from_sort (λ (number : ℕ). number) sorted up)
+-- the touched frames were sorted by `sort_unstable`
+pub line_differs : (touched sorted : List ℕ) (old now : List Flags) → TouchesFlags [] touched old now → IsPermutation touched sorted
+    → IsSorted nat_cmp sorted → DifferOnlyAt sorted old now
+line_differs touched sorted old now touches moved up =
+    sorted_differ touched sorted old now touches moved (IsNonDecreasingBy-from_sort (λ (number : ℕ). number) sorted up)
 
 -- the same of lists that are read
 pub differ_read : (touched its_touched : List ℕ) (before its_before after its_after : List Flags) → its_touched ≡ touched
@@ -180,22 +124,6 @@ differ_read touched its_touched before its_before after its_after same_touched s
     (subst (λ (l : List Flags). DifferOnlyAt touched l its_after) (sym same_before)
     (subst (λ (l : List Flags). DifferOnlyAt touched before l) (sym same_after) differ))
 
--- the table has the flags of a state with these groups and flags
-pub ready_after : (state : KnownTraceState) (table : FlagTable) (groups : List KnownShownGroup) (flags : List Flags) → state.groups ≡ groups
-    → state.flags ≡ flags → table.flags.items ≡ state.flags → OthersHaveNoFlags (units_on_lists groups) flags → FlagsAreReady state table
-ready_after state table groups flags same_groups same_flags copied others = record {
-  flags = copied;
-  others = subst (λ (l : List KnownShownGroup). OthersHaveNoFlags (units_on_lists l) state.flags) (sym same_groups)
-      (subst (λ (l : List Flags). OthersHaveNoFlags (units_on_lists groups) l) (sym same_flags) others);
-}
-
--- ---- a state with the same flags
-
-pub ready_same : (state other : KnownTraceState) (table : FlagTable) → other.flags ≡ state.flags → other.groups ≡ state.groups
-    → FlagsFollow state table → FlagsFollow other table
-ready_same state other table same_flags same_groups ready is =
-    let has = ready is in
-    ready_after other table state.groups state.flags same_groups same_flags (has.flags ∙ sym same_flags) has.others
-
-pub unset_same : (flags other : List Flags) (table : FlagTable) → other ≡ flags → AreFlagsUnset flags table → AreFlagsUnset other table
-unset_same flags other table same unset = subst (λ (l : List Flags). AreFlagsUnset l table) (sym same) unset
+-- the table has the flags of each state with the same flags
+pub ready_same : (state other : KnownTraceState) (table : FlagTable) → other.flags ≡ state.flags → FlagsFollow state table → FlagsFollow other table
+ready_same state other table same ready is = ready is ∙ sym same

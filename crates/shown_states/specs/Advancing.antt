@@ -6,10 +6,11 @@ use Rattle.trace_lines.specs.Changes.{cpu_list_changes, cpus_list_changes, cpus_
 use Rattle.trace_lines.specs.Changes.{ListChange, PinChange, StockChange, stock_changes}
 use Rattle.trace_lines.specs.Parts.{list_change_text, pin_change_text, stock_change_text}
 use Rattle.trace_lines.specs.Writing.{AddsLists, AddsPins, AddsStocks}
-use Rattle.mem_machine.specs.declared.frame_state.FrameState.{FrameState}
+use Rattle.mem_machine.specs.Machines.{KnownMachine}
 use Rattle.shown_states.specs.Parts.{HasItems}
 use Rattle.shown_states.specs.Changed.{PlacesFollow}
 use Rattle.shown_states.specs.FlagTables.{FlagsFollow}
+use Rattle.shown_states.specs.Noted.{NotesSay}
 use Rattle.shown_states.specs.declared.place_tables.PlaceTables.{PlaceTables}
 use Rattle.shown_states.specs.declared.flag_table.FlagTable.{FlagTable}
 use Rattle.shown_states.specs.declared.advance_cpus.CpuParts.{CpuParts}
@@ -48,7 +49,9 @@ pub record KnownBuffers : Type 0 where
   pub places : PlaceTables
   pub flags : FlagTable
 
--- the buffers are of no line, or of the one at which the frames had these records and the state was this one
-pub record FollowLine (records : List FrameState) (state : KnownTraceState) (buffers : KnownBuffers) : Type 0 where
-  pub places : PlacesFollow records state.places buffers.places
+-- The machine's notes say how the state differs from the machine. The buffers are of no line, or of the one at which the
+-- machine's snapshot was taken and the state was this one.
+pub record FollowLine (machine : KnownMachine) (state : KnownTraceState) (buffers : KnownBuffers) : Type 0 where
+  pub places : PlacesFollow machine.snapshot state.places buffers.places
   pub flags : FlagsFollow state buffers.flags
+  pub notes : NotesSay machine state

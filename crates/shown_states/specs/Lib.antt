@@ -1,7 +1,11 @@
 pub mod Frames
 pub mod Changed
 pub mod FlagTables
+pub mod ListTables
+pub mod LiveStates
+pub mod ChangedGroups
 pub mod Groups
+pub mod Noted
 pub mod Cpus
 pub mod States
 pub mod Laws

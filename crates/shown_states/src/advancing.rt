@@ -1,33 +1,41 @@
 //! A state that is advanced in place to what is shown now.
 
-ghost use Rattle.std.specs.Prelude.{◌≡◌, ◌++◌, IsTrue, List, OnOk, codes, length};
+ghost use Rattle.std.specs.Prelude.{◌≡◌, ◌++◌, ◌<◌, ◌^◌, IsTrue, OnOk, codes, length, map};
+ghost use Rattle.std.specs.List.{All};
 ghost use Rattle.std.specs.String.{string_bytes};
 ghost use Rattle.trace_lines.specs.Changes.{changes, count_change, groups_list_changes, rows_not_in};
 ghost use Rattle.trace_lines.specs.Parts.{changes_text, counts_part, row_text};
 ghost use Rattle.trace_lines.specs.Writing.{AddsLists};
 ghost use Rattle.trace_lines.specs.TraceState.{KnownTraceState};
-ghost use Rattle.mem_machine.specs.declared.frame_state.FrameState.{FrameState};
+ghost use Rattle.mem_machine.specs.ListNotes.{moved_in};
+ghost use Rattle.mem_machine.specs.Machines.{KnownMachine, with_snapshot};
 ghost use Rattle.shown_states.specs.Advancing.{FollowLine, HasCpus};
 ghost use Rattle.shown_states.specs.Changed.{PlacesFollow};
 ghost use Rattle.shown_states.specs.Cpus.{cpus_shown, locked_with_looks};
 ghost use Rattle.shown_states.specs.FlagTables.{FlagsFollow};
 ghost use Rattle.shown_states.specs.Frames.{flags_shown};
 ghost use Rattle.shown_states.specs.Groups.{AreSameGroups, groups_shown};
+ghost use Rattle.shown_states.specs.LiveStates.{OnlyMove, groups_with, row_now, with_lists};
+ghost use Rattle.shown_states.specs.Noted.{NotesSay};
 ghost use Rattle.shown_states.specs.Parts.{HasItems, gone_and_made_text, part_bytes};
 ghost use Rattle.shown_states.specs.States.{counts_shown, trace_state_of};
 
 use crate::advance_cpus::{CpuParts, advance_cpus};
 use crate::advance_flags::advance_flags;
 use crate::advance_frames::advance_frames;
-use crate::advance_groups::{advance_groups, has_same_groups};
+use crate::advance_groups::{advance_rows, has_same_groups};
+use crate::advance_lists::{MoveBuffers, advance_lists, replace_lists};
+use crate::change_groups::{can_follow, change_groups};
 use crate::counts::show_counts;
 use crate::flag_table::FlagTable;
 use crate::groups::show_groups;
+use crate::list_table::ListTable;
+use crate::live::{LiveState, fill_lists};
 use crate::part::Part;
 use crate::place_tables::PlaceTables;
 use crate::states::trace_state;
 use cpu_part::{BootName, Cpu, Tables};
-use mem_machine::Machine;
+use mem_machine::{ListNote, Machine};
 use mem_system::Locked;
 use std::alloc::{AllocError, Global};
 use std::marker::Model;
@@ -43,6 +51,7 @@ pub(crate) struct Parts {
     pub(crate) rows: Part,
     pub(crate) places: PlaceTables,
     pub(crate) flags: FlagTable,
+    pub(crate) moves: MoveBuffers,
     pub(crate) spare_groups: Vec<ShownGroup>,
     pub(crate) spare_cpus: Vec<ShownCpu>,
 }
@@ -72,7 +81,8 @@ impl Model for Buffers {
 impl Buffers {
     /// Buffers of no line.
     pub fn new(alloc: Global) -> Buffers
-        ensures { (records : List FrameState) → (state : KnownTraceState) → FollowLine records state result }
+        ensures { (machine : KnownMachine) → (state : KnownTraceState) → NotesSay machine state
+            → FollowLine machine state result }
     {
         Buffers {
             parts: Parts {
@@ -80,6 +90,7 @@ impl Buffers {
                 rows: Part::new(alloc),
                 places: PlaceTables::new(alloc),
                 flags: FlagTable::new(alloc),
+                moves: MoveBuffers::new(alloc),
                 spare_groups: Vec::new(alloc),
                 spare_cpus: Vec::new(alloc),
             },
@@ -108,26 +119,27 @@ impl Buffers {
 /// CPUs aren't those of the state.
 ///
 /// It fails only if memory runs out. It has looked at the stocks then all the same, and what the state, the texts and
-/// the buffers are says nothing: go on with new buffers and a new `trace_state`.
+/// the buffers are says nothing: go on with new buffers and a new `live_state`.
 ///
 /// For the places of frames it looks only at those whose records were written since the machine's snapshot, and at the
-/// fresh ones. It looks at all if these buffers are new, or if the machine can't say which were written. So take a
-/// snapshot (`Locked::take_snapshot`) after each call.
+/// fresh ones; for the lists and flags of kept units only at the units that are noted since. It looks at all if these
+/// buffers are new, or if the machine can't say which were written or noted. So take a snapshot
+/// (`Locked::take_snapshot`) after each call.
 pub fn advance<N: BootName>(
     alloc: Global,
     locked: &mut Locked<N>,
     tables: &Tables<N>,
     cpus: &mut [Cpu<N>],
-    state: &mut TraceState,
+    state: &mut LiveState,
     buffers: &mut Buffers,
 ) -> Result<(), AllocError>
-    requires { FollowLine locked.old.machine.snapshot state.old buffers.old }
+    requires { FollowLine locked.old.machine state.old buffers.old }
     ensures state { OnOk result (state.new ≡ trace_state_of locked.old.machine cpus.old) }
     ensures changes { OnOk result (buffers.new.changes
         ≡ changes_text (changes state.old (trace_state_of locked.old.machine cpus.old))) }
     ensures counts { OnOk result (buffers.new.counts
         ≡ counts_part (changes state.old (trace_state_of locked.old.machine cpus.old)).counts) }
-    ensures follow { OnOk result (FollowLine locked.old.machine.frame_states state.new buffers.new) }
+    ensures follow { OnOk result (FollowLine (with_snapshot locked.old.machine) state.new buffers.new) }
     ensures looked { locked.new ≡ locked_with_looks locked.old (length cpus.old) }
     ensures cpus { cpus.new ≡ cpus.old }
     ensures again { trace_state_of locked.new.machine cpus.new ≡ trace_state_of locked.old.machine cpus.old }
@@ -137,12 +149,15 @@ pub fn advance<N: BootName>(
         changes,
         counts,
     } = buffers;
-    if has_as_many(cpus, state) {
-        return advance_parts(alloc, locked, tables, cpus, state, parts, changes, counts);
+    let LiveState { shown, lists } = state;
+    if has_as_many(cpus, shown) {
+        return advance_parts(
+            alloc, locked, tables, cpus, shown, lists, parts, changes, counts,
+        );
     }
     parts.places.is_ready = false;
     parts.flags.is_ready = false;
-    replace(alloc, locked, tables, cpus, state, changes, counts)
+    replace(alloc, locked, tables, cpus, shown, lists, changes, counts)
 }
 
 /// The same after a line that took no lock: the groups and the flags of the state are those of the machine.
@@ -151,10 +166,10 @@ pub fn advance_unlocked<N: BootName>(
     locked: &mut Locked<N>,
     tables: &Tables<N>,
     cpus: &mut [Cpu<N>],
-    state: &mut TraceState,
+    state: &mut LiveState,
     buffers: &mut Buffers,
 ) -> Result<(), AllocError>
-    requires follow { FollowLine locked.old.machine.snapshot state.old buffers.old }
+    requires follow { FollowLine locked.old.machine state.old buffers.old }
     requires groups { state.old.groups ≡ groups_shown locked.old.machine }
     requires flags { state.old.flags ≡ flags_shown locked.old.machine }
     ensures state { OnOk result (state.new ≡ trace_state_of locked.old.machine cpus.old) }
@@ -162,7 +177,7 @@ pub fn advance_unlocked<N: BootName>(
         ≡ changes_text (changes state.old (trace_state_of locked.old.machine cpus.old))) }
     ensures counts { OnOk result (buffers.new.counts
         ≡ counts_part (changes state.old (trace_state_of locked.old.machine cpus.old)).counts) }
-    ensures follow { OnOk result (FollowLine locked.old.machine.frame_states state.new buffers.new) }
+    ensures follow { OnOk result (FollowLine (with_snapshot locked.old.machine) state.new buffers.new) }
     ensures looked { locked.new ≡ locked_with_looks locked.old (length cpus.old) }
     ensures cpus { cpus.new ≡ cpus.old }
     ensures again { trace_state_of locked.new.machine cpus.new ≡ trace_state_of locked.old.machine cpus.old }
@@ -172,12 +187,15 @@ pub fn advance_unlocked<N: BootName>(
         changes,
         counts,
     } = buffers;
-    if has_as_many(cpus, state) {
-        return advance_cpu_parts(alloc, locked, tables, cpus, state, parts, changes, counts);
+    let LiveState { shown, lists } = state;
+    if has_as_many(cpus, shown) {
+        return advance_cpu_parts(
+            alloc, locked, tables, cpus, shown, lists, parts, changes, counts,
+        );
     }
     parts.places.is_ready = false;
     parts.flags.is_ready = false;
-    replace(alloc, locked, tables, cpus, state, changes, counts)
+    replace(alloc, locked, tables, cpus, shown, lists, changes, counts)
 }
 
 // Whether the state has as many CPUs.
@@ -187,40 +205,44 @@ fn has_as_many<N: BootName>(cpus: &[Cpu<N>], state: &TraceState) -> bool
     state.cpus().len() == cpus.len()
 }
 
-// Replaces the state, and compares the two whole.
+// Replaces the state, whose groups' lists are in the table, and compares the two whole.
 fn replace<N: BootName>(
     alloc: Global,
     locked: &mut Locked<N>,
     tables: &Tables<N>,
     cpus: &mut [Cpu<N>],
     state: &mut TraceState,
+    table: &mut ListTable,
     text: &mut String,
     counts: &mut String,
 ) -> Result<(), AllocError>
-    ensures state { OnOk result (state.new ≡ trace_state_of locked.old.machine cpus.old) }
+    ensures state { OnOk result (with_lists table.new.lists state.new ≡ trace_state_of locked.old.machine cpus.old) }
     ensures changes { OnOk result (string_bytes text.new
-        ≡ changes_text (changes state.old (trace_state_of locked.old.machine cpus.old))) }
+        ≡ changes_text (changes (with_lists table.old.lists state.old) (trace_state_of locked.old.machine cpus.old))) }
     ensures counts { OnOk result (string_bytes counts.new
-        ≡ counts_part (changes state.old (trace_state_of locked.old.machine cpus.old)).counts) }
+        ≡ counts_part (changes (with_lists table.old.lists state.old) (trace_state_of locked.old.machine cpus.old)).counts) }
     ensures looked { locked.new ≡ locked_with_looks locked.old (length cpus.old) }
     ensures cpus { cpus.new ≡ cpus.old }
 {
     text.clear();
     counts.clear();
     let now = trace_state(alloc, locked, tables, cpus)?;
+    fill_lists(alloc, state, table)?;
     write_counts(state.counts(), now.counts(), counts)?;
-    let result = write_changes(alloc, state, &now, text);
+    write_changes(alloc, state, &now, text)?;
     *state = now;
-    result
+    locked.prove_quiet(); // Called for its contract.
+    replace_lists(alloc, locked.machine(), state.groups(), table)
 }
 
-// Advances each part of a state that has as many CPUs.
+// Advances each part of a state that has as many CPUs, and whose groups' lists are in the table.
 fn advance_parts<N: BootName>(
     alloc: Global,
     locked: &mut Locked<N>,
     tables: &Tables<N>,
     cpus: &mut [Cpu<N>],
     state: &mut TraceState,
+    table: &mut ListTable,
     parts: &mut Parts,
     text: &mut String,
     counts: &mut String,
@@ -228,11 +250,12 @@ fn advance_parts<N: BootName>(
     requires cpus { length state.old.cpus ≡ length cpus.old }
     requires places { PlacesFollow locked.old.machine.snapshot state.old.places parts.old.places }
     requires flags { FlagsFollow state.old parts.old.flags }
-    ensures state { OnOk result (state.new ≡ trace_state_of locked.old.machine cpus.old) }
+    requires notes { NotesSay locked.old.machine (with_lists table.old.lists state.old) }
+    ensures state { OnOk result (with_lists table.new.lists state.new ≡ trace_state_of locked.old.machine cpus.old) }
     ensures changes { OnOk result (string_bytes text.new
-        ≡ changes_text (changes state.old (trace_state_of locked.old.machine cpus.old))) }
+        ≡ changes_text (changes (with_lists table.old.lists state.old) (trace_state_of locked.old.machine cpus.old))) }
     ensures counts { OnOk result (string_bytes counts.new
-        ≡ counts_part (changes state.old (trace_state_of locked.old.machine cpus.old)).counts) }
+        ≡ counts_part (changes (with_lists table.old.lists state.old) (trace_state_of locked.old.machine cpus.old)).counts) }
     ensures places { OnOk result (PlacesFollow locked.old.machine.frame_states state.new.places parts.new.places) }
     ensures flags { OnOk result (FlagsFollow state.new parts.new.flags) }
     ensures looked { locked.new ≡ locked_with_looks locked.old (length cpus.old) }
@@ -248,23 +271,25 @@ fn advance_parts<N: BootName>(
         &mut parts.spare_cpus,
         &mut parts.cpus,
     )?;
+    locked.prove_quiet(); // Called for its contract.
     let machine = locked.machine();
+    let notes = machine.list_notes();
     set_counts(machine, cpus, state, counts)?;
-    parts.flags.unset(state)?;
     text.clear();
     set_groups(
         alloc,
         machine,
         state,
+        table,
         &mut parts.spare_groups,
-        &mut parts.cpus.numbers,
+        &mut parts.moves,
         &mut parts.cpus.lists,
         &mut parts.rows,
         text,
     )?;
     advance_frames(alloc, machine, cpus, state, &mut parts.places, text)?;
     parts.cpus.lists.add_to(text)?;
-    advance_flags(machine, state, &mut parts.flags, text)?;
+    advance_flags(machine, notes, state, &mut parts.flags, text)?;
     add_last_parts(&parts.cpus.pins, &parts.cpus.stocks, &parts.rows, text)
 }
 
@@ -275,22 +300,23 @@ fn advance_cpu_parts<N: BootName>(
     tables: &Tables<N>,
     cpus: &mut [Cpu<N>],
     state: &mut TraceState,
+    table: &mut ListTable,
     parts: &mut Parts,
     text: &mut String,
     counts: &mut String,
 ) -> Result<(), AllocError>
     requires cpus { length state.old.cpus ≡ length cpus.old }
-    requires groups { state.old.groups ≡ groups_shown locked.old.machine }
+    requires groups { groups_with table.old.lists state.old.groups ≡ groups_shown locked.old.machine }
     requires flags { state.old.flags ≡ flags_shown locked.old.machine }
     requires places { PlacesFollow locked.old.machine.snapshot state.old.places parts.old.places }
-    requires table { FlagsFollow state.old parts.old.flags }
-    ensures state { OnOk result (state.new ≡ trace_state_of locked.old.machine cpus.old) }
+    requires follow { FlagsFollow state.old parts.old.flags }
+    ensures state { OnOk result (with_lists table.new.lists state.new ≡ trace_state_of locked.old.machine cpus.old) }
     ensures changes { OnOk result (string_bytes text.new
-        ≡ changes_text (changes state.old (trace_state_of locked.old.machine cpus.old))) }
+        ≡ changes_text (changes (with_lists table.old.lists state.old) (trace_state_of locked.old.machine cpus.old))) }
     ensures counts { OnOk result (string_bytes counts.new
-        ≡ counts_part (changes state.old (trace_state_of locked.old.machine cpus.old)).counts) }
+        ≡ counts_part (changes (with_lists table.old.lists state.old) (trace_state_of locked.old.machine cpus.old)).counts) }
     ensures places { OnOk result (PlacesFollow locked.old.machine.frame_states state.new.places parts.new.places) }
-    ensures table { OnOk result (FlagsFollow state.new parts.new.flags) }
+    ensures follow { OnOk result (FlagsFollow state.new parts.new.flags) }
     ensures looked { locked.new ≡ locked_with_looks locked.old (length cpus.old) }
     ensures cpus { cpus.new ≡ cpus.old }
 {
@@ -354,30 +380,76 @@ fn set_counts<N: BootName>(
     Ok(())
 }
 
-// Sets the state's groups. It adds the parts of the groups that are gone and that were made, adds the changes of the
-// lists, and sets the part of the rows that changed.
+// Sets the state's groups, whose lists are in the table. It adds the parts of the groups that are gone and that were
+// made, adds the changes of the lists, and sets the part of the rows that changed.
 fn set_groups<N: BootName>(
     alloc: Global,
     machine: &Machine<N>,
     state: &mut TraceState,
+    table: &mut ListTable,
     spare: &mut Vec<ShownGroup>,
-    units: &mut Vec<u32>,
+    moves: &mut MoveBuffers,
     lists: &mut Part,
     rows: &mut Part,
     text: &mut String,
 ) -> Result<(), AllocError>
-    ensures state { OnOk result (state.new ≡ record state.old { groups = groups_shown machine.now }) }
-    ensures text { OnOk result (string_bytes text.new
-        ≡ string_bytes text.old ++ gone_and_made_text state.old.groups (groups_shown machine.now)) }
+    requires frames { length machine.now.frame_states < 2 ^ 32 }
+    requires notes { NotesSay machine.now (with_lists table.old.lists state.old) }
+    ensures state { OnOk result (with_lists table.new.lists state.new
+        ≡ record (with_lists table.old.lists state.old) { groups = groups_shown machine.now }) }
+    ensures text { OnOk result (string_bytes text.new ≡ string_bytes text.old
+        ++ gone_and_made_text (groups_with table.old.lists state.old.groups) (groups_shown machine.now)) }
     ensures lists { OnOk result (AddsLists lists.old.is_first lists.new.is_first (string_bytes lists.old.text)
-        (string_bytes lists.new.text) (groups_list_changes state.old.groups (groups_shown machine.now))) }
+        (string_bytes lists.new.text)
+        (groups_list_changes (groups_with table.old.lists state.old.groups) (groups_shown machine.now))) }
     ensures rows { OnOk result (HasItems (codes "groups") row_text rows.new
-        (rows_not_in state.old.groups (groups_shown machine.now))) }
+        (rows_not_in (groups_with table.old.lists state.old.groups) (groups_shown machine.now))) }
+{
+    match machine.list_notes() {
+        Some(notes) if table.is_ready() => set_groups_by_notes(
+            alloc, machine, notes, state, table, spare, moves, lists, rows, text,
+        ),
+        _ => replace_groups(alloc, machine, state, table, lists, rows, text),
+    }
+}
+
+// The same if no note is missing. Of the lists it looks only at the units that moved, unless a group that is gone or was
+// made has units.
+fn set_groups_by_notes<N: BootName>(
+    alloc: Global,
+    machine: &Machine<N>,
+    notes: &[ListNote],
+    state: &mut TraceState,
+    table: &mut ListTable,
+    spare: &mut Vec<ShownGroup>,
+    moves: &mut MoveBuffers,
+    lists: &mut Part,
+    rows: &mut Part,
+    text: &mut String,
+) -> Result<(), AllocError>
+    requires frames { length machine.now.frame_states < 2 ^ 32 }
+    requires ready { IsTrue table.old.is_ready }
+    requires moves { All (λ group. OnlyMove (moved_in notes.now) machine.now table.old.lists group.number)
+        state.old.groups }
+    ensures state { OnOk result (with_lists table.new.lists state.new
+        ≡ record (with_lists table.old.lists state.old) { groups = groups_shown machine.now }) }
+    ensures text { OnOk result (string_bytes text.new ≡ string_bytes text.old
+        ++ gone_and_made_text (groups_with table.old.lists state.old.groups) (groups_shown machine.now)) }
+    ensures lists { OnOk result (AddsLists lists.old.is_first lists.new.is_first (string_bytes lists.old.text)
+        (string_bytes lists.new.text)
+        (groups_list_changes (groups_with table.old.lists state.old.groups) (groups_shown machine.now))) }
+    ensures rows { OnOk result (HasItems (codes "groups") row_text rows.new
+        (rows_not_in (groups_with table.old.lists state.old.groups) (groups_shown machine.now))) }
 {
     if has_same_groups(machine, state.groups()) {
-        return set_same_groups(machine, state, spare, units, lists, rows);
+        return set_noted_groups(machine, notes, state, table, spare, moves, lists, rows);
     }
-    replace_groups(alloc, machine, state, lists, rows, text)
+    if can_follow(machine, state.groups(), table) {
+        return change_groups(
+            alloc, machine, notes, state, table, moves, lists, rows, text,
+        );
+    }
+    replace_groups(alloc, machine, state, table, lists, rows, text)
 }
 
 // Sets the state's groups, which may be others, and adds the parts and the changes.
@@ -385,19 +457,24 @@ fn replace_groups<N: BootName>(
     alloc: Global,
     machine: &Machine<N>,
     state: &mut TraceState,
+    table: &mut ListTable,
     lists: &mut Part,
     rows: &mut Part,
     text: &mut String,
 ) -> Result<(), AllocError>
-    ensures state { OnOk result (state.new ≡ record state.old { groups = groups_shown machine.now }) }
-    ensures text { OnOk result (string_bytes text.new
-        ≡ string_bytes text.old ++ gone_and_made_text state.old.groups (groups_shown machine.now)) }
+    requires frames { length machine.now.frame_states < 2 ^ 32 }
+    ensures state { OnOk result (with_lists table.new.lists state.new
+        ≡ record (with_lists table.old.lists state.old) { groups = groups_shown machine.now }) }
+    ensures text { OnOk result (string_bytes text.new ≡ string_bytes text.old
+        ++ gone_and_made_text (groups_with table.old.lists state.old.groups) (groups_shown machine.now)) }
     ensures lists { OnOk result (AddsLists lists.old.is_first lists.new.is_first (string_bytes lists.old.text)
-        (string_bytes lists.new.text) (groups_list_changes state.old.groups (groups_shown machine.now))) }
+        (string_bytes lists.new.text)
+        (groups_list_changes (groups_with table.old.lists state.old.groups) (groups_shown machine.now))) }
     ensures rows { OnOk result (HasItems (codes "groups") row_text rows.new
-        (rows_not_in state.old.groups (groups_shown machine.now))) }
+        (rows_not_in (groups_with table.old.lists state.old.groups) (groups_shown machine.now))) }
 {
     rows.clear();
+    fill_lists(alloc, state, table)?;
     let mut groups = show_groups(alloc, machine)?;
     write_gone(state.groups(), &groups, text)?;
     write_made(state.groups(), &groups, text)?;
@@ -409,37 +486,63 @@ fn replace_groups<N: BootName>(
     )?;
     add_rows(state.groups(), &groups, &mut rows.is_first, &mut rows.text)?;
     state.swap_groups(&mut groups);
-    Ok(())
+    replace_lists(alloc, machine, state.groups(), table)
 }
 
 // Sets the state's groups, which have the numbers and paths of now, adds the changes of their lists, and sets the part
-// of the rows that changed.
-fn set_same_groups<N: BootName>(
+// of the rows that changed. Of the lists it looks only at the units that the notes say moved.
+fn set_noted_groups<N: BootName>(
     machine: &Machine<N>,
+    notes: &[ListNote],
     state: &mut TraceState,
+    table: &mut ListTable,
     spare: &mut Vec<ShownGroup>,
-    units: &mut Vec<u32>,
+    moves: &mut MoveBuffers,
     lists: &mut Part,
     rows: &mut Part,
 ) -> Result<(), AllocError>
-    requires { AreSameGroups state.old.groups (groups_shown machine.now) }
-    ensures state { OnOk result (state.new ≡ record state.old { groups = groups_shown machine.now }) }
+    requires groups { AreSameGroups state.old.groups (groups_shown machine.now) }
+    requires ready { IsTrue table.old.is_ready }
+    requires frames { length machine.now.frame_states < 2 ^ 32 }
+    requires moves { All (λ group. OnlyMove (moved_in notes.now) machine.now table.old.lists group.number)
+        state.old.groups }
+    ensures state { OnOk result (with_lists table.new.lists state.new
+        ≡ record (with_lists table.old.lists state.old) { groups = groups_shown machine.now }) }
     ensures lists { OnOk result (AddsLists lists.old.is_first lists.new.is_first (string_bytes lists.old.text)
-        (string_bytes lists.new.text) (groups_list_changes state.old.groups (groups_shown machine.now))) }
+        (string_bytes lists.new.text)
+        (groups_list_changes (groups_with table.old.lists state.old.groups) (groups_shown machine.now))) }
+    ensures rows { OnOk result (HasItems (codes "groups") row_text rows.new
+        (rows_not_in (groups_with table.old.lists state.old.groups) (groups_shown machine.now))) }
+{
+    advance_lists(
+        machine,
+        state.groups(),
+        notes,
+        table,
+        moves,
+        &mut lists.is_first,
+        &mut lists.text,
+    )?;
+    set_rows(machine, state, spare, rows)
+}
+
+// Sets the rows of the state's groups, which have the numbers and paths of now, and the part of those that changed.
+fn set_rows<N: BootName>(
+    machine: &Machine<N>,
+    state: &mut TraceState,
+    spare: &mut Vec<ShownGroup>,
+    rows: &mut Part,
+) -> Result<(), AllocError>
+    requires { AreSameGroups state.old.groups (groups_shown machine.now) }
+    ensures state { OnOk result (state.new ≡ record state.old {
+      groups = map (row_now machine.now) state.old.groups;
+    }) }
     ensures rows { OnOk result (HasItems (codes "groups") row_text rows.new
         (rows_not_in state.old.groups (groups_shown machine.now))) }
 {
     rows.clear();
     state.swap_groups(spare);
-    let result = advance_groups(
-        machine,
-        spare,
-        units,
-        &mut lists.is_first,
-        &mut lists.text,
-        &mut rows.is_first,
-        &mut rows.text,
-    );
+    let result = advance_rows(machine, spare, &mut rows.is_first, &mut rows.text);
     state.swap_groups(spare);
     result
 }

@@ -19,18 +19,28 @@ pub(crate) fn show_flags<N: BootName>(
 ) -> Result<Vec<Flags>, AllocError>
     ensures { IfOk result (λ flags. flags.items ≡ flags_shown machine.now) }
 {
-    let frames = machine.frame_states().len();
-    let mut flags = Vec::with_capacity(alloc, frames)?;
-    fill_no_flags(frames, &mut flags)?;
-    for number in 0..MAX_GROUPS as u32 {
-        let group = GroupId::of(number).unwrap();
-        set_flags_of(machine, group, &mut flags);
-    }
+    let mut flags = Vec::with_capacity(alloc, machine.frame_states().len())?;
+    fill_flags(machine, &mut flags)?;
     Ok(flags)
 }
 
+// Replaces these flags by those of each frame.
+pub(crate) fn fill_flags<N: BootName>(
+    machine: &Machine<N>,
+    flags: &mut Vec<Flags>,
+) -> Result<(), AllocError>
+    ensures { OnOk result (flags.new.items ≡ flags_shown machine.now) }
+{
+    fill_no_flags(machine.frame_states().len(), flags)?;
+    for number in 0..MAX_GROUPS as u32 {
+        let group = GroupId::of(number).unwrap();
+        set_flags_of(machine, group, flags);
+    }
+    Ok(())
+}
+
 // Replaces these flags by none for each of this many frames.
-pub(crate) fn fill_no_flags(frames: usize, flags: &mut Vec<Flags>) -> Result<(), AllocError>
+fn fill_no_flags(frames: usize, flags: &mut Vec<Flags>) -> Result<(), AllocError>
     ensures { OnOk result (flags.new.items ≡ replicate frames no_flags) }
 {
     let none = Flags {
@@ -52,12 +62,7 @@ fn set_flags_of<N: BootName>(machine: &Machine<N>, group: GroupId, flags: &mut [
 }
 
 // Sets the flags of the units on one of the group's lists.
-pub(crate) fn set_flags<N: BootName>(
-    machine: &Machine<N>,
-    group: GroupId,
-    list: LruList,
-    flags: &mut [Flags],
-)
+fn set_flags<N: BootName>(machine: &Machine<N>, group: GroupId, list: LruList, flags: &mut [Flags])
     requires { length flags.old ≡ length machine.now.frame_states }
     ensures set { flags.new ≡ with_flags flags.old (entries_in machine.now group list) }
     ensures length { length flags.new ≡ length flags.old }

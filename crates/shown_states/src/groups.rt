@@ -1,7 +1,8 @@
 //! What is shown of the groups.
 
-ghost use Rattle.std.specs.Prelude.{◌≡◌, ◌++◌, ◌∷◌, [], IfOk, IsTrue};
+ghost use Rattle.std.specs.Prelude.{◌≡◌, ◌++◌, ◌∷◌, [], IfOk, IsTrue, map};
 ghost use Rattle.group_tree.specs.Groups.{has_group, is_oom_group};
+ghost use Rattle.shown_states.specs.ChangedGroups.{without_lists};
 ghost use Rattle.shown_states.specs.Groups.{events_shown, group_if_there, groups_shown, row_shown};
 
 use crate::lists::unit_numbers;
@@ -43,6 +44,52 @@ fn add_group<N: BootName>(
     let shown = show_group(alloc, machine, group)?;
     groups.push(shown)?;
     Ok(())
+}
+
+// All groups without their lists, by their numbers.
+pub(crate) fn show_rows<N: BootName>(
+    alloc: Global,
+    machine: &Machine<N>,
+) -> Result<Vec<ShownGroup>, AllocError>
+    ensures { IfOk result (λ groups. groups.items ≡ map without_lists (groups_shown machine.now)) }
+{
+    let mut groups = Vec::with_capacity(alloc, MAX_GROUPS)?;
+    for number in 0..MAX_GROUPS as u32 {
+        let group = GroupId::of(number).unwrap();
+        add_without_lists(alloc, machine, group, &mut groups)?;
+    }
+    Ok(groups)
+}
+
+// Adds the group of this number without its lists, if there is one.
+fn add_without_lists<N: BootName>(
+    alloc: Global,
+    machine: &Machine<N>,
+    group: GroupId,
+    groups: &mut Vec<ShownGroup>,
+) -> Result<(), AllocError>
+    ensures { IfOk result (λ _. groups.new.items
+        ≡ groups.old.items ++ map without_lists (group_if_there machine.now group)) }
+{
+    if !machine.charges().tree().contains(group) {
+        return Ok(());
+    }
+    groups.push(show_without_lists(alloc, machine, group))?;
+    Ok(())
+}
+
+// A group that exists, without its lists.
+fn show_without_lists<N: BootName>(
+    alloc: Global,
+    machine: &Machine<N>,
+    group: GroupId,
+) -> ShownGroup
+    requires { IsTrue (has_group machine.now.ledger.groups group) }
+    ensures { map without_lists (group_if_there machine.now group) ≡ result ∷ [] }
+{
+    let path = *machine.charges().tree().path_of(group);
+    let row = show_row(machine, group);
+    ShownGroup::new(group.number(), path, row, Vec::new(alloc), Vec::new(alloc))
 }
 
 // A group that exists.

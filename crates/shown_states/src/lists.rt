@@ -1,6 +1,8 @@
 //! The numbers of frames and of units.
 
 ghost use Rattle.std.specs.Prelude.{◌≡◌, ◌++◌, IfOk, IsTrue, OnOk};
+ghost use Rattle.lru_lists.specs.Lists.{entries_behind};
+ghost use Rattle.lru_lists.specs.Queue.{is_among};
 ghost use Rattle.mem_machine.specs.Machines.{entries_in};
 ghost use Rattle.shown_states.specs.Groups.{numbers_of};
 
@@ -99,6 +101,24 @@ pub(crate) fn add_units<N: BootName>(
         ≡ numbers.old.items ++ numbers_of (entries_in machine.now group list)) }
 {
     for entry in machine.entries(group, list) {
+        numbers.push(entry.number)?;
+    }
+    Ok(())
+}
+
+// Adds the first frames of the units on one of a group's lists that are behind this one.
+pub(crate) fn add_units_behind<N: BootName>(
+    machine: &Machine<N>,
+    group: GroupId,
+    list: LruList,
+    unit: u32,
+    numbers: &mut Vec<u32>,
+) -> Result<(), AllocError>
+    requires { IsTrue (is_among (numbers_of (entries_in machine.now group list)) unit) }
+    ensures { IfOk result (λ _. numbers.new.items
+        ≡ numbers.old.items ++ numbers_of (entries_behind unit (entries_in machine.now group list))) }
+{
+    for entry in machine.entries_behind(group, list, unit) {
         numbers.push(entry.number)?;
     }
     Ok(())

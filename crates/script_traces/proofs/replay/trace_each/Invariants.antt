@@ -11,6 +11,6 @@ abbrev pub invariant-loop-line : goal.invariant-loop-line
 invariant-loop-line g l =
     AreTied g.N.BootName.frames g.N.BootName.stocks l.cpus
     × (l.shown ≡ system_shown (system_state l.locked l.cpus))
-    × FollowLine l.locked.machine.snapshot l.shown l.buffers
+    × FollowLine l.locked.machine l.shown l.buffers
     × GrowsBy (InOrder (TracesLine (boot_tables g.N.BootName.frames g.N.BootName.stocks) (map (λ text. text.now) l.texts)) (take l.line-index l.lines)
     (system_state l.initial.locked l.initial.cpus) (system_state l.locked l.cpus)) (string_bytes l.initial.trace) (string_bytes l.trace)

@@ -1,7 +1,6 @@
 use Rattle.std.proofs.Common.{◌≡◌, ◌∙◌, ◌++◌, Bor, List, ℕ, ap, map, sym, subst}
 use Rattle.std.specs.String.{string_bytes}
 use Rattle.kill_notes.specs.Notes.{KnownNotes}
-use Rattle.mem_machine.specs.declared.frame_state.FrameState.{FrameState}
 use Rattle.mem_machine.specs.Machines.{KnownMachine}
 use Rattle.mem_history.specs.Kept.{AreTied}
 use Rattle.mem_system.specs.Locked.{KnownLocked}
@@ -13,10 +12,9 @@ use Rattle.script_replay.specs.Lines.{SystemState, system_state}
 use Rattle.script_replay.specs.Routes.{ServesByRoute}
 use Rattle.script_replay.specs.Terms.{boot_tables}
 use Rattle.script_traces.specs.Traces.{GrowsBy, TracesLine, line_facts, notes_on, system_shown}
-use Rattle.shown_states.specs.Advancing.{FollowLine}
 use Rattle.shown_states.specs.States.{trace_state_of}
 use Rattle.trace_lines.specs.TraceState.{KnownTraceState}
-use Rattle.script_traces.proofs.Traced.{changes_same, counts_same, line_traced, object_same, shown_after, shown_as, shown_stays, state_observed}
+use Rattle.script_traces.proofs.Traced.{changes_same, counts_same, line_follows, line_traced, object_same, shown_after, shown_as, shown_stays, state_observed}
 use Rattle.script_traces.proofs.LineKeeps.{line_keeps}
 use Rattle.script_traces.proofs.UnlockedStays.{unlocked_shown}
 use Rattle.script_traces.proofs.Rebuilds.{line_rebuilds}
@@ -30,9 +28,9 @@ observe-requires g c =
     let served : SystemState = system_state c.serve_traced_line.new.locked c.serve_traced_line.new.cpus in
     let of = λ (is : c.in_ok-route.route ≡ Unlocked). unlocked_shown t c.args.line.now before served by.text c.args.shown.now
     (subst (λ (r : Route). ServesByRoute t c.args.line.now before served r by.text) (sym by.returned ∙ is) by.so.serves) c.requires.shown in
+    let keeps = line_keeps t c.args.line.now before served by.taken by.text by.so.serves in
     record {
-      follow = subst (λ (x : List FrameState). FollowLine x c.args.shown.now c.args.buffers.now)
-          (sym (line_keeps t c.args.line.now before served by.taken by.text by.so.serves).snapshot) c.requires.follow;
+      follow = line_follows before.locked.machine served.locked.machine c.args.shown.now c.args.buffers.now keeps.snapshot keeps.lists c.requires.follow;
       groups = λ is. (of is).0;
       flags = λ is. (of is).1;
     }

@@ -2,6 +2,7 @@ use Rattle.std.proofs.Common.{◌∙◌, ap, refl, sym}
 use Rattle.std.specs.String.{string_bytes}
 use Rattle.mem_machine.specs.Machines.{KnownMachine}
 use Rattle.mem_system.specs.Locked.{KnownLocked}
+use Rattle.shown_states.specs.LiveStates.{with_lists}
 use Rattle.shown_states.proofs.Assembled.{counts_same, ok_any, own_advanced, own_text}
 use Rattle.shown_states.proofs.ChangedPlaces.{follow_same}
 use Rattle.shown_states.proofs.TouchedFlags.{ready_same}
@@ -9,29 +10,35 @@ use Rattle.shown_states.proofs.advancing.advance_cpu_parts.Goals as goal
 
 pub returns-clause-state : goal.returns-clause-state
 returns-clause-state g c =
+    let lists = c.args.table.now.lists in
     let looked = c.machine-machine.ensures.machine ∙ ap (λ (l : KnownLocked). l.machine) c.set_cpus.ensures.looked in
     ok_any _ c.add_to-3.result
     (own_advanced c.args.locked.now.machine c.machine-machine.result.now c.args.cpus.now c.set_cpus.new.cpus looked c.set_cpus.ensures.cpus
-    c.args.state.now c.set_cpus.new.state c.set_counts.new.state c.in_ok-set_cpus.ensures.state c.in_ok-set_counts.ensures.state
-    c.advance_frames.new.state c.in_ok-advance_frames.ensures.state c.requires.groups c.requires.flags)
+    (with_lists lists c.args.state.now) (with_lists lists c.set_cpus.new.state) (with_lists lists c.set_counts.new.state)
+    (ap (with_lists lists) c.in_ok-set_cpus.ensures.state) (ap (with_lists lists) c.in_ok-set_counts.ensures.state)
+    (with_lists lists c.advance_frames.new.state) (ap (with_lists lists) c.in_ok-advance_frames.ensures.state) c.requires.groups c.requires.flags)
 
 pub returns-clause-changes : goal.returns-clause-changes
 returns-clause-changes g c =
+    let lists = c.args.table.now.lists in
     let looked = c.machine-machine.ensures.machine ∙ ap (λ (l : KnownLocked). l.machine) c.set_cpus.ensures.looked in
     own_text c.args.locked.now.machine c.machine-machine.result.now c.args.cpus.now c.set_cpus.new.cpus looked c.set_cpus.ensures.cpus
-    c.args.state.now c.set_cpus.new.state c.set_counts.new.state c.in_ok-set_cpus.ensures.state c.in_ok-set_counts.ensures.state
-    c.advance_frames.new.state c.in_ok-advance_frames.ensures.state c.requires.groups c.requires.flags c.add_to-3.result c.set_cpus.new.parts
+    (with_lists lists c.args.state.now) (with_lists lists c.set_cpus.new.state) (with_lists lists c.set_counts.new.state)
+    (ap (with_lists lists) c.in_ok-set_cpus.ensures.state) (ap (with_lists lists) c.in_ok-set_counts.ensures.state)
+    (with_lists lists c.advance_frames.new.state) (ap (with_lists lists) c.in_ok-advance_frames.ensures.state) c.requires.groups c.requires.flags c.add_to-3.result c.set_cpus.new.parts
     (string_bytes c.clear.new.self) (string_bytes c.advance_frames.new.text) (string_bytes c.add_to.new.text) (string_bytes c.add_to-2.new.text)
     (string_bytes c.add_to-3.new.text) c.in_ok-set_cpus.ensures.parts c.clear.ensures.bytes c.in_ok-advance_frames.ensures.text c.in_ok-add_to.ensures
     c.in_ok-add_to-2.ensures c.add_to-3.ensures
 
 pub returns-clause-counts : goal.returns-clause-counts
 returns-clause-counts g c =
+    let lists = c.args.table.now.lists in
     let looked = c.machine-machine.ensures.machine ∙ ap (λ (l : KnownLocked). l.machine) c.set_cpus.ensures.looked in
     ok_any _ c.add_to-3.result
     (c.in_ok-set_counts.ensures.text
     ∙ counts_same c.args.locked.now.machine c.machine-machine.result.now c.args.cpus.now c.set_cpus.new.cpus looked c.set_cpus.ensures.cpus
-    c.args.state.now c.set_cpus.new.state c.set_counts.new.state c.in_ok-set_cpus.ensures.state c.in_ok-set_counts.ensures.state)
+    (with_lists lists c.args.state.now) (with_lists lists c.set_cpus.new.state) (with_lists lists c.set_counts.new.state)
+    (ap (with_lists lists) c.in_ok-set_cpus.ensures.state) (ap (with_lists lists) c.in_ok-set_counts.ensures.state))
 
 pub advance_frames-requires : goal.advance_frames-requires
 advance_frames-requires g c =
@@ -48,11 +55,9 @@ returns-clause-places g c =
     c.advance_frames.new.state.places c.advance_frames.new.tables (sym (ap (λ (m : KnownMachine). m.frame_states) looked)) refl
     c.in_ok-advance_frames.ensures.ready)
 
-pub returns-clause-table : goal.returns-clause-table
-returns-clause-table g c =
+pub returns-clause-follow : goal.returns-clause-follow
+returns-clause-follow g c =
     ok_any _ c.add_to-3.result
     (ready_same c.args.state.now c.advance_frames.new.state c.args.parts.now.flags
     ((λ i. (c.in_ok-advance_frames.ensures.state i).flags) ∙ (λ i. (c.in_ok-set_counts.ensures.state i).flags)
-    ∙ (λ i. (c.in_ok-set_cpus.ensures.state i).flags))
-    ((λ i. (c.in_ok-advance_frames.ensures.state i).groups) ∙ (λ i. (c.in_ok-set_counts.ensures.state i).groups)
-    ∙ (λ i. (c.in_ok-set_cpus.ensures.state i).groups)) c.requires.table)
+    ∙ (λ i. (c.in_ok-set_cpus.ensures.state i).flags)) c.requires.follow)
