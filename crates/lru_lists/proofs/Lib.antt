@@ -1,4 +1,3 @@
-mod Leaving
 mod Linking
 mod Lists
 mod Packing

@@ -642,13 +642,12 @@ use_both a b c unit p q = record {
   dirty = λ g ne. q.dirty g ne ∙ p.dirty g ne;
 }
 
--- a write of one unit's record leaves every other unit used as it was
-pub written_use : (links : List Link) (unit : ℕ) (k : Link) → SameUse links (slice_set links unit k) unit
-written_use links unit k = record {
-  frames = length-set links unit k;
-  home = λ g ne. ap (λ (v : Link). v.home) (set_other links unit g k ne);
-  marked = λ g ne. ap (λ (v : Link). v.is_marked) (set_other links unit g k ne);
-  dirty = λ g ne. ap (λ (v : Link). v.is_dirty) (set_other links unit g k ne);
+pub forgotten_use : (links : List Link) (unit : ℕ) → SameUse links (slice_set links unit nowhere) unit
+forgotten_use links unit = record {
+  frames = length-set links unit nowhere;
+  home = λ g ne. ap (λ (k : Link). k.home) (set_other links unit g nowhere ne);
+  marked = λ g ne. ap (λ (k : Link). k.is_marked) (set_other links unit g nowhere ne);
+  dirty = λ g ne. ap (λ (k : Link). k.is_dirty) (set_other links unit g nowhere ne);
 }
 
 pub owners_both : (a b c : List Link) → SameOwners a b → SameOwners b c → SameOwners a c

@@ -1,6 +1,6 @@
 -- The two lists of an owner, as a contract sees them.
-use Rattle.std.specs.Prelude.{◌≡◌, ◌≢◌, ◌⊎◌, ℕ, ◌+◌, ◌-◌, ◌<◌, ◌≤◌, ◌==◌, Bool, true, false, Option, Some, None, List, []}
-use Rattle.std.specs.Prelude.{◌∷◌, ◌++◌, length, map, take, drop, slice_index_or, slice_set, if◌then◌else◌, is_some}
+use Rattle.std.specs.Prelude.{◌≡◌, ◌≢◌, ℕ, ◌+◌, ◌-◌, ◌<◌, ◌≤◌, ◌==◌, Bool, true, false, Option, Some, None, List, []}
+use Rattle.std.specs.Prelude.{◌∷◌, ◌++◌, length, map, take, drop, slice_index_or, slice_set, if◌then◌else◌}
 use Rattle.lru_lists.specs.declared.record.Link.{Link}
 use Rattle.lru_lists.specs.declared.record.Home.{Home}
 use Rattle.lru_lists.specs.declared.record.Entry.{Entry}
@@ -19,10 +19,6 @@ home_of lru list = record { owner = lru.owner; list = list }
 -- a unit as an entry of a list: its number, whether it is marked, whether it is dirty
 abbrev pub entry_of : List Link → ℕ → Entry
 entry_of links f = record { number = f; is_marked = (link_at links f).is_marked; is_dirty = (link_at links f).is_dirty }
-
--- the frame as an entry of the list that holds it; None if no list does
-abbrev pub kept_entry : List Link → ℕ → Option Entry
-kept_entry links f = if is_some (link_at links f).home then Some (entry_of links f) else None
 
 -- the ends and the length of one of the lists
 abbrev pub queue_of : Lru → LruList → Queue
@@ -98,11 +94,6 @@ abbrev pub entries_without : ℕ → List Entry → List Entry
 entries_without f [] = []
 entries_without f (e ∷ es) = if e.number == f then es else e ∷ entries_without f es
 
--- the entries behind that of the unit of this number: those of newer units
-abbrev pub entries_behind : ℕ → List Entry → List Entry
-entries_behind f [] = []
-entries_behind f (e ∷ es) = if e.number == f then es else entries_behind f es
-
 -- the entry with this mark
 abbrev pub marked : Bool → Entry → Entry
 marked m e = record e { is_marked = m }
@@ -157,15 +148,6 @@ pub record Ages (before : List Link) (old : Lru) (after : List Link) (new : Lru)
   pub active : active_of after new ≡ drop moved (active_of before old)
   pub enough : length (active_of after new) ≤ length (inactive_of after new)
   pub fewest : (k : ℕ) → k < moved → length (inactive_of before old) + k < length (active_of before old) - k
-
--- the frame wasn't on this list before, or it still is
-abbrev pub IsNoLeaver : List Link → List Link → Home → ℕ → Type 0
-IsNoLeaver before after list f = ((link_at before f).home ≢ Some list) ⊎ ((link_at after f).home ≡ Some list)
-
--- each frame that doesn't leave this list stays on its list, if any; if it is on one, it is marked and dirty as it was
-pub record ChangesOnlyLeavers (before after : List Link) (list : Home) : Type 0 where
-  pub home : (f : ℕ) → IsNoLeaver before after list f → (link_at after f).home ≡ (link_at before f).home
-  pub entry : (f : ℕ) → IsNoLeaver before after list f → kept_entry after f ≡ kept_entry before f
 
 -- the lists of every other owner stay linked, with the same units, marks and dirt
 abbrev pub OthersStayLinked : Type 0

@@ -3,13 +3,11 @@
 ghost use Rattle.std.specs.Prelude.{◌≡◌, ◌<◌, ◌++◌, [], ◌∷◌, None, Some, IfOk, IfSome, length, slice_set};
 ghost use Rattle.lru_lists.specs.Queue.{link_at, units_of, without, AreNowhere, IsLinked, StaysElsewhere, SameUse};
 ghost use Rattle.lru_lists.specs.Queue.{newest_link, unlinked, nowhere, with_newer, with_older};
-ghost use Rattle.lru_lists.specs.Lists.{kept_entry};
 ghost use Rattle.lru_lists.specs.Packed.{IsNumber};
 
-use crate::lru::entry_at;
 use crate::packed::{Packed, number};
 use crate::queue::{self, Queue};
-use crate::record::{Entry, Home, Link};
+use crate::record::{Home, Link};
 use std::alloc::{AllocError, Global};
 use std::marker::Model;
 
@@ -56,18 +54,6 @@ impl Links {
         ensures { result ≡ (link_at self.now frame).home }
     {
         self.records[frame as usize].home()
-    }
-
-    /// The frame as an entry of the list that holds it; None exactly if no list does. A frame past the last one is on
-    /// no list.
-    pub fn entry(&self, frame: u32) -> Option<Entry>
-        ensures { result ≡ kept_entry self.now frame }
-    {
-        if frame < self.frames() && self.home(frame).is_some() {
-            Some(entry_at(self, frame))
-        } else {
-            None
-        }
     }
 
     // Appends a unit that is on no list at the newest end of this one, unmarked.

@@ -6,11 +6,11 @@ ghost use Rattle.std.specs.Prelude.{drop, option_map};
 ghost use Rattle.lru_lists.specs.Queue.{link_at, nowhere, unlinked, SameUse};
 ghost use Rattle.lru_lists.specs.declared.record.Link.{Link};
 ghost use Rattle.lru_lists.specs.declared.record.LruList.{LruList};
-ghost use Rattle.lru_lists.specs.declared.record.LruList.TheVariants.{Inactive, Active};
+ghost use Rattle.lru_lists.specs.declared.record.LruList.TheVariants.{Inactive};
 ghost use Rattle.lru_lists.specs.Lists.{AreLinked, HasNoUnits, IsOnNone, ChangesOwn, MovesOnly, KeepsUnits, SameOwners};
 ghost use Rattle.lru_lists.specs.Lists.{Touches, Ages, inactive_of, active_of, entries_of, entries_without, changed_at};
 ghost use Rattle.lru_lists.specs.Lists.{dirtied, marked, list_of, entry_of, is_marked_by_touch, home_of, queue_of};
-ghost use Rattle.lru_lists.specs.Lists.{with_queue, first_entry, entry_after, entries_behind, ChangesOnlyLeavers};
+ghost use Rattle.lru_lists.specs.Lists.{with_queue, first_entry, entry_after};
 
 use crate::links::Links;
 use crate::queue::Queue;
@@ -144,7 +144,6 @@ impl Lru {
         ensures others { ChangesOwn links.old links.new self.old.owner }
         ensures moves { MovesOnly links.old links.new self.old.owner unit }
         ensures joined { (link_at links.new unit).home ≡ Some (home_of self.old Inactive) }
-        ensures used { SameUse links.old links.new unit }
     {
         links.clear(unit);
         self.push(links, LruList::Inactive, unit);
@@ -170,8 +169,6 @@ impl Lru {
             ≡ entries_without unit (entries_of links.old self.old list) ++ marked false (entry_of links.old unit) ∷ [] }
         ensures lost { (m : LruList) → m ≢ list
             → entries_of links.new self.new m ≡ entries_without unit (entries_of links.old self.old m) }
-        ensures unit { (link_at links.new unit).home ≡ Some (home_of self.old list) }
-        ensures used { SameUse links.old links.new unit }
         ensures keeps { KeepsUnits links.old links.new self.old.owner }
         ensures owners { SameOwners links.old links.new }
     {
@@ -224,7 +221,6 @@ impl Lru {
         ensures touches { Touches links.old self.old unit result links.new self.new }
         ensures others { ChangesOwn links.old links.new self.old.owner }
         ensures owners { SameOwners links.old links.new }
-        ensures used { SameUse links.old links.new unit }
     {
         if self.is_marked_by_touch(links, unit) {
             links.set_marked(unit, true);
@@ -247,7 +243,6 @@ impl Lru {
         ensures active { active_of links.new self.new ≡ active_of links.old self.old }
         ensures others { ChangesOwn links.old links.new self.old.owner }
         ensures owners { SameOwners links.old links.new }
-        ensures used { SameUse links.old links.new unit }
     {
         self.move_to(links, LruList::Inactive, unit);
     }
@@ -262,7 +257,6 @@ impl Lru {
             → entries_of links.new self.now list
             ≡ changed_at unit (dirtied is_dirty) (entries_of links.old self.now list) }
         ensures others { ChangesOwn links.old links.new self.now.owner }
-        ensures used { SameUse links.old links.new unit }
     {
         links.set_dirty(unit, is_dirty);
     }
@@ -309,18 +303,6 @@ impl Lru {
         Walk::over(links, self.queue(list))
     }
 
-    /// The units of one of the lists that are newer than this one, from the oldest to the newest. To begin, it reads
-    /// the record of this unit alone.
-    pub fn entries_behind<'a>(&self, links: &'a Links, list: LruList, unit: u32) -> Walk<'a>
-        requires frame { unit < length links.now }
-        requires on { list_of links.now self.now.owner unit ≡ Some list }
-        requires linked { AreLinked links.now self.now }
-        ensures { result ≡ entries_behind unit (entries_of links.now self.now list) }
-    {
-        // The whole list's length is a bound: the walk ends behind the newest unit.
-        Walk::starting_at(links, links.link(unit).newer, self.queue(list).length)
-    }
-
     // Moves the oldest active unit to the newest end of the inactive list, unmarked.
     fn demote(&mut self, links: &mut Links)
         requires some { 0 < self.old.active.length }
@@ -332,7 +314,6 @@ impl Lru {
         ensures active { active_of links.new self.new ≡ drop 1 (active_of links.old self.old) }
         ensures keeps { KeepsUnits links.old links.new self.old.owner }
         ensures owners { SameOwners links.old links.new }
-        ensures stay { ChangesOnlyLeavers links.old links.new (home_of self.old Active) }
     {
         let oldest = self.active.oldest.unwrap();
         self.move_to(links, LruList::Inactive, oldest);
@@ -347,7 +328,6 @@ impl Lru {
         ensures ages { Ages links.old self.old links.new self.new }
         ensures others { ChangesOwn links.old links.new self.old.owner }
         ensures owners { SameOwners links.old links.new }
-        ensures stay { ChangesOnlyLeavers links.old links.new (home_of self.old Active) }
     {
         while self.inactive.length < self.active.length {
             self.demote(links);

@@ -32,27 +32,19 @@ impl<'a> Model for Walk<'a> {
 
 impl<'a> Walk<'a> {
     ghost use Rattle.std.specs.Prelude.{◌≡◌, ◌<◌, All, length, map};
-    ghost use Rattle.lru_lists.specs.Queue.{units_from, units_of};
+    ghost use Rattle.lru_lists.specs.Queue.{units_of};
     ghost use Rattle.lru_lists.specs.Lists.{entry_of};
-
-    // A walk from this unit on, if there is one, over at most `left` units, which are frames.
-    pub(crate) fn starting_at(links: &'a Links, unit: Option<u32>, left: u32) -> Walk<'a>
-        requires { All (λ unit. unit < length links.now) (units_from links.now unit left) }
-        ensures { result ≡ map (entry_of links.now) (units_from links.now unit left) }
-    {
-        Walk {
-            links,
-            next: unit,
-            left,
-        }
-    }
 
     // A walk over the list with these ends and this length, whose units are frames.
     pub(crate) fn over(links: &'a Links, queue: Queue) -> Walk<'a>
         requires { All (λ unit. unit < length links.now) (units_of links.now queue) }
         ensures { result ≡ map (entry_of links.now) (units_of links.now queue) }
     {
-        Walk::starting_at(links, queue.oldest, queue.length)
+        Walk {
+            links,
+            next: queue.oldest,
+            left: queue.length,
+        }
     }
 }
 

@@ -34,7 +34,6 @@ use Rattle.mem_alloc.proofs.Lowering.{Lowers, lowers_none, lowers_both, drain_lo
 use Rattle.mem_alloc.proofs.Killing.{relieves_lower}
 use Rattle.mem_alloc.proofs.Rounding.{Spares, FailureSpares, InTheEnd, spares_same, noted_fails_spare, noted_in_the_end}
 use Rattle.mem_machine.proofs.Followed.{makes_both, makes_stay}
-use Rattle.mem_machine.proofs.ListNotes.{notes_same}
 
 -- ---- what is kept
 
@@ -168,7 +167,7 @@ module _ (t : KnownTable) (m n : KnownMachine) (c d : KnownCpu) (seen : n ≡ wi
     steps = [];
     does = inl (record { is = page; does = record { machine = seen; cpu = mine; steps_are = refl } });
     makes = subst (λ (z : KnownMachine × KnownCpu). MakesAs t c.number (visit_state m c) [] (visit_state z.0 z.1)) (λ i. (sym seen i, sym mine i))
-        (makes_stay t m (with_look m) c c refl refl refl refl refl (notes_same _ _));
+        (makes_stay t m (with_look m) c c refl refl refl refl);
   }
 
 -- ---- frames that are lent
@@ -293,7 +292,7 @@ module _ (t : KnownTable) (pages q : ℕ) (m k x : KnownMachine) (c e : KnownCpu
                   steps_are = refl;
                 });
           };
-          makes = record { leads = looked.leads; follows = looked.follows; counts = looked.counts; watched = looked.watched; snapshot = looked.snapshot; lists = looked.lists };
+          makes = record { leads = looked.leads; follows = looked.follows; counts = looked.counts; watched = looked.watched };
         }
 
     pub pays_anew : (r : Result (Unit {0}) AllocFault) → BySteps t (FillsDrainedStock sizes g r) (visit_state x e) (visit_state n d)

@@ -202,7 +202,7 @@ so_far_nobody r t g pages m x n event noting noted =
     subst (λ (y : KnownMachine). MakesForAny t m (note_oom_steps g) y) event noting in
     subst (λ (y : KnownMachine). KillsSoFar r t g pages m y) (sym (noted ∙ (λ i. with_note (event i) (notes.Oom g)))) (record {
       seen = x.watch;
-      notes = λ c. record { leads = (noting_m c).leads; follows = (noting_m c).follows; counts = (noting_m c).counts; watched = (noting_m c).watched; snapshot = (noting_m c).snapshot; lists = (noting_m c).lists };
+      notes = λ c. record { leads = (noting_m c).leads; follows = (noting_m c).follows; counts = (noting_m c).counts; watched = (noting_m c).watched };
       victims = [];
       killing = [];
       kills = record { machine = refl; steps_are = refl };

@@ -39,7 +39,7 @@ clears_by t g pages back m y x n told noted noting_y drains drained =
     noted ∙ ap (λ (k : KnownMachine). record k { ledger = with_max_noted k.ledger g; watch = x.watch }) told in
     let noting_told : MakesForAny t (with_limit_noted m g pages) (note_max_steps g) x =
     subst (λ (k : KnownMachine). MakesForAny t k (note_max_steps g) x) told noting_y in
-    let noting : MakesForAny t m (note_max_steps g) x = λ c. record { leads = (noting_told c).leads; follows = (noting_told c).follows; counts = (noting_told c).counts; watched = (noting_told c).watched; snapshot = (noting_told c).snapshot; lists = (noting_told c).lists } in record {
+    let noting : MakesForAny t m (note_max_steps g) x = λ c. record { leads = (noting_told c).leads; follows = (noting_told c).follows; counts = (noting_told c).counts; watched = (noting_told c).watched } in record {
       steps = note_max_steps g ++ drain_stocks_steps drains.drains;
       does = record {
         drains = drains.drains;

@@ -134,7 +134,7 @@ zone_noted t order Does m x c n noted by =
     record {
       steps = here.steps;
       does = here.does;
-      makes = record { leads = k.leads; follows = k.follows; counts = k.counts; watched = k.watched; snapshot = k.snapshot; lists = k.lists };
+      makes = record { leads = k.leads; follows = k.follows; counts = k.counts; watched = k.watched };
     }
 
 module _ (t : KnownTable) (want : ℕ) (Fails : Transition VisitState → Type 0) (failure : FailureSpares t Fails) (order : ℕ) where

@@ -42,7 +42,6 @@ use Rattle.mem_machine.specs.Counting.{one_more_last_put}
 use Rattle.mem_machine.specs.Local.{local_of, phase_of, part_of, part_with, references_of, fresh_group, number_or_0}
 use Rattle.mem_machine.specs.Interleaving.{zone_of}
 use Rattle.mem_machine.specs.Steps.{cpu_makes}
-use Rattle.mem_machine.proofs.ListNotes.{notes_same}
 use Rattle.mem_machine.proofs.Takes.{without_front}
 use Rattle.mem_machine.proofs.Shown.{fresh_phase}
 use Rattle.mem_history.specs.Whole.{seen_together}
@@ -448,7 +447,7 @@ consume_same p g x y same is = (
 -- the steps lead to the machine with a watch that took them
 watched : (t : KnownTable) (m : KnownMachine) (c d : KnownCpu) (steps : Run) → LeadsAs t c.number (visit_state m c) steps (visit_state m d)
     → LeadsWatched t (visit_state m c) steps d
-watched t m c d steps made w took = makes_watched t c.number m m refl c d steps m made w took refl (notes_same _ _)
+watched t m c d steps made w took = makes_watched t c.number m m refl c d steps m made w took
 
 pub fast_calls_lead : FastCallsLead
 fast_calls_lead = record {

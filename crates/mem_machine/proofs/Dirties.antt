@@ -1,6 +1,6 @@
 -- A unit is noted as dirty, or not. Serves `set_dirty`.
-use Rattle.std.proofs.Common.{◌≡◌, ◌≢◌, ℕ, ◌<◌, Bool, false, Option, Some, None, List, [], ◌∷◌, length, get_or, refl, sym, ap, ◌∙◌, subst, arith}
-use Rattle.std.specs.Prelude.{map, slice_set, option_map, IfSome}
+use Rattle.std.proofs.Common.{◌≡◌, ◌≢◌, ℕ, ◌<◌, Bool, Option, Some, None, List, [], length, get_or, refl, sym, ap, ◌∙◌, subst, arith}
+use Rattle.std.specs.Prelude.{slice_set, option_map, IfSome}
 use Rattle.std.proofs.lemmas.List.{get_or_default, set-get_or}
 use Rattle.std.proofs.lemmas.Option.{none-some}
 use Rattle.frame_word.specs.Views.{note_of}
@@ -8,24 +8,17 @@ use Rattle.frame_word.specs.Seats.{KnownTable}
 use Rattle.stock_word.specs.Stock.{KnownStockTable}
 use Rattle.lru_lists.specs.declared.record.Link.{Link}
 use Rattle.lru_lists.specs.declared.record.Home.{Home}
-use Rattle.lru_lists.specs.declared.record.Entry.{Entry}
 use Rattle.lru_lists.specs.declared.record.LruList.{LruList}
 use Rattle.lru_lists.specs.declared.record.LruList.TheVariants.{Inactive, Active}
 use Rattle.lru_lists.specs.declared.lru.Lru.{Lru}
-use Rattle.lru_lists.specs.Queue.{SameUse}
 use Rattle.lru_lists.specs.Lists.{OthersStayLinked, OneOfAllChanges, AreLinked, AllLinked, ChangesOwn, list_of, place_of, entries_of, changed_at, dirtied}
 use Rattle.cpu_part.specs.Cpus.{KnownCpu}
 use Rattle.mem_machine.specs.FrameStates.{frame_state_at, head_group_of}
 use Rattle.mem_machine.specs.Machines.{KnownMachine, IsConsistent, OthersStay, home_of, lists_at, no_lists, group_lists, lists_of}
-use Rattle.mem_machine.specs.Machines.{inactive_in, active_in}
-use Rattle.mem_machine.specs.declared.list_log.ListNote.{ListNote}
-use Rattle.mem_machine.specs.ListNotes.{AddsNote, units_on, FollowNotes, NotesGoOn}
 use Rattle.mem_machine.specs.Marks.{Dirties}
 use Rattle.mem_machine.specs.Local.{MakesAs, visit_state}
-use Rattle.mem_machine.proofs.Listed.{dirtied_numbers, dirtied_owners, fits_home, place_here, unlisted_stay, others_stay}
+use Rattle.mem_machine.proofs.Listed.{dirtied_owners, fits_home, place_here, unlisted_stay, others_stay}
 use Rattle.mem_machine.proofs.Followed.{makes_stay}
-use Rattle.mem_machine.proofs.ListNotes.{notes_one}
-use Rattle.mem_machine.proofs.NotedUnits.{one_home, follow_marked}
 
 -- a home that is there is of a group number
 pub owner_bound : (t : KnownTable) (w : KnownStockTable) (m : KnownMachine) → IsConsistent t w m → (f : ℕ) (h : Home) → f < t.frames
@@ -51,7 +44,7 @@ module _ (t : KnownTable) (w : KnownStockTable) (m : KnownMachine) (ok : IsConsi
   pub its_lists : lists_at m.lists h.owner ≡ lru
   its_lists = sym (read ∙ get_or_default m.lists h.owner lru no_lists bound)
 
-  module _ (links : List Link) (notes : Option (List ListNote)) (d : Bool) (now_stands : AreLinked links lru)
+  module _ (links : List Link) (d : Bool) (now_stands : AreLinked links lru)
       (entries : (list : LruList) → entries_of links lru list ≡ changed_at f (dirtied d) (entries_of m.links lru list))
       (changes : ChangesOwn m.links links lru.owner) (others_stay_linked : OthersStayLinked) (one_of_all_changes : OneOfAllChanges) where
     same_lists : slice_set m.lists h.owner lru ≡ m.lists
@@ -64,7 +57,7 @@ module _ (t : KnownTable) (w : KnownStockTable) (m : KnownMachine) (ok : IsConsi
     owners : (g : ℕ) → option_map (λ (x : Home). x.owner) (home_of links g) ≡ option_map (λ (x : Home). x.owner) (home_of m.links g)
     owners = dirtied_owners m.links links lru f d stands now_stands changes entries
 
-    pub dirty_consistent : IsConsistent t w (record m { links = links; list_notes = notes })
+    pub dirty_consistent : IsConsistent t w (record m { links = links })
     dirty_consistent = record {
       sizes = let s = ok.sizes in record { frame_states = s.frame_states; links = changes.frames ∙ s.links; lists = s.lists; killed = s.killed; cpus = s.cpus };
       seats = ok.seats;
@@ -78,7 +71,7 @@ module _ (t : KnownTable) (w : KnownStockTable) (m : KnownMachine) (ok : IsConsi
       balances = ok.balances;
     }
 
-    pub dirty_does : Dirties f d m (record m { links = links; list_notes = notes })
+    pub dirty_does : Dirties f d m (record m { links = links })
     dirty_does = record {
       group = h.owner;
       list = h.list;
@@ -97,20 +90,6 @@ pub has_home : (m now : KnownMachine) → m ≡ now → (f i : ℕ) → i ≡ f 
 has_home m now same f i is kept none =
     kept (subst (λ (x : KnownMachine × ℕ). home_of x.0.links x.1 ≡ None) (λ j. (same j, is j)) (sym none))
 
--- the units of one of the group's lists, after one of them was dirtied
-dirtied_on : (list : LruList) (f : ℕ) (d : Bool) (m n : KnownMachine) (dirties : Dirties f d m n)
-    → units_on (lists_of n) dirties.group list ≡ units_on (lists_of m) dirties.group list
-dirtied_on Inactive f d m n dirties = ap (map (λ (e : Entry). e.number)) dirties.inactive ∙ dirtied_numbers f d (inactive_in m dirties.group)
-dirtied_on Active f d m n dirties = ap (map (λ (e : Entry). e.number)) dirties.active ∙ dirtied_numbers f d (active_in m dirties.group)
-
--- what the note of the unit says
-dirty_follow : (f : ℕ) (d : Bool) (m n : KnownMachine) → AllLinked m.links m.lists → length m.lists ≡ 64 → Dirties f d m n → SameUse m.links n.links f
-    → FollowNotes (record { unit = f; has_moved = false } ∷ []) (lists_of m) (lists_of n)
-dirty_follow f d m n all groups dirties used =
-    follow_marked m.links m.lists all groups n.links n.lists dirties.group f
-    (λ h is. ap (λ (x : Home). x.owner) (one_home h (record { owner = dirties.group; list = dirties.list }) (sym is ∙ dirties.home)))
-    dirties.others used (λ list. dirtied_on list f d m n dirties)
-
 -- all of it, of the machine as it was seen before
 pub record AllDirtied (t : KnownTable) (w : KnownStockTable) (now : KnownMachine) (f : ℕ) (d : Bool) (n : KnownMachine) : Type 0 where
   pub consistent : IsConsistent t w n
@@ -118,22 +97,15 @@ pub record AllDirtied (t : KnownTable) (w : KnownStockTable) (now : KnownMachine
   pub steps : (c : KnownCpu) → MakesAs t c.number (visit_state now c) [] (visit_state n c)
 
 pub dirty_all : (t : KnownTable) (w : KnownStockTable) (m now : KnownMachine) → m ≡ now → IsConsistent t w m → (f i : ℕ) → f < t.frames → i ≡ f → (h : Home)
-    → Some h ≡ home_of m.links i → (lru : Lru) → lru ≡ get_or m.lists h.owner lru → (links : List Link) (notes : Option (List ListNote)) (d : Bool) → AreLinked links lru
+    → Some h ≡ home_of m.links i → (lru : Lru) → lru ≡ get_or m.lists h.owner lru → (links : List Link) (d : Bool) → AreLinked links lru
     → ((list : LruList) → entries_of links lru list ≡ changed_at i (dirtied d) (entries_of m.links lru list)) → ChangesOwn m.links links lru.owner
-    → SameUse m.links links i → AddsNote (record { unit = i; has_moved = false }) m.list_notes notes
-    → OthersStayLinked → OneOfAllChanges → AllDirtied t w now f d (record m { links = links; list_notes = notes })
-dirty_all t w m now same ok f i inside is h home lru read links notes d now_stands entries changes used adds others all =
+    → OthersStayLinked → OneOfAllChanges → AllDirtied t w now f d (record m { links = links })
+dirty_all t w m now same ok f i inside is h home lru read links d now_stands entries changes others all =
     let at : home_of m.links f ≡ Some h = ap (home_of m.links) (sym is) ∙ sym home in
     let told : (list : LruList) → entries_of links lru list ≡ changed_at f (dirtied d) (entries_of m.links lru list) =
     subst (λ (k : ℕ). (list : LruList) → entries_of links lru list ≡ changed_at k (dirtied d) (entries_of m.links lru list)) is entries in
-    let n : KnownMachine = record m { links = links; list_notes = notes } in
-    let does : Dirties f d m n = dirty_does t w m ok f inside h at lru read links notes d now_stands told changes others all in
-    let goes : NotesGoOn m.list_notes notes (lists_of m) (lists_of n) =
-    notes_one (record { unit = f; has_moved = false }) m.list_notes notes (lists_of m) (lists_of n)
-    (subst (λ (k : ℕ). AddsNote (record { unit = k; has_moved = false }) m.list_notes notes) is adds)
-    (dirty_follow f d m n ok.lists ok.sizes.lists does (subst (SameUse m.links links) is used)) in
-    subst (λ (x : KnownMachine). AllDirtied t w x f d n) same (record {
-      consistent = dirty_consistent t w m ok f inside h at lru read links notes d now_stands told changes others all;
-      dirties = does;
-      steps = λ c. makes_stay t m n c c refl refl refl refl refl goes;
+    subst (λ (x : KnownMachine). AllDirtied t w x f d (record m { links = links })) same (record {
+      consistent = dirty_consistent t w m ok f inside h at lru read links d now_stands told changes others all;
+      dirties = dirty_does t w m ok f inside h at lru read links d now_stands told changes others all;
+      steps = λ c. makes_stay t m (record m { links = links }) c c refl refl refl refl;
     })

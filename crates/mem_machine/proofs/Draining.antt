@@ -430,4 +430,4 @@ module _ (m now : KnownMachine) (same : m ≡ now) (stock : KnownStockSeat) (is 
   runs_looked t runs c =
       let here : MakesAs t c.number (visit_state (with_look now) c) (drain_steps q (stock_group (with_look now) q) k) (visit_state n c) =
       subst (λ (x : KnownMachine). MakesAs t c.number (visit_state x c) (drain_steps q (stock_group x q) k) (visit_state n c)) (looked_now m now same stock is) (runs c) in
-      record { leads = here.leads; follows = here.follows; counts = here.counts; watched = here.watched; snapshot = here.snapshot; lists = here.lists }
+      record { leads = here.leads; follows = here.follows; counts = here.counts; watched = here.watched }

@@ -27,7 +27,6 @@ use Rattle.mem_machine.specs.Steps.{Drain, drain_steps, drain_stocks_steps, page
 use Rattle.mem_machine.specs.Stocks.{stock_group, steps_to_drain, with_look, DrainsBy, DrainsNoted, DrainsIf, DrainsAllIf, DrainsBySteps, AreDrainedIf}
 use Rattle.mem_machine.proofs.Draining.{drained_at, drained_else, drained_looked, groups_stay, runs_looked}
 use Rattle.mem_machine.proofs.Followed.{makes_both, makes_none, makes_stay}
-use Rattle.mem_machine.proofs.ListNotes.{notes_same}
 
 -- ---- the accounts after a look
 
@@ -118,7 +117,7 @@ module _ (t : KnownTable) (m : KnownMachine) (q : ℕ) (none : stock_group m q �
   -- the look at a stock of no group changes nothing that is seen
   pub looked_none : MakesAs t c.number (visit_state m c) [] (visit_state (record m { stock_seat = with_view m.stock_seat (with_steps 1 (zone_after_drain m.stock_seat.view q 0)) }) c)
   looked_none = makes_stay t m (record m { stock_seat = with_view m.stock_seat (with_steps 1 (zone_after_drain m.stock_seat.view q 0)) }) c c
-      (λ i. record (local_of t m c) { parts = λ p. sym (shown_same p) i }) refl refl refl refl (notes_same _ _)
+      (λ i. record (local_of t m c) { parts = λ p. sym (shown_same p) i }) refl refl refl
 
 -- the stock of a group that the test chooses, of the machine as it was seen before the look
 pub looked_own : (t : KnownTable) (m now : KnownMachine) → m ≡ now → (stock : KnownStockSeat) → stock ≡ with_view m.stock_seat (with_steps 1 m.stock_seat.view)
@@ -146,7 +145,7 @@ looked_other t m now same test q h of other stock is =
     let none : with_look m ≡ record m { stock_seat = with_view m.stock_seat (with_steps 1 (after_look m.stock_seat.view q (stock_group m q))) } =
     λ i. record m { stock_seat = with_view m.stock_seat (with_steps 1 (after_look m.stock_seat.view q (of i))) } in
     subst (λ (x : KnownMachine × KnownMachine). DrainsBySteps t (DrainsIf test q) 0 x.0 x.1) (λ i. (same i, record m { stock_seat = sym is i }))
-    (drained_not t test q m (with_look m) (ap (test m.ledger.groups) (sym of) ∙ other) none (λ c. makes_stay t m (with_look m) c c refl refl refl refl refl (notes_same _ _)))
+    (drained_not t test q m (with_look m) (ap (test m.ledger.groups) (sym of) ∙ other) none (λ c. makes_stay t m (with_look m) c c refl refl refl refl))
 
 -- the stock of no group
 pub looked_never : (t : KnownTable) (m now : KnownMachine) → m ≡ now → (test : List Group → Option ℕ → Bool) (q : ℕ) → None ≡ stock_group m q

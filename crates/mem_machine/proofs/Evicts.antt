@@ -189,7 +189,6 @@ evicted_all t w m now same ok f i inside is kept_now links lists left_list stand
           ledger = (uncharged ∙ ap (λ (x : KnownMachine). with_uncharge x.ledger unit.group (2 ^ unit.order)) same) j;
           links = links;
           lists = lists;
-          list_notes = m.list_notes;
           frame_seat = (answered.1 ∙ ap (λ (x : KnownMachine). seat_with x.frame_seat f (frozen 1)) same) j;
           counts = (counted ∙ ap (λ (x : KnownMachine). with_freeze x.counts) same) j;
           notes = (noted ∙ (λ l. unit_noted (same l).notes unit.group (is l) (size l))) j;

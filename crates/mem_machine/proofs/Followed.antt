@@ -28,9 +28,7 @@ use Rattle.step_rules.proofs.Moving.{gone_itself}
 use Rattle.mem_machine.specs.Following.{Moves, moved_along, moves_peak, moves_count, FollowsSteps}
 use Rattle.mem_machine.specs.declared.counts.Counts.{Counts}
 use Rattle.mem_machine.specs.Counting.{counts_after, counts_along}
-use Rattle.mem_machine.specs.Machines.{KnownMachine, lists_of}
-use Rattle.mem_machine.specs.ListNotes.{NotesGoOn}
-use Rattle.mem_machine.proofs.ListNotes.{notes_both, notes_same}
+use Rattle.mem_machine.specs.Machines.{KnownMachine}
 use Rattle.mem_machine.specs.Local.{VisitState, visit_state, local_of, local_at, IsLocalRun, MakesAs}
 use Rattle.step_watch.specs.Watched.{KnownWatch, Watches}
 use Rattle.step_watch.proofs.Watching.{watches_none, watches_both}
@@ -133,9 +131,6 @@ makes_both t p one two a b c first second =
       };
       counts = second.counts ∙ ap (counts_along u two) first.counts ∙ sym (counts_both p s one two u a.machine.counts first.leads);
       watched = watches_both a.machine.watch one b.machine.watch two c.machine.watch first.watched second.watched;
-      snapshot = second.snapshot ∙ first.snapshot;
-      lists = notes_both a.machine.list_notes b.machine.list_notes c.machine.list_notes (lists_of a.machine) (lists_of b.machine) (lists_of c.machine)
-          first.lists second.lists;
     }
 
 -- ---- the watch
@@ -152,16 +147,13 @@ LeadsForAny table before steps after = (cpu : KnownCpu) → LeadsAs table cpu.nu
 
 -- a watch took the steps, and the machine after them has this watch
 pub makes_watched : (t : KnownTable) (p : ℕ) (m now : KnownMachine) → m ≡ now → (c d : KnownCpu) (steps : Run) (n : KnownMachine)
-    → LeadsAs t p (visit_state now c) steps (visit_state n d) → (w : KnownWatch) → Watches m.watch steps w → n.snapshot ≡ m.snapshot
-    → NotesGoOn m.list_notes n.list_notes (lists_of m) (lists_of n)
+    → LeadsAs t p (visit_state now c) steps (visit_state n d) → (w : KnownWatch) → Watches m.watch steps w
     → MakesAs t p (visit_state now c) steps (visit_state (record n { watch = w }) d)
-makes_watched t p m now same c d steps n made w took kept lists = record {
+makes_watched t p m now same c d steps n made w took = record {
   leads = made.leads;
   follows = made.follows;
   counts = made.counts;
   watched = subst (λ (x : KnownMachine). Watches x.watch steps w) same took;
-  snapshot = kept ∙ ap (λ (x : KnownMachine). x.snapshot) same;
-  lists = subst (λ (x : KnownMachine). NotesGoOn x.list_notes n.list_notes (lists_of x) (lists_of n)) same lists;
 }
 
 -- ---- steps that move nothing
@@ -245,15 +237,12 @@ follows_same s l steps still = follows_still s l steps l still (λ m. refl) (sam
 -- ---- no step
 
 pub makes_none : (t : KnownTable) (p : ℕ) (a : VisitState) → MakesAs t p a [] a
-makes_none t p a = record { leads = refl; follows = follows_same _ _ _ refl; counts = refl; watched = watches_none a.machine.watch; snapshot = refl; lists = notes_same _ _ }
+makes_none t p a = record { leads = refl; follows = follows_same _ _ _ refl; counts = refl; watched = watches_none a.machine.watch }
 
 -- what is seen stays, and the ledger, the counts and the watch
 pub makes_stay : (t : KnownTable) (m n : KnownMachine) (c d : KnownCpu) → local_of t m c ≡ local_of t n d → n.ledger ≡ m.ledger
-    → n.counts ≡ m.counts → n.watch ≡ m.watch → n.snapshot ≡ m.snapshot → NotesGoOn m.list_notes n.list_notes (lists_of m) (lists_of n)
-    → MakesAs t c.number (visit_state m c) [] (visit_state n d)
-makes_stay t m n c d seen same counted unwatched kept lists = record {
-  snapshot = kept;
-  lists = lists;
+    → n.counts ≡ m.counts → n.watch ≡ m.watch → MakesAs t c.number (visit_state m c) [] (visit_state n d)
+makes_stay t m n c d seen same counted unwatched = record {
   leads = seen;
   counts = counted;
   watched = subst (Watches m.watch []) (sym unwatched) (watches_none m.watch);

@@ -143,8 +143,6 @@ pub unit_kept : (t : KnownTable) (w : KnownStockTable) (m : KnownMachine) → Is
     → IsConsistent t w (record {
       blocks = blocks;
       frame_states = frame_states;
-      snapshot = m.snapshot;
-      list_notes = m.list_notes;
       ledger = ledger;
       links = links;
       lists = lists;

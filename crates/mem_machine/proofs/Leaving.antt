@@ -1,22 +1,17 @@
 -- A kept unit leaves its list. Serves `leave_list`.
-use Rattle.std.proofs.Common.{◌≡◌, ◌≢◌, ℕ, ◌<◌, Option, Some, None, true, List, [], ◌∷◌, length, get_or, sym, ap, ◌∙◌, subst}
-use Rattle.std.specs.Prelude.{map, slice_set, IfSome}
+use Rattle.std.proofs.Common.{◌≡◌, ◌≢◌, ℕ, ◌<◌, Option, Some, None, List, length, get_or, sym, ap, ◌∙◌, subst}
+use Rattle.std.specs.Prelude.{slice_set, IfSome}
 use Rattle.std.proofs.lemmas.Option.{none-some}
 use Rattle.std.proofs.lemmas.List.{get_or-set_same, get_or_default, length-set}
 use Rattle.lru_lists.specs.declared.record.Link.{Link}
 use Rattle.lru_lists.specs.declared.record.Home.{Home}
-use Rattle.lru_lists.specs.declared.record.Entry.{Entry}
-use Rattle.lru_lists.specs.declared.record.LruList.{LruList}
-use Rattle.lru_lists.specs.declared.record.LruList.TheVariants.{Inactive, Active}
 use Rattle.lru_lists.specs.declared.lru.Lru.{Lru}
-use Rattle.lru_lists.specs.Queue.{link_at, nowhere, AreApart, SameUse}
+use Rattle.lru_lists.specs.Queue.{link_at, nowhere, SameUse}
 use Rattle.lru_lists.specs.Lists.{OthersStayLinked, OneOfAllChanges, AreLinked, AllLinked, ChangesOwn, MovesOnly, inactive_of, active_of, entries_without}
-use Rattle.lru_lists.specs.Lists.{list_of, place_of, entries_of}
-use Rattle.mem_machine.specs.Machines.{GroupLists, home_of, lists_at, no_lists, group_lists}
-use Rattle.mem_machine.specs.ListNotes.{units_on, MovesUnits, FollowNotes}
+use Rattle.lru_lists.specs.Lists.{list_of, place_of}
+use Rattle.mem_machine.specs.Machines.{home_of, lists_at, no_lists, group_lists}
 use Rattle.mem_machine.specs.Lists.{LeavesList}
-use Rattle.mem_machine.proofs.Listed.{others_stay, without_numbers}
-use Rattle.mem_machine.proofs.NotedUnits.{one_home, one_left, are_apart, follow_moved}
+use Rattle.mem_machine.proofs.Listed.{others_stay}
 use Rattle.mem_machine.proofs.Dirties.{on_list}
 
 -- all that `leave_list` leaves
@@ -25,26 +20,6 @@ pub record AllLeave (links : List Link) (lists : List Lru) (f : ℕ) (after : Li
   pub stand : AllLinked after new
   pub frames : length after ≡ length links
   pub groups : length new ≡ 64
-  pub follow : FollowNotes (record { unit = f; has_moved = true } ∷ []) (group_lists links lists) (group_lists after new)
-
--- the units of one of the group's lists, after this unit left it
-left_units : (list : LruList) (f : ℕ) (before after : GroupLists) (leaves : LeavesList f before after) → AreApart (units_on before leaves.group list)
-    → MovesUnits (f ∷ []) (units_on before leaves.group list) (units_on after leaves.group list)
-left_units Inactive f before after leaves apart = one_left f (units_on before leaves.group Inactive) (units_on after leaves.group Inactive) apart
-    (ap (map (λ (e : Entry). e.number)) leaves.inactive ∙ without_numbers f (entries_of before.links (lists_at before.lists leaves.group) Inactive))
-left_units Active f before after leaves apart = one_left f (units_on before leaves.group Active) (units_on after leaves.group Active) apart
-    (ap (map (λ (e : Entry). e.number)) leaves.active ∙ without_numbers f (entries_of before.links (lists_at before.lists leaves.group) Active))
-
--- what the note of the unit says
-left_follow : (links : List Link) (lists : List Lru) → AllLinked links lists → length lists ≡ 64 → (f : ℕ) (after : List Link) (new : List Lru)
-    (leaves : LeavesList f (group_lists links lists) (group_lists after new)) → IfSome (home_of links f) (λ x. x.owner < 64)
-    → FollowNotes (record { unit = f; has_moved = true } ∷ []) (group_lists links lists) (group_lists after new)
-left_follow links lists all groups f after new leaves owner =
-    let within : leaves.group < 64 = subst (λ (x : Option Home). IfSome x (λ y. y.owner < 64)) leaves.home owner in
-    follow_moved links lists all groups after new leaves.group f
-    (λ h is. ap (λ (x : Home). x.owner) (one_home h (record { owner = leaves.group; list = leaves.list }) (sym is ∙ leaves.home)))
-    leaves.others leaves.used
-    (λ list. left_units list f (group_lists links lists) (group_lists after new) leaves (are_apart links lists all groups leaves.group within list))
 
 -- the home is of one of the owners
 pub owner_within : (home : Option Home) (h : Home) (lists : List Lru) → Some h ≡ home → IfSome home (λ x. x.owner < 64) → length lists ≡ 64
@@ -83,26 +58,22 @@ module _ (links : List Link) (lists : List Lru) (f : ℕ) (h : Home) (home : Som
         (one_of_all_changes links after lists new all (subst (λ (k : ℕ). k < length lists) (sym (same ∙ own)) bound) now_stands
         (subst (ChangesOwn links after) (sym same) changes))
 
-    leaves_here : LeavesList f (group_lists links lists) (group_lists after (slice_set lists h.owner new))
-    leaves_here = record {
-      group = h.owner;
-      list = h.list;
-      home = sym home;
-      forgotten = forgotten;
-      homes = moves.home;
-      unlisted = λ g none. moves.kept g (λ e. none-some h (sym none ∙ ap (home_of links) e ∙ sym home)) (ap (λ (x : Option Home). place_of x lru.owner) none);
-      used = used;
-      inactive = subst (λ (x : Lru × Lru). inactive_of after x.1 ≡ entries_without f (inactive_of links x.0))
-          (λ i. (sym its_lists i, sym now_its i)) inactive;
-      active = subst (λ (x : Lru × Lru). active_of after x.1 ≡ entries_without f (active_of links x.0)) (λ i. (sym its_lists i, sym now_its i)) active;
-      others = others_stay links after lists h.owner lru new all groups own changes others_stay_linked;
-    }
-
     pub leave_all : AllLeave links lists f after (slice_set lists h.owner new)
     leave_all = record {
-      leaves = leaves_here;
+      leaves = record {
+        group = h.owner;
+        list = h.list;
+        home = sym home;
+        forgotten = forgotten;
+        homes = moves.home;
+        unlisted = λ g none. moves.kept g (λ e. none-some h (sym none ∙ ap (home_of links) e ∙ sym home)) (ap (λ (x : Option Home). place_of x lru.owner) none);
+        used = used;
+        inactive = subst (λ (x : Lru × Lru). inactive_of after x.1 ≡ entries_without f (inactive_of links x.0))
+            (λ i. (sym its_lists i, sym now_its i)) inactive;
+        active = subst (λ (x : Lru × Lru). active_of after x.1 ≡ entries_without f (active_of links x.0)) (λ i. (sym its_lists i, sym now_its i)) active;
+        others = others_stay links after lists h.owner lru new all groups own changes others_stay_linked;
+      };
       stand = all_stand;
       frames = changes.frames;
       groups = length-set lists h.owner new ∙ groups;
-      follow = left_follow links lists all groups f after (slice_set lists h.owner new) leaves_here owner;
     }

@@ -1,10 +1,8 @@
 pub mod Balances
 pub mod NoneLent
 pub mod Reaching
-pub mod ListNotes
 pub mod Followed
 pub mod Watched
-pub mod Logged
 pub mod Counted
 pub mod LedgerMoves
 pub mod Holds
@@ -28,7 +26,6 @@ pub mod Units
 pub mod Freeing
 pub mod PlacesUnits
 pub mod BlockCharges
-pub mod NotedUnits
 pub mod Joins
 pub mod KeptUnits
 pub mod Interleaves
@@ -38,7 +35,6 @@ pub mod Leaving
 pub mod Releases
 pub mod Evicts
 pub mod OneGroup
-pub mod Aged
 pub mod Booking
 pub mod ChargedFrames
 pub mod GivenFrames

@@ -132,7 +132,7 @@ module _ (before after : List Link) (lru new : Lru) (old_stands : AreLinked befo
 
 -- ---- lists of entries, and the numbers in them
 
-pub numbers : (links : List Link) (xs : List ℕ) → map (λ (e : Entry). e.number) (map (entry_of links) xs) ≡ xs
+numbers : (links : List Link) (xs : List ℕ) → map (λ (e : Entry). e.number) (map (entry_of links) xs) ≡ xs
 numbers links [] = refl
 numbers links (x ∷ xs) = ap (λ (l : List ℕ). x ∷ l) (numbers links xs)
 
@@ -140,12 +140,12 @@ dirtied_number : (unit : ℕ) (d : Bool) (b : Bool) (e : Entry) → (cond b (dir
 dirtied_number unit d true e = refl
 dirtied_number unit d false e = refl
 
-pub dirtied_numbers : (unit : ℕ) (d : Bool) (es : List Entry) → map (λ (e : Entry). e.number) (changed_at unit (dirtied d) es) ≡ map (λ (e : Entry). e.number) es
+dirtied_numbers : (unit : ℕ) (d : Bool) (es : List Entry) → map (λ (e : Entry). e.number) (changed_at unit (dirtied d) es) ≡ map (λ (e : Entry). e.number) es
 dirtied_numbers unit d [] = refl
 dirtied_numbers unit d (e ∷ es) = λ i. dirtied_number unit d (e.number == unit) e i ∷ dirtied_numbers unit d es i
 
 -- the same units are on the lists after one was dirtied
-pub dirtied_units : (before after : List Link) (lru : Lru) (unit : ℕ) (d : Bool)
+dirtied_units : (before after : List Link) (lru : Lru) (unit : ℕ) (d : Bool)
     → ((list : LruList) → entries_of after lru list ≡ changed_at unit (dirtied d) (entries_of before lru list))
     → (list : LruList) → units_of after (queue_of lru list) ≡ units_of before (queue_of lru list)
 dirtied_units before after lru unit d is list =
@@ -170,18 +170,18 @@ marked_number : (b c : Bool) (e : Entry) → (cond c (marked b e) e).number ≡ 
 marked_number b true e = refl
 marked_number b false e = refl
 
-pub marked_numbers : (unit : ℕ) (b : Bool) (es : List Entry) → map (λ (e : Entry). e.number) (changed_at unit (marked b) es) ≡ map (λ (e : Entry). e.number) es
+marked_numbers : (unit : ℕ) (b : Bool) (es : List Entry) → map (λ (e : Entry). e.number) (changed_at unit (marked b) es) ≡ map (λ (e : Entry). e.number) es
 marked_numbers unit b [] = refl
 marked_numbers unit b (e ∷ es) = λ i. marked_number b (e.number == unit) e i ∷ marked_numbers unit b es i
 
-pub without_numbers : (unit : ℕ) (es : List Entry) → map (λ (e : Entry). e.number) (entries_without unit es) ≡ without unit (map (λ (e : Entry). e.number) es)
+without_numbers : (unit : ℕ) (es : List Entry) → map (λ (e : Entry). e.number) (entries_without unit es) ≡ without unit (map (λ (e : Entry). e.number) es)
 without_numbers unit [] = refl
 without_numbers unit (e ∷ es) = elim (cases_eq e.number unit) [
   | inl q ↦ let t : (e.number == unit) ≡ true = eq-eqb e.number unit q in rw t refl
   | inr ne ↦ let u : (e.number == unit) ≡ false = ne_eqb e.number unit ne in rw u (ap (λ (l : List ℕ). e.number ∷ l) (without_numbers unit es))
 ]
 
-pub numbers_end : (es : List Entry) (e : Entry) → map (λ (x : Entry). x.number) (es ++ e ∷ []) ≡ map (λ (x : Entry). x.number) es ++ e.number ∷ []
+numbers_end : (es : List Entry) (e : Entry) → map (λ (x : Entry). x.number) (es ++ e ∷ []) ≡ map (λ (x : Entry). x.number) es ++ e.number ∷ []
 numbers_end [] e = refl
 numbers_end (x ∷ es) e = ap (λ (l : List ℕ). x.number ∷ l) (numbers_end es e)
 
@@ -206,7 +206,7 @@ moved_listed : (f g : ℕ) (inactive active : List ℕ) → (g ≡ f → ⊥)
 moved_listed f g inactive active ne = λ i. among_without f g inactive ne i || (among_more f g (without f active) ne ∙ among_without f g active ne) i
 
 -- the units of a list are the numbers of its entries
-pub units_numbers : (links : List Link) (lru : Lru) (list : LruList)
+units_numbers : (links : List Link) (lru : Lru) (list : LruList)
     → units_of links (queue_of lru list) ≡ map (λ (e : Entry). e.number) (entries_of links lru list)
 units_numbers links lru list = sym (numbers links (units_of links (queue_of lru list)))
 

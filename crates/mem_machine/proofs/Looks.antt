@@ -13,7 +13,6 @@ use Rattle.mem_machine.specs.Showing.{ListedUnit, seat_with_look, seat_with_look
 use Rattle.mem_machine.specs.Local.{local_of, references_of, MakesForAny}
 use Rattle.mem_machine.proofs.Releases.{note_keeps, visit_stays}
 use Rattle.mem_machine.proofs.Followed.{makes_stay}
-use Rattle.mem_machine.proofs.ListNotes.{notes_same}
 
 -- ---- one look at a word
 
@@ -62,7 +61,7 @@ looked_once t w m ok f pins =
       };
       machine = refl;
       visit = λ c visit. visit_stays t m n c f (looked (pins + 1)) refl (λ k. refl) (λ k. refl) (λ k. refl) visit;
-      steps = λ c. makes_stay t m n c c (sym (look_unseen t m f pins c)) refl refl refl refl (notes_same _ _);
+      steps = λ c. makes_stay t m n c c (sym (look_unseen t m f pins c)) refl refl refl;
     }
 
 -- the same, of the machine as it was seen before, and of the word that was found

@@ -1,7 +1,6 @@
 -- The two lists of one group are read, or change and nothing else. Serves `age`, `renew` and the walks.
-use Rattle.std.proofs.Common.{◌≡◌, ◌≢◌, ℕ, ◌<◌, true, false, Option, Some, None, List, [], ◌∷◌, ◌++◌, length, get_or, refl, sym, ap, ◌∙◌, subst, inl, inr}
-use Rattle.std.specs.Prelude.{map, slice_set, option_map}
-use Rattle.std.proofs.lemmas.Bool.{cases_Bool}
+use Rattle.std.proofs.Common.{◌≡◌, ◌≢◌, ℕ, ◌<◌, false, Option, Some, None, List, [], ◌∷◌, ◌++◌, length, get_or, refl, sym, ap, ◌∙◌, subst}
+use Rattle.std.specs.Prelude.{slice_set, option_map}
 use Rattle.std.proofs.lemmas.List.{get_or-set_same, length-set}
 use Rattle.std.proofs.lemmas.Option.{none-some}
 use Rattle.frame_word.specs.Views.{note_of}
@@ -11,24 +10,17 @@ use Rattle.lru_lists.specs.declared.record.Link.{Link}
 use Rattle.lru_lists.specs.declared.record.Home.{Home}
 use Rattle.lru_lists.specs.declared.record.Entry.{Entry}
 use Rattle.lru_lists.specs.declared.record.LruList.{LruList}
-use Rattle.lru_lists.specs.declared.record.LruList.TheVariants.{Inactive, Active}
 use Rattle.lru_lists.specs.declared.lru.Lru.{Lru}
-use Rattle.lru_lists.specs.Queue.{is_among, AreApart, SameUse}
 use Rattle.lru_lists.specs.Lists.{OthersStayLinked, OneOfAllChanges, AreLinked, AllLinked, ChangesOwn, SameOwners, Ages, owner_of, list_of, place_of, entries_of}
 use Rattle.lru_lists.specs.Lists.{inactive_of, active_of, entries_without, entry_of, marked, first_entry, entry_after}
 use Rattle.mem_machine.specs.FrameStates.{frame_state_at}
 use Rattle.mem_machine.specs.Machines.{KnownMachine, IsConsistent, OthersStay, UnlistedStay, home_of, lists_at}
-use Rattle.mem_machine.specs.Machines.{entries_in, inactive_in, no_lists, group_lists, lists_of}
-use Rattle.mem_machine.specs.declared.list_log.ListNote.{ListNote}
-use Rattle.mem_machine.specs.ListNotes.{AddsNote, units_on, MovesUnits, FollowNotes, NotesGoOn}
+use Rattle.mem_machine.specs.Machines.{entries_in, no_lists, lists_of}
 use Rattle.mem_machine.specs.Ageing.{AgesGroup, RenewsUnit}
 use Rattle.mem_machine.specs.Local.{MakesForAny}
-use Rattle.mem_machine.proofs.Listed.{without_numbers, numbers_end, fits_home, others_stay, place_here, unlisted_stay}
-use Rattle.mem_machine.proofs.Listing.{home_inside}
+use Rattle.mem_machine.proofs.Listed.{fits_home, others_stay, place_here, unlisted_stay}
 use Rattle.mem_machine.proofs.KeptUnits.{there, read_owner, read_stands, read_is}
 use Rattle.mem_machine.proofs.Followed.{makes_stay}
-use Rattle.mem_machine.proofs.ListNotes.{notes_one}
-use Rattle.mem_machine.proofs.NotedUnits.{one_home, one_left, one_joined, without_away, at_home, are_apart, follow_moved}
 
 -- ---- the lists as they are read
 
@@ -70,21 +62,6 @@ newer_is m now same g lru is f i at list home unit read =
     read list (ap (λ (x : KnownMachine). list_of x.links lru.owner i) same ∙ read_on now g lru is f i at list home)
     ∙ (λ j. entry_after (at j) (entries_of (same j).links (sym is.are j) list))
 
--- a unit on one of the group's lists, behind which the list is read
-module _ (t : KnownTable) (w : KnownStockTable) (m now : KnownMachine) (same : m ≡ now) (ok : IsConsistent t w m) (g o : ℕ) (fits : o < 64) (is : o ≡ g)
-    (list : LruList) (f : ℕ) (on : is_among (units_on (lists_of now) g list) f ≡ true) where
-  behind_home : home_of now.links f ≡ Some (record { owner = g; list = list })
-  behind_home =
-      let stands : IsConsistent t w now = subst (IsConsistent t w) same ok in
-      at_home now.links now.lists stands.lists stands.sizes.lists g (subst (λ (k : ℕ). k < 64) is fits) list f on
-
-  pub behind_frame : f < length m.links
-  behind_frame = subst (λ (k : ℕ). f < k) (sym ok.sizes.links)
-      (home_inside t w m ok f (record { owner = g; list = list }) (ap (λ (x : KnownMachine). home_of x.links f) same ∙ behind_home))
-
-  pub behind_on : (lru : Lru) → AreRead now g lru → list_of m.links lru.owner f ≡ Some list
-  behind_on lru read = ap (λ (x : KnownMachine). list_of x.links lru.owner f) same ∙ read_on now g lru read f f refl list behind_home
-
 -- ---- the lists as they change
 
 owner_mapped : (h : Option Home) → option_map (λ (x : Home). x.owner) h ≡ owner_of h
@@ -94,15 +71,16 @@ owner_mapped (Some h) = refl
 -- what else is unchanged after the lists of one group changed
 pub record GroupChanged (t : KnownTable) (w : KnownStockTable) (now : KnownMachine) (g : ℕ) (lru new : Lru) (n : KnownMachine) : Type 0 where
   pub consistent : IsConsistent t w n
-  pub machine : n ≡ record now { links = n.links; lists = n.lists; list_notes = n.list_notes }
+  pub machine : n ≡ record now { links = n.links; lists = n.lists }
   pub before : lists_at now.lists g ≡ lru
   pub after : lists_at n.lists g ≡ new
   pub others : OthersStay g (lists_of now) (lists_of n)
   pub owners : SameOwners now.links n.links
   pub unlisted : UnlistedStay now.links n.links
+  pub steps : MakesForAny t now [] n
 
 module _ (t : KnownTable) (w : KnownStockTable) (m : KnownMachine) (ok : IsConsistent t w m) (g : ℕ) (fits : g < 64) (any lru : Lru) (read : lru ≡ get_or m.lists g any)
-    (links : List Link) (new : Lru) (notes : Option (List ListNote)) (now_stands : AreLinked links new) (owner : new.owner ≡ lru.owner) (changes : ChangesOwn m.links links lru.owner)
+    (links : List Link) (new : Lru) (now_stands : AreLinked links new) (owner : new.owner ≡ lru.owner) (changes : ChangesOwn m.links links lru.owner)
     (owners : SameOwners m.links links) (others_stay_linked : OthersStayLinked) (one_of_all_changes : OneOfAllChanges) where
   own : lru.owner ≡ g
   own = read_owner t w m ok g fits any lru read
@@ -118,7 +96,7 @@ module _ (t : KnownTable) (w : KnownStockTable) (m : KnownMachine) (ok : IsConsi
   mapped : (f : ℕ) → option_map (λ (x : Home). x.owner) (home_of links f) ≡ option_map (λ (x : Home). x.owner) (home_of m.links f)
   mapped f = owner_mapped (home_of links f) ∙ owners.owner f ∙ sym (owner_mapped (home_of m.links f))
 
-  group_changed : GroupChanged t w m g lru new (record m { links = links; lists = slice_set m.lists g new; list_notes = notes })
+  group_changed : GroupChanged t w m g lru new (record m { links = links; lists = slice_set m.lists g new })
   group_changed = record {
     consistent = record {
       sizes = let s = ok.sizes in record {
@@ -144,22 +122,17 @@ module _ (t : KnownTable) (w : KnownStockTable) (m : KnownMachine) (ok : IsConsi
     others = others_stay m.links links m.lists g lru new ok.lists ok.sizes.lists own changes others_stay_linked;
     owners = owners;
     unlisted = λ f none. unlisted_stay m.links links lru.owner f changes (mapped f) none;
+    steps = λ c. makes_stay t m (record m { links = links; lists = slice_set m.lists g new }) c c refl refl refl refl;
   }
 
 -- the same, of the machine as it was seen before
 pub change_all : (t : KnownTable) (w : KnownStockTable) (m now : KnownMachine) → m ≡ now → IsConsistent t w m → (g i : ℕ) → i < 64 → i ≡ g → (any lru : Lru)
-    → lru ≡ get_or m.lists i any → (links : List Link) (new : Lru) (notes : Option (List ListNote)) → AreLinked links new → new.owner ≡ lru.owner → ChangesOwn m.links links lru.owner
+    → lru ≡ get_or m.lists i any → (links : List Link) (new : Lru) → AreLinked links new → new.owner ≡ lru.owner → ChangesOwn m.links links lru.owner
     → SameOwners m.links links → OthersStayLinked → OneOfAllChanges
-    → GroupChanged t w now g lru new (record m { links = links; lists = slice_set m.lists i new; list_notes = notes })
-change_all t w m now same ok g i fits is any lru read links new notes stands owner changes owners others all =
-    subst (λ (x : KnownMachine × ℕ). GroupChanged t w x.0 x.1 lru new (record m { links = links; lists = slice_set m.lists i new; list_notes = notes })) (λ j. (same j, is j))
-    (group_changed t w m ok i fits any lru read links new notes stands owner changes owners others all)
-
--- if the notes say how the lists changed, then no step does it
-pub group_steps : (t : KnownTable) (w : KnownStockTable) (now : KnownMachine) (g : ℕ) (lru new : Lru) (n : KnownMachine) → GroupChanged t w now g lru new n
-    → NotesGoOn now.list_notes n.list_notes (lists_of now) (lists_of n) → MakesForAny t now [] n
-group_steps t w now g lru new n changed goes = subst (MakesForAny t now []) (sym changed.machine)
-    (λ c. makes_stay t now (record now { links = n.links; lists = n.lists; list_notes = n.list_notes }) c c refl refl refl refl refl goes)
+    → GroupChanged t w now g lru new (record m { links = links; lists = slice_set m.lists i new })
+change_all t w m now same ok g i fits is any lru read links new stands owner changes owners others all =
+    subst (λ (x : KnownMachine × ℕ). GroupChanged t w x.0 x.1 lru new (record m { links = links; lists = slice_set m.lists i new })) (λ j. (same j, is j))
+    (group_changed t w m ok i fits any lru read links new stands owner changes owners others all)
 
 -- ---- the group was aged
 
@@ -189,54 +162,3 @@ renews_unit t w m now same g f i is lru new n changed inactive active = record {
   owners = changed.owners;
   unlisted = changed.unlisted;
 }
-
--- the units of one of the group's lists, after one of the inactive ones was renewed
-renewed_on : (list : LruList) (g f : ℕ) (now n : KnownMachine) → RenewsUnit g f now n → AreApart (units_on (lists_of now) g list)
-    → is_among (units_on (lists_of now) g Active) f ≡ false → MovesUnits (f ∷ []) (units_on (lists_of now) g list) (units_on (lists_of n) g list)
-renewed_on Inactive g f now n renews apart away =
-    one_joined f (units_on (lists_of now) g Inactive) (units_on (lists_of n) g Inactive) apart
-    (ap (map (λ (e : Entry). e.number)) renews.inactive
-    ∙ numbers_end (entries_without f (inactive_in now g)) (marked false (entry_of now.links f))
-    ∙ ap (λ l. l ++ f ∷ []) (without_numbers f (inactive_in now g)))
-renewed_on Active g f now n renews apart away =
-    one_left f (units_on (lists_of now) g Active) (units_on (lists_of n) g Active) apart
-    (ap (map (λ (e : Entry). e.number)) renews.active ∙ sym (without_away f (units_on (lists_of now) g Active) away apart))
-
-pub two_lists : Inactive ≡ Active → ⊥
-two_lists same = cc
-
--- an inactive unit isn't active
-off_active : (links : List Link) (lists : List Lru) → AllLinked links lists → length lists ≡ 64 → (g : ℕ) → g < 64 → (f : ℕ)
-    → home_of links f ≡ Some (record { owner = g; list = Inactive }) → is_among (units_on (group_lists links lists) g Active) f ≡ false
-off_active links lists all groups g within f home = elim (cases_Bool (is_among (units_on (group_lists links lists) g Active) f)) [
-  | inl on ↦
-      let a : Some (record { owner = g; list = Inactive }) ≡ Some (record { owner = g; list = Active }) =
-      sym home ∙ at_home links lists all groups g within Active f on in
-      absurd (two_lists (ap (λ (h : Home). h.list) (one_home (record { owner = g; list = Inactive }) (record { owner = g; list = Active }) a)))
-  | inr off ↦ off
-]
-
--- what the note of the renewed unit says
-pub renew_follow : (g f : ℕ) (now n : KnownMachine) → AllLinked now.links now.lists → length now.lists ≡ 64 → g < 64
-    → home_of now.links f ≡ Some (record { owner = g; list = Inactive }) → RenewsUnit g f now n → SameUse now.links n.links f
-    → FollowNotes (record { unit = f; has_moved = true } ∷ []) (lists_of now) (lists_of n)
-renew_follow g f now n all groups within home renews used =
-    follow_moved now.links now.lists all groups n.links n.lists g f
-    (λ h is. ap (λ (x : Home). x.owner) (one_home h (record { owner = g; list = Inactive }) (sym is ∙ home)))
-    renews.others used
-    (λ list. renewed_on list g f now n renews (are_apart now.links now.lists all groups g within list)
-    (off_active now.links now.lists all groups g within f home))
-
-pub renew_steps : (t : KnownTable) (w : KnownStockTable) (m now : KnownMachine) → m ≡ now → IsConsistent t w m → (g o : ℕ) → o < 64 → o ≡ g → (f i : ℕ) → i ≡ f
-    → home_of now.links f ≡ Some (record { owner = g; list = Inactive }) → (lru new : Lru) (n : KnownMachine) → GroupChanged t w now g lru new n
-    → RenewsUnit g f now n → SameUse m.links n.links i → (note : ListNote) → note ≡ record { unit = i; has_moved = true }
-    → AddsNote note m.list_notes n.list_notes → MakesForAny t now [] n
-renew_steps t w m now same ok g o fits is f i at home lru new n changed renews used note made adds =
-    let stands : IsConsistent t w now = subst (IsConsistent t w) same ok in
-    let within : g < 64 = subst (λ (k : ℕ). k < 64) is fits in
-    let used_now : SameUse now.links n.links f = subst (λ (x : KnownMachine × ℕ). SameUse x.0.links n.links x.1) (λ j. (same j, at j)) used in
-    let noted : AddsNote (record { unit = f; has_moved = true }) now.list_notes n.list_notes =
-    subst (λ (x : KnownMachine × ListNote). AddsNote x.1 x.0.list_notes n.list_notes)
-    (λ j. (same j, (made ∙ (λ k. record { unit = at k; has_moved = true })) j)) adds in
-    group_steps t w now g lru new n changed (notes_one (record { unit = f; has_moved = true }) now.list_notes n.list_notes (lists_of now) (lists_of n) noted
-    (renew_follow g f now n stands.lists stands.sizes.lists within home renews used_now))

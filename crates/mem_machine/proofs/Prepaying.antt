@@ -348,7 +348,7 @@ module _ (m x : KnownMachine) (q p k : ℕ) (named : q ≡ p) (d : Drains q k m 
     own_drain = subst (λ (z : ℕ × ℕ). Drains z.0 z.1 m x) (λ i. (its_number i, whole i)) d
 
     looked_own : MakesAs t c.number (visit_state m c) (own_drain_steps (visit_state m c)) (visit_state (with_look x) c)
-    looked_own = record { leads = drained_own.leads; follows = drained_own.follows; counts = drained_own.counts; watched = drained_own.watched; snapshot = drained_own.snapshot; lists = drained_own.lists }
+    looked_own = record { leads = drained_own.leads; follows = drained_own.follows; counts = drained_own.counts; watched = drained_own.watched }
 
     -- what follows begins at the machine and the part after the look
     module _ (y : KnownMachine) (e : KnownCpu) (same : y ≡ with_look x) (stays : e ≡ c) (g pages : ℕ) (n : KnownMachine) (f : KnownCpu) where

@@ -453,7 +453,6 @@ returned_all t w m now same ok f i inside is kept_now links lists left_list stan
           ledger = (uncharged ∙ ap (λ (x : KnownMachine). with_uncharge x.ledger unit.group (2 ^ unit.order)) same) j;
           links = links;
           lists = lists;
-          list_notes = m.list_notes;
           frame_seat = (put ∙ ap (λ (x : KnownMachine). seat_with x.frame_seat f put_last) same) j;
           counts = (counted ∙ ap (λ (x : KnownMachine). with_last_put x.counts) same) j;
           watch = m.watch;

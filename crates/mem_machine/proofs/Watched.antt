@@ -1,18 +1,12 @@
 -- What a call does stays true if the machine after it has another watch. Serves all calls that make steps. Other notes
--- change as little. That serves `evict`. The snapshot stays where records are written. That serves all calls that write
--- one.
-use Rattle.std.proofs.Common.{◌≡◌, ℕ, sym, subst}
-use Rattle.tracked_vec.specs.Tracked.{KnownTracked}
-use Rattle.mem_machine.specs.declared.frame_state.FrameState.{FrameState}
+-- change as little. That serves `evict`.
+use Rattle.std.proofs.Common.{ℕ}
 use Rattle.frame_word.specs.Seats.{KnownTable}
 use Rattle.stock_word.specs.Stock.{KnownStockTable}
 use Rattle.cpu_part.specs.Cpus.{KnownCpu}
 use Rattle.kill_notes.specs.Notes.{KnownNotes}
-use Rattle.step_watch.specs.Watched.{KnownWatch, Watches}
-use Rattle.step_rules.specs.After.{Run}
-use Rattle.mem_machine.specs.Local.{MakesAs}
-use Rattle.mem_machine.specs.Machines.{KnownMachine, VisitState, IsConsistent, Visits, lists_of, visit_state, with_watch}
-use Rattle.mem_machine.specs.ListNotes.{NotesGoOn}
+use Rattle.step_watch.specs.Watched.{KnownWatch}
+use Rattle.mem_machine.specs.Machines.{KnownMachine, VisitState, IsConsistent, Visits, visit_state, with_watch}
 use Rattle.mem_machine.specs.Lending.{LendsFrame, LendsOne, UnlistsOne}
 use Rattle.mem_machine.specs.Settling.{KeepsFresh, DropsFresh, ReturnsBack}
 use Rattle.mem_machine.specs.Releasing.{LeavesReferences, ReturnsUnit}
@@ -20,7 +14,6 @@ use Rattle.mem_machine.specs.Evicting.{MissesUnit, EvictsUnit}
 use Rattle.mem_machine.specs.Blocks.{TakesBlock, TakesNoBlock}
 use Rattle.mem_machine.specs.Paying.{PaysForFront}
 use Rattle.mem_machine.specs.Stocks.{DrainsBy, Fills}
-use Rattle.mem_machine.proofs.Followed.{LeadsAs, makes_watched}
 
 pub consistent_still : (t : KnownTable) (w : KnownStockTable) (n : KnownMachine) (v : KnownWatch) → IsConsistent t w n → IsConsistent t w (with_watch n v)
 consistent_still t w n v ok = record {
@@ -55,11 +48,6 @@ consistent_noted t w n k ok = record {
 
 pub visits_noted : (t : KnownTable) (n : KnownMachine) (d : KnownCpu) (k : KnownNotes) → Visits t (visit_state n d) → Visits t (visit_state (record n { notes = k }) d)
 visits_noted t n d k visit = record { is_open = visit.is_open; still = visit.still; lent = visit.lent }
-
--- a vector with the snapshot that it had
-pub snapshot_kept : (before after : KnownTracked FrameState) → after.snapshot ≡ before.snapshot
-    → after ≡ record { now = after.now; snapshot = before.snapshot }
-snapshot_kept before after kept = λ i. record { now = after.now; snapshot = kept i }
 
 module _ (a : VisitState) (n : KnownMachine) (d : KnownCpu) (v : KnownWatch) where
   pub lends_still : (f : ℕ) → LendsFrame f a (visit_state n d) → LendsFrame f a (visit_state (with_watch n v) d)
@@ -143,52 +131,3 @@ module _ (m n : KnownMachine) (v : KnownWatch) where
 
   pub drains_still : (steps q k : ℕ) → DrainsBy steps q k m n → DrainsBy steps q k m (with_watch n v)
   drains_still steps q k does = record { machine = λ i. with_watch (does.machine i) v; booked = does.booked; drained_before = does.drained_before }
-
--- The same stays true of the machine with another watch if its records are a vector with its own snapshot.
-module _ (n : KnownMachine) (v : KnownWatch) (states : KnownTracked FrameState)
-    (same : states ≡ record { now = n.frame_states; snapshot = n.snapshot }) where
-  abbrev with_states : KnownTracked FrameState → KnownMachine
-  with_states x = record n { watch = v; frame_states = x.now; snapshot = x.snapshot }
-
-  tracked : (P : KnownMachine → Type 0) → P (with_watch n v) → P (with_states states)
-  tracked P so = subst (λ (x : KnownTracked FrameState). P (with_states x)) (sym same) so
-
-  pub consistent_tracked : (t : KnownTable) (w : KnownStockTable) → IsConsistent t w n → IsConsistent t w (with_states states)
-  consistent_tracked t w ok = tracked (IsConsistent t w) (consistent_still t w n v ok)
-
-  pub visits_tracked : (t : KnownTable) (d : KnownCpu) → Visits t (visit_state n d) → Visits t (visit_state (with_states states) d)
-  visits_tracked t d visit = tracked (λ x. Visits t (visit_state x d)) (visits_still t n d v visit)
-
-  pub makes_tracked : (t : KnownTable) (p : ℕ) (m now : KnownMachine) → m ≡ now → (c d : KnownCpu) (steps : Run)
-      → LeadsAs t p (visit_state now c) steps (visit_state n d) → Watches m.watch steps v → n.snapshot ≡ m.snapshot
-      → NotesGoOn m.list_notes n.list_notes (lists_of m) (lists_of n)
-      → MakesAs t p (visit_state now c) steps (visit_state (with_states states) d)
-  makes_tracked t p m now is c d steps leads took kept lists =
-      tracked (λ x. MakesAs t p (visit_state now c) steps (visit_state x d)) (makes_watched t p m now is c d steps n leads v took kept lists)
-
-  pub lends_tracked : (f : ℕ) (a : VisitState) (d : KnownCpu) → LendsFrame f a (visit_state n d) → LendsFrame f a (visit_state (with_states states) d)
-  lends_tracked f a d does = tracked (λ x. LendsFrame f a (visit_state x d)) (lends_still a n d v f does)
-
-  pub lends_one_tracked : (f : ℕ) (a : VisitState) (d : KnownCpu) → LendsOne f a (visit_state n d) → LendsOne f a (visit_state (with_states states) d)
-  lends_one_tracked f a d does = tracked (λ x. LendsOne f a (visit_state x d)) (lends_one_still a n d v f does)
-
-  pub takes_tracked : (f : ℕ) (a : VisitState) (d : KnownCpu) → UnlistsOne f a (visit_state n d) → UnlistsOne f a (visit_state (with_states states) d)
-  takes_tracked f a d does = tracked (λ x. UnlistsOne f a (visit_state x d)) (takes_still a n d v f does)
-
-  pub keeps_tracked : (g : ℕ) (f : ℕ) (a : VisitState) (d : KnownCpu) → KeepsFresh g f a (visit_state n d) → KeepsFresh g f a (visit_state (with_states states) d)
-  keeps_tracked g f a d does = tracked (λ x. KeepsFresh g f a (visit_state x d)) (keeps_still a n d v g f does)
-
-  pub drops_tracked : (g : ℕ) (f : ℕ) (a : VisitState) (d : KnownCpu) → DropsFresh g f a (visit_state n d) → DropsFresh g f a (visit_state (with_states states) d)
-  drops_tracked g f a d does = tracked (λ x. DropsFresh g f a (visit_state x d)) (drops_still a n d v g f does)
-
-  pub returns_tracked : (f : ℕ) (a : VisitState) (d : KnownCpu) → ReturnsBack f a (visit_state n d) → ReturnsBack f a (visit_state (with_states states) d)
-  returns_tracked f a d does = tracked (λ x. ReturnsBack f a (visit_state x d)) (returns_still a n d v f does)
-
-  pub returned_tracked : (f : ℕ) (m : KnownMachine) → ReturnsUnit f m n → ReturnsUnit f m (with_states states)
-  returned_tracked f m does = tracked (λ x. ReturnsUnit f m x) (returned_still m n v f does)
-
-  pub evicts_tracked : (f : ℕ) (pages : ℕ) (m : KnownMachine) → EvictsUnit f pages m n → EvictsUnit f pages m (with_states states)
-  evicts_tracked f pages m does = tracked (λ x. EvictsUnit f pages m x) (evicts_still m n v f pages does)
-
-  pub takes_block_tracked : (g : ℕ) (k : ℕ) (at : ℕ) (m : KnownMachine) → TakesBlock g k at m n → TakesBlock g k at m (with_states states)
-  takes_block_tracked g k at m does = tracked (λ x. TakesBlock g k at m x) (takes_block_still m n v g k at does)

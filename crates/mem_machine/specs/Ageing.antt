@@ -10,7 +10,7 @@ pub use Rattle.mem_machine.specs.Machines.{entries_in}
 -- active list no longer than the inactive one. Each frame is on a list of the same group as before and as dirty as
 -- before. Nothing else changed.
 pub record AgesGroup (group : ℕ) (before after : KnownMachine) : Type 0 where
-  pub machine : after ≡ record before { links = after.links; lists = after.lists; list_notes = after.list_notes }
+  pub machine : after ≡ record before { links = after.links; lists = after.lists }
   pub ages : Ages before.links (lists_at before.lists group) after.links (lists_at after.lists group)
   pub others : OthersStay group (lists_of before) (lists_of after)
   pub owners : SameOwners before.links after.links
@@ -19,7 +19,7 @@ pub record AgesGroup (group : ℕ) (before after : KnownMachine) : Type 0 where
 -- The unit moves, unmarked, to the newest end of the group's inactive list. Each frame is on a list of the same group
 -- as before and as dirty as before. Nothing else changed.
 pub record RenewsUnit (group frame : ℕ) (before after : KnownMachine) : Type 0 where
-  pub machine : after ≡ record before { links = after.links; lists = after.lists; list_notes = after.list_notes }
+  pub machine : after ≡ record before { links = after.links; lists = after.lists }
   pub inactive : inactive_in after group
       ≡ entries_without frame (inactive_in before group) ++ marked false (entry_of before.links frame) ∷ []
   pub active : active_in after group ≡ active_in before group

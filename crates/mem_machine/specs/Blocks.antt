@@ -46,7 +46,6 @@ pub record TakesBlock (group order at : ℕ) (before after : KnownMachine) : Typ
     ledger = with_charge before.ledger group (2 ^ order);
     links = after.links;
     lists = after.lists;
-    list_notes = after.list_notes;
     frame_seat = seat_with before.frame_seat at (unfrozen 1);
     watch = after.watch;
   }

@@ -45,7 +45,6 @@ pub record EvictsUnit (frame pages : ℕ) (before after : KnownMachine) : Type 0
     ledger = with_uncharge before.ledger unit.group (2 ^ unit.order);
     links = after.links;
     lists = after.lists;
-    list_notes = after.list_notes;
     frame_seat = seat_with before.frame_seat frame (frozen 1);
     counts = with_freeze before.counts;
     notes = unit_noted before.notes unit.group frame (2 ^ unit.order);

@@ -10,12 +10,10 @@ use Rattle.mem_machine.specs.Machines.{KnownMachine, IsConsistent}
 abbrev pub machine_of : {N : Type 0} → Inside N → KnownMachine
 machine_of fields = record {
   blocks = fields.zone.blocks;
-  frame_states = fields.frame_states.now;
-  snapshot = fields.frame_states.snapshot;
+  frame_states = fields.frame_states.items;
   ledger = fields.charges;
   links = fields.links;
   lists = fields.lists.items;
-  list_notes = fields.list_log;
   frame_seat = fields.frame_seat;
   stock_seat = fields.stock_seat;
   killed = fields.killed.items;
@@ -28,4 +26,4 @@ machine_of fields = record {
 pub record IsSoundMachine {N : Type 0} (table : KnownTable) (stock_table : KnownStockTable) (fields : Inside N)
     : Type 0 where
   pub consistent : IsConsistent table stock_table (machine_of fields)
-  pub free : fields.zone.free ≡ free_of fields.frame_states.now
+  pub free : fields.zone.free ≡ free_of fields.frame_states.items

@@ -14,7 +14,6 @@ pub mod Marks
 pub mod Ageing
 pub mod Freeing
 pub mod Lists
-pub mod ListNotes
 pub mod Blocks
 pub mod Interleaving
 pub mod Agreeing

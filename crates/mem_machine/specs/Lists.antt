@@ -1,16 +1,10 @@
 -- How units join the lists of their groups and leave them.
-use Rattle.std.specs.Prelude.{◌≡◌, ◌≢◌, ℕ, Option, Some, None, List, [], ◌∷◌, ◌++◌, false}
-use Rattle.lru_lists.specs.declared.record.Entry.{Entry}
+use Rattle.std.specs.Prelude.{◌≡◌, ◌≢◌, ℕ, Some, None, [], ◌∷◌, ◌++◌, false}
 use Rattle.lru_lists.specs.declared.record.LruList.{LruList}
 use Rattle.lru_lists.specs.declared.record.LruList.TheVariants.{Inactive}
 use Rattle.lru_lists.specs.Queue.{link_at, nowhere, SameUse}
-use Rattle.lru_lists.specs.Lists.{inactive_of, active_of, entries_without, entries_behind}
+use Rattle.lru_lists.specs.Lists.{inactive_of, active_of, entries_without}
 use Rattle.mem_machine.specs.Machines.{KnownMachine, GroupLists, OthersStay, UnlistedStay, home_of, lists_at, lists_of}
-
--- the entries behind that of this unit; all of them if there is no such unit
-abbrev pub entries_since : Option ℕ → List Entry → List Entry
-entries_since None entries = entries
-entries_since (Some unit) entries = entries_behind unit entries
 
 -- The unit joins the newest end of its group's inactive list, clean and unmarked. Every other frame is on the list that
 -- it was on, if any. The lists of all other groups are the same, and each other frame on no list keeps its link.

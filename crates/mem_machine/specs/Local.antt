@@ -22,8 +22,7 @@ pub use Rattle.mem_machine.specs.Machines.{VisitState, visit_state}
 use Rattle.mem_machine.specs.declared.frame_state.FrameState.{FrameState}
 use Rattle.mem_machine.specs.declared.frame_state.FrameState.TheVariants.{Free, Lent, Head, Tail}
 use Rattle.mem_machine.specs.FrameStates.{frame_state_at}
-use Rattle.mem_machine.specs.Machines.{KnownMachine, is_killed, lists_of}
-use Rattle.mem_machine.specs.ListNotes.{NotesGoOn}
+use Rattle.mem_machine.specs.Machines.{KnownMachine, is_killed}
 use Rattle.mem_machine.specs.Following.{FollowsSteps}
 use Rattle.mem_machine.specs.Counting.{counts_along}
 
@@ -103,16 +102,13 @@ local_at table now = local_of table now.machine now.cpu
 
 -- These steps, of the CPU of this number and of the zone's seat, lead from one visit state to another. They are local
 -- steps between the two local states. The ledger's peaks and event counts follow them, and so do the machine's counts.
--- The machine's watch took them, in this order. No step takes a snapshot, and the notes say how the lists changed.
+-- The machine's watch took them, in this order.
 pub record MakesAs (table : KnownTable) (cpu_number : ℕ) (before : VisitState) (steps : Run)
     (after : VisitState) : Type 0 where
   pub leads : IsLocalRun cpu_number (local_at table before) steps (local_at table after)
   pub follows : FollowsSteps (local_at table before) before.machine.ledger steps after.machine.ledger
   pub counts : after.machine.counts ≡ counts_along (local_at table before) steps before.machine.counts
   pub watched : Watches before.machine.watch steps after.machine.watch
-  pub snapshot : after.machine.snapshot ≡ before.machine.snapshot
-  pub lists : NotesGoOn before.machine.list_notes after.machine.list_notes (lists_of before.machine)
-      (lists_of after.machine)
 
 -- these steps lead the CPU that holds the lock from one visit state to the other
 abbrev pub Makes : KnownTable → VisitState → Run → VisitState → Type 0

@@ -28,7 +28,6 @@ use Rattle.cpu_part.specs.Cpus.{KnownCpu}
 use Rattle.mem_machine.specs.declared.frame_state.FrameState.{FrameState}
 use Rattle.mem_machine.specs.declared.frame_state.FrameState.TheVariants.{Free}
 use Rattle.mem_machine.specs.declared.counts.Counts.{Counts}
-use Rattle.mem_machine.specs.declared.list_log.ListNote.{ListNote}
 use Rattle.step_watch.specs.Watched.{KnownWatch}
 use Rattle.kill_notes.specs.declared.note.Note.{Note}
 use Rattle.kill_notes.specs.Notes.{KnownNotes, forgotten, no_notes, noted}
@@ -39,19 +38,16 @@ use Rattle.mem_machine.specs.Counts.{no_counts}
 use Rattle.mem_machine.specs.FrameStates.{AreUnits, frame_state_at, free_of, is_in_hand, some_cpu, lent_to}
 use Rattle.mem_machine.specs.FrameStates.{frame_state_group, head_group_of, one_if_is}
 
--- The machine holds the free areas, a record for each frame, and the groups with their charges. Its snapshot is what
--- the records were when it was taken; it is empty if none was. The machine holds the links of all kept units, and two
--- lists for each group number. It notes how these changed since the snapshot, unless that was too much. It holds the zone's seats at the two tables, and which group numbers are killed. It
--- counts how units ended, how many were freed and how many were missed. It holds the notes since the last
--- `forget_notes`, and the watch, which takes each step right behind it.
+-- The machine holds the free areas, a record for each frame, and the groups with their charges. It holds the links of
+-- all kept units, and two lists for each group number. It holds the zone's seats at the two tables, and which group
+-- numbers are killed. It counts how units ended, how many were freed and how many were missed. It holds the notes since
+-- the last `forget_notes`, and the watch, which takes each step right behind it.
 pub record KnownMachine : Type 0 where
   pub blocks : List Block
   pub frame_states : List FrameState
-  pub snapshot : List FrameState
   pub ledger : Ledger
   pub links : List Link
   pub lists : List Lru
-  pub list_notes : Option (List ListNote)
   pub frame_seat : KnownSeat
   pub stock_seat : KnownStockSeat
   pub killed : List Bool
@@ -74,10 +70,6 @@ with_unit_notes machine is_on = record machine { notes = record machine.notes { 
 -- the machine with another watch
 abbrev pub with_watch : KnownMachine → KnownWatch → KnownMachine
 with_watch machine watch = record machine { watch = watch }
-
--- the machine, with the records of now as its snapshot, and with no change of a list noted since
-abbrev pub with_snapshot : KnownMachine → KnownMachine
-with_snapshot machine = record machine { snapshot = machine.frame_states; list_notes = Some [] }
 
 -- an empty list
 abbrev pub no_queue : Queue

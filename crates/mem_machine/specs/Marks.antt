@@ -11,7 +11,7 @@ pub record Dirties (frame : ℕ) (is_dirty : Bool) (before after : KnownMachine)
   pub group : ℕ
   pub list : LruList
   pub home : home_of before.links frame ≡ Some (record { owner = group; list = list })
-  pub machine : after ≡ record before { links = after.links; list_notes = after.list_notes }
+  pub machine : after ≡ record before { links = after.links }
   pub inactive : inactive_in after group ≡ changed_at frame (dirtied is_dirty) (inactive_in before group)
   pub active : active_in after group ≡ changed_at frame (dirtied is_dirty) (active_in before group)
   pub others : OthersStay group (lists_of before) (lists_of after)
@@ -22,7 +22,7 @@ pub record TouchesUnit (frame : ℕ) (touched : Touched) (before after : KnownMa
   pub group : ℕ
   pub list : LruList
   pub home : home_of before.links frame ≡ Some (record { owner = group; list = list })
-  pub machine : after ≡ record before { links = after.links; lists = after.lists; list_notes = after.list_notes }
+  pub machine : after ≡ record before { links = after.links; lists = after.lists }
   pub touches : Touches before.links (lists_at before.lists group) frame touched
       after.links (lists_at after.lists group)
   pub others : OthersStay group (lists_of before) (lists_of after)

@@ -25,7 +25,6 @@ pub record LeavesReferences (frame left : ℕ) (before after : KnownMachine) : T
   pub machine : after ≡ record before {
     links = after.links;
     lists = after.lists;
-    list_notes = after.list_notes;
     frame_seat = seat_with before.frame_seat frame (put_left left);
     watch = after.watch;
   }
@@ -44,7 +43,6 @@ pub record ReturnsUnit (frame : ℕ) (before after : KnownMachine) : Type 0 wher
     ledger = with_uncharge before.ledger unit.group (2 ^ unit.order);
     links = after.links;
     lists = after.lists;
-    list_notes = after.list_notes;
     frame_seat = seat_with before.frame_seat frame put_last;
     counts = with_last_put before.counts;
     watch = after.watch;

@@ -67,7 +67,6 @@ pub record KeepsFresh (group frame : ℕ) (before after : VisitState) : Type 0 w
     frame_states = slice_set before.machine.frame_states frame (Head (record { group = group; order = 0 }));
     links = after.machine.links;
     lists = after.machine.lists;
-    list_notes = after.machine.list_notes;
     frame_seat = seat_with before.machine.frame_seat frame (λ note. unfrozen 1 (collected_from before.cpu.number note));
     stock_seat = with_page_absorbed before.machine.stock_seat before.cpu.number;
     watch = after.machine.watch;

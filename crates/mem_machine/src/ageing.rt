@@ -7,7 +7,6 @@ ghost use Rattle.mem_machine.specs.Machines.{home_of};
 ghost use Rattle.mem_machine.specs.Ageing.{AgesGroup, RenewsUnit, entries_in};
 ghost use Rattle.mem_machine.specs.Local.{MakesForAny};
 
-use crate::lists::{age_lists, moved};
 use crate::machine::Machine;
 use cpu_part::BootName;
 use frame_word::Frame;
@@ -25,7 +24,7 @@ impl<N: BootName> Machine<N> {
         let owner = group.number() as usize;
         list_laws::others_stay_linked();
         list_laws::one_of_all_changes();
-        age_lists(&mut self.links, &mut self.lists[owner], &mut self.list_log);
+        self.lists[owner].age(&mut self.links);
     }
 
     /// Moves an inactive unit of a group, unmarked, to the newest end of the group's inactive list. `head` is the
@@ -41,7 +40,6 @@ impl<N: BootName> Machine<N> {
         list_laws::others_stay_linked();
         list_laws::one_of_all_changes();
         self.lists[owner].renew(&mut self.links, at);
-        self.list_log.note(moved(at));
     }
 
     /// How many units are on one of a group's lists.

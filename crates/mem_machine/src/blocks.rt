@@ -14,7 +14,6 @@ use frame_word::Frame;
 use group_charge::charges::Over;
 use group_tree::group::GroupId;
 use step_rules::phase::ChargedUnit;
-use tracked_vec::TrackedVec;
 use zone_blocks::block::Block;
 use zone_blocks::order::Order;
 
@@ -28,18 +27,17 @@ pub enum TakeFault {
 }
 
 // Records the block as a unit of the group: its first frame is the head, the others are tails.
-fn place_unit(frame_states: &mut TrackedVec<FrameState>, block: Block, group: GroupId)
-    requires { block.at + 2 ^ block.order ≤ length frame_states.old.now }
-    ensures places { PlacesUnit group block frame_states.old.now frame_states.new.now }
-    ensures snapshot { frame_states.new.snapshot ≡ frame_states.old.snapshot }
+fn place_unit(frame_states: &mut Vec<FrameState>, block: Block, group: GroupId)
+    requires { block.at + 2 ^ block.order ≤ length frame_states.old.items }
+    ensures { PlacesUnit group block frame_states.old.items frame_states.new.items }
 {
     let first = block.at as usize;
     let end = first + block.order.frames() as usize;
     for frame in first..end {
-        frame_states.set(frame, FrameState::Tail(group));
+        frame_states[frame] = FrameState::Tail(group);
     }
     let order = block.order;
-    frame_states.set(first, FrameState::Head(ChargedUnit { group, order }));
+    frame_states[first] = FrameState::Head(ChargedUnit { group, order });
 }
 
 impl<N: BootName> Machine<N> {
@@ -89,13 +87,7 @@ impl<N: BootName> Machine<N> {
         self.watch.placed(group, order, Block { at, order });
         tables.frames.unfreeze(&mut self.frame_seat, head, 1);
         self.watch.unfroze(at, 1);
-        join_list(
-            &mut self.links,
-            &mut self.lists,
-            &mut self.list_log,
-            group,
-            at,
-        );
+        join_list(&mut self.links, &mut self.lists, group, at);
         self.watch.published(at);
         Ok(head)
     }

@@ -30,12 +30,12 @@ impl<N: BootName> Machine<N> {
             return None;
         }
         self.watch.froze(at, 1);
-        let FrameState::Head(unit) = self.frame_states.get(at as usize) else {
+        let FrameState::Head(unit) = self.frame_states[at as usize] else {
             unreachable!()
         };
         let group = unit.group;
         let order = unit.order;
-        leave_list(&mut self.links, &mut self.lists, &mut self.list_log, at);
+        leave_list(&mut self.links, &mut self.lists, at);
         free_unit(
             &mut self.zone,
             &mut self.frame_states,

@@ -38,8 +38,7 @@ impl<N: BootName> Machine<N> {
             .frames
             .pass_out(&mut self.frame_seat, frame, cpu_number);
         self.watch.passed_out(at, cpu_number);
-        let lent = FrameState::Lent(cpu_number as u8);
-        self.frame_states.set(at as usize, lent);
+        self.frame_states[at as usize] = FrameState::Lent(cpu_number as u8);
         cpu.take_in(tables, &mut self.frame_seat, frame);
         self.watch.took_in(cpu_number, at);
         true
@@ -83,8 +82,7 @@ impl<N: BootName> Machine<N> {
             .frames
             .pass_out(&mut self.frame_seat, frame, cpu_number);
         self.watch.passed_out(given, cpu_number);
-        let lent = FrameState::Lent(cpu_number as u8);
-        self.frame_states.set(given as usize, lent);
+        self.frame_states[given as usize] = FrameState::Lent(cpu_number as u8);
         cpu.take_in(tables, &mut self.frame_seat, frame);
         self.watch.took_in(cpu_number, given);
     }
@@ -104,7 +102,7 @@ impl<N: BootName> Machine<N> {
         self.watch.passed_back(cpu_number, at);
         cpu.collect(tables, &mut self.frame_seat, frame);
         self.watch.collected(at, cpu_number);
-        self.frame_states.set(at as usize, FrameState::Free);
+        self.frame_states[at as usize] = FrameState::Free;
         self.zone.give(Block {
             at,
             order: Order::of(0).unwrap(),

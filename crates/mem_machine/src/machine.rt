@@ -1,6 +1,6 @@
 //! The machine: what it holds, how it is made, and how it is taken apart.
 
-ghost use Rattle.std.specs.Prelude.{◌≡◌, [], IfOk};
+ghost use Rattle.std.specs.Prelude.{◌≡◌, IfOk};
 ghost use Rattle.frame_word.specs.Seats.{first_zone_view};
 ghost use Rattle.step_watch.specs.Watched.{watch_off};
 ghost use Rattle.stock_word.specs.Stock.{first_zone_stock_view};
@@ -9,7 +9,6 @@ ghost use Rattle.mem_machine.specs.Machines.{IsConsistent, IsFirst};
 use crate::booked_seat::BookedSeat;
 use crate::counts::Counts;
 use crate::frame_state::FrameState;
-use crate::list_log::ListLog;
 use crate::start::{frame_parts, group_parts};
 use cpu_part::{BootName, Tables};
 use frame_word::FrameSeat;
@@ -21,7 +20,6 @@ use std::alloc::{AllocError, Global};
 use std::marker::{Model, PhantomData};
 use step_watch::Watch;
 use stock_word::StockSeat;
-use tracked_vec::TrackedVec;
 use zone_buddy::buddy::Buddy;
 
 /// All that lies behind the zone's lock. `IsConsistent` says what always holds of its parts together.
@@ -29,16 +27,14 @@ use zone_buddy::buddy::Buddy;
 pub struct Machine<N: BootName> {
     // The free areas: the maximal blocks of the frames whose record is Free.
     pub(crate) zone: Buddy,
-    // A record for each frame, by its number, and what the records were at the last snapshot.
-    pub(crate) frame_states: TrackedVec<FrameState>,
+    // A record for each frame, by its number.
+    pub(crate) frame_states: Vec<FrameState>,
     // The groups, with the pages charged to each: its frames, and the pages booked to its stocks.
     pub(crate) charges: Charges,
     // A link for each frame, by its number. Only the heads of kept units are linked into their groups' lists.
     pub(crate) links: Links,
     // The ends and lengths of the two lists of each of the 64 group numbers, by the number.
     pub(crate) lists: Vec<Lru>,
-    // What is noted of these lists since the last snapshot.
-    pub(crate) list_log: ListLog,
     // The zone's seat at the frames' table: which frames are in its hand, which frames it lent to which CPU, and its
     // references, one on the head of each kept unit.
     pub(crate) frame_seat: FrameSeat,
@@ -84,20 +80,17 @@ impl<N: BootName> Machine<N> {
         requires stock_seat { stock_seat ≡ record { table = N.stocks.table; view = first_zone_stock_view } }
         requires cpus { N.stocks.cpus ≡ N.frames.cpus }
         ensures first { IfOk result (λ machine. IsFirst N.frames N.stocks machine) }
-        ensures no_snapshot { IfOk result (λ machine. machine.snapshot ≡ []) }
         ensures off { IfOk result (λ machine. machine.watch ≡ watch_off) }
     {
         let (zone, frame_states, links) = frame_parts(alloc, tables.frames.frames())?;
         let (charges, lists, killed) = group_parts(alloc)?;
         let notes = Notes::new(alloc)?;
-        let list_log = ListLog::new(alloc)?;
         Ok(Machine {
             zone,
-            frame_states: TrackedVec::new(frame_states),
+            frame_states,
             charges,
             links,
             lists,
-            list_log,
             frame_seat,
             stock_seat: BookedSeat::new(stock_seat),
             killed,
@@ -127,7 +120,6 @@ impl<N: BootName> Machine<N> {
             charges: _,
             links: _,
             lists: _,
-            list_log: _,
             frame_seat,
             stock_seat,
             killed: _,

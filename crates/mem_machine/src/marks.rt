@@ -5,7 +5,6 @@ ghost use Rattle.mem_machine.specs.Machines.{HeadsKeptUnit};
 ghost use Rattle.mem_machine.specs.Marks.{Dirties, TouchesUnit};
 ghost use Rattle.mem_machine.specs.Local.{MakesForAny};
 
-use crate::list_log::ListNote;
 use crate::machine::Machine;
 use cpu_part::BootName;
 use frame_word::Frame;
@@ -30,10 +29,6 @@ impl<N: BootName> Machine<N> {
         let mut lists = self.lists[home.owner as usize];
         let touched = lists.touch(&mut self.links, at);
         self.lists[home.owner as usize] = lists;
-        self.list_log.note(ListNote {
-            unit: at,
-            has_moved: touched == Touched::Active,
-        });
         touched
     }
 
@@ -52,9 +47,5 @@ impl<N: BootName> Machine<N> {
         list_laws::others_stay_linked();
         list_laws::one_of_all_changes();
         lists.set_dirty(&mut self.links, at, is_dirty);
-        self.list_log.note(ListNote {
-            unit: at,
-            has_moved: false,
-        });
     }
 }

@@ -24,7 +24,7 @@ impl<N: BootName> Machine<N> {
         ensures place { result ≡ place_of (frame_state_at self.now.frame_states frame) }
         ensures consistent { IsConsistent N.frames N.stocks self.now }
     {
-        self.frame_states.get(frame.number() as usize).place()
+        self.frame_states[frame.number() as usize].place()
     }
 
     /// The records of all frames, by their numbers.
@@ -48,7 +48,7 @@ impl<N: BootName> Machine<N> {
         requires { frame < N.frames.frames }
         ensures { result ≡ unit_of (frame_state_at self.now.frame_states frame) }
     {
-        match self.frame_states.get(frame.number() as usize) {
+        match self.frame_states[frame.number() as usize] {
             FrameState::Head(unit) => Some(unit),
             _ => None,
         }

@@ -33,7 +33,7 @@ impl<N: BootName> Machine<N> {
         ensures steps { MakesForAny N.frames self.old (release_steps head result) self.new }
     {
         let at = head.number();
-        leave_list(&mut self.links, &mut self.lists, &mut self.list_log, at);
+        leave_list(&mut self.links, &mut self.lists, at);
         match tables.frames.put(&mut self.frame_seat, head) {
             Put::Left(left) => {
                 self.watch.put_left(at, left as u32);
@@ -41,7 +41,7 @@ impl<N: BootName> Machine<N> {
             }
             Put::Last => {
                 self.watch.put_last(at);
-                let FrameState::Head(unit) = self.frame_states.get(at as usize) else {
+                let FrameState::Head(unit) = self.frame_states[at as usize] else {
                     unreachable!()
                 };
                 free_unit(

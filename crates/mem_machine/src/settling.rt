@@ -51,15 +51,8 @@ impl<N: BootName> Machine<N> {
         tables.frames.unfreeze(&mut self.frame_seat, frame, 1);
         self.watch.unfroze(at, 1);
         let order = Order::of(0).unwrap();
-        let unit = ChargedUnit { group, order };
-        self.frame_states.set(at as usize, FrameState::Head(unit));
-        join_list(
-            &mut self.links,
-            &mut self.lists,
-            &mut self.list_log,
-            group,
-            at,
-        );
+        self.frame_states[at as usize] = FrameState::Head(ChargedUnit { group, order });
+        join_list(&mut self.links, &mut self.lists, group, at);
         self.watch.published(at);
         frame
     }
@@ -110,7 +103,7 @@ impl<N: BootName> Machine<N> {
         self.watch.passed_back(cpu_number, at);
         cpu.collect(tables, &mut self.frame_seat, frame);
         self.watch.collected(at, cpu_number);
-        let FrameState::Head(unit) = self.frame_states.get(at as usize) else {
+        let FrameState::Head(unit) = self.frame_states[at as usize] else {
             unreachable!()
         };
         free_unit(

@@ -1,11 +1,8 @@
 //! What the machine shows of a group's kept units.
 
-ghost use Rattle.std.specs.Prelude.{◌≡◌, ◌<◌, [], true};
+ghost use Rattle.std.specs.Prelude.{◌≡◌, ◌<◌, []};
 ghost use Rattle.frame_word.specs.ReferenceRule.{most_references};
-ghost use Rattle.lru_lists.specs.Lists.{entries_behind, kept_entry};
-ghost use Rattle.lru_lists.specs.Queue.{is_among};
-ghost use Rattle.mem_machine.specs.ListNotes.{units_on};
-ghost use Rattle.mem_machine.specs.Machines.{HeadsKeptUnit, StaysVisited, lists_of};
+ghost use Rattle.mem_machine.specs.Machines.{HeadsKeptUnit, StaysVisited};
 ghost use Rattle.mem_machine.specs.Showing.{entries_in, with_look_at};
 ghost use Rattle.mem_machine.specs.Local.{MakesForAny};
 
@@ -13,7 +10,7 @@ use crate::machine::Machine;
 use cpu_part::{BootName, Tables};
 use frame_word::Frame;
 use group_tree::group::GroupId;
-use lru_lists::record::{Entry, LruList};
+use lru_lists::record::LruList;
 use lru_lists::walk::Walk;
 
 impl<N: BootName> Machine<N> {
@@ -22,23 +19,6 @@ impl<N: BootName> Machine<N> {
         ensures { result ≡ entries_in self.now group list }
     {
         self.lists[group.number() as usize].entries(&self.links, list)
-    }
-
-    /// The units of one of a group's lists that are newer than this one, from the oldest to the newest. `head` is the
-    /// head of a unit on that list.
-    pub fn entries_behind(&self, group: GroupId, list: LruList, head: u32) -> Walk<'_>
-        requires { is_among (units_on (lists_of self.now) group list) head ≡ true }
-        ensures { result ≡ entries_behind head (entries_in self.now group list) }
-    {
-        self.lists[group.number() as usize].entries_behind(&self.links, list, head)
-    }
-
-    /// The frame as an entry of the list that holds it; None exactly if it heads no kept unit. A frame past the last one
-    /// heads none.
-    pub fn kept_entry(&self, frame: u32) -> Option<Entry>
-        ensures { result ≡ kept_entry self.now.links frame }
-    {
-        self.links.entry(frame)
     }
 
     /// How many references other than the zone's a kept unit has, by one load of its word: the pins of all CPUs at the

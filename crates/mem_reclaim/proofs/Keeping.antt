@@ -70,7 +70,7 @@ missed_still t a b c d first last only f h is home clean =
 
 -- ---- the lists of a group changed, and nothing else
 
-pub keeps_owners : (t : KnownTable) (m n : KnownMachine) → n ≡ record m { links = n.links; lists = n.lists; list_notes = n.list_notes } → SameOwners m.links n.links → Keeps t m n
+pub keeps_owners : (t : KnownTable) (m n : KnownMachine) → n ≡ record m { links = n.links; lists = n.lists } → SameOwners m.links n.links → Keeps t m n
 keeps_owners t m n is owners = record {
   stock_seat = ap (λ (x : KnownMachine). x.stock_seat) is;
   killed = ap (λ (x : KnownMachine). x.killed) is;

@@ -150,7 +150,7 @@ one_killed t limited g m b n had had_is kills marked drained stocks none_kept ke
       kills = record {
         steps = kills.steps;
         kills = record { killed = b; kills = kills.kills; noted = refl };
-        runs = λ c. record { leads = (kills.runs c).leads; follows = (kills.runs c).follows; counts = (kills.runs c).counts; watched = (kills.runs c).watched; snapshot = (kills.runs c).snapshot; lists = (kills.runs c).lists };
+        runs = λ c. record { leads = (kills.runs c).leads; follows = (kills.runs c).follows; counts = (kills.runs c).counts; watched = (kills.runs c).watched };
         these = record {
           killed = ap kills_in once.front ∙ ap (λ (l : List ℕ). g ∷ l) (quiet_kills once.later once.no_kill);
           no_miss = λ f.
@@ -289,7 +289,7 @@ subtree_killed t limited root m a b n noted so_a counted usage runs =
         kills = record { between = b; killing = killing; kills = so.kills.kills; counted = counted; steps_are = refl };
         runs = λ c.
             makes_both t c.number killing (note_group_kill_steps root) (visit_state m c) (visit_state b c) (visit_state n c)
-            (record { leads = (so.kills.runs c).leads; follows = (so.kills.runs c).follows; counts = (so.kills.runs c).counts; watched = (so.kills.runs c).watched; snapshot = (so.kills.runs c).snapshot; lists = (so.kills.runs c).lists }) (runs c);
+            (record { leads = (so.kills.runs c).leads; follows = (so.kills.runs c).follows; counts = (so.kills.runs c).counts; watched = (so.kills.runs c).watched }) (runs c);
         these = record {
           killed = kills_both killing (note_group_kill_steps root) ∙ append-nil (kills_in killing) ∙ these.killed;
           no_miss = λ f.
@@ -347,7 +347,7 @@ victim_killed t limited killed m a n told head_a flag flag_a so_flag =
         killed_root_is = subst (λ (x : KnownMachine). IsKilledRoot x.ledger.groups limited killed) told.machine head_a;
         steps = so.kills.steps;
         kills = so.kills.kills;
-        runs = λ c. record { leads = (so.kills.runs c).leads; follows = (so.kills.runs c).follows; counts = (so.kills.runs c).counts; watched = (so.kills.runs c).watched; snapshot = (so.kills.runs c).snapshot; lists = (so.kills.runs c).lists };
+        runs = λ c. record { leads = (so.kills.runs c).leads; follows = (so.kills.runs c).follows; counts = (so.kills.runs c).counts; watched = (so.kills.runs c).watched };
         these = record { killed = so.kills.these.killed; no_miss = so.kills.these.no_miss; returned = so.kills.these.returned };
       };
       marked = so.marked;

@@ -57,7 +57,7 @@ leads_after_note t freed m n note Does leads =
       steps = leads.steps;
       does = leads.does;
       moves = record {
-        runs = λ c. let r = k.runs c in record { leads = r.leads; follows = r.follows; counts = r.counts; watched = r.watched; snapshot = r.snapshot; lists = r.lists };
+        runs = λ c. let r = k.runs c in record { leads = r.leads; follows = r.follows; counts = r.counts; watched = r.watched };
         pages = k.pages;
         no_kill = k.no_kill;
         misses = k.misses;
@@ -108,7 +108,7 @@ round_noted t g number want m freed x n leads keeps noted =
           missed = leads.moves.missed;
         };
         moves = record {
-          runs = λ c. record { leads = (leads.moves.runs c).leads; follows = (leads.moves.runs c).follows; counts = (leads.moves.runs c).counts; watched = (leads.moves.runs c).watched; snapshot = (leads.moves.runs c).snapshot; lists = (leads.moves.runs c).lists };
+          runs = λ c. record { leads = (leads.moves.runs c).leads; follows = (leads.moves.runs c).follows; counts = (leads.moves.runs c).counts; watched = (leads.moves.runs c).watched };
           pages = leads.moves.pages;
           no_kill = leads.moves.no_kill;
           misses = leads.moves.misses;

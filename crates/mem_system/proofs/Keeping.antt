@@ -118,7 +118,7 @@ lowered_above t g limit m y x n over told of_y k =
         within = λ (less : current_of m.ledger g ≤ limit). absurd (omega (arith, over, less));
       };
       makes = λ c. makes_both t c.number b.steps k.steps (visit_state m c) (visit_state x c) (visit_state n c)
-          (record { leads = (b.makes c).leads; follows = (b.makes c).follows; counts = (b.makes c).counts; watched = (b.makes c).watched; snapshot = (b.makes c).snapshot; lists = (b.makes c).lists }) (k.makes c);
+          (record { leads = (b.makes c).leads; follows = (b.makes c).follows; counts = (b.makes c).counts; watched = (b.makes c).watched }) (k.makes c);
     }
 
 -- the usage is within it

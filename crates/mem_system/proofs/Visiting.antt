@@ -62,7 +62,7 @@ served t cmd l k c d reply entered mid x c1 c2 c3 opened same second third shut 
     let three : c3.number ≡ p = third ∙ two in
     let before : KnownMachine × KnownCpu → Type 0 = λ (y : KnownMachine × KnownCpu). MakesAs t p (visit_state l.machine c) (open_steps p) (visit_state y.0 y.1) in
     let begun : MakesAs t p (visit_state l.machine c) (open_steps p) (visit_state begins c) =
-    subst before (λ i. (opened i, same i)) (record { leads = first.leads; follows = first.follows; counts = first.counts; watched = first.watched; snapshot = first.snapshot; lists = first.lists }) in
+    subst before (λ i. (opened i, same i)) (record { leads = first.leads; follows = first.follows; counts = first.counts; watched = first.watched }) in
     let settled : Settles (visit_state begins c) (visit_state mid c2) = subst (λ (y : KnownMachine × KnownCpu). Settles (visit_state y.0 y.1) (visit_state mid c2)) (λ i. (opened i, same i)) settles in
     let rested : MakesAs t p (visit_state begins c) (settle_steps (visit_state begins c)) (visit_state mid c2) =
     subst (λ (y : KnownMachine × KnownCpu). MakesAs t y.1.number (visit_state y.0 y.1) (settle_steps (visit_state y.0 y.1)) (visit_state mid c2)) (λ i. (opened i, same i)) rests in

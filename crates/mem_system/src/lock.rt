@@ -1,10 +1,10 @@
 //! What lies behind the zone's lock.
 
-ghost use Rattle.std.specs.Prelude.{◌≡◌, ◌∷◌, [], OnErr, OnOk};
+ghost use Rattle.std.specs.Prelude.{◌≡◌, ◌∷◌, []};
 ghost use Rattle.group_tree.specs.Groups.{number_at};
 ghost use Rattle.group_charge.specs.Charges.{AreCharges};
 ghost use Rattle.step_watch.specs.Watched.{Watches};
-ghost use Rattle.mem_machine.specs.Machines.{IsConsistent, with_snapshot, with_unit_notes, with_watch};
+ghost use Rattle.mem_machine.specs.Machines.{IsConsistent, with_unit_notes, with_watch};
 ghost use Rattle.mem_machine.specs.Steps.{cpu_makes};
 ghost use Rattle.mem_system.specs.Locked.{IsQuiet};
 
@@ -13,7 +13,6 @@ use frame_word::FrameSeat;
 use group_charge::charges::Charges;
 use group_tree::group::GroupId;
 use mem_machine::Machine;
-use std::alloc::{AllocError, Global};
 use std::marker::Model;
 use step_rules::step::{Action, Answer};
 use step_watch::Watch;
@@ -81,14 +80,6 @@ impl<N: BootName> Locked<N> {
         ensures { self.new ≡ record self.old { machine = with_unit_notes self.old.machine is_on } }
     {
         self.machine.set_unit_notes(is_on);
-    }
-
-    /// Takes a snapshot of the records of all frames: the machine knows from then on which of them are written.
-    pub fn take_snapshot(&mut self, alloc: Global) -> Result<(), AllocError>
-        ensures taken { OnOk result (self.new ≡ record self.old { machine = with_snapshot self.old.machine }) }
-        ensures failed { OnErr result (self.new ≡ self.old) }
-    {
-        self.machine.take_snapshot(alloc)
     }
 
     /// Puts a watch into the machine. A boot does this before the first step.

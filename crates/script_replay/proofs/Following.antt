@@ -228,8 +228,6 @@ module _ (t : KnownTable) (w : KnownStockTable) (run : Run) (locked : KnownLocke
         follows = subst (λ (x : State). FollowsSteps x n.ledger is.steps after.locked.machine.ledger) same is.makes.follows;
         counts = is.makes.counts ∙ ap (λ (x : State). counts_along x is.steps n.counts) same;
         watched = is.makes.watched;
-        snapshot = is.makes.snapshot;
-        lists = is.makes.lists;
       } in
       let serves : ServesAt t cpus k (visit_state n c) is.steps (visit_state after.locked.machine after.cpu) = record {
         is_part = is_part;

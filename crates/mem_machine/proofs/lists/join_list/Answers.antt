@@ -1,5 +1,4 @@
 use Rattle.std.proofs.Common.{rules}
-use Rattle.mem_machine.proofs.ListNotes.{notes_of}
 use Rattle.mem_machine.proofs.Joins.{join_all}
 use Rattle.mem_machine.proofs.lists.join_list.Goals as goal
 
@@ -8,11 +7,6 @@ returns c =
     let a = c.add.ensures in
     let all = join_all c.args.links.now c.args.lists.now.items c.args.group c.args.head _ c.number-owner.ensures.value c.number-owner.ensures.below
     c.requires.lists.groups c.requires.lists.stand _ _ c.index.ensures _ _
-    (record { stands = a.linked; owner = a.owner; inactive = a.inactive; active = a.active; changes = a.others; moves = a.moves; joined = a.joined; used = a.used })
-    c.others_stay_linked.ensures c.one_of_all_changes.ensures c.requires.away in
-    record {
-      joins = all.all.joins;
-      lists = record { groups = all.all.groups; stand = all.all.stand };
-      frames = search rules;
-      noted = notes_of _ _ c.moved.ensures _ _ _ _ c.note.ensures all.follow;
-    }
+    (record { stands = a.linked; owner = a.owner; inactive = a.inactive; active = a.active; changes = a.others; moves = a.moves; joined = a.joined })
+    c.others_stay_linked.ensures c.one_of_all_changes.ensures in
+    record { joins = all.joins; lists = record { groups = all.groups; stand = all.stand }; frames = search rules }

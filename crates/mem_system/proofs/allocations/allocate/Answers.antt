@@ -1,11 +1,10 @@
-use Rattle.std.proofs.Common.{◌≡◌, ◌≤◌, ◌<◌, ℕ, Some, None, [], refl, subst, rules}
+use Rattle.std.proofs.Common.{◌≡◌, ◌≤◌, ℕ, Some, subst, rules}
 use Rattle.group_tree.specs.Groups.{number_at}
 use Rattle.mem_system.specs.Allocations.{Allocates, FreshOf, outcome_of}
 use Rattle.mem_system.specs.Outcomes.{reply_of}
 use Rattle.mem_system.proofs.Found.{found_there}
 use Rattle.mem_system.proofs.Allocating.{allocated, has_groups}
 use Rattle.mem_machine.specs.Local.{visit_state}
-use Rattle.mem_machine.proofs.Followed.{makes_none}
 use Rattle.mem_system.specs.Commands.{BySteps, transition}
 use Rattle.mem_system.proofs.allocations.allocate.Goals as goal
 
@@ -42,20 +41,4 @@ returns-clause-fresh g c =
     c.allocate_as-answer.ensures.fresh)
 
 pub returns-in_default-of-clause-allocates : goal.returns-in_default-of-clause-allocates
-returns-in_default-of-clause-allocates g c =
-    let found : number_at c.args.machine.now.ledger.groups c.args.path.now ≡ Some c.in-Some.group = search rules in
-    let above : 10 < c.args.order = search rules in
-    record {
-      steps = [];
-      does = record { group = c.in-Some.group; found = found; above = above; stays = record { machine = refl; cpu = refl; steps_are = refl } };
-      makes = makes_none g.N.BootName.frames c.args.cpu.now.number (visit_state c.args.machine.now c.args.cpu.now);
-    }
-
-pub returns-in_default-clause-allocates : goal.returns-in_default-clause-allocates
-returns-in_default-clause-allocates g c =
-    let none : number_at c.args.machine.now.ledger.groups c.args.path.now ≡ None = search rules in
-    record {
-      steps = [];
-      does = (none, record { machine = refl; cpu = refl; steps_are = refl });
-      makes = makes_none g.N.BootName.frames c.args.cpu.now.number (visit_state c.args.machine.now c.args.cpu.now);
-    }
+returns-in_default-of-clause-allocates g c = search rules

@@ -1,11 +1,10 @@
-use Rattle.std.proofs.Common.{rules, ◌≡◌, ℕ, None, [], ◌∙◌, ap, refl, sym, subst}
+use Rattle.std.proofs.Common.{rules, ℕ, ◌∙◌, ap, refl, sym, subst}
 use Rattle.std.proofs.lemmas.Bool.{false≢true}
 use Rattle.mem_system.specs.Commands.{BySteps}
 use Rattle.mem_system.specs.Releases.{ReturnsFrames}
 use Rattle.mem_system.proofs.Listing.{returned_single, returned_block}
 use Rattle.mem_system.proofs.releases.release_frame.Goals.{then-is_single, else-is_single}
-use Rattle.mem_machine.specs.Machines.{KeepsVisit, KnownMachine, home_of}
-use Rattle.mem_machine.proofs.Followed.{makes_none}
+use Rattle.mem_machine.specs.Machines.{KeepsVisit, KnownMachine}
 use Rattle.mem_machine.specs.Local.{visit_state}
 use Rattle.mem_system.proofs.releases.release_frame.Goals as goal
 
@@ -48,12 +47,3 @@ returns-after-is_single-clause-stays g c =
           rw (w.machine-is, w.cpu-is) both
       | else-is_single w ↦ rw (w.machine-is, w.cpu-is) first
     ]
-
-pub returns-in_default-clause-released : goal.returns-in_default-clause-released
-returns-in_default-clause-released g c =
-    let none : home_of c.args.machine.now.links c.args.frame ≡ None = search rules in
-    record {
-      steps = [];
-      does = record { does = record { on_no_list = none; stays = record { machine = refl; steps_are = refl } }; cpu = refl };
-      makes = makes_none g.N.BootName.frames c.args.cpu.now.number (visit_state c.args.machine.now c.args.cpu.now);
-    }

@@ -4,7 +4,7 @@ use Rattle.lru_lists.specs.declared.record.Entry.{Entry}
 use Rattle.lru_lists.specs.declared.record.LruList.TheVariants.{Inactive, Active}
 use Rattle.lru_lists.specs.Queue.{nowhere}
 use Rattle.lru_lists.proofs.Records.{set_same}
-use Rattle.lru_lists.proofs.Pairs.{forgotten_stands, forgotten_entries, forgotten_moves, moves_both, own_after_push, written_use, use_both}
+use Rattle.lru_lists.proofs.Pairs.{forgotten_stands, forgotten_entries, forgotten_moves, moves_both, own_after_push}
 use Rattle.lru_lists.proofs.lru.Lru.add.Goals as goal
 
 pub push-requires-clause-linked : goal.push-requires-clause-linked
@@ -35,8 +35,3 @@ pub returns-clause-moves : goal.returns-clause-moves
 returns-clause-moves c =
     moves_both c.args.links.now c.clear.new.self c.push.new.links c.args.self.now.owner c.args.unit
     (rw c.clear.ensures (forgotten_moves c.args.links.now c.args.self.now.owner c.args.unit)) c.push.ensures.moves
-
-pub returns-clause-used : goal.returns-clause-used
-returns-clause-used c =
-    use_both c.args.links.now c.clear.new.self c.push.new.links c.args.unit
-    (rw c.clear.ensures (written_use c.args.links.now c.args.unit nowhere)) c.push.ensures.used

@@ -2,8 +2,7 @@ use Rattle.std.proofs.Common.{◌≡◌, ◌<◌, ◌≤◌, ◌+◌, ◌-◌, �
 use Rattle.std.proofs.lemmas.Bool.{cases_lt}
 use Rattle.std.proofs.lemmas.List.{drop-drop, length-append, length-drop, length-map, length-take-le}
 use Rattle.lru_lists.specs.declared.record.LruList.TheVariants.{Inactive, Active}
-use Rattle.lru_lists.specs.Lists.{home_of, inactive_of, active_of, marked}
-use Rattle.lru_lists.proofs.Leaving.{left_in_both}
+use Rattle.lru_lists.specs.Lists.{inactive_of, active_of, marked}
 use Rattle.lru_lists.proofs.Pairs.{len_is, ages_step, keeps_both, owners_both}
 use Rattle.lru_lists.proofs.lru.Lru.age.Goals as goal
 
@@ -44,8 +43,6 @@ loop-self-preserved c =
       keeps = keeps_both c.args.links.now c.loop-self.links c.demote.new.links c.args.self.now.owner inv.keeps
           (rw (← inv.owner) d.keeps);
       owners = owners_both c.args.links.now c.loop-self.links c.demote.new.links inv.owners d.owners;
-      stay = left_in_both c.args.links.now c.loop-self.links c.demote.new.links (home_of c.args.self.now Active) inv.stay
-          (rw (← inv.owner) d.stay);
       moved = (
         k + 1,
         ages_step c.args.links.now c.loop-self.links c.demote.new.links c.args.self.now c.loop-self.self c.demote.new.self k inv.moved.1 d.inactive inv.moved.2,
@@ -66,6 +63,3 @@ returns-clause-ages c =
       enough = rw (← e1, ← e2) c.loop-self-test.false;
       fewest = inv.moved.3;
     }
-
-pub returns-clause-stay : goal.returns-clause-stay
-returns-clause-stay c = c.loop-self.invariant.stay

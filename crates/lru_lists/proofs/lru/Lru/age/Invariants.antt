@@ -1,6 +1,5 @@
 use Rattle.std.proofs.Common.{◌≡◌, ◌<◌, ◌+◌, ◌-◌, ◌++◌, ℕ, false, length, map, take, drop}
-use Rattle.lru_lists.specs.declared.record.LruList.TheVariants.{Active}
-use Rattle.lru_lists.specs.Lists.{AreLinked, ChangesOnlyLeavers, KeepsUnits, SameOwners, home_of, inactive_of, active_of, marked}
+use Rattle.lru_lists.specs.Lists.{AreLinked, KeepsUnits, SameOwners, inactive_of, active_of, marked}
 use Rattle.lru_lists.proofs.lru.Lru.age.Given as goal
 
 abbrev pub decreases-loop-self : goal.decreases-loop-self
@@ -12,7 +11,6 @@ invariant-loop-self l = record {
   owner : l.self.owner ≡ l.fn.self.owner;
   keeps : KeepsUnits l.fn.links l.links l.fn.self.owner;
   owners : SameOwners l.fn.links l.links;
-  stay : ChangesOnlyLeavers l.fn.links l.links (home_of l.fn.self Active);
   moved : (k : ℕ) × (inactive_of l.links l.self ≡ inactive_of l.fn.links l.fn.self ++ map (marked false) (take k (active_of l.fn.links l.fn.self)))
       × (active_of l.links l.self ≡ drop k (active_of l.fn.links l.fn.self))
       × ((j : ℕ) → j < k → length (inactive_of l.fn.links l.fn.self) + j < length (active_of l.fn.links l.fn.self) - j);

@@ -2,7 +2,6 @@ use Rattle.std.proofs.Common.{◌≡◌, ◌≢◌, ◌∙◌, ℕ, List, None, 
 use Rattle.lru_lists.specs.declared.record.LruList.TheVariants.{Inactive, Active}
 use Rattle.lru_lists.specs.Queue.{link_at, units_of}
 use Rattle.lru_lists.specs.Lists.{home_of, list_of}
-use Rattle.lru_lists.proofs.Leaving.{one_left}
 use Rattle.lru_lists.proofs.Linking.{within}
 use Rattle.lru_lists.proofs.Pairs.{oldest_first, entries_first, some_oldest, list_at_home, other_lacks, homes_differ}
 use Rattle.std.specs.Option.{IsSome}
@@ -59,15 +58,3 @@ returns-clause-active c =
     let first = sym l.oldest ∙ c.unwrap-oldest.ensures in
     let ne : Active ≢ Inactive = λ e. cc in
     c.move_to.ensures.lost Active ne ∙ (entries_first c.args.links.now c.unwrap-oldest.result xs first).0
-
-pub returns-clause-stay : goal.returns-clause-stay
-returns-clause-stay c =
-    let l = c.requires.linked Active in
-    let xs : List ℕ = units_of c.args.links.now c.args.self.now.active in
-    let i = (oldest_first xs c.unwrap-oldest.result (sym l.oldest ∙ c.unwrap-oldest.ensures)).2 in
-    let ne : Active ≢ Inactive = λ e. cc in
-    let gone : (link_at c.move_to.new.links c.unwrap-oldest.result).home ≢ Some (home_of c.args.self.now Active) =
-    λ h. let k : Some (home_of c.args.self.now Inactive) ≡ Some (home_of c.args.self.now Active) = sym c.move_to.ensures.unit ∙ h in
-    homes_differ c.args.self.now Inactive Active ne (let w : home_of c.args.self.now Inactive ≡ home_of c.args.self.now Active = cc in w) in
-    one_left c.args.links.now c.move_to.new.links (home_of c.args.self.now Active) c.unwrap-oldest.result c.move_to.ensures.used
-    (l.homes c.unwrap-oldest.result i) gone

@@ -1,7 +1,7 @@
 use Rattle.std.proofs.Common.{◌∙◌, refl, ap}
 use Rattle.lru_lists.specs.Queue.{link_at}
 use Rattle.lru_lists.specs.Lists.{owner_of}
-use Rattle.lru_lists.proofs.Pairs.{unlinked_each, home_of_list, entry_unlinked, moved_owners, use_both}
+use Rattle.lru_lists.proofs.Pairs.{unlinked_each, home_of_list, entry_unlinked, moved_owners}
 use Rattle.lru_lists.proofs.lru.Lru.move_to.Goals as goal
 
 pub returns-clause-gained : goal.returns-clause-gained
@@ -22,7 +22,3 @@ pub returns-clause-owners : goal.returns-clause-owners
 returns-clause-owners c =
     moved_owners c.args.links.now c.unlink_keeping_flags.new.links c.push.new.links c.args.self.now c.unlink_keeping_flags.new.self.owner c.list-from.result c.args.list c.args.unit
     c.list-from.ensures c.unlink_keeping_flags.ensures.used c.unlink_keeping_flags.ensures.unit c.push.ensures.used c.unlink_keeping_flags.ensures.owner (ap owner_of c.push.ensures.unit) c.push.ensures.dirt
-
-pub returns-clause-used : goal.returns-clause-used
-returns-clause-used c =
-    use_both c.args.links.now c.unlink_keeping_flags.new.links c.push.new.links c.args.unit c.unlink_keeping_flags.ensures.used c.push.ensures.used

@@ -16,6 +16,3 @@ returns-clause-active c =
     λ h. let k : Some (home_of c.args.self.now Inactive) ≡ Some (home_of c.args.self.now Active) = sym there ∙ h in
     homes_differ c.args.self.now Inactive Active ne (let w : home_of c.args.self.now Inactive ≡ home_of c.args.self.now Active = cc in w) in
     c.move_to.ensures.lost Active ne ∙ other_lacks c.args.links.now c.args.self.now Active c.args.unit c.requires.linked away
-
-pub returns-clause-used : goal.returns-clause-used
-returns-clause-used c = c.move_to.ensures.used

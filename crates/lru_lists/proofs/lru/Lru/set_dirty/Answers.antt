@@ -1,7 +1,7 @@
 use Rattle.std.proofs.Common.{refl}
 use Rattle.lru_lists.specs.Queue.{link_at}
 use Rattle.lru_lists.specs.Lists.{dirtied}
-use Rattle.lru_lists.proofs.Pairs.{remarked_stands, remarked_entries, written_use}
+use Rattle.lru_lists.proofs.Pairs.{remarked_stands, remarked_entries}
 use Rattle.lru_lists.proofs.lru.Lru.set_dirty.Goals as goal
 
 pub returns-clause-linked : goal.returns-clause-linked
@@ -15,8 +15,3 @@ returns-clause-entries c =
     (remarked_entries c.args.links.now c.args.self.now c.args.unit (record (link_at c.args.links.now c.args.unit) { is_dirty = c.args.is_dirty })
     (dirtied c.args.is_dirty) c.requires.linked
     (refl, refl, refl) c.requires.frame refl)
-
-pub returns-clause-used : goal.returns-clause-used
-returns-clause-used c =
-    rw c.set_dirty.ensures
-    (written_use c.args.links.now c.args.unit (record (link_at c.args.links.now c.args.unit) { is_dirty = c.args.is_dirty }))

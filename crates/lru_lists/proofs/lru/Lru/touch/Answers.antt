@@ -2,7 +2,7 @@ use Rattle.std.proofs.Common.{◌≢◌, true, sym, ◌∙◌, refl}
 use Rattle.lru_lists.specs.declared.record.LruList.TheVariants.{Inactive, Active}
 use Rattle.lru_lists.specs.Queue.{link_at}
 use Rattle.lru_lists.specs.Lists.{list_of, marked}
-use Rattle.lru_lists.proofs.Pairs.{remarked_stands, remarked_entries, other_unchanged, home_of_list, marks_true, marks_false, marked_owners, written_use}
+use Rattle.lru_lists.proofs.Pairs.{remarked_stands, remarked_entries, other_unchanged, home_of_list, marks_true, marks_false, marked_owners}
 use Rattle.lru_lists.proofs.lru.Lru.touch.Goals as goal
 
 pub returns-then-is_marked_by_touch-clause-linked : goal.returns-then-is_marked_by_touch-clause-linked
@@ -38,11 +38,3 @@ returns-else-is_marked_by_touch-clause-touches c =
 
 pub returns-then-is_marked_by_touch-clause-owners : goal.returns-then-is_marked_by_touch-clause-owners
 returns-then-is_marked_by_touch-clause-owners c = rw c.set_marked.ensures (marked_owners c.args.links.now c.args.unit true)
-
-pub returns-then-is_marked_by_touch-clause-used : goal.returns-then-is_marked_by_touch-clause-used
-returns-then-is_marked_by_touch-clause-used c =
-    rw c.set_marked.ensures
-    (written_use c.args.links.now c.args.unit (record (link_at c.args.links.now c.args.unit) { is_marked = true }))
-
-pub returns-else-is_marked_by_touch-clause-used : goal.returns-else-is_marked_by_touch-clause-used
-returns-else-is_marked_by_touch-clause-used c = c.move_to.ensures.used

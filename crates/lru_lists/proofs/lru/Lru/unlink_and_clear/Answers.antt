@@ -1,7 +1,7 @@
 use Rattle.std.proofs.Common.{slice_set}
 use Rattle.lru_lists.specs.declared.record.LruList.TheVariants.{Inactive, Active}
 use Rattle.lru_lists.specs.Queue.{nowhere}
-use Rattle.lru_lists.proofs.Pairs.{AfterUnlinkAndClear, after_unlink_and_clear, forgotten_moves, moves_both, written_use, use_both}
+use Rattle.lru_lists.proofs.Pairs.{AfterUnlinkAndClear, after_unlink_and_clear, forgotten_moves, moves_both, forgotten_use, use_both}
 use Rattle.lru_lists.proofs.lru.Lru.unlink_and_clear.Goals as goal
 
 pub returns-clause-linked : goal.returns-clause-linked
@@ -36,4 +36,4 @@ returns-clause-moves c =
 pub returns-clause-used : goal.returns-clause-used
 returns-clause-used c =
     use_both c.args.links.now c.unlink_keeping_flags.new.links c.clear.new.self c.args.unit c.unlink_keeping_flags.ensures.used
-    (rw c.clear.ensures (written_use c.unlink_keeping_flags.new.links c.args.unit nowhere))
+    (rw c.clear.ensures (forgotten_use c.unlink_keeping_flags.new.links c.args.unit))

@@ -1,29 +1,24 @@
 use Rattle.mem_machine.proofs.OneGroup.{change_all, ages_group}
-use Rattle.mem_machine.proofs.Aged.{age_steps}
 use Rattle.mem_machine.proofs.machine.Machine.age.Goals as goal
 
 pub invariant_of-self : goal.invariant_of-self
 invariant_of-self g c =
-    let a = c.age_lists.ensures in record {
+    let a = c.age.ensures in record {
       consistent = (change_all g.N.BootName.frames g.N.BootName.stocks _ _ c.self.view_is c.self.invariant.consistent c.args.group _ c.number-owner.ensures.below
-          c.number-owner.ensures.value _ _ c.index_mut.ensures.value _ _ c.age_lists.new.log a.linked a.owner a.others a.owners c.others_stay_linked.ensures
+          c.number-owner.ensures.value _ _ c.index_mut.ensures.value _ _ a.linked a.owner a.others a.owners c.others_stay_linked.ensures
           c.one_of_all_changes.ensures).consistent;
       free = c.self.invariant.free;
     }
 
 pub returns-clause-ages : goal.returns-clause-ages
 returns-clause-ages g c =
-    let a = c.age_lists.ensures in
+    let a = c.age.ensures in
     ages_group g.N.BootName.frames g.N.BootName.stocks _ _ c.self.view_is c.args.group _ _ _
     (change_all g.N.BootName.frames g.N.BootName.stocks _ _ c.self.view_is c.self.invariant.consistent c.args.group _ c.number-owner.ensures.below
-    c.number-owner.ensures.value _ _ c.index_mut.ensures.value _ _ c.age_lists.new.log a.linked a.owner a.others a.owners c.others_stay_linked.ensures c.one_of_all_changes.ensures) a.ages
+    c.number-owner.ensures.value _ _ c.index_mut.ensures.value _ _ a.linked a.owner a.others a.owners c.others_stay_linked.ensures c.one_of_all_changes.ensures) a.ages
 
 pub returns-clause-steps : goal.returns-clause-steps
 returns-clause-steps g c =
-    let a = c.age_lists.ensures in
-    let all = change_all g.N.BootName.frames g.N.BootName.stocks _ _ c.self.view_is c.self.invariant.consistent c.args.group _ c.number-owner.ensures.below
-    c.number-owner.ensures.value _ _ c.index_mut.ensures.value _ _ c.age_lists.new.log a.linked a.owner a.others a.owners c.others_stay_linked.ensures
-    c.one_of_all_changes.ensures in
-    age_steps g.N.BootName.frames g.N.BootName.stocks _ _ c.self.view_is c.self.invariant.consistent c.args.group _ c.number-owner.ensures.below
-    c.number-owner.ensures.value _ _ _ all
-    (ages_group g.N.BootName.frames g.N.BootName.stocks _ _ c.self.view_is c.args.group _ _ _ all a.ages) a.stay a.noted
+    let a = c.age.ensures in
+    (change_all g.N.BootName.frames g.N.BootName.stocks _ _ c.self.view_is c.self.invariant.consistent c.args.group _ c.number-owner.ensures.below
+    c.number-owner.ensures.value _ _ c.index_mut.ensures.value _ _ a.linked a.owner a.others a.owners c.others_stay_linked.ensures c.one_of_all_changes.ensures).steps

@@ -11,4 +11,4 @@ returns-clause-steps g c = λ cpu.
     let made = subst (λ (x : KnownMachine). MakesAs g.N.BootName.frames cpu.number (visit_state c.args.self.now cpu)
     (drain_steps c.args.cpu (stock_group c.args.self.now c.args.cpu) c.drain_of-pages.result) (visit_state x cpu)) (sym c.self.view_is)
     (c.drain_of-pages.ensures.steps cpu) in
-    record { leads = made.leads; follows = made.follows; counts = made.counts; watched = made.watched; snapshot = made.snapshot; lists = made.lists }
+    record { leads = made.leads; follows = made.follows; counts = made.counts; watched = made.watched }

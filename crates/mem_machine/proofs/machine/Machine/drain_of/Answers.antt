@@ -8,7 +8,6 @@ use Rattle.step_rules.specs.After.{Run}
 use Rattle.mem_machine.specs.Steps.{drain_steps, zone_makes}
 use Rattle.mem_machine.proofs.Followed.{makes_watched}
 use Rattle.mem_machine.proofs.Watched.{consistent_still, drains_still}
-use Rattle.mem_machine.proofs.ListNotes.{notes_same}
 use Rattle.mem_machine.proofs.machine.Machine.drain_of.Goals as goal
 
 pub uncharge-requires-clause-there : goal.uncharge-requires-clause-there
@@ -56,7 +55,7 @@ returns-then-pages-gt0-clause-steps g c =
     c.drain-pages.ensures.booked c.drain-pages.ensures.drained_before (Some c.args.group) c.requires.group (some_not_none _ _) _ _
     c.uncharge.ensures.uncharged c.drain-pages.ensures.seat in
     λ cpu. makes_watched _ _ _ _ c.self.view_is cpu cpu _ _ (all.steps cpu) _
-    (subst (λ (o : Option ℕ). Watches c.self.inside.watch (drain_steps c.args.cpu o c.drain-pages.result) c.ungranted.new.self) (sym c.requires.group) took) refl (notes_same _ _)
+    (subst (λ (o : Option ℕ). Watches c.self.inside.watch (drain_steps c.args.cpu o c.drain-pages.result) c.ungranted.new.self) (sym c.requires.group) took)
 
 pub returns-else-pages-gt0 : goal.returns-else-pages-gt0
 returns-else-pages-gt0 g c =
@@ -71,7 +70,7 @@ returns-else-pages-gt0 g c =
       drains = drains_still _ _ _ _ _ _ all.drains;
       steps = λ cpu. makes_watched _ _ _ _ c.self.view_is cpu cpu _ _ (all.steps cpu) _
           (subst (λ (o : Option ℕ). Watches c.self.inside.watch (drain_steps c.args.cpu o c.drain-pages.result) c.drained.new.self)
-          (sym c.requires.group) took) refl (notes_same _ _);
+          (sym c.requires.group) took);
     }
 
 pub returns-then-pages-gt0-clause-drains : goal.returns-then-pages-gt0-clause-drains

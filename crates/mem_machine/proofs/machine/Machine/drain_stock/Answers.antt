@@ -1,4 +1,4 @@
-use Rattle.std.proofs.Common.{◌≡◌, ℕ, Option, None, ap, ◌∙◌, subst, refl}
+use Rattle.std.proofs.Common.{◌≡◌, ℕ, Option, None, ap, ◌∙◌, subst}
 use Rattle.mem_machine.proofs.Draining.{drained_looked, drained_never, looked_consistent, never_drained, runs_looked}
 use Rattle.step_watch.specs.Watched.{Watches}
 use Rattle.mem_machine.specs.Machines.{KnownMachine}
@@ -6,7 +6,6 @@ use Rattle.mem_machine.specs.Stocks.{stock_group}
 use Rattle.mem_machine.specs.Steps.{drain_steps}
 use Rattle.mem_machine.proofs.Followed.{makes_watched}
 use Rattle.mem_machine.proofs.Watched.{drains_still, consistent_still}
-use Rattle.mem_machine.proofs.ListNotes.{notes_same}
 use Rattle.mem_machine.proofs.machine.Machine.drain_stock.Goals as goal
 
 pub invariant_of-self : goal.invariant_of-self
@@ -27,7 +26,7 @@ returns-in-None g c =
     record {
       drains = drained_never _ _ _ c.self.view_is c.args.cpu c.in-None.ensures.group (drains_still _ _ _ _ _ _ all.drains);
       steps = λ cpu. makes_watched _ _ _ _ c.self.view_is cpu cpu _ _ (all.steps cpu) _
-          (subst (λ (o : Option ℕ). Watches c.self.inside.watch (drain_steps c.args.cpu o 0) c.drained.new.self) none c.drained.ensures) refl (notes_same _ _);
+          (subst (λ (o : Option ℕ). Watches c.self.inside.watch (drain_steps c.args.cpu o 0) c.drained.new.self) none c.drained.ensures);
     }
 
 pub invariant_of-self-in-Some : goal.invariant_of-self-in-Some

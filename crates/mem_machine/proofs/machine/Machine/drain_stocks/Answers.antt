@@ -1,10 +1,7 @@
 use Rattle.std.proofs.Common.{◌≡◌, ◌+◌, ℕ, sym, subst, rules, arith}
 use Rattle.mem_machine.specs.Stocks.{of_subtree}
-use Rattle.mem_machine.proofs.DrainingAll.{DrainedSoFar, drained_end, drained_more, drained_start}
+use Rattle.mem_machine.proofs.DrainingAll.{DrainedSoFar, drained_end, drained_more}
 use Rattle.mem_machine.proofs.machine.Machine.drain_stocks.Goals as goal
-
-pub loop-cpu_index-init : goal.loop-cpu_index-init
-loop-cpu_index-init g c = drained_start _ _ _
 
 pub loop-cpu_index-preserved : goal.loop-cpu_index-preserved
 loop-cpu_index-preserved g c =

@@ -1,10 +1,10 @@
-use Rattle.std.proofs.Common.{◌≡◌, ℕ, ◌<◌, rules, subst, refl}
+use Rattle.std.proofs.Common.{◌≡◌, ℕ, ◌<◌, rules, subst}
 use Rattle.mem_machine.proofs.Fresh.{drop_all, was_fresh, drop_charged, drop_in_use}
 use Rattle.step_watch.specs.Watched.{Watches}
 use Rattle.step_watch.proofs.Watching.{watches_both}
 use Rattle.mem_machine.specs.Settling.{drop_steps}
-use Rattle.mem_machine.proofs.Watched.{consistent_tracked, visits_tracked, makes_tracked, drops_tracked, snapshot_kept}
-use Rattle.mem_machine.proofs.ListNotes.{notes_same}
+use Rattle.mem_machine.proofs.Followed.{makes_watched}
+use Rattle.mem_machine.proofs.Watched.{consistent_still, drops_still, visits_still}
 use Rattle.mem_machine.proofs.machine.Machine.drop_one.Goals as goal
 
 pub free_unit-requires-clause-in_use : goal.free_unit-requires-clause-in_use
@@ -39,10 +39,7 @@ invariant_of-self g c =
     c.requires.visit _ _ c.self.invariant.free _ c.args.group was c.requires.killed e.cpu _ c.unwrap-order.result c.number-at.ensures k0 _ e.zone _ e.seat
     _ u.frame_states _ u.frames u.areas _ u.charges _
     c.with_killed_fresh-self-inside.ensures) in
-    record {
-      consistent = consistent_tracked _ _ _ (snapshot_kept c.self.inside.frame_states c.free_unit.new.frame_states c.free_unit.ensures.snapshot) _ _ all.consistent;
-      free = all.free_is;
-    }
+    record { consistent = consistent_still _ _ _ _ all.consistent; free = all.free_is }
 
 pub returns : goal.returns
 returns g c =
@@ -59,7 +56,7 @@ returns g c =
     let took = subst (λ (x : ℕ × ℕ). Watches c.self.inside.watch (drop_steps x.0 x.1) c.returned.new.self)
     (λ i. (c.number-cpu_number.ensures.number i, c.number-at.ensures i)) (watches_both _ _ _ _ _ c.watch_collected.ensures c.returned.ensures) in
     record {
-      drops = drops_tracked _ _ _ (snapshot_kept c.self.inside.frame_states c.free_unit.new.frame_states c.free_unit.ensures.snapshot) _ _ _ _ all.drops;
-      visit = visits_tracked _ _ _ (snapshot_kept c.self.inside.frame_states c.free_unit.new.frame_states c.free_unit.ensures.snapshot) _ _ all.visit;
-      steps = makes_tracked _ _ _ (snapshot_kept c.self.inside.frame_states c.free_unit.new.frame_states c.free_unit.ensures.snapshot) _ _ _ _ c.self.view_is _ _ _ all.steps took refl (notes_same _ _);
+      drops = drops_still _ _ _ _ _ _ all.drops;
+      visit = visits_still _ _ _ _ all.visit;
+      steps = makes_watched _ _ _ _ c.self.view_is _ _ _ _ all.steps _ took;
     }

@@ -1,13 +1,10 @@
-use Rattle.std.proofs.Common.{◌≡◌, ℕ, ◌<◌, rules, subst, ap, sym, ◌∙◌, refl}
+use Rattle.std.proofs.Common.{◌≡◌, ℕ, ◌<◌, rules, subst}
 use Rattle.mem_machine.proofs.Fresh.{keep_all, was_fresh, in_hand_then}
 use Rattle.step_watch.specs.Watched.{Watches}
 use Rattle.step_watch.proofs.Watching.{watches_both}
 use Rattle.mem_machine.specs.Settling.{keep_steps}
-use Rattle.mem_machine.proofs.Watched.{consistent_tracked, visits_tracked, makes_tracked, keeps_tracked}
-use Rattle.tracked_vec.specs.Tracked.{KnownTracked}
-use Rattle.mem_machine.specs.declared.frame_state.FrameState.{FrameState}
-use Rattle.mem_machine.specs.FrameStates.{free_of}
-use Rattle.mem_machine.proofs.Logged.{consistent_logged, keeps_logged, leads_logged, visits_logged}
+use Rattle.mem_machine.proofs.Followed.{makes_watched}
+use Rattle.mem_machine.proofs.Watched.{consistent_still, keeps_still, visits_still}
 use Rattle.mem_machine.proofs.machine.Machine.keep_one.Goals as goal
 
 pub unfreeze-requires-clause-hand : goal.unfreeze-requires-clause-hand
@@ -25,10 +22,7 @@ invariant_of-self g c =
     c.requires.visit _ c.self.invariant.free _ c.args.group was e.cpu _ c.unwrap-order.result c.number-at.ensures k0 _ _
     e.zone c.unfreeze.ensures.seat _ e.seat _ _
     (record { joins = a.joins; stand = a.lists.stand; frames = a.frames; groups = a.lists.groups })) in
-    record {
-      consistent = consistent_tracked _ _ _ c.set.ensures _ _ (consistent_logged _ c.join_list.new.log _ _ all.consistent);
-      free = all.free_is ∙ ap (λ (x : KnownTracked FrameState). free_of x.now) (sym c.set.ensures);
-    }
+    record { consistent = consistent_still _ _ _ _ all.consistent; free = all.free_is }
 
 pub returns : goal.returns
 returns g c =
@@ -45,7 +39,7 @@ returns g c =
     let took = subst (λ (x : ℕ × ℕ). Watches c.self.inside.watch (keep_steps x.0 x.1) c.published.new.self)
     (λ i. (c.number-cpu_number.ensures.number i, c.number-at.ensures i)) (watches_both _ _ _ _ _ c.watch_collected.ensures (watches_both _ _ _ _ _ c.unfroze.ensures c.published.ensures)) in
     record {
-      keeps = keeps_tracked _ _ _ c.set.ensures _ _ _ _ (keeps_logged _ c.join_list.new.log _ _ _ _ all.keeps);
-      visit = visits_tracked _ _ _ c.set.ensures _ _ (visits_logged _ c.join_list.new.log _ _ all.visit);
-      steps = makes_tracked _ _ _ c.set.ensures _ _ _ _ c.self.view_is _ _ _ (leads_logged _ c.join_list.new.log _ _ _ _ _ all.steps) took refl a.noted;
+      keeps = keeps_still _ _ _ _ _ _ all.keeps;
+      visit = visits_still _ _ _ _ all.visit;
+      steps = makes_watched _ _ _ _ c.self.view_is _ _ _ _ all.steps _ took;
     }

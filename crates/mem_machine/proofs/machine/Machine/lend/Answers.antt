@@ -1,14 +1,11 @@
-use Rattle.std.proofs.Common.{ℕ, subst, ap, sym, ◌∙◌, refl}
+use Rattle.std.proofs.Common.{ℕ, subst}
 use Rattle.mem_machine.proofs.Lends.{passes_to, lent_to_it}
 use Rattle.mem_machine.proofs.GivenFrames.{given_all, given_free, given_hand}
 use Rattle.step_watch.specs.Watched.{Watches}
 use Rattle.step_watch.proofs.Watching.{watches_both}
 use Rattle.mem_machine.specs.Steps.{lend_steps}
-use Rattle.mem_machine.proofs.Watched.{consistent_tracked, visits_tracked, makes_tracked, lends_tracked}
-use Rattle.tracked_vec.specs.Tracked.{KnownTracked}
-use Rattle.mem_machine.specs.declared.frame_state.FrameState.{FrameState}
-use Rattle.mem_machine.specs.FrameStates.{free_of}
-use Rattle.mem_machine.proofs.ListNotes.{notes_same}
+use Rattle.mem_machine.proofs.Followed.{makes_watched}
+use Rattle.mem_machine.proofs.Watched.{consistent_still, lends_still, visits_still}
 use Rattle.mem_machine.proofs.machine.Machine.lend.Goals as goal
 
 pub take_frame-requires : goal.take_frame-requires
@@ -33,10 +30,7 @@ invariant_of-self g c =
     let all = (given_all g.N.BootName.frames g.N.BootName.stocks _ _ c.self.view_is c.args.cpu.now _ c.number-cpu_number.ensures.tied c.self.invariant.consistent
     c.requires.visit _ _ _ c.args.frame _ c.number-cpu_number.result _ _ c.self.invariant.free c.requires.frame c.requires.free c.take_frame.ensures.frames c.take_frame.ensures.areas
     c.number-given.ensures c.number-cpu_number.ensures.number c.pass_out.ensures.zone c.take_in.ensures.zone c.take_in.ensures.cpu c.take_in.ensures.nothing.1.1) in
-    record {
-      consistent = consistent_tracked _ _ _ c.set.ensures _ _ all.consistent;
-      free = all.free_is ∙ ap (λ (x : KnownTracked FrameState). free_of x.now) (sym c.set.ensures);
-    }
+    record { consistent = consistent_still _ _ _ _ all.consistent; free = all.free_is }
 
 pub returns : goal.returns
 returns g c =
@@ -47,7 +41,7 @@ returns g c =
     (λ i. (c.number-cpu_number.ensures.number i, c.number-given.ensures i))
     (watches_both _ _ _ _ _ c.passed_out.ensures c.took_in.ensures) in
     record {
-      lends = lends_tracked _ _ _ c.set.ensures _ _ _ all.lends;
-      visit = visits_tracked _ _ _ c.set.ensures _ _ all.visit;
-      steps = makes_tracked _ _ _ c.set.ensures _ _ _ _ c.self.view_is _ _ _ all.steps took refl (notes_same _ _);
+      lends = lends_still _ _ _ _ _ all.lends;
+      visit = visits_still _ _ _ _ all.visit;
+      steps = makes_watched _ _ _ _ c.self.view_is _ _ _ _ all.steps _ took;
     }

@@ -1,14 +1,11 @@
-use Rattle.std.proofs.Common.{◌≡◌, ℕ, ◌<◌, ◌≤◌, rules, ap, subst, arith, sym, ◌∙◌, refl}
+use Rattle.std.proofs.Common.{◌≡◌, ℕ, ◌<◌, ◌≤◌, rules, ap, subst, arith}
 use Rattle.zone_buddy.specs.Zone.{Zone}
 use Rattle.mem_machine.proofs.Lends.{lend_all, lent_to_none, block_inside, zone_hand, passes_to, lent_to_it}
 use Rattle.step_watch.specs.Watched.{Watches}
 use Rattle.step_watch.proofs.Watching.{watches_both}
 use Rattle.mem_machine.specs.Steps.{lend_steps}
-use Rattle.mem_machine.proofs.Watched.{consistent_tracked, visits_tracked, makes_tracked, lends_one_tracked}
-use Rattle.tracked_vec.specs.Tracked.{KnownTracked}
-use Rattle.mem_machine.specs.declared.frame_state.FrameState.{FrameState}
-use Rattle.mem_machine.specs.FrameStates.{free_of}
-use Rattle.mem_machine.proofs.ListNotes.{notes_same}
+use Rattle.mem_machine.proofs.Followed.{makes_watched}
+use Rattle.mem_machine.proofs.Watched.{consistent_still, lends_one_still, visits_still}
 use Rattle.mem_machine.proofs.machine.Machine.lend_one.Goals as goal
 
 pub returns-in_default-clause-lends : goal.returns-in_default-clause-lends
@@ -39,10 +36,7 @@ invariant_of-self-2 g c =
     c.unwrap.result c.in-Some.block _ c.in-Some-frame.frame _ c.number-cpu_number.result _ _ c.self.invariant.free k0 c.in-Some.ensures.taken c.in-Some.ensures.frames
     c.in-Some.ensures.areas c.in-Some-frame.ensures.0 c.number-at.ensures c.number-cpu_number.ensures.number c.pass_out.ensures.zone c.take_in.ensures.zone
     c.take_in.ensures.cpu c.take_in.ensures.nothing.1.1) in
-    record {
-      consistent = consistent_tracked _ _ _ c.set.ensures _ _ all.consistent;
-      free = all.free_is ∙ ap (λ (x : KnownTracked FrameState). free_of x.now) (sym c.set.ensures);
-    }
+    record { consistent = consistent_still _ _ _ _ all.consistent; free = all.free_is }
 
 pub returns : goal.returns
 returns g c =
@@ -57,10 +51,10 @@ returns g c =
     record {
       lends = record {
         frame = c.in-Some-frame.frame;
-        lends = lends_one_tracked _ _ _ c.set.ensures _ _ _ all.lends;
-        steps = makes_tracked _ _ _ c.set.ensures _ _ _ _ c.self.view_is _ _ _ all.steps took refl (notes_same _ _);
+        lends = lends_one_still _ _ _ _ _ all.lends;
+        steps = makes_watched _ _ _ _ c.self.view_is _ _ _ _ all.steps _ took;
       };
-      visit = visits_tracked _ _ _ c.set.ensures _ _ all.visit;
+      visit = visits_still _ _ _ _ all.visit;
     }
 
 pub unreachable-requires : goal.unreachable-requires

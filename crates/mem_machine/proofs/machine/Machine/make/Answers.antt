@@ -1,8 +1,7 @@
-use Rattle.std.proofs.Common.{rules, ℕ, ◌<◌, false, length, arith, ap, refl}
+use Rattle.std.proofs.Common.{rules, ℕ, ◌<◌, false, length, arith, ap}
 use Rattle.std.specs.Prelude.{slice_set}
 use Rattle.mem_machine.proofs.GroupSteps.{made_runs}
 use Rattle.mem_machine.proofs.Followed.{makes_watched}
-use Rattle.mem_machine.proofs.ListNotes.{notes_same}
 use Rattle.mem_machine.proofs.machine.Machine.make.Goals as goal
 
 pub returns-clause-steps : goal.returns-clause-steps
@@ -14,7 +13,7 @@ returns-clause-steps g c =
     λ cpu. makes_watched _ _ _ _ c.self.view_is cpu cpu _ _
     (made_runs g.N.BootName.frames _ _ c.self.view_is _ _ c.in_ok-group.group c.args.path.now inside c.in_ok-group.ensures.refused
     c.tree-tree.ensures.legal c.in_ok-group.ensures.least
-    c.in_ok-group.ensures.made (ap (λ (n : ℕ). slice_set c.self.inside.killed.items n false) value) cpu) _ c.group_made.ensures refl (notes_same _ _)
+    c.in_ok-group.ensures.made (ap (λ (n : ℕ). slice_set c.self.inside.killed.items n false) value) cpu) _ c.group_made.ensures
 
 pub invariant_of-self : goal.invariant_of-self
 invariant_of-self g c = search rules

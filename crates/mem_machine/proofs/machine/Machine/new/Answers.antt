@@ -6,9 +6,9 @@ pub invariant_of-result : goal.invariant_of-result
 invariant_of-result g c =
     let sized : c.frames.result ≡ g.N.BootName.frames.frames = search rules in
     let kept = starts g.N.BootName.frames g.N.BootName.stocks _ _ c.frames.result
-    (first_is g.N.BootName.frames g.N.BootName.stocks _ c.frames.result sized (c.new-3.ensures.now ∙ c.in_ok-zone.ensures.frame_states) c.in_ok-charges.ensures.charges
+    (first_is g.N.BootName.frames g.N.BootName.stocks _ c.frames.result sized c.in_ok-zone.ensures.frame_states c.in_ok-charges.ensures.charges
     c.in_ok-zone.ensures.nowhere
-    c.requires.frame_seat (c.new-4.ensures ∙ c.requires.stock_seat) c.in_ok-charges.ensures.killed refl c.in_ok-notes.ensures)
+    c.requires.frame_seat (c.new-2.ensures ∙ c.requires.stock_seat) c.in_ok-charges.ensures.killed refl c.in_ok-notes.ensures)
     sized c.in_ok-zone.ensures.frames c.in_ok-charges.ensures.lists c.in_ok-zone.ensures.free
     c.in_ok-zone.ensures.areas c.requires.cpus in
     record { consistent = kept.0; free = kept.1 }
@@ -16,6 +16,6 @@ invariant_of-result g c =
 pub returns-clause-first : goal.returns-clause-first
 returns-clause-first g c =
     let sized : c.frames.result ≡ g.N.BootName.frames.frames = search rules in
-    first_is g.N.BootName.frames g.N.BootName.stocks _ c.frames.result sized (c.new-3.ensures.now ∙ c.in_ok-zone.ensures.frame_states) c.in_ok-charges.ensures.charges
+    first_is g.N.BootName.frames g.N.BootName.stocks _ c.frames.result sized c.in_ok-zone.ensures.frame_states c.in_ok-charges.ensures.charges
     c.in_ok-zone.ensures.nowhere
-    c.requires.frame_seat (c.new-4.ensures ∙ c.requires.stock_seat) c.in_ok-charges.ensures.killed refl c.in_ok-notes.ensures
+    c.requires.frame_seat (c.new-2.ensures ∙ c.requires.stock_seat) c.in_ok-charges.ensures.killed refl c.in_ok-notes.ensures

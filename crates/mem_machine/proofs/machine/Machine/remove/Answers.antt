@@ -2,7 +2,6 @@ use Rattle.std.proofs.Common.{rules, refl}
 use Rattle.mem_machine.proofs.GroupSteps.{removes}
 use Rattle.mem_machine.proofs.Usage.{usage_seen, balanced_alone}
 use Rattle.mem_machine.proofs.Followed.{makes_watched}
-use Rattle.mem_machine.proofs.ListNotes.{notes_same}
 use Rattle.mem_machine.proofs.machine.Machine.remove.Goals as goal
 
 pub returns-clause-steps : goal.returns-clause-steps
@@ -11,7 +10,7 @@ returns-clause-steps g c =
     (removes g.N.BootName.frames _ _ c.self.view_is c.args.cpu.now _ refl c.args.group c.requires.there
     c.requires.leaf c.requires.below_root c.requires.empty
     (usage_seen g.N.BootName.frames g.N.BootName.stocks _ _ c.self.view_is c.args.cpu.now c.self.invariant.consistent c.tree-tree.ensures.legal
-    c.requires.visit.lent c.number-cpu_number.ensures.tied (balanced_alone _ _ c.requires.none_fresh) c.args.group) _ c.remove.ensures.removed) _ c.zone_made.ensures refl (notes_same _ _)
+    c.requires.visit.lent c.number-cpu_number.ensures.tied (balanced_alone _ _ c.requires.none_fresh) c.args.group) _ c.remove.ensures.removed) _ c.zone_made.ensures
 
 pub invariant_of-self : goal.invariant_of-self
 invariant_of-self g c = search rules

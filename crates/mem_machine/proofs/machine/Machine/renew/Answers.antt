@@ -1,11 +1,11 @@
-use Rattle.mem_machine.proofs.OneGroup.{change_all, renews_unit, renew_steps}
+use Rattle.mem_machine.proofs.OneGroup.{change_all, renews_unit}
 use Rattle.mem_machine.proofs.machine.Machine.renew.Goals as goal
 
 pub invariant_of-self : goal.invariant_of-self
 invariant_of-self g c =
     let a = c.renew.ensures in record {
       consistent = (change_all g.N.BootName.frames g.N.BootName.stocks _ _ c.self.view_is c.self.invariant.consistent c.args.group _ c.number-owner.ensures.below
-          c.number-owner.ensures.value _ _ c.index_mut.ensures.value _ _ c.note.new.self a.linked a.owner a.others a.owners c.others_stay_linked.ensures
+          c.number-owner.ensures.value _ _ c.index_mut.ensures.value _ _ a.linked a.owner a.others a.owners c.others_stay_linked.ensures
           c.one_of_all_changes.ensures).consistent;
       free = c.self.invariant.free;
     }
@@ -15,16 +15,11 @@ returns-clause-renews g c =
     let a = c.renew.ensures in
     renews_unit g.N.BootName.frames g.N.BootName.stocks _ _ c.self.view_is c.args.group c.args.head _ c.number-at.ensures _ _ _
     (change_all g.N.BootName.frames g.N.BootName.stocks _ _ c.self.view_is c.self.invariant.consistent c.args.group _ c.number-owner.ensures.below
-    c.number-owner.ensures.value _ _ c.index_mut.ensures.value _ _ c.note.new.self a.linked a.owner a.others a.owners c.others_stay_linked.ensures c.one_of_all_changes.ensures)
+    c.number-owner.ensures.value _ _ c.index_mut.ensures.value _ _ a.linked a.owner a.others a.owners c.others_stay_linked.ensures c.one_of_all_changes.ensures)
     a.inactive a.active
 
 pub returns-clause-steps : goal.returns-clause-steps
 returns-clause-steps g c =
     let a = c.renew.ensures in
-    let all = change_all g.N.BootName.frames g.N.BootName.stocks _ _ c.self.view_is c.self.invariant.consistent c.args.group _ c.number-owner.ensures.below
-    c.number-owner.ensures.value _ _ c.index_mut.ensures.value _ _ c.note.new.self a.linked a.owner a.others a.owners c.others_stay_linked.ensures
-    c.one_of_all_changes.ensures in
-    renew_steps g.N.BootName.frames g.N.BootName.stocks _ _ c.self.view_is c.self.invariant.consistent c.args.group _ c.number-owner.ensures.below
-    c.number-owner.ensures.value c.args.head _ c.number-at.ensures c.requires.home _ _ _ all
-    (renews_unit g.N.BootName.frames g.N.BootName.stocks _ _ c.self.view_is c.args.group c.args.head _ c.number-at.ensures _ _ _ all a.inactive a.active)
-    a.used _ c.moved.ensures c.note.ensures
+    (change_all g.N.BootName.frames g.N.BootName.stocks _ _ c.self.view_is c.self.invariant.consistent c.args.group _ c.number-owner.ensures.below
+    c.number-owner.ensures.value _ _ c.index_mut.ensures.value _ _ a.linked a.owner a.others a.owners c.others_stay_linked.ensures c.one_of_all_changes.ensures).steps

@@ -14,9 +14,7 @@ use Rattle.step_watch.proofs.Watching.{watches_both}
 use Rattle.step_rules.specs.declared.step.Action.TheVariants.{Grant, Ungrant, PlaceBlock, Unfreeze, Publish}
 use Rattle.step_rules.specs.declared.step.Answer.TheVariants.{Done, Granted, Placed, NoFreeBlock}
 use Rattle.mem_machine.proofs.Followed.{LeadsAs, makes_watched}
-use Rattle.mem_machine.proofs.Watched.{takes_none_still, consistent_tracked, visits_tracked, makes_tracked, takes_block_tracked, snapshot_kept}
-use Rattle.mem_machine.proofs.ListNotes.{notes_same}
-use Rattle.mem_machine.proofs.Logged.{consistent_logged, leads_logged, takes_block_logged, visits_logged}
+use Rattle.mem_machine.proofs.Watched.{consistent_still, takes_block_still, takes_none_still, visits_still}
 use Rattle.mem_machine.proofs.machine.Machine.take_block.Goals as goal
 
 pub returns-in_default-take : goal.returns-in_default-take
@@ -41,7 +39,7 @@ returns-in_default-take g c =
       refuses = takes_none_still _ _ _ _ _ all.none;
       cpu = search rules;
       visit = search rules;
-      steps = makes_watched _ _ _ _ c.self.view_is _ _ _ _ all.steps _ took refl (notes_same _ _);
+      steps = makes_watched _ _ _ _ c.self.view_is _ _ _ _ all.steps _ took;
     }
 
 pub unreachable-requires : goal.unreachable-requires
@@ -76,13 +74,10 @@ invariant_of-self-2 g c =
       there = c.requires.charges.there;
       alive = c.requires.charges.alive;
     }) (c.in_default.ensures.granted.0 refl) _ c.in_default.ensures.charged c.in_default.ensures.pages _ _ c.in-Some.block _ c.self.invariant.free
-    c.in-Some.ensures.taken c.in-Some.ensures.frames c.in-Some.ensures.areas _ c.place_unit.ensures.places c.in-Some-frame.head _ c.in-Some-frame.ensures.0
+    c.in-Some.ensures.taken c.in-Some.ensures.frames c.in-Some.ensures.areas _ c.place_unit.ensures c.in-Some-frame.head _ c.in-Some-frame.ensures.0
     c.number-at.ensures c.unfreeze.ensures.no_reference _ c.unfreeze.ensures.seat _ _
     (record { joins = j.joins; stand = j.lists.stand; frames = j.frames; groups = j.lists.groups }) in
-    record {
-      consistent = consistent_tracked _ _ _ (snapshot_kept c.self.inside.frame_states c.place_unit.new.frame_states c.place_unit.ensures.snapshot) _ _ (consistent_logged _ c.join_list.new.log _ _ all.consistent);
-      free = all.free_is;
-    }
+    record { consistent = consistent_still _ _ _ _ all.consistent; free = all.free_is }
 
 pub returns : goal.returns
 returns g c =
@@ -98,7 +93,7 @@ returns g c =
       there = c.requires.charges.there;
       alive = c.requires.charges.alive;
     }) (c.in_default.ensures.granted.0 refl) _ c.in_default.ensures.charged c.in_default.ensures.pages _ _ c.in-Some.block _ c.self.invariant.free
-    c.in-Some.ensures.taken c.in-Some.ensures.frames c.in-Some.ensures.areas _ c.place_unit.ensures.places c.in-Some-frame.head _ c.in-Some-frame.ensures.0
+    c.in-Some.ensures.taken c.in-Some.ensures.frames c.in-Some.ensures.areas _ c.place_unit.ensures c.in-Some-frame.head _ c.in-Some-frame.ensures.0
     c.number-at.ensures c.unfreeze.ensures.no_reference _ c.unfreeze.ensures.seat _ _
     (record { joins = j.joins; stand = j.lists.stand; frames = j.frames; groups = j.lists.groups }) in
     let took = subst (λ (x : ℕ × ℕ). Watches c.self.inside.watch
@@ -108,11 +103,11 @@ returns g c =
     (watches_both _ _ _ _ _ c.granted.ensures (watches_both _ _ _ _ _ c.placed.ensures
     (watches_both _ _ _ _ _ c.unfroze.ensures c.published.ensures))) in
     record {
-      takes = takes_block_tracked _ _ _ (snapshot_kept c.self.inside.frame_states c.place_unit.new.frame_states c.place_unit.ensures.snapshot) _ _ _ _ (takes_block_logged _ c.join_list.new.log _ _ _ _ all.takes);
+      takes = takes_block_still _ _ _ _ _ _ all.takes;
       refuses = search rules;
       cpu = search rules;
-      visit = visits_tracked _ _ _ (snapshot_kept c.self.inside.frame_states c.place_unit.new.frame_states c.place_unit.ensures.snapshot) _ _ (visits_logged _ c.join_list.new.log _ _ all.visit);
-      steps = makes_tracked _ _ _ (snapshot_kept c.self.inside.frame_states c.place_unit.new.frame_states c.place_unit.ensures.snapshot) _ _ _ _ c.self.view_is _ _ _ (leads_logged _ c.join_list.new.log _ _ _ _ _ all.steps) took refl j.noted;
+      visit = visits_still _ _ _ _ all.visit;
+      steps = makes_watched _ _ _ _ c.self.view_is _ _ _ _ all.steps _ took;
     }
 
 pub invariant_of-self : goal.invariant_of-self
@@ -134,4 +129,4 @@ returns-in-Err-clause-steps g c =
     c.number-cpu_number.ensures.tied c.requires.visit c.requires.none_fresh c.requires.charges.there c.requires.charges.alive
     (subst (λ (n : ℕ). IsLowestOver m.ledger.groups (current_of m.ledger) c.args.group n over) c.frames-pages.ensures.frames low)) in
     makes_watched _ _ _ _ c.self.view_is _ _ _ _ refused _
-    (subst (λ (n : ℕ). Watches c.self.inside.watch (over_steps c.args.group n over) c.refused.new.self) c.frames-pages.ensures.frames c.refused.ensures) refl (notes_same _ _)
+    (subst (λ (n : ℕ). Watches c.self.inside.watch (over_steps c.args.group n over) c.refused.new.self) c.frames-pages.ensures.frames c.refused.ensures)

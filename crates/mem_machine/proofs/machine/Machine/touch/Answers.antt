@@ -1,16 +1,6 @@
-use Rattle.std.proofs.Common.{◌≡◌, ◌∙◌, refl}
-use denote.Enum.Bare.{sameb}
-use Rattle.lru_lists.specs.declared.lru.Touched.{Touched}
-use Rattle.lru_lists.specs.declared.lru.Touched.TheVariants as touch
-use Rattle.lru_lists.specs.contracts.lru.Touched.{the_type}
 use Rattle.mem_machine.proofs.Dirties.{has_home}
-use Rattle.mem_machine.proofs.Touching.{touch_all, moves_unit}
+use Rattle.mem_machine.proofs.Touching.{touch_all}
 use Rattle.mem_machine.proofs.machine.Machine.touch.Goals as goal
-
--- the test that the note is made from
-is_moved : (touched : Touched) → sameb the_type touched touch.Active ≡ moves_unit touched
-is_moved touch.Marked = refl
-is_moved touch.Active = refl
 
 pub unreachable-requires : goal.unreachable-requires
 unreachable-requires g c = has_home _ _ c.self.view_is c.args.head _ c.number-at.ensures c.requires.kept c.in_default.ensures
@@ -18,9 +8,9 @@ unreachable-requires g c = has_home _ _ c.self.view_is c.args.head _ c.number-at
 pub invariant_of-self : goal.invariant_of-self
 invariant_of-self g c = record {
   consistent = (touch_all g.N.BootName.frames g.N.BootName.stocks _ _ c.self.view_is c.self.invariant.consistent c.args.head _ c.requires.frame c.number-at.ensures c.in-Some.home
-      c.in-Some.ensures _ c.index.ensures _ _ c.note.new.self c.touch-touched.result c.touch-touched.ensures.linked c.touch-touched.ensures.owner
+      c.in-Some.ensures _ c.index.ensures _ _ c.touch-touched.result c.touch-touched.ensures.linked c.touch-touched.ensures.owner
       c.touch-touched.ensures.touches
-      c.touch-touched.ensures.others c.touch-touched.ensures.used _ (c.eq.ensures ∙ is_moved c.touch-touched.result) c.note.ensures c.others_stay_linked.ensures c.one_of_all_changes.ensures).consistent;
+      c.touch-touched.ensures.others c.others_stay_linked.ensures c.one_of_all_changes.ensures).consistent;
   free = c.self.invariant.free;
 }
 
@@ -28,6 +18,6 @@ pub returns : goal.returns
 returns g c =
     let all = touch_all g.N.BootName.frames g.N.BootName.stocks _ _ c.self.view_is c.self.invariant.consistent c.args.head _ c.requires.frame c.number-at.ensures
     c.in-Some.home
-    c.in-Some.ensures _ c.index.ensures _ _ c.note.new.self c.touch-touched.result c.touch-touched.ensures.linked c.touch-touched.ensures.owner c.touch-touched.ensures.touches
-    c.touch-touched.ensures.others c.touch-touched.ensures.used _ (c.eq.ensures ∙ is_moved c.touch-touched.result) c.note.ensures c.others_stay_linked.ensures c.one_of_all_changes.ensures in
+    c.in-Some.ensures _ c.index.ensures _ _ c.touch-touched.result c.touch-touched.ensures.linked c.touch-touched.ensures.owner c.touch-touched.ensures.touches
+    c.touch-touched.ensures.others c.others_stay_linked.ensures c.one_of_all_changes.ensures in
     record { touches = all.touches; steps = all.steps }

@@ -1,15 +1,12 @@
-use Rattle.std.proofs.Common.{◌≡◌, ℕ, ◌<◌, rules, ap, subst, ◌∙◌, sym, refl}
+use Rattle.std.proofs.Common.{◌≡◌, ℕ, ◌<◌, rules, ap, subst, ◌∙◌}
 use Rattle.frame_word.specs.Views.{collected_from}
 use Rattle.frame_word.specs.Seats.{KnownSeat, seat_with}
 use Rattle.mem_machine.proofs.Takes.{take_all, may_give, passes_back_to}
 use Rattle.step_watch.specs.Watched.{Watches}
 use Rattle.step_watch.proofs.Watching.{watches_both}
 use Rattle.mem_machine.specs.Steps.{unlist_steps}
-use Rattle.mem_machine.proofs.Watched.{consistent_tracked, visits_tracked, makes_tracked, takes_tracked}
-use Rattle.tracked_vec.specs.Tracked.{KnownTracked}
-use Rattle.mem_machine.specs.declared.frame_state.FrameState.{FrameState}
-use Rattle.mem_machine.specs.FrameStates.{free_of}
-use Rattle.mem_machine.proofs.ListNotes.{notes_same}
+use Rattle.mem_machine.proofs.Followed.{makes_watched}
+use Rattle.mem_machine.proofs.Watched.{consistent_still, takes_still, visits_still}
 use Rattle.mem_machine.proofs.machine.Machine.unlist_one.Goals as goal
 
 pub collect-requires-clause-passes : goal.collect-requires-clause-passes
@@ -36,10 +33,7 @@ invariant_of-self-2 g c =
     c.number-cpu_number.ensures.tied c.self.invariant.consistent
     c.requires _ _ c.unwrap.result _ c.in-Some.frame _ _ c.self.invariant.free k0 c.give.ensures.frames c.give.ensures.areas inside c.in-Some.ensures.borrowed.1
     c.number-at.ensures c.in-Some.ensures.answer collected c.collect.ensures.cpu) in
-    record {
-      consistent = consistent_tracked _ _ _ c.set.ensures _ _ all.consistent;
-      free = all.free_is ∙ ap (λ (x : KnownTracked FrameState). free_of x.now) (sym c.set.ensures);
-    }
+    record { consistent = consistent_still _ _ _ _ all.consistent; free = all.free_is }
 
 pub returns : goal.returns
 returns g c =
@@ -56,10 +50,10 @@ returns g c =
     record {
       takes = record {
         frame = c.in-Some.frame;
-        takes = takes_tracked _ _ _ c.set.ensures _ _ _ all.takes;
-        steps = makes_tracked _ _ _ c.set.ensures _ _ _ _ c.self.view_is _ _ _ all.steps took refl (notes_same _ _);
+        takes = takes_still _ _ _ _ _ all.takes;
+        steps = makes_watched _ _ _ _ c.self.view_is _ _ _ _ all.steps _ took;
       };
-      visit = visits_tracked _ _ _ c.set.ensures _ _ all.visit;
+      visit = visits_still _ _ _ _ all.visit;
     }
 
 pub invariant_of-self : goal.invariant_of-self

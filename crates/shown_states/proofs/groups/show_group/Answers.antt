@@ -1,5 +1,0 @@
-use Rattle.std.proofs.Common.{rules}
-use Rattle.shown_states.proofs.groups.show_group.Goals as goal
-
-pub returns : goal.returns
-returns g c = search rules

@@ -1,5 +1,0 @@
-use Rattle.std.proofs.Common.{rules}
-use Rattle.tracked_vec.proofs.tracked_vec.TrackedVec.len.Goals as goal
-
-pub returns : goal.returns
-returns g c = search rules
