@@ -22,7 +22,7 @@ use std::{env, io};
 use zone_sizes::config::Config;
 
 /// The program's version.
-pub const VERSION: &str = "0.1.0";
+pub const VERSION: &str = "0.2.0";
 
 // The help texts of the program, its subcommands and their options.
 const MEMCG_HELP: &str = "Charges page frames to the groups of a tree";

@@ -8,7 +8,7 @@ use Rattle.line_streams.specs.Writing.{AppendsBeginning}
 
 -- the line with the program's name and version
 abbrev pub version_text : List ℕ
-version_text = codes "memcg 0.1.0\n"
+version_text = codes "memcg 0.2.0\n"
 
 -- the version wasn't written, or not whole; the fault writer got why, as far as it took it
 pub record FailsToWriteVersion (before after : Written) : Type 0 where

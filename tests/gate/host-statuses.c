@@ -1,0 +1,94 @@
+/* Calls the library with each refusal, and with buffers that fit exactly or lack a byte: tests/gate/hosts runs it. */
+#include <stdio.h>
+#include <string.h>
+#include <tempolemon.h>
+
+static const tempolemon_sizes SIZES = {.frames = 16, .cpus = 2, .batch = 4, .high = 8, .stock = 4};
+static int failures;
+
+/* The answers to the script, without the report of the end, in a buffer of `room` bytes that held 'x' in each. */
+static void expect(const char *what, tempolemon_sizes sizes, const char *script, size_t room,
+                   uint8_t status, const char *answers, size_t written, size_t first_bad) {
+    uint8_t buffer[64], wanted[64];
+    size_t given_written = 77, given_bad = 77;
+    memset(buffer, 'x', sizeof buffer);
+    memset(wanted, 'x', sizeof wanted);
+    memcpy(wanted, answers, strlen(answers));
+    uint8_t given = tempolemon_replay(&sizes, false, false, (const uint8_t *)script, strlen(script),
+                                      buffer, room, &given_written, &given_bad);
+    if (given != status || given_written != written || given_bad != first_bad
+        || memcmp(buffer, wanted, sizeof buffer) != 0) {
+        printf("%s: status %u, %zu written, bad line %zu, %.64s\n",
+               what, given, given_written, given_bad, (char *)buffer);
+        failures++;
+    }
+}
+
+static void is(const char *what, uint8_t given, uint8_t status) {
+    if (given == status) return;
+    printf("%s: status %u in place of %u\n", what, given, status);
+    failures++;
+}
+
+#define BYTES(text) (const uint8_t *)(text), strlen(text)
+
+/* A handle before its boot, with it, and after it. */
+static void live(void) {
+    tempolemon_sizes low_high = SIZES;
+    tempolemon_handle host = {0};
+    tempolemon_result result;
+    tempolemon_report report;
+    uint8_t buffer[160] = {0};
+    size_t written, first_bad;
+    low_high.high = 3;
+
+    is("an end of none", tempolemon_end(&host, &report), TEMPOLEMON_NOT_LIVE);
+    is("a call of none", tempolemon_get(&host, 1, 0, &result), TEMPOLEMON_NOT_LIVE);
+    is("an answer of none", tempolemon_answer(&host, buffer, 160, &written), TEMPOLEMON_NOT_LIVE);
+    is("a boot with a low high", tempolemon_boot(&low_high, &host), TEMPOLEMON_BAD_CONFIG);
+    is("a call after that", tempolemon_settle(&host, 1, &result), TEMPOLEMON_NOT_LIVE);
+    is("a boot", tempolemon_boot(&SIZES, &host), TEMPOLEMON_DONE);
+    is("a second boot", tempolemon_boot(&SIZES, &host), TEMPOLEMON_IS_LIVE);
+    is("CPU 0", tempolemon_get(&host, 0, 0, &result), TEMPOLEMON_BAD_CPU);
+    is("CPU 3", tempolemon_settle(&host, 3, &result), TEMPOLEMON_BAD_CPU);
+    is("frame 16", tempolemon_get(&host, 1, 16, &result), TEMPOLEMON_BAD_FRAME);
+    is("group 1", tempolemon_alloc(&host, 1, 1, 0, &result), TEMPOLEMON_BAD_GROUP);
+    is("group 64", tempolemon_alloc(&host, 1, 64, 0, &result), TEMPOLEMON_BAD_GROUP);
+    is("a short buffer", tempolemon_read(&host, 1, BYTES("/a"), BYTES("memory.max"), buffer, 159, &result),
+       TEMPOLEMON_SMALL_BUFFER);
+    is("a refusal", tempolemon_put(&host, 1, 0, &result), 21);
+    is("its kind", result.kind, TEMPOLEMON_REFUSED);
+    is("a bad line", tempolemon_command(&host, false, BYTES("3 settle\n"), buffer, 160, &written, &first_bad),
+       TEMPOLEMON_BAD_LINE);
+    is("an unread answer", tempolemon_command(&host, false, BYTES("1 mkdir /a\n"), buffer, 7, &written, &first_bad),
+       TEMPOLEMON_SMALL_BUFFER);
+    is("a byte less", tempolemon_answer(&host, buffer, 7, &written), TEMPOLEMON_SMALL_BUFFER);
+    is("enough", tempolemon_answer(&host, buffer, 8, &written), TEMPOLEMON_DONE);
+    is("the answer", memcmp(buffer, "group 1\n", 8) != 0, 0);
+    is("an alloc", tempolemon_alloc(&host, 1, 1, 0, &result), TEMPOLEMON_DONE);
+    const uint32_t frame = (uint32_t)result.number;
+    is("a get of a fresh frame", tempolemon_get(&host, 2, frame, &result), TEMPOLEMON_DONE);
+    is("its kind", result.kind, TEMPOLEMON_ZERO);
+    is("a settle", tempolemon_settle(&host, 1, &result), TEMPOLEMON_DONE);
+    is("a get", tempolemon_get(&host, 2, frame, &result), TEMPOLEMON_DONE);
+    is("its kind then", result.kind, TEMPOLEMON_HELD);
+    is("an end", tempolemon_end(&host, &report), TEMPOLEMON_DONE);
+    is("its pins", (uint8_t)report.held, 1);
+    is("a second end", tempolemon_end(&host, &report), TEMPOLEMON_NOT_LIVE);
+}
+
+int main(void) {
+    tempolemon_sizes low_high = SIZES, no_frames = SIZES;
+    low_high.high = 3;
+    no_frames.frames = 0;
+    expect("an exact buffer", SIZES, "1 mkdir /a\n", 8, TEMPOLEMON_DONE, "group 1\n", 8, 0);
+    expect("a longer buffer", SIZES, "1 mkdir /a\n", 64, TEMPOLEMON_DONE, "group 1\n", 8, 0);
+    expect("one byte less", SIZES, "1 mkdir /a\n", 7, TEMPOLEMON_SMALL_BUFFER, "", 8, 0);
+    expect("no buffer", SIZES, "1 mkdir /a\n", 0, TEMPOLEMON_SMALL_BUFFER, "", 8, 0);
+    expect("no lines", SIZES, "", 0, TEMPOLEMON_DONE, "", 0, 0);
+    expect("a bad line", SIZES, "1 mkdir /a\n3 settle\n", 64, TEMPOLEMON_BAD_LINE, "", 0, 2);
+    expect("a low high", low_high, "1 mkdir /a\n", 64, TEMPOLEMON_BAD_CONFIG, "", 0, 0);
+    expect("no frames", no_frames, "bad\n", 64, TEMPOLEMON_BAD_CONFIG, "", 0, 0);
+    live();
+    return failures != 0;
+}
