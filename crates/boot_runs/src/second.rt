@@ -25,7 +25,7 @@ fn boots_and_ends<R: Abort>(rt: &R, alloc: Global) -> Option<Audit> {
     starts_and_ends::<Brand, _>(rt, alloc, boot)
 }
 
-// `tests/refuse-memory` runs this with each of its allocations refused in turn, until the first life ends.
+// `tests/gate/refuse-memory` runs this with each of its allocations refused in turn, until the first life ends.
 #[test]
 fn a_second_boot_lives_where_the_first_was_refused(rt: HostRuntime) -> Result<(), Fail> {
     let mut audit = boots_and_ends(&rt, rt.alloc());
@@ -70,7 +70,7 @@ fn boots_and_tells<R: Wait + Abort>(rt: &R, alloc: Global) -> Option<(Vec<u8>, V
     starts_and_tells::<Brand, _>(rt, alloc, boot)
 }
 
-// `tests/refuse-memory` runs this too.
+// `tests/gate/refuse-memory` runs this too.
 #[test]
 fn a_second_boot_tells_where_the_first_was_refused(rt: HostRuntime) -> Result<(), Fail> {
     let mut told = boots_and_tells(&rt, rt.alloc());

@@ -1,4 +1,4 @@
-//! Words of the command line that `options` accepts. `tests/compare-help` has others.
+//! Words of the command line that `options` accepts. `tests/gate/compare-help` has others.
 
 use crate::streams::{expect_row, words_of};
 use load_run::{Options, Task, options};

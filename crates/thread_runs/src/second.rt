@@ -19,7 +19,7 @@ fn life_of_threads(
     run_script(rt, TWO_CPUS, SCRIPT, "1 owner 0\n", gate)
 }
 
-// `tests/refuse-memory` runs this with each allocation and each thread start refused in turn, until the first run
+// `tests/gate/refuse-memory` runs this with each allocation and each thread start refused in turn, until the first run
 // completes. The gate isn't called after a line for which memory ran out.
 #[test]
 fn a_second_run_is_whole_where_the_first_was_refused(rt: HostRuntime) -> Result<(), Fail> {
