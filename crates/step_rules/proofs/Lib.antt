@@ -41,6 +41,7 @@ pub mod Stocked
 pub mod Adding
 pub mod Heads
 pub mod Charging
+pub mod Referenced
 pub mod Promising
 pub mod Answering
 pub mod Answered
