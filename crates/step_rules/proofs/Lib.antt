@@ -23,6 +23,7 @@ pub mod Granting
 pub mod SmallRuns
 pub mod Breaking
 pub mod ShownStates
+pub mod Miscounting
 pub mod GroupRuns
 pub mod LocalRuns
 pub mod Homes
