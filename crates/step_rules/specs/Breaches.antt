@@ -120,9 +120,13 @@ pub record MiscountsReferences (run : Run) (step : Step × Answer) : Type 0 wher
   pub returns : ReturnsNoFrameTwice run step.0.seat step.0.action step.1
   pub breaks : BreaksPromise (run ++ step ∷ [])
 
--- the zone and CPU 2 have a reference on frame 0 each
+-- the zone and CPU 2 have a reference on frame 0 each, and CPU 1 holds the lock
 abbrev pub referred_twice : Run
-referred_twice = take 16 life_of_a_frame
+referred_twice = take 17 life_of_a_frame
+
+-- only CPU 2 has one
+abbrev pub referred_by_one : Run
+referred_by_one = take 18 life_of_a_frame
 
 -- frame 0 heads a unit that had no reference yet
 abbrev pub never_referred : Run

@@ -13,8 +13,8 @@ ghost use Rattle.step_rules.specs.Breaches.{credited_in_use, consumed_nothing, c
 ghost use Rattle.step_rules.specs.Breaches.{placed_smaller, placed_in_use, placed_ended, placed_for_nobody};
 ghost use Rattle.step_rules.specs.Breaches.{given_after_the_last, put_after_the_last, frozen_after_the_last};
 ghost use Rattle.step_rules.specs.Breaches.{unfrozen_in_no_unit, unfrozen_in_use, kept_run, shown_rightly};
-ghost use Rattle.step_rules.specs.Breaches.{MiscountsReferences, referred_twice, never_referred, referred_fully};
-ghost use Rattle.step_rules.specs.Breaches.{given_in_no_unit};
+ghost use Rattle.step_rules.specs.Breaches.{MiscountsReferences, referred_twice, referred_by_one, never_referred};
+ghost use Rattle.step_rules.specs.Breaches.{referred_fully, given_in_no_unit};
 ghost use Rattle.step_rules.specs.Breaches.{IsShownWrongly, seen_nowhere, seen_twice, listed_twice, listed_by_nobody};
 ghost use Rattle.step_rules.specs.Breaches.{kept_in_no_unit, seen_beyond, prepaid_for_nobody, prepaid_left_out};
 ghost use Rattle.step_rules.specs.Breaches.{no_group_seen, IsWrongAfter, shown_free, parted_areas, prepaid_by_nobody};
@@ -74,18 +74,18 @@ pub fn a_reference_given_wrongly_breaks_the_promise()
     ensures full { MiscountsReferences kept_run (made 2 (Get 0) Full) }
 {}
 
-/// A put breaks the promise if the seat has no reference, if it leaves another number than it is answered, or if it is
-/// answered that none is left of those left. A freeze breaks it if it takes no reference, or more than seat 0 has, or
-/// if another seat has one.
+/// A put breaks the promise if the seat has no reference, if it leaves another number than its answer says, if that
+/// number is 0, or if it is answered Last while one is left. A freeze breaks it if another seat has a reference, or if
+/// it takes more than seat 0 has, or none.
 pub fn a_reference_dropped_wrongly_breaks_the_promise()
     ensures anothers { MiscountsReferences kept_run (made 2 (Put 0) (Left 1)) }
     ensures too_many_left { MiscountsReferences referred_twice (made 2 (Put 0) (Left 2)) }
-    ensures left_none { MiscountsReferences kept_run (made 0 (Put 0) (Left 0)) }
+    ensures left_none { MiscountsReferences referred_by_one (made 2 (Put 0) (Left 0)) }
     ensures last_of_none { MiscountsReferences kept_run (made 2 (Put 1) Last) }
     ensures last_of_two { MiscountsReferences referred_twice (made 2 (Put 0) Last) }
     ensures frozen_elsewhere { MiscountsReferences referred_twice (made 0 (Freeze 0 1) Done) }
-    ensures frozen_too_many { MiscountsReferences kept_run (made 0 (Freeze 0 2) Done) }
-    ensures frozen_none { MiscountsReferences kept_run (made 0 (Freeze 1 0) Done) }
+    ensures frozen_too_many { MiscountsReferences referred_fully (made 0 (Freeze 0 256) Done) }
+    ensures frozen_none { MiscountsReferences never_referred (made 0 (Freeze 0 0) Done) }
 {}
 
 /// What is shown after a small run keeps the promise: one frame kept, one free, and one page in a stock.
