@@ -10,7 +10,6 @@ use Rattle.step_rules.specs.Phases.{is_live, unit_of}
 use Rattle.step_rules.specs.State.{Zone, State, sum_to, is_cpu, live_references}
 use Rattle.step_rules.specs.Legal.{Allows, get_answer}
 use Rattle.step_rules.specs.After.{Run, after, state_of, IsLegalRun}
-use Rattle.step_rules.specs.Units.{units_of}
 use Rattle.step_rules.specs.References.{references_had, references_on, CountsReferences}
 use Rattle.step_rules.proofs.LegalTests.{get_tests, put_tests, freeze_tests}
 use Rattle.step_rules.proofs.Sums.{sum_none, sum_part}
