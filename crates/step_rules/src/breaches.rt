@@ -60,9 +60,9 @@ pub fn a_reference_after_the_last_breaks_the_promise()
     ensures in_use { BreaksPromise unfrozen_in_use }
 {}
 
-/// A get breaks the promise if it is answered Held on a free frame, after the return, before the first reference, by a
-/// seat that doesn't exist, at 255 references, or on a frame that heads no unit. So does Zero on a frame that has a
-/// reference, and Full on one that has fewer than 255.
+/// A get answered Held breaks the promise on a frame without references: a free one, one that was returned, or a unit
+/// that never had any. So it does at 255 references, for a seat that doesn't exist, and on a frame that heads no unit.
+/// Zero breaks it if there is a reference, Full if there are fewer than 255.
 pub fn a_reference_given_wrongly_breaks_the_promise()
     ensures free { MiscountsReferences kept_run (made 2 (Get 1) Held) }
     ensures returned { MiscountsReferences life_of_a_frame (made 2 (Get 0) Held) }
@@ -74,9 +74,9 @@ pub fn a_reference_given_wrongly_breaks_the_promise()
     ensures full { MiscountsReferences kept_run (made 2 (Get 0) Full) }
 {}
 
-/// A put breaks the promise if the seat has no reference, if it leaves another number than its answer says, if that
-/// number is 0, or if it is answered Last while one is left. A freeze breaks it if another seat has a reference, or if
-/// it takes more than seat 0 has, or none.
+/// A put breaks the promise if the seat has no reference, if it leaves another number than its answer says, or if that
+/// number is 0. Last breaks it if a reference is left. A freeze breaks it if another seat has a reference, or if it
+/// takes none, or more than seat 0 has.
 pub fn a_reference_dropped_wrongly_breaks_the_promise()
     ensures anothers { MiscountsReferences kept_run (made 2 (Put 0) (Left 1)) }
     ensures too_many_left { MiscountsReferences referred_twice (made 2 (Put 0) (Left 2)) }
