@@ -23,6 +23,7 @@ pub mod Granting
 pub mod SmallRuns
 pub mod Breaking
 pub mod ShownStates
+pub mod Miscounting
 pub mod GroupRuns
 pub mod LocalRuns
 pub mod Homes
@@ -41,6 +42,7 @@ pub mod Stocked
 pub mod Adding
 pub mod Heads
 pub mod Charging
+pub mod Referenced
 pub mod Promising
 pub mod Answering
 pub mod Answered

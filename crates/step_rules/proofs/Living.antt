@@ -29,7 +29,7 @@ use Rattle.step_rules.proofs.Runs.{after_illegal, allowed, kept_along, sound_boo
 use Rattle.step_rules.proofs.LocalLaws.{no_illegal}
 
 -- ---- sums of references
-sum_changed : (s : State) (k f n : ℕ) → k ≤ s.zone.cpus →
+pub sum_changed : (s : State) (k f n : ℕ) → k ≤ s.zone.cpus →
     sum_to (s.zone.cpus + 1) (λ seat. changed s.references k f n seat f) + s.references k f ≡ live_references s f + n
 sum_changed s k f n there =
     let h : ℕ → ℕ = λ seat. s.references seat f in
@@ -118,7 +118,7 @@ unit_live phases g f live =
 abbrev IsReferred : ℕ → State → Type 0
 IsReferred f s = is_live (s.phases f) ≡ true → (1 ≤ live_references s f) × (live_references s f ≤ 255)
 
-held_range : (n : ℕ) → Held ≡ get_answer n → (1 ≤ n) × (n ≤ 254)
+pub held_range : (n : ℕ) → Held ≡ get_answer n → (1 ≤ n) × (n ≤ 254)
 held_range n h =
     let both = and_parts (nat_le 1 n) (nat_le n 254) (held_case (nat_le 1 n && nat_le n 254) (n == 255) h) in
     (leb-true 1 n both.0, leb-true n 254 both.1)

@@ -1,5 +1,5 @@
 -- Every legal run keeps the promise. Serves `the_promise_is_kept`.
-use Rattle.std.proofs.Common.{◌≡◌, ℕ, ◌+◌, ◌<◌, ◌≤◌, true, false, Option, Some, None, List, take, length, is_some, refl, sym, ◌∙◌, ap, subst, arith}
+use Rattle.std.proofs.Common.{◌≡◌, ℕ, ◌+◌, ◌<◌, ◌≤◌, true, false, Option, Some, None, List, [], ◌∷◌, ◌++◌, take, length, is_some, refl, sym, ◌∙◌, ap, subst, arith}
 use Rattle.std.proofs.Common.{inl, inr, if◌then◌else◌, cond, zero, suc}
 use Rattle.std.specs.Prelude.{IfSome, Bool, nat_le, not}
 use Rattle.std.specs.List.{slice_get}
@@ -36,7 +36,8 @@ use Rattle.step_rules.specs.Charges.{charged_in_subtree}
 use Rattle.step_rules.specs.Keepers.{StockIsKept}
 use Rattle.step_rules.specs.Lent.{lent_to}
 use Rattle.step_rules.specs.Promise.{Shown, IsShown, Has, HasOnce, IsInUnit, IsInOnePlace, IsPrepaid, kept_in_subtree, prepaid_in_subtree, KeepsLimits}
-use Rattle.step_rules.specs.Promise.{HasNoReference, IsUnused, ReturnsNoFrameTwice, ThePromiseIsKept}
+use Rattle.step_rules.specs.Promise.{HasNoReference, IsUnused, ReturnsNoFrameTwice, ThePromiseIsKept, EachStepIsPromised}
+use Rattle.step_rules.specs.References.{CountsReferences}
 use Rattle.step_rules.proofs.LegalTests.{consume_tests, credit_tests, grant_tests, return_tests, unfreeze_tests}
 use Rattle.step_rules.proofs.Lists.{one_if_true}
 use Rattle.step_rules.proofs.PhaseLemmas.{free_is, live_is, listed_is, fresh_is, held_live, none_some, returning_is, Returns, AsEnded, AsKilled}
@@ -58,6 +59,7 @@ use Rattle.step_rules.proofs.Booking.{parts_are_booked}
 use Rattle.step_rules.proofs.Uniting.{units_follow_the_run}
 use Rattle.step_rules.proofs.Heads.{heads_run}
 use Rattle.step_rules.proofs.Charging.{groups_in_run, charged_is_usage}
+use Rattle.step_rules.proofs.Referenced.{references_kept}
 
 -- ---- units
 unit_keeper : (x : Phase) (g k : ℕ) → unit_of x ≡ Some (record { group = g; order = k }) → keeper_of x ≡ Some g
@@ -256,9 +258,17 @@ module _ (zone : Zone) (run : Run) (legal : IsLegalRun zone run) (shown : Shown)
       (told ∙ placed.usage g ∙ (λ i. kept_shown g i + prepaid_shown g i), told ∙ sym (charged_is_usage zone run legal g))
 
 -- ---- each step of a run
-if_each : {X : Type 0} (P Q : X → Type 0) (o : Option X) → ((x : X) → P x → Q x) → IfSome o P → IfSome o Q
-if_each P Q None each h = tt
-if_each P Q (Some x) each h = each x h
+if_each : {X : Type 0} {P Q : X → Type 0} (o : Option X) → ((x : X) → o ≡ Some x → P x → Q x) → IfSome o P → IfSome o Q
+if_each None each h = tt
+if_each (Some x) each h = each x refl h
+
+taken_next : {X : Type 0} (xs : List X) (k : ℕ) (x : X) → slice_get xs k ≡ Some x → take (suc k) xs ≡ take k xs ++ x ∷ []
+taken_next [] k x e = absurd (none_some x e)
+taken_next (y ∷ ys) zero x e = ap (λ z. z ∷ []) (same e)
+  where
+    same : {X : Type 0} {a b : X} → Some a ≡ Some b → a ≡ b
+    same z = cc
+taken_next (y ∷ ys) (suc k) x e = ap (λ zs. y ∷ zs) (taken_next ys k x e)
 
 limits_kept : (zone : Zone) (run : Run) → IsLegalRun zone run → (seat : ℕ) (action : Action) (answer : Answer) →
     Allows (state_of zone run) seat action answer → KeepsLimits run action answer
@@ -343,6 +353,18 @@ returns_kept zone run legal seat (PlaceBlock g k) (Placed b) ok =
     )
 returns_kept zone run legal seat action answer ok = tt
 
+pub each_step_is_promised : EachStepIsPromised
+each_step_is_promised zone run legal k =
+    let before = legal_from zone run k legal in
+    let size : k + 1 ≡ suc k = omega arith in
+    if_each {P = λ e. Allows (state_of zone (take k run)) e.0.seat e.0.action e.1} (slice_get run k)
+    (λ e at ok. (
+      limits_kept zone (take k run) before e.0.seat e.0.action e.1 ok,
+      returns_kept zone (take k run) before e.0.seat e.0.action e.1 ok,
+      subst (λ (next : Run). CountsReferences zone (take k run) next e.0.seat e.0.action e.1) (sym (ap (λ n. take n run) size ∙ taken_next run k e at))
+          (references_kept zone (take k run) before e.0.seat e.0.action e.1 ok),
+    )) (legal k)
+
 pub the_promise_is_kept : ThePromiseIsKept
 the_promise_is_kept zone run shown legal free is =
     let s = state_of zone run in
@@ -358,10 +380,7 @@ the_promise_is_kept zone run shown legal free is =
       current = λ g here.
           let both = current_shown zone run legal shown is placed g here in
           (both.0 ∙ (λ i. kept_in_subtree shown (zone_is i).frames g + prepaid_in_subtree shown (zone_is i).cpus g), both.1);
-      limits = λ k. if_each (λ e. Allows (state_of zone (take k run)) e.0.seat e.0.action e.1)
-          (λ e. KeepsLimits (take k run) e.0.action e.1) (slice_get run k)
-          (λ e ok. limits_kept zone (take k run) (legal_from zone run k legal) e.0.seat e.0.action e.1 ok) (legal k);
-      returns = λ k. if_each (λ e. Allows (state_of zone (take k run)) e.0.seat e.0.action e.1)
-          (λ e. ReturnsNoFrameTwice (take k run) e.0.seat e.0.action e.1) (slice_get run k)
-          (λ e ok. returns_kept zone (take k run) (legal_from zone run k legal) e.0.seat e.0.action e.1 ok) (legal k);
+      limits = λ k. if_each (slice_get run k) (λ e at kept. kept.0) (each_step_is_promised zone run legal k);
+      returns = λ k. if_each (slice_get run k) (λ e at kept. kept.1) (each_step_is_promised zone run legal k);
+      references = λ k. if_each (slice_get run k) (λ e at kept. kept.2) (each_step_is_promised zone run legal k);
     }

@@ -1,14 +1,16 @@
--- What breaks the promise: small runs and shown states, each wrong in one thing. So each field of the promise refuses
--- something. One shown state keeps the promise.
-use Rattle.std.specs.Prelude.{ℕ, ◌==◌, false, Some, None, List, [], ◌∷◌, ◌++◌, codes, if◌then◌else◌}
+-- What breaks the promise: small runs and shown states, each there for one thing that is wrong. So each field of the
+-- promise refuses something. One shown state keeps the promise.
+use Rattle.std.specs.Prelude.{ℕ, ◌==◌, false, Some, None, List, [], ◌∷◌, ◌++◌, take, codes, if◌then◌else◌}
 use Rattle.group_tree.specs.Groups.{initial_groups}
+use Rattle.step_rules.specs.declared.step.Step.{Step}
 use Rattle.step_rules.specs.declared.step.Action.TheVariants.{Lock, Get, Put, Freeze, Unfreeze, TakeIn, Consume, Credit}
 use Rattle.step_rules.specs.declared.step.Action.TheVariants.{Grant, PlaceBlock, Return, SetMax, Make, Kill}
+use Rattle.step_rules.specs.declared.step.Answer.{Answer}
 use Rattle.step_rules.specs.declared.step.Answer.TheVariants.{Done, Held, Last, Took, Stocked, Granted, Placed, Number}
 use Rattle.step_rules.specs.State.{no_stock}
-use Rattle.step_rules.specs.After.{Run}
-use Rattle.step_rules.specs.Examples.{small_zone, made, first_visit, hand_over}
-use Rattle.step_rules.specs.Promise.{Shown, Promise}
+use Rattle.step_rules.specs.After.{Run, IsLegalRun}
+use Rattle.step_rules.specs.Examples.{small_zone, made, first_visit, hand_over, life_of_a_frame, at_the_borders}
+use Rattle.step_rules.specs.Promise.{Shown, KeepsLimits, ReturnsNoFrameTwice, Promise}
 
 -- after the run nothing that is shown keeps the promise
 abbrev pub BreaksPromise : Run → Type 0
@@ -108,6 +110,35 @@ unfrozen_in_no_unit = made 0 (Unfreeze 0 1) Done ∷ []
 -- first references are put on a frame that has some
 abbrev pub unfrozen_in_use : Run
 unfrozen_in_use = placed ++ made 0 (Unfreeze 0 1) Done ∷ made 0 (Unfreeze 0 1) Done ∷ []
+
+-- ---- references
+-- The run is legal and one more step breaks the promise, although that step keeps the limits and returns no frame
+-- twice: it only counts references wrongly.
+pub record MiscountsReferences (run : Run) (step : Step × Answer) : Type 0 where
+  pub before : IsLegalRun small_zone run
+  pub limits : KeepsLimits run step.0.action step.1
+  pub returns : ReturnsNoFrameTwice run step.0.seat step.0.action step.1
+  pub breaks : BreaksPromise (run ++ step ∷ [])
+
+-- the zone and CPU 2 have a reference on frame 0 each, and CPU 1 holds the lock
+abbrev pub referred_twice : Run
+referred_twice = take 17 life_of_a_frame
+
+-- only CPU 2 has one
+abbrev pub referred_by_one : Run
+referred_by_one = take 18 life_of_a_frame
+
+-- frame 0 heads a unit that had no reference yet
+abbrev pub never_referred : Run
+never_referred = take 4 at_the_borders
+
+-- the zone has 255 references on frame 0
+abbrev pub referred_fully : Run
+referred_fully = take 6 at_the_borders
+
+-- a reference is given on a frame that has one, but heads no unit
+abbrev pub given_in_no_unit : Run
+given_in_no_unit = unfrozen_in_no_unit ++ made 2 (Get 0) Held ∷ []
 
 -- ---- what is shown
 -- frame 0 is kept for the root, frame 1 is free, and CPU 1 has a page of the root in its stock

@@ -40,7 +40,9 @@ charged_out test run seat (Ungrant g n) Done = if test g then n else 0
 charged_out test run seat (Return f) Done = unit_pages test ((units_of run).unit f)
 charged_out test run seat action answer = 0
 
--- the pages charged to the group and those below it
+-- The pages charged to the group and those below it. Grants and returns of the whole run count by group numbers, in the
+-- tree as it is after the run. That is right although a number may be that of a removed group: a group is removed only
+-- with usage 0, so what was granted to it and what was uncharged cancel.
 abbrev pub charged_in_subtree : Run → ℕ → ℕ
 charged_in_subtree run g =
     counted_with_run (charged_in (in_subtree (groups_of run) g)) run

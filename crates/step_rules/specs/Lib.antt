@@ -25,5 +25,6 @@ pub mod Lent
 pub mod Booked
 pub mod Answers
 pub mod Charges
+pub mod References
 pub mod Promise
 pub mod Breaches

@@ -1,7 +1,7 @@
 -- The promise: what every legal run of steps keeps, said of what is shown when the lock is free. The free areas are the
 -- maximal free blocks (Knuth, The Art of Computer Programming, 2.5; Gorman, Understanding the Linux Virtual Memory
 -- Manager, chapter 6). Each frame is in one place. Each memory.current is right, and no grant passed memory.max
--- (cgroup-v2.rst). No frame was returned twice for one use.
+-- (cgroup-v2.rst). No frame was returned twice for one use. References were given and dropped as the answers say.
 use Rattle.std.specs.Prelude.{◌≡◌, ◌⊎◌, ◌↔◌, ℕ, ◌+◌, ◌<◌, ◌≤◌, Bool, true, false, Option, Some, is_some, List, length}
 use Rattle.std.specs.Prelude.{take, slice_get, IfSome, if◌then◌else◌}
 use Rattle.std.specs.List.{Contains}
@@ -28,6 +28,7 @@ use Rattle.step_rules.specs.Units.{units_of}
 use Rattle.step_rules.specs.Counts.{references_in, references_out, counted}
 use Rattle.step_rules.specs.Returns.{awaits_return, is_killed_return, times_in}
 use Rattle.step_rules.specs.Charges.{groups_of, charged_in_subtree}
+use Rattle.step_rules.specs.References.{CountsReferences}
 
 -- ---- what is shown
 -- What is shown: the free areas; each CPU's list and stock; for each frame the group that keeps it, if any; the groups;
@@ -134,7 +135,8 @@ ReturnsNoFrameTwice run seat action answer = Unit {0}
 -- of some set of frames; by the next field these are on no list and kept by no group. Each frame of the zone is in one
 -- place, and no other frame is in any. Each page in a stock is prepaid. Each memory.current is the frames that the
 -- group and its descendants keep and the pages prepaid for them; it is also what is charged to them. Each step of the
--- run, when it was made, kept the limits and returned no frame twice for one use.
+-- run, when it was made, kept the limits, returned no frame twice for one use, and counted references as its answer
+-- says.
 pub record Promise (zone : Zone) (run : Run) (shown : Shown) : Type 0 where
   pub groups : shown.groups ≡ groups_of run
   pub areas : (free : List Bool) × (length free ≡ zone.frames) × AreMaximalBlocks free shown.areas
@@ -146,9 +148,18 @@ pub record Promise (zone : Zone) (run : Run) (shown : Shown) : Type 0 where
       × (shown.current g ≡ charged_in_subtree run g)
   pub limits : (k : ℕ) → IfSome (slice_get run k) (λ e. KeepsLimits (take k run) e.0.action e.1)
   pub returns : (k : ℕ) → IfSome (slice_get run k) (λ e. ReturnsNoFrameTwice (take k run) e.0.seat e.0.action e.1)
+  pub references : (k : ℕ) → IfSome (slice_get run k)
+      (λ e. CountsReferences zone (take k run) (take (k + 1) run) e.0.seat e.0.action e.1)
 
 -- every legal run that leaves the lock free keeps the promise, for whatever shows its state
 abbrev pub ThePromiseIsKept : Type 0
 ThePromiseIsKept = (zone : Zone) (run : Run) (shown : Shown) → IsLegalRun zone run
     → is_unheld (state_of zone run).hold ≡ true
     → IsShown (state_of zone run) shown → Promise zone run shown
+
+-- Each step of a legal run keeps the limits, returns no frame twice for one use, and counts references as its answer
+-- says. This holds of each beginning of the run, even if it leaves the lock held, since the beginning is legal too.
+abbrev pub EachStepIsPromised : Type 0
+EachStepIsPromised = (zone : Zone) (run : Run) → IsLegalRun zone run → (k : ℕ) → IfSome (slice_get run k)
+    (λ e. KeepsLimits (take k run) e.0.action e.1 × ReturnsNoFrameTwice (take k run) e.0.seat e.0.action e.1
+    × CountsReferences zone (take k run) (take (k + 1) run) e.0.seat e.0.action e.1)

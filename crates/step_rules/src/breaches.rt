@@ -2,8 +2,10 @@
 //! something.
 
 ghost use Rattle.std.specs.Prelude.{[]};
+ghost use Rattle.step_rules.specs.declared.step.Action.TheVariants.{Get, Put, Freeze};
+ghost use Rattle.step_rules.specs.declared.step.Answer.TheVariants.{Done, Held, Zero, Full, Left, Last};
 ghost use Rattle.step_rules.specs.After.{IsLegalRun, state_of};
-ghost use Rattle.step_rules.specs.Examples.{small_zone};
+ghost use Rattle.step_rules.specs.Examples.{small_zone, made, life_of_a_frame};
 ghost use Rattle.step_rules.specs.Promise.{IsShown, Promise};
 ghost use Rattle.step_rules.specs.Breaches.{BreaksPromise, past_a_limit, granted_when_killed, returned_unused};
 ghost use Rattle.step_rules.specs.Breaches.{returned_in_use, returned_in_no_unit, returned_again, credited_again};
@@ -11,6 +13,8 @@ ghost use Rattle.step_rules.specs.Breaches.{credited_in_use, consumed_nothing, c
 ghost use Rattle.step_rules.specs.Breaches.{placed_smaller, placed_in_use, placed_ended, placed_for_nobody};
 ghost use Rattle.step_rules.specs.Breaches.{given_after_the_last, put_after_the_last, frozen_after_the_last};
 ghost use Rattle.step_rules.specs.Breaches.{unfrozen_in_no_unit, unfrozen_in_use, kept_run, shown_rightly};
+ghost use Rattle.step_rules.specs.Breaches.{MiscountsReferences, referred_twice, referred_by_one, never_referred};
+ghost use Rattle.step_rules.specs.Breaches.{referred_fully, given_in_no_unit};
 ghost use Rattle.step_rules.specs.Breaches.{IsShownWrongly, seen_nowhere, seen_twice, listed_twice, listed_by_nobody};
 ghost use Rattle.step_rules.specs.Breaches.{kept_in_no_unit, seen_beyond, prepaid_for_nobody, prepaid_left_out};
 ghost use Rattle.step_rules.specs.Breaches.{no_group_seen, IsWrongAfter, shown_free, parted_areas, prepaid_by_nobody};
@@ -54,6 +58,34 @@ pub fn a_reference_after_the_last_breaks_the_promise()
     ensures frozen { BreaksPromise frozen_after_the_last }
     ensures in_no_unit { BreaksPromise unfrozen_in_no_unit }
     ensures in_use { BreaksPromise unfrozen_in_use }
+{}
+
+/// A get answered Held breaks the promise on a frame without references: a free one, one that was returned, or a unit
+/// that never had any. So it does at 255 references, for a seat that doesn't exist, and on a frame that heads no unit.
+/// Zero breaks it if there is a reference, Full if there are fewer than 255.
+pub fn a_reference_given_wrongly_breaks_the_promise()
+    ensures free { MiscountsReferences kept_run (made 2 (Get 1) Held) }
+    ensures returned { MiscountsReferences life_of_a_frame (made 2 (Get 0) Held) }
+    ensures unreferred { MiscountsReferences never_referred (made 2 (Get 0) Held) }
+    ensures nobody { MiscountsReferences kept_run (made 3 (Get 0) Held) }
+    ensures past_255 { MiscountsReferences referred_fully (made 2 (Get 0) Held) }
+    ensures in_no_unit { BreaksPromise given_in_no_unit }
+    ensures zero { MiscountsReferences kept_run (made 2 (Get 0) Zero) }
+    ensures full { MiscountsReferences kept_run (made 2 (Get 0) Full) }
+{}
+
+/// A put breaks the promise if the seat has no reference, if it leaves another number than its answer says, or if that
+/// number is 0. Last breaks it if a reference is left. A freeze breaks it if another seat has a reference, or if it
+/// takes none, or more than seat 0 has.
+pub fn a_reference_dropped_wrongly_breaks_the_promise()
+    ensures anothers { MiscountsReferences kept_run (made 2 (Put 0) (Left 1)) }
+    ensures too_many_left { MiscountsReferences referred_twice (made 2 (Put 0) (Left 2)) }
+    ensures left_none { MiscountsReferences referred_by_one (made 2 (Put 0) (Left 0)) }
+    ensures last_of_none { MiscountsReferences kept_run (made 2 (Put 1) Last) }
+    ensures last_of_two { MiscountsReferences referred_twice (made 2 (Put 0) Last) }
+    ensures frozen_elsewhere { MiscountsReferences referred_twice (made 0 (Freeze 0 1) Done) }
+    ensures frozen_too_many { MiscountsReferences referred_fully (made 0 (Freeze 0 256) Done) }
+    ensures frozen_none { MiscountsReferences never_referred (made 0 (Freeze 0 0) Done) }
 {}
 
 /// What is shown after a small run keeps the promise: one frame kept, one free, and one page in a stock.

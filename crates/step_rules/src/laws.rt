@@ -1,6 +1,6 @@
 //! Laws of the rules: what each function ensures holds of every legal run.
 
-ghost use Rattle.step_rules.specs.Promise.{ThePromiseIsKept};
+ghost use Rattle.step_rules.specs.Promise.{ThePromiseIsKept, EachStepIsPromised};
 ghost use Rattle.step_rules.specs.Laws.{OwnStepIsLegal, OtherStepIsHidden};
 ghost use Rattle.step_rules.specs.Seen.{AllLegalityIsSeen, LockIsPassedOn, AllIsSeen};
 ghost use Rattle.step_rules.specs.Reaches.{LocalRunsInterleave, LocalRunsCompose};
@@ -22,10 +22,16 @@ ghost use Rattle.step_rules.specs.Answers.{AnswersAreDetermined, EveryStepIsAnsw
 ghost use Rattle.step_rules.specs.Counts.{ReferencesAreCounted, StocksAreCounted, BooksAreCounted};
 
 /// After every legal run that leaves the lock free, what is shown keeps the promise. The free areas are maximal, each
-/// frame is in one place, and each memory.current is right. No grant passed a limit, and no frame was returned twice
-/// for one use.
+/// frame is in one place, and each memory.current is right. No grant passed a limit, no frame was returned twice for
+/// one use, and references were given and dropped as the answers say.
 pub fn the_promise_is_kept()
     ensures { ThePromiseIsKept }
+{}
+
+/// At every beginning of a legal run, whether the lock is free or not, the next step keeps the limits, returns no frame
+/// twice for one use, and counts references as its answer says.
+pub fn each_step_is_promised()
+    ensures { EachStepIsPromised }
 {}
 
 /// While a CPU holds the lock, let it or the zone's seat make a step other than Lock and Unlock. If what the CPU sees
