@@ -84,12 +84,6 @@ const GOOD_WORDS: [(&str, Task, [u32; 5], [bool; 3]); 21] = [
         [16, 9, 4, 8, 4],
         PLAIN,
     ),
-    (
-        "replay --high=9 --trace",
-        Task::Trace,
-        [16, 2, 4, 9, 4],
-        PLAIN,
-    ),
     ("--version", Task::Version, [16, 2, 4, 8, 4], PLAIN),
     ("-V", Task::Version, [16, 2, 4, 8, 4], PLAIN),
 ];

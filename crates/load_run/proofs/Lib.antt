@@ -12,4 +12,3 @@ pub mod Written
 pub mod Telling
 pub mod Watched
 pub mod Logged
-pub mod TraceMade

@@ -14,8 +14,7 @@ use Rattle.script_replay.specs.Terms.{Terms, terms}
 use Rattle.script_replay.proofs.InOrder.{in_order_line}
 use Rattle.script_replay.proofs.Seeing.{line_seen}
 use Rattle.load_run.specs.Ending.{LeavesNothing}
-use Rattle.script_traces.specs.Traces.{GrowsBy}
-use Rattle.load_run.specs.Logs.{LogsAll, LogsAllAndEnd, LogsLine, line_comment}
+use Rattle.load_run.specs.Logs.{GrowsBy, LogsAll, LogsAllAndEnd, LogsLine, line_comment}
 
 -- what comes from two facts of a good result
 pub on_both : {T E : Type 0} (r : Result T E) (P Q R : Type 0) → (P → Q → R) → OnOk r P → OnOk r Q → OnOk r R

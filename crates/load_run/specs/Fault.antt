@@ -8,7 +8,7 @@ use Rattle.script_lines.specs.Script.{NamesFirstBadLine}
 use Rattle.load_options.specs.declared.fault.WordsFault.TheVariants as words
 use Rattle.load_options.specs.declared.task.Options.{Options}
 use Rattle.load_options.specs.declared.task.Task.{Task}
-use Rattle.load_options.specs.declared.task.Task.TheVariants.{Replay, Steps, Trace, Run, Check, Lint, Serve, Version}
+use Rattle.load_options.specs.declared.task.Task.TheVariants.{Replay, Steps, Run, Check, Lint, Serve, Version}
 use Rattle.load_options.specs.Words.{GivesOptions}
 use Rattle.load_run.specs.declared.fault.ProgramFault.{ProgramFault}
 use Rattle.load_run.specs.declared.fault.ProgramFault.TheVariants.{Words, Script, BadLogLine, BadConfig}
@@ -70,7 +70,6 @@ IsScriptFault sizes script fault = ⊥
 abbrev pub checks_steps : Task → Bool
 checks_steps (Replay is_explained is_checked) = is_checked
 checks_steps Steps = false
-checks_steps Trace = false
 checks_steps Run = false
 checks_steps Check = false
 checks_steps Lint = false

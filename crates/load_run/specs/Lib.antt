@@ -9,5 +9,4 @@ pub mod Logs
 pub mod Refusals
 pub mod Sessions
 pub mod Starting
-pub mod Traced
 pub mod Versions

@@ -1,6 +1,6 @@
 -- What the steps of a script are as a log: the zone's sizes, and before the steps of each line a comment that names it.
-use Rattle.std.specs.Prelude.{◌≡◌, ℕ, ◌&&◌, nat_le, if◌then◌else◌, false, List, [], ◌∷◌, ◌++◌, codes, decimal, map}
-use Rattle.std.specs.Prelude.{take}
+use Rattle.std.specs.Prelude.{◌≡◌, ℕ, ◌-◌, ◌==◌, ◌&&◌, nat_le, if◌then◌else◌, false, List, [], ◌∷◌, ◌++◌, codes}
+use Rattle.std.specs.Prelude.{decimal, get_or, map, take}
 use Rattle.frame_word.specs.Seats.{KnownTable}
 use Rattle.stock_word.specs.Stock.{KnownStockTable}
 use Rattle.zone_sizes.specs.declared.config.Config.{Config}
@@ -12,7 +12,6 @@ use Rattle.script_lines.specs.declared.line.Line.TheVariants.{Go, At}
 use Rattle.script_lines.specs.Script.{texts_of}
 use Rattle.script_replay.specs.Lines.{InOrder, ServesLine, SystemState}
 use Rattle.script_replay.specs.Terms.{Terms, terms}
-use Rattle.script_traces.specs.Commands.{text_at}
 use Rattle.load_run.specs.Ending.{LeavesNothing}
 use Rattle.load_run.specs.Starting.{IsNewBootState}
 
@@ -28,6 +27,10 @@ comment_front number = codes "# line " ++ (decimal number ++ codes ": ")
 abbrev pub comment_text : ℕ → List ℕ → List ℕ
 comment_text number text = take longest_line (comment_front number ++ map printed text)
 
+-- the text of the line of this number, from 1, among all texts of the script; nothing if there is none
+abbrev pub text_at : List (List ℕ) → ℕ → List ℕ
+text_at texts number = if number == 0 then [] else get_or texts (number - 1) []
+
 -- the comment before the steps of a line; `go` makes no step, and has none
 abbrev pub line_comment : List (List ℕ) → Line → List ℕ
 line_comment texts Go = []
@@ -39,6 +42,12 @@ pub record LogsLine (terms : Terms) (texts : List (List ℕ)) (line : Line) (bef
   pub answer : List ℕ
   pub serves : ServesLine terms line before after answer
   pub log_is : log ≡ line_comment texts line ++ steps_text serves.steps
+
+-- bytes that have grown by a text of which `is_added` holds
+pub record GrowsBy (is_added : List ℕ → Type 0) (before after : List ℕ) : Type 0 where
+  pub text : List ℕ
+  pub so : is_added text
+  pub added : after ≡ before ++ text
 
 -- the log of lines that are served one after the other
 abbrev pub LogsAll : Terms → List (List ℕ) → List Line → (before after : SystemState) (log : List ℕ) → Type 0

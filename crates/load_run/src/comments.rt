@@ -1,12 +1,11 @@
 //! The comments of a log: each names the line of the script whose steps follow.
 
 ghost use Rattle.std.specs.Prelude.{◌≡◌, ◌++◌, IfOk, map};
-ghost use Rattle.load_run.specs.Logs.{comment_front, comment_text, line_comment, printed};
+ghost use Rattle.load_run.specs.Logs.{comment_front, comment_text, line_comment, printed, text_at};
 
 use itoa::Buffer;
 use script_lines::line::Line;
 use script_lines::script::MAX_LINE;
-use script_traces::text_at;
 use std::alloc::{AllocError, Global};
 
 // A byte of a comment: one outside 32 to 126 is shown as `?`.
@@ -49,6 +48,19 @@ fn comment(alloc: Global, number: usize, command: &[u8]) -> Result<Vec<u8>, Allo
     add_printed(command, &mut text)?;
     text.truncate(MAX_LINE);
     Ok(text)
+}
+
+// The text of the line of this number, from 1; nothing if there is none.
+fn text_at<'a>(texts: &[&'a [u8]], number: usize) -> &'a [u8]
+    ensures { result.now ≡ text_at (map (λ text. text.now) texts.now) number }
+{
+    if number == 0 {
+        return &[];
+    }
+    match texts.get(number - 1) {
+        Some(text) => text,
+        None => &[],
+    }
 }
 
 /// Adds the comment before the steps of a line. `go` has none.

@@ -7,8 +7,7 @@ ghost use Rattle.script_replay.specs.Lines.{system_state};
 ghost use Rattle.script_replay.specs.Ranges.{LineInRange};
 ghost use Rattle.script_replay.specs.Terms.{terms};
 ghost use Rattle.step_watch.specs.Watched.{has_whole_log, log_text};
-ghost use Rattle.script_traces.specs.Traces.{GrowsBy};
-ghost use Rattle.load_run.specs.Logs.{AreLoggedSteps, LogsAll, LogsAllAndEnd, LogsLine};
+ghost use Rattle.load_run.specs.Logs.{AreLoggedSteps, GrowsBy, LogsAll, LogsAllAndEnd, LogsLine};
 
 use crate::boot_end::empty_cpus;
 use crate::comments::add_comment;

@@ -27,7 +27,6 @@ use crate::refusals::answered_status;
 use crate::replaying::replay_on_boot;
 use crate::serving::drive_serve;
 use crate::thread_running::run_by_threads;
-use crate::tracing::trace_on_boot;
 use crate::versions::drive_version;
 use cpu_part::BootName;
 use line_streams::write_whole;
@@ -93,7 +92,6 @@ fn drive_task<R: Threads + Wait + Sync, I: Read, O: Write, F: Write>(
         Task::Replay { .. } => drive_script(rt, alloc, options, input, output, faults),
         Task::Run => drive_script(rt, alloc, options, input, output, faults),
         Task::Steps => drive_script(rt, alloc, options, input, output, faults),
-        Task::Trace => drive_script(rt, alloc, options, input, output, faults),
         Task::Serve { is_explained } => {
             drive_serve(alloc, options, is_explained, input, output, faults)
         }
@@ -237,10 +235,6 @@ fn answers_on_boot<N: BootName + Send + Sync, R: Threads + Wait + Sync>(
         }
         Task::Steps => match steps_on_boot::<N>(alloc, boot, options.sizes, script, lines) {
             Ok(log) => Ok(log),
-            Err(error) => Err(ProgramFault::NoMemory(error)),
-        },
-        Task::Trace => match trace_on_boot::<N>(alloc, boot, options.sizes, script, lines) {
-            Ok(trace) => Ok(trace),
             Err(error) => Err(ProgramFault::NoMemory(error)),
         },
         Task::Check | Task::Lint | Task::Serve { .. } | Task::Version => unreachable!(),

@@ -6,8 +6,7 @@ use Rattle.mem_system.proofs.Closing.{written_back}
 use Rattle.script_replay.specs.Lines.{SystemState, system_state}
 use Rattle.script_replay.specs.Terms.{terms}
 use Rattle.load_run.specs.Ending.{LeavesNothing}
-use Rattle.script_traces.specs.Traces.{GrowsBy}
-use Rattle.load_run.specs.Logs.{LogsAll}
+use Rattle.load_run.specs.Logs.{GrowsBy, LogsAll}
 use Rattle.load_run.proofs.Logged.{end_logged, on_both, wrote_more}
 use Rattle.load_run.proofs.logging.log_and_end_boot.Goals as goal
 

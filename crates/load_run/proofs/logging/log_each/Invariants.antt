@@ -1,8 +1,7 @@
 use Rattle.std.proofs.Common.{false, map, take}
 use Rattle.script_replay.specs.Lines.{InOrder, system_state}
 use Rattle.script_replay.specs.Terms.{terms}
-use Rattle.script_traces.specs.Traces.{GrowsBy}
-use Rattle.load_run.specs.Logs.{LogsLine}
+use Rattle.load_run.specs.Logs.{GrowsBy, LogsLine}
 use Rattle.load_run.proofs.logging.log_each.Given as goal
 
 abbrev pub invariant-loop-next : goal.invariant-loop-next
