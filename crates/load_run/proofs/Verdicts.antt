@@ -233,7 +233,7 @@ drives_words (Some options) input output faults faults_after fault status is end
         → DrivesSession options is_explained input (written output faults) (written output faults_after) status
     for_serve is_explained (Words (words.NoMemory e)) is ended told =
         drives_failed options is_explained input output output faults faults_after (Words (words.NoMemory e)) status
-        (record { at_work = tt; left = inl refl }) ended told
+        (record { at_work = tt; valid = tt; left = inl refl }) ended told
     for_serve is_explained (Words (words.BadWords text)) is ended told = absurd (false≢true (sym (ap is_some is)))
     for_serve is_explained (Script f) is ended told = absurd is
     for_serve is_explained (BadLogLine n) is ended told = absurd is
