@@ -19,11 +19,23 @@ const GOOD_SCRIPT: &str = "1 mkdir /a\n1 alloc /a 0\n1 blocks\n1 read /a memory.
 
 const GOOD_ANSWERS: &str = "group 1\nframe 0\n2:4 3:8\n16384\n";
 
+// A session ends each answer with an empty line.
+const SESSION_ANSWERS: &str = "group 1\n\nframe 0\n\n2:4 3:8\n\n16384\n\n";
+
+const GOOD_LOG: &str = "zone 16 2\n# a comment\n1 lock > done\n0 open 1 > done\n0 shut 1 > done\n1 unlock > done\n";
+
+const GOOD_VERDICT: &str = "legal: 4 steps, the promise holds\n";
+
+// The run succeeded, with this output and no fault.
+fn is_good(ended: &ProgramRun, output: &str) -> bool {
+    ended.status == 0
+        && ended.output.as_slice() == output.as_bytes()
+        && ended.faults.is_empty()
+}
+
 // The run succeeded, with the answers to `GOOD_SCRIPT` and no fault.
 fn script_is_answered(ended: &ProgramRun) -> bool {
-    ended.status == 0
-        && ended.output.as_slice() == GOOD_ANSWERS.as_bytes()
-        && ended.faults.is_empty()
+    is_good(ended, GOOD_ANSWERS)
 }
 
 #[test]
@@ -35,12 +47,16 @@ fn ends_well_where_nothing_fails(rt: HostRuntime) {
     }
 }
 
-// A reader of `GOOD_SCRIPT`. One of its reads fails, after this many good ones.
-fn reader_that_fails(good_reads: u32, read_fault: ErrorKind) -> ScriptReader<'static> {
+// A reader of this input. One of its reads fails, after this many good ones.
+fn reader_that_fails(
+    input: &'static str,
+    good_reads: u32,
+    read_fault: ErrorKind,
+) -> ScriptReader<'static> {
     ScriptReader {
         good_reads: Some(good_reads),
         read_fault,
-        ..script_reader(GOOD_SCRIPT.as_bytes())
+        ..script_reader(input.as_bytes())
     }
 }
 
@@ -52,7 +68,8 @@ fn failed_reads(
 ) -> u32 {
     let told = "input failed\n";
     for good in 0..100 {
-        let ended = run_program(rt, &PLAIN, reader_that_fails(good, read_fault), 10_000);
+        let script = reader_that_fails(GOOD_SCRIPT, good, read_fault);
+        let ended = run_program(rt, &PLAIN, script, 10_000);
         if ended.status == 0 {
             expect_row(rt, script_is_answered(&ended), told);
             return good;
@@ -74,23 +91,44 @@ fn tells_that_the_input_failed(rt: HostRuntime) {
     expect_true(&rt, failed_reads(&rt, ErrorKind::UnexpectedEof) == failed);
 }
 
-#[test]
-fn reads_on_after_an_interrupt(rt: HostRuntime) {
-    for good in 0..20 {
-        let script = reader_that_fails(good, ErrorKind::Interrupted);
-        let ended = run_program(&rt, &PLAIN, script, 10_000);
-        expect_true(&rt, script_is_answered(&ended));
+// Lets each read of this input be interrupted in turn. Each run with this word must end with this output.
+fn reads_on(
+    rt: &(impl AllocGlobal + Threads + Wait + Abort + Sync),
+    word: &str,
+    input: &'static str,
+    output: &str,
+) {
+    for good in 0..30 {
+        let reader = reader_that_fails(input, good, ErrorKind::Interrupted);
+        let ended = run_program(rt, &[word], reader, 10_000);
+        expect_row(rt, is_good(&ended, output), word);
     }
 }
 
-// Runs `GOOD_SCRIPT` with this writer for the answers.
-fn run_to(
+#[test]
+fn reads_on_after_an_interrupt(rt: HostRuntime) {
+    reads_on(&rt, "replay", GOOD_SCRIPT, GOOD_ANSWERS);
+    reads_on(&rt, "serve", GOOD_SCRIPT, SESSION_ANSWERS);
+    reads_on(&rt, "check", GOOD_LOG, GOOD_VERDICT);
+}
+
+// Runs `GOOD_SCRIPT` by this word, with this writer for the answers.
+fn run_word_to(
     rt: &(impl AllocGlobal + Threads + Wait + Abort + Sync),
+    word: &str,
     output: AnswerWriter,
 ) -> ProgramRun {
     let mut script = script_reader(GOOD_SCRIPT.as_bytes());
     let faults = writer_with_room(rt, 100);
-    run_program_on(rt, &PLAIN, &mut script, output, faults)
+    run_program_on(rt, &[word], &mut script, output, faults)
+}
+
+// Replays `GOOD_SCRIPT` with this writer for the answers.
+fn run_to(
+    rt: &(impl AllocGlobal + Threads + Wait + Abort + Sync),
+    output: AnswerWriter,
+) -> ProgramRun {
+    run_word_to(rt, "replay", output)
 }
 
 // The run reported that its output failed, and wrote these answers before.
@@ -145,9 +183,21 @@ fn tells_that_the_output_failed(rt: HostRuntime) {
         }
         answers_are_written(&rt, bytes_at_once);
     }
-    let mut unflushed = writer_with_room(&rt, 100);
-    unflushed.flushes = false;
-    expect_true(&rt, answers_are_cut_short(&run_to(&rt, unflushed), answers));
+    expect_true(&rt, answers_are_cut_short(&run_to(&rt, unflushed(&rt)), answers));
+}
+
+// A writer whose flushes fail.
+fn unflushed(rt: &(impl Abort + AllocGlobal)) -> AnswerWriter {
+    let mut writer = writer_with_room(rt, 100);
+    writer.flushes = false;
+    writer
+}
+
+// A session flushes the answer of a line before it waits for the next one.
+#[test]
+fn a_session_ends_at_a_flush_that_fails(rt: HostRuntime) {
+    let ended = run_word_to(&rt, "serve", unflushed(&rt));
+    expect_true(&rt, answers_are_cut_short(&ended, b"group 1\n\n"));
 }
 
 // If there is room only for this part of the fault, the run ends with the same status.

@@ -6,7 +6,7 @@ use zone_sizes::config::Config;
 
 // Good words, separated by single spaces, and what they ask for: the task; frames, CPUs, `batch`, `high` and `stock`;
 // and whether the end is audited, lines are numbered, and refusals count.
-const GOOD_WORDS: [(&str, Task, [u32; 5], [bool; 3]); 21] = [
+const GOOD_WORDS: [(&str, Task, [u32; 5], [bool; 3]); 20] = [
     ("replay", PLAIN_REPLAY, [16, 2, 4, 8, 4], PLAIN),
     ("replay --frames=9", PLAIN_REPLAY, [9, 2, 4, 8, 4], PLAIN),
     ("replay --cpus=9", PLAIN_REPLAY, [16, 9, 4, 8, 4], PLAIN),
@@ -82,12 +82,6 @@ const GOOD_WORDS: [(&str, Task, [u32; 5], [bool; 3]); 21] = [
         "replay --steps --cpus=9",
         Task::Steps,
         [16, 9, 4, 8, 4],
-        PLAIN,
-    ),
-    (
-        "replay --high=9 --trace",
-        Task::Trace,
-        [16, 2, 4, 9, 4],
         PLAIN,
     ),
     ("--version", Task::Version, [16, 2, 4, 8, 4], PLAIN),

@@ -14,7 +14,7 @@ use Rattle.zone_sizes.specs.declared.config.Config.{Config}
 use Rattle.zone_sizes.specs.Config.{most_batch, most_cpus, most_frames, most_high, most_stock}
 use Rattle.load_options.specs.declared.task.Options.{Options}
 use Rattle.load_options.specs.declared.task.Task.{Task}
-use Rattle.load_options.specs.declared.task.Task.TheVariants.{Replay, Steps, Trace, Run, Check, Lint, Serve, Version}
+use Rattle.load_options.specs.declared.task.Task.TheVariants.{Replay, Steps, Run, Check, Lint, Serve, Version}
 use Rattle.load_options.specs.declared.fault.WordsFault.{WordsFault}
 use Rattle.load_options.specs.declared.fault.WordsFault.TheVariants.{BadWords, NoMemory}
 
@@ -58,12 +58,12 @@ sized_shape name = record (new_shape name) { rules = size_rules }
 abbrev pub command_shape : List ℕ → Shape
 command_shape name = record (new_shape name) { rules = task_rules }
 
--- `replay`, which has four more options
+-- `replay`, which has three more options
 abbrev pub replay_shape : Shape
 replay_shape = record (command_shape (codes "replay")) {
   rules =
-      (((task_rules ++ flag_rule (codes "explain") ∷ []) ++ flag_rule (codes "check") ∷ [])
-      ++ flag_rule (codes "steps") ∷ []) ++ flag_rule (codes "trace") ∷ [];
+      ((task_rules ++ flag_rule (codes "explain") ∷ []) ++ flag_rule (codes "check") ∷ [])
+      ++ flag_rule (codes "steps") ∷ [];
 }
 
 -- `serve`, which has two more options than the sizes
@@ -132,26 +132,20 @@ abbrev pub has_task_flag : List Row → Bool
 has_task_flag found =
     is_given (codes "audit") found || (is_given (codes "numbered") found || is_given (codes "strict") found)
 
--- whether a flag of `replay` is given besides `--steps` and `--trace`
+-- whether a flag of `replay` is given besides `--steps`
 abbrev pub has_other_flag : List Row → Bool
 has_other_flag found =
     is_given (codes "explain") found || (is_given (codes "check") found || has_task_flag found)
-
--- this task of `replay`, if no flag is given that it doesn't go with
-abbrev pub task_alone : List Row → Task → Option Task
-task_alone found task = if has_other_flag found then None else Some task
 
 -- the task of `replay` that writes the answers, with its own options
 abbrev pub answering_task : List Row → Task
 answering_task found = Replay (is_given (codes "explain") found) (is_given (codes "check") found)
 
--- the task of `replay`, with the options of this task alone; `--steps` and `--trace` go with no other flag
-unfoldable pub replay_task_in : List Row → Option Task
+-- the task of `replay`, with the options of this task alone; `--steps` goes with no other flag
+abbrev pub replay_task_in : List Row → Option Task
 replay_task_in found =
-    if is_given (codes "trace") found
-    then if is_given (codes "steps") found then None else task_alone found Trace
-    else if is_given (codes "steps") found
-    then task_alone found Steps
+    if is_given (codes "steps") found
+    then if has_other_flag found then None else Some Steps
     else Some (answering_task found)
 
 -- the task on a script that has this name

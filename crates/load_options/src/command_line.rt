@@ -11,10 +11,10 @@ ghost use Rattle.load_options.specs.Words.{flag_rule, options_of, program, repla
 ghost use Rattle.load_options.specs.Words.{sized_shape};
 
 use crate::fault::WordsFault;
-use crate::task::{Options, VERSION_OPTIONS, is_traced, read_options};
+use crate::task::{Options, VERSION_OPTIONS, read_options};
 use clap::builder::ValueParser;
 use clap::error::ErrorKind;
-use clap::{Arg, ArgAction, ArgMatches, Command, Error, value_parser};
+use clap::{Arg, ArgAction, Command, Error, value_parser};
 use std::alloc::{AllocError, Global};
 use std::convert::AsStr;
 use std::rt::Env;
@@ -59,19 +59,13 @@ const EXPLAIN_HELP: &str = "Explains after an answer what was drained, reclaimed
 const CHECKED_HELP: &str =
     "Checks each step against the rules, and reports how many steps there were";
 
-const STEPS_HELP: &str = "Writes the steps of the lines as a log, in place of the answers";
-
-const TRACE_HELP: &str =
-    "Writes each line with its answer and what it changed, as JSON, in place of the answers";
+const STEPS_HELP: &str =
+    "Writes the steps of the lines as a log, with the answers as comments, in place of the answers";
 
 // Why the words are refused though clap takes each of them.
 const STEPS_ALONE: &str =
     "the argument '--steps' cannot be used with '--audit', '--numbered', '--strict', '--explain' \
     or '--check'";
-
-const TRACE_ALONE: &str =
-    "the argument '--trace' cannot be used with '--audit', '--numbered', '--strict', '--explain', \
-    '--check' or '--steps'";
 
 /// The words of the command line after the program's name. A word that isn't UTF-8 is a fault of the words. It has no
 /// contract: no clause can name the words with which a process was started.
@@ -90,9 +84,9 @@ pub fn words<R: Env + AllocGlobal>(rt: &R) -> Result<Vec<String>, WordsFault> {
 
 /// Parses the words after the program's name. They are `replay`, `run`, `lint` or `serve`, then any of `--frames`,
 /// `--cpus`, `--batch`, `--high` and `--stock`. After `replay` and `run` there may also be `--audit`, `--numbered` and
-/// `--strict`, and after `replay` `--explain` and `--check`. After `replay` there may be `--steps` or `--trace` instead
-/// of these five. After `serve` there may be `--audit` and `--explain`. Each is given at most once. Or the words are
-/// `check` alone, or `--version` or `-V` alone. Anything else is a fault of the words, even a request for help.
+/// `--strict`, and after `replay` `--explain` and `--check`. After `replay` there may be `--steps` instead of these
+/// five. After `serve` there may be `--audit` and `--explain`. Each is given at most once. Or the words are `check`
+/// alone, or `--version` or `-V` alone. Anything else is a fault of the words, even a request for help.
 ///
 /// A size is a whole number in its own range: 1 to 1,048,576 frames, 1 to 64 CPUs, batch 1 to 64, high 1 to 256,
 /// stock 1 to 64. `Config::is_valid` requires more: high is at least batch. The defaults are 16, 2, 4, 8 and 4.
@@ -110,23 +104,14 @@ pub fn options<S: AsStr>(alloc: Global, words: &[S]) -> Result<Options, WordsFau
     };
     match read_options(&found) {
         Some(options) => Ok(options),
-        // Clap takes `--steps` and `--trace` with any other option. Nothing else leads here: clap refuses words without
-        // a subcommand and values out of range, and every size has a default. But its contract says none of that.
+        // Clap takes `--steps` with any other option. Nothing else leads here: clap refuses words without a subcommand
+        // and values out of range, and every size has a default. But its contract says none of that.
         None => {
             let error = command
-                .error(ErrorKind::ArgumentConflict, conflict(&found))
+                .error(ErrorKind::ArgumentConflict, STEPS_ALONE)
                 .map_err(WordsFault::NoMemory)?;
             Err(fault_of(alloc, &error))
         }
-    }
-}
-
-// Which options don't go together, if clap takes each of them.
-fn conflict(found: &ArgMatches<'_>) -> &'static str {
-    if is_traced(found) {
-        TRACE_ALONE
-    } else {
-        STEPS_ALONE
     }
 }
 
@@ -178,7 +163,7 @@ fn bare_command<'a>(alloc: Global) -> Result<Command<'a>, AllocError>
     )
 }
 
-// `replay`, which has four more options.
+// `replay`, which has three more options.
 fn replay_command<'a>(alloc: Global) -> Result<Command<'a>, AllocError>
     ensures shape { IfOk result (λ command. (app_of command).top ≡ replay_shape) }
     ensures local { IfOk result (λ command. (fields_of command).has_globals ≡ false) }
@@ -186,8 +171,7 @@ fn replay_command<'a>(alloc: Global) -> Result<Command<'a>, AllocError>
     subcommand(alloc, "replay", REPLAY_HELP)?
         .arg(flag_option(alloc, "explain", EXPLAIN_HELP))?
         .arg(flag_option(alloc, "check", CHECKED_HELP))?
-        .arg(flag_option(alloc, "steps", STEPS_HELP))?
-        .arg(flag_option(alloc, "trace", TRACE_HELP))
+        .arg(flag_option(alloc, "steps", STEPS_HELP))
 }
 
 // `serve`, which has two more options than the sizes.

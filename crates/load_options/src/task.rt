@@ -1,12 +1,11 @@
 //! What the words of the command line ask for, read from clap's matches.
 
-ghost use Rattle.std.specs.Prelude.{◌≡◌, ◌≤◌, IfSome, codes, false, option_and_then};
-ghost use Rattle.std.specs.Option.{option_map_or};
+ghost use Rattle.std.specs.Prelude.{◌≡◌, ◌≤◌, IfSome, option_and_then};
 ghost use Rattle.clap.specs.Words.{found_of, rows_of, subcommand_rows_of};
 ghost use Rattle.load_options.specs.Sizes.{HasSizesInRange};
 ghost use Rattle.load_options.specs.Words.{answering_task, has_other_flag, has_task_flag, is_given, number_kept};
 ghost use Rattle.load_options.specs.Words.{options_under, replay_task_in, script_options_under, size_in, sizes_in};
-ghost use Rattle.load_options.specs.Words.{task_alone, task_in};
+ghost use Rattle.load_options.specs.Words.{task_in};
 
 use clap::ArgMatches;
 use zone_sizes::config::Config;
@@ -21,11 +20,9 @@ pub enum Task {
         /// Whether each step is checked against the rules.
         is_checked: bool,
     },
-    /// The lines run one after another, and their steps are written as a log in place of the answers.
+    /// The lines run one after another, and a log is written in place of the answers: each line with its steps, and
+    /// with its answer as a comment.
     Steps,
-    /// The lines run one after another, and a trace is written in place of the answers: each line with its answer, and
-    /// what it changed.
-    Trace,
     /// The lines from `go` on run in one thread for each CPU.
     Run,
     /// The input is a log, which is checked.
@@ -133,28 +130,16 @@ fn named_task(name: &str, given: &ArgMatches<'_>) -> Option<Task>
     }
 }
 
-// The task of `replay`. `--steps` and `--trace` go with no other flag.
-#[tactic(auto, unfolding(crate::specs::Words::replay_task_in))]
+// The task of `replay`. `--steps` goes with no other flag.
 fn replay_task(given: &ArgMatches<'_>) -> Option<Task>
     ensures { result ≡ replay_task_in (rows_of (found_of given.now)) }
 {
-    let has_steps = is_set(given, "steps");
-    match (is_set(given, "trace"), has_steps) {
-        (true, true) => None,
-        (true, false) => task_alone(given, Task::Trace),
-        (false, true) => task_alone(given, Task::Steps),
-        (false, false) => Some(answering_task(given)),
-    }
-}
-
-// This task of `replay`, if no flag is given that it doesn't go with.
-fn task_alone(given: &ArgMatches<'_>, task: Task) -> Option<Task>
-    ensures { result ≡ task_alone (rows_of (found_of given.now)) task }
-{
-    if has_other_flag(given) {
+    if !is_set(given, "steps") {
+        Some(answering_task(given))
+    } else if has_other_flag(given) {
         None
     } else {
-        Some(task)
+        Some(Task::Steps)
     }
 }
 
@@ -170,21 +155,11 @@ fn answering_task(given: &ArgMatches<'_>) -> Task
     }
 }
 
-// Whether a flag of `replay` is given besides `--steps` and `--trace`.
+// Whether a flag of `replay` is given besides `--steps`.
 fn has_other_flag(given: &ArgMatches<'_>) -> bool
     ensures { result ≡ has_other_flag (rows_of (found_of given.now)) }
 {
     is_set(given, "explain") || is_set(given, "check") || has_task_flag(given)
-}
-
-// Whether a trace is asked for.
-pub(crate) fn is_traced(found: &ArgMatches<'_>) -> bool
-    ensures { result ≡ option_map_or (λ p. is_given (codes "trace") p.1) (subcommand_rows_of found.now) false }
-{
-    match found.subcommand() {
-        Some((_, given)) => is_set(given, "trace"),
-        None => false,
-    }
 }
 
 // Whether a flag is given that both `replay` and `run` have.

@@ -8,7 +8,6 @@ use Rattle.script_lines.specs.Script.{IsScript}
 use Rattle.zone_sizes.specs.declared.config.Config.{Config}
 use Rattle.zone_sizes.specs.Config.{IsValidConfig}
 use Rattle.load_options.specs.declared.task.Options.{Options}
-use Rattle.load_options.specs.declared.task.Task.{Task}
 use Rattle.load_run.specs.declared.fault.ProgramFault.{ProgramFault}
 use Rattle.load_run.specs.declared.fault.ProgramFault.TheVariants.{Words, Script, BadLogLine, BadConfig, IllegalLine, IllegalEnd, Input, Output, NoMemory}
 use Rattle.load_run.specs.Answers.{IsAnswered, bytes_read}
@@ -71,45 +70,44 @@ script_cause asked options (Some bytes) text Input is_asked in_range read is = a
 script_cause asked options (Some bytes) text Output is_asked in_range read is = absurd is
 script_cause asked options (Some bytes) text (NoMemory e) is_asked in_range read is = absurd is
 
+-- what was read is all of the input, if it is a script
+whole_script : (options : Options) (bytes text : List ℕ) (lines : List Line) → text ≡ bytes_read bytes → IsScript options.sizes text lines
+    → IsScript options.sizes bytes lines
+whole_script options bytes text lines read script =
+    let fits = script.fits in
+    let len : length text ≡ length (take 1048577 bytes) = ap length read in
+    let taken = length-take 1048577 bytes in
+    subst (λ (l : List ℕ). IsScript options.sizes l lines) (read ∙ take_all 1048577 bytes (omega arith)) script
+
 -- no boot answered the script
 pub boot_cause : (asked : Option Options) (options : Options) (input : Option (List ℕ)) (text : List ℕ) (lines : List Line)
     (fault : ProgramFault) → asked ≡ Some options → IfSome input (λ bytes. text ≡ bytes_read bytes)
-    → IsScript options.sizes text lines → IsBootFault options.task options.sizes fault → IfSome input (HasCause asked fault)
+    → IsScript options.sizes text lines → IsBootFault options lines fault → IfSome input (HasCause asked fault)
 boot_cause asked options None text lines fault is_asked read script is = tt
 boot_cause asked options (Some bytes) text lines (Words fault) is_asked read script is = absurd is.0
 boot_cause asked options (Some bytes) text lines (Script fault) is_asked read script is = absurd is.0
 boot_cause asked options (Some bytes) text lines (BadLogLine number) is_asked read script is = absurd is.0
-boot_cause asked options (Some bytes) text lines BadConfig is_asked read script is = record {
-  options = options;
-  is_asked = is_asked;
-  lines = lines;
-  script = subst (λ (l : List ℕ). IsScript options.sizes l lines) (read ∙ whole) script;
-  refused = is;
-}
-  where
-    whole : take 1048577 bytes ≡ bytes
-    whole =
-        let fits = script.fits in
-        let len : length text ≡ length (take 1048577 bytes) = ap length read in
-        let taken = length-take 1048577 bytes in
-        take_all 1048577 bytes (omega arith)
-boot_cause asked options (Some bytes) text lines (IllegalLine number) is_asked read script is = record { options = options; is_asked = is_asked; checks = is.0 }
-boot_cause asked options (Some bytes) text lines IllegalEnd is_asked read script is = record { options = options; is_asked = is_asked; checks = is.0 }
+boot_cause asked options (Some bytes) text lines BadConfig is_asked read script is =
+    record { options = options; is_asked = is_asked; lines = lines; script = whole_script options bytes text lines read script; refused = is }
+boot_cause asked options (Some bytes) text lines (IllegalLine number) is_asked read script is =
+    record { options = options; is_asked = is_asked; lines = lines; script = whole_script options bytes text lines read script; stops = is.0 }
+boot_cause asked options (Some bytes) text lines IllegalEnd is_asked read script is =
+    record { options = options; is_asked = is_asked; lines = lines; script = whole_script options bytes text lines read script; stops = is.0 }
 boot_cause asked options (Some bytes) text lines Input is_asked read script is = absurd is.0
 boot_cause asked options (Some bytes) text lines Output is_asked read script is = absurd is.0
 boot_cause asked options (Some bytes) text lines (NoMemory e) is_asked read script is = subst IsSome (sym is_asked) refl
 
 -- a boot that took its sizes and failed at its task is at fault
-pub failed_boot : (task : Task) (sizes : Config) (fault : ProgramFault) → IsValidConfig sizes → IsFailedTask task fault → IsBootFault task sizes fault
-failed_boot task sizes (Words f) valid is = (is, valid)
-failed_boot task sizes (Script f) valid is = (is, valid)
-failed_boot task sizes (BadLogLine n) valid is = (is, valid)
-failed_boot task sizes BadConfig valid is = absurd is
-failed_boot task sizes (IllegalLine n) valid is = (is, valid)
-failed_boot task sizes IllegalEnd valid is = (is, valid)
-failed_boot task sizes Input valid is = (is, valid)
-failed_boot task sizes Output valid is = (is, valid)
-failed_boot task sizes (NoMemory e) valid is = (is, valid)
+pub failed_boot : (options : Options) (lines : List Line) (fault : ProgramFault) → IsValidConfig options.sizes → IsFailedTask options lines fault → IsBootFault options lines fault
+failed_boot options lines (Words f) valid is = (is, valid)
+failed_boot options lines (Script f) valid is = (is, valid)
+failed_boot options lines (BadLogLine n) valid is = (is, valid)
+failed_boot options lines BadConfig valid is = absurd is
+failed_boot options lines (IllegalLine n) valid is = (is, valid)
+failed_boot options lines IllegalEnd valid is = (is, valid)
+failed_boot options lines Input valid is = (is, valid)
+failed_boot options lines Output valid is = (is, valid)
+failed_boot options lines (NoMemory e) valid is = (is, valid)
 
 -- misuse that has a cause, and was told
 pub misused : (asked : Option Options) (input before after : Option (List ℕ)) (fault : ProgramFault) → status_of fault ≡ 2

@@ -1,5 +1,6 @@
 pub mod Answering
 pub mod Causing
+pub mod Commented
 pub mod Driving
 pub mod Joining
 mod Pieces
@@ -7,9 +8,9 @@ pub mod Putting
 pub mod Reporting
 pub mod SessionEnds
 pub mod Starting
+pub mod Stopped
 pub mod Verdicts
 pub mod Written
 pub mod Telling
 pub mod Watched
 pub mod Logged
-pub mod TraceMade

@@ -1,34 +1,20 @@
 -- The log of lines and of the end. Serves `log_line`, `log_each`, `log_and_end_boot`, `steps_on_boot`.
-use Rattle.std.proofs.Common.{◌≡◌, ℕ, zero, suc, ◌+◌, ◌<◌, ◌≤◌, false, true, List, [], ◌∷◌, ◌++◌, length, take, drop, get_or, All, Result, Ok, Err, refl, sym, ap, ◌∙◌, subst, arith}
+use Rattle.std.proofs.Common.{◌≡◌, ℕ, ◌+◌, ◌<◌, ◌≤◌, true, List, [], ◌++◌, length, take, drop, get_or, refl, sym, ap, ◌∙◌, arith}
 use Rattle.std.proofs.Common.{append_assoc, append-nil, length-append}
-use Rattle.std.specs.Prelude.{OnOk, codes}
+use Rattle.std.specs.Prelude.{codes}
 use Rattle.std.proofs.Math.Seq.{drop-append_seam}
 use Rattle.frame_word.specs.Seats.{KnownTable}
 use Rattle.stock_word.specs.Stock.{KnownStockTable}
 use Rattle.step_rules.specs.After.{Run}
 use Rattle.step_watch.specs.Watched.{KnownWatch, Watches, has_whole_log, log_text, steps_text}
-use Rattle.mem_system.specs.Ends.{KnownEmptiedBoot}
 use Rattle.script_lines.specs.declared.line.Line.{Line}
-use Rattle.script_replay.specs.Lines.{InOrder, ServesAll, ServesLine, SystemState}
+use Rattle.script_replay.specs.Lines.{InOrder, ServesLine, SystemState}
 use Rattle.script_replay.specs.Terms.{Terms, terms}
 use Rattle.script_replay.proofs.InOrder.{in_order_line}
 use Rattle.script_replay.proofs.Seeing.{line_seen}
-use Rattle.load_run.specs.Ending.{LeavesNothing}
-use Rattle.script_traces.specs.Traces.{GrowsBy}
-use Rattle.load_run.specs.Logs.{LogsAll, LogsAllAndEnd, LogsLine, line_comment}
-
--- what comes from two facts of a good result
-pub on_both : {T E : Type 0} (r : Result T E) (P Q R : Type 0) → (P → Q → R) → OnOk r P → OnOk r Q → OnOk r R
-on_both (Ok x) P Q R follows p q = follows p q
-on_both (Err e) P Q R follows p q = tt
-
--- one of one
-pub all_one : {A : Type 0} (P : A → Type 0) (x : A) (l : List A) → l ≡ x ∷ [] → P x → All P l
-all_one {A = A} P x l is holds = subst (All P) (sym is) (only holds)
-  where
-    only : P x → All P (x ∷ [])
-    only p zero any inside = p
-    only p (suc k) any inside = absurd (omega (arith, inside))
+use Rattle.load_run.specs.declared.boot_end.BootEnd.{BootEnd}
+use Rattle.load_run.specs.Ending.{EndsHeld, boot_end_text}
+use Rattle.load_run.specs.Logs.{GrowsBy, LogsAll, LogsAllAndEnd, LogsLine, answer_comments, line_comment}
 
 -- what a watch writes lies behind what it wrote before
 pub wrote_behind : (before : KnownWatch) (steps : Run) (later : KnownWatch) → Watches before steps later → has_whole_log later ≡ true
@@ -45,29 +31,27 @@ wrote_more before steps later seen is watched whole =
 
 -- ---- one line
 
--- the line alone was served
-pub one_served : (on : Terms) (line : Line) (s e : SystemState) (text : List ℕ) → ServesAll on (line ∷ []) s e text
-    → (answer : List ℕ) × ServesLine on line s e answer
-one_served on line s e text all =
-    (all.first, subst (λ (x : SystemState). ServesLine on line s x all.first) (sym all.serves_rest.1) all.serves_first)
-
 pub line_watched : (on : Terms) (line : Line) (s e : SystemState) (answer : List ℕ) (one : ServesLine on line s e answer)
     → Watches s.locked.machine.watch one.steps e.locked.machine.watch
 line_watched on line s e answer one = line_seen on.frames on.is_explained line s one.steps e one.tells.plain one.tells.so
 
 pub line_logged : (on : Terms) (texts : List (List ℕ)) (line : Line) (s e : SystemState) (answer : List ℕ) (one : ServesLine on line s e answer) (seen : ℕ)
-    (old mid new : List ℕ) → mid ≡ old ++ line_comment texts line → seen ≡ length (log_text s.locked.machine.watch)
-    → has_whole_log e.locked.machine.watch ≡ true → new ≡ mid ++ drop seen (log_text e.locked.machine.watch) → GrowsBy (LogsLine on texts line s e) old new
-line_logged on texts line s e answer one seen old mid new front at whole added =
-    let comment = line_comment texts line in
-    let behind : drop seen (log_text e.locked.machine.watch) ≡ steps_text one.steps =
+    (old front both new told : List ℕ) → front ≡ old ++ line_comment texts line → seen ≡ length (log_text s.locked.machine.watch)
+    → has_whole_log e.locked.machine.watch ≡ true → both ≡ front ++ drop seen (log_text e.locked.machine.watch) → told ≡ answer
+    → new ≡ both ++ answer_comments told → GrowsBy (LogsLine on texts line s e) old new
+line_logged on texts line s e answer one seen old front both new told is_front at whole is_both is_told added =
+    let named = line_comment texts line in
+    let made = steps_text one.steps in
+    let answered = answer_comments answer in
+    let behind : drop seen (log_text e.locked.machine.watch) ≡ made =
     ap (λ (n : ℕ). drop n (log_text e.locked.machine.watch)) at
     ∙ wrote_behind s.locked.machine.watch one.steps e.locked.machine.watch (line_watched on line s e answer one) whole in
     record {
-      text = comment ++ steps_text one.steps;
+      text = named ++ (made ++ answered);
       so = record { answer = answer; serves = one; log_is = refl };
-      added = added ∙ ap (λ (l : List ℕ). mid ++ l) behind ∙ ap (λ (l : List ℕ). l ++ steps_text one.steps) front
-          ∙ append_assoc old comment (steps_text one.steps);
+      added = added ∙ ap (λ (l : List ℕ). both ++ answer_comments l) is_told
+          ∙ ap (λ (l : List ℕ). l ++ answered) (is_both ∙ ap (λ (l : List ℕ). front ++ l) behind ∙ ap (λ (l : List ℕ). l ++ made) is_front)
+          ∙ append_assoc (old ++ named) made answered ∙ append_assoc old named (made ++ answered);
     }
 
 -- ---- the lines so far
@@ -88,17 +72,18 @@ logs_more on texts lines i default s m e old mid new inside so_far one = record 
 
 -- ---- the end
 
-pub end_logged : (t : KnownTable) (w : KnownStockTable) (texts : List (List ℕ)) (lines : List Line) (s e : SystemState) (held : ℕ) (emptied : KnownEmptiedBoot)
-    (seen : ℕ)
-    (old mid new : List ℕ) → LeavesNothing t w e held emptied → seen ≡ length (log_text e.locked.machine.watch) → has_whole_log emptied.machine.watch ≡ true
-    → new ≡ mid ++ (codes "# end\n" ++ drop seen (log_text emptied.machine.watch)) → GrowsBy (LogsAll (terms t w false) texts lines s e) old mid
-    → GrowsBy (LogsAllAndEnd t w texts lines s) old new
-end_logged t w texts lines s e held emptied seen old mid new leaves at whole added served =
+pub end_logged : (t : KnownTable) (w : KnownStockTable) (texts : List (List ℕ)) (lines : List Line) (s e : SystemState) (ended : BootEnd) (ends : EndsHeld t w e ended)
+    (seen : ℕ) (old mid both new : List ℕ) → seen ≡ length (log_text e.locked.machine.watch) → has_whole_log ends.emptied.machine.watch ≡ true
+    → both ≡ mid ++ (codes "# end\n" ++ drop seen (log_text ends.emptied.machine.watch)) → new ≡ both ++ answer_comments (boot_end_text true ended)
+    → GrowsBy (LogsAll (terms t w true) texts lines s e) old mid → GrowsBy (LogsAllAndEnd t w texts lines s) old new
+end_logged t w texts lines s e ended ends seen old mid both new at whole is_both added served =
     let front = codes "# end\n" in
-    let behind : drop seen (log_text emptied.machine.watch) ≡ steps_text leaves.steps =
-    ap (λ (n : ℕ). drop n (log_text emptied.machine.watch)) at
-    ∙ wrote_behind e.locked.machine.watch leaves.steps emptied.machine.watch leaves.watched whole in
-    let ending = front ++ steps_text leaves.steps in
+    let made = steps_text ends.leaves.steps in
+    let told = answer_comments (boot_end_text true ended) in
+    let last = ends.emptied.machine.watch in
+    let behind : drop seen (log_text last) ≡ made =
+    ap (λ (n : ℕ). drop n (log_text last)) at ∙ wrote_behind e.locked.machine.watch ends.leaves.steps last ends.leaves.watched whole in
+    let ending = front ++ (made ++ told) in
     record {
       text = served.text ++ ending;
       so = record {
@@ -106,8 +91,10 @@ end_logged t w texts lines s e held emptied seen old mid new leaves at whole add
         served_log = served.text;
         served = served.so;
         ending = ending;
-        ends = record { held = held; emptied = emptied; leaves = leaves; log_is = refl };
+        ends = record { ended = ended; ends = ends; log_is = refl };
         log_is = refl;
       };
-      added = added ∙ ap (λ (l : List ℕ). mid ++ (front ++ l)) behind ∙ ap (λ (l : List ℕ). l ++ ending) served.added ∙ append_assoc old served.text ending;
+      added = added ∙ ap (λ (l : List ℕ). l ++ told) (is_both ∙ ap (λ (l : List ℕ). mid ++ (front ++ l)) behind)
+          ∙ append_assoc mid (front ++ made) told ∙ ap (λ (l : List ℕ). mid ++ l) (append_assoc front made told)
+          ∙ ap (λ (l : List ℕ). l ++ ending) served.added ∙ append_assoc old served.text ending;
     }

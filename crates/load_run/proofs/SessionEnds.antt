@@ -5,6 +5,7 @@ use Rattle.frame_word.specs.Seats.{KnownTable}
 use Rattle.stock_word.specs.Stock.{KnownStockTable}
 use Rattle.cpu_part.specs.Cpus.{KnownCpu}
 use Rattle.zone_sizes.specs.declared.config.Config.{Config}
+use Rattle.zone_sizes.specs.Config.{IsValidConfig}
 use Rattle.mem_machine.specs.Machines.{IsFirst}
 use Rattle.mem_history.proofs.Agreeing.{a_boot_agrees}
 use Rattle.mem_system.specs.Boots.{IsSizedAs, first_cpus}
@@ -24,7 +25,7 @@ use Rattle.load_run.specs.Starting.{IsNewBootState}
 use Rattle.load_run.specs.Causes.{written}
 use Rattle.load_run.specs.Ending.{EndsHeld, boot_end_text}
 use Rattle.load_run.specs.Fault.{fault_text, status_of}
-use Rattle.load_run.specs.Sessions.{DrivesSession, EndsSession, IsSameFault, IsWorkFault, LeavesEnding, LeavesSession, ServesInput, StopsSession}
+use Rattle.load_run.specs.Sessions.{DrivesSession, EndsSession, IsOfValid, IsSameFault, IsWorkFault, LeavesEnding, LeavesSession, ServesInput, StopsSession}
 use Rattle.line_streams.specs.Writing.{AppendsBeginning}
 use Rattle.load_run.proofs.Starting.{boot_shown, parts_tied}
 
@@ -40,6 +41,18 @@ work_status (kinds.BadLogLine n) is = absurd is
 work_status kinds.BadConfig is = absurd is
 work_status (kinds.IllegalLine n) is = absurd is
 work_status kinds.IllegalEnd is = absurd is
+
+-- a fault of a boot that took the sizes
+pub of_valid : (sizes : Config) (fault : ProgramFault) → IsValidConfig sizes → IsOfValid sizes fault
+of_valid sizes (kinds.Words f) valid = tt
+of_valid sizes (kinds.Script f) valid = valid
+of_valid sizes (kinds.BadLogLine n) valid = valid
+of_valid sizes kinds.BadConfig valid = valid
+of_valid sizes (kinds.IllegalLine n) valid = valid
+of_valid sizes kinds.IllegalEnd valid = valid
+of_valid sizes kinds.Input valid = valid
+of_valid sizes kinds.Output valid = valid
+of_valid sizes (kinds.NoMemory error) valid = valid
 
 -- a fault of a session is one at work
 pub same_at_work : (why : ServeFault) (fault : ProgramFault) → IsSameFault why fault → IsWorkFault fault
@@ -185,10 +198,11 @@ module _ (booted : Config) (options : Options) (is_explained : Bool) (t : KnownT
 
   -- or failed
   pub session_fails : (input before after : Option (List ℕ)) (end : SystemState) (why : ServeFault) (fault : ProgramFault)
-      → FailsSession (terms t w is_explained) options.sizes input (system_state locked cpus) end before after why → IsSameFault why fault
+      → IsValidConfig options.sizes → FailsSession (terms t w is_explained) options.sizes input (system_state locked cpus) end before after why → IsSameFault why fault
       → LeavesSession options is_explained input before after fault
-  session_fails input before after end why fault fails is = record {
+  session_fails input before after end why fault valid fails is = record {
     at_work = same_at_work why fault is;
+    valid = of_valid options.sizes fault valid;
     left = inr (inl (record {
       frames = t;
       stocks = w;
@@ -213,11 +227,12 @@ ending_written options is_explained input before middle after ending (Err fault)
 
 -- or not whole
 pub ending_begun : {T : Type 0} (options : Options) (is_explained : Bool) (input before middle after : Option (List ℕ)) (ending : List ℕ)
-    (r : Result T ProgramFault) → EndsSession options is_explained input before middle ending → IfErr r (LeavesEnding middle after ending)
-    → IfErr r (LeavesSession options is_explained input before after)
-ending_begun options is_explained input before middle after ending (Ok x) ends is = tt
-ending_begun options is_explained input before middle after ending (Err fault) ends is = record {
+    (r : Result T ProgramFault) → IsValidConfig options.sizes → EndsSession options is_explained input before middle ending
+    → IfErr r (LeavesEnding middle after ending) → IfErr r (LeavesSession options is_explained input before after)
+ending_begun options is_explained input before middle after ending (Ok x) valid ends is = tt
+ending_begun options is_explained input before middle after ending (Err fault) valid ends is = record {
   at_work = is.at_work;
+  valid = of_valid options.sizes fault valid;
   left = inr (inr (record { middle = middle; ending = ending; ends = ends; begun = is.begun }));
 }
 

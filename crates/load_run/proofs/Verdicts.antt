@@ -12,7 +12,7 @@ use Rattle.log_check.specs.Texts.{verdict_text}
 use Rattle.load_options.specs.declared.fault.WordsFault.TheVariants as words
 use Rattle.load_options.specs.declared.task.Options.{Options}
 use Rattle.load_options.specs.declared.task.Task.{Task}
-use Rattle.load_options.specs.declared.task.Task.TheVariants.{Check, Lint, Replay, Run, Serve, Steps, Trace, Version}
+use Rattle.load_options.specs.declared.task.Task.TheVariants.{Check, Lint, Replay, Run, Serve, Steps, Version}
 use Rattle.load_run.specs.declared.fault.ProgramFault.{ProgramFault}
 use Rattle.load_run.specs.declared.fault.ProgramFault.TheVariants.{BadConfig, BadLogLine, IllegalEnd, IllegalLine, Input, NoMemory, Output, Script, Words}
 use Rattle.load_run.specs.Answers.{IsOnScript}
@@ -233,7 +233,7 @@ drives_words (Some options) input output faults faults_after fault status is end
         → DrivesSession options is_explained input (written output faults) (written output faults_after) status
     for_serve is_explained (Words (words.NoMemory e)) is ended told =
         drives_failed options is_explained input output output faults faults_after (Words (words.NoMemory e)) status
-        (record { at_work = tt; left = inl refl }) ended told
+        (record { at_work = tt; valid = tt; left = inl refl }) ended told
     for_serve is_explained (Words (words.BadWords text)) is ended told = absurd (false≢true (sym (ap is_some is)))
     for_serve is_explained (Script f) is ended told = absurd is
     for_serve is_explained (BadLogLine n) is ended told = absurd is
@@ -251,7 +251,6 @@ drives_words (Some options) input output faults faults_after fault status is end
     by_task Check = for_check fault is ended told
     by_task Lint = record { options = options; is_asked = refl; lints = for_lint fault is ended told }
     by_task Steps = drives_badly (Some options) input output faults faults_after fault status (words_cause (Some options) input fault is) ended told
-    by_task Trace = drives_badly (Some options) input output faults faults_after fault status (words_cause (Some options) input fault is) ended told
     by_task (Serve is_explained) = record { options = options; is_asked = refl; drives = for_serve is_explained fault is ended told }
     by_task Version = for_version fault is ended told
 
@@ -264,7 +263,6 @@ script_drives options input before after status on_script drives = go options.ta
     go (Replay is_explained is_checked) on_script = drives
     go Run on_script = drives
     go Steps on_script = drives
-    go Trace on_script = drives
     go Check on_script = absurd on_script
     go Lint on_script = absurd on_script
     go (Serve is_explained) on_script = absurd on_script

@@ -21,10 +21,9 @@ use Rattle.script_threads.specs.Each.{AreAllAnswers, workers_from}
 use Rattle.script_threads.specs.Runs.{lines_before_go}
 use Rattle.load_options.specs.declared.task.Options.{Options}
 use Rattle.load_options.specs.declared.task.Task.{Task}
-use Rattle.load_options.specs.declared.task.Task.TheVariants.{Replay, Steps, Trace, Run, Check, Lint, Serve, Version}
+use Rattle.load_options.specs.declared.task.Task.TheVariants.{Replay, Steps, Run, Check, Lint, Serve, Version}
 use Rattle.load_run.specs.Ending.{WritesEnd}
 use Rattle.load_run.specs.Logs.{AreLoggedSteps}
-use Rattle.load_run.specs.Traced.{AreTraced}
 -- the state after a boot
 pub use Rattle.load_run.specs.Starting.{IsNewBootState}
 use Rattle.load_run.specs.Refusals.{answered_status}
@@ -116,14 +115,13 @@ abbrev pub IsOnScript : Task → Type 0
 IsOnScript (Replay is_explained is_checked) = ⊤
 IsOnScript Run = ⊤
 IsOnScript Steps = ⊤
-IsOnScript Trace = ⊤
 IsOnScript Check = ⊥
 IsOnScript Lint = ⊥
 IsOnScript (Serve is_explained) = ⊥
 IsOnScript Version = ⊥
 
 -- what a boot with these sizes answers to the lines of the script for this task, with numbers or without, and reports
--- of its end if it is audited, or the steps as a log, or the trace; the other tasks have no such answers
+-- of its end if it is audited, or the steps as a log; the other tasks have no such answers
 abbrev pub AreAnswers : Task → (sizes : Config) (is_audited is_numbered : Bool) (script : List ℕ) (lines : List Line)
     (text : List ℕ) → Type 0
 AreAnswers (Replay is_explained false) sizes is_audited is_numbered script lines text =
@@ -132,7 +130,6 @@ AreAnswers (Replay is_explained true) sizes is_audited is_numbered script lines 
     AreCheckedAnswers sizes (form_of is_explained is_numbered) is_audited lines text
 AreAnswers Run sizes is_audited is_numbered script lines text = AreThreadAnswers sizes is_numbered is_audited lines text
 AreAnswers Steps sizes is_audited is_numbered script lines text = AreLoggedSteps sizes script lines text
-AreAnswers Trace sizes is_audited is_numbered script lines text = AreTraced sizes script lines text
 AreAnswers Check sizes is_audited is_numbered script lines text = ⊥
 AreAnswers Lint sizes is_audited is_numbered script lines text = ⊥
 AreAnswers (Serve is_explained) sizes is_audited is_numbered script lines text = ⊥

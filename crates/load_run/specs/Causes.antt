@@ -1,10 +1,12 @@
 -- Why the program ends without its answers to a script, and what it leaves then.
-use Rattle.std.specs.Prelude.{◌≡◌, ℕ, List, Option, Some, Err, IsSome, IsTrue}
+use Rattle.std.specs.Prelude.{◌≡◌, ℕ, List, Option, Some, Err, IsSome}
 use Rattle.std.specs.Io.KnownBytes.{Keeps}
+use Rattle.zone_sizes.specs.declared.config.Config.{Config}
 use Rattle.zone_sizes.specs.Config.{IsValidConfig}
 use Rattle.script_lines.specs.declared.fault.ScriptFault.TheVariants as script
 use Rattle.script_lines.specs.declared.line.Line.{Line}
 use Rattle.script_lines.specs.Script.{IsFirstBadLine, IsScript}
+use Rattle.script_replay.specs.declared.form.Form.{Form}
 use Rattle.load_options.specs.declared.task.Options.{Options}
 use Rattle.load_options.specs.Sizes.{HasSizesInRange}
 use Rattle.load_options.specs.Words.{GivesOptions}
@@ -12,7 +14,8 @@ use Rattle.load_run.specs.declared.fault.ProgramFault.{ProgramFault}
 use Rattle.load_run.specs.declared.fault.ProgramFault.TheVariants.{Words, Script, BadLogLine, BadConfig}
 use Rattle.load_run.specs.declared.fault.ProgramFault.TheVariants.{IllegalLine, IllegalEnd, Input, Output, NoMemory}
 use Rattle.load_run.specs.Answers.{IsAnswered, bytes_read}
-use Rattle.load_run.specs.Fault.{checks_steps, fault_text, status_of}
+use Rattle.load_run.specs.Fault.{fault_text, status_of}
+use Rattle.load_run.specs.Stopping.{OfCheckedForm, StopsAtIllegalEnd, StopsAtIllegalLine}
 use Rattle.line_streams.specs.Writing.{AppendsBeginning}
 
 -- the line of this number of what is read of the input is the first bad one, for the sizes that are asked for
@@ -30,11 +33,14 @@ pub record IsRefused (asked : Option Options) (input : List ℕ) : Type 0 where
   pub script : IsScript options.sizes input lines
   pub refused : ¬ IsValidConfig options.sizes
 
--- the options that are asked for are of a task that checks each step
-pub record AsksForCheck (asked : Option Options) : Type 0 where
+-- the input is a script for the sizes that are asked for, each step of a replay is checked, and this is how it stopped
+pub record IsStopped (asked : Option Options) (input : List ℕ) (stops : Config → Form → List Line → Type 0)
+    : Type 0 where
   pub options : Options
   pub is_asked : asked ≡ Some options
-  pub checks : IsTrue (checks_steps options.task)
+  pub lines : List Line
+  pub script : IsScript options.sizes input lines
+  pub stops : OfCheckedForm options.task options.is_numbered (λ form. stops options.sizes form lines)
 
 -- the options that are asked for have answers to the input
 pub record HasAnswers (asked : Option Options) (input : List ℕ) : Type 0 where
@@ -43,16 +49,17 @@ pub record HasAnswers (asked : Option Options) (input : List ℕ) : Type 0 where
 
 -- Which fault has which cause, if the input should be a script. The words are judged first, then the script, then the
 -- sizes. So any fault but one of the words needs words that ask for options, and the sizes are refused only if the
--- input is a script. A step is called not legal only if the options ask for a check. No clause names a further cause
--- for that, for memory that ran out, or for an input that failed.
+-- input is a script. A line is named for a step that isn't legal only if the options ask for a check, and the replay
+-- stopped at that line. No clause names a further cause for memory that ran out, or for an input that failed.
 abbrev pub HasCause : Option Options → ProgramFault → (input : List ℕ) → Type 0
 HasCause asked (Words fault) input = GivesOptions asked (Err fault)
 HasCause asked (Script (script.BadLine number)) input = IsBadAt asked number input
 HasCause asked (Script script.NoMemory) input = IsSome asked
 HasCause asked (BadLogLine number) input = ⊥
 HasCause asked BadConfig input = IsRefused asked input
-HasCause asked (IllegalLine number) input = AsksForCheck asked
-HasCause asked IllegalEnd input = AsksForCheck asked
+HasCause asked (IllegalLine number) input =
+    IsStopped asked input (λ sizes form lines. StopsAtIllegalLine sizes form lines number)
+HasCause asked IllegalEnd input = IsStopped asked input StopsAtIllegalEnd
 HasCause asked Input input = IsSome asked
 HasCause asked Output input = HasAnswers asked input
 HasCause asked (NoMemory error) input = IsSome asked

@@ -3,7 +3,7 @@ use Rattle.std.specs.Prelude.{◌≡◌, ◌⊎◌, ℕ, ◌≤◌, List, Option
 use Rattle.std.specs.Prelude.{IfErr, IfOk, IfSome, IsSome, OnOk}
 use Rattle.load_options.specs.declared.task.Options.{Options}
 use Rattle.load_options.specs.declared.task.Task.{Task}
-use Rattle.load_options.specs.declared.task.Task.TheVariants.{Replay, Steps, Trace, Run, Check, Lint, Serve, Version}
+use Rattle.load_options.specs.declared.task.Task.TheVariants.{Replay, Steps, Run, Check, Lint, Serve, Version}
 use Rattle.load_run.specs.declared.fault.ProgramFault.{ProgramFault}
 use Rattle.load_run.specs.Answers.{IsAnswered, IsWritten}
 use Rattle.load_run.specs.Causes.{FailsAtWork, HasCause, IsMisused, Written}
@@ -51,7 +51,6 @@ abbrev pub DrivesTask : Task → (asked : Option Options) (input : Option (List 
 DrivesTask (Replay is_explained is_checked) asked input before after status = DrivesScript asked input before after
     status
 DrivesTask Steps asked input before after status = DrivesScript asked input before after status
-DrivesTask Trace asked input before after status = DrivesScript asked input before after status
 DrivesTask Run asked input before after status = DrivesScript asked input before after status
 DrivesTask Check asked input before after status = Checks input before after status
 DrivesTask Lint asked input before after status = LintsAsked asked input before after status

@@ -1,18 +1,18 @@
 -- The faults of a run: the status and the text of each, and which call has which.
-use Rattle.std.specs.Prelude.{ℕ, Bool, false, IsTrue, List, Option, Err, ⊤, ◌++◌, codes, string_bytes}
+use Rattle.std.specs.Prelude.{ℕ, List, Option, Err, ⊤, ◌++◌, codes, string_bytes}
 use Rattle.std.specs.Fmt.{decimal}
 use Rattle.zone_sizes.specs.declared.config.Config.{Config}
 use Rattle.zone_sizes.specs.Config.{IsValidConfig}
 use Rattle.script_lines.specs.declared.fault.ScriptFault.TheVariants as script
+use Rattle.script_lines.specs.declared.line.Line.{Line}
 use Rattle.script_lines.specs.Script.{NamesFirstBadLine}
 use Rattle.load_options.specs.declared.fault.WordsFault.TheVariants as words
 use Rattle.load_options.specs.declared.task.Options.{Options}
-use Rattle.load_options.specs.declared.task.Task.{Task}
-use Rattle.load_options.specs.declared.task.Task.TheVariants.{Replay, Steps, Trace, Run, Check, Lint, Serve, Version}
 use Rattle.load_options.specs.Words.{GivesOptions}
 use Rattle.load_run.specs.declared.fault.ProgramFault.{ProgramFault}
 use Rattle.load_run.specs.declared.fault.ProgramFault.TheVariants.{Words, Script, BadLogLine, BadConfig}
 use Rattle.load_run.specs.declared.fault.ProgramFault.TheVariants.{IllegalLine, IllegalEnd, Input, Output, NoMemory}
+use Rattle.load_run.specs.Stopping.{OfCheckedForm, StopsAtIllegalEnd, StopsAtIllegalLine}
 
 -- 2 if the program was misused, 1 if it failed at its work
 abbrev pub status_of : ProgramFault → ℕ
@@ -66,25 +66,16 @@ abbrev pub IsScriptFault : Config → List ℕ → ProgramFault → Type 0
 IsScriptFault sizes script (Script fault) = NamesFirstBadLine sizes script fault
 IsScriptFault sizes script fault = ⊥
 
--- whether the task checks each step
-abbrev pub checks_steps : Task → Bool
-checks_steps (Replay is_explained is_checked) = is_checked
-checks_steps Steps = false
-checks_steps Trace = false
-checks_steps Run = false
-checks_steps Check = false
-checks_steps Lint = false
-checks_steps (Serve is_explained) = false
-checks_steps Version = false
+-- a boot that took the sizes failed at these lines: memory ran out; or a step isn't legal, if each step is checked
+abbrev pub IsFailedTask : Options → List Line → ProgramFault → Type 0
+IsFailedTask options lines (IllegalLine number) =
+    OfCheckedForm options.task options.is_numbered (λ form. StopsAtIllegalLine options.sizes form lines number)
+IsFailedTask options lines IllegalEnd =
+    OfCheckedForm options.task options.is_numbered (λ form. StopsAtIllegalEnd options.sizes form lines)
+IsFailedTask options lines (NoMemory error) = ⊤
+IsFailedTask options lines fault = ⊥
 
--- a boot that took its sizes failed at this task: memory ran out, or a step isn't legal, if the task checks each step
-abbrev pub IsFailedTask : Task → ProgramFault → Type 0
-IsFailedTask task (IllegalLine number) = IsTrue (checks_steps task)
-IsFailedTask task IllegalEnd = IsTrue (checks_steps task)
-IsFailedTask task (NoMemory error) = ⊤
-IsFailedTask task fault = ⊥
-
--- a fault of a boot for this task: it refuses its sizes; or it takes them, and fails at the task
-abbrev pub IsBootFault : Task → Config → ProgramFault → Type 0
-IsBootFault task sizes BadConfig = ¬ IsValidConfig sizes
-IsBootFault task sizes fault = IsFailedTask task fault × IsValidConfig sizes
+-- a fault of a boot for these lines: it refuses its sizes; or it takes them, and fails at the task
+abbrev pub IsBootFault : Options → List Line → ProgramFault → Type 0
+IsBootFault options lines BadConfig = ¬ IsValidConfig options.sizes
+IsBootFault options lines fault = IsFailedTask options lines fault × IsValidConfig options.sizes

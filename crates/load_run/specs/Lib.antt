@@ -9,5 +9,5 @@ pub mod Logs
 pub mod Refusals
 pub mod Sessions
 pub mod Starting
-pub mod Traced
+pub mod Stopping
 pub mod Versions

@@ -3,6 +3,7 @@ use Rattle.std.specs.Prelude.{◌≡◌, ◌⊎◌, ℕ, ◌≤◌, Bool, List, 
 use Rattle.std.specs.Io.KnownBytes.{Appends}
 use Rattle.frame_word.specs.Seats.{KnownTable}
 use Rattle.stock_word.specs.Stock.{KnownStockTable}
+use Rattle.zone_sizes.specs.declared.config.Config.{Config}
 use Rattle.zone_sizes.specs.Config.{IsValidConfig}
 use Rattle.mem_machine.specs.Agreeing.{AgreesWithRun}
 use Rattle.script_replay.specs.History.{HasHistory, past}
@@ -79,16 +80,22 @@ IsWorkFault (kinds.NoMemory error) = ⊤
 IsWorkFault (kinds.Words (words.NoMemory error)) = ⊤
 IsWorkFault fault = ⊥
 
+-- a boot took these sizes, if the fault came after the words
+abbrev pub IsOfValid : Config → ProgramFault → Type 0
+IsOfValid sizes (kinds.Words fault) = ⊤
+IsOfValid sizes fault = IsValidConfig sizes
+
 -- the text of an end wasn't written, or a beginning of it was
 pub record LeavesEnding (before after : Option (List ℕ)) (ending : List ℕ) (fault : ProgramFault) : Type 0 where
   pub at_work : IsWorkFault fault
   pub begun : AppendsBeginning before after ending
 
 -- What a fault at work leaves: nothing is written, and no line was read; or the session failed; or it ended, and the
--- text of its end wasn't written whole.
+-- text of its end wasn't written whole. Sizes that a boot refuses have no such fault.
 pub record LeavesSession (options : Options) (is_explained : Bool) (input before after : Option (List ℕ))
     (fault : ProgramFault) : Type 0 where
   pub at_work : IsWorkFault fault
+  pub valid : IsOfValid options.sizes fault
   pub left : (after ≡ before) ⊎ (FailsOnBoot options is_explained input before after fault
       ⊎ BeginsEnding options is_explained input before after)
 

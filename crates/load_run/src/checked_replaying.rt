@@ -1,6 +1,6 @@
 //! What a boot answers to lines if each step is checked, those of the end included.
 
-ghost use Rattle.std.specs.Prelude.{◌≡◌, ◌++◌, All, IfOk, length, true};
+ghost use Rattle.std.specs.Prelude.{◌≡◌, ◌++◌, All, IfErr, IfOk, length, true};
 ghost use Rattle.script_replay.specs.History.{ReplaysCheckedOrStops};
 ghost use Rattle.script_replay.specs.Lines.{system_state};
 ghost use Rattle.script_replay.specs.Ranges.{LineInRange};
@@ -8,7 +8,9 @@ ghost use Rattle.script_replay.specs.Terms.{form_terms};
 ghost use Rattle.step_watch.specs.Watched.{has_legal_steps};
 ghost use Rattle.zone_sizes.specs.Config.{IsValidConfig};
 ghost use Rattle.load_run.specs.Answers.{AreCheckedAnswers, checked_text};
+ghost use Rattle.load_run.specs.declared.checked_replaying.CheckFault.TheVariants.{NoMemory};
 ghost use Rattle.load_run.specs.Ending.{EndsSeenAfter};
+ghost use Rattle.load_run.specs.Stopping.{IsCheckFault, fault_of_stop};
 
 use crate::boot_end::{BootEnd, CheckedSteps, end_checked_boot};
 use crate::replaying::with_end;
@@ -32,12 +34,16 @@ pub enum CheckFault {
 }
 
 impl From<AllocError> for CheckFault {
+    ghost from_gives = { λ error fault. fault ≡ NoMemory error };
+
     fn from(error: AllocError) -> CheckFault {
         CheckFault::NoMemory(error)
     }
 }
 
 impl From<Stopped> for CheckFault {
+    ghost from_gives = { λ stopped fault. fault ≡ fault_of_stop stopped };
+
     fn from(stopped: Stopped) -> CheckFault {
         match stopped {
             Stopped::NoMemory(error) => CheckFault::NoMemory(error),
@@ -64,6 +70,7 @@ pub fn check_on_boot<N: BootName>(
     requires valid { IsValidConfig sizes }
     requires lines { All (LineInRange boot.sizes.frames boot.sizes.cpus) lines.now }
     ensures answers { IfOk result (λ text. AreCheckedAnswers boot.sizes form is_audited lines.now text.items) }
+    ensures fault { IfErr result (IsCheckFault boot.sizes form lines.now) }
 {
     let watch = Watch::new(alloc, sizes)?;
     let (mut locked, tables, cpus) = boot.into_parts::<N>(alloc)?;

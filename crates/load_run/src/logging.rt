@@ -1,33 +1,27 @@
-//! The steps of a script as a log. A comment with the number and text of each line precedes its steps.
+//! The steps of a script as a log. A comment with the number and text of each line precedes its steps, and its answer
+//! follows them in comments.
 
-ghost use Rattle.std.specs.Prelude.{◌≡◌, ◌≤◌, ◌++◌, ◌∷◌, [], All, IfOk, OnOk, codes, drop, false, length, map, true};
-ghost use Rattle.log_lines.specs.Line.{zone_text};
+ghost use Rattle.std.specs.Prelude.{◌≡◌, ◌≤◌, ◌++◌, All, IfOk, OnOk, codes, drop, length, map, true};
 ghost use Rattle.script_lines.specs.Script.{texts_of};
 ghost use Rattle.script_replay.specs.Lines.{system_state};
 ghost use Rattle.script_replay.specs.Ranges.{LineInRange};
 ghost use Rattle.script_replay.specs.Terms.{terms};
 ghost use Rattle.step_watch.specs.Watched.{has_whole_log, log_text};
-ghost use Rattle.script_traces.specs.Traces.{GrowsBy};
-ghost use Rattle.load_run.specs.Logs.{AreLoggedSteps, LogsAll, LogsAllAndEnd, LogsLine};
+ghost use Rattle.load_run.specs.Ending.{boot_end_text};
+ghost use Rattle.load_run.specs.Logs.{AreLoggedSteps, GrowsBy, LogsAll, LogsAllAndEnd, LogsLine, answer_comments};
+ghost use Rattle.load_run.specs.Logs.{head_text};
 
-use crate::boot_end::empty_cpus;
-use crate::comments::add_comment;
+use crate::boot_end::{BootEnd, empty_cpus, write_boot_end};
+use crate::comments::{add_answer, add_line, add_sizes};
 use cpu_part::{BootName, Cpu, Tables};
 use log_lines::write_zone;
 use mem_system::{Boot, Locked};
 use script_lines::line::Line;
 use script_lines::script::first_line;
-use script_replay::{Form, replay};
+use script_replay::serve_line;
 use std::alloc::{AllocError, Global};
-use std::slice;
 use step_watch::Watch;
 use zone_sizes::config::Config;
-
-// The answers to the lines aren't written.
-const PLAIN: Form = Form {
-    is_explained: false,
-    is_numbered: false,
-};
 
 // Adds what the watch wrote behind the bytes that were seen before. It fails if memory ran out here or for the watch's
 // log.
@@ -42,7 +36,7 @@ fn add_steps(watch: &Watch, log_start: usize, log: &mut Vec<u8>) -> Result<(), A
     log.extend_from_slice(&watch.log()[log_start..])
 }
 
-// Serves the line, and adds its comment and its steps.
+// Serves the line, and adds its comment, its steps and its answer.
 fn log_line<N: BootName>(
     alloc: Global,
     locked: &mut Locked<N>,
@@ -53,16 +47,18 @@ fn log_line<N: BootName>(
     log: &mut Vec<u8>,
 ) -> Result<(), AllocError>
     requires there { LineInRange N.frames.frames (length cpus.old) line.now }
-    ensures logged { OnOk result (GrowsBy (LogsLine (terms N.frames N.stocks false) (map (λ text. text.now) texts.now)
+    ensures logged { OnOk result (GrowsBy (LogsLine (terms N.frames N.stocks true) (map (λ text. text.now) texts.now)
         line.now (system_state locked.old cpus.old) (system_state locked.new cpus.new)) log.old.items log.new.items) }
 {
-    add_comment(alloc, texts, line, log)?;
+    add_line(alloc, texts, line, log)?;
     let log_start = locked.watch().log().len();
-    let _answers = replay(alloc, locked, tables, cpus, slice::from_ref(line), PLAIN)?;
-    add_steps(locked.watch(), log_start, log)
+    let mut answer = String::new(alloc);
+    serve_line(locked, tables, cpus, line, true, &mut answer)?;
+    add_steps(locked.watch(), log_start, log)?;
+    add_answer(answer.as_bytes(), log)
 }
 
-// Serves the lines one after the other, and adds the comment and the steps of each.
+// Serves the lines one after the other, and adds the log of each.
 fn log_each<N: BootName>(
     alloc: Global,
     locked: &mut Locked<N>,
@@ -73,7 +69,7 @@ fn log_each<N: BootName>(
     log: &mut Vec<u8>,
 ) -> Result<(), AllocError>
     requires there { All (LineInRange N.frames.frames (length cpus.old)) lines.now }
-    ensures logged { OnOk result (GrowsBy (LogsAll (terms N.frames N.stocks false) (map (λ text. text.now) texts.now)
+    ensures logged { OnOk result (GrowsBy (LogsAll (terms N.frames N.stocks true) (map (λ text. text.now) texts.now)
         lines.now (system_state locked.old cpus.old) (system_state locked.new cpus.new)) log.old.items log.new.items) }
 {
     for next in lines {
@@ -83,7 +79,7 @@ fn log_each<N: BootName>(
 }
 
 // Adds the comment and the steps of the end.
-fn log_end(watch: &Watch, log_start: usize, log: &mut Vec<u8>) -> Result<(), AllocError>
+fn add_end_steps(watch: &Watch, log_start: usize, log: &mut Vec<u8>) -> Result<(), AllocError>
     requires within { has_whole_log watch.now ≡ true → log_start ≤ length (log_text watch.now) }
     ensures whole { OnOk result (has_whole_log watch.now ≡ true) }
     ensures added { OnOk result (log.new.items ≡ log.old.items ++ (codes "# end\n" ++ drop log_start
@@ -91,6 +87,15 @@ fn log_end(watch: &Watch, log_start: usize, log: &mut Vec<u8>) -> Result<(), All
 {
     log.extend_from_slice(b"# end\n")?;
     add_steps(watch, log_start, log)
+}
+
+// Adds what is reported of the end.
+fn add_end_report(alloc: Global, ended: &BootEnd, log: &mut Vec<u8>) -> Result<(), AllocError>
+    ensures { OnOk result (log.new.items ≡ log.old.items ++ answer_comments (boot_end_text true ended.now)) }
+{
+    let mut text = String::new(alloc);
+    write_boot_end(ended, &mut text)?;
+    add_answer(text.as_bytes(), log)
 }
 
 // Serves the lines, ends the boot, also if memory ran out, and adds the log of both.
@@ -110,11 +115,12 @@ fn log_and_end_boot<N: BootName>(
 {
     let served = log_each(alloc, &mut locked, &tables, &mut cpus, lines, texts, log);
     let log_start = locked.watch().log().len();
-    let (_held, emptied) = empty_cpus(locked, tables, cpus);
-    let ended = log_end(emptied.watch(), log_start, log);
-    let _audit = emptied.close();
+    let (held, emptied) = empty_cpus(locked, tables, cpus);
+    let added = add_end_steps(emptied.watch(), log_start, log);
+    let audit = emptied.close();
     served?;
-    ended
+    added?;
+    add_end_report(alloc, &BootEnd { held, audit }, log)
 }
 
 // The texts between the line feeds of a script.
@@ -131,19 +137,20 @@ pub(crate) fn texts_of<'a>(alloc: Global, script: &'a [u8]) -> Result<Vec<&'a [u
     Ok(texts)
 }
 
-// The first line of a log, with the sizes of the zone.
-fn zone_line(alloc: Global, sizes: &Config) -> Result<Vec<u8>, AllocError>
-    ensures { IfOk result (λ log. log.items ≡ zone_text sizes.now.frames sizes.now.cpus ++ 10 ∷ []) }
+// What a log begins with: the sizes.
+fn log_head(alloc: Global, sizes: &Config) -> Result<Vec<u8>, AllocError>
+    ensures { IfOk result (λ log. log.items ≡ head_text sizes.now) }
 {
     let mut log = Vec::new(alloc);
     write_zone(sizes.frames, sizes.cpus, &mut log)?;
     log.push(b'\n')?;
+    add_sizes(alloc, sizes, &mut log)?;
     Ok(log)
 }
 
-/// The steps of the lines of this script, on a boot under a name of its tables, as a log: the zone's sizes, then a
-/// comment and the steps of each line, and then those of the end. `AllocError` means that memory ran out: a boot that
-/// began has ended then too.
+/// The steps of the lines of this script, on a boot under a name of its tables, as a log: the sizes; then of each line
+/// a comment, its steps, and its answer in comments; and then the steps of the end, and what is reported of it.
+/// `AllocError` means that memory ran out: a boot that began has ended then too.
 pub fn steps_on_boot<N: BootName>(
     alloc: Global,
     boot: Boot,
@@ -157,7 +164,7 @@ pub fn steps_on_boot<N: BootName>(
     requires lines { All (LineInRange boot.sizes.frames boot.sizes.cpus) lines.now }
     ensures steps { IfOk result (λ text. AreLoggedSteps boot.sizes script.now lines.now text.items) }
 {
-    let mut log = zone_line(alloc, &sizes)?;
+    let mut log = log_head(alloc, &sizes)?;
     let texts = texts_of(alloc, script)?;
     let (mut locked, tables, cpus) = boot.into_parts::<N>(alloc)?;
     locked.set_watch(Watch::logging(alloc));

@@ -27,7 +27,6 @@ use crate::refusals::answered_status;
 use crate::replaying::replay_on_boot;
 use crate::serving::drive_serve;
 use crate::thread_running::run_by_threads;
-use crate::tracing::trace_on_boot;
 use crate::versions::drive_version;
 use cpu_part::BootName;
 use line_streams::write_whole;
@@ -93,7 +92,6 @@ fn drive_task<R: Threads + Wait + Sync, I: Read, O: Write, F: Write>(
         Task::Replay { .. } => drive_script(rt, alloc, options, input, output, faults),
         Task::Run => drive_script(rt, alloc, options, input, output, faults),
         Task::Steps => drive_script(rt, alloc, options, input, output, faults),
-        Task::Trace => drive_script(rt, alloc, options, input, output, faults),
         Task::Serve { is_explained } => {
             drive_serve(alloc, options, is_explained, input, output, faults)
         }
@@ -183,7 +181,7 @@ fn answers_of<R: Threads + Wait + Sync>(
         lines.now
         text.items) }
     ensures valid { OnOk result (IsValidConfig options.now.sizes) }
-    ensures fault { IfErr result (IsBootFault options.now.task options.now.sizes) }
+    ensures fault { IfErr result (IsBootFault options.now lines.now) }
 {
     match boot(alloc, options.sizes) {
         Ok(boot) => answers_on_boot::<Brand, R>(rt, alloc, boot, options, script, lines),
@@ -210,7 +208,7 @@ fn answers_on_boot<N: BootName + Send + Sync, R: Threads + Wait + Sync>(
     ensures answers { IfOk result (λ text.
         AreAnswers options.now.task boot.sizes options.now.is_audited options.now.is_numbered script.now lines.now
         text.items) }
-    ensures fault { IfErr result (IsFailedTask options.now.task) }
+    ensures fault { IfErr result (IsFailedTask options.now lines.now) }
 {
     match options.task {
         Task::Replay {
@@ -239,10 +237,6 @@ fn answers_on_boot<N: BootName + Send + Sync, R: Threads + Wait + Sync>(
             Ok(log) => Ok(log),
             Err(error) => Err(ProgramFault::NoMemory(error)),
         },
-        Task::Trace => match trace_on_boot::<N>(alloc, boot, options.sizes, script, lines) {
-            Ok(trace) => Ok(trace),
-            Err(error) => Err(ProgramFault::NoMemory(error)),
-        },
         Task::Check | Task::Lint | Task::Serve { .. } | Task::Version => unreachable!(),
     }
 }
@@ -265,6 +259,7 @@ fn check_answers<N: BootName>(
     lines: &[Line<'_>],
     is_explained: bool,
 ) -> Result<Vec<u8>, ProgramFault>
+    requires task { options.now.task ≡ Replay is_explained true }
     requires frames { boot.frames ≡ N.frames }
     requires stocks { boot.stocks ≡ N.stocks }
     requires sizes { boot.sizes ≡ options.now.sizes }
@@ -273,7 +268,7 @@ fn check_answers<N: BootName>(
     ensures answers { IfOk result (λ text.
         AreCheckedAnswers boot.sizes (form_of is_explained options.now.is_numbered) options.now.is_audited lines.now
         text.items) }
-    ensures fault { IfErr result (IsFailedTask (Replay is_explained true)) }
+    ensures fault { IfErr result (IsFailedTask options.now lines.now) }
 {
     let sizes = options.sizes;
     let is_audited = options.is_audited;

@@ -3,7 +3,7 @@
 
 ghost use Rattle.std.specs.Prelude.{◌≡◌, IfErr, OnOk};
 ghost use Rattle.std.specs.Io.KnownBytes.{Appends};
-ghost use Rattle.script_lines.specs.Verb.{IsNames};
+ghost use Rattle.zone_sizes.specs.Config.{IsValidConfig};
 ghost use Rattle.load_options.specs.Sizes.{HasSizesInRange};
 ghost use Rattle.load_run.specs.Causes.{written};
 ghost use Rattle.load_run.specs.Ending.{boot_end_text};
@@ -19,7 +19,7 @@ use cpu_part::BootName;
 use line_server::{ServeFault, Server};
 use load_options::task::Options;
 use mem_system::{Boot, BootFault, boot};
-use script_lines::verb::{Names, command_names};
+use script_lines::verb::command_names;
 use std::alloc::{AllocError, Global};
 use std::io::{Read, Write};
 use std::marker::Brand;
@@ -60,46 +60,36 @@ fn serve_input<I: Read, O: Write>(
     ensures stopped { IfErr result (StopsSession options.now is_explained (I.remaining input.old)
         (O.contents output.old) (O.contents output.new)) }
 {
-    match command_names(alloc) {
-        Ok(names) => match boot(alloc, options.sizes) {
-            Ok(boot) => {
-                serve_on_boot::<Brand, I, O>(
-                    alloc,
-                    names,
-                    boot,
-                    options,
-                    is_explained,
-                    input,
-                    output,
-                )
-            }
-            Err(BootFault::BadConfig) => Err(ProgramFault::BadConfig),
-            Err(BootFault::NoMemory) => Err(ProgramFault::NoMemory(AllocError)),
-        },
-        Err(error) => Err(ProgramFault::NoMemory(error)),
+    match boot(alloc, options.sizes) {
+        Ok(boot) => serve_on_boot::<Brand, I, O>(alloc, boot, options, is_explained, input, output),
+        Err(BootFault::BadConfig) => Err(ProgramFault::BadConfig),
+        Err(BootFault::NoMemory) => Err(ProgramFault::NoMemory(AllocError)),
     }
 }
 
 // The same on a boot under a name of its tables, which ends then.
 fn serve_on_boot<N: BootName, I: Read, O: Write>(
     alloc: Global,
-    names: Names,
     boot: Boot,
     options: &Options,
     is_explained: bool,
     input: &mut I,
     output: &mut O,
 ) -> Result<(), ProgramFault>
-    requires names { IsNames names }
     requires frames { boot.frames ≡ N.frames }
     requires stocks { boot.stocks ≡ N.stocks }
     requires sizes { boot.sizes ≡ options.now.sizes }
+    requires valid { IsValidConfig options.now.sizes }
     requires in_range { HasSizesInRange options.now.sizes }
     ensures served { OnOk result (ServesInput options.now is_explained (I.remaining input.old)
         (O.contents output.old) (O.contents output.new)) }
     ensures left { IfErr result (LeavesSession options.now is_explained (I.remaining input.old)
         (O.contents output.old) (O.contents output.new)) }
 {
+    let names = match command_names(alloc) {
+        Ok(names) => names,
+        Err(error) => return Err(ProgramFault::NoMemory(error)),
+    };
     let (locked, tables, cpus) = match boot.into_parts::<N>(alloc) {
         Ok(parts) => parts,
         Err(error) => return Err(ProgramFault::NoMemory(error)),

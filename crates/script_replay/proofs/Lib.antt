@@ -4,7 +4,6 @@ pub mod InRange
 pub mod Going
 pub mod Taking
 pub mod Numbering
-pub mod Routing
 pub mod Saying
 pub mod Telling
 pub mod Following

@@ -3,7 +3,6 @@ pub mod History
 pub mod Lines
 pub mod Numbers
 pub mod Ranges
-pub mod Routes
 pub mod Terms
 pub mod ValueAnswers
 pub mod Visits

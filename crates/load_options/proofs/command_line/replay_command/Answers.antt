@@ -1,4 +1,4 @@
--- Serves the contract of `replay_command`: the options of a subcommand, and four more.
+-- Serves the contract of `replay_command`: the options of a subcommand, and three more.
 use Rattle.std.proofs.Common.{◌∙◌, ◌∷◌, ◌++◌, [], ap, codes, refl}
 use Rattle.std.proofs.lemmas.Result.{IfOk-weaker}
 use Rattle.clap.specs.Simple.{App, Shape, app_of}
@@ -12,16 +12,13 @@ returns c =
     let explain = option_added old _ _ (app_of old) _ (refl, c.in_ok-subcommand.ensures.local) c.flag_option.ensures.rule
     c.flag_option.ensures.local c.in_ok-arg.ensures in
     let check = option_added _ _ _ _ _ explain c.flag_option-2.ensures.rule c.flag_option-2.ensures.local c.in_ok-arg-2.ensures in
-    let steps = option_added _ _ _ _ _ check c.flag_option-3.ensures.rule c.flag_option-3.ensures.local c.in_ok-arg-3.ensures in
-    let rule = c.flag_option-4.ensures.rule in
-    let local = c.flag_option-4.ensures.local in
+    let rule = c.flag_option-3.ensures.rule in
+    let local = c.flag_option-3.ensures.local in
     let more : Shape → Shape = λ s. record s {
-      rules =
-          (((s.rules ++ flag_rule (codes "explain") ∷ []) ++ flag_rule (codes "check") ∷ []) ++ flag_rule (codes "steps") ∷ [])
-          ++ flag_rule (codes "trace") ∷ [];
+      rules = ((s.rules ++ flag_rule (codes "explain") ∷ []) ++ flag_rule (codes "check") ∷ []) ++ flag_rule (codes "steps") ∷ [];
     } in
     record {
-      shape = IfOk-weaker c.arg-4.result _ _ (λ command added. ap (λ (a : App). a.top)
-          (option_added _ command _ _ _ steps rule local added).0 ∙ ap more c.in_ok-subcommand.ensures.shape) c.arg-4.ensures;
-      local = IfOk-weaker c.arg-4.result _ _ (λ command added. (option_added _ command _ _ _ steps rule local added).1) c.arg-4.ensures;
+      shape = IfOk-weaker c.arg-3.result _ _ (λ command added. ap (λ (a : App). a.top)
+          (option_added _ command _ _ _ check rule local added).0 ∙ ap more c.in_ok-subcommand.ensures.shape) c.arg-3.ensures;
+      local = IfOk-weaker c.arg-3.result _ _ (λ command added. (option_added _ command _ _ _ check rule local added).1) c.arg-3.ensures;
     }

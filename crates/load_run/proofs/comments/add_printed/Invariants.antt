@@ -3,4 +3,4 @@ use Rattle.load_run.specs.Logs.{printed}
 use Rattle.load_run.proofs.comments.add_printed.Given as goal
 
 abbrev pub invariant-loop-byte : goal.invariant-loop-byte
-invariant-loop-byte l = l.text.items ≡ l.initial.text.items ++ map printed (take l.byte-index l.bytes)
+invariant-loop-byte l = l.log.items ≡ l.initial.log.items ++ map printed (take l.byte-index l.bytes)

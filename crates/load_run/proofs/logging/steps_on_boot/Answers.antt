@@ -1,10 +1,8 @@
-use Rattle.std.proofs.Common.{◌∙◌, ◌++◌, ◌∷◌, [], Bor, List, ℕ, append_assoc, ap, map, subst, sym}
-use Rattle.zone_sizes.specs.declared.config.Config.{Config}
-use Rattle.log_lines.specs.Line.{zone_text}
+use Rattle.std.proofs.Common.{◌∙◌, ◌++◌, Bor, List, ℕ, ap, map, subst, sym}
 use Rattle.mem_machine.specs.Machines.{IsFirst}
 use Rattle.mem_system.specs.Locked.{KnownLocked}
 use Rattle.script_replay.specs.Lines.{SystemState, system_state}
-use Rattle.load_run.specs.Logs.{LogsAllAndEnd}
+use Rattle.load_run.specs.Logs.{LogsAllAndEnd, head_text}
 use Rattle.load_run.proofs.Starting.{watched_first}
 use Rattle.load_run.proofs.logging.steps_on_boot.Goals as goal
 
@@ -12,14 +10,13 @@ pub returns : goal.returns
 returns g c =
     let t = g.N.BootName.frames in
     let w = g.N.BootName.stocks in
-    let sizes = c.args.boot.sizes in
     let start : SystemState = system_state c.set_watch.new.self c.in_ok-locked.cpus.items in
     let is_first : IsFirst t w start.locked.machine =
     subst (λ (l : KnownLocked). IsFirst t w l.machine) (sym c.set_watch.ensures)
     (watched_first t w c.in_ok-locked.locked.machine c.logging.result c.in_ok-locked.ensures.machine) in
     let grown = c.in_ok-log_and_end_boot.ensures.logged in
     let texts = ap (map (λ (text : Bor (List ℕ)). text.now)) c.deref.ensures.value ∙ c.in_ok-texts.ensures in
-    let zone = c.in_ok-log.ensures ∙ ap (λ (s : Config). zone_text s.frames s.cpus ++ 10 ∷ []) (sym c.requires.sizes) in
+    let head = c.in_ok-log.ensures ∙ ap head_text (sym c.requires.sizes) in
     record {
       steps = record {
         frames = t;
@@ -33,6 +30,6 @@ returns g c =
         };
         log = grown.text;
         logs = subst (λ (l : List (List ℕ)). LogsAllAndEnd t w l c.args.lines.now start grown.text) texts grown.so;
-        text_is = grown.added ∙ ap (λ (l : List ℕ). l ++ grown.text) zone ∙ append_assoc (zone_text sizes.frames sizes.cpus) (10 ∷ []) grown.text;
+        text_is = grown.added ∙ ap (λ (l : List ℕ). l ++ grown.text) head;
       };
     }

@@ -42,7 +42,7 @@ returns-in-Ok-served-clause-left g c =
     let session = as_made t w c.new-server.result options.sizes c.args.is_explained (system_state parts.0 parts.2.items)
     (λ on sizes start. ServesSession on sizes input start end before middle) made.sizes made.is_explained made.state c.in-Ok-served.ensures.served in
     let ends = subst (λ (s : SystemState). EndsHeld t w s ended) c.into_parts-locked.ensures.state c.end_boot-ended.ensures.ends in
-    ending_begun options c.args.is_explained input before middle _ (boot_end_text options.is_audited ended) c.write_ending.result
+    ending_begun options c.args.is_explained input before middle _ (boot_end_text options.is_audited ended) c.write_ending.result c.requires.valid
     (session_ends c.args.boot.sizes options c.args.is_explained t w parts.0 parts.2.items c.requires.sizes boot.sized boot.machine boot.sizes
     boot.cpus input before middle end ended session ends) c.write_ending.ensures.begun
 
@@ -62,4 +62,4 @@ returns-in-Err-served-clause-left g c =
     let fails = as_made t w c.new-server.result options.sizes c.args.is_explained (system_state parts.0 parts.2.items)
     (λ on sizes start. FailsSession on sizes input start end before after why) made.sizes made.is_explained made.state c.in-Err-served.ensures.failed in
     session_fails c.args.boot.sizes options c.args.is_explained t w parts.0 parts.2.items c.requires.sizes boot.sized boot.machine boot.sizes
-    boot.cpus input before after end why c.fault_of.result fails c.fault_of.ensures
+    boot.cpus input before after end why c.fault_of.result c.requires.valid fails c.fault_of.ensures
