@@ -2,43 +2,50 @@
 use Rattle.std.proofs.Common.{◌≡◌, ℕ, ◌+◌, ◌⊎◌, Bool, true, false, List, Option, Some, None, length, refl, sym, ap, ◌∙◌, inl, inr, arith}
 use Rattle.std.proofs.Common.{length-append}
 use Rattle.std.proofs.lemmas.Bool.{cases_lt, false≢true}
+use Rattle.frame_word.specs.Seats.{KnownTable}
 use Rattle.group_tree.specs.declared.group.Group.{Group}
+use Rattle.cpu_part.specs.Cpus.{KnownCpu}
+use Rattle.step_rules.specs.After.{Run}
 use Rattle.mem_machine.specs.Machines.{KnownMachine, is_killed}
 use Rattle.mem_alloc.specs.Kills.{IsAlive, KillsUntilRoom, has_room_at}
 use Rattle.mem_reclaim.specs.Victim.{IsVictim}
-use Rattle.mem_alloc.specs.Laws.{ChargesKillLast, KillsComeLast, KillsEndInTime, RefillsAreWhole}
-use Rattle.mem_alloc.specs.NoRash.{IsChargedBelow}
+use Rattle.mem_alloc.specs.Laws.{ChargesKillLast, KillsComeLast, KillsEndInTime, RefillsAreWhole, WasLast}
+use Rattle.mem_alloc.specs.NoRash.{IsChargedBelow, MayKillAfter}
 use Rattle.mem_alloc.proofs.Filling.{lent_part}
+
+-- the steps before the first kill of a set were the last to be tried
+abbrev pub was_last : (MayAsk : List Group → ℕ → ℕ → Type 0) (t : KnownTable) (start : KnownMachine) (cpu : KnownCpu) (before : Run) (g : ℕ) (rest : Run)
+    (after : MayKillAfter t MayAsk start cpu before g rest) → WasLast MayAsk t start cpu after.tried after.killed
+was_last MayAsk t start cpu before g rest after = record {
+  now = after.now;
+  leads = after.leads;
+  stock_table = after.may.stock_table;
+  consistent = after.may.consistent;
+  charges = after.may.charges;
+  limited = after.may.limited;
+  need = after.may.need;
+  asked = after.may.asked;
+  over = after.may.over;
+  noted = after.may.noted;
+  drained = after.may.drained;
+  frozen = λ f home below kept clean.
+      let rose = after.may.missed f home below kept clean in
+      let counted = after.may.tied.misses f in
+      omega (arith, rose, counted);
+  chosen = after.may.chosen;
+  killed_root_is = after.may.killed_root_is;
+}
 
 pub kills_come_last : (MayAsk : List Group → ℕ → ℕ → Type 0) → KillsComeLast MayAsk
 kills_come_last MayAsk t start cpu steps before rest made g none is kills =
     let after = none before rest made g is kills in
-    let may = after.may in
     record {
       tried = after.tried;
       since = after.since;
       killed = after.killed;
       left = after.left;
       steps_are = after.steps_are;
-      last = record {
-        now = after.now;
-        leads = after.leads;
-        stock_table = may.stock_table;
-        consistent = may.consistent;
-        charges = may.charges;
-        limited = may.limited;
-        need = may.need;
-        asked = may.asked;
-        over = may.over;
-        noted = may.noted;
-        drained = may.drained;
-        frozen = λ f home below kept clean.
-            let rose = may.missed f home below kept clean in
-            let counted = may.tied.misses f in
-            omega (arith, rose, counted);
-        chosen = may.chosen;
-        killed_root_is = may.killed_root_is;
-      };
+      last = was_last MayAsk t start cpu before g rest after;
       set_is = after.set_is;
     }
 

@@ -9,3 +9,4 @@ pub mod NoRashAllocs
 pub mod Missing
 pub mod CallerLemmas
 pub mod ComingLast
+pub mod KillLaws

@@ -7,3 +7,4 @@ pub mod Frames
 pub mod Blocks
 pub mod NoRash
 pub mod Laws
+pub mod KillLaws

@@ -1,10 +1,22 @@
 //! Laws of kills and of refills: what each function ensures holds of every call made as the definitions say.
 
+ghost use Rattle.mem_alloc.specs.KillLaws.{ChargesKillOverLimits, ChargesKillWholeSets};
 ghost use Rattle.mem_alloc.specs.Laws.{ChargesKillLast, KillsEndInTime, RefillsAreWhole};
 
 /// A charge kills nobody before it tried everything else.
 pub fn charges_kill_last()
     ensures { ChargesKillLast }
+{}
+
+/// A charge kills whole sets, each right after everything else was tried: all groups that die with a victim die before
+/// any other group.
+pub fn charges_kill_whole_sets()
+    ensures { ChargesKillWholeSets }
+{}
+
+/// A charge kills only while its own pages have no room under a limit on the path of its group.
+pub fn charges_kill_over_limits()
+    ensures { ChargesKillOverLimits }
 {}
 
 /// Kills for a limit don't stop while more kills could still help.

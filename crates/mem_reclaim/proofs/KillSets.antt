@@ -22,11 +22,11 @@ use Rattle.mem_machine.specs.Local.{MakesForAny}
 use Rattle.mem_machine.specs.Steps.{kill_steps, note_group_kill_steps}
 use Rattle.mem_machine.specs.Stocks.{AreOwnDrained}
 use Rattle.mem_machine.proofs.Followed.{makes_both, makes_none}
-use Rattle.mem_reclaim.specs.declared.noting.GroupSnapshot.{GroupSnapshot}
+use Rattle.mem_reclaim.specs.declared.noting.CountsBeforeKill.{CountsBeforeKill}
 use Rattle.mem_reclaim.specs.declared.sets.Killed.{Killed}
 use Rattle.mem_reclaim.specs.Killing.{HasNoKeptUnit, IsKilledBy, KillsGroups, KillsRootOrVictim, KillsGroupBySteps, KillsGroupNoted, KillsGroupsBySteps}
 use Rattle.mem_reclaim.specs.Killing.{KillsSubtree, AreKillsOf}
-use Rattle.mem_reclaim.specs.Killing.{OnlyDrains, OnlyReleases, snapshot_of, killed_note, with_all_killed}
+use Rattle.mem_reclaim.specs.Killing.{OnlyDrains, OnlyReleases, counts_before_kill, killed_note, with_all_killed}
 use Rattle.mem_reclaim.specs.KillNotes.{NotesVictim}
 use Rattle.mem_reclaim.specs.Moves.{Rises, has_kill, is_kill, is_miss, killed_by, kills_in, missed_in, returned_in}
 use Rattle.mem_reclaim.specs.Sets.{HasNoFlagged, IsKilledRoot, IsHighestFlagged, alive_in_subtree, group_kill_note, kill_set}
@@ -139,12 +139,12 @@ one_so t limited g m n one = record {
   keeps = one.keeps;
 }
 
-pub one_killed : (t : KnownTable) (limited g : ℕ) (m b n : KnownMachine) (had : GroupSnapshot) → had ≡ snapshot_of m g → KillsGroupBySteps t g m b
+pub one_killed : (t : KnownTable) (limited g : ℕ) (m b n : KnownMachine) (had : CountsBeforeKill) → had ≡ counts_before_kill m g → KillsGroupBySteps t g m b
     → b.killed ≡ slice_set m.killed g true → AreOwnDrained g t.cpus b → OnlyDrains m b → HasNoKeptUnit g b → OnlyReleases t m b
     → n ≡ with_note b (killed_note limited g had b) → OneKilled t limited g m n
 one_killed t limited g m b n had had_is kills marked drained stocks none_kept keeps noted_had =
-    let last : Note = killed_note limited g (snapshot_of m g) b in
-    let noted : n ≡ with_note b last = noted_had ∙ ap (λ (h : GroupSnapshot). with_note b (killed_note limited g h b)) had_is in
+    let last : Note = killed_note limited g (counts_before_kill m g) b in
+    let noted : n ≡ with_note b last = noted_had ∙ ap (λ (h : CountsBeforeKill). with_note b (killed_note limited g h b)) had_is in
     let once = kills.once in
     subst (λ (x : KnownMachine). OneKilled t limited g m x) (sym noted) (record {
       kills = record {

@@ -22,7 +22,7 @@ use Rattle.mem_machine.specs.Releasing.{Releases, release_steps}
 use Rattle.mem_machine.specs.Steps.{Drain, drain_stocks_steps, kill_steps, note_group_kill_steps}
 use Rattle.mem_machine.specs.Stocks.{DrainsAllIf, IsDrained, of_group, stock_group}
 use Rattle.mem_reclaim.specs.Moves.{Rises, has_kill, kills_in, missed_in, returned_in}
-use Rattle.mem_reclaim.specs.declared.noting.GroupSnapshot.{GroupSnapshot}
+use Rattle.mem_reclaim.specs.declared.noting.CountsBeforeKill.{CountsBeforeKill}
 use Rattle.mem_reclaim.specs.declared.sets.Killed.{Killed}
 use Rattle.mem_reclaim.specs.Sets.{IsKilledRoot, alive_in_subtree, group_kill_note, kill_set}
 use Rattle.mem_reclaim.specs.Staying.{OnlyLeave}
@@ -94,8 +94,8 @@ abbrev pub kept_units : KnownMachine → ℕ → ℕ
 kept_units machine group = length (inactive_in machine group) + length (active_in machine group)
 
 -- what a group has before it is killed: the machine's last puts so far, the group's frames, and its kept units
-abbrev pub snapshot_of : KnownMachine → ℕ → GroupSnapshot
-snapshot_of machine group = record {
+abbrev pub counts_before_kill : KnownMachine → ℕ → CountsBeforeKill
+counts_before_kill machine group = record {
   last_puts = machine.counts.last_puts;
   frames = own_frames machine group;
   units = kept_units machine group;
@@ -103,7 +103,7 @@ snapshot_of machine group = record {
 
 -- The note of a group killed for the group `limited`, by what it had before. Its kept units that were freed are counted
 -- as last puts, and the others are pinned. Its frames were freed or are still charged to it.
-abbrev pub killed_note : ℕ → ℕ → GroupSnapshot → KnownMachine → Note
+abbrev pub killed_note : ℕ → ℕ → CountsBeforeKill → KnownMachine → Note
 killed_note limited group had after =
     note.Kill group (after.counts.last_puts - had.last_puts) (had.frames - own_frames after group)
     (had.units - (after.counts.last_puts - had.last_puts)) (own_frames after group) (current_of after.ledger limited)
@@ -113,7 +113,7 @@ pub record KillsGroupNoted (table : KnownTable) (limited group : ℕ) (before : 
     (after : KnownMachine) : Type 0 where
   pub killed : KnownMachine
   pub kills : KillsGroup table group before steps killed
-  pub noted : after ≡ with_note killed (killed_note limited group (snapshot_of before group) killed)
+  pub noted : after ≡ with_note killed (killed_note limited group (counts_before_kill before group) killed)
 
 -- a group is killed and noted like this, and then `Then` leads on
 pub record KillsGroupThen (table : KnownTable) (limited group : ℕ) (Then : KnownMachine → Run → KnownMachine → Type 0)

@@ -12,7 +12,7 @@ ghost use Rattle.mem_reclaim.specs.Killing.{HasNoKeptUnit, KeepsStocks, KillsGro
 ghost use Rattle.mem_reclaim.specs.Killing.{KillsGroupNoted, KillsGroupsBySteps, KillsSubtree, KillsVictim};
 ghost use Rattle.mem_reclaim.specs.Killing.{OnlyDrains, OnlyReleases, ReleasesUnitsBySteps, victim_of, with_all_killed};
 
-use crate::noting::{note_killed, note_subtree, note_victim, take_snapshot};
+use crate::noting::{count_before_kill, note_killed, note_subtree, note_victim};
 use crate::sets::{Killed, highest_flagged};
 use crate::victims::{may_be_killed, victim};
 use cpu_part::{BootName, Tables};
@@ -81,7 +81,7 @@ fn kill_noted<N: BootName>(
     ensures none_kept { HasNoKeptUnit group machine.new }
     ensures keeps { OnlyReleases N.frames machine.old machine.new }
 {
-    let had = take_snapshot(machine, group);
+    let had = count_before_kill(machine, group);
     kill_group(machine, tables, group);
     note_killed(machine, limited, group, had);
 }

@@ -3,7 +3,7 @@
 ghost use Rattle.std.specs.Prelude.{◌≡◌, IsTrue};
 ghost use Rattle.group_tree.specs.Groups.{has_group};
 ghost use Rattle.mem_machine.specs.Machines.{with_note};
-ghost use Rattle.mem_reclaim.specs.Killing.{killed_note, snapshot_of};
+ghost use Rattle.mem_reclaim.specs.Killing.{counts_before_kill, killed_note};
 ghost use Rattle.mem_reclaim.specs.KillNotes.{NotesVictim};
 ghost use Rattle.mem_reclaim.specs.Sets.{group_kill_note};
 
@@ -16,7 +16,7 @@ use mem_machine::Machine;
 
 /// What a group has before it is killed.
 #[derive(Clone, Copy, Debug)]
-pub(crate) struct GroupSnapshot {
+pub(crate) struct CountsBeforeKill {
     /// The machine's last puts so far.
     pub last_puts: u64,
     /// The frames charged to the group itself.
@@ -26,10 +26,13 @@ pub(crate) struct GroupSnapshot {
 }
 
 /// What the group has now.
-pub(crate) fn take_snapshot<N: BootName>(machine: &Machine<N>, group: GroupId) -> GroupSnapshot
-    ensures { result ≡ snapshot_of machine.now group }
+pub(crate) fn count_before_kill<N: BootName>(
+    machine: &Machine<N>,
+    group: GroupId,
+) -> CountsBeforeKill
+    ensures { result ≡ counts_before_kill machine.now group }
 {
-    GroupSnapshot {
+    CountsBeforeKill {
         last_puts: machine.counts().last_puts,
         frames: machine.frames_of(group),
         units: u64::from(machine.list_len(group, LruList::Inactive))
@@ -74,7 +77,7 @@ pub(crate) fn note_killed<N: BootName>(
     machine: &mut Machine<N>,
     limited: GroupId,
     killed: GroupId,
-    had: GroupSnapshot,
+    had: CountsBeforeKill,
 )
     requires { IsTrue (has_group machine.old.ledger.groups limited) }
     ensures { machine.new ≡ with_note machine.old (killed_note limited killed had machine.old) }
