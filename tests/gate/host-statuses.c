@@ -39,12 +39,15 @@ static void live(void) {
     tempolemon_result result;
     tempolemon_report report;
     uint8_t buffer[160] = {0};
-    size_t written, first_bad;
+    size_t written = 77, first_bad;
     low_high.high = 3;
 
     is("an end of none", tempolemon_end(&host, &report), TEMPOLEMON_NOT_LIVE);
     is("a call of none", tempolemon_get(&host, 1, 0, &result), TEMPOLEMON_NOT_LIVE);
     is("an answer of none", tempolemon_answer(&host, buffer, 160, &written), TEMPOLEMON_NOT_LIVE);
+    is("its length", written != 0, 0);
+    is("a short buffer of none", tempolemon_read(&host, 1, BYTES("/a"), BYTES("memory.max"), buffer, 10, &result),
+       TEMPOLEMON_SMALL_BUFFER);
     is("a boot with a low high", tempolemon_boot(&low_high, &host), TEMPOLEMON_BAD_CONFIG);
     is("a call after that", tempolemon_settle(&host, 1, &result), TEMPOLEMON_NOT_LIVE);
     is("a boot", tempolemon_boot(&SIZES, &host), TEMPOLEMON_DONE);
@@ -54,8 +57,11 @@ static void live(void) {
     is("frame 16", tempolemon_get(&host, 1, 16, &result), TEMPOLEMON_BAD_FRAME);
     is("group 1", tempolemon_alloc(&host, 1, 1, 0, &result), TEMPOLEMON_BAD_GROUP);
     is("group 64", tempolemon_alloc(&host, 1, 64, 0, &result), TEMPOLEMON_BAD_GROUP);
-    is("a short buffer", tempolemon_read(&host, 1, BYTES("/a"), BYTES("memory.max"), buffer, 159, &result),
-       TEMPOLEMON_SMALL_BUFFER);
+    is("CPU 3 and frame 16", tempolemon_get(&host, 3, 16, &result), TEMPOLEMON_BAD_CPU);
+    is("CPU 3 and group 64", tempolemon_alloc(&host, 3, 64, 0, &result), TEMPOLEMON_BAD_CPU);
+    for (size_t room = 0; room < 160; room++)
+        is("a short buffer", tempolemon_read(&host, 1, BYTES("/a"), BYTES("memory.max"), buffer, room, &result),
+           TEMPOLEMON_SMALL_BUFFER);
     is("a refusal", tempolemon_put(&host, 1, 0, &result), 21);
     is("its kind", result.kind, TEMPOLEMON_REFUSED);
     is("a bad line", tempolemon_command(&host, false, BYTES("3 settle\n"), buffer, 160, &written, &first_bad),

@@ -1,6 +1,7 @@
 //! A run of the core on plain lists, and a check of its log. `tests/runs/check-core` has more runs, as logs.
 
 use group_tree::group::GroupId;
+use group_tree::path::PathText;
 use mem_core::check::check;
 use mem_core::run::run;
 use mem_core::verdict::Verdict;
@@ -22,12 +23,12 @@ const SIXTEEN_FRAMES: Config = Config {
 // A seat, its step, and the required answer.
 type CoreRow = (u32, Action, Answer);
 
-// A page is granted and placed. The lock can't be released while the page is pending.
-fn pending_page(order: Order) -> [CoreRow; 5] {
-    let group = GroupId::root();
+// A group is made, and a page is granted and placed for it. The lock can't be released while the page is pending.
+fn pending_page(path: PathText, group: GroupId, order: Order) -> [CoreRow; 6] {
     let block = Block { at: 0, order };
     [
         (1, Action::Lock, Answer::Done),
+        (0, Action::Make { path }, Answer::Number(group)),
         (0, Action::Grant { group, pages: 1 }, Answer::Granted),
         (1, Action::Unlock, Answer::Illegal),
         (
@@ -75,7 +76,8 @@ fn are_answered(rt: &impl Abort, rows: &[CoreRow], answers: &[Answer]) {
 
 #[test]
 fn a_run_is_answered_and_its_log_is_legal(rt: HostRuntime) -> Result<(), Fail> {
-    let rows = pending_page(Order::of(0).unwrap());
+    let path = PathText::of(b"/a").unwrap();
+    let rows = pending_page(path, GroupId::of(1).unwrap(), Order::of(0).unwrap());
     let steps = steps_of(rt.alloc(), &rows)?;
     let answers = run(rt.alloc(), SIXTEEN_FRAMES, steps.as_slice())?;
     are_answered(&rt, &rows, answers.as_slice());

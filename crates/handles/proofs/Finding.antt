@@ -11,7 +11,7 @@ use Rattle.script_lines.specs.declared.line.Command.TheVariants as cmd
 use Rattle.script_replay.specs.declared.answer_value.AnswerValue.{AnswerValue}
 use Rattle.script_replay.specs.Terms.{boot_tables}
 use Rattle.script_replay.specs.ValueAnswers.{NamesItsGroups, SaysCommand, answer_of}
-use Rattle.handles.specs.Calls.{Calls}
+use Rattle.handles.specs.Calls.{Calls, IsCpu}
 use Rattle.handles.specs.Commands.{SameButState}
 use Rattle.handles.specs.Known.{KnownLive}
 use Rattle.handles.specs.declared.calls.Call.TheVariants as call
@@ -31,16 +31,16 @@ module _ (frames : KnownTable) (stock_table : KnownStockTable) (cpu group : ℕ)
   abbrev after : Ledger
   after = to.state.locked.machine.ledger
 
-  pub frame_taken : (path : Bor (List ℕ)) → AreCharges from.state.locked.machine.ledger → path_of groups group ≡ Some path.now
+  pub frame_taken : (path : Bor (List ℕ)) → IsCpu from.sizes.cpus cpu → AreCharges from.state.locked.machine.ledger → path_of groups group ≡ Some path.now
       → ((named : Bor (List ℕ)) → number_at groups named.now ≡ Some group
       → SaysCommand (boot_tables frames stock_table) cpu (cmd.Alloc named 0) from.state to.state (answer_of after value))
       → NamesItsGroups after value → SameButState from to → Calls frames stock_table cpu (call.Alloc group 0) from to (returned.Served value)
-  frame_taken path legal is says there rest = record {
+  frame_taken path exists legal is says there rest = record {
     command = cmd.Alloc path 0;
     means = (is, refl);
     tells = record {
       answer = answer_of after value;
-      serves = record { says = says path (found_by_path groups group path.now legal.groups is); rest = rest };
+      serves = record { there = record { low = exists.low; high = exists.high; names = tt }; says = says path (found_by_path groups group path.now legal.groups is); rest = rest };
       is_answer = (there, refl);
     };
   }

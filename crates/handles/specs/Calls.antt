@@ -14,6 +14,7 @@ use Rattle.mem_system.specs.Outcomes.{HasItsGroups, reply_of}
 use Rattle.reply_texts.specs.LineAnswer.{LineAnswer}
 use Rattle.script_lines.specs.declared.line.Command.{Command}
 use Rattle.script_lines.specs.declared.line.Command.TheVariants as cmd
+use Rattle.script_replay.specs.Ranges.{CpuCommandInRange}
 use Rattle.script_replay.specs.Terms.{boot_tables}
 use Rattle.script_replay.specs.ValueAnswers.{NamesItsGroups, SaysCommand, answer_of}
 use Rattle.handles.specs.Known.{KnownLive}
@@ -75,9 +76,10 @@ abbrev pub IsAnswer : Ledger → LineAnswer → CallAnswer → Type 0
 IsAnswer ledger answer (returned.Served value) = NamesItsGroups ledger value × (answer ≡ answer_of ledger value)
 IsAnswer ledger answer other = ⊥
 
--- the command was served with this answer, and nothing else changed
+-- the CPU and what the command names exist, it was served with this answer, and nothing else changed
 pub record ServesCommand (frames : KnownTable) (stock_table : KnownStockTable) (cpu : ℕ) (command : Command)
     (from to : KnownLive) (answer : LineAnswer) : Type 0 where
+  pub there : CpuCommandInRange from.sizes.frames from.sizes.cpus cpu command
   pub says : SaysCommand (boot_tables frames stock_table) cpu command from.state to.state answer
   pub rest : SameButState from to
 
@@ -101,15 +103,16 @@ pub record RefusesCall (is_missing : Type 0) (from to : KnownLive) : Type 0 wher
   pub missing : is_missing
   pub stays : to ≡ from
 
--- what a call of a CPU does, and what it returns; the CPU is looked for first
+-- What a call of a CPU does, and what it returns. The CPU is looked for first: a missing frame or group is named only of
+-- a CPU that exists
 abbrev pub Calls : KnownTable → KnownStockTable → (cpu : ℕ) → Call → (from to : KnownLive) → CallAnswer → Type 0
 Calls frames stock_table cpu asked from to (returned.Served value) =
     ServesCall frames stock_table cpu asked from to (returned.Served value)
 Calls frames stock_table cpu asked from to returned.NoCpu = RefusesCall (¬ IsCpu from.sizes.cpus cpu) from to
 Calls frames stock_table cpu asked from to returned.NoFrame =
-    RefusesCall (NamesMissingFrame from.sizes.frames asked) from to
+    RefusesCall (IsCpu from.sizes.cpus cpu × NamesMissingFrame from.sizes.frames asked) from to
 Calls frames stock_table cpu asked from to returned.NoGroup =
-    RefusesCall (NamesMissingGroup from.state.locked.machine.ledger.groups asked) from to
+    RefusesCall (IsCpu from.sizes.cpus cpu × NamesMissingGroup from.state.locked.machine.ledger.groups asked) from to
 
 -- the group exists, and isn't the root, which has no files
 abbrev pub HasFile : (group : ℕ) → File → KnownLive → Type 0

@@ -1,11 +1,13 @@
 -- What was read of an input so far, piece by piece. Serves `check_log`.
-use Rattle.std.proofs.Common.{◌≡◌, ◌∙◌, ℕ, List, [], ◌++◌, Option, None, Some, IfSome, ap, append_assoc, append-nil, subst, sym}
+use Rattle.std.proofs.Common.{◌≡◌, ◌∙◌, ℕ, ◌<◌, ◌≤◌, List, [], ◌++◌, Option, None, Some, IfSome, ap, append_assoc, append-nil, arith, false, length, refl, subst, sym}
 use Rattle.std.proofs.KnownBytes.{Consumes-kept, Consumes-nil, Consumes-trans}
 use Rattle.std.specs.Io.KnownBytes.{Consumes, IsAtEnd, Keeps}
 use Rattle.log_check.specs.declared.verdict.LogVerdict.{LogVerdict}
 use Rattle.log_check.specs.declared.reader.LogReader.{LogReader}
-use Rattle.log_check.specs.Verdicts.{IsLogVerdict}
-use Rattle.log_check.specs.Taking.{HasRead, Reads}
+use Rattle.log_check.specs.declared.verdict.LogVerdict.TheVariants.{Legal, NotLegal, BadLine}
+use Rattle.log_check.specs.Reading.{EndsBefore, NamesLineAfter, ReadsAsFar, ReadsUpTo}
+use Rattle.log_check.specs.Verdicts.{IsLogVerdict, says_legal}
+use Rattle.log_check.specs.Taking.{Fits, HasRead, Reads}
 
 -- these bytes were read of the input, and are what the log is known to begin with
 pub record IsReadTo (input left : Option (List ℕ)) (log : LogReader) : Type 0 where
@@ -54,3 +56,44 @@ ended (Some all) (Some rest) (Some last) log new piece end so_far read is =
     let whole : all ≡ (so_far.bytes ++ piece) ++ last
     = so_far.read ∙ ap (λ (l : List ℕ). so_far.bytes ++ l) read ∙ sym (append_assoc so_far.bytes piece last) in
     subst (λ (l : List ℕ). IsLogVerdict l end) (sym whole) (is so_far.bytes so_far.known last)
+
+-- ---- how far it was read
+
+-- the log as far as it was read ends before a line that comes after its lines
+early : (bytes : List ℕ) (log : LogReader) (line : ℕ) → HasRead bytes log → Fits log → log.lines < line → EndsBefore line bytes
+early bytes log line has fits few = record {
+  front = has.front;
+  rest = log.line.items;
+  parts = has.parts;
+  texts = has.taken.are.texts;
+  cut = has.taken.are.cut;
+  few = subst (λ (n : ℕ). n < line) has.taken.are.count_is few;
+  no_feed = has.no_feed;
+  short = fits.short;
+}
+
+up_to : (input left after : Option (List ℕ)) (log : LogReader) (piece : List ℕ) (line : ℕ) → IsReadTo input left log → Fits log
+    → Consumes left after piece → length piece ≤ 4096 → log.lines < line → ReadsUpTo line input after
+up_to input left after log piece line so_far fits read short few = record {
+  text = so_far.bytes;
+  piece = piece;
+  early = early so_far.bytes log line so_far.known fits few;
+  short = short;
+  taken = Consumes-trans input left after so_far.bytes piece so_far.read read;
+}
+
+-- a piece more was read, in which a line is named
+pub ended_far : (input left after : Option (List ℕ)) (log : LogReader) (piece : List ℕ) (end : LogVerdict) → IsReadTo input left log → Fits log
+    → Consumes left after piece → length piece ≤ 4096 → NamesLineAfter log.lines end → ReadsAsFar end input after
+ended_far input left after log piece (Legal steps) so_far fits read short names = absurd names
+ended_far input left after log piece (NotLegal line step expected) so_far fits read short names = up_to input left after log piece line so_far fits read short names
+ended_far input left after log piece (BadLine line) so_far fits read short names = up_to input left after log piece line so_far fits read short names
+
+-- all was read
+pub all_far : (input left after : Option (List ℕ)) (log : LogReader) (end : LogVerdict) → IsReadTo input left log → Fits log → Consumes left after []
+    → IsAtEnd after → (says_legal end ≡ false → NamesLineAfter log.lines end) → ReadsAsFar end input after
+all_far input left after log (Legal steps) so_far fits read at_end names = at_end
+all_far input left after log (NotLegal line step expected) so_far fits read at_end names =
+    up_to input left after log [] line so_far fits read (omega arith) (names refl)
+all_far input left after log (BadLine line) so_far fits read at_end names =
+    up_to input left after log [] line so_far fits read (omega arith) (names refl)

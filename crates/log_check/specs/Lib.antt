@@ -1,3 +1,4 @@
+pub mod Reading
 pub mod Taking
 pub mod Texts
 pub mod Verdicts

@@ -8,7 +8,7 @@ use Rattle.mem_core.specs.Shown.{CoreState, state_shown}
 use Rattle.mem_core.specs.Checked.{IsFirstIllegal}
 use Rattle.log_lines.specs.declared.line.LogLine.{LogLine}
 use Rattle.log_lines.specs.declared.line.LogLine.TheVariants as kinds
-use Rattle.log_lines.specs.Line.{IsLineText, IsZone}
+use Rattle.log_lines.specs.Line.{IsLineText, IsZone, longest_line}
 use Rattle.log_lines.specs.Log.{AreLinesOf, MayBegin, SayInOrder, WholeLog, says_something}
 use Rattle.log_check.specs.declared.verdict.LogVerdict.{LogVerdict}
 use Rattle.log_check.specs.declared.progress.Progress.{Progress}
@@ -58,11 +58,13 @@ Takes lines line now GoesOn = HasChecked now.checker (lines ++ line ∷ [])
 Takes lines line now (NotLegal expected) = EndsIllegally (lines ++ line ∷ []) now.steps expected
 Takes lines line now Bad = ¬ MayBegin (lines ++ line ∷ [])
 
--- the step count is the checker's, and at most the number of lines; one more line can be counted
+-- the step count is the checker's, and at most the number of lines; one more line can be counted, and the unfinished one
+-- isn't too long
 pub record Fits (r : LogReader) : Type 0 where
   pub counts : CountsSteps r.progress
   pub few : r.progress.steps ≤ r.lines
   pub room : r.lines + 1 < 2 ^ 64
+  pub short : length r.line.items ≤ longest_line
 
 -- the text is this many lines, with these contents
 pub record AreWholeLines (text : List ℕ) (count : ℕ) (lines : List LogLine) : Type 0 where

@@ -1,10 +1,11 @@
 //! How far the run of a log was checked.
 
-ghost use Rattle.std.specs.Prelude.{◌≡◌, ◌+◌, ◌^◌, ◌<◌, ◌≤◌, IfOk, List};
+ghost use Rattle.std.specs.Prelude.{◌≡◌, ◌+◌, ◌^◌, ◌<◌, ◌≤◌, IfErr, IfOk, List};
 ghost use Rattle.log_lines.specs.declared.line.LogLine.{LogLine};
 ghost use Rattle.log_lines.specs.declared.line.LogLine.TheVariants as kinds;
 ghost use Rattle.log_lines.specs.Line.{IsZone};
 ghost use Rattle.log_check.specs.Taking.{CountsSteps, HasChecked, IsInRange, Takes};
+ghost use Rattle.log_check.specs.declared.verdict.LogFault.TheVariants.{NoMemory};
 
 use crate::verdict::LogFault;
 use log_lines::line::LogLine;
@@ -39,6 +40,7 @@ impl Progress {
         requires few { self.old.steps + 1 < 2 ^ 64 }
         ensures taken { IfOk result (λ taken.
             (lines : List LogLine) → HasChecked self.old.checker lines → Takes lines line.now self.new taken) }
+        ensures fault { IfErr result (λ fault. fault ≡ NoMemory) }
         ensures counts { CountsSteps self.new }
         ensures few { self.new.steps ≤ self.old.steps + 1 }
     {
@@ -54,6 +56,7 @@ impl Progress {
         requires counts { CountsSteps self.old }
         ensures taken { IfOk result (λ taken. (lines : List LogLine) → HasChecked self.old.checker lines
             → Takes lines (kinds.Zone frames cpus) self.new taken) }
+        ensures fault { IfErr result (λ fault. fault ≡ NoMemory) }
         ensures counts { CountsSteps self.new }
         ensures steps { self.new.steps ≡ self.old.steps }
     {

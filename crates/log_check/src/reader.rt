@@ -1,8 +1,10 @@
 //! The bytes of a log, one after another.
 
-ghost use Rattle.std.specs.Prelude.{ℕ, ◌+◌, ◌^◌, ◌<◌, [], ◌∷◌, ◌++◌, IfOk, List};
+ghost use Rattle.std.specs.Prelude.{◌≡◌, ℕ, ◌+◌, ◌^◌, ◌<◌, ◌≤◌, [], ◌∷◌, ◌++◌, Err, IfErr, IfOk, IfSome, List, false};
+ghost use Rattle.log_check.specs.Reading.{NamesLineAfter};
 ghost use Rattle.log_check.specs.Taking.{Fits, HasRead, Reads};
-ghost use Rattle.log_check.specs.Verdicts.{IsLogVerdict};
+ghost use Rattle.log_check.specs.Verdicts.{IsLogVerdict, says_legal};
+ghost use Rattle.log_check.specs.declared.verdict.LogFault.TheVariants.{Input, NoMemory};
 
 use crate::progress::{Progress, Taken};
 use crate::verdict::{LogFault, LogVerdict};
@@ -45,7 +47,9 @@ impl LogReader {
         requires fits { Fits self.old }
         ensures read { IfOk result (λ verdict.
             (before : List ℕ) → HasRead before self.old → Reads (before ++ bytes.now) self.new verdict) }
+        ensures line { IfOk result (λ verdict. IfSome verdict (NamesLineAfter self.old.lines)) }
         ensures fits { Fits self.new }
+        ensures failed { result ≡ Err Input → 2 ^ 64 ≤ self.new.lines + 2 }
     {
         for byte in bytes {
             let end = self.take_byte(alloc, *byte)?;
@@ -59,7 +63,8 @@ impl LogReader {
     /// The answer for the log if no more bytes follow.
     pub(crate) fn end(&self) -> LogVerdict
         requires fits { Fits self.now }
-        ensures { (before : List ℕ) → HasRead before self.now → IsLogVerdict before result }
+        ensures verdict { (before : List ℕ) → HasRead before self.now → IsLogVerdict before result }
+        ensures line { says_legal result ≡ false → NamesLineAfter self.now.lines result }
     {
         if self.line.is_empty() && self.progress.checker.is_some() {
             LogVerdict::Legal {
@@ -76,7 +81,10 @@ impl LogReader {
         requires fits { Fits self.old }
         ensures read { IfOk result (λ verdict.
             (before : List ℕ) → HasRead before self.old → Reads (before ++ byte ∷ []) self.new verdict) }
+        ensures line { IfOk result (λ verdict. IfSome verdict (NamesLineAfter self.old.lines)) }
         ensures fits { Fits self.new }
+        ensures lines { self.old.lines ≤ self.new.lines }
+        ensures failed { result ≡ Err Input → 2 ^ 64 ≤ self.old.lines + 2 }
     {
         if self.lines == u64::MAX - 1 {
             return Err(LogFault::Input);
@@ -100,7 +108,10 @@ impl LogReader {
         requires few { self.old.lines + 2 < 2 ^ 64 }
         ensures read { IfOk result (λ verdict.
             (before : List ℕ) → HasRead before self.old → Reads (before ++ 10 ∷ []) self.new verdict) }
+        ensures line { IfOk result (λ verdict. IfSome verdict (NamesLineAfter self.old.lines)) }
         ensures fits { Fits self.new }
+        ensures lines { self.old.lines ≤ self.new.lines }
+        ensures fault { IfErr result (λ fault. fault ≡ NoMemory) }
     {
         self.lines += 1;
         let taken = match parse_line(&self.line) {

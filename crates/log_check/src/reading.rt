@@ -1,6 +1,7 @@
 //! Reads a log piece by piece.
 
 ghost use Rattle.std.specs.Prelude.{◌↔◌, IfOk, IfSome, IsTrue};
+ghost use Rattle.log_check.specs.Reading.{ReadsAsFar};
 ghost use Rattle.log_check.specs.Verdicts.{IsLegalLog, IsLogVerdict, says_legal};
 
 use crate::reader::LogReader;
@@ -22,6 +23,7 @@ pub fn check_log<I: Read>(alloc: Global, input: &mut I) -> Result<LogVerdict, Lo
     ensures verdict { IfOk result (λ verdict. IfSome (I.remaining input.old) (λ text. IsLogVerdict text verdict)) }
     ensures exact { IfOk result (λ verdict. IfSome (I.remaining input.old)
         (λ text. IsTrue (says_legal verdict) ↔ IsLegalLog text)) }
+    ensures taken { IfOk result (λ verdict. ReadsAsFar verdict (I.remaining input.old) (I.remaining input.new)) }
 {
     let mut log = LogReader::new(alloc);
     let mut piece = [0; PIECE];

@@ -51,16 +51,17 @@ module _ (cpu : ℕ) (asked : Call) (buffer : List ℕ) where
   }
 
   -- there is no such frame
-  pub no_frame_called : (before after : Option LiveBoot) → RefusesBehind (λ from. NamesMissingFrame from.sizes.frames asked) before after
+  pub no_frame_called : (before after : Option LiveBoot)
+      → RefusesBehind (λ from. IsCpu from.sizes.cpus cpu × NamesMissingFrame from.sizes.frames asked) before after
       → CallsInto cpu asked before after bad_frame no_result buffer buffer
   no_frame_called before after refuses = record {
     statuses = inr (2, omega arith, refl);
-    none_live = (λ e. absurd (omega (arith, e)), λ none. absurd (there (λ from. NamesMissingFrame from.sizes.frames asked) before after refuses none));
+    none_live = (λ e. absurd (omega (arith, e)), λ none. absurd (there (λ from. IsCpu from.sizes.cpus cpu × NamesMissingFrame from.sizes.frames asked) before after refuses none));
     served = λ low. absurd (omega (arith, low));
     no_cpu = λ e. absurd (omega (arith, e));
     no_frame = λ e. refuses;
     no_group = λ e. absurd (omega (arith, e));
-    stays = λ high. still (λ from. NamesMissingFrame from.sizes.frames asked) before after refuses;
+    stays = λ high. still (λ from. IsCpu from.sizes.cpus cpu × NamesMissingFrame from.sizes.frames asked) before after refuses;
     no_kind = λ high. refl;
     buffer_stays = λ high. refl;
   }

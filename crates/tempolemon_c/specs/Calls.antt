@@ -96,16 +96,17 @@ RefusesBehind is_missing before after =
     OnBoot (λ frames stock_table from to. RefusesCall (is_missing from) from to) before after
 
 -- What a call with a buffer does, by its status. Up to the greatest number of a refusal it was served; above, nothing
--- was done
+-- was done. The CPU is looked for before a frame or a group
 pub record CallsInto (cpu : ℕ) (asked : Call) (before after : Option LiveBoot) (status : ℕ) (out : TypedResult)
     (old new : List ℕ) : Type 0 where
   pub statuses : (status ≤ most_refusal) ⊎ IsNotServedStatus status
   pub none_live : (status ≡ not_live) ↔ (before ≡ None)
   pub served : status ≤ most_refusal → ServesBehind cpu asked before after status out old new
   pub no_cpu : status ≡ bad_cpu → RefusesBehind (λ from. ¬ IsCpu from.sizes.cpus cpu) before after
-  pub no_frame : status ≡ bad_frame → RefusesBehind (λ from. NamesMissingFrame from.sizes.frames asked) before after
-  pub no_group : status ≡ bad_group
-      → RefusesBehind (λ from. NamesMissingGroup from.state.locked.machine.ledger.groups asked) before after
+  pub no_frame : status ≡ bad_frame
+      → RefusesBehind (λ from. IsCpu from.sizes.cpus cpu × NamesMissingFrame from.sizes.frames asked) before after
+  pub no_group : status ≡ bad_group → RefusesBehind (λ from.
+      IsCpu from.sizes.cpus cpu × NamesMissingGroup from.state.locked.machine.ledger.groups asked) before after
   pub stays : most_refusal < status → after ≡ before
   pub no_kind : most_refusal < status → out ≡ no_result
   pub buffer_stays : most_refusal < status → new ≡ old
@@ -149,18 +150,17 @@ pub record ReadsBehind (is_asked : Call → Type 0) (cpu : ℕ) (before after : 
   pub is : is_asked asked
   pub calls : CallsInto cpu asked before after status out old new
 
--- the buffer is too small for the longest text of a file, and nothing was done
+-- the buffer is refused as too small, and nothing was done
 pub record IsTooSmall (before after : Option LiveBoot) (status : ℕ) (out : TypedResult) (old new : List ℕ)
     : Type 0 where
   pub status_is : status ≡ small_buffer
-  pub small : length old < longest_text
   pub stays : after ≡ before
   pub out_is : out ≡ no_result
   pub buffer_stays : new ≡ old
 
--- what a read of a file does
-abbrev pub Reads : (path file : List ℕ) (cpu : ℕ) (before after : Option LiveBoot) (status : ℕ) (out : TypedResult)
-    (old new : List ℕ) → Type 0
-Reads path file cpu before after status out old new =
-    ReadsBehind (IsRead path file) cpu before after status out old new
-    ⊎ IsTooSmall before after status out old new
+-- What a read of a file does. Whether the buffer has room for the longest text of a file is looked at first, whatever
+-- the handle and the call
+pub record Reads (path file : List ℕ) (cpu : ℕ) (before after : Option LiveBoot) (status : ℕ) (out : TypedResult)
+    (old new : List ℕ) : Type 0 where
+  pub refused : length old < longest_text → IsTooSmall before after status out old new
+  pub read : longest_text ≤ length old → ReadsBehind (IsRead path file) cpu before after status out old new

@@ -24,7 +24,8 @@ use std::alloc::Global;
 pub extern "C" fn tempolemon_boot(alloc: Global, sizes: &Sizes, handle: &mut Handle) -> u8
     ensures statuses { IsBootStatus result }
     ensures refused_live { (result ≡ is_live) ↔ (behind handle.old ≢ None) }
-    ensures bad_sizes { result ≡ bad_config → ¬ IsValidConfig (config_of sizes.now) }
+    ensures bad_sizes { (result ≡ bad_config)
+        ↔ ((behind handle.old ≡ None) × (¬ IsValidConfig (config_of sizes.now))) }
     ensures booted { result ≡ done → BootsNew (config_of sizes.now) (behind handle.new) }
     ensures stays { result ≢ done → behind handle.new ≡ behind handle.old }
 {
@@ -142,11 +143,12 @@ pub extern "C" fn tempolemon_answer(
         (TakesUnread (behind handle.old) (behind handle.new)) answers.old answers.new written.new }
     ensures too_small { result ≡ small_buffer
         → ExceedsBuffer (HasUnread (behind handle.old)) answers.old written.new }
+    ensures no_length { result ≡ not_live → written.new ≡ 0 }
     ensures stays { result ≢ done → behind handle.new ≡ behind handle.old }
     ensures buffer_stays { result ≢ done → answers.new ≡ answers.old }
 {
-    *written = 0;
     if !handle.is_live() {
+        *written = 0;
         return NOT_LIVE;
     }
     match handle.ask(alloc, Request::TakeUnread { alloc }) {

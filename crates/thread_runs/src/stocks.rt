@@ -1,16 +1,18 @@
 //! Worked rows on a stock's word, and its drain while the CPU pays from it.
 ghost use Rattle.std.specs.Prelude.{◌≡◌, ◌≤◌, ◌+◌, false, length};
 ghost use Rattle.stock_word.specs.Stock.{IsCpuView, IsZoneView, MayBeFilled, account_of, first_zone_stock_view};
-ghost use Rattle.stock_word.specs.Stock.{first_cpu_stock_view};
+ghost use Rattle.stock_word.specs.Stock.{first_cpu_stock_view, word_of};
 ghost use Rattle.stock_word.specs.Kinds.{with_steps, zone_after_drain};
 ghost use Rattle.stock_word.specs.Calls.{steps_of_drain};
+ghost use Rattle.stock_word.specs.declared.view.Stock.TheVariants.{DrainedOf, HeldBy};
 
 use crate::rows::same;
 use std::process::Abort;
 use std::thread::{Threads, join};
 use stock_word::{Consume, Credit, Stock, StockSeat, StockWords};
 
-// One page of the stock is fresh while the other three are drained. It is then reported and absorbed.
+// One page of the stock is fresh while the other three are drained. It is then reported and absorbed. The word is that of
+// 4 pages, then of 3, then of none that are drained.
 fn drained_beside_a_page(
     rt: &impl Abort,
     words: &StockWords,
@@ -20,6 +22,9 @@ fn drained_beside_a_page(
     requires tables { (zone.old.table ≡ words.now.table) × (seat.old.table ≡ words.now.table) }
     requires views { (zone.old.view ≡ first_zone_stock_view) × (seat.old.view ≡ first_cpu_stock_view 1)
         × (words.now.cpus ≡ 1) }
+    ensures filled { word_of (HeldBy 1 4) ≡ 131076 }
+    ensures paid { word_of (HeldBy 1 3) ≡ 131075 }
+    ensures drained { word_of (DrainedOf 1) ≡ 4295098368 }
 {
     words.fill(zone, seat, 1, 4);
     same(rt, words.consume(seat, 1), Consume::Took);

@@ -1,11 +1,12 @@
 -- Serves the contract of `check_log`: each read takes one more piece, up to the end or until the answer is known.
-use Rattle.std.proofs.Common.{◌<◌, ◌++◌, ℕ, Option, length, rules, subst, sym, take}
+use Rattle.std.proofs.Common.{◌<◌, ◌≤◌, ◌++◌, ℕ, IfSome, Option, length, rules, subst, sym, take}
 use Rattle.std.specs.Io.KnownBytes.{Consumes}
 use Rattle.log_check.specs.declared.verdict.LogVerdict.{LogVerdict}
 use Rattle.log_check.specs.declared.reader.LogReader.{LogReader}
 use Rattle.log_check.specs.Taking.{Fits, Reads}
 use Rattle.log_check.proofs.Exact.{exact_if}
-use Rattle.log_check.proofs.Parts.{IsReadTo, all_read, ended, kept, more}
+use Rattle.log_check.specs.Reading.{NamesLineAfter}
+use Rattle.log_check.proofs.Parts.{IsReadTo, all_far, all_read, ended, ended_far, kept, more}
 use Rattle.log_check.proofs.reading.check_log.Goals.{in-Ok+in_ok-end-in-Ok+in_default, in-Err}
 use Rattle.log_check.proofs.reading.check_log.Goals as goal
 
@@ -17,7 +18,17 @@ returns-in-Ok-eq0-clause-verdict g c =
     let some : 0 < length buf = search rules in
     let bytes = rw c.in-Ok-eq0.is at c.read.ensures.bytes in
     all_read (g.I.Read.remaining c.args.input.now) before after c.loop.log c.end.result c.loop.invariant.1
-    (subst (λ (n : ℕ). Consumes before after (take n buf)) c.in-Ok-eq0.field-0-test bytes.0) (bytes.1 c.in-Ok-eq0.field-0-test some) c.end.ensures
+    (subst (λ (n : ℕ). Consumes before after (take n buf)) c.in-Ok-eq0.field-0-test bytes.0) (bytes.1 c.in-Ok-eq0.field-0-test some) c.end.ensures.verdict
+
+pub returns-in-Ok-eq0-clause-taken : goal.returns-in-Ok-eq0-clause-taken
+returns-in-Ok-eq0-clause-taken g c =
+    let before = g.I.Read.remaining c.loop.input in
+    let after = g.I.Read.remaining c.read.new.self in
+    let buf = c.read.new.buf in
+    let some : 0 < length buf = search rules in
+    let bytes = rw c.in-Ok-eq0.is at c.read.ensures.bytes in
+    all_far (g.I.Read.remaining c.args.input.now) before after c.loop.log c.end.result c.loop.invariant.1 c.loop.invariant.0
+    (subst (λ (n : ℕ). Consumes before after (take n buf)) c.in-Ok-eq0.field-0-test bytes.0) (bytes.1 c.in-Ok-eq0.field-0-test some) c.end.ensures.line
 
 pub returns-in-Ok-eq0-clause-exact : goal.returns-in-Ok-eq0-clause-exact
 returns-in-Ok-eq0-clause-exact g c = exact_if (g.I.Read.remaining c.args.input.now) c.end.result (returns-in-Ok-eq0-clause-verdict g c)
@@ -31,6 +42,14 @@ returns-in-Some-clause-verdict g c =
 
 pub returns-in-Some-clause-exact : goal.returns-in-Some-clause-exact
 returns-in-Some-clause-exact g c = exact_if (g.I.Read.remaining c.args.input.now) c.in-Some.end (returns-in-Some-clause-verdict g c)
+
+pub returns-in-Some-clause-taken : goal.returns-in-Some-clause-taken
+returns-in-Some-clause-taken g c =
+    let piece = take c.in-Ok.n c.read.new.buf in
+    let short : length piece ≤ 4096 = search rules in
+    ended_far (g.I.Read.remaining c.args.input.now) (g.I.Read.remaining c.loop.input) (g.I.Read.remaining c.read.new.self) c.loop.log piece c.in-Some.end
+    c.loop.invariant.1 c.loop.invariant.0 c.in-Ok.ensures.bytes.0 short
+    (subst (λ (e : Option LogVerdict). IfSome e (NamesLineAfter c.loop.log.lines)) c.in-Some.is c.in_ok-end-in-Ok.ensures.line)
 
 pub loop-preserved : goal.loop-preserved
 loop-preserved g c =

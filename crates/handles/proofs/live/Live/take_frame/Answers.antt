@@ -9,7 +9,7 @@ use Rattle.script_lines.specs.declared.line.Command.TheVariants as cmd
 use Rattle.script_replay.specs.Lines.{system_state}
 use Rattle.script_replay.specs.Terms.{boot_tables}
 use Rattle.script_replay.specs.ValueAnswers.{SaysCommand, answer_of}
-use Rattle.handles.specs.Calls.{Calls}
+use Rattle.handles.specs.Calls.{Calls, IsCpu}
 use Rattle.handles.specs.Known.{KnownLive}
 use Rattle.handles.specs.declared.calls.Call.TheVariants.{Alloc}
 use Rattle.handles.specs.declared.calls.CallAnswer.TheVariants.{Served}
@@ -41,6 +41,8 @@ returns g c =
     λ named found. subst (λ cpus. SaysCommand (boot_tables g.N.BootName.frames g.N.BootName.stocks) c.args.cpu (cmd.Alloc named 0)
     (system_state c.self.inside.locked cpus) left.state (answer_of left.state.locked.machine.ledger c.alloc_value.result))
     c.deref_mut.ensures.value (c.alloc_value.ensures.answer named found) in
+    let most : c.args.cpu ≤ c.self.inside.sizes.cpus = search rules in
+    let exists : IsCpu c.self.inside.sizes.cpus c.args.cpu = record { low = c.requires.there.low; high = most } in
     let frames = g.N.BootName.frames in
     let stocks = g.N.BootName.stocks in
     let inside = c.self.inside in
@@ -58,5 +60,5 @@ returns g c =
     (subst (λ (l : List KnownCpu). Calls frames stocks c.args.cpu (Alloc group 0) live
     (record { sizes = inside.sizes; state = system_state c.alloc_value.new.locked l; unread_answer = inside.unread_answer.items })
     (Served c.alloc_value.result)) (sym same)
-    (frame_taken frames stocks c.args.cpu group live left c.alloc_value.result c.as_bytes-path.result
+    (frame_taken frames stocks c.args.cpu group live left c.alloc_value.result c.as_bytes-path.result exists
     (subst AreCharges c.charges.ensures c.tree.ensures.legal) is says c.alloc_value.ensures.groups (record { sizes = refl; unread_answer = refl })))

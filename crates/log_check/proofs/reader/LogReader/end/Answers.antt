@@ -7,14 +7,14 @@ use Rattle.log_check.proofs.Bytes.{ends_badly, ends_well}
 use Rattle.log_check.proofs.reader.LogReader.end.Goals.{else-is_empty-via-then-is_empty+else-is_some, else-is_empty-via-else-is_empty}
 use Rattle.log_check.proofs.reader.LogReader.end.Goals as goal
 
-pub returns-then-is_some : goal.returns-then-is_some
-returns-then-is_some c = λ before h.
+pub returns-then-is_some-clause-verdict : goal.returns-then-is_some-clause-verdict
+returns-then-is_some-clause-verdict c = λ before h.
     let none : length c.args.self.now.line.items ≡ 0 = search rules in
     ends_well before c.args.self.now h c.requires.fits.counts (nil_from_length c.args.self.now.line.items none)
     (sym c.is_some.ensures ∙ c.if-is_some.true)
 
-pub returns-else-is_empty : goal.returns-else-is_empty
-returns-else-is_empty c = λ before h. elim c.else-is_empty.branch [
+pub returns-else-is_empty-clause-verdict : goal.returns-else-is_empty-clause-verdict
+returns-else-is_empty-clause-verdict c = λ before h. elim c.else-is_empty.branch [
   | else-is_empty-via-then-is_empty+else-is_some w ↦
       ends_badly before c.args.self.now (c.args.self.now.lines + 1) h (λ empty. sym w.is_some.ensures ∙ w.if-is_some.false) refl
   | else-is_empty-via-else-is_empty w ↦

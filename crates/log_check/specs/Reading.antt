@@ -1,0 +1,42 @@
+-- How far a check reads a log.
+use Rattle.std.specs.Prelude.{◌≡◌, ◌≢◌, ℕ, ◌<◌, ◌≤◌, List, ◌++◌, Option, All, length}
+use Rattle.std.specs.Io.KnownBytes.{Consumes, IsAtEnd}
+use Rattle.log_lines.specs.Line.{longest_line}
+use Rattle.log_lines.specs.Log.{AreLinesOf}
+use Rattle.log_check.specs.declared.verdict.LogVerdict.{LogVerdict}
+use Rattle.log_check.specs.declared.verdict.LogVerdict.TheVariants.{Legal, NotLegal, BadLine}
+
+-- the most bytes of one read
+abbrev pub longest_piece : ℕ
+longest_piece = 4096
+
+-- the text is fewer than `line` lines, and then a beginning of the next one, no longer than a line may be
+pub record EndsBefore (line : ℕ) (text : List ℕ) : Type 0 where
+  pub front : List ℕ
+  pub rest : List ℕ
+  pub parts : text ≡ front ++ rest
+  pub texts : List (List ℕ)
+  pub cut : AreLinesOf front texts
+  pub few : length texts < line
+  pub no_feed : All (λ b. b ≢ 10) rest
+  pub short : length rest ≤ longest_line
+
+-- at most one piece was read behind a text that ends before this line does
+pub record ReadsUpTo (line : ℕ) (before after : Option (List ℕ)) : Type 0 where
+  pub text : List ℕ
+  pub piece : List ℕ
+  pub early : EndsBefore line text
+  pub short : length piece ≤ longest_piece
+  pub taken : Consumes before after (text ++ piece)
+
+-- how far a check reads: to the end if the log is legal, or else up to the line that it names
+abbrev pub ReadsAsFar : LogVerdict → (before after : Option (List ℕ)) → Type 0
+ReadsAsFar (Legal steps) before after = IsAtEnd after
+ReadsAsFar (NotLegal line step expected) before after = ReadsUpTo line before after
+ReadsAsFar (BadLine line) before after = ReadsUpTo line before after
+
+-- the log isn't legal, and the line that is named comes after so many
+abbrev pub NamesLineAfter : ℕ → LogVerdict → Type 0
+NamesLineAfter lines (Legal steps) = ⊥
+NamesLineAfter lines (NotLegal line step expected) = lines < line
+NamesLineAfter lines (BadLine line) = lines < line
