@@ -59,14 +59,15 @@ class Search:
     def bisect(self, group, too_little, is_enough):
         """The least limit above one that is too little; None if even all that is wanted isn't enough."""
         enough = self.wanted[group]
-        if enough <= too_little or not self.holds(group, enough, is_enough):
-            return enough if enough <= too_little else None
+        if not self.holds(group, enough, is_enough):
+            return None
+        middle = enough - 1  # because often all that is wanted is needed
         while enough - too_little > 1:
-            middle = (enough + too_little) // 2
             if self.holds(group, middle, is_enough):
                 enough = middle
             else:
                 too_little = middle
+            middle = (enough + too_little) // 2
         return enough
 
     def least(self, group):
