@@ -9,7 +9,7 @@ from .usage import greatest_wanted, only_below, with_limits, without_limits
 
 COLUMNS = ["group", "wanted", "survives", "keeps file"]
 
-# A group's least limits in frames: with which nothing dies, and with which its file pages are kept too, if there is one.
+# A group's least limits in frames: with which nothing dies, and with which its file pages are kept too (None: none is).
 Least = namedtuple("Least", "group wanted survives keeps")
 
 
@@ -106,19 +106,18 @@ def find(memcg, usage, groups, percent):
         show_progress(len(found), len(groups))
         found.append(search.least(group))
     is_kept = percent is not None
-    limits = {least.group: least.keeps if is_kept else least.survives for least in found}
-    limits = {group: limit for group, limit in limits.items() if limit is not None}
-    limits = search.together(limits, is_kept)
+    alone = {least.group: least.keeps if is_kept else least.survives for least in found}
+    alone = {group: limit for group, limit in alone.items() if limit is not None}
+    limits = search.together(alone, is_kept)
     show_progress(len(groups), len(groups))
-    return found, limits
+    return found, limits, [group for group in limits if limits[group] > alone[group]]
 
 
-def least_lines(found, limits, size):
+def least_lines(found, limits, raised, size):
     """The table in comments, and the lines of limits.txt."""
     rows = [[least.group, amount_text(least.wanted * size), amount_text(least.survives * size),
              "-" if least.keeps is None else amount_text(least.keeps * size)] for least in found]
     yield from (f"# {line}" for line in table([COLUMNS, *rows]))
-    raised = [least.group for least in found if limits.get(least.group, 0) > max(least.survives, least.keeps or 0)]
     if raised:
         yield f"# raised, so that all together are good enough: {', '.join(raised)}"
     yield from (f"{group} {limit * size}" for group, limit in limits.items())

@@ -2,6 +2,7 @@
 import csv
 import io
 import os
+import re
 import signal
 import sys
 import time
@@ -24,8 +25,7 @@ def text_of(path):
 def numbers_of(path):
     """The numbers of a file's lines `KEY NUMBER` and `KEY: NUMBER kB`; None if it can't be read."""
     text = text_of(path)
-    words = (line.split() for line in (text or "").splitlines())
-    return None if text is None else {line[0].rstrip(":"): int(line[1]) for line in words if line[1:2] and line[1].isdigit()}
+    return None if text is None else {key: int(number) for key, number in re.findall(r"^(\w+):?\s+(\d+)", text, re.M)}
 
 
 def name_of(word):
@@ -42,7 +42,7 @@ class Groups:
         self.most_other = 0
         for folder in self.folders:
             if text_of(f"{folder}/memory.stat") is None:
-                raise Fault(f"{folder}: no memory.stat can be read: is it a group of cgroup v2 with the memory controller?")
+                raise Fault(f"{folder}: no memory.stat can be read, so it is no group of cgroup v2 with memory control")
 
     def path_of(self, place, folder):
         """The path of a group: from the mount on, or from the name of the folder that was asked for."""
@@ -54,15 +54,18 @@ class Groups:
         """Of each group what it has of its own, (anon, file, limit)."""
         rows = {}
         for folder in self.folders:
-            whole = {}
+            whole = {}  # of each group with all below it
             for place, names, _ in os.walk(folder, topdown=False):
-                stat = numbers_of(f"{place}/memory.stat")
-                if stat is not None:
-                    whole[place] = stat.get("anon", 0) + stat.get("shmem", 0), stat.get("file", 0) - stat.get("shmem", 0)
-                    below = [whole.get(f"{place}/{name}", (0, 0)) for name in names]
-                    own = (max(0, all_of - sum(of)) for all_of, of in zip(whole[place], zip(*below, (0, 0))))
-                    rows[self.path_of(place, folder)] = (*own, (text_of(f"{place}/memory.max") or "max").strip())
-                    self.see(self.path_of(place, folder), place)
+                stat, path = numbers_of(f"{place}/memory.stat"), self.path_of(place, folder)
+                if stat is None:
+                    continue
+                # Without swap, shared memory stays as anonymous memory does. The kernel counts it among `file`.
+                anon, file, shared = (stat.get(key, 0) for key in ("anon", "file", "shmem"))
+                whole[place] = anon + shared, file - shared
+                below = [whole[f"{place}/{name}"] for name in names if f"{place}/{name}" in whole]
+                own = [max(0, of_all - sum(of)) for of_all, of in zip(whole[place], zip(*below, (0, 0)))]
+                rows[path] = (*own, (text_of(f"{place}/memory.max") or "max").strip())
+                self.see(path, place)
             current = int(text_of(f"{folder}/memory.current") or 0)
             self.most_other = max(self.most_other, current - sum(whole.get(folder, (current,))))
         return rows
@@ -75,7 +78,8 @@ class Groups:
     def remarks(self):
         """What the samples don't show."""
         if self.most_other > 0:
-            yield f"at most {amount_text(self.most_other)} of a memory.current were neither anon nor file, and aren't recorded"
+            yield (f"at most {amount_text(self.most_other)} of memory.current was neither anon nor file, and isn't "
+                   "recorded")
         for path, (first, last) in sorted(self.events.items()):
             more = {key: last.get(key, 0) - first.get(key, 0) for key in ("max", "oom_kill")}
             if any(more.values()):
@@ -96,16 +100,14 @@ class Processes:
     @staticmethod
     def status(pid):
         """A process's name and parent, and its (anon, file); None if it is gone."""
-        text = text_of(f"/proc/{pid}/status")
-        numbers = numbers_of(f"/proc/{pid}/status")
-        if text is None or numbers is None or "RssAnon" not in numbers:
+        found = dict(re.findall(r"^(Name|PPid|Rss\w+):\t *(.*?)(?: kB)?$", text_of(f"/proc/{pid}/status") or "", re.M))
+        if "RssAnon" not in found:
             return None
-        name = text.partition("\n")[0].partition("\t")[2]
-        amounts = (numbers["RssAnon"] + numbers["RssShmem"]) * 1024, numbers["RssFile"] * 1024
-        return name, numbers["PPid"], amounts
+        anon, file, shared = (int(found[f"Rss{kind}"]) * 1024 for kind in ("Anon", "File", "Shmem"))
+        return found["Name"], int(found["PPid"]), (anon + shared, file)
 
     def sample(self):
-        """Of each process what it has, (anon, file, limit). Those that descend from one that was asked for are below it."""
+        """Of each process what it has, (anon, file, limit). Those that descend from a named one are below it."""
         found = {int(pid): self.status(pid) for pid in os.listdir("/proc") if pid.isdigit()}
         there = {pid: status for pid, status in found.items() if status}
         rows = {}
@@ -132,7 +134,7 @@ def rows_text(seconds, rows):
 
 
 def sample_until(source, file, every, last):
-    """Writes samples until nothing is left to sample, the time is over or Ctrl-C. Says how many, and of which groups."""
+    """Writes samples until nothing is left, the time is over, or Ctrl-C. Returns their number, and the groups."""
     host = {"/": (0, 0, numbers_of("/proc/meminfo")["MemTotal"] * 1024)}
     begin, count, groups = time.monotonic(), 0, set()
     try:
@@ -177,7 +179,7 @@ def record(options):
 def add_options(parser):
     """The options of the word `record`."""
     parser.add_argument("--out", metavar="usage.csv", required=True, help="the file that is written")
-    parser.add_argument("--every", metavar="MS", type=int, default=1000, help="milliseconds between samples, 1000 if left out")
+    parser.add_argument("--every", metavar="MS", type=int, default=1000, help="milliseconds between samples (1000)")
     parser.add_argument("--for", metavar="S", dest="seconds", type=float, help="seconds; without it until Ctrl-C")
     what = parser.add_mutually_exclusive_group(required=True)
     what.add_argument("--cgroup", metavar="PATH", nargs="+", help="groups of cgroup v2, with all below")

@@ -1,7 +1,7 @@
 """A recorded usage, played in a zone of frames."""
 from collections import namedtuple
 
-from .amounts import Fault
+from .amounts import Fault, seconds_text
 from .paths import from_node, path_up, to_node
 from .session import Session
 
@@ -44,7 +44,7 @@ class Replay:
         """A sample: limits that changed, then what became less, then what became more, then what is used."""
         self.seconds = sample.seconds
         if self.session.script is not None:
-            self.session.script.append(f"# {sample.seconds:g} s")
+            self.session.script.append(f"# {seconds_text(sample.seconds)}")
         for path, limit in sorted(sample.limits.items()):
             self.set_limit(self.groups[path], limit)
         wanted = [(group, *sample.amounts.get(group.path, (0, 0))) for group in self.groups.values()]

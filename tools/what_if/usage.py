@@ -2,7 +2,7 @@
 import csv
 from collections import namedtuple
 
-from .amounts import Fault
+from .amounts import Fault, seconds_text
 from .paths import MOST_GROUPS, check_path, is_below, path_up
 
 HEADER = ["seconds", "group", "anon", "file", "max"]
@@ -33,7 +33,7 @@ def read_seconds(word, before):
     if not 0 <= seconds < float("inf"):
         raise Fault(f"'{word}' is no time in seconds")
     if seconds < before:
-        raise Fault(f"the time goes back, from {before:g} to {seconds:g}")
+        raise Fault(f"the time goes back, from {seconds_text(before)} to {seconds_text(seconds)}")
     return seconds
 
 
@@ -53,7 +53,7 @@ def add_row(row, samples):
 
 
 def read_rows(lines, name):
-    """The samples of the rows, and the least number of the line at which each group is."""
+    """The samples of a file's lines."""
     samples, rows = [], csv.reader(lines)
     try:
         if next(rows, None) != HEADER:
