@@ -1,0 +1,43 @@
+"""Paths of groups. In the zone all groups are below /node, whose limit is the host's memory."""
+from .amounts import Fault
+
+NODE = "/node"
+MOST_NAMES, MOST_BYTES, MOST_GROUPS = 7, 507, 62
+
+
+def check_path(path):
+    """Refuses what can't be a group below /node."""
+    names = path.split("/")[1:]
+    if path == "/":
+        return
+    if not path.startswith("/") or any(name in ("", ".", "..") or len(name) > 255 for name in names):
+        raise Fault(f"'{path}' is no path: a path has names of 1 to 255 bytes, each after a /")
+    if not all("!" <= byte <= "~" for byte in path):
+        raise Fault(f"the path {ascii(path)} has a byte that isn't printable ASCII, or a space")
+    if len(path) > MOST_BYTES:
+        raise Fault(f"the path has {len(path)} bytes, and at most {MOST_BYTES} are possible")
+    if len(names) > MOST_NAMES:
+        raise Fault(f"the path has {len(names)} names, and at most {MOST_NAMES} are possible")
+
+
+def path_up(path):
+    """The path and all above it, the root last."""
+    while path != "/":
+        yield path
+        path = path.rpartition("/")[0] or "/"
+    yield "/"
+
+
+def is_below(path, above):
+    """Whether a path is another one or below it."""
+    return above == "/" or path == above or path.startswith(above + "/")
+
+
+def to_node(path):
+    """The path in the zone of a recorded group."""
+    return NODE if path == "/" else NODE + path
+
+
+def from_node(path):
+    """The recorded group of a path in the zone."""
+    return path[len(NODE):] or "/"

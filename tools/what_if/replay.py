@@ -1,0 +1,181 @@
+"""A recorded usage, played in a zone of frames."""
+from collections import namedtuple
+
+from .amounts import Fault, seconds_text
+from .paths import from_node, path_up, to_node
+from .session import Session
+
+# The zone has more frames than the limit of /node, so that a CPU's list never leaves it empty: that would kill nobody.
+SPARE = 16
+
+# When a group died, by which group's limit, which group then asked (None: a limit was written), and the explanation.
+Death = namedtuple("Death", "seconds group limit asker lines")
+
+
+class Group:
+    """A group, with its recorded pages of each kind, oldest first: the frame of each, or None once it was freed."""
+
+    def __init__(self, path):
+        self.path, self.node = path, to_node(path)
+        self.anon, self.file = [], []
+        self.limit, self.death = None, None
+        self.times_without_room = 0
+        # With all groups below: what is used, at most was used, was reclaimed, and was read of files.
+        self.usage = self.peak = self.reclaimed = self.read = 0
+
+
+class Replay:
+    """The groups while samples are played. All amounts are in frames."""
+
+    def __init__(self, session, usage, flags=(), is_reread=False):
+        self.session, self.is_reread = session, is_reread
+        self.groups = {path: Group(path) for path in usage.groups}
+        self.ups = {path: [self.groups[above] for above in path_up(path)] for path in usage.groups}
+        self.places = {}  # of each frame of a file's page: its group, and which of its pages it is
+        self.deaths, self.seconds = [], 0.0
+        made = [f"1 mkdir {group.node}" for group in self.groups.values()]
+        flagged = [f"1 write {to_node(path)} memory.oom.group 1" for path in sorted(flags)]
+        for answer in session.ask(made + flagged):
+            if not (answer[0].startswith("group ") or answer[0] == "ok"):
+                raise Fault(f"memcg answered '{answer[0]}' to a new group")
+        self.set_limit(self.groups["/"], usage.host)
+
+    def play(self, sample):
+        """A sample: limits that changed, then what became less, then what became more, then what is used."""
+        self.seconds = sample.seconds
+        if self.session.script is not None:
+            self.session.script.append(f"# {seconds_text(sample.seconds)}")
+        for path, limit in sorted(sample.limits.items()):
+            self.set_limit(self.groups[path], limit)
+        wanted = [(group, *sample.amounts.get(group.path, (0, 0))) for group in self.groups.values()]
+        for group, anon, file in wanted:
+            self.fall(group, group.anon, anon)
+            self.fall(group, group.file, file)
+        for group, anon, file in wanted:
+            if self.is_reread:
+                self.forget_reclaimed(group)
+            self.grow_anon(group, anon - len(group.anon))
+            self.grow_file(group, file - len(group.file))
+        self.touch()
+
+    # What the program answers
+
+    def note(self, answer, asker):
+        """Takes over what the explanation of a line says."""
+        limit = None
+        for words in (line.split(" ") for line in answer[1:]):
+            if words[1] == "limit":
+                self.groups[from_node(words[2])].times_without_room += 1
+            elif words[1] == "reclaimed" and words[-1] == "frames":
+                self.look_for_units()
+            elif words[1] == "reclaimed":
+                first, _, last = words[3].partition("-")
+                self.lose(range(int(first), int(last or first) + 1))
+            elif words[1] == "oom":
+                limit = self.groups[from_node(words[2])]
+            elif words[1] == "killed":
+                self.bury(self.groups[from_node(words[2])], limit, asker, answer)
+
+    def lose(self, frames):
+        """Frames of files' pages were reclaimed."""
+        for frame in frames:
+            group, at = self.places.pop(frame)
+            group.file[at] = None
+            self.count(group, -1)
+            for above in self.ups[group.path]:
+                above.reclaimed += 1
+
+    def look_for_units(self):
+        """An explanation didn't name all frames that were reclaimed: the groups are asked for those that they have."""
+        answers = self.session.ask([f"1 units {group.node}" for group in self.groups.values()])
+        there = {int(line.split(" ")[0]) for answer in answers for line in answer if line != "none"}
+        self.lose([frame for frame in self.places if frame not in there])
+
+    def bury(self, group, limit, asker, answer):
+        """A group died, and what it had was freed."""
+        group.death = Death(self.seconds, group, limit, asker, answer[1:])
+        self.deaths.append(group.death)
+        for frame in filter(None.__ne__, group.file):
+            del self.places[frame]
+        self.count(group, -sum(frame is not None for frame in group.anon + group.file))
+        group.anon, group.file = [], []
+
+    def count(self, group, frames):
+        """A group and all above it use so many frames more."""
+        for above in self.ups[group.path]:
+            above.usage += frames
+            above.peak = max(above.peak, above.usage)
+
+    # What a sample asks for
+
+    def set_limit(self, group, limit):
+        """A limit is written if it is another one."""
+        if limit != group.limit:
+            group.limit = limit
+            value = "max" if limit is None else 4096 * limit
+            self.note(self.session.ask([f"1 write {group.node} memory.max {value}"])[0], None)
+
+    def fall(self, group, pages, wanted):
+        """The newest pages are released, until no more are there than wanted."""
+        gone = [frame for frame in pages[wanted:] if frame is not None]
+        del pages[wanted:]
+        for frame in gone:
+            self.places.pop(frame, None)
+        self.session.ask([f"1 release {frame}" for frame in reversed(gone)])
+        self.count(group, -len(gone))
+
+    def placed(self, group, answer):
+        """The frame that an allocation was given; None if the group died."""
+        self.note(answer, group)
+        words = answer[0].split(" ")
+        if words[0] == "frame":
+            self.count(group, 1)
+            return int(words[1])
+        if words[1] == "15" and not group.death:
+            # Nobody below the limit had anything that a kill could free. A task would die that can't have its page.
+            self.bury(group, self.groups[from_node(words[3])], group, answer)
+        if not group.death:
+            raise Fault(f"memcg answered '{answer[0]}' to an alloc of {group.node}")
+        return None
+
+    def room(self, group):
+        """How many frames the group may have without any reclaim."""
+        return min(above.limit - above.usage for above in self.ups[group.path] if above.limit is not None)
+
+    def grow_anon(self, group, count):
+        """So many pages more are allocated, and each is dirty before a line could reclaim it."""
+        while count > 0 and not group.death:
+            part = min(count, max(1, self.room(group)))
+            answers = self.session.ask([f"1 alloc {group.node} 0"] * part)
+            frames = [self.placed(group, answer) for answer in answers]
+            group.anon += [frame for frame in frames if frame is not None]
+            self.session.ask([f"1 dirty {frame}" for frame in frames if frame is not None])
+            count -= part
+
+    def forget_reclaimed(self, group):
+        """Reclaimed pages are read again: they are the newest then, so until then they aren't among the pages."""
+        group.file = [frame for frame in group.file if frame is not None]
+        self.places.update((frame, (group, at)) for at, frame in enumerate(group.file))
+
+    def grow_file(self, group, count):
+        """So many pages more are read."""
+        if group.death:
+            return
+        for answer in self.session.ask([f"1 alloc {group.node} 0"] * max(0, count)):
+            frame = self.placed(group, answer)
+            if frame is not None:
+                self.places[frame] = (group, len(group.file))
+                group.file.append(frame)
+                for above in self.ups[group.path]:
+                    above.read += 1
+
+    def touch(self):
+        """The newest half of each group's file pages is used."""
+        for group in self.groups.values():
+            there = [frame for frame in group.file if frame is not None]
+            self.session.ask([f"1 touch {frame}" for frame in there[len(there) // 2:]])
+
+
+def start(memcg, usage, **more):
+    """A session for a usage in frames."""
+    return Session(memcg, usage.host + SPARE, **more)

@@ -1,0 +1,84 @@
+"""A session with `memcg serve`, which answers each line before it reads the next one."""
+import os
+import subprocess
+
+from .amounts import Fault
+
+# What a pipe takes at least without its reader: so a part of the lines is written while nothing is read.
+MOST_BYTES = 4096
+# A script of `replay` has at most so many bytes.
+MOST_SCRIPT = 1 << 20
+
+
+def sizes(frames):
+    """The options of a zone in which a group is charged for exactly the frames that it has: a stock has one page."""
+    return ["--frames", str(frames), "--cpus", "1", "--stock", "1"]
+
+
+class Session:
+    """A session. The lines are kept if they are to become a log."""
+
+    def __init__(self, memcg, frames, is_kept=False):
+        self.memcg, self.frames = memcg, frames
+        self.script = [] if is_kept else None
+        try:
+            self.ran = subprocess.Popen([memcg, "serve", "--explain", *sizes(frames)], stdin=subprocess.PIPE,
+                                        stdout=subprocess.PIPE, stderr=subprocess.PIPE, bufsize=0)
+        except OSError as fault:
+            raise Fault(f"{memcg}: {fault.strerror}") from None
+        self.rest = b""
+
+    def __enter__(self):
+        return self
+
+    def __exit__(self, *_):
+        self.ran.stdin.close()
+        self.ran.stdout.close()
+        self.ran.stderr.close()
+        self.ran.wait()
+
+    def ask(self, lines):
+        """The answers to lines in order, each as its lines."""
+        if self.script is not None:
+            self.script += lines
+        answers, part, length = [], [], 0
+        for line in lines:
+            if length + len(line) >= MOST_BYTES:
+                answers += self.ask_part(part)
+                part, length = [], 0
+            part.append(line)
+            length += len(line) + 1
+        return answers + self.ask_part(part)
+
+    def ask_part(self, part):
+        """The answers to a few lines, which the pipe takes at once."""
+        try:
+            self.ran.stdin.write("".join(f"{line}\n" for line in part).encode())
+            while self.rest.count(b"\n\n") < len(part):
+                read = os.read(self.ran.stdout.fileno(), 1 << 16)
+                if not read:
+                    raise BrokenPipeError
+                self.rest += read
+        except BrokenPipeError:
+            raise Fault(self.reason()) from None
+        *answers, self.rest = self.rest.split(b"\n\n", len(part))
+        return [answer.decode().split("\n") for answer in answers]
+
+    def reason(self):
+        """Why the session ended."""
+        said = self.ran.stderr.read().decode(errors="replace").strip().split("\n")[-1]
+        if said.startswith("serve needs the proved program"):
+            return "there is no proved ./memcg: run ./memcg prove"
+        return f"{self.memcg} serve ended: {said or f'status {self.ran.wait()}'}"
+
+    def log(self):
+        """The log that `replay --steps` writes of the lines that were asked."""
+        script = "".join(f"{line}\n" for line in self.script)
+        if len(script) > MOST_SCRIPT:
+            raise Fault(f"the script of the log has {len(script)} bytes, and at most {MOST_SCRIPT} are possible: "
+                        "a greater --frame makes it shorter")
+        ran = subprocess.run([self.memcg, "replay", "--steps", *sizes(self.frames)], input=script,
+                             stdout=subprocess.PIPE, stderr=subprocess.PIPE, universal_newlines=True, check=False)
+        if ran.returncode != 0:
+            raise Fault(f"{self.memcg} replay ended: {ran.stderr.strip()}")
+        return ran.stdout
