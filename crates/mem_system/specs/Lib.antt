@@ -17,3 +17,5 @@ pub mod Shown
 pub mod Units
 pub mod Usage
 pub mod Visits
+pub mod KillLaws
+pub mod CommandLaws

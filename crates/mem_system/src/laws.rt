@@ -1,8 +1,43 @@
 //! Laws of commands: what each function ensures holds of every command served as the definitions say.
 
+ghost use Rattle.mem_system.specs.CommandLaws.{EndsLeaveEmptyWords, OnlyCommandsKill, OnlyReclaimFallsShort};
+ghost use Rattle.mem_system.specs.CommandLaws.{ReleasesCutLists};
+ghost use Rattle.mem_system.specs.KillLaws.{CommandsKillOverLimits, CommandsKillWholeSets};
 ghost use Rattle.mem_system.specs.Laws.{CommandsKillLast};
 
 /// A command kills nobody before it tried everything else.
 pub fn commands_kill_last()
     ensures { CommandsKillLast }
+{}
+
+/// A command kills whole sets, each right after everything else was tried: all groups that die with a victim die before
+/// any other group.
+pub fn commands_kill_whole_sets()
+    ensures { CommandsKillWholeSets }
+{}
+
+/// A Write kills only while the usage is above the limit that its value writes. An Alloc kills only while its own pages,
+/// at most 8, have no room under a limit on its group's path. No other command kills.
+pub fn commands_kill_over_limits()
+    ensures { CommandsKillOverLimits }
+{}
+
+/// Of all steps of a visit, only those of the command itself kill a group.
+pub fn only_commands_kill()
+    ensures { OnlyCommandsKill }
+{}
+
+/// A Write that is refused changes nothing, unless it is one of memory.reclaim that is refused with `Again`.
+pub fn only_reclaim_falls_short()
+    ensures { OnlyReclaimFallsShort }
+{}
+
+/// A Release leaves at most `high` frames in the CPU's list, if there were at most as many.
+pub fn releases_cut_lists()
+    ensures { ReleasesCutLists }
+{}
+
+/// When the tables are closed, no page and no CPU's reference is left in any word.
+pub fn ends_leave_empty_words()
+    ensures { EndsLeaveEmptyWords }
 {}

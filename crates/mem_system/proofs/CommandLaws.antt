@@ -1,0 +1,120 @@
+-- Laws of commands and of the end. Serves `laws`.
+use Rattle.std.proofs.Common.{◌≡◌, ℕ, ◌+◌, ◌<◌, ◌≤◌, ◌⊎◌, Bool, true, false, List, [], ◌∷◌, ◌++◌, length, take, refl, sym, ap, ◌∙◌, subst, inl, inr, arith, length-append}
+use Rattle.std.specs.Prelude.{is_some, slice_index}
+use Rattle.std.proofs.lemmas.Bool.{cases_eq, cases_lt}
+use Rattle.std.proofs.lemmas.List.{append-nil, length-take-le, nil_from_length}
+use Rattle.group_tree.specs.declared.fault.Fault.{Fault}
+use Rattle.group_tree.specs.declared.fault.Fault.TheVariants as fault
+use Rattle.zone_sizes.specs.declared.config.Config.{Config}
+use Rattle.zone_sizes.specs.Config.{IsValidConfig}
+use Rattle.control_files.specs.declared.file.File.{File}
+use Rattle.control_files.specs.declared.file.File.TheVariants.{Reclaim}
+use Rattle.control_files.specs.Files.{name_of}
+use Rattle.cpu_part.specs.Cpus.{KnownCpu}
+use Rattle.step_rules.specs.State.{one_if}
+use Rattle.step_rules.specs.After.{Run}
+use Rattle.mem_machine.specs.Local.{VisitState, visit_state}
+use Rattle.mem_machine.specs.Machines.{home_of}
+use Rattle.mem_machine.specs.Settling.{settle_steps}
+use Rattle.mem_machine.specs.Steps.{open_steps, shut_steps}
+use Rattle.mem_reclaim.specs.Moves.{has_kill, kills_in}
+use Rattle.mem_reclaim.proofs.KillSets.{kills_both, quiet_kills}
+use Rattle.mem_alloc.specs.Stepping.{Transition, transition}
+use Rattle.mem_system.specs.declared.command.Reply.{Reply}
+use Rattle.mem_system.specs.declared.command.Reply.TheVariants as reply
+use Rattle.mem_system.specs.CommandLaws.{EndsLeaveEmptyWords, OnlyCommandsKill, OnlyReclaimFallsShort, ReleasesCutLists}
+use Rattle.mem_system.specs.Commands.{ListStaysWithin}
+use Rattle.mem_system.specs.Releases.{CutsList, ListsFrame, ReleasesFrame, ReturnsFrames}
+use Rattle.mem_system.specs.Visits.{visit_state_of, visited}
+use Rattle.mem_system.proofs.Listing.{cut_off}
+
+-- ---- whom the steps of a visit kill
+
+-- of three parts and what comes among them, only that kills
+kills_inside : (a b inner c : Run) → has_kill (a ++ (b ++ ([] ++ c))) ≡ false → kills_in (a ++ (b ++ (inner ++ c))) ≡ kills_in inner
+kills_inside a b inner c quiet =
+    let none = ap length (sym (kills_both a (b ++ c) ∙ ap (λ (k : List ℕ). kills_in a ++ k) (kills_both b c)) ∙ quiet_kills (a ++ (b ++ c)) quiet) in
+    let first = length-append (kills_in a) (kills_in b ++ kills_in c) in
+    let rest = length-append (kills_in b) (kills_in c) in
+    let in_a = nil_from_length (kills_in a) (omega (arith, none, first, rest)) in
+    let in_b = nil_from_length (kills_in b) (omega (arith, none, first, rest)) in
+    let in_c = nil_from_length (kills_in c) (omega (arith, none, first, rest)) in
+    kills_both a (b ++ (inner ++ c))
+    ∙ ap (λ (k : List ℕ). k ++ kills_in (b ++ (inner ++ c))) in_a
+    ∙ kills_both b (inner ++ c)
+    ∙ ap (λ (k : List ℕ). k ++ kills_in (inner ++ c)) in_b
+    ∙ kills_both inner c
+    ∙ ap (λ (k : List ℕ). kills_in inner ++ k) in_c
+    ∙ append-nil (kills_in inner)
+
+pub only_commands_kill : OnlyCommandsKill
+only_commands_kill cmd said call served =
+    let before = visit_state_of call.before in
+    ap kills_in served.steps_are
+    ∙ kills_inside (open_steps before.cpu.number) (settle_steps (visited before)) served.inner (shut_steps before.cpu.number) served.only_inner
+
+-- ---- a Write that is refused
+
+pub only_reclaim_falls_short : OnlyReclaimFallsShort
+only_reclaim_falls_short path file value why call served = elim served.executes.does [
+  | inl refused ↦ inl (refused.1.machine, refused.1.steps_are)
+  | inr short ↦ inr (short.is_file.named ∙ ap name_of short.falls.file_is, short.falls.fault_is)
+]
+
+-- ---- the list behind a Release
+
+same_within : (sizes : Config) (c d : KnownCpu) → d ≡ c → ListStaysWithin sizes c d
+same_within sizes c d same within = let long = ap (λ (e : KnownCpu). length e.list) same in omega (arith, long, within)
+
+lists_within : (sizes : Config) (f : ℕ) (call : Transition VisitState) → IsValidConfig sizes → ListsFrame sizes f call
+    → ListStaysWithin sizes call.before.cpu call.after.cpu
+lists_within sizes f call valid lists within =
+    let cuts = lists.cuts in
+    let before = call.before.cpu.list in
+    let split = ap length (cut_off cuts.cut call.before.machine call.before.cpu lists.mid.machine lists.mid.cpu cuts.takes).split in
+    let parts = length-append cuts.cut lists.mid.cpu.list in
+    let added = ap (λ (e : KnownCpu). length e.list) lists.lends.cpu in
+    let one = length-append lists.mid.cpu.list (f ∷ []) in
+    let some = valid.batch_low in
+    let low = valid.high_low in
+    elim (cases_lt (length before) sizes.high) [
+      | inl less ↦
+          let none = ap length (cuts.below_high less) in
+          omega (arith, split, parts, added, one, none, less)
+      | inr enough ↦
+          let taken = ap length (cuts.at_high enough) ∙ length-take-le sizes.batch before (omega (arith, low, enough)) in
+          omega (arith, split, parts, added, one, taken, some, within)
+    ]
+
+returns_within : (sizes : Config) (f : ℕ) (call : Transition VisitState) → IsValidConfig sizes → ReturnsFrames sizes f call
+    → ListStaysWithin sizes call.before.cpu call.after.cpu
+returns_within sizes f call valid returns = elim (cases_eq returns.returns.unit.order 0) [
+  | inl single ↦
+      lists_within sizes f (transition call.table (visit_state returns.freed call.before.cpu) returns.listing call.after) valid (returns.single single)
+  | inr block ↦ same_within sizes call.before.cpu call.after.cpu (returns.block block).cpu
+]
+
+pub releases_cut_lists : ReleasesCutLists
+releases_cut_lists sizes f (reply.Left left) call valid h = same_within sizes call.before.cpu call.after.cpu h.cpu
+releases_cut_lists sizes f reply.Returned call valid h = returns_within sizes f call valid h
+releases_cut_lists sizes f (reply.Refused fault.NotKept) call valid h = same_within sizes call.before.cpu call.after.cpu h.cpu
+releases_cut_lists sizes f other call valid h = absurd h
+
+-- ---- the words at the end
+
+one_at_most : (b : Bool) → one_if b ≤ 1
+one_at_most true = omega arith
+one_at_most false = omega arith
+
+pub ends_leave_empty_words : EndsLeaveEmptyWords
+ends_leave_empty_words t w emptied audit closes = record {
+  stock_words = closes.stock_words;
+  frame_words = closes.frame_words;
+  each = λ cpu some within.
+      let none = closes.no_page cpu some within in
+      record { stock = none.stock; encoded = none.encoded; empty = none.empty; none_reported = none.none_reported };
+  references = λ f inside.
+      let is = closes.last_words.references f inside in
+      let most = one_at_most (is_some (home_of emptied.machine.links f)) in
+      omega (arith, is, most);
+}

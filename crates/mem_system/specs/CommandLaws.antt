@@ -1,0 +1,64 @@
+-- What else holds of every command that was served, and of every end, whichever function made it.
+use Rattle.std.specs.Prelude.{◌≡◌, ℕ, ◌≤◌, ◌<◌, ◌⊎◌, List, [], slice_index}
+use Rattle.std.specs.Borrow.{Bor}
+use Rattle.frame_word.specs.Seats.{KnownTable}
+use Rattle.stock_word.specs.declared.view.Stock.{Stock}
+use Rattle.stock_word.specs.Stock.{KnownStockTable, pages_of, word_of}
+use Rattle.stock_word.specs.StockRule.{report_index, stock_index}
+use Rattle.zone_sizes.specs.declared.config.Config.{Config}
+use Rattle.zone_sizes.specs.Config.{IsValidConfig}
+use Rattle.group_tree.specs.declared.fault.Fault.{Fault}
+use Rattle.group_tree.specs.declared.fault.Fault.TheVariants.{Again}
+use Rattle.control_files.specs.declared.file.File.TheVariants.{Reclaim}
+use Rattle.control_files.specs.Files.{name_of}
+use Rattle.mem_machine.specs.Local.{VisitState}
+use Rattle.mem_reclaim.specs.Moves.{kills_in}
+use Rattle.mem_system.specs.declared.audit.Audit.{Audit}
+use Rattle.mem_system.specs.declared.command.Cmd.{Cmd}
+use Rattle.mem_system.specs.declared.command.Cmd.TheVariants.{Write}
+use Rattle.mem_system.specs.declared.command.Reply.{Reply}
+use Rattle.mem_system.specs.declared.command.Reply.TheVariants.{Refused}
+use Rattle.mem_system.specs.Commands.{ListStaysWithin}
+use Rattle.mem_system.specs.Ends.{Closes, KnownEmptiedBoot}
+use Rattle.mem_system.specs.Releases.{ReleasesFrame}
+use Rattle.mem_system.specs.Visits.{Transition, LockedState, Serves}
+
+-- all kills among the steps of a visit are the command's own: neither settling nor the visit itself kills a group
+abbrev pub OnlyCommandsKill : Type 0
+OnlyCommandsKill =
+    (cmd : Cmd) (reply : Reply) (call : Transition LockedState) (served : Serves cmd reply call)
+    → kills_in call.steps ≡ kills_in served.inner
+
+-- a Write that is refused changes nothing and makes no step, or it is one of memory.reclaim, refused with Again
+abbrev pub OnlyReclaimFallsShort : Type 0
+OnlyReclaimFallsShort =
+    (path file value : Bor (List ℕ)) (fault : Fault) (call : Transition LockedState)
+    (served : Serves (Write path file value) (Refused fault) call)
+    → ((served.done ≡ served.settled.machine) × (served.inner ≡ []))
+    ⊎ ((file.now ≡ name_of Reclaim) × (fault ≡ Again))
+
+-- a Release leaves at most `high` frames in the CPU's list, if there were at most as many
+abbrev pub ReleasesCutLists : Type 0
+ReleasesCutLists =
+    (sizes : Config) (frame : ℕ) (reply : Reply) (call : Transition VisitState) → IsValidConfig sizes
+    → ReleasesFrame sizes frame reply call → ListStaysWithin sizes call.before.cpu call.after.cpu
+
+-- the CPU's stock word holds no page, and its report word is 0
+pub record HasEmptyWords (stock_words : List ℕ) (cpu : ℕ) : Type 0 where
+  pub stock : Stock
+  pub encoded : slice_index stock_words (stock_index cpu) ≡ word_of stock
+  pub empty : pages_of stock ≡ 0
+  pub none_reported : slice_index stock_words (report_index cpu) ≡ 0
+
+-- the last words of both tables: no CPU's words hold a page, and no frame's word counts more than the zone's reference
+pub record LeavesEmptyWords (table : KnownTable) : Type 0 where
+  pub stock_words : List ℕ
+  pub frame_words : List ℕ
+  pub each : (cpu : ℕ) → 1 ≤ cpu → cpu ≤ table.cpus → HasEmptyWords stock_words cpu
+  pub references : (frame : ℕ) → frame < table.frames → slice_index frame_words frame ≤ 1
+
+-- when the tables are closed, no page and no CPU's reference is left in any word
+abbrev pub EndsLeaveEmptyWords : Type 0
+EndsLeaveEmptyWords =
+    (table : KnownTable) (stock_table : KnownStockTable) (emptied : KnownEmptiedBoot) (audit : Audit)
+    → Closes table stock_table emptied audit → LeavesEmptyWords table

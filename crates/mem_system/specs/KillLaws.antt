@@ -1,0 +1,69 @@
+-- What holds of each kill of a command beside that it comes last: all groups of its set die with it, and the limit has
+-- no room for what the command asked for.
+use Rattle.std.specs.Prelude.{◌≡◌, ℕ, ◌+◌, ◌<◌, ◌≤◌, ◌^◌, true, Some, List, ◌∷◌, ◌++◌}
+use Rattle.frame_word.specs.Seats.{KnownTable}
+use Rattle.group_tree.specs.declared.group.Group.{Group}
+use Rattle.group_tree.specs.Groups.{in_subtree, limit_of, number_at}
+use Rattle.group_charge.specs.Charges.{Ledger, current_of}
+use Rattle.cpu_part.specs.Cpus.{KnownCpu}
+use Rattle.step_rules.specs.declared.step.Action.TheVariants.{Kill}
+use Rattle.step_rules.specs.declared.step.Answer.{Answer}
+use Rattle.step_rules.specs.declared.step.Step.{Step}
+use Rattle.step_rules.specs.After.{Run}
+use Rattle.mem_machine.specs.Machines.{KnownMachine}
+use Rattle.mem_alloc.specs.KillLaws.{DiesWithItsSet}
+use Rattle.mem_alloc.specs.Laws.{ComesLast}
+use Rattle.mem_system.specs.declared.command.Cmd.{Cmd}
+use Rattle.mem_system.specs.declared.command.Cmd.TheVariants.{Alloc, Write}
+use Rattle.mem_system.specs.declared.command.Reply.{Reply}
+use Rattle.mem_system.specs.Asks.{MayAskFor}
+use Rattle.mem_system.specs.Files.{IsLimitFor}
+use Rattle.mem_system.specs.Visits.{Transition, LockedState, Serves}
+
+-- The kills of a command are whole sets. Right after everything else was tried, all groups that die with a victim are
+-- killed, before any other group.
+abbrev pub CommandsKillWholeSets : Type 0
+CommandsKillWholeSets =
+    (cmd : Cmd) (reply : Reply) (call : Transition LockedState) (served : Serves cmd reply call) (before rest : Run)
+    (made : Step × Answer) (group : ℕ) → served.inner ≡ before ++ made ∷ rest → made.0.action ≡ Kill group
+    → DiesWithItsSet (MayAskFor cmd served.settled.machine.ledger.groups) call.table served.settled.machine
+    served.settled.cpu before made rest
+
+-- the value is the text of a limit of the group, to whose memory.max it is written, and the group's usage is above it
+pub record IsAboveWritten (path name value : List ℕ) (groups : List Group) (ledger : Ledger) (limited : ℕ)
+    : Type 0 where
+  pub limit : ℕ
+  pub writes : IsLimitFor groups path name value limited (Some limit)
+  pub above : limit < current_of ledger limited
+
+-- 2^order pages, at most 8, have no room under a limit that the command found: that of the group of the path, or of an
+-- ancestor
+pub record IsOverOnPath (path : List ℕ) (order : ℕ) (groups : List Group) (ledger : Ledger) (limited : ℕ)
+    : Type 0 where
+  pub group : ℕ
+  pub found : number_at groups path ≡ Some group
+  pub on_path : in_subtree groups limited group ≡ true
+  pub limit : ℕ
+  pub limit_is : limit_of groups limited ≡ Some limit
+  pub over : limit < current_of ledger limited + 2 ^ order
+  pub few : 2 ^ order ≤ 8
+
+-- why a command that found these groups may kill for the limit of the group `limited`, by the charges as they are now
+abbrev pub KillsFor : Cmd → (groups : List Group) → Ledger → (limited : ℕ) → Type 0
+KillsFor (Write path file value) groups now limited = IsAboveWritten path.now file.now value.now groups now limited
+KillsFor (Alloc path order) groups now limited = IsOverOnPath path.now order groups now limited
+KillsFor other groups now limited = ⊥
+
+-- the kill comes last, and when everything else was tried there was this reason for it
+pub record IsKilledFor (cmd : Cmd) (table : KnownTable) (start : KnownMachine) (cpu : KnownCpu) (before : Run)
+    (group : ℕ) : Type 0 where
+  pub comes_last : ComesLast (MayAskFor cmd start.ledger.groups) table start cpu before group
+  pub reason : KillsFor cmd start.ledger.groups comes_last.last.now.ledger comes_last.last.limited
+
+-- A Write kills only while the usage is above the limit that its value writes. An Alloc kills only while its own pages
+-- have no room under a limit on its group's path. No other command kills.
+abbrev pub CommandsKillOverLimits : Type 0
+CommandsKillOverLimits =
+    (cmd : Cmd) (reply : Reply) (call : Transition LockedState) (served : Serves cmd reply call) (before rest : Run)
+    (made : Step × Answer) (group : ℕ) → served.inner ≡ before ++ made ∷ rest → made.0.action ≡ Kill group
+    → IsKilledFor cmd call.table served.settled.machine served.settled.cpu before group
