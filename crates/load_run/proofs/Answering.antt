@@ -1,6 +1,6 @@
 -- What a script is answered, from what was read of it.
 use Rattle.std.proofs.Common.{◌≡◌, ℕ, All, zero, suc, ◌+◌, refl, List, length, take, Option, None}
-use Rattle.std.proofs.Common.{Some, IfSome, Result, Ok, Err, IfOk, arith, ap, ◌∙◌, sym, subst}
+use Rattle.std.proofs.Common.{Some, IfSome, Result, Ok, Err, IfErr, IfOk, arith, ap, ◌∙◌, sym, subst}
 use Rattle.std.proofs.lemmas.List.{length-take, take_all}
 use Rattle.std.proofs.lemmas.Bool.{false≢true}
 use Rattle.std.specs.Io.KnownBytes.{Appends}
@@ -67,6 +67,10 @@ joined (Err e) P Q R follows p q = tt
 -- what is so of a good result is so of its value
 pub at_ok : {V E : Type 0} (r : Result V E) (v : V) (P : V → Type 0) → r ≡ Ok v → IfOk r P → P v
 at_ok {V = V} {E = E} r v P is holds = subst (λ (x : Result V E). IfOk x P) is holds
+
+-- and what is so of a bad one is so of its fault
+pub at_err : {V E : Type 0} (r : Result V E) (e : E) (P : E → Type 0) → r ≡ Err e → IfErr r P → P e
+at_err {V = V} {E = E} r e P is holds = subst (λ (x : Result V E). IfErr x P) is holds
 
 -- so many CPUs have so many parts
 pub first_long : (t : KnownTable) (w : KnownStockTable) (p n : ℕ) → length (first_cpus t w p n) ≡ n

@@ -1,16 +1,44 @@
 -- Why a replay that is checked gives no answers. Serves `check_on_boot`, `check_answers`.
-use Rattle.std.proofs.Common.{List}
+use Rattle.std.proofs.Common.{◌≡◌, ◌∙◌, ℕ, Bool, true, List, ap, subst, sym}
 use Rattle.frame_word.specs.Seats.{KnownTable}
 use Rattle.stock_word.specs.Stock.{KnownStockTable}
 use Rattle.zone_sizes.specs.declared.config.Config.{Config}
+use Rattle.cpu_part.specs.Cpus.{KnownCpu}
+use Rattle.step_watch.specs.Watched.{IsNewWatch, KnownWatch}
+use Rattle.mem_core.specs.Shown as core
+use Rattle.mem_machine.specs.Interleaving.{zone_of}
+use Rattle.mem_machine.specs.Machines.{IsFirst, with_watch}
+use Rattle.mem_system.specs.Boots.{IsSizedAs, first_cpus}
+use Rattle.mem_system.specs.Locked.{KnownLocked}
 use Rattle.script_lines.specs.declared.line.Line.{Line}
 use Rattle.script_replay.specs.declared.form.Form.{Form}
 use Rattle.script_replay.specs.declared.owned_replay.Stopped.{Stopped}
 use Rattle.script_replay.specs.declared.owned_replay.Stopped.TheVariants as stopped
 use Rattle.script_replay.specs.History.{StopsFor}
-use Rattle.script_replay.specs.Lines.{SystemState}
-use Rattle.script_replay.specs.Terms.{form_terms}
-use Rattle.load_run.specs.Stopping.{IsCheckFault, IsNewWatchedState, fault_of_stop}
+use Rattle.script_replay.specs.Lines.{SystemState, system_state}
+use Rattle.script_replay.specs.Terms.{form_of, form_terms}
+use Rattle.load_options.specs.declared.task.Options.{Options}
+use Rattle.load_options.specs.declared.task.Task.{Task}
+use Rattle.load_options.specs.declared.task.Task.TheVariants.{Replay}
+use Rattle.load_run.specs.declared.fault.ProgramFault.TheVariants.{IllegalLine, IllegalEnd}
+use Rattle.load_run.specs.Fault.{IsFailedTask}
+use Rattle.load_run.specs.Stopping.{IsCheckFault, IsNewWatchedState, OfCheckedForm, StopsAtIllegalEnd, StopsAtIllegalLine, fault_of_stop}
+use Rattle.load_run.proofs.Starting.{new_watch, watched_first}
+
+-- a new boot that was given a new watch
+pub new_watched : (booted sizes : Config) (t : KnownTable) (w : KnownStockTable) (locked : KnownLocked) (cpus : List KnownCpu) (watch : KnownWatch)
+    (after : KnownLocked) → IsSizedAs booted t w → booted ≡ sizes → IsFirst t w locked.machine → locked.sizes ≡ booted
+    → cpus ≡ first_cpus t w 1 booted.cpus → IsNewWatch (core.zone_of sizes) watch → after ≡ record locked { machine = with_watch locked.machine watch }
+    → IsNewWatchedState booted t w (system_state after cpus)
+new_watched booted sizes t w locked cpus watch after sized same first sizes_are are new is = record {
+  first = record {
+    sized = sized;
+    machine = subst (λ (l : KnownLocked). IsFirst t w l.machine) (sym is) (watched_first t w locked.machine watch first);
+    sizes_are = ap (λ (l : KnownLocked). l.sizes) is ∙ sizes_are;
+    cpus = are;
+  };
+  watched = subst (λ (l : KnownLocked). IsNewWatch (zone_of t) l.machine.watch) (sym is) (new_watch booted sizes t w sized same watch new);
+}
 
 -- it stopped before the end of the lines
 pub stop_told : (sizes : Config) (form : Form) (t : KnownTable) (w : KnownStockTable) (lines : List Line) (start end : SystemState) (why : Stopped)
@@ -18,3 +46,18 @@ pub stop_told : (sizes : Config) (form : Form) (t : KnownTable) (w : KnownStockT
 stop_told sizes form t w lines start end (stopped.NoMemory error) new stops = tt
 stop_told sizes form t w lines start end (stopped.NotLegal line) new stops =
     record { frames = t; stocks = w; start = start; end = end; new = new; stops = stops }
+
+module _ (options : Options) (is_explained : Bool) (booted : Config) (form : Form) (lines : List Line) (asked : options.task ≡ Replay is_explained true)
+    (same : booted ≡ options.sizes) (is : form ≡ form_of is_explained options.is_numbered) where
+  -- what stopped a boot in the form that the options ask for stopped their replay
+  of_options : (stops : Config → Form → List Line → Type 0) → stops booted form lines
+      → OfCheckedForm options.task options.is_numbered (λ f. stops options.sizes f lines)
+  of_options stops stopped =
+      subst (λ (task : Task). OfCheckedForm task options.is_numbered (λ f. stops options.sizes f lines)) (sym asked)
+      (subst (λ (b : Config × Form). stops b.0 b.1 lines) (λ i. (same i, is i)) stopped)
+
+  pub failed_line : (number : ℕ) → StopsAtIllegalLine booted form lines number → IsFailedTask options lines (IllegalLine number)
+  failed_line number = of_options (λ sizes f l. StopsAtIllegalLine sizes f l number)
+
+  pub failed_end : StopsAtIllegalEnd booted form lines → IsFailedTask options lines IllegalEnd
+  failed_end = of_options StopsAtIllegalEnd

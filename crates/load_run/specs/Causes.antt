@@ -34,13 +34,13 @@ pub record IsRefused (asked : Option Options) (input : List ℕ) : Type 0 where
   pub refused : ¬ IsValidConfig options.sizes
 
 -- the input is a script for the sizes that are asked for, each step of a replay is checked, and this is how it stopped
-pub record IsStopped (asked : Option Options) (input : List ℕ) (stops : Config → Form → List Line → Type 0)
+pub record IsStopped (asked : Option Options) (input : List ℕ) (stops_at : Config → Form → List Line → Type 0)
     : Type 0 where
   pub options : Options
   pub is_asked : asked ≡ Some options
   pub lines : List Line
   pub script : IsScript options.sizes input lines
-  pub stops : OfCheckedForm options.task options.is_numbered (λ form. stops options.sizes form lines)
+  pub stops : OfCheckedForm options.task options.is_numbered (λ form. stops_at options.sizes form lines)
 
 -- the options that are asked for have answers to the input
 pub record HasAnswers (asked : Option Options) (input : List ℕ) : Type 0 where

@@ -1,4 +1,4 @@
-use Rattle.std.proofs.Common.{◌∙◌, ◌≤◌, ◌++◌, Bor, List, ℕ, ap, drop, length, map, rules, sym, subst, true}
+use Rattle.std.proofs.Common.{◌≡◌, ◌∙◌, ◌≤◌, ◌++◌, Bor, List, ℕ, ap, drop, length, map, rules, sym, subst, true}
 use Rattle.std.proofs.lemmas.Result.{IfOk-weaker}
 use Rattle.step_watch.specs.Watched.{KnownWatch, has_whole_log, log_text}
 use Rattle.script_replay.specs.Lines.{SystemState, system_state}
