@@ -36,7 +36,7 @@ returns-in_err-answers g c =
     rw (p.1, p.2) (record {
       answers = tt;
       fault = stop_told c.args.boot.sizes c.args.form t w c.args.lines.now start ended.before _ new
-          (at_err _ _ _ c.in_err-answers.was ended.so.stopped);
+          (at_err c.check_and_end_boot-answers.result.0 c.in_err-answers.field-0 _ c.in_err-answers.was ended.so.stopped);
     })
 
 pub returns-then-not-seen : goal.returns-then-not-seen
