@@ -32,6 +32,9 @@ static void is(const char *what, uint8_t given, uint8_t status) {
 
 #define BYTES(text) (const uint8_t *)(text), strlen(text)
 
+#define MANY 25000
+static uint8_t many[9 * MANY], told[8 * MANY];
+
 /* A handle before its boot, with it, and after it. */
 static void live(void) {
     tempolemon_sizes low_high = SIZES;
@@ -71,6 +74,10 @@ static void live(void) {
     is("a byte less", tempolemon_answer(&host, buffer, 7, &written), TEMPOLEMON_SMALL_BUFFER);
     is("enough", tempolemon_answer(&host, buffer, 8, &written), TEMPOLEMON_DONE);
     is("the answer", memcmp(buffer, "group 1\n", 8) != 0, 0);
+    for (size_t line = 0; line < MANY; line++) memcpy(many + 9 * line, "1 settle\n", 9);
+    is("many lines", tempolemon_command(&host, false, many, sizeof many, told, sizeof told, &written, &first_bad),
+       TEMPOLEMON_DONE);
+    is("their answers", written != sizeof told || memcmp(told + sizeof told - 8, "settled\n", 8) != 0, 0);
     is("an alloc", tempolemon_alloc(&host, 1, 1, 0, &result), TEMPOLEMON_DONE);
     const uint32_t frame = (uint32_t)result.number;
     is("a get of a fresh frame", tempolemon_get(&host, 2, frame, &result), TEMPOLEMON_DONE);
