@@ -22,15 +22,14 @@ const GOOD_ANSWERS: &str = "group 1\nframe 0\n2:4 3:8\n16384\n";
 // A session ends each answer with an empty line.
 const SESSION_ANSWERS: &str = "group 1\n\nframe 0\n\n2:4 3:8\n\n16384\n\n";
 
-const GOOD_LOG: &str = "zone 16 2\n# a comment\n1 lock > done\n0 open 1 > done\n0 shut 1 > done\n1 unlock > done\n";
+const GOOD_LOG: &str =
+    "zone 16 2\n# a comment\n1 lock > done\n0 open 1 > done\n0 shut 1 > done\n1 unlock > done\n";
 
 const GOOD_VERDICT: &str = "legal: 4 steps, the promise holds\n";
 
 // The run succeeded, with this output and no fault.
 fn is_good(ended: &ProgramRun, output: &str) -> bool {
-    ended.status == 0
-        && ended.output.as_slice() == output.as_bytes()
-        && ended.faults.is_empty()
+    ended.status == 0 && ended.output.as_slice() == output.as_bytes() && ended.faults.is_empty()
 }
 
 // The run succeeded, with the answers to `GOOD_SCRIPT` and no fault.
@@ -183,7 +182,10 @@ fn tells_that_the_output_failed(rt: HostRuntime) {
         }
         answers_are_written(&rt, bytes_at_once);
     }
-    expect_true(&rt, answers_are_cut_short(&run_to(&rt, unflushed(&rt)), answers));
+    expect_true(
+        &rt,
+        answers_are_cut_short(&run_to(&rt, unflushed(&rt)), answers),
+    );
 }
 
 // A writer whose flushes fail.

@@ -43,11 +43,7 @@ fn add_comment(front: &[u8], back: &[u8], log: &mut Vec<u8>) -> Result<(), Alloc
 }
 
 /// Adds the comment with the sizes of the boot that the zone's line doesn't have.
-pub(crate) fn add_sizes(
-    alloc: Global,
-    sizes: &Config,
-    log: &mut Vec<u8>,
-) -> Result<(), AllocError>
+pub(crate) fn add_sizes(alloc: Global, sizes: &Config, log: &mut Vec<u8>) -> Result<(), AllocError>
     ensures { IfOk result (λ _. log.new.items ≡ log.old.items ++ sizes_comment sizes.now) }
 {
     let mut text = String::new(alloc);
