@@ -34,6 +34,8 @@ pub enum RequestAnswer {
     Left(Left),
     /// A text, or why there is none.
     Text(TextAnswer),
+    /// Another thread has the lock, so there is no text.
+    Busy,
     /// Another handle leads to the zone, and nothing was done.
     Out,
     /// The zone has ended.

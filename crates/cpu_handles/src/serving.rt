@@ -138,11 +138,11 @@ fn text<N: BootName>(
     ensures serves { Serves N.frames N.stocks pointer.home (Text alloc asked) result.0.home result.1 }
 {
     let mut home = pointer.into_box_parts().into_box();
-    let answer = home.text(alloc, asked);
-    (
-        HomePointer::of(BoxParts::of(home)),
-        RequestAnswer::Text(answer),
-    )
+    let answer = match home.text(alloc, asked) {
+        Some(told) => RequestAnswer::Text(told),
+        None => RequestAnswer::Busy,
+    };
+    (HomePointer::of(BoxParts::of(home)), answer)
 }
 
 fn end<N: BootName>(pointer: HomePointer<N>, alloc: Global) -> (HomePointer<N>, RequestAnswer)

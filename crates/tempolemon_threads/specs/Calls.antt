@@ -112,7 +112,6 @@ abbrev pub GivesText : TextAnswer → (status : ℕ) (old new : List ℕ) (writt
 GivesText (text.Text told) status old new written =
     ((status ≡ done) × FillsBuffer (λ shown. shown ≡ told.items) old new written)
     ⊎ ((status ≡ small_buffer) × (new ≡ old) × ExceedsBuffer (λ shown. shown ≡ told.items) old written)
-GivesText text.Busy status old new written = (status ≡ busy) × (new ≡ old) × (written ≡ 0)
 GivesText text.NoGroup status old new written = (status ≡ number_of NoGroup) × (new ≡ old) × (written ≡ 0)
 GivesText text.NoMemory status old new written = (status ≡ no_memory) × (new ≡ old) × (written ≡ 0)
 
@@ -120,13 +119,13 @@ GivesText text.NoMemory status old new written = (status ≡ no_memory) × (new 
 pub record ShowsPart (asked : TextCall) (before after : Option Led) (status : ℕ) (old new : List ℕ) (written : ℕ)
     : Type 0 where
   pub answer : TextAnswer
-  pub shows : OnPart (λ frames stocks from to. Shows frames stocks asked from to answer) before after
+  pub shows : OnPart (λ frames stocks. Shows frames stocks asked answer) before after
   pub gives : GivesText answer status old new written
 
--- nothing was done: the handle leads nowhere, or memory ran out before
+-- nothing was done: the handle leads nowhere, another thread has the lock, or memory ran out before
 pub record ShowsNothing (before after : Option Led) (status : ℕ) (old new : List ℕ) (written : ℕ) : Type 0 where
   pub stays : after ≡ before
-  pub status_is : ((before ≡ None) × (status ≡ not_live)) ⊎ (status ≡ no_memory)
+  pub status_is : ((before ≡ None) × (status ≡ not_live)) ⊎ ((status ≡ busy) ⊎ (status ≡ no_memory))
   pub buffer_stays : new ≡ old
   pub none_written : written ≡ 0
 

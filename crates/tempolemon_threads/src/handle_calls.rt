@@ -1,6 +1,6 @@
 //! What is done with what a handle leads to.
 
-ghost use Rattle.std.specs.Prelude.{◌≡◌, ◌↔◌, IsSome, IsSomeAnd, IsTrue, MatchBool, None};
+ghost use Rattle.std.specs.Prelude.{◌≡◌, ◌↔◌, IfNone, IfSome, IsSome, IsSomeAnd, IsTrue, MatchBool, None};
 ghost use Rattle.mem_system.specs.Boots.{IsSizedAs};
 ghost use Rattle.zone_threads.specs.Calling.{Calls, Reads};
 ghost use Rattle.zone_threads.specs.Homes.{HasNoCpu};
@@ -139,17 +139,19 @@ impl CpuPart {
         answer
     }
 
-    /// Gets a text of the zone.
-    pub(crate) fn text(&mut self, alloc: Global, asked: TextCall) -> TextAnswer
+    /// Gets a text of the zone; `None` if another thread has the lock.
+    pub(crate) fn text(&mut self, alloc: Global, asked: TextCall) -> Option<TextAnswer>
         requires live { IsSome (part_behind self.old) }
-        ensures { OnPart (λ frames stocks from to. Shows frames stocks asked from to result)
-            (part_behind self.old) (part_behind self.new) }
+        ensures told { IfSome result (λ told.
+            OnPart (λ frames stocks. Shows frames stocks asked told) (part_behind self.old) (part_behind self.new)) }
+        ensures busy { IfNone result (part_behind self.new ≡ part_behind self.old) }
     {
         let raw = std::mem::replace(&mut self.raw, RawHome::none(alloc));
         let (raw, answer) = serve_raw(raw, Request::Text { alloc, asked });
         self.raw = raw;
         match answer {
-            RequestAnswer::Text(told) => told,
+            RequestAnswer::Text(told) => Some(told),
+            RequestAnswer::Busy => None,
             _ => unreachable!(),
         }
     }

@@ -85,10 +85,10 @@ fn give(
         return NOT_LIVE;
     }
     match part.text(alloc, asked) {
-        TextAnswer::Busy => BUSY,
-        TextAnswer::NoGroup => Fault::NoGroup.number() as u8,
-        TextAnswer::NoMemory => NO_MEMORY,
-        TextAnswer::Text(told) => {
+        None => BUSY,
+        Some(TextAnswer::NoGroup) => Fault::NoGroup.number() as u8,
+        Some(TextAnswer::NoMemory) => NO_MEMORY,
+        Some(TextAnswer::Text(told)) => {
             *written = told.len();
             if copy_answers(&told, buffer) {
                 DONE

@@ -29,7 +29,6 @@ TellsUnits path (answer.Text text) settled machine =
     settled.locked.machine machine
 TellsUnits path answer.NoGroup settled machine = number_at settled.locked.machine.ledger.groups path ≡ None
 TellsUnits path answer.NoMemory settled machine = Unit {0}
-TellsUnits path answer.Busy settled machine = ⊥
 
 -- The same of each text. If memory ran out, the CPU is settled all the same.
 abbrev pub TellsText : TextCall → TextAnswer → LockedState → KnownMachine → Type 0
@@ -43,8 +42,7 @@ TellsText (call.Units path) told settled machine = TellsUnits path.items told se
 TellsText asked answer.NoMemory settled machine = Unit {0}
 TellsText asked told settled machine = ⊥
 
--- what is done for a text, by its answer
-abbrev pub Shows : KnownTable → KnownStockTable → TextCall → (from to : KnownHome) → TextAnswer → Type 0
-Shows frames stock_table asked from to answer.Busy = to ≡ from
-Shows frames stock_table asked from to told =
+-- what is done for a text
+abbrev pub Shows : KnownTable → KnownStockTable → TextCall → TextAnswer → (from to : KnownHome) → Type 0
+Shows frames stock_table asked told from to =
     OnCpu (ReadsAfterSettling frames stock_table (TellsText asked told)) from to

@@ -1,6 +1,6 @@
 //! The texts that a settled CPU gets of the zone.
 
-ghost use Rattle.std.specs.Prelude.{IsSome};
+ghost use Rattle.std.specs.Prelude.{◌≡◌, IfNone, IfSome, IsSome};
 ghost use Rattle.mem_system.specs.Shown.{ReadsAfterSettling};
 ghost use Rattle.zone_threads.specs.Shown.{Shows, TellsText, TellsUnits};
 ghost use Rattle.zone_threads.specs.declared.texts.TextCall.TheVariants.{Blocks, Show, Stock};
@@ -8,8 +8,7 @@ ghost use Rattle.zone_threads.specs.declared.texts.TextCall.TheVariants.{Blocks,
 use crate::behind::Behind;
 use crate::home::Home;
 use cpu_part::{BootName, Cpu, Tables};
-use machine_texts::{write_blocks, write_show};
-use mem_system::{settle, write_own_stock, write_units_at};
+use mem_system::{blocks_text, settle, show_text, write_own_stock, write_units_at};
 use std::alloc::Global;
 
 /// Which text a thread asks for. Its CPU is settled first.
@@ -28,8 +27,6 @@ pub enum TextCall {
 /// What it gets.
 #[derive(Drop)]
 pub enum TextAnswer {
-    /// Another thread has the lock.
-    Busy,
     /// The text.
     Text(Vec<u8>),
     /// No group has the path.
@@ -39,39 +36,50 @@ pub enum TextAnswer {
 }
 
 impl<N: BootName> Home<N> {
-    /// Settles the CPU, and returns a text, under the lock.
-    pub fn text(&mut self, alloc: Global, asked: TextCall) -> TextAnswer
+    /// Settles the CPU, and returns a text, under the lock; `None` if another thread has it.
+    pub fn text(&mut self, alloc: Global, asked: TextCall) -> Option<TextAnswer>
         requires some { IsSome self.old.cpu }
-        ensures { Shows N.frames N.stocks asked self.old self.new result }
+        ensures told { IfSome result (λ told. Shows N.frames N.stocks asked told self.old self.new) }
+        ensures busy { IfNone result (self.new ≡ self.old) }
     {
         let zone = &*self.zone;
         let Some(cpu) = &mut self.cpu else {
             unreachable!()
         };
-        let Some((mut behind, loan)) = zone.lock.take() else {
-            return TextAnswer::Busy;
-        };
-        let answer = match asked {
-            TextCall::Show => behind.show(alloc, &zone.tables, cpu),
-            TextCall::Blocks => behind.blocks(alloc, &zone.tables, cpu),
-            TextCall::Stock => behind.stock(alloc, &zone.tables, cpu),
-            TextCall::Units { path } => behind.units(alloc, &zone.tables, cpu, &path),
-        };
+        let (mut behind, loan) = zone.lock.take()?;
+        let answer = behind.text(alloc, &zone.tables, cpu, asked);
         zone.lock.put_back(behind, loan);
-        answer
+        Some(answer)
     }
 }
 
 impl<N: BootName> Behind<N> {
+    /// Settles a CPU, and returns a text.
+    pub fn text(
+        &mut self,
+        alloc: Global,
+        tables: &Tables<N>,
+        cpu: &mut Cpu<N>,
+        asked: TextCall,
+    ) -> TextAnswer
+        ensures { ReadsAfterSettling N.frames N.stocks (TellsText asked result) cpu.old cpu.new }
+    {
+        match asked {
+            TextCall::Show => self.show(alloc, tables, cpu),
+            TextCall::Blocks => self.blocks(alloc, tables, cpu),
+            TextCall::Stock => self.stock(alloc, tables, cpu),
+            TextCall::Units { path } => self.units(alloc, tables, cpu, &path),
+        }
+    }
+
     fn show(&mut self, alloc: Global, tables: &Tables<N>, cpu: &mut Cpu<N>) -> TextAnswer
         ensures { ReadsAfterSettling N.frames N.stocks (TellsText Show result) cpu.old cpu.new }
     {
         self.locked.prove_quiet();
-        settle(&mut self.locked, tables, cpu);
+        let told = show_text(alloc, &mut self.locked, tables, cpu);
         self.locked.prove_quiet();
-        let mut text = String::new(alloc);
-        match write_show(self.locked.machine(), &mut text) {
-            Ok(()) => TextAnswer::Text(text.into_bytes()),
+        match told {
+            Ok(text) => TextAnswer::Text(text),
             Err(_) => TextAnswer::NoMemory,
         }
     }
@@ -80,11 +88,10 @@ impl<N: BootName> Behind<N> {
         ensures { ReadsAfterSettling N.frames N.stocks (TellsText Blocks result) cpu.old cpu.new }
     {
         self.locked.prove_quiet();
-        settle(&mut self.locked, tables, cpu);
+        let told = blocks_text(alloc, &mut self.locked, tables, cpu);
         self.locked.prove_quiet();
-        let mut text = String::new(alloc);
-        match write_blocks(self.locked.machine(), &mut text) {
-            Ok(()) => TextAnswer::Text(text.into_bytes()),
+        match told {
+            Ok(text) => TextAnswer::Text(text),
             Err(_) => TextAnswer::NoMemory,
         }
     }

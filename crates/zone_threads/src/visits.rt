@@ -3,7 +3,7 @@
 ghost use Rattle.std.specs.Prelude.{◌≡◌, ◌↔◌, IfNone, IfSome, IsSome, IsTrue, MatchResult};
 ghost use Rattle.mem_system.specs.Commands.{IsOfZone, NamesFrameBelow};
 ghost use Rattle.mem_system.specs.Visits.{IsVisited, ServesFrameOutcome, ServesOutcome};
-ghost use Rattle.zone_threads.specs.Calling.{Calls, IfMissing, Reads};
+ghost use Rattle.zone_threads.specs.Calling.{Calls, IfMissing, Reads, ServesBlock};
 ghost use Rattle.zone_threads.specs.Homes.{OnCpu};
 ghost use Rattle.zone_threads.specs.declared.calls.Call.TheVariants.{AllocBlock, Settle, Visit};
 
@@ -50,18 +50,10 @@ impl<N: BootName> Home<N> {
         requires some { IsSome self.old.cpu }
         ensures { Calls N.frames N.stocks (AllocBlock group order) self.old self.new result }
     {
-        let zone = &*self.zone;
-        let Some(cpu) = &mut self.cpu else {
-            unreachable!()
-        };
-        let Some((mut behind, loan)) = zone.lock.take() else {
-            return CallAnswer::Busy;
-        };
-        let served = behind.alloc_block(&zone.tables, cpu, group, order);
-        zone.lock.put_back(behind, loan);
-        match served {
-            Some(outcome) => CallAnswer::Served(outcome),
-            None => CallAnswer::NoGroup,
+        match self.serve_block(group, order) {
+            Ok(outcome) => CallAnswer::Served(outcome),
+            Err(Missed::Busy) => CallAnswer::Busy,
+            Err(Missed::NoGroup) => CallAnswer::NoGroup,
         }
     }
 
@@ -132,6 +124,28 @@ impl<N: BootName> Home<N> {
             return Err(Missed::Busy);
         };
         let served = behind.alloc_frame(&zone.tables, cpu, group);
+        zone.lock.put_back(behind, loan);
+        match served {
+            Some(outcome) => Ok(outcome),
+            None => Err(Missed::NoGroup),
+        }
+    }
+
+    // Allocates a block under the lock.
+    fn serve_block(&mut self, group: u32, order: u32) -> Result<Outcome, Missed>
+        requires some { IsSome self.old.cpu }
+        ensures { MatchResult result
+            (λ outcome. OnCpu (IsVisited N.frames N.stocks (ServesBlock N.frames group order outcome)) self.old self.new)
+            (λ missed. IfMissing N.frames N.stocks group missed × (self.new ≡ self.old)) }
+    {
+        let zone = &*self.zone;
+        let Some(cpu) = &mut self.cpu else {
+            unreachable!()
+        };
+        let Some((mut behind, loan)) = zone.lock.take() else {
+            return Err(Missed::Busy);
+        };
+        let served = behind.alloc_block(&zone.tables, cpu, group, order);
         zone.lock.put_back(behind, loan);
         match served {
             Some(outcome) => Ok(outcome),
