@@ -1,1 +1,2 @@
 mod Putting
+mod UnitsTold

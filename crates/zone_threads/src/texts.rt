@@ -78,10 +78,10 @@ impl<N: BootName> Behind<N> {
         self.locked.prove_quiet();
         let told = show_text(alloc, &mut self.locked, tables, cpu);
         self.locked.prove_quiet();
-        match told {
-            Ok(text) => TextAnswer::Text(text),
-            Err(_) => TextAnswer::NoMemory,
-        }
+        let Ok(text) = told else {
+            return TextAnswer::NoMemory;
+        };
+        TextAnswer::Text(text)
     }
 
     fn blocks(&mut self, alloc: Global, tables: &Tables<N>, cpu: &mut Cpu<N>) -> TextAnswer
@@ -90,10 +90,10 @@ impl<N: BootName> Behind<N> {
         self.locked.prove_quiet();
         let told = blocks_text(alloc, &mut self.locked, tables, cpu);
         self.locked.prove_quiet();
-        match told {
-            Ok(text) => TextAnswer::Text(text),
-            Err(_) => TextAnswer::NoMemory,
-        }
+        let Ok(text) = told else {
+            return TextAnswer::NoMemory;
+        };
+        TextAnswer::Text(text)
     }
 
     fn stock(&mut self, alloc: Global, tables: &Tables<N>, cpu: &mut Cpu<N>) -> TextAnswer
@@ -104,10 +104,10 @@ impl<N: BootName> Behind<N> {
         let mut text = String::new(alloc);
         let told = write_own_stock(&mut self.locked, tables, cpu, &mut text);
         self.locked.prove_quiet();
-        match told {
-            Ok(()) => TextAnswer::Text(text.into_bytes()),
-            Err(_) => TextAnswer::NoMemory,
-        }
+        let Ok(()) = told else {
+            return TextAnswer::NoMemory;
+        };
+        TextAnswer::Text(text.into_bytes())
     }
 
     fn units(
@@ -124,10 +124,12 @@ impl<N: BootName> Behind<N> {
         let mut text = String::new(alloc);
         let told = write_units_at(&mut self.locked, tables, path, &mut text);
         self.locked.prove_quiet();
-        match told {
-            Ok(true) => TextAnswer::Text(text.into_bytes()),
-            Ok(false) => TextAnswer::NoGroup,
-            Err(_) => TextAnswer::NoMemory,
+        let Ok(is_there) = told else {
+            return TextAnswer::NoMemory;
+        };
+        if !is_there {
+            return TextAnswer::NoGroup;
         }
+        TextAnswer::Text(text.into_bytes())
     }
 }

@@ -147,10 +147,10 @@ impl<N: BootName> Home<N> {
         };
         let served = behind.alloc_block(&zone.tables, cpu, group, order);
         zone.lock.put_back(behind, loan);
-        match served {
-            Some(outcome) => Ok(outcome),
-            None => Err(Missed::NoGroup),
-        }
+        let Some(outcome) = served else {
+            return Err(Missed::NoGroup);
+        };
+        Ok(outcome)
     }
 }
 
