@@ -138,11 +138,12 @@ fn text<N: BootName>(
     ensures serves { Serves N.frames N.stocks pointer.home (Text alloc asked) result.0.home result.1 }
 {
     let mut home = pointer.into_box_parts().into_box();
-    let answer = match home.text(alloc, asked) {
-        Some(told) => RequestAnswer::Text(told),
-        None => RequestAnswer::Busy,
+    let told = home.text(alloc, asked);
+    let pointer = HomePointer::of(BoxParts::of(home));
+    let Some(told) = told else {
+        return (pointer, RequestAnswer::Busy);
     };
-    (HomePointer::of(BoxParts::of(home)), answer)
+    (pointer, RequestAnswer::Text(told))
 }
 
 fn end<N: BootName>(pointer: HomePointer<N>, alloc: Global) -> (HomePointer<N>, RequestAnswer)

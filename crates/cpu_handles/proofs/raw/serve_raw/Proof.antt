@@ -51,6 +51,7 @@ use Rattle.cpu_handles.specs.Owned.{brand, marker, home_owns}
 use Rattle.cpu_handles.specs.Serving.{IsFit, IsNamed, MayBeAsked, Serves, frames_of, stocks_of}
 use Rattle.zone_threads.specs.Homes.{KnownHome}
 use Rattle.cpu_handles.specs.declared.requests.Request.TheVariants.{Start, Enter, Leave, Text, End}
+use Rattle.zone_threads.specs.declared.texts.TextCall.TheVariants.{Blocks, Show, Stock, Units}
 use Rattle.cpu_part.specs.declared.boot_name.BootName.{Ghosts}
 use Rattle.cpu_handles.specs.contracts.raw.RawHome as RawHome
 use Rattle.cpu_handles.specs.contracts.home_pointer.HomePointer as HomePointer
@@ -107,7 +108,10 @@ asked_blank : (x : Request.the_row.Denot) (f : Last (Request.the_row.exit yes) x
 asked_blank (Start alloc boot) f = tt
 asked_blank (Enter number) f = tt
 asked_blank (Leave alloc) f = tt
-asked_blank (Text alloc asked) f = tt
+asked_blank (Text alloc Show) f = tt
+asked_blank (Text alloc Blocks) f = tt
+asked_blank (Text alloc Stock) f = tt
+asked_blank (Text alloc (Units path)) f = tt
 asked_blank (End alloc) f = tt
 
 abbrev stayed : Stays (F.ended).signature.params (F.ended).kept
