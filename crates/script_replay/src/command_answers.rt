@@ -29,8 +29,9 @@ use reply_texts::{write_fast, write_listed, write_settled};
 use script_lines::line::Command;
 use std::alloc::AllocError;
 
-// Serves a command of the script and adds its answer. If `is_explained` is true, what was drained, reclaimed and killed
-// for it follows the answer. If memory runs out, the command was served all the same.
+// Serves a command of the script and adds its answer. If `is_explained` is true, a refusal is followed by its reason,
+// and what was drained, reclaimed and killed for the command comes last. If memory runs out, the command was served all
+// the same.
 #[tactic(auto, using(crate::proofs::InRange::work_in_range))]
 pub(crate) fn serve_and_write<N: BootName>(
     locked: &mut Locked<N>,
