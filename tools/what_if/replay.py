@@ -93,7 +93,8 @@ class Replay:
 
     def bury(self, group, limit, asker, answer):
         """A group died, and what it had was freed."""
-        group.death = Death(self.seconds, group, limit, asker, answer[1:])
+        lines = [line for line in answer[1:] if not line.startswith("# refused ")]
+        group.death = Death(self.seconds, group, limit, asker, lines)
         self.deaths.append(group.death)
         for frame in filter(None.__ne__, group.file):
             del self.places[frame]

@@ -1,4 +1,4 @@
-//! The lines that the README of `group_tree` shows, and the texts of all refusals.
+//! The lines that the README of `group_tree` shows, and the texts of all refusals, also as `--explain` writes them.
 
 ghost use Rattle.std.specs.Prelude.{IsTrue};
 ghost use Rattle.group_tree.specs.Groups.{has_group};
@@ -8,6 +8,7 @@ use group_tree::fault::Fault;
 use group_tree::group::GroupId;
 use group_tree::path::PathText;
 use group_tree::tree::Tree;
+use kill_texts::write_refused;
 use std::process::Abort;
 use std::test::Fail;
 
@@ -114,6 +115,10 @@ fn each_refusal_has_its_number_name_and_text(rt: HostRuntime) -> Result<(), Fail
     for fault in refusals(group) {
         let line = format!(in rt.alloc(); "{} {}: {fault}\n", fault.number(), fault.name())?;
         told.push_str(line.as_str())?;
+        let mut reason = String::new(rt.alloc());
+        write_refused(&fault, None, &mut reason)?;
+        let shown = format!(in rt.alloc(); "# refused {}: {fault}\n", fault.number())?;
+        expect_true(&rt, reason.as_str() == shown.as_str());
     }
     expect_true(&rt, told.as_str() == TEXTS);
     Ok(())

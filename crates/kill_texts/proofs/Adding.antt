@@ -1,4 +1,5 @@
--- What two additions to a text add. Serves `write_zone`, `write_reclaimed` and `write_left_out`.
+-- What two additions to a text add. Serves `write_zone`, `write_reclaimed`, `write_left_out` and
+-- `push_lent`.
 use Rattle.std.proofs.Common.{◌≡◌, ◌++◌, ◌∙◌, sym, List, ℕ, Result, Ok, Err, IfOk, cond, is_ok, ap, append_assoc}
 
 -- the last addition, which may fail, behind what was added before

@@ -254,19 +254,32 @@ keeps_stop on s m e lines i default text more inside all one =
       served = all_replayed on first s e said served;
     }
 
--- the number of the line after so many, as a stop behind it names the line
-pub numbers_stop : (lines : List Line) (i : ℕ) (default : Line) → i < length lines
-    → number_in_script (get_or lines i default) ≡ number_in_script (get_or lines (i + 1 - 1) Go)
-numbers_stop lines i default inside =
+-- the line after so many, as a stop behind it names the line
+line_of_stop : (lines : List Line) (i : ℕ) (default : Line) → i < length lines → get_or lines i default ≡ get_or lines (i + 1 - 1) Go
+line_of_stop lines i default inside =
     let back : i ≡ i + 1 - 1 = omega arith in
-    ap number_in_script (get_or_default lines i default Go inside ∙ ap (λ (k : ℕ). get_or lines k Go) back)
+    get_or_default lines i default Go inside ∙ ap (λ (k : ℕ). get_or lines k Go) back
 
--- the watch didn't allow a step of the next line
+-- the watch allowed the steps of the lines so far, and not a step of the next line
 pub stops_illegal : (on : Terms) (s m e : SystemState) (lines : List Line) (i : ℕ) (default : Line) (text more : List ℕ)
     → i < length lines → ServesAllAndKeeps on (take i lines) s m text → ServesAndKeeps on (get_or lines i default) m e more
-    → has_legal_steps e.locked.machine.watch ≡ false → (n : ℕ) → n ≡ number_in_script (get_or lines i default) → StopsFor on lines s e (NotLegal n)
+    → has_legal_steps m.locked.machine.watch ≡ true → has_legal_steps e.locked.machine.watch ≡ false
+    → (n : ℕ) → n ≡ number_in_script (get_or lines i default) → StopsFor on lines s e (NotLegal n)
 unfolding keeps_stop
-stops_illegal on s m e lines i default text more inside all one off n is = record {
-  stops = keeps_stop on s m e lines i default text more inside all one;
-  reason = (off, is ∙ numbers_stop lines i default inside);
-}
+stops_illegal on s m e lines i default text more inside all one allowed off n is =
+    let back : i ≡ i + 1 - 1 = omega arith in
+    let line = line_of_stop lines i default inside in record {
+      stops = keeps_stop on s m e lines i default text more inside all one;
+      reason = (
+        record {
+          between = m;
+          earlier = text;
+          last = more;
+          replays = subst (λ (k : ℕ). Replays on (take k lines) s m text) back (all_replayed on (take i lines) s m text all);
+          allowed = allowed;
+          serves = subst (λ (x : Line). ServesLine on x m e more) line one.serves;
+          not_allowed = off;
+        },
+        is ∙ ap number_in_script line,
+      );
+    }

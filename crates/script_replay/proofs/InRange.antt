@@ -1,13 +1,18 @@
 -- What the lines of a script name is there, by the sizes that it was read with.
-use Rattle.std.proofs.Common.{ℕ, zero, suc, List, [], ◌∷◌, All, arith}
+use Rattle.std.proofs.Common.{ℕ, zero, suc, List, [], ◌∷◌, All, ◌<◌, arith}
+use Rattle.std.specs.Prelude.{IfSome}
 use Rattle.std.specs.List.{AllZip}
 use Rattle.zone_sizes.specs.declared.config.Config.{Config}
+use Rattle.mem_system.specs.Commands.{NamesFrameBelow}
+use Rattle.mem_system.specs.declared.command.Cmd.{Cmd}
+use Rattle.mem_system.specs.declared.command.Cmd.TheVariants as cmd
 use Rattle.script_lines.specs.declared.line.Command.{Command}
 use Rattle.script_lines.specs.declared.line.Command.TheVariants.{Alloc, Fast, Release, Get, Put, Touch}
 use Rattle.script_lines.specs.declared.line.Command.TheVariants.{Dirty, Clean, Owner}
 use Rattle.script_lines.specs.declared.line.Line.{Line}
 use Rattle.script_lines.specs.declared.line.Line.TheVariants.{Go, At}
 use Rattle.script_lines.specs.Script.{IsCommandText, IsLineText, IsScript, asking_texts, texts_of}
+use Rattle.script_replay.specs.Reasons.{head_named}
 use Rattle.script_replay.specs.Ranges.{CommandInRange, LineInRange, WorkInRange}
 use Rattle.script_replay.specs.Works.{work_of}
 
@@ -28,6 +33,14 @@ pub work_in_range : (frames : ℕ) (command : Command) → CommandInRange frames
 work_in_range frames (Alloc path zero) named = tt
 work_in_range frames (Alloc path (suc order)) named = tt
 work_in_range frames command named = named
+
+-- a frame that has to be the head of a kept unit is one of the zone
+pub head_in_zone : (frames : ℕ) (command : Cmd) → NamesFrameBelow frames command → IfSome (head_named command) (λ frame. frame < frames)
+head_in_zone frames (cmd.Release frame) named = named
+head_in_zone frames (cmd.Touch frame) named = named
+head_in_zone frames (cmd.Dirty frame) named = named
+head_in_zone frames (cmd.Clean frame) named = named
+head_in_zone frames command named = tt
 
 -- the same of a line
 pub line_there : (sizes : Config) (n : ℕ) (line : Line) (text : List ℕ) → IsLineText sizes n line text → LineInRange sizes.frames sizes.cpus line

@@ -1,18 +1,19 @@
 -- A text for an answer.
-use Rattle.std.proofs.Common.{◌≡◌, ◌∙◌, ◌++◌, ◌&&◌, Bool, true, false, List, [], ℕ, Result, Ok, Err, IfOk, IfErr, ap, append_assoc, append-nil, refl, subst, sym}
+use Rattle.std.proofs.Common.{◌≡◌, ◌∙◌, ◌++◌, ◌&&◌, Bool, true, false, List, [], Option, None, ℕ, Result, Ok, Err, IfOk, IfErr, ap, append_assoc, append-nil, refl, subst, sym}
 use Rattle.std.specs.declared.string.String.{String}
 use Rattle.std.specs.String.{string_bytes}
+use Rattle.group_tree.specs.declared.fault.Fault.{Fault}
 use Rattle.mem_system.specs.declared.command.Cmd.{Cmd}
 use Rattle.mem_system.specs.declared.command.Reply.{Reply}
 use Rattle.mem_system.specs.Visits.{Transition, LockedState}
-use Rattle.reply_texts.specs.LineAnswer.{LineAnswer, Served}
+use Rattle.reply_texts.specs.LineAnswer.{LineAnswer, Served, Settled}
 use Rattle.reply_texts.specs.Answers.{answer_text}
-use Rattle.reply_texts.specs.Replies.{reply_text}
 use Rattle.script_replay.specs.declared.work.Work.{Work}
 use Rattle.script_replay.specs.declared.work.Work.TheVariants.{Visit, Settle}
 use Rattle.script_replay.specs.Answers.{AddsAnswer, AddsText, AnswersWork, ServesUnderLock, ServesWork, WritesAnswer}
 use Rattle.script_replay.specs.Answers.{explanation_if, path_removed}
 use Rattle.script_replay.specs.Numbers.{SaysNumbered, numbered_text}
+use Rattle.script_replay.specs.Reasons.{borrower_of, fault_in, head_named, head_named_by, reason_text, reasoned_text}
 use Rattle.script_replay.specs.Terms.{Terms}
 
 -- what holds of a text holds of the text that was added
@@ -47,10 +48,28 @@ told_as is as_well before after r turn adds = record {
   added = adds.added;
 }
 
--- an answer without an explanation
+-- an answer that is no refusal has no reason
+pub unreasoned : (is_explained : Bool) (answer : LineAnswer) (lent : Option ℕ) → fault_in answer ≡ None
+    → reasoned_text is_explained answer lent ≡ answer_text answer
+unreasoned false answer lent none = refl
+unreasoned true answer lent none = ap (λ (fault : Option Fault). answer_text answer ++ reason_text fault lent) none ∙ append-nil (answer_text answer)
+
+-- an answer without notes
 pub alone : (is_explained : Bool) (work : Work) (call : Transition LockedState) (answer : LineAnswer) → AnswersWork is_explained work call answer false
-    → WritesAnswer is_explained work call (answer_text answer)
-alone is_explained work call answer so = record { answer = answer; is_noted = false; answered = so; text_is = sym (append-nil (answer_text answer)) }
+    → WritesAnswer is_explained work call (reasoned_text is_explained answer (borrower_of (head_named_by work) call.after.locked.machine))
+alone is_explained work call answer so = record {
+  answer = answer;
+  is_noted = false;
+  answered = so;
+  text_is = sym (append-nil (reasoned_text is_explained answer (borrower_of (head_named_by work) call.after.locked.machine)));
+}
+
+-- and without a refusal
+pub alone_taken : (is_explained : Bool) (work : Work) (call : Transition LockedState) (answer : LineAnswer) → fault_in answer ≡ None
+    → AnswersWork is_explained work call answer false → WritesAnswer is_explained work call (answer_text answer)
+alone_taken is_explained work call answer none so =
+    subst (WritesAnswer is_explained work call) (unreasoned is_explained answer (borrower_of (head_named_by work) call.after.locked.machine) none)
+    (alone is_explained work call answer so)
 
 -- the answer to a Settle has no explanation, whether or not one is asked for
 pub settle_alone : (is_explained : Bool) (call : Transition LockedState) (text : List ℕ) → WritesAnswer false Settle call text → WritesAnswer is_explained Settle call text
@@ -58,12 +77,19 @@ settle_alone is_explained call text writes = tells writes.answer writes.is_noted
   where
     tells : (answer : LineAnswer) (is_noted : Bool) → AnswersWork false Settle call answer is_noted
         → text ≡ answer_text answer ++ explanation_if (is_noted && false) [] call.after.locked.machine → WritesAnswer is_explained Settle call text
-    tells answer false answered is = record { answer = answer; is_noted = false; answered = answered; text_is = is }
+    tells Settled false answered is = record {
+      answer = Settled;
+      is_noted = false;
+      answered = answered;
+      text_is = is ∙ ap (λ (l : List ℕ). l ++ []) (sym (unreasoned is_explained Settled None refl));
+    }
+    tells answer false answered is = absurd answered
     tells answer true answered is = absurd answered
 
--- a command that was served under the lock: its reply, followed by its explanation
+-- a command that was served under the lock: its reply with its reason, followed by its explanation
 pub served : (on : Terms) (cmd : Cmd) (before after : LockedState) (reply : Reply) → ServesUnderLock on.frames on.is_explained cmd reply before after
-    → ServesWork on (Visit cmd) before after (reply_text reply ++ explanation_if on.is_explained (path_removed cmd) after.locked.machine)
+    → ServesWork on (Visit cmd) before after (reasoned_text on.is_explained (Served reply) (borrower_of (head_named cmd) after.locked.machine)
+    ++ explanation_if on.is_explained (path_removed cmd) after.locked.machine)
 served on cmd before after reply is = record {
   steps = is.steps;
   writes = record {

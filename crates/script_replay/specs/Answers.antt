@@ -45,6 +45,7 @@ use Rattle.script_lines.specs.declared.line.Command.{Command}
 use Rattle.script_replay.specs.declared.work.Work.{Work}
 use Rattle.script_replay.specs.declared.work.Work.TheVariants.{Visit, AllocFrame, Fast, Release, Get, Put, Settle}
 use Rattle.script_replay.specs.declared.work.Work.TheVariants.{Blocks, Show, Stock, Units}
+use Rattle.script_replay.specs.Reasons.{borrower_of, head_named_by, reasoned_text}
 use Rattle.script_replay.specs.Terms.{Terms}
 use Rattle.script_replay.specs.Works.{work_of}
 
@@ -300,15 +301,16 @@ explanation_if true removed machine =
     explanation_text machine.ledger.groups removed machine.notes.list machine.notes.left_out
 explanation_if false removed machine = []
 
--- the text of the answer; if there are notes of the command and an explanation is asked for, the text continues with
--- the explanation
+-- The text of the answer. If an explanation is asked for, the text continues with why the command is refused, if it is,
+-- and then with the explanation of what it did, if there are notes of the command.
 pub record WritesAnswer (is_explained : Bool) (work : Work) (call : Transition LockedState)
     (text : List ℕ) : Type 0 where
   pub answer : LineAnswer
   pub is_noted : Bool
   pub answered : AnswersWork is_explained work call answer is_noted
   pub text_is : text
-      ≡ answer_text answer ++ explanation_if (is_noted && is_explained) (path_removed_by work) call.after.locked.machine
+      ≡ reasoned_text is_explained answer (borrower_of (head_named_by work) call.after.locked.machine)
+      ++ explanation_if (is_noted && is_explained) (path_removed_by work) call.after.locked.machine
 
 -- the CPU is settled, and the text is that of the machine after that
 pub record WritesMachine (machine_text : KnownMachine → List ℕ) (call : Transition LockedState)
@@ -332,17 +334,19 @@ pub record IsStockText (text : List ℕ) (settled : LockedState) (machine : Know
 
 -- Units: the text is that of the kept units of the group of this path, with the pins that one look at each unit's word
 -- found; or no group has the path, and that is refused
-abbrev pub IsUnitsTextOf : (path text : List ℕ) (settled : LockedState) (machine : KnownMachine) → Type 0
-IsUnitsTextOf path text settled machine =
+abbrev pub IsUnitsTextOf : (is_explained : Bool) (path text : List ℕ) (settled : LockedState) (machine : KnownMachine)
+    → Type 0
+IsUnitsTextOf is_explained path text settled machine =
     UnitsAt (number_at settled.locked.machine.ledger.groups path)
-    (text ≡ answer_text (answer.Served (Refused NoGroup))) (λ shown. text ≡ shown) settled.locked.machine machine
+    (text ≡ reasoned_text is_explained (answer.Served (Refused NoGroup)) None) (λ shown. text ≡ shown)
+    settled.locked.machine machine
 
 -- the answer of a command, as text
 abbrev pub WritesWork : (is_explained : Bool) → Work → Transition LockedState → (text : List ℕ) → Type 0
 WritesWork is_explained Blocks call text = WritesMachine (λ machine. blocks_text machine.blocks) call text
 WritesWork is_explained Show call text = WritesMachine show_text call text
 WritesWork is_explained Stock call text = WritesAfterLooks (IsStockText text) call
-WritesWork is_explained (Units path) call text = WritesAfterLooks (IsUnitsTextOf path.now text) call
+WritesWork is_explained (Units path) call text = WritesAfterLooks (IsUnitsTextOf is_explained path.now text) call
 WritesWork is_explained work call text = WritesAnswer is_explained work call text
 
 -- the answer of a command, as text, by some steps

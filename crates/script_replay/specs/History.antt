@@ -1,6 +1,6 @@
 -- The history of lines: what their steps are, and what holds after each line.
-use Rattle.std.specs.Prelude.{◌≡◌, ℕ, ◌-◌, false, List, [], ◌∷◌, ◌++◌, Result, Vec, IfErr, IfOk, OnErr}
-use Rattle.std.specs.Prelude.{get_or, length, ⊤}
+use Rattle.std.specs.Prelude.{◌≡◌, ℕ, ◌-◌, true, false, List, [], ◌∷◌, ◌++◌, Result, Vec, IfErr, IfOk, OnErr}
+use Rattle.std.specs.Prelude.{get_or, length, take, ⊤}
 use Rattle.frame_word.specs.Seats.{KnownTable}
 use Rattle.stock_word.specs.Stock.{KnownStockTable}
 use Rattle.group_charge.specs.Charges.{AreCharges}
@@ -126,17 +126,28 @@ pub record ReplaysLegally (terms : Terms) (lines : List Line) (before after : Sy
       → IsNewWatch (zone_of terms.frames) before.locked.machine.watch
       → HasLegalHistory terms lines before after text
 
--- why a checked replay stopped after so many lines: memory ran out for the text of the last of them; or the watch
--- didn't allow a step, and the last of them has this number
-abbrev pub IsReason : (lines : List Line) (number : ℕ) (after : SystemState) → Stopped → Type 0
-IsReason lines number after (NoMemory error) = ⊤
-IsReason lines number after (NotLegal line) =
-    (has_legal_steps after.locked.machine.watch ≡ false) × (line ≡ number_in_script (get_or lines (number - 1) Go))
+-- The last of so many lines is the first one with a step that the watch doesn't allow: it allowed all steps of the
+-- lines before it, which led to `between`.
+pub record IsFirstIllegal (terms : Terms) (lines : List Line) (number : ℕ) (before after : SystemState) : Type 0 where
+  pub between : SystemState
+  pub earlier : List ℕ
+  pub last : List ℕ
+  pub replays : Replays terms (take (number - 1) lines) before between earlier
+  pub allowed : has_legal_steps between.locked.machine.watch ≡ true
+  pub serves : ServesLine terms (get_or lines (number - 1) Go) between after last
+  pub not_allowed : has_legal_steps after.locked.machine.watch ≡ false
+
+-- why a checked replay stopped after so many lines: memory ran out for the text of the last of them; or the last of
+-- them is the first one with a step that the watch doesn't allow, and has this number
+abbrev pub IsReason : Terms → (lines : List Line) (number : ℕ) (before after : SystemState) → Stopped → Type 0
+IsReason terms lines number before after (NoMemory error) = ⊤
+IsReason terms lines number before after (NotLegal line) =
+    IsFirstIllegal terms lines number before after × (line ≡ number_in_script (get_or lines (number - 1) Go))
 
 -- a checked replay stopped for this reason: the lines up to the one where it stopped were served
 pub record StopsFor (terms : Terms) (lines : List Line) (before after : SystemState) (why : Stopped) : Type 0 where
   pub stops : StopsAt (Replays terms) lines before after
-  pub reason : IsReason lines stops.number after why
+  pub reason : IsReason terms lines stops.number before after why
 
 -- The result of a replay that is checked. If it succeeds, all lines were served, these are their answers, and the watch
 -- allowed every step. Else it stopped for this reason.

@@ -3,6 +3,7 @@ pub mod History
 pub mod Lines
 pub mod Numbers
 pub mod Ranges
+pub mod Reasons
 pub mod Terms
 pub mod ValueAnswers
 pub mod Visits

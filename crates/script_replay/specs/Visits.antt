@@ -1,7 +1,7 @@
 -- What lines do by visits, while other CPUs go on. No clause can name what lies behind the lock, so each visit is
 -- described by itself: it found some value there, and the next visit may find another. `Answers..ByVisit` relates what
 -- is done to an answer, and `Visits..` to a text, as `Answers..` and `Serves..` do by value.
-use Rattle.std.specs.Prelude.{◌≡◌, ◌⊎◌, ℕ, List, []}
+use Rattle.std.specs.Prelude.{◌≡◌, ◌⊎◌, ℕ, false, List, []}
 use Rattle.std.specs.Borrow.{Bor}
 use Rattle.cpu_part.specs.declared.answers.Fast.TheVariants.{Got}
 use Rattle.cpu_part.specs.Cpus.{KnownCpu}
@@ -103,7 +103,7 @@ VisitsWork tables Show before after text =
 VisitsWork tables Stock before after text = ReadsAfterSettling tables.frames tables.stocks (IsStockText text) before
     after
 VisitsWork tables (Units path) before after text =
-    ReadsAfterSettling tables.frames tables.stocks (IsUnitsTextOf path.now text) before after
+    ReadsAfterSettling tables.frames tables.stocks (IsUnitsTextOf false path.now text) before after
 VisitsWork tables work before after text =
     IsTextOf (λ answer. AnswersWorkByVisit tables work before after answer) text
 

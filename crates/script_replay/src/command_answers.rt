@@ -15,6 +15,7 @@ ghost use Rattle.script_replay.specs.Ranges.{CommandInRange, WorkInRange};
 ghost use Rattle.script_replay.specs.Terms.{terms};
 
 use crate::locked_calls::{serve_frame_under_lock, serve_under_lock, settle_under_lock};
+use crate::reasons::{head_named, write_reasoned_outcome, write_reasoned_refusal};
 use crate::unlocked_calls::{pin, try_relist, unpin, write_pin, write_unpin};
 use crate::watched_steps::{watch_credit, watch_fast, watch_get, watch_put};
 use crate::work::{Work, work_of};
@@ -24,12 +25,13 @@ use group_tree::group::GroupId;
 use kill_texts::write_explanation;
 use machine_texts::{write_blocks, write_show};
 use mem_system::{Cmd, Locked, write_own_stock, write_units_at};
-use reply_texts::{write_fast, write_listed, write_outcome, write_refusal, write_settled};
+use reply_texts::{write_fast, write_listed, write_settled};
 use script_lines::line::Command;
 use std::alloc::AllocError;
 
-// Serves a command of the script and adds its answer. If `is_explained` is true, what was drained, reclaimed and killed
-// for it follows the answer. If memory runs out, the command was served all the same.
+// Serves a command of the script and adds its answer. If `is_explained` is true, a refusal is followed by its reason,
+// and what was drained, reclaimed and killed for the command comes last. If memory runs out, the command was served all
+// the same.
 #[tactic(auto, using(crate::proofs::InRange::work_in_range))]
 pub(crate) fn serve_and_write<N: BootName>(
     locked: &mut Locked<N>,
@@ -68,13 +70,13 @@ fn answer_work<N: BootName>(
         Work::AllocFrame { path } => answer_frame(locked, tables, cpu, path, is_explained, text),
         Work::Fast { group } => answer_fast(locked, tables, cpu, group, text),
         Work::Release { frame } => answer_release(locked, tables, cpu, frame, is_explained, text),
-        Work::Get { frame } => answer_get(locked, tables, cpu, frame, text),
-        Work::Put { frame } => answer_put(locked, tables, cpu, frame, text),
+        Work::Get { frame } => answer_get(locked, tables, cpu, frame, is_explained, text),
+        Work::Put { frame } => answer_put(locked, tables, cpu, frame, is_explained, text),
         Work::Settle => answer_settle(locked, tables, cpu, text),
         Work::Blocks => answer_blocks(locked, tables, cpu, text),
         Work::Show => answer_show(locked, tables, cpu, text),
         Work::Stock => answer_stock(locked, tables, cpu, text),
-        Work::Units { path } => answer_units(locked, tables, cpu, path, text),
+        Work::Units { path } => answer_units(locked, tables, cpu, path, is_explained, text),
     }
 }
 
@@ -103,17 +105,18 @@ fn answer_get<N: BootName>(
     tables: &Tables<N>,
     cpu: &mut Cpu<N>,
     frame: u32,
+    is_explained: bool,
     text: &mut String,
 ) -> Result<(), AllocError>
     requires in_zone { frame < N.frames.frames }
-    ensures answered { (is_explained : Bool) → AddsText result text.old text.new
+    ensures answered { AddsText result text.old text.new
         (ServesWork (terms N.frames N.stocks is_explained) (work.Get frame)
         (locked_state locked.old cpu.old) (locked_state locked.new cpu.new)) }
 {
     let cpu_number = cpu.number();
     let got = pin(tables, cpu, frame);
     watch_get(locked, cpu_number, frame, &got);
-    write_pin(&got, text)
+    write_pin(&got, is_explained, text)
 }
 
 // Puts a pin of the frame without the lock, and adds the answer.
@@ -122,17 +125,18 @@ fn answer_put<N: BootName>(
     tables: &Tables<N>,
     cpu: &mut Cpu<N>,
     frame: u32,
+    is_explained: bool,
     text: &mut String,
 ) -> Result<(), AllocError>
     requires in_zone { frame < N.frames.frames }
-    ensures answered { (is_explained : Bool) → AddsText result text.old text.new
+    ensures answered { AddsText result text.old text.new
         (ServesWork (terms N.frames N.stocks is_explained) (work.Put frame)
         (locked_state locked.old cpu.old) (locked_state locked.new cpu.new)) }
 {
     let cpu_number = cpu.number();
     let put = unpin(tables, cpu, frame);
     watch_put(locked, cpu_number, frame, &put);
-    write_unpin(&put, text)
+    write_unpin(&put, is_explained, text)
 }
 
 // Serves the command under the lock, and adds its reply and its explanation.
@@ -150,7 +154,8 @@ fn answer_command<N: BootName>(
         (locked_state locked.old cpu.old) (locked_state locked.new cpu.new)) }
 {
     let outcome = serve_under_lock(locked, tables, cpu, cmd, is_explained);
-    write_outcome(locked.charges(), &outcome, text)?;
+    let head = head_named(cmd);
+    write_reasoned_outcome(locked, tables, &outcome, head, is_explained, text)?;
     explain(locked, is_explained, path_removed(cmd), text)
 }
 
@@ -171,7 +176,7 @@ fn answer_frame_under_lock<N: BootName>(
         (locked_state locked.old cpu.old) (locked_state locked.new cpu.new)) }
 {
     let outcome = serve_frame_under_lock(locked, tables, cpu, group, is_explained);
-    write_outcome(locked.charges(), &outcome, text)?;
+    write_reasoned_outcome(locked, tables, &outcome, None, is_explained, text)?;
     explain(locked, is_explained, &[], text)
 }
 
@@ -218,7 +223,7 @@ fn answer_frame<N: BootName>(
         (locked_state locked.old cpu.old) (locked_state locked.new cpu.new)) }
 {
     let Some(group) = locked.find(path) else {
-        return write_refusal(&Fault::NoGroup, text);
+        return write_reasoned_refusal(&Fault::NoGroup, is_explained, text);
     };
     let cpu_number = cpu.number();
     let group_number = group.number();
@@ -322,9 +327,10 @@ fn answer_units<N: BootName>(
     tables: &Tables<N>,
     cpu: &mut Cpu<N>,
     path: &[u8],
+    is_explained: bool,
     text: &mut String,
 ) -> Result<(), AllocError>
-    ensures answered { AddsText result text.old text.new (ServesWork (terms N.frames N.stocks false) (Units path.entry)
+    ensures answered { AddsText result text.old text.new (ServesWork (terms N.frames N.stocks is_explained) (Units path.entry)
         (locked_state locked.old cpu.old) (locked_state locked.new cpu.new)) }
 {
     settle_under_lock(locked, tables, cpu);
@@ -332,5 +338,5 @@ fn answer_units<N: BootName>(
     if is_there {
         return Ok(());
     }
-    write_refusal(&Fault::NoGroup, text)
+    write_reasoned_refusal(&Fault::NoGroup, is_explained, text)
 }

@@ -10,7 +10,8 @@ use std::alloc::{AllocError, Global};
 /// How the answers to lines are written.
 #[derive(Clone, Copy, Debug, PartialEq, Eq)]
 pub struct Form {
-    /// Whether the answer of a command that drained, reclaimed or killed is followed by the explanation.
+    /// Whether a refusal is followed by its reason, and the answer of a command that drained, reclaimed or killed by the
+    /// explanation.
     pub is_explained: bool,
     /// Whether each line of an answer begins with the number of its script line.
     pub is_numbered: bool,

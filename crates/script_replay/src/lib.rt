@@ -11,6 +11,7 @@ mod command_answers;
 mod form;
 mod locked_calls;
 mod owned_replay;
+mod reasons;
 mod unlocked_calls;
 mod value_answers;
 mod value_calls;

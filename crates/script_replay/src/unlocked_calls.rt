@@ -1,17 +1,18 @@
 //! The commands that take no lock.
 
-ghost use Rattle.std.specs.Prelude.{◌≡◌, ◌<◌, ◌^◌, ◌++◌, MatchBool, OnOk, ℕ};
+ghost use Rattle.std.specs.Prelude.{◌≡◌, ◌<◌, ◌^◌, ◌++◌, MatchBool, None, OnOk, ℕ};
 ghost use Rattle.std.specs.String.{string_bytes};
 ghost use Rattle.frame_word.specs.declared.answers.Put.TheVariants.{Left};
 ghost use Rattle.reply_texts.specs.LineAnswer as answer;
-ghost use Rattle.reply_texts.specs.Answers.{answer_text};
 ghost use Rattle.script_replay.specs.Answers.{AddsAnswer, CanNotList, GetsPin, ListsAgain, PutsPin};
 ghost use Rattle.script_replay.specs.Answers.{pin_answer, unpin_answer};
+ghost use Rattle.script_replay.specs.Reasons.{reasoned_text};
 
+use crate::reasons::write_reasoned_refusal;
 use cpu_part::{BootName, Cpu, Dropped, Tables};
 use frame_word::{Get, Put};
 use group_tree::fault::Fault;
-use reply_texts::{write_get, write_put, write_refusal};
+use reply_texts::{write_get, write_put};
 use std::alloc::AllocError;
 
 // Lists the frame again without the lock, if it is fresh at the CPU and its page can be credited. Returns whether it
@@ -49,13 +50,18 @@ pub(crate) fn pin<N: BootName>(
     cpu.get(tables, frame)
 }
 
-// Adds the answer to a Get.
-pub(crate) fn write_pin(got: &Result<Get, Fault>, text: &mut String) -> Result<(), AllocError>
-    ensures { OnOk result (string_bytes text.new ≡ string_bytes text.old ++ answer_text (pin_answer got.now)) }
+// Adds the answer to a Get, and if it is explained and a refusal, its reason.
+pub(crate) fn write_pin(
+    got: &Result<Get, Fault>,
+    is_explained: bool,
+    text: &mut String,
+) -> Result<(), AllocError>
+    ensures { OnOk result (string_bytes text.new
+        ≡ string_bytes text.old ++ reasoned_text is_explained (pin_answer got.now) None) }
 {
     match got {
         Ok(got) => write_get(got, text),
-        Err(fault) => write_refusal(fault, text),
+        Err(fault) => write_reasoned_refusal(fault, is_explained, text),
     }
 }
 
@@ -77,13 +83,18 @@ pub(crate) fn unpin<N: BootName>(
     Some(cpu.put(tables, frame))
 }
 
-// Adds the answer to a Put.
-pub(crate) fn write_unpin(put: &Option<Put>, text: &mut String) -> Result<(), AllocError>
-    ensures { OnOk result (string_bytes text.new ≡ string_bytes text.old ++ answer_text (unpin_answer put.now)) }
+// Adds the answer to a Put, and if it is explained and a refusal, its reason.
+pub(crate) fn write_unpin(
+    put: &Option<Put>,
+    is_explained: bool,
+    text: &mut String,
+) -> Result<(), AllocError>
+    ensures { OnOk result (string_bytes text.new
+        ≡ string_bytes text.old ++ reasoned_text is_explained (unpin_answer put.now) None) }
 {
     match put {
         Some(put) => write_put(put, text),
-        None => write_refusal(&Fault::NotPinned, text),
+        None => write_reasoned_refusal(&Fault::NotPinned, is_explained, text),
     }
 }
 
@@ -98,7 +109,7 @@ pub(crate) fn answer_pin<N: BootName>(
     ensures answered { AddsAnswer result text.old text.new (GetsPin frame cpu.old cpu.new) }
 {
     let got = pin(tables, cpu, frame);
-    write_pin(&got, text)
+    write_pin(&got, false, text)
 }
 
 // Puts a pin of the frame, without the lock, and adds the answer.
@@ -112,5 +123,5 @@ pub(crate) fn answer_unpin<N: BootName>(
     ensures answered { AddsAnswer result text.old text.new (PutsPin frame cpu.old cpu.new) }
 {
     let put = unpin(tables, cpu, frame);
-    write_unpin(&put, text)
+    write_unpin(&put, false, text)
 }

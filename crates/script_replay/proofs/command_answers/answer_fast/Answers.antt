@@ -2,7 +2,7 @@ use Rattle.std.proofs.Common.{ℕ, refl, subst}
 use Rattle.reply_texts.specs.LineAnswer as answer
 use Rattle.reply_texts.specs.Answers.{answer_text}
 use Rattle.script_replay.specs.Answers.{OnlyWatched, fast_steps}
-use Rattle.script_replay.proofs.Telling.{alone}
+use Rattle.script_replay.proofs.Telling.{alone_taken}
 use Rattle.script_replay.proofs.command_answers.answer_fast.Goals as goal
 
 pub returns : goal.returns
@@ -15,7 +15,7 @@ returns g c =
         text = answer_text (answer.Fast fast);
         so = record {
           steps = fast_steps c.args.cpu.now.number c.args.group fast;
-          writes = alone _ _ _ (answer.Fast fast) (c.alloc_fast-fast.ensures.answer, record { locked = watched; steps_are = refl });
+          writes = alone_taken _ _ _ (answer.Fast fast) refl (c.alloc_fast-fast.ensures.answer, record { locked = watched; steps_are = refl });
         };
         added = c.write_fast.ensures;
       };

@@ -1,4 +1,4 @@
-use Rattle.std.proofs.Common.{ℕ, [], refl, subst, sym}
+use Rattle.std.proofs.Common.{ℕ, None, [], refl, subst, sym}
 use Rattle.cpu_part.specs.declared.answers.Fast.TheVariants.{Got}
 use Rattle.cpu_part.specs.Calls.{FastAnswers}
 use Rattle.group_tree.specs.declared.fault.Fault.TheVariants.{NoGroup}
@@ -9,14 +9,15 @@ use Rattle.reply_texts.specs.LineAnswer.{Served}
 use Rattle.reply_texts.specs.LineAnswer as answer
 use Rattle.reply_texts.specs.Answers.{answer_text}
 use Rattle.script_replay.specs.Answers.{GetsNoneFast, OnlyWatched, fast_steps}
+use Rattle.script_replay.specs.Reasons.{reasoned_text}
 use Rattle.script_replay.specs.Terms.{terms}
 use Rattle.script_replay.proofs.Fronts.{served_after}
-use Rattle.script_replay.proofs.Telling.{added_as, alone}
+use Rattle.script_replay.proofs.Telling.{added_as, alone, alone_taken}
 use Rattle.script_replay.proofs.command_answers.answer_frame.Goals as goal
 
 pub returns-in_default : goal.returns-in_default
 returns-in_default g c = record {
-  text = answer_text (Served (Refused NoGroup));
+  text = reasoned_text c.args.is_explained (Served (Refused NoGroup)) None;
   so = record {
     steps = [];
     writes = alone _ _ _ (Served (Refused NoGroup)) (
@@ -29,7 +30,7 @@ returns-in_default g c = record {
       refl,
     );
   };
-  added = c.write_refusal.ensures;
+  added = c.write_reasoned_refusal.ensures;
 }
 
 pub answer_frame_under_lock-requires : goal.answer_frame_under_lock-requires
@@ -46,7 +47,7 @@ returns-in-Got g c =
       text = answer_text (answer.Fast (Got f));
       so = record {
         steps = fast_steps c.args.cpu.now.number group (Got f);
-        writes = alone _ _ _ (answer.Fast (Got f)) (record {
+        writes = alone_taken _ _ _ (answer.Fast (Got f)) refl (record {
           gets = record {
             group = group;
             found = sym c.in-Some.ensures.found;

@@ -8,7 +8,7 @@ use Rattle.reply_texts.specs.Answers.{answer_text}
 use Rattle.script_replay.specs.Answers.{OnlyWatched}
 use Rattle.script_replay.specs.Terms.{terms}
 use Rattle.script_replay.proofs.Fronts.{released_after}
-use Rattle.script_replay.proofs.Telling.{added_as, alone}
+use Rattle.script_replay.proofs.Telling.{added_as, alone_taken}
 use Rattle.script_replay.proofs.command_answers.answer_release.Goals as goal
 
 pub returns-then-try_relist : goal.returns-then-try_relist
@@ -20,7 +20,7 @@ returns-then-try_relist g c =
         text = answer_text Listed;
         so = record {
           steps = cpu_makes c.args.cpu.now.number (step.Credit c.args.frame) step_answer.Stocked ∷ [];
-          writes = alone _ _ _ Listed (search rules, record { locked = made; steps_are = refl });
+          writes = alone_taken _ _ _ Listed refl (search rules, record { locked = made; steps_are = refl });
         };
         added = c.write_listed.ensures;
       };

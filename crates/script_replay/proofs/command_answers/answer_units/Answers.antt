@@ -1,4 +1,4 @@
-use Rattle.std.proofs.Common.{◌≡◌, ◌++◌, ◌∙◌, IfOk, Ok, ap, refl, rules, subst}
+use Rattle.std.proofs.Common.{◌≡◌, ◌++◌, ◌∙◌, IfOk, None, Ok, ap, refl, rules, subst}
 use Rattle.std.specs.declared.string.String.{String}
 use Rattle.std.specs.String.{string_bytes}
 use Rattle.group_tree.specs.declared.fault.Fault.TheVariants.{NoGroup}
@@ -6,7 +6,7 @@ use Rattle.group_tree.specs.Groups.{number_at}
 use Rattle.mem_system.specs.declared.command.Reply.TheVariants.{Refused}
 use Rattle.mem_system.specs.Visits.{locked_state}
 use Rattle.reply_texts.specs.LineAnswer.{Served}
-use Rattle.reply_texts.specs.Answers.{answer_text}
+use Rattle.script_replay.specs.Reasons.{reasoned_text}
 use Rattle.script_replay.proofs.Looking.{failed_text, none_text, there_text}
 use Rattle.script_replay.proofs.command_answers.answer_units.Goals as goal
 
@@ -15,7 +15,7 @@ returns-in_err-is_there g c =
     let settled = c.settle_under_lock.new in
     let seen = c.write_units_at in
     let o = number_at settled.locked.machine.ledger.groups c.args.path.now in
-    let refusal = answer_text (Served (Refused NoGroup)) in
+    let refusal = reasoned_text c.args.is_explained (Served (Refused NoGroup)) None in
     let has = failed_text o refusal seen.result c.args.text.now seen.new.text settled.locked.machine seen.new.locked.machine seen.ensures.units
     c.in_err-is_there.field-0.0 c.in_err-is_there.was in record {
       answered = record {
@@ -39,7 +39,7 @@ returns-then-is_there g c =
     let settled = c.settle_under_lock.new in
     let seen = c.write_units_at in
     let o = number_at settled.locked.machine.ledger.groups c.args.path.now in
-    let refusal = answer_text (Served (Refused NoGroup)) in
+    let refusal = reasoned_text c.args.is_explained (Served (Refused NoGroup)) None in
     let has = there_text o refusal seen.result c.args.text.now seen.new.text settled.locked.machine seen.new.locked.machine seen.ensures.units
     (c.in_ok-is_there.was ∙ ap Ok c.if-is_there.true) in record {
       answered = record {
@@ -63,7 +63,7 @@ returns g c =
     let settled = c.settle_under_lock.new in
     let seen = c.write_units_at in
     let o = number_at settled.locked.machine.ledger.groups c.args.path.now in
-    let refusal = answer_text (Served (Refused NoGroup)) in
+    let refusal = reasoned_text c.args.is_explained (Served (Refused NoGroup)) None in
     let has = none_text o refusal seen.result c.args.text.now seen.new.text settled.locked.machine seen.new.locked.machine seen.ensures.units
     (c.in_ok-is_there.was ∙ ap Ok c.if-is_there.false) in record {
       answered = record {
@@ -78,7 +78,7 @@ returns g c =
             cpu = refl;
           };
         };
-        added = subst (λ (x : String _). IfOk c.write_refusal.result (λ _. string_bytes c.write_refusal.new.text ≡ string_bytes x ++ refusal)) has.1
-            c.write_refusal.ensures;
+        added = subst (λ (x : String _). IfOk c.write_reasoned_refusal.result (λ _. string_bytes c.write_reasoned_refusal.new.text ≡ string_bytes x ++ refusal)) has.1
+            c.write_reasoned_refusal.ensures;
       };
     }

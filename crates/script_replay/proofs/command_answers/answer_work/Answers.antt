@@ -17,14 +17,14 @@ pub returns-in-Get : goal.returns-in-Get
 returns-in-Get g c = record {
   answered = subst (λ (work : Work). AddsText c.answer_get.result c.args.text.now c.answer_get.new.text
       (ServesWork (terms g.N.BootName.frames g.N.BootName.stocks c.args.is_explained) work (locked_state c.args.locked.now c.args.cpu.now) (locked_state c.answer_get.new.locked c.answer_get.new.cpu)))
-      (sym c.in-Get.is) (c.answer_get.ensures.answered c.args.is_explained);
+      (sym c.in-Get.is) c.answer_get.ensures.answered;
 }
 
 pub returns-in-Put : goal.returns-in-Put
 returns-in-Put g c = record {
   answered = subst (λ (work : Work). AddsText c.answer_put.result c.args.text.now c.answer_put.new.text
       (ServesWork (terms g.N.BootName.frames g.N.BootName.stocks c.args.is_explained) work (locked_state c.args.locked.now c.args.cpu.now) (locked_state c.answer_put.new.locked c.answer_put.new.cpu)))
-      (sym c.in-Put.is) (c.answer_put.ensures.answered c.args.is_explained);
+      (sym c.in-Put.is) c.answer_put.ensures.answered;
 }
 
 pub returns-in-Settle : goal.returns-in-Settle
@@ -72,9 +72,5 @@ pub returns-in-Units : goal.returns-in-Units
 returns-in-Units g c = record {
   answered = subst (λ (work : Work). AddsText c.answer_units.result c.args.text.now c.answer_units.new.text
       (ServesWork (terms g.N.BootName.frames g.N.BootName.stocks c.args.is_explained) work (locked_state c.args.locked.now c.args.cpu.now) (locked_state c.answer_units.new.locked c.answer_units.new.cpu)))
-      (sym c.in-Units.is) (let told = c.answer_units.ensures.answered in record {
-        text = told.text;
-        so = record { steps = told.so.steps; writes = told.so.writes };
-        added = told.added;
-      });
+      (sym c.in-Units.is) c.answer_units.ensures.answered;
 }

@@ -42,7 +42,7 @@ returns-then-not-is_legal g c =
         stopped = stops_illegal (form_terms g.N.BootName.frames g.N.BootName.stocks c.args.form) (system_state c.args.locked.now c.args.cpus.now)
             (system_state c.loop-next.locked c.loop-next.cpus) (system_state c.serve_in_form.new.locked c.serve_in_form.new.cpus)
             c.args.lines.now c.loop-next.next-index _ (string_bytes c.loop-next.answers) served.text c.loop-next-test.true
-            c.loop-next.invariant.0 served.so (search rules) c.number_of.result c.number_of.ensures;
+            c.loop-next.invariant.0 served.so c.loop-next.invariant.1 (search rules) c.number_of.result c.number_of.ensures;
       };
     }
 

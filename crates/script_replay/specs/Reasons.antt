@@ -1,0 +1,57 @@
+-- Why a command is refused, as an explained answer says it.
+use Rattle.std.specs.Prelude.{ℕ, Bool, true, false, List, [], ◌++◌, Option, Some, None}
+use Rattle.group_tree.specs.declared.fault.Fault.{Fault}
+use Rattle.group_tree.specs.declared.fault.Fault.TheVariants as fault
+use Rattle.kill_texts.specs.Refused.{refused_text}
+use Rattle.mem_machine.specs.FrameStates.{frame_state_at, place_of}
+use Rattle.mem_machine.specs.Machines.{KnownMachine}
+use Rattle.mem_machine.specs.declared.frame_state.Place.{Place}
+use Rattle.mem_machine.specs.declared.frame_state.Place.TheVariants as place
+use Rattle.mem_system.specs.declared.command.Cmd.{Cmd}
+use Rattle.mem_system.specs.declared.command.Cmd.TheVariants.{Release, Touch, Dirty, Clean}
+use Rattle.mem_system.specs.declared.command.Reply.TheVariants.{OverLimit, Refused}
+use Rattle.reply_texts.specs.LineAnswer.{LineAnswer}
+use Rattle.reply_texts.specs.LineAnswer as answer
+use Rattle.reply_texts.specs.Answers.{answer_text}
+use Rattle.script_replay.specs.declared.work.Work.{Work}
+use Rattle.script_replay.specs.declared.work.Work.TheVariants as work
+
+-- the refusal that an answer is, if it is one
+abbrev pub fault_in : LineAnswer → Option Fault
+fault_in (answer.Served (Refused reason)) = Some reason
+fault_in (answer.Served (OverLimit group path)) = Some (fault.OverLimit group)
+fault_in other = None
+
+-- the frame that has to be the head of a kept unit for the command, if there is one
+abbrev pub head_named : Cmd → Option ℕ
+head_named (Release frame) = Some frame
+head_named (Touch frame) = Some frame
+head_named (Dirty frame) = Some frame
+head_named (Clean frame) = Some frame
+head_named other = None
+
+-- the same of what a command of a script asks for
+abbrev pub head_named_by : Work → Option ℕ
+head_named_by (work.Visit cmd) = head_named cmd
+head_named_by (work.Release frame) = Some frame
+head_named_by other = None
+
+-- the CPU that a frame at this place is lent to, if it is lent
+abbrev pub borrower_at : Place → Option ℕ
+borrower_at (place.Lent cpu) = Some cpu
+borrower_at other = None
+
+-- the CPU that the machine has lent the frame to, if there is a frame, and it is lent
+abbrev pub borrower_of : Option ℕ → KnownMachine → Option ℕ
+borrower_of None machine = None
+borrower_of (Some frame) machine = borrower_at (place_of (frame_state_at machine.frame_states frame))
+
+-- the line that says why, if there is a refusal
+abbrev pub reason_text : Option Fault → (lent : Option ℕ) → List ℕ
+reason_text None lent = []
+reason_text (Some reason) lent = refused_text reason lent
+
+-- the text of an answer; if it is to be explained and is a refusal, it continues with the line that says why
+abbrev pub reasoned_text : (is_explained : Bool) → LineAnswer → (lent : Option ℕ) → List ℕ
+reasoned_text false answer lent = answer_text answer
+reasoned_text true answer lent = answer_text answer ++ reason_text (fault_in answer) lent
