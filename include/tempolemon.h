@@ -74,9 +74,9 @@ typedef struct {
 
 /* Boots a zone, replays a script on it, and ends the boot. The answers are those of `memcg replay`, byte for byte.
  *
- * The script has at most 1,048,576 bytes: the lines of docs/MANUAL.md. is_explained asks for what was drained,
- * reclaimed and killed, behind the answer of each line that did so; is_audited asks for the report of the end, behind
- * all answers. answers is a buffer of `room` bytes. The text in it doesn't end with a null byte. script and answers may be empty, and
+ * The script has at most 1,048,576 bytes: the lines of docs/MANUAL.md. is_explained asks for why a line was refused and
+ * what it drained, reclaimed and killed, behind its answer; is_audited asks for the report of the end, behind all
+ * answers. answers is a buffer of `room` bytes. The text in it doesn't end with a null byte. script and answers may be empty, and
  * point to anything then except null.
  *
  *   DONE          the answers are the first *written bytes of the buffer; the rest of it is unchanged
