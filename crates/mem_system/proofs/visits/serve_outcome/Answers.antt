@@ -8,6 +8,7 @@ use Rattle.mem_system.specs.Locked.{KnownLocked}
 use Rattle.mem_system.specs.Outcomes.{HasItsGroups, reply_of}
 use Rattle.mem_system.specs.Commands.{FreshAfter}
 use Rattle.mem_system.specs.Visits.{with_visit_of, locked_state, IsServed}
+use Rattle.mem_system.proofs.Lost.{no_unit_is_lost}
 use Rattle.mem_system.proofs.Visiting.{all_shut, settled_opened, served}
 use Rattle.mem_system.proofs.visits.serve_outcome.Goals as goal
 
@@ -37,6 +38,9 @@ returns g c =
     let same = c.shut.ensures.cpu in
     let reply = reply_of x.ledger c.execute-outcome.result in
     let kept : k.machine.ledger ≡ x.ledger = ap (λ (y : KnownMachine). y.ledger) c.shut.ensures.machine in
+    let numbered = c.execute-outcome.ensures.stays.number ∙ c.settle.ensures.others.number ∙ ap (λ (y : KnownCpu). y.number) c.open.ensures.cpu in
+    let opened = c.execute-outcome.ensures.stays.opened ∙ settled_opened _ _ _ _ c.settle.ensures.settles
+    ∙ ap (λ (y : KnownMachine). y.frame_seat.view.opened) (c.open.ensures.machine ∙ ap (λ (y : KnownMachine). with_watch (with_visit_of y c.args.cpu.now.number 1) c.open.new.self.watch) c.forget_notes.ensures) in
     let told : reply_of k.machine.ledger c.execute-outcome.result ≡ reply = ap (λ (l : Ledger). reply_of l c.execute-outcome.result) kept in
     rw told record {
       groups = subst (λ (l : Ledger). HasItsGroups l c.execute-outcome.result) (sym kept) c.execute-outcome.ensures.groups;
@@ -63,4 +67,7 @@ returns g c =
         still = c.shut.ensures.still;
         lent = c.shut.ensures.lent;
       };
+      lost = no_unit_is_lost t g.N.BootName.stocks c.shut.new.self c.frame_states.ensures.consistent
+          (all_shut c.locked.inside.machine x c.shut.new.self c.args.cpu.now.number c.locked.invariant.quiet.shut opened
+          (c.shut.ensures.machine ∙ ap (λ (q : ℕ). with_watch (with_visit_of x q 0) c.shut.new.self.watch) numbered));
     }
