@@ -200,11 +200,13 @@ module _ (t : KnownTable) (w : KnownStockTable) (m : KnownMachine) (ok : IsConsi
           → 1 ≤ borrowed_in f p c.frame_seat.view → HasLent p f c
       its c named borrowed some = elim (cases_eq c.frame_seat.view.number p) [
         | inl e ↦
-            let here = only_here p c.frame_seat.view (note_of c.frame_seat.view f).borrowed e in
-            (sym named ∙ e, elim (cases_lt 0 (times f c.list)) [
-              | inl listed ↦ inl (omega (arith, listed))
-              | inr none ↦ inr (omega (arith, none, borrowed, some, here))
-            ])
+            let here = only_here p c.frame_seat.view (note_of c.frame_seat.view f).borrowed e in (
+              sym named ∙ e,
+              elim (cases_lt 0 (times f c.list)) [
+                | inl listed ↦ inl (omega (arith, listed))
+                | inr none ↦ inr (omega (arith, none, borrowed, some, here))
+              ],
+            )
         | inr ne ↦ let none = only_else p c.frame_seat.view (note_of c.frame_seat.view f).borrowed ne in absurd (omega (arith, none, some))
       ]
 

@@ -101,6 +101,7 @@ pub fn serve_frame_outcome<N: BootName>(
     ensures fresh { FreshOf (reply_of locked.new.machine.ledger result) 0 cpu.new.fresh }
     ensures back { cpu.new.back ≡ [] }
     ensures ends { EndsVisit N.frames (locked_state locked.old cpu.old) (locked_state locked.new cpu.new) }
+    ensures lost { LosesNoUnit N.frames N.stocks locked.new.machine }
 {
     let sizes = locked.sizes;
     let machine = &mut locked.machine;
@@ -109,6 +110,7 @@ pub fn serve_frame_outcome<N: BootName>(
     machine.settle(tables, cpu);
     let answer = alloc_frame(machine, tables, cpu, sizes, group);
     machine.shut(tables, cpu);
+    let _frame_states = machine.frame_states(); // Called for its contract.
     outcome_of(&answer)
 }
 
