@@ -12,14 +12,14 @@ use Rattle.step_rules.specs.declared.step.Action.TheVariants.{TakeIn, PassBack, 
 use Rattle.step_rules.specs.declared.step.Action.TheVariants.{Grant, Ungrant, PlaceBlock, Return, SetMax, SetFlag, Make, Remove, Kill}
 use Rattle.step_rules.specs.declared.step.Answer.{Answer}
 use Rattle.step_rules.specs.declared.step.Answer.TheVariants.{Done, Held, Left, Last, Took, Stocked, Pages, Granted, Placed, Number}
-use Rattle.step_rules.specs.Phases.{Kind, ListFrame, FreshFrame, has_as, is_live, is_head_in_hand}
+use Rattle.step_rules.specs.Phases.{Kind, ListFrame, has_as, is_live, is_head_in_hand}
 use Rattle.step_rules.specs.State.{Zone, State, Part, with_at, sum_to, one_if, is_cpu, is_held_by, visits, front_of, frames_of, live_references}
 use Rattle.step_rules.specs.Legal.{is_legal, IsAnswer, IsCounted, get_answer}
 use Rattle.step_rules.specs.After.{after, with_back, filled, drained, with_more}
 use Rattle.step_rules.proofs.Basics.{at_other, at_each, at_through}
 use Rattle.step_rules.proofs.Sums.{sum_same, sum_part, sum_change}
 use Rattle.step_rules.proofs.Lists.{times, count_length, front_stands, one_if_true}
-use Rattle.step_rules.proofs.PhaseLemmas.{free_is, listed_is, in_hand, WasCollected, WasBare, WasEnded}
+use Rattle.step_rules.proofs.PhaseLemmas.{free_is, in_hand, WasCollected, WasBare, WasEnded}
 use Rattle.step_rules.proofs.Sound.{IsSound}
 use Rattle.step_rules.proofs.Few.{HaveFewPins, pins_made}
 use Rattle.step_rules.proofs.Placed.{zone_kept}
@@ -55,7 +55,7 @@ record AreSmall (n : ℕ) (s : State) : Type 0 where
   pub pages : pages_out s ≤ n
   pub holder : HolderIsThere s.zone.cpus s.hold
 
-sum_most : (n : ℕ) (h : ℕ → ℕ) → ((i : ℕ) → h i ≤ 1) → sum_to n h ≤ n
+pub sum_most : (n : ℕ) (h : ℕ → ℕ) → ((i : ℕ) → h i ≤ 1) → sum_to n h ≤ n
 unfolding sum_to
 sum_most zero h each = omega arith
 sum_most (suc n) h each = let a = sum_most n h each in let b = each n in omega arith
@@ -71,7 +71,7 @@ sum_room (suc n) h f each below none =
       | inr ne ↦ let rest = sum_room n h f each (omega arith) none in omega arith
     ]
 
-one_most : (b : Bool) → one_if b ≤ 1
+pub one_most : (b : Bool) → one_if b ≤ 1
 one_most true = omega arith
 one_most false = omega arith
 

@@ -8,7 +8,7 @@ use Rattle.step_rules.specs.State.{Part, with_at}
 use Rattle.step_rules.proofs.Basics.{at_each, at_through}
 use Rattle.core_rows.specs.declared.seat.SeatRow.{SeatRow}
 use Rattle.core_rows.specs.Shown.{part_in, part_of, reference_of}
-use Rattle.std.specs.Prelude.{All, vec_len}
+use Rattle.std.specs.Prelude.{All}
 use Rattle.std.proofs.lemmas.List.Elements.{All-set}
 use Rattle.step_rules.specs.State.{State}
 use Rattle.step_rules.specs.After.{with_part}
@@ -50,7 +50,7 @@ references_kept xs k old s below is same = λ i. λ m f. at_seat m f i
     at_seat m f =
         elim (cases_eq m k) [
           | inl e ↦ ap (λ n. reference_of (slice_get (set xs k s) n) f) e ∙ ap (λ o. reference_of o f) (get_set_same xs k s below)
-              ∙ ap (λ v. get_or v.items f 0) same ∙ sym (ap (λ o. reference_of o f) is) ∙ sym (ap (λ n. reference_of (slice_get xs n) f) e)
+              ∙ ap (λ (v : List ℕ). get_or v f 0) same ∙ sym (ap (λ o. reference_of o f) is) ∙ sym (ap (λ n. reference_of (slice_get xs n) f) e)
           | inr ne ↦ ap (λ o. reference_of o f) (get_set_other xs k m s ne)
         ]
 
@@ -75,7 +75,7 @@ pub rooms_kept : (frames : ℕ) (xs : List SeatRow) (k : ℕ) (old s : SeatRow) 
 rooms_kept frames xs k old s below read kept all =
     let was : HasRoom frames old = subst (HasRoom frames) (sym read) (all k old below) in
     All-set (HasRoom frames) xs k s (record {
-      references = ap vec_len kept.references ∙ was.references;
+      references = ap length kept.references ∙ was.references;
       list = let e = kept.list in let h = was.list in omega arith;
       fresh = let e = kept.fresh in let h = was.fresh in omega arith;
       back = let e = kept.back in let h = was.back in omega arith;

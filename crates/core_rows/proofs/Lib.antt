@@ -3,3 +3,6 @@ pub mod Changing
 pub mod Adding
 pub mod Bounding
 pub mod Starting
+pub mod Tallying
+pub mod Pinning
+pub mod Referring

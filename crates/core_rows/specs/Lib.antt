@@ -1,2 +1,4 @@
 pub mod Shown
 pub mod Rooms
+pub mod Counted
+pub mod Tables

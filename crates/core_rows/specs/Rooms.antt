@@ -21,7 +21,7 @@ use Rattle.core_rows.specs.Shown.{state_in, part_in}
 -- a seat has a number of references for each frame, and room on its list for all frames; the rules let it have no more
 -- than 32 fresh frames and 256 back frames
 pub record HasRoom (frames : ℕ) (s : SeatRow) : Type 0 where
-  pub references : vec_len s.references ≡ frames
+  pub references : length s.references ≡ frames
   pub list : frames ≤ vec_capacity s.list
   pub fresh : 32 ≤ vec_capacity s.fresh
   pub back : 256 ≤ vec_capacity s.back
@@ -31,7 +31,7 @@ pub record HasRoom (frames : ℕ) (s : SeatRow) : Type 0 where
 pub record FitsZone (r : Rows) : Type 0 where
   pub frames : r.frames ≤ most_frames
   pub cpus : r.cpus ≤ most_cpus
-  pub phases : vec_len r.phases ≡ r.frames
+  pub phases : length r.phases ≡ r.frames
   pub seats : vec_len r.seats ≡ r.cpus + 1
   pub killed : vec_len r.killed ≡ most_groups
   pub pending : vec_len r.pending ≡ most_groups
@@ -99,4 +99,4 @@ pages_asked action = 0
 -- a seat that has nothing, and no reference on any frame
 pub record IsNewSeat (frames : ℕ) (s : SeatRow) : Type 0 where
   pub part : part_in s ≡ no_part
-  pub references : s.references.items ≡ replicate frames 0
+  pub references : s.references ≡ replicate frames 0

@@ -26,7 +26,7 @@ part_of (Some s) = part_in s
 -- the references of a seat on a frame; 0 if there is no seat
 abbrev pub reference_of : Option SeatRow → ℕ → ℕ
 reference_of None f = 0
-reference_of (Some s) f = slice_index_or s.references.items f 0
+reference_of (Some s) f = slice_index_or s.references f 0
 
 -- the state that the rows show; past the end of each list, as at boot
 abbrev pub state_in : Rows → State
@@ -35,7 +35,7 @@ state_in r = record {
   hold = r.hold;
   groups = r.tree;
   killed = λ g. slice_index_or r.killed.items g false;
-  phases = λ f. slice_index_or r.phases.items f InZone;
+  phases = λ f. slice_index_or r.phases f InZone;
   references = λ seat f. reference_of (slice_get r.seats.items seat) f;
   parts = λ cpu. part_of (slice_get r.seats.items cpu);
   pending = λ g. slice_index_or r.pending.items g 0;

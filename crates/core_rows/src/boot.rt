@@ -3,22 +3,23 @@
 ghost use Rattle.std.specs.Prelude.{◌≡◌, ◌≤◌, ◌+◌, IfOk, All, vec_capacity, vec_len, replicate, false};
 ghost use Rattle.group_tree.specs.Bounds.{most_groups};
 ghost use Rattle.step_rules.specs.State.{at_boot, free_in};
-ghost use Rattle.step_rules.specs.declared.phase.Phase.{Phase};
 ghost use Rattle.zone_sizes.specs.Config.{most_cpus, most_frames};
 ghost use Rattle.core_rows.specs.Shown.{state_in};
 ghost use Rattle.core_rows.specs.Rooms.{FitsZone, HasRoom, IsNewSeat};
 
+use crate::phase_table::PhaseTable;
 use crate::phases::is_free;
 use crate::rows::Rows;
 use crate::seat::{SeatRow, new_seat};
 use group_tree::group::MAX_GROUPS;
 use group_tree::tree::Tree;
 use std::alloc::{AllocError, Global};
-use step_rules::phase::{Hold, Phase};
+use step_rules::phase::Hold;
 
 /// Seats that have nothing, the zone's own and one for each CPU.
 fn new_seats(alloc: Global, frames: u32, cpus: u32) -> Result<Vec<SeatRow>, AllocError>
-    requires { cpus ≤ most_cpus }
+    requires frames { frames ≤ most_frames }
+    requires cpus { cpus ≤ most_cpus }
     ensures number { IfOk result (λ seats. vec_len seats ≡ cpus + 1) }
     ensures rooms { IfOk result (λ seats. All (HasRoom frames) seats.items) }
     ensures none { IfOk result (λ seats. All (IsNewSeat frames) seats.items) }
@@ -30,14 +31,6 @@ fn new_seats(alloc: Global, frames: u32, cpus: u32) -> Result<Vec<SeatRow>, Allo
         seats.push_reserved(seat);
     }
     Ok(seats)
-}
-
-/// A phase for each frame of the zone, all free.
-fn new_phases(alloc: Global, frames: usize) -> Result<Vec<Phase>, AllocError>
-    ensures items { IfOk result (λ phases. phases.items ≡ replicate frames Phase.InZone) }
-    ensures number { IfOk result (λ phases. vec_len phases ≡ frames) }
-{
-    vec![in alloc; Phase::InZone; frames]
 }
 
 /// A flag for each group number, all off.
@@ -65,7 +58,7 @@ impl Rows {
         ensures fits { IfOk result FitsZone }
         ensures state { IfOk result (λ r. state_in r ≡ at_boot (record { frames = frames; cpus = cpus })) }
     {
-        let phases = new_phases(alloc, frames as usize)?;
+        let phases = PhaseTable::new(alloc, frames)?;
         let seats = new_seats(alloc, frames, cpus)?;
         let killed = new_flags(alloc)?;
         let pending = new_counts(alloc)?;

@@ -4,7 +4,10 @@
 
 pub mod boot;
 pub mod holds;
+pub mod phase_table;
 pub mod phases;
+pub mod reference_counts;
 pub mod rows;
 pub mod seat;
 pub mod sums;
+pub mod tally;

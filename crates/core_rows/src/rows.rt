@@ -9,6 +9,7 @@ ghost use Rattle.step_rules.specs.After.{filled, drained, with_phase, with_part,
 ghost use Rattle.core_rows.specs.Shown.{state_in};
 ghost use Rattle.core_rows.specs.Rooms.{FitsZone};
 
+use crate::phase_table::PhaseTable;
 use crate::seat::{
     SeatRow, absorb_pages, credit, drain_stock, fill_stock, list_frame, pay_front, push_back_frame,
     report_pages, set_references, unlist_frame,
@@ -31,7 +32,7 @@ pub struct Rows {
     /// For each group number whether the group is killed.
     pub killed: Vec<bool>,
     /// The phase of each frame.
-    pub phases: Vec<Phase>,
+    pub phases: PhaseTable,
     /// What is kept of each seat; the zone's own is the first.
     pub seats: Vec<SeatRow>,
     /// For each group number the pages that are pending.
@@ -54,15 +55,10 @@ impl Rows {
     }
 
     /// The phase of a frame; InZone if the zone doesn't have it.
-    #[tactic(auto, using(crate::proofs::Looking::past_default))]
     pub fn phase(&self, frame: u32) -> Phase
         ensures { result ≡ (state_in self.now).phases frame }
     {
-        if (frame as usize) < self.phases.len() {
-            self.phases[frame as usize]
-        } else {
-            Phase::InZone
-        }
+        self.phases.get(frame)
     }
 
     /// Whether a group of this number is killed.
@@ -101,19 +97,12 @@ impl Rows {
     }
 
     /// The references of a seat on a frame.
-    #[tactic(auto, using(crate::proofs::Looking::past_default))]
     pub fn references(&self, seat: u32, frame: u32) -> u32
         ensures { result ≡ (state_in self.now).references seat frame }
     {
         match self.seat(seat) {
             None => 0,
-            Some(row) => {
-                if (frame as usize) < row.references.len() {
-                    row.references[frame as usize]
-                } else {
-                    0
-                }
-            }
+            Some(row) => row.references.get(frame),
         }
     }
 
@@ -263,7 +252,7 @@ impl Rows {
         ensures state { state_in self.new ≡ with_phase (state_in self.old) frame phase }
         ensures fits { FitsZone self.new }
     {
-        self.phases[frame as usize] = phase;
+        self.phases.set(frame, phase);
     }
 
     /// Sets the pages pending for a group.
@@ -290,6 +279,7 @@ impl Rows {
         requires fits { FitsZone self.old }
         requires seat { seat ≤ self.old.cpus }
         requires there { frame < self.old.frames }
+        requires few { count ≤ 255 }
         ensures state { state_in self.new ≡ with_references (state_in self.old) seat frame count }
         ensures fits { FitsZone self.new }
     {

@@ -5,9 +5,11 @@ ghost use Rattle.std.specs.Prelude.{slice_set};
 ghost use Rattle.step_rules.specs.State.{no_part, without};
 ghost use Rattle.step_rules.specs.After.{with_listed, with_unlisted, paid, credited, with_back, with_report, absorbed};
 ghost use Rattle.step_rules.specs.After.{filled, drained};
+ghost use Rattle.zone_sizes.specs.Config.{most_frames};
 ghost use Rattle.core_rows.specs.Shown.{part_in};
 ghost use Rattle.core_rows.specs.Rooms.{HasRoom, KeepsCapacity, KeepsRoom};
 
+use crate::reference_counts::ReferenceCounts;
 use group_tree::group::GroupId;
 use std::alloc::{AllocError, Global};
 
@@ -21,7 +23,7 @@ const MAX_BACK: usize = 256;
 #[derive(Drop)]
 pub struct SeatRow {
     /// References, for each frame.
-    pub references: Vec<u32>,
+    pub references: ReferenceCounts,
     /// The frames on the CPU's list, the front first.
     pub list: Vec<u32>,
     /// The fresh frames, the oldest first.
@@ -52,13 +54,13 @@ fn remove_frame(frames: &mut Vec<u32>, frame: u32)
 
 /// Sets the references of the seat on a frame.
 pub(crate) fn set_references(seat: &mut SeatRow, frame: u32, count: u32)
-    requires there { frame < vec_len seat.old.references }
+    requires there { frame < length seat.old.references }
+    requires few { count ≤ 255 }
     ensures part { part_in seat.new ≡ part_in seat.old }
-    ensures references { seat.new.references.items ≡ slice_set seat.old.references.items frame count }
-    ensures size { vec_len seat.new.references ≡ vec_len seat.old.references }
+    ensures references { seat.new.references ≡ slice_set seat.old.references frame count }
     ensures rooms { KeepsCapacity seat.old seat.new }
 {
-    seat.references[frame as usize] = count;
+    seat.references.set(frame, count);
 }
 
 /// Puts a frame at the end of the list.
@@ -171,12 +173,13 @@ pub(crate) fn drain_stock(seat: &mut SeatRow) -> u128
 
 /// A seat that has nothing, with room on its list for this many frames.
 pub(crate) fn new_seat(alloc: Global, frames: u32) -> Result<SeatRow, AllocError>
+    requires { frames ≤ most_frames }
     ensures part { IfOk result (λ s. part_in s ≡ no_part) }
-    ensures none { IfOk result (λ s. s.references.items ≡ replicate frames 0) }
+    ensures none { IfOk result (λ s. s.references ≡ replicate frames 0) }
     ensures room { IfOk result (HasRoom frames) }
 {
     let count = frames as usize;
-    let references = vec![in alloc; 0; count]?;
+    let references = ReferenceCounts::new(alloc, frames)?;
     let list = Vec::with_capacity(alloc, count)?;
     let fresh = Vec::with_capacity(alloc, MAX_FRESH)?;
     let back = Vec::with_capacity(alloc, MAX_BACK)?;

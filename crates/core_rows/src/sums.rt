@@ -1,6 +1,7 @@
-//! Sums and tests over all frames, seats and groups, counted anew at each call and exact.
+//! Sums and tests over all frames, seats and groups, each exact. Of what they add, the frames are counted as they
+//! change, and seats and groups at each call.
 
-ghost use Rattle.std.specs.Prelude.{◌≡◌, ◌+◌, ◌*◌, ◌^◌, ◌<◌, ◌≤◌, length, IfNone, IfSome, IsTrue, true, if◌then◌else◌};
+ghost use Rattle.std.specs.Prelude.{◌≡◌, ◌+◌, ◌*◌, ◌^◌, ◌<◌, ◌≤◌, ℕ, length, IfNone, IfSome, IsTrue, true, if◌then◌else◌};
 ghost use Rattle.group_tree.specs.Groups.{has_group, in_subtree};
 ghost use Rattle.step_rules.specs.State.{live_references, pins_of};
 ghost use Rattle.step_rules.specs.Usage.{is_in_subtree, frames_kept, stock_in_subtree, pages_prepaid};
@@ -9,11 +10,13 @@ ghost use Rattle.group_tree.specs.Room.{has_room, PathHasRoom, IsLowestOver};
 ghost use Rattle.step_rules.specs.Legal.{is_of_group, rests, nothing_passes, no_frame_passes, no_page_pends};
 ghost use Rattle.core_rows.specs.Shown.{state_in};
 ghost use Rattle.zone_sizes.specs.Config.{most_frames};
+ghost use Rattle.std.specs.List.{slice_index_or};
 ghost use Rattle.core_rows.specs.Rooms.{FitsZone, IsBelowBounds};
 
-use crate::phases::{is_passing, keeper_of, passes_back, passes_out};
+use crate::phases::{is_passing, passes_back, passes_out};
 use crate::rows::Rows;
 use group_tree::group::GroupId;
+use zone_sizes::config::Config;
 
 /// Whether the stock is of a group, and of this one.
 pub fn is_of_group(stock: Option<GroupId>, group: GroupId) -> bool
@@ -41,18 +44,16 @@ impl Rows {
     }
 
     /// The references of a seat on all frames; a CPU's are its pins.
-    #[tactic(auto, using(crate::proofs::Adding::sum_start, crate::proofs::Adding::sum_next))]
     pub fn pin_count(&self, seat: u32) -> u32
         requires fits { FitsZone self.now }
         requires bounded { IsBelowBounds (state_in self.now) }
         ensures pins { result ≡ pins_of (state_in self.now) seat }
         ensures bound { result ≤ 255 * most_frames }
     {
-        let mut sum = 0u32;
-        for frame in 0..self.frames {
-            sum += self.references(seat, frame);
+        match self.seat(seat) {
+            None => 0,
+            Some(row) => row.references.sum(),
         }
-        sum
     }
 
     /// The frame is not in transit to or from the CPU.
@@ -62,11 +63,14 @@ impl Rows {
         !passes_out(self.phase(frame), cpu) && !passes_back(self.phase(frame), cpu)
     }
 
-    /// No frame is in transit to or from the CPU.
+    /// No frame is in transit to or from the CPU. If the rows fit a zone that has the CPU, no frame is looked at.
     #[tactic(auto, using(crate::proofs::Adding::all_is, crate::proofs::Adding::all_not))]
     pub fn nothing_passes(&self, cpu: u32) -> bool
         ensures { result ≡ nothing_passes (state_in self.now) cpu }
     {
+        if self.phases.len() == self.frames as usize && cpu <= Config::MAX_CPUS {
+            return self.phases.in_transit(cpu) == 0;
+        }
         for frame in 0..self.frames {
             if !self.rests(cpu, frame) {
                 return false;
@@ -75,11 +79,14 @@ impl Rows {
         true
     }
 
-    /// No frame is in transit.
+    /// No frame is in transit. If the rows fit the zone, no frame is looked at.
     #[tactic(auto, using(crate::proofs::Adding::all_is, crate::proofs::Adding::all_not))]
     pub fn no_frame_passes(&self) -> bool
         ensures { result ≡ no_frame_passes (state_in self.now) }
     {
+        if self.phases.len() == self.frames as usize {
+            return self.phases.at_rest() == self.frames;
+        }
         for frame in 0..self.frames {
             if is_passing(self.phase(frame)) {
                 return false;
@@ -123,18 +130,38 @@ impl Rows {
         self.tree.in_subtree(group, below)
     }
 
+    // How many frames a group keeps, if it is in the subtree.
+    fn kept_in_subtree(&self, kept: &[u32], group: GroupId, number: u32) -> u128
+        requires number { number < 64 }
+        requires size { length kept.now ≡ 65 }
+        requires few { (k : ℕ) → slice_index_or kept.now k 0 ≤ most_frames }
+        ensures kept { result ≡ (if in_subtree self.now.tree group number then slice_index_or kept.now
+            (number + 1) 0 else 0) }
+        ensures few { result ≤ most_frames }
+    {
+        match GroupId::of(number) {
+            None => 0,
+            Some(below) => {
+                if self.in_subtree(group, below) {
+                    u128::from(kept[below.number() as usize + 1])
+                } else {
+                    0
+                }
+            }
+        }
+    }
+
     // How many frames the group's subtree keeps.
     #[tactic(auto, using(crate::proofs::Adding::sum_start, crate::proofs::Adding::sum_next))]
     fn frames_kept(&self, group: GroupId) -> u128
         requires fits { FitsZone self.now }
         ensures kept { result ≡ frames_kept self.now.tree (state_in self.now).phases self.now.frames group }
-        ensures few { result ≤ most_frames }
+        ensures few { result ≤ 64 * most_frames }
     {
         let mut sum = 0u128;
-        for frame in 0..self.frames {
-            if self.is_in_subtree(group, keeper_of(self.phase(frame))) {
-                sum += 1;
-            }
+        let kept = self.phases.kept();
+        for number in 0..64u32 {
+            sum += self.kept_in_subtree(kept, group, number);
         }
         sum
     }

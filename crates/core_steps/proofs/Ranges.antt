@@ -1,12 +1,13 @@
 -- Phases of which a range was set (for `Rows::set_unit` and `Rows::free_unit`).
 use Rattle.std.proofs.Common.{◌≡◌, ℕ, ◌+◌, ◌-◌, ◌^◌, ◌<◌, ◌≤◌, ◌==◌, Bool, true, false, List, ◌++◌, length, take, drop, replicate, get_or}
-use Rattle.std.proofs.Common.{set, refl, sym, ◌∙◌, ap, arith, inl, inr, ◌⊎◌, cond}
+use Rattle.std.proofs.Common.{set, refl, sym, ◌∙◌, ap, arith, inl, inr, ◌⊎◌, cond, suc, [], ◌∷◌, append_assoc}
+use Rattle.std.proofs.Math.Seq.{drop-cons, set-append_seam}
 use Rattle.std.specs.Prelude.{if◌then◌else◌, min}
 use Rattle.step_rules.specs.State.{Zone, free_in}
 use Rattle.std.proofs.lemmas.Bool.{cases_lt, cases_eq, cond-true, cond-false, ne_eqb}
 use Rattle.std.proofs.Common.{eq-eqb}
 use Rattle.std.proofs.lemmas.List.{get_or_append_left, get_or-append_right, get_or-take, get_or-drop, get_or-replicate, length-take-le}
-use Rattle.std.proofs.lemmas.List.{get_or-set_same, get_or-set_other}
+use Rattle.std.proofs.lemmas.List.{get_or-set_same, get_or-set_other, replicate-append-replicate, take-append-drop}
 use Rattle.std.proofs.lemmas.Grind.{common_steps}
 use Rattle.std.proofs.lemmas.List.FromFn.{length-map-range_with_len}
 use Rattle.step_rules.specs.Phases.{is_free}
@@ -46,6 +47,27 @@ ranged_out xs at n x d m h (inr after) =
     get_or-append_right (take at xs ++ replicate n x) (drop (at + n) xs) (at + n) m d len after
     ∙ get_or-drop (at + n) xs (m - (at + n)) d
     ∙ ap (λ k. get_or xs k d) (let e : at + n + (m - (at + n)) ≡ m = omega arith in e)
+
+-- one more value is set
+pub ranged_more : {X : Type 0} (xs : List X) (at n : ℕ) (x : X) → at + n < length xs → set (ranged xs at n x) (at + n) x ≡ ranged xs at (n + 1) x
+ranged_more xs at n x here =
+    let front = length-take-le at xs (omega arith) in
+    let len : length (take at xs ++ replicate n x) ≡ at + n = grind (arith, common_steps) in
+    let rest = drop-cons xs (at + n) x here in
+    let split : ranged xs at n x ≡ (take at xs ++ replicate n x) ++ get_or xs (at + n) x ∷ drop (suc (at + n)) xs =
+    sym (append_assoc (take at xs) (replicate n x) (drop (at + n) xs)) ∙ ap (λ l. (take at xs ++ replicate n x) ++ l) rest in
+    let seam = set-append_seam (take at xs ++ replicate n x) (get_or xs (at + n) x) (drop (suc (at + n)) xs) x in
+    (λ i. set (split i) (sym len i) x)
+    ∙ seam
+    ∙ append_assoc (take at xs) (replicate n x) (x ∷ drop (suc (at + n)) xs)
+    ∙ ap (λ l. take at xs ++ l) (sym (append_assoc (replicate n x) (x ∷ []) (drop (suc (at + n)) xs)))
+    ∙ (λ i. take at xs ++ replicate-append-replicate n 1 x i ++ drop (suc_is i) xs)
+  where
+    suc_is : suc (at + n) ≡ at + (n + 1)
+    suc_is = omega arith
+
+pub ranged_none : {X : Type 0} (xs : List X) (at : ℕ) (x : X) → xs ≡ ranged xs at 0 x
+ranged_none xs at x = sym (take-append-drop at xs) ∙ ap (λ k. take at xs ++ drop k xs) (let e : at ≡ at + 0 = omega arith in e)
 
 within_in : (at n m : ℕ) → at ≤ m → m < at + n → is_within at n m ≡ true
 within_in at n m low high = grind arith

@@ -1,10 +1,10 @@
 -- What a legal step finds: room on a list, pages in a book (for the actions in hand_over, references and stocks).
-use Rattle.std.proofs.Common.{◌≡◌, ℕ, ◌+◌, ◌-◌, ◌^◌, ◌<◌, ◌≤◌, ◌||◌, ◌==◌, true, false, length, sym, ap, arith, inl, inr, cond, eq-eqb}
+use Rattle.std.proofs.Common.{◌≡◌, ℕ, ◌+◌, ◌-◌, ◌^◌, ◌<◌, ◌≤◌, ◌||◌, ◌==◌, true, false, length, sym, ◌∙◌, ap, arith, inl, inr, cond, eq-eqb}
 use Rattle.std.specs.Prelude.{nat_le}
-use Rattle.std.proofs.lemmas.Bool.{leb-true, ltb-true, or_cases, and_parts, eqb-true, ne_eqb}
+use Rattle.std.proofs.lemmas.Bool.{cases_lt, false≢true, leb-true, ltb-true, or_cases, and_parts, eqb-true, ne_eqb}
 use Rattle.step_rules.specs.declared.phase.Phase.{Phase}
-use Rattle.step_rules.specs.declared.step.Action.TheVariants.{Put, TakeIn, Credit, Consume}
-use Rattle.step_rules.specs.Phases.{ListFrame, FreshFrame, has_as, passes_out}
+use Rattle.step_rules.specs.declared.step.Action.TheVariants.{Get, Put, TakeIn, Credit, Consume, Unfreeze}
+use Rattle.step_rules.specs.Phases.{ListFrame, FreshFrame, has_as, is_head_in_hand, passes_out}
 use Rattle.step_rules.specs.declared.phase.Stage.TheVariants.{AwaitsReturn, BackAt}
 use Rattle.step_rules.specs.Phases.{at_stage}
 use Rattle.step_rules.specs.After.{with_part, with_phase, with_references, with_back, after_last}
@@ -15,6 +15,7 @@ use Rattle.step_rules.proofs.LegalTests.{consume_tests}
 use Rattle.step_rules.proofs.Sums.{sum_part}
 use Rattle.step_rules.proofs.PhaseLemmas.{out_is, fresh_is}
 use Rattle.core_rows.specs.Rooms.{IsBelowBounds}
+use Rattle.core_rows.proofs.Bounding.{hand_not_live}
 
 pub out_unlisted : (p : ℕ) (x : Phase) → passes_out p x ≡ true → has_as ListFrame p x ≡ false
 out_unlisted p x e = ap (has_as ListFrame p) (out_is p x e)
@@ -101,3 +102,21 @@ pub consume_some : (s : State) (p g : ℕ) → is_legal s p (Consume g) ≡ true
 consume_some s p g legal =
     let some : nat_le 1 (length (s.parts p).list) ≡ true = grind (arith, legal) in
     leb-true 1 (length (s.parts p).list) some
+
+-- a seat's references are some of all
+pub get_few : (s : State) (p f : ℕ) → is_legal s p (Get f) ≡ true → s.references p f ≤ live_references s f
+get_few s p f legal =
+    let cpu : is_cpu s.zone p ≡ true = grind (arith, legal) in
+    let high = leb-true p s.zone.cpus (and_parts (nat_le 1 p) (nat_le p s.zone.cpus) cpu).1 in
+    sum_part (s.zone.cpus + 1) (λ seat. s.references seat f) p (omega arith)
+
+-- a unit in the zone's hand has no reference
+pub unfreeze_few : (s : State) (p f m : ℕ) → IsBelowBounds s → is_legal s p (Unfreeze f m) ≡ true → s.references 0 f + m ≤ 255
+unfreeze_few s p f m few legal =
+    let hand : is_head_in_hand (s.phases f) ≡ true = grind (arith, legal) in
+    let top : nat_le m 255 ≡ true = grind (arith, legal) in
+    let most = leb-true m 255 top in
+    elim (cases_lt 0 (s.references 0 f)) [
+      | inl some ↦ absurd (false≢true (sym (hand_not_live (s.phases f) hand) ∙ few.live 0 f some))
+      | inr none ↦ omega arith
+    ]

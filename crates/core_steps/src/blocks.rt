@@ -1,8 +1,7 @@
 //! Blocks that are placed on free frames, and units whose frames are freed. What is left is the state that the rules
 //! give.
 
-ghost use Rattle.std.specs.Prelude.{◌≡◌, ◌+◌, ◌<◌, ◌≤◌, ◌^◌, ◌++◌, true, IfNone, IfSome, take, drop, replicate};
-ghost use Rattle.std.specs.Prelude.{vec_len};
+ghost use Rattle.std.specs.Prelude.{◌≡◌, ◌+◌, ◌<◌, ◌≤◌, ◌^◌, ◌++◌, true, IfNone, IfSome, take, drop, replicate, length};
 ghost use Rattle.zone_blocks.specs.declared.block.Block.{Block};
 ghost use Rattle.zone_blocks.specs.Areas.{IsFreeBlock, IsFrontOfSmallest, AreMaximalBlocks};
 ghost use Rattle.step_rules.specs.State.{free_in};
@@ -13,6 +12,7 @@ ghost use Rattle.step_rules.specs.declared.step.Answer.{Answer};
 ghost use Rattle.core_rows.specs.Shown.{state_in};
 ghost use Rattle.core_rows.specs.Rooms.{FitsZone, IsBelowBounds, Makes, PlacesFront};
 
+use core_rows::phase_table::PhaseTable;
 use core_rows::phases::unit_size;
 use core_rows::rows::Rows;
 use group_tree::group::GroupId;
@@ -23,13 +23,14 @@ use zone_blocks::block::Block;
 use zone_blocks::order::Order;
 
 /// Sets the phases of this many frames from `at` on.
-fn set_range(phases: &mut Vec<Phase>, at: usize, count: usize, phase: Phase)
-    requires { at + count ≤ vec_len phases.old }
-    ensures range { phases.new.items
-        ≡ take at phases.old.items ++ replicate count phase ++ drop (at + count) phases.old.items }
-    ensures size { vec_len phases.new ≡ vec_len phases.old }
+fn set_range(phases: &mut PhaseTable, at: u32, count: u32, phase: Phase)
+    requires inside { at + count ≤ length phases.old }
+    requires few { length phases.old < 2 ^ 32 }
+    ensures { phases.new ≡ take at phases.old ++ replicate count phase ++ drop (at + count) phases.old }
 {
-    phases[at..at + count].fill(phase);
+    for frame in at..at + count {
+        phases.set(frame, phase);
+    }
 }
 
 /// Makes the frames of a block a newly placed unit of a group: the first its head, the others its tails.
@@ -40,21 +41,23 @@ fn set_unit(rows: &mut Rows, group: GroupId, block: &Block)
         ≡ record (state_in rows.old) { phases = with_block (state_in rows.old).phases group block.now } }
     ensures fits { FitsZone rows.new }
 {
-    let at = block.at as usize;
     let unit = ChargedUnit {
         group,
         order: block.order,
     };
     set_range(
         &mut rows.phases,
-        at,
-        block.order.frames() as usize,
+        block.at,
+        block.order.frames(),
         Phase::Tail(group),
     );
-    rows.phases[at] = Phase::Head {
-        unit,
-        stage: Stage::Bare,
-    };
+    rows.phases.set(
+        block.at,
+        Phase::Head {
+            unit,
+            stage: Stage::Bare,
+        },
+    );
 }
 
 /// Frees the frames of a unit.
@@ -68,12 +71,7 @@ fn free_unit(rows: &mut Rows, frame: u32)
     let left = rows.frames - frame;
     let size = unit_size(rows.phase(frame));
     let frames = size.min(left);
-    set_range(
-        &mut rows.phases,
-        frame as usize,
-        frames as usize,
-        Phase::InZone,
-    );
+    set_range(&mut rows.phases, frame, frames, Phase::InZone);
 }
 
 /// Places pending pages of a group on the front of the smallest sufficient free block, if there is one.

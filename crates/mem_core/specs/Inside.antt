@@ -17,7 +17,7 @@ use Rattle.mem_core.specs.Shown.{SeatState, CoreState}
 
 -- what a contract sees of a seat: its references and its part
 abbrev pub seat_shown : SeatRow → SeatState
-seat_shown s = record { references = s.references.items; part = part_in s }
+seat_shown s = record { references = s.references; part = part_in s }
 
 -- the core state that these rows show, with these accounts and areas, after this many steps
 abbrev pub rows_shown : Rows → List Account → List Block → ℕ → CoreState
@@ -26,7 +26,7 @@ rows_shown rows accounts areas steps = record {
   hold = rows.hold;
   groups = rows.tree;
   killed = rows.killed.items;
-  phases = rows.phases.items;
+  phases = rows.phases;
   seats = map seat_shown rows.seats.items;
   pending = rows.pending.items;
   accounts = accounts;

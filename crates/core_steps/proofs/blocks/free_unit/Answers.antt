@@ -14,12 +14,12 @@ use Rattle.core_steps.proofs.blocks.free_unit.Goals as goal
 pub returns-clause-state : goal.returns-clause-state
 returns-clause-state c =
     let s = state_in c.args.rows.now in
-    let xs = c.args.rows.now.phases.items in
+    let xs = c.args.rows.now.phases in
     let f = c.args.frame in
     let size : c.unit_size-size.result ≡ unit_size (unit_of (s.phases f)) = c.unit_size-size.ensures ∙ ap (λ x. unit_size (unit_of x)) c.phase.ensures in
     let n : ℕ = min c.unit_size-size.result (c.args.rows.now.frames - f) in
-    let range : c.set_range.new.phases.items ≡ ranged xs f n InZone = c.set_range.ensures.range ∙ ap (λ k. ranged xs f k InZone) c.min-frames.ensures in
-    let len : length xs ≡ c.args.rows.now.frames = omega (arith, c.args.rows.now.phases.ok.0, c.requires.fits.phases) in
+    let range : c.set_range.new.phases ≡ ranged xs f n InZone = c.set_range.ensures ∙ ap (λ k. ranged xs f k InZone) c.min-frames.ensures in
+    let len : length xs ≡ c.args.rows.now.frames = omega (arith, c.requires.fits.phases) in
     let there = c.requires.there in
     let ends : (n ≡ c.unit_size-size.result) ⊎ (f + n ≡ length xs) = elim (least_ends c.unit_size-size.result (c.args.rows.now.frames - f)) [
       | inl e ↦ inl e

@@ -10,11 +10,11 @@ use Rattle.core_steps.proofs.blocks.set_unit.Goals as goal
 pub returns-clause-state : goal.returns-clause-state
 returns-clause-state c =
     let s = state_in c.args.rows.now in
-    let xs = c.args.rows.now.phases.items in
+    let xs = c.args.rows.now.phases in
     let b = c.args.block.now in
     let g = c.args.group in
-    let inside : b.at + 2 ^ b.order ≤ length xs = omega (arith, c.args.rows.now.phases.ok.0, c.requires.fits.phases, c.requires.inside) in
-    let range : c.set_range.new.phases.items ≡ ranged xs b.at (2 ^ b.order) (Tail g) = c.set_range.ensures.range
+    let inside : b.at + 2 ^ b.order ≤ length xs = omega (arith, c.requires.fits.phases, c.requires.inside) in
+    let range : c.set_range.new.phases ≡ ranged xs b.at (2 ^ b.order) (Tail g) = c.set_range.ensures
     ∙ ap (λ k. ranged xs b.at k (Tail g)) c.frames.ensures.frames in
     let shown : List Phase → ℕ → Phase = λ ys m. get_or (set ys b.at (Head (record { group = g; order = b.order }) Bare)) m InZone in
     let phases = ap shown range ∙ block_phases xs g b inside in

@@ -1,9 +1,15 @@
 -- The goals of `put`.
-use Rattle.std.proofs.Common.{◌≡◌, ◌-◌, ◌∙◌, ap, arith}
+use Rattle.std.proofs.Common.{◌≡◌, ◌≤◌, ◌-◌, ◌∙◌, ap, arith}
 use Rattle.step_rules.specs.After.{with_references}
 use Rattle.core_rows.specs.Shown.{state_in}
 use Rattle.core_steps.proofs.Serving.{put_counts}
 use Rattle.core_steps.proofs.references.put.Goals as goal
+
+pub set_references-requires-clause-few : goal.set_references-requires-clause-few
+set_references-requires-clause-few c =
+    let most = c.requires.bounded.references c.args.seat c.args.frame in
+    let count = c.references-count.ensures in
+    omega arith
 
 pub overflow_sub-result : goal.overflow_sub-result
 overflow_sub-result c =

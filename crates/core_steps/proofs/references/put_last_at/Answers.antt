@@ -1,5 +1,5 @@
 -- The goals of `put_last_at`.
-use Rattle.std.proofs.Common.{◌≡◌, ◌-◌, ◌<◌, length, sym, ◌∙◌, ap, subst}
+use Rattle.std.proofs.Common.{◌≡◌, ◌≤◌, ◌-◌, ◌<◌, length, sym, ◌∙◌, ap, subst, arith}
 use Rattle.step_rules.specs.State.{State}
 use Rattle.step_rules.specs.After.{with_part, with_phase, with_references}
 use Rattle.core_rows.specs.Shown.{state_in}
@@ -9,6 +9,12 @@ use Rattle.step_rules.specs.Phases.{at_stage}
 use Rattle.step_rules.specs.After.{with_back}
 use Rattle.core_steps.proofs.Serving.{after_last_cpu}
 use Rattle.core_steps.proofs.references.put_last_at.Goals as goal
+
+pub set_references-requires-clause-few : goal.set_references-requires-clause-few
+set_references-requires-clause-few c =
+    let most = c.requires.bounded.references c.args.seat c.args.frame in
+    let count = c.references-count.ensures in
+    omega arith
 
 pub push_back_frame-requires-clause-room : goal.push_back_frame-requires-clause-room
 push_back_frame-requires-clause-room c =

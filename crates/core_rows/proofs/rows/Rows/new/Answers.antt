@@ -13,7 +13,7 @@ returns-clause-state c =
     λ i. record (at_boot zone) {
       groups = c.in_ok-tree.ensures i;
       killed = λ g. (ap (λ l. get_or l g false) c.in_ok-killed.ensures.items ∙ replicate_all 64 false g) i;
-      phases = λ f. (ap (λ l. get_or l f InZone) c.in_ok-phases.ensures.items ∙ replicate_all c.args.frames InZone f) i;
+      phases = λ f. (ap (λ l. get_or l f InZone) c.in_ok-phases.ensures ∙ replicate_all c.args.frames InZone f) i;
       references = λ seat f. new_reference c.args.frames seats seat f none i;
       parts = λ p. new_part c.args.frames seats p none i;
       pending = λ g. (ap (λ l. get_or l g 0) c.in_ok-pending.ensures.items ∙ replicate_all 64 0 g) i;

@@ -1,10 +1,25 @@
 -- The goals of `no_frame_passes`.
-use Rattle.std.proofs.Common.{◌≡◌, true, sym, ◌∙◌, ap, arith}
+use Rattle.std.proofs.Common.{◌≡◌, ◌==◌, true, length, sym, ◌∙◌, ap, arith}
 use Rattle.core_rows.specs.Shown.{state_in}
 use Rattle.std.specs.Prelude.{not}
 use Rattle.step_rules.specs.Phases.{is_passing}
+use Rattle.step_rules.specs.State.{all_to}
+use Rattle.step_rules.proofs.Sums.{all_same}
+use Rattle.core_rows.specs.Counted.{class_in, transit_class}
 use Rattle.core_rows.proofs.Adding.{all_not}
+use Rattle.core_rows.proofs.Tallying.{all_of, rest_class}
 use Rattle.core_rows.proofs.rows.Rows.no_frame_passes.Goals as goal
+
+pub returns-then-len-self : goal.returns-then-len-self
+returns-then-len-self c =
+    let s = state_in c.args.self.now in
+    let xs = c.args.self.now.phases in
+    let class = class_in transit_class xs in
+    let len : length xs ≡ s.zone.frames = sym c.len.ensures ∙ c.if-len-self.true in
+    (λ i. c.at_rest.ensures i == sym len i)
+    ∙ all_of (length xs) class 0
+    ∙ ap (λ n. all_to n (λ f. class f == 0)) len
+    ∙ all_same s.zone.frames (λ f. class f == 0) (λ f. not (is_passing (s.phases f))) (λ f. sym (rest_class (s.phases f)))
 
 pub returns-then-is_passing : goal.returns-then-is_passing
 returns-then-is_passing c =

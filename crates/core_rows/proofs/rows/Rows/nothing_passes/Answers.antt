@@ -1,9 +1,26 @@
 -- The goals of `nothing_passes`.
-use Rattle.std.proofs.Common.{sym, ◌∙◌, arith}
+use Rattle.std.proofs.Common.{◌≡◌, ◌+◌, ◌==◌, length, sym, ◌∙◌, ap, arith}
+use Rattle.std.specs.Prelude.{not}
 use Rattle.core_rows.specs.Shown.{state_in}
 use Rattle.step_rules.specs.Legal.{rests}
+use Rattle.step_rules.specs.State.{all_to}
+use Rattle.step_rules.proofs.Sums.{all_same}
+use Rattle.core_rows.specs.Counted.{class_in, transit_class}
 use Rattle.core_rows.proofs.Adding.{all_not}
+use Rattle.core_rows.proofs.Tallying.{none_of, rests_class}
 use Rattle.core_rows.proofs.rows.Rows.nothing_passes.Goals as goal
+
+pub returns-then-cpu-le-MAX_CPUS : goal.returns-then-cpu-le-MAX_CPUS
+returns-then-cpu-le-MAX_CPUS c =
+    let s = state_in c.args.self.now in
+    let xs = c.args.self.now.phases in
+    let cpu = c.args.cpu in
+    let class = class_in transit_class xs in
+    let len : length xs ≡ s.zone.frames = sym c.len.ensures ∙ c.if-len-self.true in
+    ap (λ n. n == 0) c.in_transit.ensures
+    ∙ none_of (length xs) class (cpu + 1)
+    ∙ ap (λ n. all_to n (λ f. not (class f == cpu + 1))) len
+    ∙ all_same s.zone.frames (λ f. not (class f == cpu + 1)) (rests s cpu) (λ f. sym (rests_class cpu (s.phases f) c.if-cpu-le-MAX_CPUS.true))
 
 pub returns-then-not-rests : goal.returns-then-not-rests
 returns-then-not-rests c =
