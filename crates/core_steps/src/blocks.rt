@@ -99,7 +99,7 @@ pub(crate) fn place_block(
 }
 
 /// The free block of the order that is placed next: the front of the smallest sufficient free block.
-fn free_block(rows: &Rows, areas: &FreeAreas, order: Order) -> Option<Block>
+pub(crate) fn free_block(rows: &Rows, areas: &FreeAreas, order: Order) -> Option<Block>
     requires areas { AreMaximalBlocks (free_in (state_in rows.now).zone (state_in rows.now).phases) areas.now.blocks }
     ensures none { IfNone result ((b : Block) → b.order ≡ order
         → ¬ IsFreeBlock (free_in (state_in rows.now).zone (state_in rows.now).phases) b) }

@@ -267,8 +267,8 @@ fn has_group(rows: &Rows, group: GroupId) -> bool
     rows.tree.contains(group)
 }
 
-// The frame is the front of the CPU's list, a fresh frame there or a back frame there.
-fn is_passable(rows: &Rows, cpu: u32, frame: u32) -> bool
+/// The frame is the front of the CPU's list, a fresh frame there or a back frame there.
+pub fn is_passable(rows: &Rows, cpu: u32, frame: u32) -> bool
     ensures { result ≡ is_passable (state_in rows.now) cpu frame }
 {
     is_listed_at(rows.phase(frame), cpu) && rows.front(cpu) == frame
@@ -276,15 +276,15 @@ fn is_passable(rows: &Rows, cpu: u32, frame: u32) -> bool
         || is_back_at(rows.phase(frame), cpu)
 }
 
-// The stock has no page, and the book is 0 or the stock is of the group.
-fn takes_fill(rows: &Rows, cpu: u32, group: GroupId) -> bool
+/// The stock has no page, and the book is 0 or the stock is of the group.
+pub fn takes_fill(rows: &Rows, cpu: u32, group: GroupId) -> bool
     ensures { result ≡ takes_fill ((state_in rows.now).parts cpu) group }
 {
     rows.stock_pages(cpu) == 0 && (rows.book(cpu) == 0 || is_of_group(rows.stock_group(cpu), group))
 }
 
-// The frame heads a unit that may be returned.
-fn is_returnable(rows: &Rows, frame: u32) -> bool
+/// The frame heads a unit that may be returned.
+pub fn is_returnable(rows: &Rows, frame: u32) -> bool
     ensures { result ≡ is_returnable (state_in rows.now).killed ((state_in rows.now).phases frame) }
 {
     match rows.phase(frame) {

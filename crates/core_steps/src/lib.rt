@@ -4,6 +4,7 @@
 
 pub mod blocks;
 pub mod claims;
+pub mod due;
 pub mod groups;
 pub mod hand_over;
 pub mod legal;

@@ -1,7 +1,7 @@
 -- A checker takes a step, and what follows of the log so far (for `Checker` and `check`).
-use Rattle.std.proofs.Common.{◌≡◌, ℕ, ◌+◌, ◌^◌, ◌<◌, ◌≤◌, ◌↔◌, Bool, true, false, Some, Result, Ok, Err, [], ◌∷◌, ◌++◌, length, take, get_or, sym, ◌∙◌}
+use Rattle.std.proofs.Common.{◌≡◌, ℕ, ◌+◌, ◌^◌, ◌<◌, ◌≤◌, ◌↔◌, Bool, true, false, Some, [], ◌∷◌, ◌++◌, length, take, get_or, sym, ◌∙◌}
 use Rattle.std.proofs.Common.{ap, subst}
-use Rattle.std.specs.Prelude.{IfErr, IfSome, OnOk}
+use Rattle.std.specs.Prelude.{IfSome}
 use Rattle.std.proofs.lemmas.Bool.{false≢true}
 use Rattle.std.proofs.lemmas.List.{take_more, take_all}
 use Rattle.std.proofs.lemmas.Option.{slice_get-get_or}
@@ -22,12 +22,6 @@ use Rattle.mem_core.specs.declared.verdict.Verdict.TheVariants.{Legal, IllegalAt
 use Rattle.mem_core.specs.Shown.{CoreState, state_shown}
 use Rattle.mem_core.specs.Checked.{Leads, IsFirstIllegal}
 use Rattle.mem_core.proofs.Advancing.{sound_after, bounded_after}
-
--- accepted or not, the step was made with some answer that it may get
-pub led : {X : Type 0} (result : Result X Answer) (s t : State) (step : Step) (answer : Answer) → OnOk result (Leads s step answer t)
-    → IfErr result (λ expected. Leads s step expected t) → (made : Answer) × Leads s step made t
-led (Ok x) s t step answer accepted refused = (answer, accepted)
-led (Err expected) s t step answer accepted refused = (expected, refused)
 
 -- what a step keeps of a sound state, bounded by n pages
 pub record Kept (n : ℕ) (s t : State) : Type 0 where
@@ -68,16 +62,16 @@ follows_on zone s t log k e h is so_far leads one =
           ∙ ap (state_of zone) (sym more);
     }
 
-pub first_illegal : (zone : Zone) (s t : CoreState) (log : Run) (k : ℕ) (e : Step × Answer) (expected : Answer) → k < length log → e ≡ get_or log k e
-    → Follows zone s log k → ¬ Allows (state_shown s) e.0.seat e.0.action e.1 → Leads (state_shown s) e.0 expected (state_shown t)
+pub first_illegal : (zone : Zone) (s : CoreState) (log : Run) (k : ℕ) (e : Step × Answer) (expected : Answer) → k < length log → e ≡ get_or log k e
+    → Follows zone s log k → ¬ Allows (state_shown s) e.0.seat e.0.action e.1 → Allows (state_shown s) e.0.seat e.0.action expected
     → IsFirstIllegal zone log k expected
-first_illegal zone s t log k e expected h is so_far denied leads = record {
+first_illegal zone s log k e expected h is so_far denied allowed = record {
   before = so_far.legal;
   step = e.0;
   answer = e.1;
   there = slice_get-get_or log k e h ∙ ap Some (sym is);
   denied = subst (λ (x : State). ¬ Allows x e.0.seat e.0.action e.1) so_far.state denied;
-  allowed = subst (λ (x : State). Allows x e.0.seat e.0.action expected) so_far.state leads.allowed;
+  allowed = subst (λ (x : State). Allows x e.0.seat e.0.action expected) so_far.state allowed;
 }
 
 pub all_legal : (zone : Zone) (s : CoreState) (log : Run) (k : ℕ) → length log ≤ k → Follows zone s log k → IsLegalRun zone log

@@ -7,7 +7,7 @@ ghost use Rattle.step_rules.specs.Answers.{IsPlacing};
 ghost use Rattle.step_rules.specs.declared.step.Answer.TheVariants.{Placed};
 ghost use Rattle.group_tree.specs.Groups.{AreGroups};
 ghost use Rattle.core_rows.specs.Shown.{state_in};
-ghost use Rattle.core_rows.specs.Rooms.{FitsZone, IsBelowBounds};
+ghost use Rattle.core_rows.specs.Rooms.{AreasFor, FitsZone, IsBelowBounds};
 ghost use Rattle.mem_core.specs.Shown.{state_shown, zone_of};
 ghost use Rattle.mem_core.specs.Checked.{Leads};
 ghost use Rattle.zone_sizes.specs.Config.{IsValidConfig};
@@ -15,6 +15,7 @@ ghost use Rattle.zone_sizes.specs.Config.{IsValidConfig};
 use crate::free_areas::set_areas;
 use core_rows::rows::Rows;
 use core_steps::claims::place_at;
+use core_steps::due::due_answer;
 use core_steps::serve::{pages_asked, serve};
 use std::alloc::{AllocError, Global};
 use std::marker::Model;
@@ -53,23 +54,23 @@ fn is_same(one: &Answer, other: &Answer) -> bool
     *one == *other
 }
 
-// Makes a step with an answer of the core's own choice. It computes the free areas only for a placing.
-fn serve_anew(rows: &mut Rows, free: &mut Vec<bool>, areas: &mut FreeAreas, step: &Step) -> Answer
-    requires fits { FitsZone rows.old }
-    requires bounded { IsBelowBounds (state_in rows.old) }
-    requires frames { areas.old.frames ≡ rows.old.frames }
-    requires room { rows.old.frames ≤ vec_capacity free.old }
-    ensures leads { Leads (state_in rows.old) step.now result (state_in rows.new) }
-    ensures fits { FitsZone rows.new }
+// The answer that is due to a step. It computes the free areas only for a placing.
+fn due_anew(rows: &Rows, free: &mut Vec<bool>, areas: &mut FreeAreas, step: &Step) -> Answer
+    requires fits { FitsZone rows.now }
+    requires bounded { IsBelowBounds (state_in rows.now) }
+    requires frames { areas.old.frames ≡ rows.now.frames }
+    requires room { rows.now.frames ≤ vec_capacity free.old }
+    ensures allowed { Allows (state_in rows.now) step.now.seat step.now.action result }
+    ensures areas { AreasFor (state_in rows.now) step.now.action areas.new.blocks }
     ensures frames { areas.new.frames ≡ areas.old.frames }
     ensures room { vec_capacity free.new ≡ vec_capacity free.old }
 {
     match &step.action {
         Action::PlaceBlock { group: _, order: _ } => {
             set_areas(rows, free, areas);
-            serve(rows, areas, step)
+            due_answer(rows, areas, step)
         }
-        _ => serve(rows, areas, step),
+        _ => due_answer(rows, areas, step),
     }
 }
 
@@ -87,18 +88,19 @@ fn take_placing(
     requires room { rows.old.frames ≤ vec_capacity free.old }
     ensures accepted { OnOk result (Leads (state_in rows.old) step.now (Placed block.now)
         (state_in rows.new)) }
-    ensures refused { IfErr result (λ expected. Leads (state_in rows.old) step.now expected
-        (state_in rows.new)) }
+    ensures refused { IfErr result (Allows (state_in rows.old) step.now.seat step.now.action) }
     ensures denied { OnErr result (¬ Allows (state_in rows.old) step.now.seat step.now.action
         (Placed block.now)) }
+    ensures unchanged { OnErr result (rows.new ≡ rows.old) }
     ensures fits { FitsZone rows.new }
     ensures frames { areas.new.frames ≡ areas.old.frames }
     ensures room { vec_capacity free.new ≡ vec_capacity free.old }
 {
     if place_at(rows, step, block) {
-        return Ok(());
+        Ok(())
+    } else {
+        Err(due_anew(rows, free, areas, step))
     }
-    Err(serve_anew(rows, free, areas, step))
 }
 
 // Takes a step with the answer in the log, which isn't a placed block.
@@ -117,18 +119,19 @@ fn take_other(
     requires other { ¬ IsPlacing answer.now }
     ensures accepted { OnOk result (Leads (state_in rows.old) step.now answer.now
         (state_in rows.new)) }
-    ensures refused { IfErr result (λ expected. Leads (state_in rows.old) step.now expected
-        (state_in rows.new)) }
+    ensures refused { IfErr result (Allows (state_in rows.old) step.now.seat step.now.action) }
     ensures denied { OnErr result (¬ Allows (state_in rows.old) step.now.seat step.now.action answer.now) }
+    ensures unchanged { OnErr result (rows.new ≡ rows.old) }
     ensures fits { FitsZone rows.new }
     ensures frames { areas.new.frames ≡ areas.old.frames }
     ensures room { vec_capacity free.new ≡ vec_capacity free.old }
 {
-    let expected = serve_anew(rows, free, areas, step);
-    if is_same(&expected, answer) {
-        return Ok(());
+    let due = due_anew(rows, free, areas, step);
+    if !is_same(&due, answer) {
+        return Err(due);
     }
-    Err(expected)
+    serve(rows, areas, step);
+    Ok(())
 }
 
 // Takes a step with the answer in the log.
@@ -146,9 +149,9 @@ fn take(
     requires room { rows.old.frames ≤ vec_capacity free.old }
     ensures accepted { OnOk result (Leads (state_in rows.old) step.now answer.now
         (state_in rows.new)) }
-    ensures refused { IfErr result (λ expected. Leads (state_in rows.old) step.now expected
-        (state_in rows.new)) }
+    ensures refused { IfErr result (Allows (state_in rows.old) step.now.seat step.now.action) }
     ensures denied { OnErr result (¬ Allows (state_in rows.old) step.now.seat step.now.action answer.now) }
+    ensures unchanged { OnErr result (rows.new ≡ rows.old) }
     ensures fits { FitsZone rows.new }
     ensures frames { areas.new.frames ≡ areas.old.frames }
     ensures room { vec_capacity free.new ≡ vec_capacity free.old }
@@ -185,28 +188,43 @@ impl Checker {
         self.steps
     }
 
+    /// What the checker knows of the zone, to be read.
+    pub fn rows(&self) -> &Rows
+        ensures state { state_in result.now ≡ state_shown self.now }
+        ensures fits { FitsZone result.now }
+        ensures bounded { IsBelowBounds (state_in result.now) }
+    {
+        &self.rows
+    }
+
     /// Takes the next step of a log with its answer, if the rules allow it. Otherwise it returns an answer that the
-    /// rules allow, and continues as if the step had been answered so.
+    /// rules allow, and stays as it was.
     ///
     /// A block may be placed on any aligned block of its order whose frames are all free. The checker may take
     /// 2^64 - 1 steps.
     pub fn accept(&mut self, step: &Step, answer: &Answer) -> Result<(), Answer>
         requires { self.old.steps + 1 < 2 ^ 64 }
         ensures accepted { OnOk result (Leads (state_shown self.old) step.now answer.now (state_shown self.new)) }
-        ensures refused { IfErr result (λ expected. Leads (state_shown self.old) step.now expected
-            (state_shown self.new)) }
+        ensures counted { OnOk result (self.new.steps ≡ self.old.steps + 1) }
+        ensures refused { IfErr result (Allows (state_shown self.old) step.now.seat step.now.action) }
         ensures denied { OnErr result (¬ Allows (state_shown self.old) step.now.seat step.now.action answer.now) }
-        ensures steps { self.new.steps ≡ self.old.steps + 1 }
+        ensures unchanged { OnErr result (self.new ≡ self.old) }
     {
         // This call brings in the bound on the pages that a step can ask for.
         let _ = pages_asked(&step.action);
-        self.steps += 1;
-        take(
+        let taken = take(
             &mut self.rows,
             &mut self.free,
             &mut self.areas,
             step,
             answer,
-        )
+        );
+        match taken {
+            Ok(()) => {
+                self.steps += 1;
+                Ok(())
+            }
+            Err(due) => Err(due),
+        }
     }
 }

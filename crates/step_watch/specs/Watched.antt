@@ -61,7 +61,7 @@ abbrev pub steps_taken : Option CoreState → ℕ
 steps_taken None = 0
 steps_taken (Some core) = core.steps
 
--- how many steps the watch took, with the one at which it stopped
+-- how many steps the watch checked and found legal
 abbrev pub steps_seen : KnownWatch → ℕ
 steps_seen watch = steps_taken watch.core
 

@@ -139,7 +139,7 @@ impl Watch {
         self.checker.is_some() && !self.is_on
     }
 
-    /// How many steps the watch checked, with the one at which it stopped.
+    /// How many steps the watch checked and found legal.
     pub fn steps(&self) -> u64
         ensures { result ≡ steps_seen self.now }
     {

@@ -7,7 +7,7 @@ use Rattle.mem_core.proofs.check.check.Goals as goal
 
 pub returns-in-Err-clause-verdict : goal.returns-in-Err-clause-verdict
 returns-in-Err-clause-verdict c =
-    first_illegal (zone_of c.args.config) c.loop-index.checker c.accept.new.self c.args.log.now c.loop-index.index c.index-log-index.result
+    first_illegal (zone_of c.args.config) c.loop-index.checker c.args.log.now c.loop-index.index c.index-log-index.result
     c.in-Err.expected c.loop-index-test.true c.index-log-index.is c.loop-index.invariant c.in-Err.ensures.denied c.in-Err.ensures.refused
 
 pub returns-in-Err-clause-legal : goal.returns-in-Err-clause-legal
@@ -17,7 +17,7 @@ returns-in-Err-clause-legal c =
 pub loop-index-preserved : goal.loop-index-preserved
 loop-index-preserved c =
     follows_on (zone_of c.args.config) c.loop-index.checker c.accept.new.self c.args.log.now c.loop-index.index c.index-log-index.result
-    c.loop-index-test.true c.index-log-index.is c.loop-index.invariant c.in_default.ensures.accepted c.in_default.ensures.steps
+    c.loop-index-test.true c.index-log-index.is c.loop-index.invariant c.in_default.ensures.accepted c.in_default.ensures.counted
 
 pub returns-clause-verdict : goal.returns-clause-verdict
 returns-clause-verdict c =

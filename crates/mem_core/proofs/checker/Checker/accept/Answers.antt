@@ -1,68 +1,60 @@
--- Accepted or not, the step was made with an answer that it may get.
-use Rattle.std.proofs.Common.{◌≡◌, ℕ, ◌+◌, ◌*◌, ◌^◌, ◌<◌, [], sym, ◌∙◌, ap, subst, arith}
-use Rattle.std.specs.Prelude.{IfErr, OnErr, OnOk}
+-- An accepted step was made with its answer. A refused one left the rows as they were.
+use Rattle.std.proofs.Common.{◌≡◌, ℕ, ◌+◌, ◌*◌, ◌^◌, ◌<◌, ◌≤◌, [], sym, ◌∙◌, ap, subst, arith}
 use Rattle.step_rules.specs.State.{Zone, State}
 use Rattle.step_rules.specs.Legal.{Allows}
+use Rattle.core_rows.specs.declared.rows.Rows.{Rows}
 use Rattle.core_rows.specs.Shown as rows
 use Rattle.core_rows.specs.Rooms.{pages_asked}
 use Rattle.core_rows.proofs.Bounding.{IsBounded}
 use Rattle.mem_core.specs.Shown.{CoreState, state_shown}
 use Rattle.mem_core.specs.Checked.{Leads}
-use Rattle.mem_core.specs.Ready.{checker_state}
+use Rattle.mem_core.specs.Inside.{rows_shown}
 use Rattle.mem_core.proofs.Linking.{rows_are, ready}
-use Rattle.mem_core.proofs.Checking.{led, kept}
+use Rattle.mem_core.proofs.Checking.{kept}
 use Rattle.mem_core.proofs.checker.Checker.accept.Goals as goal
 
-pub take-requires-clause-bounded : goal.take-requires-clause-bounded
-take-requires-clause-bounded c =
+pub take-taken-requires-clause-bounded : goal.take-taken-requires-clause-bounded
+take-taken-requires-clause-bounded c =
     let few = c.self.invariant.few in
     ready c.self.inside.rows (c.self.inside.steps * 2 ^ 32) (omega arith) c.self.invariant.fits c.self.invariant.sound c.self.invariant.bounded
 
 pub invariant_of-self : goal.invariant_of-self
 invariant_of-self c =
     let s = rows.state_in c.self.inside.rows in
-    let t = rows.state_in c.take.new.rows in
+    let t = rows.state_in c.take-taken.new.rows in
     let n = c.self.inside.steps in
     let asked : pages_asked c.args.step.now.action < 2 ^ 32 = let a = c.pages_asked.ensures.pages in let b = c.pages_asked.ensures.few in omega arith in
-    let made = led c.take.result s t c.args.step.now c.args.answer.now c.take.ensures.accepted c.take.ensures.refused in
-    let holds = kept (n * 2 ^ 32) s t c.args.step.now made.0 c.self.invariant.sound c.self.invariant.homed c.self.invariant.bounded asked made.1 in
+    let holds = kept (n * 2 ^ 32) s t c.args.step.now c.args.answer.now c.self.invariant.sound c.self.invariant.homed c.self.invariant.bounded asked
+    c.in-Ok.ensures.accepted in
     let count : n * 2 ^ 32 + 2 ^ 32 ≡ (n + 1) * 2 ^ 32 = omega arith in
     let frames : t.zone.frames ≡ s.zone.frames = ap (λ (z : Zone). z.frames) holds.zone in
     record {
-      fits = c.take.ensures.fits;
+      fits = c.take-taken.ensures.fits;
       sound = holds.sound;
       homed = holds.homed;
       bounded = subst (λ (m : ℕ). IsBounded m t) count holds.bounded;
       few = subst (λ (x : CoreState). x.steps + 1 < 2 ^ 64) (sym c.self.view_is) c.requires;
-      frames = c.take.ensures.frames ∙ c.self.invariant.frames ∙ sym frames;
-      room = let a = c.take.ensures.room in let b = c.self.invariant.room in omega arith;
+      frames = c.take-taken.ensures.frames ∙ c.self.invariant.frames ∙ sym frames;
+      room = let a = c.take-taken.ensures.room in let b = c.self.invariant.room in omega arith;
     }
 
--- what the checker shows is what its rows show, before and after
-before : (c : goal.After-take) → rows.state_in c.self.inside.rows ≡ state_shown c.args.self.now
-before c = sym (rows_are c.self.inside.rows [] [] c.self.inside.steps) ∙ ap state_shown c.self.view_is
+-- what a checker shows is what its rows show
+shown_by : (r : Rows) (steps : ℕ) (shown : CoreState) → rows_shown r [] [] steps ≡ shown → rows.state_in r ≡ state_shown shown
+shown_by r steps shown is = sym (rows_are r [] [] steps) ∙ ap state_shown is
 
-later : (c : goal.After-take) → rows.state_in c.take.new.rows ≡ state_shown (checker_state (record {
-  rows = c.take.new.rows;
-  free = c.take.new.free;
-  areas = c.take.new.areas;
-  steps = c.self.inside.steps + 1;
-}))
-later c = sym (rows_are c.take.new.rows [] [] (c.self.inside.steps + 1))
+pub returns-in-Ok-clause-accepted : goal.returns-in-Ok-clause-accepted
+returns-in-Ok-clause-accepted c =
+    subst (λ (t : State). Leads (state_shown c.args.self.now) c.args.step.now c.args.answer.now t)
+    (sym (rows_are c.take-taken.new.rows [] [] (c.self.inside.steps + 1)))
+    (subst (λ (s : State). Leads s c.args.step.now c.args.answer.now (rows.state_in c.take-taken.new.rows))
+    (shown_by c.self.inside.rows c.self.inside.steps c.args.self.now c.self.view_is) c.in-Ok.ensures.accepted)
 
-pub returns-clause-accepted : goal.returns-clause-accepted
-returns-clause-accepted c =
-    subst (λ (t : State). OnOk c.take.result (Leads (state_shown c.args.self.now) c.args.step.now c.args.answer.now t)) (later c)
-    (subst (λ (s : State). OnOk c.take.result (Leads s c.args.step.now c.args.answer.now (rows.state_in c.take.new.rows))) (before c)
-    c.take.ensures.accepted)
+pub returns-in-Err-clause-refused : goal.returns-in-Err-clause-refused
+returns-in-Err-clause-refused c =
+    subst (λ (s : State). Allows s c.args.step.now.seat c.args.step.now.action c.in-Err.due)
+    (shown_by c.self.inside.rows c.self.inside.steps c.args.self.now c.self.view_is) c.in-Err.ensures.refused
 
-pub returns-clause-refused : goal.returns-clause-refused
-returns-clause-refused c =
-    subst (λ (t : State). IfErr c.take.result (λ expected. Leads (state_shown c.args.self.now) c.args.step.now expected t)) (later c)
-    (subst (λ (s : State). IfErr c.take.result (λ expected. Leads s c.args.step.now expected (rows.state_in c.take.new.rows))) (before c)
-    c.take.ensures.refused)
-
-pub returns-clause-denied : goal.returns-clause-denied
-returns-clause-denied c =
-    subst (λ (s : State). OnErr c.take.result (¬ Allows s c.args.step.now.seat c.args.step.now.action c.args.answer.now)) (before c)
-    c.take.ensures.denied
+pub returns-in-Err-clause-denied : goal.returns-in-Err-clause-denied
+returns-in-Err-clause-denied c =
+    subst (λ (s : State). ¬ Allows s c.args.step.now.seat c.args.step.now.action c.args.answer.now)
+    (shown_by c.self.inside.rows c.self.inside.steps c.args.self.now c.self.view_is) c.in-Err.ensures.denied
