@@ -1,9 +1,11 @@
 mod Alike
 mod Causes
 mod Commands
+mod Judging
 mod KindPlaces
 mod LinePlaces
 mod Pieces
 mod Progress
+mod Refusing
 mod Splits
 mod Spots

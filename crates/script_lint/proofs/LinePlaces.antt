@@ -79,7 +79,7 @@ other_byte : (b : ℕ) (bs : List ℕ) → b ≢ 103 → is_go (b ∷ bs) ≡ fa
 other_byte b bs other = rw (ne_eqb b 103 other) refl
 
 -- no request is `go`
-request_not_go : (sizes : Config) (text : List ℕ) → IsRequest sizes text → is_go text ≡ false
+pub request_not_go : (sizes : Config) (text : List ℕ) → IsRequest sizes text → is_go text ≡ false
 request_not_go sizes [] is = refl
 request_not_go sizes (b ∷ bs) is =
     let digit = begins_with_digit sizes b bs is in

@@ -20,12 +20,6 @@ pub follow : {T E : Type 0} (r : Result T E) (old a b z s t u : List ℕ) → s 
     → IfOk r (λ x. u ≡ old ++ (a ++ (b ++ z)))
 follow r old a b z s t u one two last = behind r old a (b ++ z) s u one (behind r s b z t u two last)
 
--- three pieces
-pub three : (old a b z s t u : List ℕ) → s ≡ old ++ a → t ≡ s ++ b → u ≡ t ++ z → u ≡ old ++ (a ++ (b ++ z))
-three old a b z s t u one two last =
-    last ∙ ap (λ (l : List ℕ). l ++ z) (two ∙ ap (λ (l : List ℕ). l ++ b) one ∙ append_assoc old a b)
-    ∙ append_assoc old (a ++ b) z ∙ ap (λ (l : List ℕ). old ++ l) (append_assoc a b z)
-
 -- the line about the sizes
 pub sizes_default : (sizes : Config) → sizes.high < sizes.batch → sizes.high ≡ 8 → sizes_text sizes ≡ default_text sizes.high sizes.batch
 sizes_default sizes less is = go (nat_lt sizes.high sizes.batch) (eqb sizes.high 8) refl refl

@@ -7,12 +7,12 @@ use Rattle.zone_sizes.specs.declared.config.Config.{Config}
 use Rattle.script_lint.specs.Causes.{byte_at, cause_at, is_between_words, is_double_space, is_printable}
 use Rattle.script_lint.specs.Causes.{is_number_out_of_range, is_unknown_command}
 use Rattle.script_lint.specs.Causes.{is_no_cpu, later_cause_at, is_frame_out_of_zone, is_group_out_of_range}
-use Rattle.script_lint.specs.Causes.{is_cpu_out_of_range}
+use Rattle.script_lint.specs.Causes.{is_cpu_out_of_range, is_late_comment}
 use Rattle.script_lint.specs.Continuation.{GoesOn, IsStuck}
 use Rattle.script_lint.specs.Lines.{IsCause, IsGoodHere, IsSpot, stuck_spot, whole_spot}
 use Rattle.script_lint.specs.Shapes.{IsGoodText}
 use Rattle.script_lint.specs.declared.finding.Cause.{Cause}
-use Rattle.script_lint.specs.declared.finding.Cause.TheVariants.{NoCpu, CpuOutOfRange, UnknownCommand, TooFewWords}
+use Rattle.script_lint.specs.declared.finding.Cause.TheVariants.{LateComment, NoCpu, CpuOutOfRange, UnknownCommand, TooFewWords}
 use Rattle.script_lint.specs.declared.finding.Cause.TheVariants.{TooManyWords, TwoSpaces, SpaceAtEnd, Tab, CarriageReturn}
 use Rattle.script_lint.specs.declared.finding.Cause.TheVariants.{NumberOutOfRange, FrameOutOfZone, GroupOutOfRange, UnprintableByte}
 use Rattle.script_lint.specs.declared.finding.Cause.TheVariants.{InputTooLong, LineTooLong, SecondGo}
@@ -42,20 +42,21 @@ later_local text place =
     later_of (byte_at text place == 32) (byte_at text place == 9) (byte_at text place == 13) (is_number_out_of_range text place)
     (is_frame_out_of_zone text place) (is_group_out_of_range text place) (not (is_printable (byte_at text place)))
 
-first_of : (a b c d e f : Bool) (later : Cause) → IsLocal later
-    → IsLocal (if a then NoCpu else if b then CpuOutOfRange else if c then UnknownCommand else if d then TooFewWords
-    else if e then TooManyWords else if f then TwoSpaces else later)
-first_of true b c d e f later is = tt
-first_of false true c d e f later is = tt
-first_of false false true d e f later is = tt
-first_of false false false true e f later is = tt
-first_of false false false false true f later is = tt
-first_of false false false false false true later is = tt
-first_of false false false false false false later is = is
+first_of : (z a b c d e f : Bool) (later : Cause) → IsLocal later
+    → IsLocal (if z then LateComment else if a then NoCpu else if b then CpuOutOfRange else if c then UnknownCommand
+    else if d then TooFewWords else if e then TooManyWords else if f then TwoSpaces else later)
+first_of true a b c d e f later is = tt
+first_of false true b c d e f later is = tt
+first_of false false true c d e f later is = tt
+first_of false false false true d e f later is = tt
+first_of false false false false true e f later is = tt
+first_of false false false false false true f later is = tt
+first_of false false false false false false true later is = tt
+first_of false false false false false false false later is = is
 
 cause_local : (text : List ℕ) (place : ℕ) → IsLocal (cause_at text place)
 cause_local text place =
-    first_of (is_no_cpu text place) (is_cpu_out_of_range text place) (is_unknown_command text place) (byte_at text place == 10)
+    first_of (is_late_comment text place) (is_no_cpu text place) (is_cpu_out_of_range text place) (is_unknown_command text place) (byte_at text place == 10)
     (is_between_words text place) (is_double_space text place) (later_cause_at text place) (later_local text place)
 
 is_cause : (sizes : Config) (had_go : Bool) (Within : Type 0) (text : List ℕ) (place : ℕ) (cause : Cause) → IsLocal cause

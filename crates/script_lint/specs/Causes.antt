@@ -1,7 +1,7 @@
 -- Why no good line goes on at some place of a line: each cause as a test of the line's text and the place.
 use Rattle.std.specs.Prelude.{ℕ, zero, suc, ◌+◌, ◌-◌, Bool, true, not, ◌&&◌, ◌||◌, ◌==◌, List, [], ◌∷◌, codes, count_by}
-use Rattle.std.specs.Prelude.{if◌then◌else◌, nat_eq, nat_lt, slice_get, take, Option, None, Some}
-use Rattle.std.specs.List.{list_any}
+use Rattle.std.specs.Prelude.{if◌then◌else◌, drop, nat_eq, nat_lt, slice_get, take, Option, None, Some}
+use Rattle.std.specs.List.{find, list_any}
 use Rattle.std.specs.Cmp.Lexicographic.{pointwise}
 use Rattle.script_lines.specs.Script.{is_go}
 use Rattle.script_lines.specs.Verb.{name_of}
@@ -10,7 +10,7 @@ use Rattle.script_lines.specs.declared.verb.Verb.TheVariants.{Mkdir, Rmdir, Writ
 use Rattle.script_lines.specs.declared.verb.Verb.TheVariants.{Settle, Touch, Dirty, Clean, Owner, Blocks, Show, Stock}
 use Rattle.script_lines.specs.declared.verb.Verb.TheVariants.{Units}
 use Rattle.script_lint.specs.declared.finding.Cause.{Cause}
-use Rattle.script_lint.specs.declared.finding.Cause.TheVariants.{NoCpu, CpuOutOfRange, UnknownCommand}
+use Rattle.script_lint.specs.declared.finding.Cause.TheVariants.{LateComment, NoCpu, CpuOutOfRange, UnknownCommand}
 use Rattle.script_lint.specs.declared.finding.Cause.TheVariants.{TooFewWords, TooManyWords, TwoSpaces, SpaceAtEnd, Tab}
 use Rattle.script_lint.specs.declared.finding.Cause.TheVariants.{CarriageReturn, NumberOutOfRange, FrameOutOfZone}
 use Rattle.script_lint.specs.declared.finding.Cause.TheVariants.{GroupOutOfRange, UnprintableByte, SecondGo}
@@ -67,7 +67,15 @@ is_printable b = nat_lt 32 b && nat_lt b 127
 abbrev pub is_gap : ℕ → Bool
 is_gap b = b == 32 || b == 9 || b == 13 || b == 10
 
+-- a space or a tab
+abbrev pub is_blank : ℕ → Bool
+is_blank b = b == 32 || b == 9
+
 -- ---- the causes
+
+-- a comment follows, behind spaces and tabs or none
+abbrev pub is_late_comment : List ℕ → ℕ → Bool
+is_late_comment text place = or_feed (find (λ b. not (is_blank b)) (drop place text)) == 35
 
 -- the first word isn't a number: a byte of it is neither a digit nor one of those that have causes of their own
 abbrev pub is_no_cpu : List ℕ → ℕ → Bool
@@ -144,7 +152,8 @@ later_cause_at text place =
 -- the first cause that holds at the place
 abbrev pub cause_at : List ℕ → ℕ → Cause
 cause_at text place =
-    if is_no_cpu text place then NoCpu
+    if is_late_comment text place then LateComment
+    else if is_no_cpu text place then NoCpu
     else if is_cpu_out_of_range text place then CpuOutOfRange
     else if is_unknown_command text place then UnknownCommand
     else if byte_at text place == 10 then TooFewWords

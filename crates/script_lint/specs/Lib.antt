@@ -1,8 +1,11 @@
 pub mod Causes
 pub mod Continuation
 pub mod Findings
+pub mod Forms
 pub mod Lines
 pub mod Names
+pub mod Refusals
+pub mod Refused
 pub mod Script
 pub mod Shapes
 pub mod Texts

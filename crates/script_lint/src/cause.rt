@@ -1,12 +1,14 @@
 //! Why no good line goes on at some place.
 
-ghost use Rattle.std.specs.Prelude.{◌≡◌, ◌≤◌, length};
+ghost use Rattle.std.specs.Prelude.{◌≡◌, ◌≤◌, length, not};
+ghost use Rattle.std.specs.List.{find};
 ghost use Rattle.script_lint.specs.Causes.{after_space, byte_at, byte_before, cause_at, is_between_words};
 ghost use Rattle.script_lint.specs.Causes.{is_digit, is_double_space, is_gap};
 ghost use Rattle.script_lint.specs.Causes.{is_known, is_line_of, is_printable, later_cause_at};
 ghost use Rattle.script_lint.specs.Causes.{is_unknown_command, is_number_out_of_range, is_no_cpu, is_frame_out_of_zone};
 ghost use Rattle.script_lint.specs.Causes.{is_group_out_of_range};
 ghost use Rattle.script_lint.specs.Causes.{is_cpu_out_of_range, spaces_before, until_space, word_at, word_behind};
+ghost use Rattle.script_lint.specs.Causes.{is_blank, is_late_comment};
 
 use crate::command::{VERBS, name_of};
 use crate::finding::Cause;
@@ -17,7 +19,9 @@ pub(crate) fn cause_of(text: &[u8], place: usize) -> Cause
     requires { place ≤ length text.now }
     ensures { result ≡ cause_at text.now place }
 {
-    if is_no_cpu(text, place) {
+    if is_late_comment(text, place) {
+        Cause::LateComment
+    } else if is_no_cpu(text, place) {
         Cause::NoCpu
     } else if is_cpu_out_of_range(text, place) {
         Cause::CpuOutOfRange
@@ -109,7 +113,7 @@ fn until_space(text: &[u8]) -> &[u8]
 }
 
 // The word behind so many spaces.
-fn word_behind(spaces: usize, text: &[u8]) -> &[u8]
+pub(crate) fn word_behind(spaces: usize, text: &[u8]) -> &[u8]
     ensures { result.now ≡ word_behind spaces text.now }
 {
     let mut rest = text;
@@ -148,6 +152,31 @@ fn is_gap(byte: u8) -> bool
     ensures { result ≡ is_gap byte }
 {
     byte == 32 || byte == 9 || byte == 13 || byte == 10
+}
+
+// A space or a tab.
+fn is_blank(byte: u8) -> bool
+    ensures { result ≡ is_blank byte }
+{
+    byte == b' ' || byte == b'\t'
+}
+
+// The first byte that isn't blank.
+fn first_unblank(text: &[u8]) -> Option<u8>
+    ensures { result ≡ find (λ b. not (is_blank b)) text.now }
+{
+    text.iter().copied().find(|byte| !is_blank(*byte))
+}
+
+// Whether a comment follows, behind spaces and tabs or none.
+fn is_late_comment(text: &[u8], place: usize) -> bool
+    requires { place ≤ length text.now }
+    ensures { result ≡ is_late_comment text.now place }
+{
+    match first_unblank(&text[place..]) {
+        Some(byte) => byte == b'#',
+        None => false,
+    }
 }
 
 // Whether the first word isn't a number.

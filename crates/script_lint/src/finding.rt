@@ -5,6 +5,8 @@ use script_lines::verb::Verb;
 /// Why no good line goes on at some byte. The first that holds there is found, in this order.
 #[derive(Clone, Copy, PartialEq, Eq)]
 pub enum Cause {
+    /// A comment doesn't begin the line.
+    LateComment,
     /// The line doesn't begin with the number of a CPU, and isn't `go`.
     NoCpu,
     /// There is no CPU of this number.

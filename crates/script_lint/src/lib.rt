@@ -1,18 +1,23 @@
 //! Why the lines of a script are bad: every bad line, the byte from which on no good line goes on, and the cause there.
+//! And which good lines are refused, whatever groups there are.
 #![tactic(auto)]
 
 mod cause;
 mod command;
 pub mod finding;
+mod form;
 mod line;
 mod near;
 mod number;
 mod path;
+pub mod refusal;
+pub mod refused;
 mod request;
 mod script;
 pub mod shape;
 mod start;
 mod text;
 
+pub use refused::{refused_lines, write_refused};
 pub use script::{lint_script, lint_text};
 pub use text::{write_cause, write_findings, write_sizes};

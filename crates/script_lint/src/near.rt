@@ -6,13 +6,17 @@ use std::alloc::{AllocError, Global};
 use std::str;
 use strsim::osa_distance;
 
-// The command whose name the word is within one letter of (left out, added, changed, or swapped with its neighbour), if
-// there is exactly one. It fails only if memory runs out. What is near is up to `strsim`: no clause speaks of it.
+// The command whose name the word is but for the case of letters, or within one letter of (left out, added, changed
+// behind the first one, or swapped with its neighbour), if there is exactly one. It fails only if memory runs out. What
+// is near is up to `strsim`: no clause speaks of it.
 pub(crate) fn near_verb(alloc: Global, word: &[u8]) -> Result<Option<Verb>, AllocError> {
     let mut near = None;
     if let Ok(name) = str::from_utf8(word) {
         for verb in VERBS {
-            if osa_distance(alloc, name, name_of(verb))? <= 1 {
+            if name.eq_ignore_ascii_case(name_of(verb)) {
+                return Ok(Some(verb));
+            }
+            if osa_distance(alloc, name, name_of(verb))? <= 1 && !is_another(word, name_of(verb)) {
                 if near.is_some() {
                     return Ok(None);
                 }
@@ -21,4 +25,14 @@ pub(crate) fn near_verb(alloc: Global, word: &[u8]) -> Result<Option<Verb>, Allo
         }
     }
     Ok(near)
+}
+
+// Whether a word of as many letters as the name has another first letter: `set` isn't meant as `get`.
+fn is_another(word: &[u8], name: &str) -> bool {
+    match (word, name.as_bytes()) {
+        ([first, ..], [own, next, ..]) => {
+            word.len() == name.len() && first != own && first != next
+        }
+        _ => false,
+    }
 }

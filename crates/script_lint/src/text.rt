@@ -1,6 +1,6 @@
 //! What is written for what is found.
 
-ghost use Rattle.std.specs.Prelude.{◌≡◌, ◌++◌, All, IfOk, Some};
+ghost use Rattle.std.specs.Prelude.{◌≡◌, ◌++◌, All, IfOk, None, Some};
 ghost use Rattle.std.specs.List.{flat_map};
 ghost use Rattle.std.specs.String.{string_bytes};
 ghost use Rattle.zone_sizes.specs.declared.config.Config.{Config};
@@ -8,11 +8,13 @@ ghost use Rattle.script_lint.specs.Texts.{IsInside, cause_text, cpus_text, defau
 ghost use Rattle.script_lint.specs.Texts.{given_text, near_text, shown, sizes_text, word_text};
 ghost use Rattle.script_lint.specs.declared.finding.Cause.TheVariants.{CarriageReturn, FrameOutOfZone, GroupOutOfRange};
 ghost use Rattle.script_lint.specs.declared.finding.Cause.TheVariants.{NumberOutOfRange, CpuOutOfRange};
+ghost use Rattle.script_lint.specs.declared.finding.Cause.TheVariants.{TooFewWords, TooManyWords};
 ghost use Rattle.script_lint.specs.declared.finding.Cause.TheVariants.{UnknownCommand, UnprintableByte};
 
 use crate::cause::{byte_at, is_printable, word_at};
 use crate::command::name_of;
 use crate::finding::{Cause, Finding};
+use crate::form::form_of;
 use script_lines::verb::Verb;
 use std::alloc::AllocError;
 use zone_sizes::config::Config;
@@ -96,11 +98,12 @@ pub fn write_cause(
         ≡ string_bytes text.old ++ cause_text sizes.now finding.now finding.now.spot.cause) }
 {
     match finding.spot.cause {
+        Cause::LateComment => text.push_str("a comment is a line that begins with #"),
         Cause::NoCpu => text.push_str("no CPU's number: a line is P COMMAND or go"),
         Cause::CpuOutOfRange => write_cpu(finding, sizes, text),
         Cause::UnknownCommand => write_unknown(finding, text),
-        Cause::TooFewWords => text.push_str("too few words"),
-        Cause::TooManyWords => text.push_str("too many words"),
+        Cause::TooFewWords => write_few(finding, text),
+        Cause::TooManyWords => write_many(finding, text),
         Cause::TwoSpaces => text.push_str("two spaces"),
         Cause::SpaceAtEnd => text.push_str("space at an end of the line"),
         Cause::Tab => text.push_str("tab"),
@@ -159,8 +162,33 @@ fn write_unknown(finding: &Finding<'_>, text: &mut String) -> Result<(), AllocEr
     text.push_str("'")?;
     match finding.near {
         Some(verb) => write_near(verb, text),
-        None => Ok(()),
+        None => write_commands(text),
     }
+}
+
+fn write_commands(text: &mut String) -> Result<(), AllocError>
+    ensures { IfOk result (λ _. string_bytes text.new ≡ string_bytes text.old ++ near_text None) }
+{
+    text.push_str(
+        "; commands are mkdir, rmdir, write, read, alloc, fast, release, get, put, settle, touch, dirty, \
+        clean, owner, blocks, show, stock, units, and go without a CPU",
+    )
+}
+
+fn write_few(finding: &Finding<'_>, text: &mut String) -> Result<(), AllocError>
+    ensures { (sizes : Config) → IfOk result (λ _. string_bytes text.new
+        ≡ string_bytes text.old ++ cause_text sizes finding.now TooFewWords) }
+{
+    text.push_str("too few words: ")?;
+    text.push_str(form_of(finding.text))
+}
+
+fn write_many(finding: &Finding<'_>, text: &mut String) -> Result<(), AllocError>
+    ensures { (sizes : Config) → IfOk result (λ _. string_bytes text.new
+        ≡ string_bytes text.old ++ cause_text sizes finding.now TooManyWords) }
+{
+    text.push_str("too many words: ")?;
+    text.push_str(form_of(finding.text))
 }
 
 // The command that may be meant.
@@ -191,7 +219,8 @@ fn write_number(finding: &Finding<'_>, text: &mut String) -> Result<(), AllocErr
 {
     text.push_str("'")?;
     push_word(finding, text)?;
-    text.push_str("' isn't a number from 0 to 4294967295")
+    text.push_str("' isn't a number from 0 to 4294967295: ")?;
+    text.push_str(form_of(finding.text))
 }
 
 fn write_frame(finding: &Finding<'_>, sizes: &Config, text: &mut String) -> Result<(), AllocError>

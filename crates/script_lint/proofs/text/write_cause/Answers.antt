@@ -19,10 +19,13 @@ pub returns-in-UnprintableByte : goal.returns-in-UnprintableByte
 returns-in-UnprintableByte c = rw c.in-UnprintableByte.is (c.write_byte.ensures c.args.sizes.now)
 
 pub returns-in-TooFewWords : goal.returns-in-TooFewWords
-returns-in-TooFewWords c = rw c.in-TooFewWords.is (told c.push_str-in-TooFewWords.result (string_bytes c.args.text.now) (codes "too few words") _ c.push_str-in-TooFewWords.ensures.bytes)
+returns-in-TooFewWords c = rw c.in-TooFewWords.is (c.write_few.ensures c.args.sizes.now)
 
 pub returns-in-TooManyWords : goal.returns-in-TooManyWords
-returns-in-TooManyWords c = rw c.in-TooManyWords.is (told c.push_str-in-TooManyWords.result (string_bytes c.args.text.now) (codes "too many words") _ c.push_str-in-TooManyWords.ensures.bytes)
+returns-in-TooManyWords c = rw c.in-TooManyWords.is (c.write_many.ensures c.args.sizes.now)
+
+pub returns-in-LateComment : goal.returns-in-LateComment
+returns-in-LateComment c = rw c.in-LateComment.is (told c.push_str.result (string_bytes c.args.text.now) (codes "a comment is a line that begins with #") _ c.push_str.ensures.bytes)
 
 pub returns-in-SpaceAtEnd : goal.returns-in-SpaceAtEnd
 returns-in-SpaceAtEnd c = rw c.in-SpaceAtEnd.is (told c.push_str-in-SpaceAtEnd.result (string_bytes c.args.text.now) (codes "space at an end of the line") _ c.push_str-in-SpaceAtEnd.ensures.bytes)

@@ -1,0 +1,115 @@
+-- Why a command is refused, whatever groups there are and whatever they use.
+use Rattle.std.specs.Prelude.{◌≡◌, ◌≢◌, ◌⊎◌, ℕ, ◌<◌, ◌≤◌, Bool, true, false, Option, None, Some, List, ◌||◌, codes, length}
+use Rattle.std.specs.Prelude.{nat_eq}
+use Rattle.std.specs.List.{starts_with}
+use Rattle.std.specs.Str.{bytes_eq}
+use Rattle.zone_sizes.specs.declared.config.Config.{Config}
+use Rattle.control_files.specs.Files.{is_readable, is_writable, name_of}
+use Rattle.control_files.specs.Flag.{IsNoFlagText}
+use Rattle.control_files.specs.Limit.{IsNoAmountText, IsNoLimitText, IsTooGreat}
+use Rattle.control_files.specs.declared.file.File.{File}
+use Rattle.control_files.specs.declared.file.File.TheVariants.{Max, OomGroup, Reclaim}
+use Rattle.script_lines.specs.Script.{IsRequestText, longest_line}
+use Rattle.script_lines.specs.declared.line.Command.{Command}
+use Rattle.script_lines.specs.declared.line.Command.TheVariants.{Read, Write, Alloc}
+use Rattle.script_lint.specs.declared.refusal.Refusal.{Refusal}
+use Rattle.script_lint.specs.declared.refusal.Refusal.TheVariants.{OrderTooGreat, NotModelled, NoFile, FileOfRoot, WriteOnly}
+use Rattle.script_lint.specs.declared.refusal.Refusal.TheVariants.{ReadOnly, NoLimit, NoAmount, NoFlag, TooGreat}
+
+-- memory.high, and the protections
+abbrev pub is_soft_limit : List ℕ → Bool
+is_soft_limit name =
+    bytes_eq name (codes "memory.high") || bytes_eq name (codes "memory.low") || bytes_eq name (codes "memory.min")
+
+-- what only shows how memory is used
+abbrev pub is_statistic : List ℕ → Bool
+is_statistic name =
+    bytes_eq name (codes "memory.stat") || bytes_eq name (codes "memory.numa_stat")
+    || bytes_eq name (codes "memory.pressure")
+
+-- a name as that of a file about swap
+abbrev pub is_of_swap : List ℕ → Bool
+is_of_swap name = starts_with nat_eq name (codes "memory.swap.") || starts_with nat_eq name (codes "memory.zswap.")
+
+-- cgroup v2 has a file of this name, and no group has it here
+abbrev pub is_unmodelled : List ℕ → Bool
+is_unmodelled name = is_soft_limit name || is_statistic name || is_of_swap name
+
+-- no group has a file of this name
+abbrev pub IsNoFileName : List ℕ → Type 0
+IsNoFileName name = (file : File) → name ≢ name_of file
+
+-- why there is no such file: no group has one of this name, or the path is the root's, which has no files
+abbrev pub LacksFile : (path name : List ℕ) → Refusal → Type 0
+LacksFile path name NotModelled = IsNoFileName name × (is_unmodelled name ≡ true)
+LacksFile path name NoFile = IsNoFileName name × (is_unmodelled name ≡ false)
+LacksFile path name FileOfRoot = path ≡ codes "/"
+LacksFile path name other = ⊥
+
+-- the file of this name is the only one, and a group that has the path has it
+pub record HasFile (path name : List ℕ) (file : File) : Type 0 where
+  pub named : name ≡ name_of file
+  pub only : (other : File) → name ≡ name_of other → other ≡ file
+  pub there : (why : Refusal) → ¬ LacksFile path name why
+
+-- the file doesn't take this value, or none
+abbrev pub RefusesValue : File → (value : List ℕ) → Refusal → Type 0
+RefusesValue file value ReadOnly = is_writable file ≡ false
+RefusesValue Max value NoLimit = IsNoLimitText value
+RefusesValue Max value TooGreat = IsTooGreat value
+RefusesValue Reclaim value NoAmount = IsNoAmountText value
+RefusesValue Reclaim value TooGreat = IsTooGreat value
+RefusesValue OomGroup value NoFlag = IsNoFlagText value
+RefusesValue file value other = ⊥
+
+-- the file can't be read
+abbrev pub RefusesRead : File → Refusal → Type 0
+RefusesRead file WriteOnly = is_readable file ≡ false
+RefusesRead file other = ⊥
+
+-- a file of this name does this
+abbrev pub OfFile : List ℕ → (File → Type 0) → Type 0
+OfFile name Does = (file : File) × (name ≡ name_of file) × Does file
+
+-- why the file of the path can't be read
+abbrev pub RefusesReadOf : (path name : List ℕ) → Refusal → Type 0
+RefusesReadOf path name why = LacksFile path name why ⊎ OfFile name (λ file. RefusesRead file why)
+
+-- why the value can't be written to the file of the path
+abbrev pub RefusesWriteOf : (path name value : List ℕ) → Refusal → Type 0
+RefusesWriteOf path name value why = LacksFile path name why ⊎ OfFile name (λ file. RefusesValue file value why)
+
+-- the order is above that of the greatest blocks
+abbrev pub RefusesOrder : ℕ → Refusal → Type 0
+RefusesOrder order OrderTooGreat = 10 < order
+RefusesOrder order other = ⊥
+
+-- why the command is refused, in every state
+abbrev pub IsRefused : Command → Refusal → Type 0
+IsRefused (Alloc path order) why = RefusesOrder order why
+IsRefused (Read path file) why = RefusesReadOf path.now file.now why
+IsRefused (Write path file value) why = RefusesWriteOf path.now file.now value.now why
+IsRefused other why = ⊥
+
+-- one of these reasons is known to hold, or that none does
+abbrev pub IsJudged : (Refusal → Type 0) → Option Refusal → Type 0
+IsJudged Refuses (Some why) = Refuses why
+IsJudged Refuses None = (why : Refusal) → ¬ Refuses why
+
+-- the text of a line is `P COMMAND`, and this is known of the command
+pub record IsJudgedRequest (sizes : Config) (text : List ℕ) (judged : Option Refusal) : Type 0 where
+  pub cpu : ℕ
+  pub command : Command
+  pub is_text : IsRequestText sizes cpu command text
+  pub short : length text ≤ longest_line
+  pub judges : IsJudged (IsRefused command) judged
+
+-- the text asks for nothing that a CPU could do: it is no `P COMMAND`, or is too long
+abbrev pub AsksNothing : Config → List ℕ → Type 0
+AsksNothing sizes text =
+    (longest_line < length text) ⊎ ((cpu : ℕ) (command : Command) → ¬ IsRequestText sizes cpu command text)
+
+-- the text of a line is a command that is refused for this reason; or it isn't
+abbrev pub IsJudgedText : Config → List ℕ → Option Refusal → Type 0
+IsJudgedText sizes text (Some why) = IsJudgedRequest sizes text (Some why)
+IsJudgedText sizes text None = AsksNothing sizes text ⊎ IsJudgedRequest sizes text None
