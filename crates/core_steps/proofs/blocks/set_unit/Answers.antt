@@ -30,5 +30,6 @@ returns-clause-state c =
     let range : c.set_range.new.phases ≡ ranged xs b.at (2 ^ b.order) (Tail g) = c.set_range.ensures
     ∙ ap (λ k. ranged xs b.at k (Tail g)) c.frames.ensures.frames in
     let shown : List Phase → ℕ → Phase = λ ys m. get_or (set ys b.at (Head (record { group = g; order = b.order }) Bare)) m InZone in
-    let phases = ap (λ (ys : List Phase) (m : ℕ). get_or ys m InZone) c.set.ensures ∙ ap shown range ∙ block_phases xs g b inside in
+    let at_each : List Phase → ℕ → Phase = λ ys m. get_or ys m InZone in
+    let phases = ap at_each c.set.ensures ∙ ap shown range ∙ block_phases xs g b inside in
     λ i. record s { phases = phases i }
