@@ -1,5 +1,5 @@
 -- One phase more.
-use Rattle.std.proofs.Common.{◌≡◌, ℕ, ◌+◌, ◌-◌, ◌<◌, ◌≤◌, length, set, sym, ◌∙◌, ap, arith}
+use Rattle.std.proofs.Common.{◌≡◌, ℕ, ◌+◌, ◌-◌, ◌<◌, ◌≤◌, length, set, ◌∙◌, ap, arith}
 use Rattle.core_steps.proofs.Ranges.{length-ranged, ranged, ranged_more, ranged_none}
 use Rattle.core_steps.proofs.blocks.set_range.Goals as goal
 
