@@ -1,6 +1,6 @@
 -- Phases of which a range was set (for `Rows::set_unit` and `Rows::free_unit`).
 use Rattle.std.proofs.Common.{◌≡◌, ℕ, ◌+◌, ◌-◌, ◌^◌, ◌<◌, ◌≤◌, ◌==◌, Bool, true, false, List, ◌++◌, length, take, drop, replicate, get_or}
-use Rattle.std.proofs.Common.{set, refl, sym, ◌∙◌, ap, arith, inl, inr, ◌⊎◌, cond, suc, [], ◌∷◌, append_assoc}
+use Rattle.std.proofs.Common.{set, refl, sym, ◌∙◌, ap, arith, inl, inr, ◌⊎◌, cond, suc, [], ◌∷◌, append_assoc, append-nil}
 use Rattle.std.proofs.Math.Seq.{drop-cons, set-append_seam}
 use Rattle.std.specs.Prelude.{if◌then◌else◌, min}
 use Rattle.step_rules.specs.State.{Zone, free_in}
@@ -54,20 +54,21 @@ ranged_more xs at n x here =
     let front = length-take-le at xs (omega arith) in
     let len : length (take at xs ++ replicate n x) ≡ at + n = grind (arith, common_steps) in
     let rest = drop-cons xs (at + n) x here in
-    let split : ranged xs at n x ≡ (take at xs ++ replicate n x) ++ get_or xs (at + n) x ∷ drop (suc (at + n)) xs =
-    sym (append_assoc (take at xs) (replicate n x) (drop (at + n) xs)) ∙ ap (λ l. (take at xs ++ replicate n x) ++ l) rest in
     let seam = set-append_seam (take at xs ++ replicate n x) (get_or xs (at + n) x) (drop (suc (at + n)) xs) x in
-    (λ i. set (split i) (sym len i) x)
+    let last : (take at xs ++ replicate n x) ++ x ∷ [] ≡ take at xs ++ replicate (n + 1) x = append_assoc (take at xs) (replicate n x) (x ∷ [])
+    ∙ ap (λ l. take at xs ++ l) (replicate-append-replicate n 1 x) in
+    (λ i. set ((take at xs ++ replicate n x) ++ rest i) (sym len i) x)
     ∙ seam
-    ∙ append_assoc (take at xs) (replicate n x) (x ∷ drop (suc (at + n)) xs)
-    ∙ ap (λ l. take at xs ++ l) (sym (append_assoc (replicate n x) (x ∷ []) (drop (suc (at + n)) xs)))
-    ∙ (λ i. take at xs ++ replicate-append-replicate n 1 x i ++ drop (suc_is i) xs)
+    ∙ sym (append_assoc (take at xs ++ replicate n x) (x ∷ []) (drop (suc (at + n)) xs))
+    ∙ (λ i. last i ++ drop (suc_is i) xs)
   where
     suc_is : suc (at + n) ≡ at + (n + 1)
     suc_is = omega arith
 
 pub ranged_none : {X : Type 0} (xs : List X) (at : ℕ) (x : X) → xs ≡ ranged xs at 0 x
-ranged_none xs at x = sym (take-append-drop at xs) ∙ ap (λ k. take at xs ++ drop k xs) (let e : at ≡ at + 0 = omega arith in e)
+ranged_none xs at x =
+    let none : at ≡ at + 0 = omega arith in
+    sym (take-append-drop at xs) ∙ (λ i. sym (append-nil (take at xs)) i ++ drop (none i) xs)
 
 within_in : (at n m : ℕ) → at ≤ m → m < at + n → is_within at n m ≡ true
 within_in at n m low high = grind arith

@@ -4,7 +4,7 @@ use Rattle.std.specs.Prelude.{nat_le}
 use Rattle.std.proofs.lemmas.Bool.{cases_lt, false≢true, leb-true, ltb-true, or_cases, and_parts, eqb-true, ne_eqb}
 use Rattle.step_rules.specs.declared.phase.Phase.{Phase}
 use Rattle.step_rules.specs.declared.step.Action.TheVariants.{Get, Put, TakeIn, Credit, Consume, Unfreeze}
-use Rattle.step_rules.specs.Phases.{ListFrame, FreshFrame, has_as, is_head_in_hand, passes_out}
+use Rattle.step_rules.specs.Phases.{ListFrame, FreshFrame, has_as, is_head_in_hand, is_live, passes_out}
 use Rattle.step_rules.specs.declared.phase.Stage.TheVariants.{AwaitsReturn, BackAt}
 use Rattle.step_rules.specs.Phases.{at_stage}
 use Rattle.step_rules.specs.After.{with_part, with_phase, with_references, with_back, after_last}
@@ -13,9 +13,8 @@ use Rattle.step_rules.specs.State.{State, is_cpu, is_frame, live_references, may
 use Rattle.step_rules.specs.Legal.{is_legal}
 use Rattle.step_rules.proofs.LegalTests.{consume_tests}
 use Rattle.step_rules.proofs.Sums.{sum_part}
-use Rattle.step_rules.proofs.PhaseLemmas.{out_is, fresh_is}
+use Rattle.step_rules.proofs.PhaseLemmas.{out_is, fresh_is, in_hand, WasCollected, WasBare, WasEnded}
 use Rattle.core_rows.specs.Rooms.{IsBelowBounds}
-use Rattle.core_rows.proofs.Bounding.{hand_not_live}
 
 pub out_unlisted : (p : ℕ) (x : Phase) → passes_out p x ≡ true → has_as ListFrame p x ≡ false
 out_unlisted p x e = ap (has_as ListFrame p) (out_is p x e)
@@ -109,6 +108,13 @@ get_few s p f legal =
     let cpu : is_cpu s.zone p ≡ true = grind (arith, legal) in
     let high = leb-true p s.zone.cpus (and_parts (nat_le 1 p) (nat_le p s.zone.cpus) cpu).1 in
     sum_part (s.zone.cpus + 1) (λ seat. s.references seat f) p (omega arith)
+
+hand_not_live : (x : Phase) → is_head_in_hand x ≡ true → is_live x ≡ false
+hand_not_live x e = elim (in_hand x e) [
+  | WasCollected u is ↦ ap is_live is
+  | WasBare u is ↦ ap is_live is
+  | WasEnded u is ↦ ap is_live is
+]
 
 -- a unit in the zone's hand has no reference
 pub unfreeze_few : (s : State) (p f m : ℕ) → IsBelowBounds s → is_legal s p (Unfreeze f m) ≡ true → s.references 0 f + m ≤ 255

@@ -23,13 +23,13 @@ use zone_blocks::block::Block;
 use zone_blocks::order::Order;
 
 /// Sets the phases of this many frames from `at` on.
-fn set_range(phases: &mut PhaseTable, at: u32, count: u32, phase: Phase)
+fn set_range(phases: &mut PhaseTable, at: u32, count: u32, phase: &Phase)
     requires inside { at + count ≤ length phases.old }
     requires few { length phases.old < 2 ^ 32 }
-    ensures { phases.new ≡ take at phases.old ++ replicate count phase ++ drop (at + count) phases.old }
+    ensures { phases.new ≡ take at phases.old ++ replicate count phase.now ++ drop (at + count) phases.old }
 {
     for frame in at..at + count {
-        phases.set(frame, phase);
+        phases.set(frame, *phase);
     }
 }
 
@@ -49,7 +49,7 @@ fn set_unit(rows: &mut Rows, group: GroupId, block: &Block)
         &mut rows.phases,
         block.at,
         block.order.frames(),
-        Phase::Tail(group),
+        &Phase::Tail(group),
     );
     rows.phases.set(
         block.at,
@@ -71,7 +71,7 @@ fn free_unit(rows: &mut Rows, frame: u32)
     let left = rows.frames - frame;
     let size = unit_size(rows.phase(frame));
     let frames = size.min(left);
-    set_range(&mut rows.phases, frame, frames, Phase::InZone);
+    set_range(&mut rows.phases, frame, frames, &Phase::InZone);
 }
 
 /// Places pending pages of a group on the front of the smallest sufficient free block, if there is one.

@@ -1,12 +1,12 @@
 -- One phase more.
-use Rattle.std.proofs.Common.{◌≡◌, ℕ, ◌+◌, ◌-◌, ◌<◌, ◌≤◌, length, set, sym, ◌∙◌, ap, arith}
+use Rattle.std.proofs.Common.{◌≡◌, ℕ, ◌+◌, ◌-◌, ◌<◌, ◌≤◌, length, set, ◌∙◌, ap, arith}
 use Rattle.core_steps.proofs.Ranges.{length-ranged, ranged, ranged_more, ranged_none}
 use Rattle.core_steps.proofs.blocks.set_range.Goals as goal
 
 pub loop-frame-init : goal.loop-frame-init
 loop-frame-init c =
     let none : 0 ≡ c.args.at - c.args.at = omega arith in
-    ranged_none c.args.phases.now c.args.at c.args.phase ∙ ap (λ n. ranged c.args.phases.now c.args.at n c.args.phase) none
+    ranged_none c.args.phases.now c.args.at c.args.phase.now ∙ ap (λ n. ranged c.args.phases.now c.args.at n c.args.phase.now) none
 
 pub set-requires : goal.set-requires
 set-requires c =
@@ -14,14 +14,14 @@ set-requires c =
     let n : ℕ = c.loop-frame.frame - at in
     let low = c.loop-frame.auto.frame in
     let inside : at + n ≤ length c.args.phases.now = omega (arith, low, c.loop-frame-test.true, c.requires.inside) in
-    let len = ap length c.loop-frame.invariant ∙ length-ranged c.args.phases.now at n c.args.phase inside in
+    let len = ap length c.loop-frame.invariant ∙ length-ranged c.args.phases.now at n c.args.phase.now inside in
     omega (arith, low, len, c.loop-frame-test.true, c.requires.inside)
 
 pub loop-frame-preserved : goal.loop-frame-preserved
 loop-frame-preserved c =
     let xs = c.args.phases.now in
     let at = c.args.at in
-    let x = c.args.phase in
+    let x = c.args.phase.now in
     let n : ℕ = c.loop-frame.frame - at in
     let low = c.loop-frame.auto.frame in
     let here : at + n < length xs = omega (arith, low, c.loop-frame-test.true, c.requires.inside) in
@@ -33,4 +33,4 @@ pub returns : goal.returns
 returns c =
     let low = c.loop-frame.auto.frame in
     let all : c.loop-frame.frame - c.args.at ≡ c.args.count = omega (arith, c.loop-frame.auto.frame-end, c.loop-frame-test.false) in
-    c.loop-frame.invariant ∙ ap (λ n. ranged c.args.phases.now c.args.at n c.args.phase) all
+    c.loop-frame.invariant ∙ ap (λ n. ranged c.args.phases.now c.args.at n c.args.phase.now) all

@@ -1,5 +1,5 @@
 -- What the loop of `set_range` keeps.
-use Rattle.std.proofs.Common.{◌≡◌, ◌-◌, ◌≤◌}
+use Rattle.std.proofs.Common.{◌≡◌, ◌-◌}
 use Rattle.core_steps.proofs.Ranges.{ranged}
 use Rattle.core_steps.proofs.blocks.set_range.Given as goal
 

@@ -1,5 +1,5 @@
 -- The goals of `freeze`.
-use Rattle.std.proofs.Common.{◌≡◌, ◌-◌, ◌≤◌, arith}
+use Rattle.std.proofs.Common.{arith}
 use Rattle.core_steps.proofs.references.freeze.Goals as goal
 
 pub set_references-requires-clause-few : goal.set_references-requires-clause-few

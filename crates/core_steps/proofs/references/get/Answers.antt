@@ -1,5 +1,5 @@
 -- The goals of `get`.
-use Rattle.std.proofs.Common.{◌≡◌, ◌+◌, ◌≤◌, arith}
+use Rattle.std.proofs.Common.{arith}
 use Rattle.core_rows.specs.Shown.{state_in}
 use Rattle.core_steps.proofs.Serving.{get_few}
 use Rattle.core_steps.proofs.references.get.Goals as goal

@@ -1,5 +1,5 @@
 -- The goals of `put`.
-use Rattle.std.proofs.Common.{◌≡◌, ◌≤◌, ◌-◌, ◌∙◌, ap, arith}
+use Rattle.std.proofs.Common.{◌≡◌, ◌-◌, ◌∙◌, ap, arith}
 use Rattle.step_rules.specs.After.{with_references}
 use Rattle.core_rows.specs.Shown.{state_in}
 use Rattle.core_steps.proofs.Serving.{put_counts}

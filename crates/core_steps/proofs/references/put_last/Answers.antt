@@ -1,5 +1,5 @@
 -- The goals of `put_last`.
-use Rattle.std.proofs.Common.{◌≡◌, ◌-◌, ◌≤◌, arith}
+use Rattle.std.proofs.Common.{arith}
 use Rattle.core_steps.proofs.references.put_last.Goals as goal
 
 pub set_references-requires-clause-few : goal.set_references-requires-clause-few

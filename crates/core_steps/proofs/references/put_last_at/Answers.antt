@@ -1,5 +1,5 @@
 -- The goals of `put_last_at`.
-use Rattle.std.proofs.Common.{◌≡◌, ◌≤◌, ◌-◌, ◌<◌, length, sym, ◌∙◌, ap, subst, arith}
+use Rattle.std.proofs.Common.{◌≡◌, ◌-◌, ◌<◌, length, sym, ◌∙◌, ap, subst, arith}
 use Rattle.step_rules.specs.State.{State}
 use Rattle.step_rules.specs.After.{with_part, with_phase, with_references}
 use Rattle.core_rows.specs.Shown.{state_in}
