@@ -46,6 +46,15 @@ returned_all (f ∷ rest) m n c d s = returned_all rest s.between.machine n s.be
 pub settled_opened : (m n : KnownMachine) (c d : KnownCpu) → Settles (visit_state m c) (visit_state n d) → n.frame_seat.view.opened ≡ m.frame_seat.view.opened
 settled_opened m n c d s = returned_all c.back s.mid.machine n s.mid.cpu d s.back ∙ settled_all c.fresh m s.mid.machine c s.mid.cpu s.fresh
 
+-- the visits after the whole command: the caller's was opened and shut, the others stayed shut
+pub command_shuts : (m entered mid x n : KnownMachine) (c c1 c2 c3 : KnownCpu) → AllShut m
+    → entered ≡ with_watch (with_visit_of (without_notes m) c.number 1) entered.watch → c1 ≡ c → c2.number ≡ c1.number → c3.number ≡ c2.number
+    → Settles (visit_state entered c1) (visit_state mid c2) → x.frame_seat.view.opened ≡ mid.frame_seat.view.opened
+    → n ≡ with_watch (with_visit_of x c3.number 0) n.watch → AllShut n
+command_shuts m entered mid x n c c1 c2 c3 shut opened same second third settles stays after =
+    all_shut m x n c.number shut (stays ∙ settled_opened entered mid c1 c2 settles ∙ ap (λ (k : KnownMachine). k.frame_seat.view.opened) opened)
+    (after ∙ ap (λ (q : ℕ). with_watch (with_visit_of x q 0) n.watch) (third ∙ second ∙ ap (λ (y : KnownCpu). y.number) same))
+
 -- the whole command, from its four parts
 pub served : (t : KnownTable) (cmd : Cmd) (l k : KnownLocked) (c d : KnownCpu) (reply : Reply) (entered mid x : KnownMachine) (c1 c2 c3 : KnownCpu)
     → entered ≡ with_watch (with_visit_of (without_notes l.machine) c.number 1) entered.watch → c1 ≡ c → c2.number ≡ c1.number → c3.number ≡ c2.number

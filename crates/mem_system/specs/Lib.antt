@@ -10,6 +10,7 @@ pub mod Laws
 pub mod Leaves
 pub mod Left
 pub mod Locked
+pub mod Lost
 pub mod Outcomes
 pub mod Owners
 pub mod Releases

@@ -4,6 +4,7 @@ ghost use Rattle.mem_system.specs.CommandLaws.{EndsLeaveEmptyWords, OnlyCommands
 ghost use Rattle.mem_system.specs.CommandLaws.{ReleasesCutLists};
 ghost use Rattle.mem_system.specs.KillLaws.{CommandsKillOverLimits, CommandsKillWholeSets};
 ghost use Rattle.mem_system.specs.Laws.{CommandsKillLast};
+ghost use Rattle.mem_system.specs.Lost.{ConsistentMachinesLoseNoUnit};
 
 /// A command kills nobody before it tried everything else.
 pub fn commands_kill_last()
@@ -40,4 +41,11 @@ pub fn releases_cut_lists()
 /// When the tables are closed, no page and no CPU's reference is left in any word.
 pub fn ends_leave_empty_words()
     ensures { EndsLeaveEmptyWords }
+{}
+
+/// No unit is lost while the frames' words keep the reference rule with all seats. The head of each charged unit is on a
+/// list of its group, or a CPU has it: as a back frame, or by a reference. Each frame lent to a CPU is on that CPU's
+/// list or fresh there.
+pub fn no_unit_is_lost()
+    ensures { ConsistentMachinesLoseNoUnit }
 {}

@@ -5,6 +5,7 @@ ghost use Rattle.group_tree.specs.Groups.{has_group};
 ghost use Rattle.mem_system.specs.Allocations.{FreshOf};
 ghost use Rattle.mem_system.specs.Outcomes.{HasItsGroups, reply_of};
 ghost use Rattle.mem_system.specs.Commands.{IsOfZone, IsSettled, IsSettledAfter};
+ghost use Rattle.mem_system.specs.Lost.{LosesNoUnit};
 ghost use Rattle.mem_system.specs.Shown.{SettlesCaller};
 ghost use Rattle.mem_system.specs.Visits.{EndsVisit, ServesOutcome, ServesFrameOutcome, IsServed, locked_state};
 
@@ -34,12 +35,14 @@ pub fn serve_outcome<N: BootName>(
     ensures groups { HasItsGroups locked.new.machine.ledger result }
     ensures settled { IsSettledAfter cmd.now (reply_of locked.new.machine.ledger result) cpu.new }
     ensures ends { EndsVisit N.frames (locked_state locked.old cpu.old) (locked_state locked.new cpu.new) }
+    ensures lost { LosesNoUnit N.frames N.stocks locked.new.machine }
 {
     locked.machine.forget_notes();
     locked.machine.open(tables, cpu);
     locked.machine.settle(tables, cpu);
     let outcome = execute(&mut locked.machine, tables, cpu, locked.sizes, cmd);
     locked.machine.shut(tables, cpu);
+    let _frame_states = locked.machine.frame_states(); // Called for its contract.
     outcome
 }
 
@@ -98,6 +101,7 @@ pub fn serve_frame_outcome<N: BootName>(
     ensures fresh { FreshOf (reply_of locked.new.machine.ledger result) 0 cpu.new.fresh }
     ensures back { cpu.new.back ≡ [] }
     ensures ends { EndsVisit N.frames (locked_state locked.old cpu.old) (locked_state locked.new cpu.new) }
+    ensures lost { LosesNoUnit N.frames N.stocks locked.new.machine }
 {
     let sizes = locked.sizes;
     let machine = &mut locked.machine;
@@ -106,6 +110,7 @@ pub fn serve_frame_outcome<N: BootName>(
     machine.settle(tables, cpu);
     let answer = alloc_frame(machine, tables, cpu, sizes, group);
     machine.shut(tables, cpu);
+    let _frame_states = machine.frame_states(); // Called for its contract.
     outcome_of(&answer)
 }
 

@@ -13,7 +13,8 @@ use Rattle.mem_system.specs.Locked.{KnownLocked}
 use Rattle.mem_system.specs.Allocations.{outcome_of}
 use Rattle.mem_system.specs.Outcomes.{HasItsGroups, reply_of}
 use Rattle.mem_system.specs.Visits.{with_visit_of, locked_state, IsServed}
-use Rattle.mem_system.proofs.Visiting.{all_shut, settled_opened, served}
+use Rattle.mem_system.proofs.Lost.{no_unit_is_lost}
+use Rattle.mem_system.proofs.Visiting.{command_shuts, served}
 use Rattle.mem_system.proofs.Staying.{settled_groups}
 use Rattle.mem_system.proofs.Allocating.{frame_allocated, has_groups, over_is_there}
 use Rattle.mem_system.proofs.visits.serve_frame_outcome.Goals as goal
@@ -28,14 +29,13 @@ alloc_frame-answer-requires-clause-there g c =
 pub invariant_of-locked : goal.invariant_of-locked
 invariant_of-locked g c =
     let quiet = c.locked.invariant.quiet in
-    let x = c.alloc_frame-answer.new.machine in
     let stays = c.alloc_frame-answer.ensures.stays in
-    let numbered = stays.number ∙ c.settle.ensures.others.number ∙ ap (λ (y : KnownCpu). y.number) c.open.ensures.cpu in
-    let opened = stays.opened ∙ settled_opened _ _ _ _ c.settle.ensures.settles ∙ ap (λ (k : KnownMachine). k.frame_seat.view.opened) (c.open.ensures.machine ∙ ap (λ (y : KnownMachine). with_watch (with_visit_of y c.args.cpu.now.number 1) c.open.new.self.watch) c.forget_notes.ensures) in
     record {
       quiet = record {
-        shut = all_shut c.locked.inside.machine x c.shut.new.self c.args.cpu.now.number quiet.shut opened
-            (c.shut.ensures.machine ∙ ap (λ (q : ℕ). with_watch (with_visit_of x q 0) c.shut.new.self.watch) numbered);
+        shut = command_shuts c.locked.inside.machine c.open.new.self c.settle.new.self c.alloc_frame-answer.new.machine c.shut.new.self c.args.cpu.now
+            c.open.new.cpu c.settle.new.cpu c.alloc_frame-answer.new.cpu quiet.shut
+            (c.open.ensures.machine ∙ ap (λ (y : KnownMachine). with_watch (with_visit_of y c.args.cpu.now.number 1) c.open.new.self.watch) c.forget_notes.ensures)
+            c.open.ensures.cpu c.settle.ensures.others.number stays.number c.settle.ensures.settles stays.opened c.shut.ensures.machine;
         valid = quiet.valid;
         sized = quiet.sized;
       };
@@ -77,3 +77,12 @@ returns-clause-groups g c =
     c.alloc_frame-answer.new.cpu answer c.alloc_frame-answer.ensures.allocates) in
     let kept = ap (λ (y : KnownMachine). y.ledger) c.shut.ensures.machine in
     rw c.outcome_of.ensures (subst (λ (l : Ledger). HasItsGroups l (outcome_of answer)) (sym kept) has)
+
+pub returns-clause-lost : goal.returns-clause-lost
+returns-clause-lost g c =
+    let stays = c.alloc_frame-answer.ensures.stays in
+    no_unit_is_lost g.N.BootName.frames g.N.BootName.stocks c.shut.new.self c.frame_states.ensures.consistent
+    (command_shuts c.locked.inside.machine c.open.new.self c.settle.new.self c.alloc_frame-answer.new.machine c.shut.new.self c.args.cpu.now
+    c.open.new.cpu c.settle.new.cpu c.alloc_frame-answer.new.cpu c.locked.invariant.quiet.shut
+    (c.open.ensures.machine ∙ ap (λ (y : KnownMachine). with_watch (with_visit_of y c.args.cpu.now.number 1) c.open.new.self.watch) c.forget_notes.ensures)
+    c.open.ensures.cpu c.settle.ensures.others.number stays.number c.settle.ensures.settles stays.opened c.shut.ensures.machine)
