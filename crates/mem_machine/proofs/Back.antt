@@ -112,6 +112,7 @@ module _ (t : KnownTable) (w : KnownStockTable) (m : KnownMachine) (c : KnownCpu
       let home = no_home (home_of m.links f) (sym was.nothing.0 ∙ fits.references) in
       record {
         own = refl;
+        borrowed = fits.borrowed;
         lent = refl;
         borrower = tt;
         references = fits.references;

@@ -40,7 +40,7 @@ use Rattle.mem_machine.proofs.Followed.{follows_same, LeadsForAny}
 use Rattle.mem_machine.proofs.Watched.{consistent_noted, visits_noted}
 
 frozen_in_hand : TakesInHand (frozen 1)
-frozen_in_hand = record { own = λ k. refl; lent = λ k. refl; references = λ k. refl; passed_out = λ k. refl; collected = λ k. refl }
+frozen_in_hand = record { own = λ k. refl; borrowed = λ k. refl; lent = λ k. refl; references = λ k. refl; passed_out = λ k. refl; collected = λ k. refl }
 
 -- a freeze is legal if the zone has the one reference that it asks for
 may_freeze : (t : KnownTable) (m : KnownMachine) (f : ℕ) → f < t.frames → seat_references m.frame_seat f ≡ 1 → (c : KnownCpu) → is_legal (local_of t m c) 0 (Freeze f 1) ≡ true
@@ -72,6 +72,7 @@ missed_fits t w m ok f word g within =
     let change : FrameNote → FrameNote = missed word in
     record {
       own = note_keeps m.frame_seat f change (λ k. k.own) (λ k. refl) g ∙ old.own;
+      borrowed = note_keeps m.frame_seat f change (λ k. k.borrowed) (λ k. refl) g ∙ old.borrowed;
       lent = ap some_cpu (note_keeps m.frame_seat f change (λ k. k.lent) (λ k. refl) g) ∙ old.lent;
       borrower = old.borrower;
       references = note_keeps m.frame_seat f change (λ k. k.references) (λ k. refl) g ∙ old.references;

@@ -110,7 +110,7 @@ module _ (t : KnownTable) (w : KnownStockTable) (m : KnownMachine) (first : IsFi
       let home : home_of m.links f ≡ None = ap (λ (l : Link). l.home) (first.nowhere f) in
       let frame_state = all_free f in
       subst (λ (x : FrameNote × Option Home × FrameState). FitsFrameState t.cpus x.0 x.1 x.2) (λ i. (sym note i, sym home i, sym frame_state i))
-      (record { own = refl; lent = refl; borrower = tt; references = refl; kept = tt })
+      (record { own = refl; borrowed = refl; lent = refl; borrower = tt; references = refl; kept = tt })
 
   pub charged_first : (g : ℕ) → pages_of m.ledger g ≡ frames_charged m.frame_states g + pages_booked t m.stock_seat g
   charged_first g =

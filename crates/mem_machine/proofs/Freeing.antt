@@ -326,7 +326,7 @@ module _ (t : KnownTable) (w : KnownStockTable) (m : KnownMachine) (ok : IsConsi
             subst (FitsFrameState t.cpus (note_of seat.view x) (home_of links x)) tail (others x within ne) in
             subst (FitsFrameState t.cpus (note_of seat.view x) (home_of links x))
             (sym (frees.records x ∙ ap (λ (b : Bool). cond b Free (frame_state_at m.frame_states x)) inside.0))
-            (record { own = old.own; lent = old.lent; borrower = tt; references = old.references; kept = old.kept })
+            (record { own = old.own; borrowed = old.borrowed; lent = old.lent; borrower = tt; references = old.references; kept = old.kept })
         | inr out ↦ subst (FitsFrameState t.cpus (note_of seat.view x) (home_of links x))
             (sym (frees.records x ∙ ap (λ (b : Bool). cond b Free (frame_state_at m.frame_states x)) out.0)) (others x within ne)
       ]

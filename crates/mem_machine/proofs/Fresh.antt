@@ -155,7 +155,7 @@ module _ (t : KnownTable) (w : KnownStockTable) (m : KnownMachine) (c : KnownCpu
         let seats = ok.seats in
         unit_kept t w m ok g was.fits b (record { order = omega arith; aligned = omega arith; inside = let a = within in omega (arith, a) }) kept.frame_states
         (placed_one m.frame_states g f within) (ap frame_state_group is_lent) (λ x low high ne. absurd (ne (omega (arith, low, high)))) links lists joined used
-        (record { own = refl; lent = refl; references = let a = was.nothing.0 in omega (arith, a) }) m.blocks m.ledger
+        (record { own = refl; borrowed = (ok.frame_states f was.inside).borrowed; lent = refl; references = let a = was.nothing.0 in omega (arith, a) }) m.blocks m.ledger
         (with_page_absorbed m.stock_seat c.number)
         m.counts (record {
           areas = subst (λ (l : List Bool). AreMaximalBlocks l m.blocks) kept_free ok.areas;
@@ -213,7 +213,7 @@ module _ (t : KnownTable) (w : KnownStockTable) (m : KnownMachine) (c : KnownCpu
     dropped_fits =
         let old : FitsFrameState t.cpus (note_of m.frame_seat.view f) (home_of m.links f) (Lent c.number) =
         subst (λ (x : FrameState). FitsFrameState t.cpus (note_of m.frame_seat.view f) (home_of m.links f) x) is_lent (ok.frame_states f was.inside) in
-        record { own = refl; lent = refl; borrower = tt; references = old.references; kept = homeless (home_of m.links f) old.kept }
+        record { own = refl; borrowed = old.borrowed; lent = refl; borrower = tt; references = old.references; kept = homeless (home_of m.links f) old.kept }
 
     charged_one : 1 ≤ pages_of m.ledger g
     charged_one =

@@ -74,6 +74,7 @@ fits_with cpus note now home here frame_state x a b c fits =
 tail_fits : (cpus : ℕ) (note : FrameNote) (home : Option Home) (g : ℕ) → FitsFrameState cpus note home Free → FitsFrameState cpus note home (Tail g)
 tail_fits cpus note home g fits = record {
   own = fits.own;
+  borrowed = fits.borrowed;
   lent = fits.lent;
   borrower = tt;
   references = fits.references;
@@ -83,12 +84,13 @@ tail_fits cpus note home g fits = record {
 -- the zone's note of a frame in use: it is in no hand, lent to no one, and the zone has one reference on it
 pub record IsUsed (note : FrameNote) : Type 0 where
   pub own : note.own ≡ 0
+  pub borrowed : note.borrowed ≡ 0
   pub lent : note.lent ≡ 0
   pub references : note.references ≡ 1
 
 head_fits : (cpus : ℕ) (note : FrameNote) (g k : ℕ) → g < 64 → IsUsed note
     → FitsFrameState cpus note (Some (record { owner = g; list = Inactive })) (Head (record { group = g; order = k }))
-head_fits cpus note g k fits used = record { own = used.own; lent = ap some_cpu used.lent; borrower = tt; references = used.references; kept = (fits, refl) }
+head_fits cpus note g k fits used = record { own = used.own; borrowed = used.borrowed; lent = ap some_cpu used.lent; borrower = tt; references = used.references; kept = (fits, refl) }
 
 module _ (t : KnownTable) (w : KnownStockTable) (m : KnownMachine) (ok : IsConsistent t w m) (g : ℕ) (fits : g < 64) (b : Block) (frame_states : List FrameState)
     (placed : PlacesUnit g b m.frame_states frame_states)

@@ -124,7 +124,7 @@ module _ (t : KnownTable) (w : KnownStockTable) (m : KnownMachine) (c : KnownCpu
   lent_fits =
       let old : FitsFrameState t.cpus (note_of m.frame_seat.view f) (home_of m.links f) Free = subst (λ (x : FrameState). FitsFrameState t.cpus (note_of m.frame_seat.view f)
       (home_of m.links f) x) free (ok.frame_states f inside) in
-      record { own = refl; lent = some_cpu_is c.number tied.seats.some_number; borrower = (tied.seats.some_number, tied.seats.frame_cpus); references = old.references; kept = homeless (home_of m.links f) old.kept }
+      record { own = refl; borrowed = old.borrowed; lent = some_cpu_is c.number tied.seats.some_number; borrower = (tied.seats.some_number, tied.seats.frame_cpus); references = old.references; kept = homeless (home_of m.links f) old.kept }
 
   pub lend_consistent : (blocks : List Block) → AreMaximalBlocks (free_of (slice_set m.frame_states f (Lent c.number))) blocks
       → IsConsistent t w (record m { blocks = blocks; frame_states = slice_set m.frame_states f (Lent c.number); frame_seat = seat_with m.frame_seat f (passed_out_to c.number) })

@@ -66,6 +66,7 @@ fits_home cpus note None (Some k) frame_state same fits = absurd (none-some k.ow
 fits_home cpus note (Some h) None frame_state same fits = absurd (none-some h.owner same)
 fits_home cpus note (Some h) (Some k) frame_state same fits = record {
   own = fits.own;
+  borrowed = fits.borrowed;
   lent = fits.lent;
   borrower = fits.borrower;
   references = fits.references;

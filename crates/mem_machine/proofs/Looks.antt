@@ -31,6 +31,7 @@ looked_fits t w m ok f word g within =
     let old = ok.frame_states g within in
     record {
       own = note_keeps m.frame_seat f (looked word) (λ k. k.own) (λ k. refl) g ∙ old.own;
+      borrowed = note_keeps m.frame_seat f (looked word) (λ k. k.borrowed) (λ k. refl) g ∙ old.borrowed;
       lent = ap some_cpu (note_keeps m.frame_seat f (looked word) (λ k. k.lent) (λ k. refl) g) ∙ old.lent;
       borrower = old.borrower;
       references = note_keeps m.frame_seat f (looked word) (λ k. k.references) (λ k. refl) g ∙ old.references;

@@ -107,13 +107,14 @@ references_less seat c f change less q x = elim (cases_eq q 0) [
 -- the frame moves into the own hand of the seat, with one reference less
 pub record TakesInHand (change : FrameNote → FrameNote) : Type 0 where
   pub own : (k : FrameNote) → (change k).own ≡ 1
+  pub borrowed : (k : FrameNote) → (change k).borrowed ≡ k.borrowed
   pub lent : (k : FrameNote) → (change k).lent ≡ k.lent
   pub references : (k : FrameNote) → (change k).references ≡ k.references - 1
   pub passed_out : (k : FrameNote) → (change k).passed_out ≡ k.passed_out
   pub collected : (k : FrameNote) → (change k).collected ≡ k.collected
 
 last_in_hand : TakesInHand put_last
-last_in_hand = record { own = λ k. refl; lent = λ k. refl; references = λ k. refl; passed_out = λ k. refl; collected = λ k. refl }
+last_in_hand = record { own = λ k. refl; borrowed = λ k. refl; lent = λ k. refl; references = λ k. refl; passed_out = λ k. refl; collected = λ k. refl }
 
 may_put_one : (t : KnownTable) (m : KnownMachine) (f : ℕ) → f < t.frames → seat_references m.frame_seat f ≡ 1 → (c : KnownCpu) → is_legal (local_of t m c) 0 (Put f) ≡ true
 may_put_one t m f inside held c =
@@ -187,7 +188,7 @@ module _ (t : KnownTable) (w : KnownStockTable) (m : KnownMachine) (ok : IsConsi
         | inl e ↦ subst (λ (k : ℕ). FitsFrameState t.cpus (note_of left_seat.view k) (home_of links k) (frame_state_at m.frame_states k)) (sym e)
             (subst (λ (k : FrameNote). FitsFrameState t.cpus k (home_of links f) (frame_state_at m.frame_states f))
             (sym (note_here m.frame_seat.view f (put_left left)))
-            (let old = ok.frame_states f inside in record { own = old.own; lent = old.lent; borrower = old.borrower; references = no_reference; kept = no_home (frame_state_at m.frame_states f) }))
+            (let old = ok.frame_states f inside in record { own = old.own; borrowed = old.borrowed; lent = old.lent; borrower = old.borrower; references = no_reference; kept = no_home (frame_state_at m.frame_states f) }))
         | inr ne ↦ others_fit (put_left left) g within ne
       ]
 
@@ -226,6 +227,7 @@ module _ (t : KnownTable) (w : KnownStockTable) (m : KnownMachine) (ok : IsConsi
       hand_fits change takes = subst (λ (k : FrameNote). FitsFrameState t.cpus k (home_of links f) Free) (sym (note_here m.frame_seat.view f change))
           (record {
             own = takes.own (note_of m.frame_seat.view f);
+            borrowed = takes.borrowed (note_of m.frame_seat.view f) ∙ (ok.frame_states f inside).borrowed;
             lent = ap some_cpu (takes.lent (note_of m.frame_seat.view f)) ∙ (ok.frame_states f inside).lent ∙ ap lent_to heads;
             borrower = tt;
             references = takes.references (note_of m.frame_seat.view f) ∙ no_reference;

@@ -96,7 +96,7 @@ module _ (t : KnownTable) (w : KnownStockTable) (m : KnownMachine) (c : KnownCpu
   taken_fits =
       let old : FitsFrameState t.cpus (note_of m.frame_seat.view f) (home_of m.links f) (Lent c.number) =
       subst (λ (x : FrameState). FitsFrameState t.cpus (note_of m.frame_seat.view f) (home_of m.links f) x) is_lent_frame_state (ok.frame_states f inside) in
-      record { own = refl; lent = refl; borrower = tt; references = old.references; kept = homeless (home_of m.links f) old.kept }
+      record { own = refl; borrowed = old.borrowed; lent = refl; borrower = tt; references = old.references; kept = homeless (home_of m.links f) old.kept }
 
   pub take_consistent : (blocks : List Block) → AreMaximalBlocks (free_of (slice_set m.frame_states f Free)) blocks
       → IsConsistent t w (record m { blocks = blocks; frame_states = slice_set m.frame_states f Free; frame_seat = seat_with m.frame_seat f (collected_from c.number) })

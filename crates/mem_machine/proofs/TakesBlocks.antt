@@ -215,6 +215,7 @@ taken_here t w m c ok facts g fits b may room rise before free blocks was front 
     let maximal : AreMaximalBlocks (free_of frame_states) blocks = subst (λ (l : List Bool). AreMaximalBlocks l blocks) frees areas in
     let used : IsUsed (unfrozen 1 (note_of m.frame_seat.view b.at)) = record {
       own = refl;
+      borrowed = (ok.frame_states b.at inside).borrowed;
       lent = no_cpu_is (note_of m.frame_seat.view b.at).lent ((ok.frame_states b.at inside).lent ∙ ap lent_to head);
       references = let r : (note_of m.frame_seat.view b.at).references ≡ 0 = unreferred in omega (arith, r);
     } in

@@ -152,10 +152,11 @@ pages_booked table stock group =
     sum_to (table.cpus + 1) (λ cpu. booked group (account_of stock.view cpu))
 
 -- The zone's seat and the lists agree with the frame's record. The frame is in the zone's hand exactly if it is free or
--- a tail. It is lent to the CPU that its record names, whose number is between 1 and `cpus`. The zone has one reference
--- on it if it is on a list, else none. That list is of the group whose unit the frame heads.
+-- a tail; the zone borrows no frame. It is lent to the CPU that its record names, whose number is between 1 and `cpus`.
+-- The zone has one reference on it if it is on a list, else none. That list is of the group whose unit the frame heads.
 pub record FitsFrameState (cpus : ℕ) (note : FrameNote) (home : Option Home) (frame_state : FrameState) : Type 0 where
   pub own : note.own ≡ one_if (is_in_hand frame_state)
+  pub borrowed : note.borrowed ≡ 0
   pub lent : some_cpu note.lent ≡ lent_to frame_state
   pub borrower : IfSome (lent_to frame_state) (λ cpu. (1 ≤ cpu) × (cpu ≤ cpus))
   pub references : note.references ≡ one_if (is_some home)

@@ -107,7 +107,7 @@ module _ (t : KnownTable) (w : KnownStockTable) (m : KnownMachine) (ok : IsConsi
     own = (ok.frame_states f inside).own ∙ ap (λ (x : FrameState). one_if (is_in_hand x)) is
 
     borrowed : note.borrowed ≡ 0
-    borrowed = all.borrows_none f
+    borrowed = (ok.frame_states f inside).borrowed
 
     lent : note.lent ≡ 0
     lent = no_cpu_is note.lent ((ok.frame_states f inside).lent ∙ ap lent_to is)

@@ -3,7 +3,6 @@ use Rattle.std.specs.Prelude.{◌≡◌, ◌⊎◌, ℕ, ◌≤◌, Some, List, 
 use Rattle.seat_sums.specs.Totals.{SameTotals}
 use Rattle.frame_word.specs.declared.view.FrameView.{FrameView}
 use Rattle.frame_word.specs.ReferenceRule.{ReferenceRule}
-use Rattle.frame_word.specs.Views.{note_of}
 use Rattle.frame_word.specs.Seats.{KnownTable}
 use Rattle.stock_word.specs.Stock.{KnownStockTable}
 use Rattle.cpu_part.specs.Cpus.{KnownCpu, IsTied, times}
@@ -42,15 +41,13 @@ pub record NoUnitIsLost (machine : KnownMachine) (cpus : List KnownCpu) : Type 0
       → SomeCpu cpus (HasLent number frame)
 
 -- The frames' words keep the reference rule. The views of all seats are that of the machine's seat and those of these
--- CPUs' seats, however seats are joined. Each CPU's lists and pins are what its seats know. The machine's seat borrows
--- no frame: only CPUs do.
+-- CPUs' seats, however seats are joined. Each CPU's lists and pins are what its seats know.
 pub record AreAllSeats (table : KnownTable) (stock_table : KnownStockTable) (machine : KnownMachine)
     (cpus : List KnownCpu) : Type 0 where
   pub words : List ℕ
   pub seats : List (List FrameView)
   pub rule : ReferenceRule table.frames table.cpus words seats
   pub views : SameTotals ((machine.frame_seat.view ∷ map (λ cpu. cpu.frame_seat.view) cpus) ∷ []) seats
-  pub borrows_none : (frame : ℕ) → (note_of machine.frame_seat.view frame).borrowed ≡ 0
   pub tied : (index : ℕ) (cpu : KnownCpu) → slice_get cpus index ≡ Some cpu → IsTied table stock_table cpu
 
 -- no unit of the machine is lost, whatever the CPUs are that have all other seats
