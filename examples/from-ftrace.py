@@ -63,26 +63,31 @@ def read(lines):
 
 
 class Frames:
-    """The frames of the log: those of the trace, counted from a multiple of the greatest block on."""
+    """The frames of the log. Of the trace's frames it has each greatest block in which some are allocated."""
 
     def __init__(self, events):
         allocs = [event for event in events if event.name == "mm_page_alloc"]
         if not allocs:
             raise Fault("no mm_page_alloc: not a trace of these events")
-        pages = {int(event.values[1], 0): int(event.values[0], 16) for event in allocs}
-        least = min(pages)
-        first = least // GREATEST_BLOCK * GREATEST_BLOCK
-        self.origin = pages[least] - PAGE_STRUCT * (least - first)
-        self.count = max(int(event.values[1], 0) + (1 << int(event.values[2])) for event in allocs) - first
+        page, frame, _ = allocs[0].values
+        self.origin = int(page, 16) - PAGE_STRUCT * int(frame, 0)
         for event in allocs:
-            if self.of(event) + first != int(event.values[1], 0):
+            if self.in_trace(event) != int(event.values[1], 0):
                 raise Fault(f"line {event.line}: the page isn't that of the frame: boot with no_hash_pointers")
+        blocks = sorted({self.in_trace(event) // GREATEST_BLOCK for event in allocs})
+        self.places = {block: place for place, block in enumerate(blocks)}
+        self.count = len(blocks) * GREATEST_BLOCK
         if self.count > MOST_FRAMES:
-            raise Fault(f"the frames span {self.count}, and a log has at most {MOST_FRAMES}")
+            raise Fault(f"{self.count} frames, and a log has at most {MOST_FRAMES}")
+
+    def in_trace(self, event):
+        """The trace's number of the frame of the page that the event names."""
+        return (int(event.values[0], 16) - self.origin) // PAGE_STRUCT
 
     def of(self, event):
-        """The frame of the page that the event names."""
-        return (int(event.values[0], 16) - self.origin) // PAGE_STRUCT
+        """The log's number of it. A frame in a block without allocations gets a number beyond the zone."""
+        block, at = divmod(self.in_trace(event), GREATEST_BLOCK)
+        return self.places.get(block, len(self.places) + block) * GREATEST_BLOCK + at
 
     def block(self, event):
         """The frames that are allocated or freed."""
@@ -126,6 +131,8 @@ class Log:
         self.groups = {ROOT: Group(ROOT, 0, "", None)}
         self.allocated, self.units, self.steps = {}, {}, []
         self.lines = [f"zone {self.frames.count} {max(event.cpu for event in events) + 1}"]
+        self.lines += [f"# frame {place * GREATEST_BLOCK} is frame {block * GREATEST_BLOCK} of the trace, and so on"
+                       for block, place in self.frames.places.items()]
 
     def add(self, event):
         """Adds the steps of an event, under the lock of its CPU."""
