@@ -28,8 +28,8 @@ pub record IsLintText (sizes : Config) (script text : List ℕ) (is_clean : Bool
   pub linted : IsLinted sizes script findings
   pub refused : List RefusedLine
   pub are_refused : AreRefused sizes script refused
-  pub text_is : text ≡ flat_map (finding_text (codes "-") sizes) findings
-      ++ (flat_map (refused_text (codes "-")) refused ++ sizes_text sizes)
+  pub text_is : text ≡ (flat_map (finding_text (codes "-") sizes) findings
+      ++ flat_map (refused_text (codes "-")) refused) ++ sizes_text sizes
   pub clean : is_clean ≡ true → IsClean sizes findings
   pub found : is_clean ≡ false → ¬ IsClean sizes findings
 
