@@ -4,8 +4,10 @@ use Rattle.std.specs.Io.KnownBytes.{Appends}
 use Rattle.std.specs.List.{flat_map}
 use Rattle.zone_sizes.specs.declared.config.Config.{Config}
 use Rattle.script_lint.specs.Findings.{IsLinted}
+use Rattle.script_lint.specs.Refused.{AreRefused, refused_text}
 use Rattle.script_lint.specs.Texts.{finding_text, sizes_text}
 use Rattle.script_lint.specs.declared.finding.Finding.{Finding}
+use Rattle.script_lint.specs.declared.refused.RefusedLine.{RefusedLine}
 use Rattle.load_options.specs.declared.fault.WordsFault.TheVariants as words
 use Rattle.load_run.specs.declared.fault.ProgramFault.{ProgramFault}
 use Rattle.load_run.specs.declared.fault.ProgramFault.TheVariants.{Words, Input, Output, NoMemory}
@@ -14,16 +16,20 @@ use Rattle.load_run.specs.Causes.{Written}
 use Rattle.load_run.specs.Fault.{fault_text}
 use Rattle.line_streams.specs.Writing.{AppendsBeginning}
 
--- nothing is found: no line is bad, and `high` is at least `batch`
+-- no line is bad, and `high` is at least `batch`
 pub record IsClean (sizes : Config) (findings : List Finding) : Type 0 where
   pub none : findings ≡ []
   pub sizes_fit : sizes.batch ≤ sizes.high
 
--- the text says which lines of the script are bad, and whether the sizes are; it is clean exactly if nothing is found
+-- the text says which lines of the script are bad, which good ones are refused, and whether the sizes are bad; it is
+-- clean exactly if no line and no size is bad
 pub record IsLintText (sizes : Config) (script text : List ℕ) (is_clean : Bool) : Type 0 where
   pub findings : List Finding
   pub linted : IsLinted sizes script findings
-  pub text_is : text ≡ flat_map (finding_text (codes "-") sizes) findings ++ sizes_text sizes
+  pub refused : List RefusedLine
+  pub are_refused : AreRefused sizes script refused
+  pub text_is : text ≡ (flat_map (finding_text (codes "-") sizes) findings
+      ++ flat_map (refused_text (codes "-")) refused) ++ sizes_text sizes
   pub clean : is_clean ≡ true → IsClean sizes findings
   pub found : is_clean ≡ false → ¬ IsClean sizes findings
 
@@ -32,13 +38,13 @@ abbrev pub lint_status : Bool → ℕ
 lint_status true = 0
 lint_status false = 1
 
--- nothing is found in what is read, and nothing is written
+-- no line that is read is bad, and what is written only says which ones are refused
 pub record ReportsNothing (sizes : Config) (before after : Option (List ℕ)) (bytes : List ℕ) : Type 0 where
   pub text : List ℕ
   pub lint : IsLintText sizes (bytes_read bytes) text true
   pub written : Appends before after text
 
--- something is found in what is read, and written; no fault is reported
+-- a line that is read is bad, or the sizes are, and what is found is written; no fault is reported
 pub record ReportsFindings (sizes : Config) (before after : Written) (bytes : List ℕ) : Type 0 where
   pub text : List ℕ
   pub lint : IsLintText sizes (bytes_read bytes) text false
@@ -70,8 +76,8 @@ pub record FailsToLint (sizes : Config) (before after : Written) (bytes : List �
   pub left : LeavesFindings sizes fault before.output after.output bytes
   pub told : AppendsBeginning before.faults after.faults (fault_text fault)
 
--- A script was linted, and the program ended with 0 or 1. With 0 nothing is found, and no fault is reported. With 1
--- something is found, or the lint failed. What is found is said if the input's bytes are known
+-- A script was linted, and the program ended with 0 or 1. With 0 no line is bad, and no fault is reported. With 1 a line
+-- is bad, or the sizes are, or the lint failed. What is found is said if the input's bytes are known
 pub record Lints (sizes : Config) (input : Option (List ℕ)) (before after : Written) (status : ℕ) : Type 0 where
   pub status_at_most : status ≤ 1
   pub silent : status ≡ 0 → after.faults ≡ before.faults

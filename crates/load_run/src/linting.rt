@@ -1,4 +1,5 @@
-//! The lint of a script: its bad lines are written to the output, or a fault is reported, and the status says which.
+//! The lint of a script: its bad and its refused lines are written to the output, or a fault is reported, and the status
+//! says which.
 
 ghost use Rattle.std.specs.Prelude.{◌≡◌, IfErr, IfOk, IfSome, false, true};
 ghost use Rattle.std.specs.String.{string_bytes};
@@ -12,7 +13,7 @@ use crate::fault_lines::report_fault;
 use crate::program::write_answers;
 use crate::reading::read_script;
 use script_lint::finding::Finding;
-use script_lint::{lint_script, write_findings, write_sizes};
+use script_lint::{lint_script, refused_lines, write_findings, write_refused, write_sizes};
 use std::alloc::{AllocError, Global};
 use std::io::{Read, Write};
 use zone_sizes::config::Config;
@@ -25,13 +26,13 @@ const NAME: &str = "-";
 struct LintText {
     // A line for each finding.
     text: String,
-    // Whether there is no finding.
+    // Whether no line is bad, and the sizes fit.
     is_clean: bool,
 }
 
-/// Lints the script that the input holds, and returns the status to end with: 0 if nothing is found. If something is,
-/// the output gets it, and the status is 1. If the input can't be read, the output can't be written, or memory runs
-/// out, that is a fault of status 1.
+/// Lints the script that the input holds, writes what is found to the output, and returns the status to end with: 1 if
+/// a line is bad or the sizes don't fit, else 0, also if lines are refused. If the input can't be read, the output can't
+/// be written, or memory runs out, that is a fault of status 1.
 pub fn drive_lint<I: Read, O: Write, F: Write>(
     alloc: Global,
     sizes: &Config,
@@ -83,14 +84,16 @@ fn lint_text_on(alloc: Global, sizes: &Config, script: &[u8]) -> Result<LintText
     ensures lint { IfOk result (λ lint. IsLintText sizes.now script.now (string_bytes lint.text) lint.is_clean) }
 {
     let findings = lint_script(alloc, script, sizes)?;
+    let refused = refused_lines(alloc, script, sizes)?;
     let mut text = String::new(alloc);
     write_findings(NAME, &findings, sizes, &mut text)?;
+    write_refused(NAME, &refused, &mut text)?;
     write_sizes(sizes, &mut text)?;
     let is_clean = is_clean(&findings, sizes);
     Ok(LintText { text, is_clean })
 }
 
-// Whether nothing is found.
+// Whether no line is bad, and the sizes fit.
 fn is_clean(findings: &[Finding<'_>], sizes: &Config) -> bool
     ensures clean { result ≡ true → IsClean sizes.now findings.now }
     ensures found { result ≡ false → ¬ IsClean sizes.now findings.now }
