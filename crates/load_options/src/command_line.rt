@@ -34,7 +34,8 @@ const RUN_HELP: &str =
 
 const CHECK_HELP: &str = "Checks a log of steps: whether each step keeps the rules";
 
-const LINT_HELP: &str = "Reports every bad line of a script: from which byte on it is bad, and why";
+const LINT_HELP: &str =
+    "Reports each bad line of a script, from which byte on and why, and each line that is refused";
 
 const SERVE_HELP: &str = "Answers each line of its input before it reads the next one";
 
@@ -54,7 +55,8 @@ const NUMBERED_HELP: &str = "Begins each line of an answer with the number of it
 
 const STRICT_HELP: &str = "Ends with status 3 if some answer is a refusal";
 
-const EXPLAIN_HELP: &str = "Explains after an answer what was drained, reclaimed and killed for it";
+const EXPLAIN_HELP: &str =
+    "Explains after an answer why it is a refusal, and what was drained, reclaimed and killed";
 
 const CHECKED_HELP: &str =
     "Checks each step against the rules, and reports how many steps there were";

@@ -15,7 +15,7 @@ use zone_sizes::config::Config;
 pub enum Task {
     /// The lines run one after another.
     Replay {
-        /// Whether what a command drained, reclaimed and killed is explained after its answer.
+        /// Whether a refusal, and what a command drained, reclaimed and killed, is explained after its answer.
         is_explained: bool,
         /// Whether each step is checked against the rules.
         is_checked: bool,
@@ -31,7 +31,7 @@ pub enum Task {
     Lint,
     /// Each line is answered before the next one is read.
     Serve {
-        /// Whether what a command drained, reclaimed and killed is explained after its answer.
+        /// Whether a refusal, and what a command drained, reclaimed and killed, is explained after its answer.
         is_explained: bool,
     },
     /// The input isn't read, and the program's version is written.
