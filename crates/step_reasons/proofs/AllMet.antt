@@ -20,9 +20,9 @@ both_true x y a b = rw (a, b) refl
 
 met_from : (s : State) (so_far : Bool) (cs : List (Option Condition)) → so_far ≡ true
     → ((k : ℕ) → k < length cs → is_met_if s (get_or cs k None) ≡ true) → and_met so_far s cs ≡ true
-met_from s so_far [] yes each = yes
-met_from s so_far (c ∷ cs) yes each =
-    met_from s (so_far && is_met_if s c) cs (both_true so_far (is_met_if s c) yes (each 0 (omega arith))) (λ k less. each (suc k) (omega arith))
+met_from s so_far [] start each = start
+met_from s so_far (c ∷ cs) start each =
+    met_from s (so_far && is_met_if s c) cs (both_true so_far (is_met_if s c) start (each 0 (omega arith))) (λ k less. each (suc k) (omega arith))
 
 -- each condition is met if all are
 pub each_met : (s : State) (cs : List (Option Condition)) (k : ℕ) → k < length cs → all_met s cs ≡ true → is_met_if s (get_or cs k None) ≡ true

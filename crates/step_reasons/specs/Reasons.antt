@@ -71,6 +71,11 @@ pub record Fails (s : State) (seat : ℕ) (action : Action) (reason : Reason) : 
   pub unmet : is_met s condition ≡ false
   pub shown : Shows s condition reason
 
+-- the answer is a placed block, of which this holds
+abbrev pub Claims : Answer → (Block → Type 0) → Type 0
+Claims (Placed b) P = P b
+Claims answer P = ⊥
+
 -- the reason says the path, the usage and the limit of the group, and the pages for which it has no room
 abbrev pub IsNoRoom : State → ℕ → ℕ → Reason → Type 0
 IsNoRoom s m n (why.NoRoom path usage pages limit) = (path_of s.groups m ≡ Some path) × (usage_of s m ≡ usage) × (pages ≡ n)
@@ -92,10 +97,10 @@ Decides s seat (DrainStock p) answer (why.Number q n) = (q ≡ InStock p) × ((s
 Decides s seat (Grant g n) answer (why.NoRoom path usage pages limit) =
     (m : ℕ) × IsLowestOver s.groups (usage_of s) g n m × IsNoRoom s m n (why.NoRoom path usage pages limit)
 Decides s seat (Grant g n) answer (why.Room m pages) = (m ≡ g) × (pages ≡ n) × PathHasRoom s.groups (usage_of s) g n
-Decides s seat (PlaceBlock g k) (Placed b) (why.OtherOrder order) = (order ≡ k) × (b.order ≢ k)
-Decides s seat (PlaceBlock g k) (Placed b) (why.NoBlock c) = (c ≡ b) × (¬ IsBlock s.zone.frames b)
-Decides s seat (PlaceBlock g k) (Placed b) (why.Place f phase) = (s.phases f ≡ phase) × (is_free phase ≡ false)
-    × Covers b f
+Decides s seat (PlaceBlock g k) answer (why.OtherOrder order) = (order ≡ k) × Claims answer (λ b. b.order ≢ k)
+Decides s seat (PlaceBlock g k) answer (why.NoBlock c) = Claims answer (λ b. (c ≡ b) × (¬ IsBlock s.zone.frames b))
+Decides s seat (PlaceBlock g k) answer (why.Place f phase) = (s.phases f ≡ phase) × (is_free phase ≡ false)
+    × Claims answer (λ b. Covers b f)
 Decides s seat (PlaceBlock g k) answer (why.FreeBlock c) = (c.order ≡ k) × IsFreeBlock (free_in s.zone s.phases) c
 Decides s seat (PlaceBlock g k) answer (why.NoFreeBlock order) = (order ≡ k)
     × ((c : Block) → c.order ≡ k → ¬ IsFreeBlock (free_in s.zone s.phases) c)

@@ -80,11 +80,17 @@ book_text cpu (Some g) = said_two (codes "CPU ") cpu (codes "'s book has pages o
 abbrev pub refusal_text : Fault → List ℕ
 refusal_text fault = said (codes "mkdir is refused ") (number_of fault) (codes " ") ++ name_of fault
 
--- that a limit has no room
+-- that the limit of the group has no room
+abbrev pub limit_text : List ℕ → List ℕ
+limit_text path = codes "the limit of " ++ (path ++ codes " has no room: ")
+
+-- how far a limit has no room
+abbrev pub sum_text : (usage pages limit : ℕ) → List ℕ
+sum_text usage pages limit = decimal usage ++ said_two (codes " + ") pages (codes " > ") limit []
+
+-- that the limit of the group has no room, and how far
 abbrev pub room_text : (path : List ℕ) (usage pages limit : ℕ) → List ℕ
-room_text path usage pages limit =
-    codes "the limit of " ++ (path ++ (codes " has no room: "
-    ++ (decimal usage ++ said_two (codes " + ") pages (codes " > ") limit [])))
+room_text path usage pages limit = limit_text path ++ sum_text usage pages limit
 
 -- the sentence of a reason
 abbrev pub reason_text : Reason → List ℕ

@@ -124,10 +124,22 @@ fn decide_place(
     requires denied { ¬ Allows (state_in rows.now) seat (Action.PlaceBlock group order) answer.now }
     ensures { Decides (state_in rows.now) seat (Action.PlaceBlock group order) answer.now result }
 {
-    match (answer, due) {
-        (Answer::Placed(block), _) => refuse_block(rows, order, block),
-        (_, Answer::Placed(block)) => Reason::FreeBlock(*block),
-        _ => Reason::NoFreeBlock(order),
+    match answer {
+        Answer::Placed(block) => refuse_block(rows, order, block),
+        _ => free_block(rows, seat, group, order, due),
+    }
+}
+
+// Which block can be placed, or that none can.
+fn free_block(rows: &Rows, seat: u32, group: GroupId, order: Order, due: &Answer) -> Reason
+    requires legal { is_legal (state_in rows.now) seat (Action.PlaceBlock group order) ≡ true }
+    requires due { Allows (state_in rows.now) seat (Action.PlaceBlock group order) due.now }
+    ensures { (answer : Answer) → Decides (state_in rows.now) seat (Action.PlaceBlock group order) answer result }
+{
+    match due {
+        Answer::Placed(block) => Reason::FreeBlock(*block),
+        Answer::NoFreeBlock => Reason::NoFreeBlock(order),
+        _ => unreachable!(),
     }
 }
 
@@ -138,7 +150,7 @@ fn refuse_block(rows: &Rows, order: Order, block: &Block) -> Reason
         (state_in rows.now).phases) block.now }
     ensures { (seat g : ℕ) → Decides (state_in rows.now) seat (Action.PlaceBlock g order) (Placed block.now) result }
 {
-    if block.order != order {
+    if block.order.exponent() != order.exponent() {
         return Reason::OtherOrder(order);
     }
     if !block.is_block_of(rows.frames) {

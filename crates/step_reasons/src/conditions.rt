@@ -14,9 +14,7 @@ use crate::conditions::PlaceTest::{
     BackFrom, Free, FreshAt, Head, InHand, OutTo, Passable, Returnable,
 };
 use crate::reason::Quantity;
-use crate::reason::Quantity::{
-    Fresh, Listed, Own, Pending, Pins, Reported, Unreported, Usage,
-};
+use crate::reason::Quantity::{Fresh, Listed, Own, Pending, Pins, Reported, Unreported, Usage};
 use group_tree::group::GroupId;
 use group_tree::path::PathText;
 use step_rules::step::{Action, Step};
@@ -114,7 +112,11 @@ pub(crate) fn conditions(step: &Step) -> Conditions
             IsZero(Reported(cpu)),
         ),
         Action::Get { frame } => three(Cpu(seat), Frame(frame), Below(Pins(seat), 256)),
-        Action::Put { frame } => three(AnySeat(seat), Frame(frame), AtLeast(Own { seat, frame }, 1)),
+        Action::Put { frame } => three(
+            AnySeat(seat),
+            Frame(frame),
+            AtLeast(Own { seat, frame }, 1),
+        ),
         Action::Freeze { frame, count } => five(
             ZoneSeat(seat),
             Locked,
@@ -151,9 +153,17 @@ pub(crate) fn conditions(step: &Step) -> Conditions
             Cpu(cpu),
             InPlace(frame, BackFrom(cpu)),
         ),
-        Action::Consume { .. } => three(Cpu(seat), AtLeast(Listed(seat), 1), Below(Fresh(seat), 32)),
+        Action::Consume { .. } => three(
+            Cpu(seat),
+            AtLeast(Listed(seat), 1),
+            Below(Fresh(seat), 32),
+        ),
         Action::Credit { frame } => three(Cpu(seat), Frame(frame), InPlace(frame, FreshAt(seat))),
-        Action::Report { pages } => three(Cpu(seat), Visited(seat), AtLeast(Unreported(seat), pages)),
+        Action::Report { pages } => three(
+            Cpu(seat),
+            Visited(seat),
+            AtLeast(Unreported(seat), pages),
+        ),
         Action::Absorb { cpu } => three(ZoneSeat(seat), Locked, Visited(cpu)),
         Action::Fill { cpu, group, pages } => six(
             ZoneSeat(seat),
@@ -192,7 +202,12 @@ pub(crate) fn conditions(step: &Step) -> Conditions
         ),
         Action::NoteMax { group } => three(ZoneSeat(seat), Locked, Group(group)),
         Action::NoteOom { group } => three(ZoneSeat(seat), Locked, Group(group)),
-        Action::NoteGroupKill { group } => four(ZoneSeat(seat), Locked, Group(group), NotRoot(group)),
+        Action::NoteGroupKill { group } => four(
+            ZoneSeat(seat),
+            Locked,
+            Group(group),
+            NotRoot(group),
+        ),
         Action::SetMax { group, .. } => four(ZoneSeat(seat), Locked, Group(group), NotRoot(group)),
         Action::SetFlag { group, .. } => four(ZoneSeat(seat), Locked, Group(group), NotRoot(group)),
         Action::Make { path } => three(ZoneSeat(seat), Locked, Makeable(path)),

@@ -1,6 +1,7 @@
 //! Which conditions a state meets.
 
-ghost use Rattle.std.specs.Prelude.{◌≡◌, ◌<◌, ◌^◌};
+ghost use Rattle.std.specs.Prelude.{◌≡◌};
+ghost use Rattle.group_tree.specs.Groups.{has_child};
 ghost use Rattle.core_rows.specs.Shown.{state_in};
 ghost use Rattle.core_rows.specs.Rooms.{FitsZone, IsBelowBounds};
 ghost use Rattle.step_reasons.specs.Conditions.{is_in_place, is_met, quantity_in};
@@ -8,11 +9,10 @@ ghost use Rattle.step_reasons.specs.Conditions.{is_in_place, is_met, quantity_in
 use crate::conditions::{Condition, PlaceTest};
 use crate::reason::Quantity;
 use core_rows::holds::{is_held_by, is_unheld, may_zone_act, visits};
-use core_rows::phases::{
-    is_free, is_fresh_at, is_head, is_head_in_hand, passes_back, passes_out,
-};
+use core_rows::phases::{is_free, is_fresh_at, is_head, is_head_in_hand, passes_back, passes_out};
 use core_rows::rows::Rows;
 use core_steps::legal::{is_passable, is_returnable, takes_fill};
+use group_tree::group::GroupId;
 
 /// The number in the state.
 pub(crate) fn quantity(rows: &Rows, what: &Quantity) -> u128
@@ -62,9 +62,20 @@ pub(crate) fn is_met(rows: &Rows, condition: &Condition) -> bool
         Condition::TakesFill(cpu, group) => takes_fill(rows, cpu, group),
         Condition::NotKilled(group) => !rows.is_killed(group),
         Condition::NotRoot(group) => group.number() != 0,
-        Condition::NoChild(group) => !rows.tree.has_child(group),
+        Condition::NoChild(group) => !has_child(rows, group),
         Condition::Makeable(path) => rows.tree.make_fault(path.as_bytes()).is_none(),
     }
+}
+
+// Whether a group is below this one.
+#[tactic(auto, using(crate::proofs::Childless::childless))]
+fn has_child(rows: &Rows, group: GroupId) -> bool
+    ensures { result ≡ has_child rows.now.tree group }
+{
+    if !rows.tree.contains(group) {
+        return false;
+    }
+    rows.tree.has_child(group)
 }
 
 // Whether the frame is in this place.

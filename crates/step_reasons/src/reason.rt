@@ -47,13 +47,25 @@ pub enum Reason {
     /// There is no such group.
     NoGroup(GroupId),
     /// A number.
-    Number { what: Quantity, count: u128 },
+    Number {
+        what: Quantity,
+        count: u128,
+    },
     /// What a frame is.
-    Place { frame: u32, phase: Phase },
+    Place {
+        frame: u32,
+        phase: Phase,
+    },
     /// A frame isn't the first of a CPU's list.
-    NotFirst { frame: u32, cpu: u32 },
+    NotFirst {
+        frame: u32,
+        cpu: u32,
+    },
     /// The unit that a frame heads is collected, and its group isn't killed.
-    Unkilled { frame: u32, group: GroupId },
+    Unkilled {
+        frame: u32,
+        group: GroupId,
+    },
     /// A frame has 1 to 255 references.
     BadCount,
     /// A CPU's stock: the group of its last fill, and whether it was drained since.
@@ -63,7 +75,10 @@ pub enum Reason {
         is_drained: bool,
     },
     /// A CPU's book isn't 0, and its stock is of this group.
-    Book { cpu: u32, group: Option<GroupId> },
+    Book {
+        cpu: u32,
+        group: Option<GroupId>,
+    },
     /// The group is killed.
     Killed(GroupId),
     /// The group is the root.
@@ -84,7 +99,10 @@ pub enum Reason {
         limit: u32,
     },
     /// Each limit on the path from the group up has room for this many pages more.
-    Room { group: GroupId, pages: u32 },
+    Room {
+        group: GroupId,
+        pages: u32,
+    },
     /// The block is free.
     FreeBlock(Block),
     /// No block of the order is free.
