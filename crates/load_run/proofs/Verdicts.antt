@@ -5,6 +5,8 @@ use Rattle.std.specs.Prelude.{◌⊎◌, ⊤, is_some}
 use Rattle.std.specs.Io.KnownBytes.{Appends}
 use Rattle.std.proofs.KnownBytes.{Appends-nil}
 use Rattle.step_rules.specs.declared.step.Answer.{Answer}
+use Rattle.step_reasons.specs.declared.reason.Reason.{Reason}
+use Rattle.log_check.specs.declared.verdict.LogEnd.{LogEnd}
 use Rattle.log_check.specs.declared.verdict.LogVerdict.{LogVerdict}
 use Rattle.log_check.specs.declared.verdict.LogVerdict.TheVariants.{BadLine, Legal, NotLegal}
 use Rattle.log_check.specs.Verdicts.{IsLegalLog, IsLogVerdict, says_legal}
@@ -38,9 +40,9 @@ verdict_of None end is exact = tt
 verdict_of (Some text) end is exact = (is, exact)
 
 -- the log is legal, and that was written
-checks_legal : (input before after faults : Option (List ℕ)) (steps : ℕ) → IsLogVerdictOf input (Legal steps)
-    → Appends before after (verdict_text (Legal steps)) → Checks input (written before faults) (written after faults) 0
-checks_legal input before after faults steps is whole = record {
+checks_legal : (input before after faults : Option (List ℕ)) (steps free : ℕ) (end : LogEnd) → IsLogVerdictOf input (Legal steps free end)
+    → Appends before after (verdict_text (Legal steps free end)) → Checks input (written before faults) (written after faults) 0
+checks_legal input before after faults steps free end is whole = record {
   status_at_most = omega arith;
   silent = λ zero. refl;
   legal = λ zero. go input is;
@@ -49,14 +51,14 @@ checks_legal input before after faults steps is whole = record {
   bad_line = λ two. absurd (omega (arith, two));
 }
   where
-    go : (bytes : Option (List ℕ)) → IsLogVerdictOf bytes (Legal steps) → IfSome bytes (ReportsLegal before after)
+    go : (bytes : Option (List ℕ)) → IsLogVerdictOf bytes (Legal steps free end) → IfSome bytes (ReportsLegal before after)
     go None is = tt
-    go (Some text) is = record { steps = steps; keeps = is.0; written = whole }
+    go (Some text) is = record { steps = steps; free = free; end = end; keeps = is.0; written = whole }
 
 -- a step is not legal, and that was written
-checks_not_legal : (input before after faults : Option (List ℕ)) (line step : ℕ) (expected : Answer) → IsLogVerdictOf input (NotLegal line step expected)
-    → Appends before after (verdict_text (NotLegal line step expected)) → Checks input (written before faults) (written after faults) 1
-checks_not_legal input before after faults line step expected is whole = record {
+checks_not_legal : (input before after faults : Option (List ℕ)) (line step : ℕ) (expected : Answer) (reason : Reason) → IsLogVerdictOf input (NotLegal line step expected reason)
+    → Appends before after (verdict_text (NotLegal line step expected reason)) → Checks input (written before faults) (written after faults) 1
+checks_not_legal input before after faults line step expected reason is whole = record {
   status_at_most = omega arith;
   silent = λ zero. refl;
   legal = λ zero. absurd (omega (arith, zero));
@@ -65,13 +67,14 @@ checks_not_legal input before after faults line step expected is whole = record 
   bad_line = λ two. absurd (omega (arith, two));
 }
   where
-    go : (bytes : Option (List ℕ)) → IsLogVerdictOf bytes (NotLegal line step expected)
+    go : (bytes : Option (List ℕ)) → IsLogVerdictOf bytes (NotLegal line step expected reason)
         → IfSome bytes (λ text. ReportsNotLegal (written before faults) (written after faults) text ⊎ FailsToCheck (written before faults) (written after faults) text)
     go None is = tt
     go (Some text) is = inl (record {
       line = line;
       step = step;
       expected = expected;
+      reason = reason;
       breaks = is.0;
       not_legal = λ legal. false≢true (is.1.1 legal);
       written = whole;
@@ -81,10 +84,10 @@ checks_not_legal input before after faults line step expected is whole = record 
 -- what was to be written was, whole
 pub checks_written : (input before after faults : Option (List ℕ)) (end : LogVerdict) (status : ℕ) → IsLogVerdictOf input end → IsVerdict end status
     → Appends before after (verdict_text end) → Checks input (written before faults) (written after faults) status
-checks_written input before after faults (Legal steps) status is verdict whole =
-    subst (Checks input (written before faults) (written after faults)) (sym verdict) (checks_legal input before after faults steps is whole)
-checks_written input before after faults (NotLegal line step expected) status is verdict whole =
-    subst (Checks input (written before faults) (written after faults)) (sym verdict) (checks_not_legal input before after faults line step expected is whole)
+checks_written input before after faults (Legal steps free end) status is verdict whole =
+    subst (Checks input (written before faults) (written after faults)) (sym verdict) (checks_legal input before after faults steps free end is whole)
+checks_written input before after faults (NotLegal line step expected reason) status is verdict whole =
+    subst (Checks input (written before faults) (written after faults)) (sym verdict) (checks_not_legal input before after faults line step expected reason is whole)
 checks_written input before after faults (BadLine line) status is verdict whole = absurd verdict
 
 -- the input is no log, and that was told

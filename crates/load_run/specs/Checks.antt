@@ -3,6 +3,8 @@ use Rattle.std.specs.Prelude.{◌≡◌, ◌⊎◌, ◌↔◌, ℕ, ◌≤◌, L
 use Rattle.std.specs.Io.KnownBytes.{Appends}
 use Rattle.step_rules.specs.declared.step.Answer.{Answer}
 use Rattle.log_lines.specs.Log.{IsFirstBadLine}
+use Rattle.step_reasons.specs.declared.reason.Reason.{Reason}
+use Rattle.log_check.specs.declared.verdict.LogEnd.{LogEnd}
 use Rattle.log_check.specs.declared.verdict.LogVerdict.{LogVerdict}
 use Rattle.log_check.specs.declared.verdict.LogVerdict.TheVariants.{BadLine, Legal, NotLegal}
 use Rattle.log_check.specs.Verdicts.{BreaksRules, IsLegalLog, IsLogVerdict, KeepsPromise, says_legal}
@@ -15,21 +17,24 @@ use Rattle.load_run.specs.Fault.{fault_text}
 use Rattle.line_streams.specs.Writing.{AppendsBeginning}
 
 -- the text is that of a legal run of so many steps, and the promise holds at each beginning of it that leaves the lock
--- free; the output got the line that says so
+-- free, which so many do; the run leaves this at its end, and the output got the lines that say so
 pub record ReportsLegal (before after : Option (List ℕ)) (text : List ℕ) : Type 0 where
   pub steps : ℕ
-  pub keeps : KeepsPromise text steps
-  pub written : Appends before after (verdict_text (Legal steps))
+  pub free : ℕ
+  pub end : LogEnd
+  pub keeps : KeepsPromise text steps free end
+  pub written : Appends before after (verdict_text (Legal steps free end))
 
--- the text is that of no legal run: this step is the first that breaks the rules, and this answer was due; the output
--- got the line that says so, and no fault is reported
+-- the text is that of no legal run: this step is the first that breaks the rules, and this answer was due, for this
+-- reason; the output got the line that says so, and no fault is reported
 pub record ReportsNotLegal (before after : Written) (text : List ℕ) : Type 0 where
   pub line : ℕ
   pub step : ℕ
   pub expected : Answer
-  pub breaks : BreaksRules text line step expected
+  pub reason : Reason
+  pub breaks : BreaksRules text line step expected reason
   pub not_legal : ¬ IsLegalLog text
-  pub written : Appends before.output after.output (verdict_text (NotLegal line step expected))
+  pub written : Appends before.output after.output (verdict_text (NotLegal line step expected reason))
   pub silent : after.faults ≡ before.faults
 
 -- the text is that of no log: this line is the first bad one; the fault writer got that, as far as it took it
@@ -80,8 +85,8 @@ IsLogVerdictOf input verdict =
 
 -- this is a log, and has this status: 0 if it is legal, 1 if it isn't
 abbrev pub IsVerdict : LogVerdict → ℕ → Type 0
-IsVerdict (Legal steps) status = status ≡ 0
-IsVerdict (NotLegal line step expected) status = status ≡ 1
+IsVerdict (Legal steps free end) status = status ≡ 0
+IsVerdict (NotLegal line step expected reason) status = status ≡ 1
 IsVerdict (BadLine line) status = ⊥
 
 -- what the output got of a line that wasn't written whole: a beginning if the output failed, nothing if memory ran out

@@ -8,7 +8,9 @@ use Rattle.std.proofs.lemmas.Bool.{false≢true}
 use Rattle.std.proofs.lemmas.Grind.{flat_map-append}
 use Rattle.std.proofs.lemmas.List.Elements.{All-append}
 use Rattle.step_rules.specs.declared.step.Answer.{Answer}
-use Rattle.mem_core.specs.Shown.{CoreState}
+use Rattle.step_rules.specs.State.{State}
+use Rattle.step_reasons.specs.declared.reason.Reason.{Reason}
+use Rattle.mem_core.specs.Shown.{CoreState, state_shown}
 use Rattle.mem_core.proofs.Keeping.{always_keeps}
 use Rattle.log_lines.specs.declared.line.LogLine.{LogLine}
 use Rattle.log_lines.specs.Line.{IsLineText}
@@ -23,7 +25,9 @@ use Rattle.log_check.specs.declared.progress.Progress.{Progress}
 use Rattle.log_check.specs.declared.progress.Taken.{Taken}
 use Rattle.log_check.specs.declared.progress.Taken.TheVariants.{GoesOn, NotLegal, Bad}
 use Rattle.log_check.specs.Verdicts.{BreaksRules, IsLogVerdict, KeepsPromise, zone_in}
-use Rattle.log_check.specs.Taking.{AreWholeLines, CountsSteps, EndsIllegally, HasChecked, HasRead, HasTaken, Reads, StepsAre, Takes}
+use Rattle.log_check.specs.declared.verdict.LogEnd.{LogEnd}
+use Rattle.log_check.specs.Ends.{IsEnd}
+use Rattle.log_check.specs.Taking.{AreWholeLines, Checked, CountsSteps, EndsIllegally, HasChecked, HasRead, HasTaken, Reads, StepsAre, Takes}
 
 abbrev NoFeed : List ℕ → Type 0
 NoFeed line = All (λ b. b ≢ 10) line
@@ -65,15 +69,15 @@ whole_more before r l m h is one =
 -- ---- what is read
 
 -- nothing is read at first
-pub read_none : (r : LogReader) → r.line.items ≡ [] → r.lines ≡ 0 → r.progress.checker ≡ None → HasRead [] r
-read_none r empty none checker = record {
+pub read_none : (r : LogReader) → r.line.items ≡ [] → r.lines ≡ 0 → r.progress.checker ≡ None → r.progress.free ≡ 0 → HasRead [] r
+read_none r empty none checker free = record {
   front = [];
   parts = sym empty;
   no_feed = subst NoFeed (sym empty) (λ k d h. absurd (omega (arith, h)));
   taken = record {
     lines = [];
     are = record { texts = []; cut = record { parts = refl; no_feeds = tt }; says = tt; count_is = none };
-    checked = subst (λ c. HasChecked c []) (sym checker) refl;
+    checked = subst (λ c. Checked c r.progress.free []) (sym checker) (refl, free);
   };
 }
 
@@ -86,21 +90,21 @@ feed_less xs b all one = All-append (λ (x : ℕ). x ≢ 10) xs (b ∷ []) all (
 
 -- one byte more of the line
 pub read_byte : (before : List ℕ) (r s : LogReader) (b : ℕ) → HasRead before r → b ≢ 10 → s.line.items ≡ r.line.items ++ b ∷ []
-    → s.lines ≡ r.lines → s.progress.checker ≡ r.progress.checker → HasRead (before ++ b ∷ []) s
-read_byte before r s b h other line lines checker = record {
+    → s.lines ≡ r.lines → s.progress ≡ r.progress → HasRead (before ++ b ∷ []) s
+read_byte before r s b h other line lines progress = record {
   front = h.front;
   parts = ap (λ (x : List ℕ). x ++ b ∷ []) h.parts ∙ append_assoc h.front r.line.items (b ∷ []) ∙ ap (λ (x : List ℕ). h.front ++ x) (sym line);
   no_feed = subst NoFeed (sym line) (feed_less r.line.items b h.no_feed other);
   taken = record {
     lines = h.taken.lines;
     are = subst (λ n. AreWholeLines h.front n h.taken.lines) (sym lines) h.taken.are;
-    checked = subst (λ c. HasChecked c h.taken.lines) (sym checker) h.taken.checked;
+    checked = subst (λ (p : Progress). HasChecked p h.taken.lines) (sym progress) h.taken.checked;
   };
 }
 
 -- the line ended, and the log goes on
 pub read_line : (before : List ℕ) (r s : LogReader) (l : LogLine) → HasRead before r → IsLineText r.line.items l
-    → ((lines : List LogLine) → HasChecked r.progress.checker lines → HasChecked s.progress.checker (lines ++ l ∷ []))
+    → ((lines : List LogLine) → HasChecked r.progress lines → HasChecked s.progress (lines ++ l ∷ []))
     → s.line.items ≡ [] → s.lines ≡ r.lines + 1 → HasRead (before ++ 10 ∷ []) s
 read_line before r s l h is takes empty one = record {
   front = before ++ 10 ∷ [];
@@ -116,11 +120,11 @@ read_line before r s l h is takes empty one = record {
 -- ---- what the text is known to be
 
 -- a step was not allowed
-pub line_illegal : (before rest : List ℕ) (r : LogReader) (l : LogLine) (line steps : ℕ) (expected : Answer) → HasRead before r
+pub line_illegal : (before rest : List ℕ) (r : LogReader) (l : LogLine) (line steps : ℕ) (expected : Answer) (reason : Reason) → HasRead before r
     → IsLineText r.line.items l
-    → ((lines : List LogLine) → HasChecked r.progress.checker lines → EndsIllegally (lines ++ l ∷ []) steps expected)
-    → line ≡ r.lines + 1 → BreaksRules ((before ++ 10 ∷ []) ++ rest) line steps expected
-line_illegal before rest r l line steps expected h is takes one =
+    → ((lines : List LogLine) → HasChecked r.progress lines → EndsIllegally (lines ++ l ∷ []) steps expected reason)
+    → line ≡ r.lines + 1 → BreaksRules ((before ++ 10 ∷ []) ++ rest) line steps expected reason
+line_illegal before rest r l line steps expected reason h is takes one =
     let ends = takes h.taken.lines h.taken.checked in
     let are = whole_more before r l line h is one in
     record {
@@ -132,11 +136,12 @@ line_illegal before rest r l line steps expected h is takes one =
       line_is = are.count_is;
       step_is = ends.count;
       first = ends.first;
+      why = ends.why;
     }
 
-begins : (checker : Option CoreState) (lines : List LogLine) → HasChecked checker lines → MayBegin lines
-begins None lines checked = inl checked
-begins (Some s) lines checked = inr (checked.log, checked.order)
+begins : (checker : Option CoreState) (free : ℕ) (lines : List LogLine) → Checked checker free lines → MayBegin lines
+begins None free lines checked = inl checked.0
+begins (Some s) free lines checked = inr (checked.log, checked.order)
 
 -- what follows the lines before is bad
 first_bad : (text before rest : List ℕ) (r : LogReader) (line : ℕ) (h : HasRead before r) → text ≡ h.front ++ rest → EndsBadly h.taken.lines rest
@@ -149,7 +154,7 @@ first_bad text before rest r line h parts bad one = record {
   lines = h.taken.lines;
   cut = h.taken.are.cut;
   says = h.taken.are.says;
-  begins = begins r.progress.checker h.taken.lines h.taken.checked;
+  begins = begins r.progress.checker r.progress.free h.taken.lines h.taken.checked;
   place = one ∙ ap (λ k. k + 1) h.taken.are.count_is;
   bad = bad;
 }
@@ -160,7 +165,7 @@ some_text (c ∷ x) b rest e = cc
 
 -- the line ended, and no log goes on with it
 pub line_bad : (before rest : List ℕ) (r : LogReader) (line : ℕ) → HasRead before r
-    → ((lines : List LogLine) (l : LogLine) → HasChecked r.progress.checker lines → IsLineText r.line.items l → ¬ MayBegin (lines ++ l ∷ []))
+    → ((lines : List LogLine) (l : LogLine) → HasChecked r.progress lines → IsLineText r.line.items l → ¬ MayBegin (lines ++ l ∷ []))
     → line ≡ r.lines + 1 → IsFirstBadLine ((before ++ 10 ∷ []) ++ rest) line
 line_bad before rest r line h none one =
     let t = r.line.items in
@@ -176,8 +181,8 @@ line_bad before rest r line h none one =
 
 -- no other line has the text
 pub only_line : (r : LogReader) (known : LogLine) → IsLineText r.line.items known
-    → ((lines : List LogLine) → HasChecked r.progress.checker lines → ¬ MayBegin (lines ++ known ∷ []))
-    → (lines : List LogLine) (l : LogLine) → HasChecked r.progress.checker lines → IsLineText r.line.items l → ¬ MayBegin (lines ++ l ∷ [])
+    → ((lines : List LogLine) → HasChecked r.progress lines → ¬ MayBegin (lines ++ known ∷ []))
+    → (lines : List LogLine) (l : LogLine) → HasChecked r.progress lines → IsLineText r.line.items l → ¬ MayBegin (lines ++ l ∷ [])
 only_line r known is bad lines l checked other =
     subst (λ x. ¬ MayBegin (lines ++ x ∷ [])) (same_line r.line.items known l is other) (bad lines checked)
 
@@ -225,37 +230,32 @@ pub end_bad : (before : List ℕ) (r : LogReader) (line : ℕ) → HasRead befor
     → line ≡ r.lines + 1 → IsFirstBadLine before line
 end_bad before r line h none one =
     let bad : EndsBadly h.taken.lines r.line.items = record {
-      no_sizes = λ e. subst (λ c. HasChecked c h.taken.lines) (none e) h.taken.checked;
+      no_sizes = λ e. (subst (λ c. Checked c r.progress.free h.taken.lines) (none e) h.taken.checked).0;
       no_line = λ next more l no_feed e is. absurd (cut_off r.line.items next more h.no_feed e);
     } in
     first_bad before before r.line.items r line h h.parts bad one
 
-end_well : (before : List ℕ) (checker : Option CoreState) (n steps : ℕ) (s : CoreState) (t : HasTaken before n checker) → checker ≡ Some s
-    → s.steps ≡ steps → KeepsPromise before steps
-end_well before checker n steps s t some count =
-    let leads = subst (λ c. HasChecked c t.lines) some t.checked in
+end_well : (before : List ℕ) (p : Progress) (n : ℕ) (s : CoreState) (end : LogEnd) (t : HasTaken before n p) → p.checker ≡ Some s
+    → s.steps ≡ p.steps → IsEnd (state_shown s) end → KeepsPromise before p.steps p.free end
+end_well before p n s end t some count left =
+    let leads = subst (λ c. Checked c p.free t.lines) some t.checked in
     record {
       log = leads.log;
       is = record { texts = t.are.texts; lines = t.lines; cut = t.are.cut; says = t.are.says; in_order = leads.order };
       count = sym count ∙ leads.count;
+      free_is = leads.free_is;
+      end_is = subst (λ (x : State). IsEnd x end) leads.state left;
       legal = leads.legal;
       promise = always_keeps (zone_in leads.log) leads.log.run leads.legal;
     }
 
-pub end_legal : (before : List ℕ) (r : LogReader) (steps : ℕ) (s : CoreState) → HasRead before r → r.line.items ≡ [] → r.progress.checker ≡ Some s
-    → s.steps ≡ steps → KeepsPromise before steps
-end_legal before r steps s h empty some count =
-    let all : h.front ≡ before = sym (h.parts ∙ ap (λ (x : List ℕ). h.front ++ x) empty ∙ append-nil h.front) in
-    subst (λ (x : List ℕ). KeepsPromise x steps) all (end_well h.front r.progress.checker r.lines steps s h.taken some count)
-
 -- by what is known of the checker
-pub ends_well : (before : List ℕ) (r : LogReader) → HasRead before r → CountsSteps r.progress → r.line.items ≡ [] → is_some r.progress.checker ≡ true
-    → KeepsPromise before r.progress.steps
-ends_well before r h counts empty some = go r.progress.checker refl
-  where
-    go : (checker : Option CoreState) → r.progress.checker ≡ checker → KeepsPromise before r.progress.steps
-    go None is = absurd (false≢true (ap is_some (sym is) ∙ some))
-    go (Some s) is = end_legal before r r.progress.steps s h empty is (subst (λ c. StepsAre c r.progress.steps) is counts)
+pub ends_well : (before : List ℕ) (r : LogReader) (s : CoreState) (end : LogEnd) → HasRead before r → CountsSteps r.progress → r.line.items ≡ []
+    → r.progress.checker ≡ Some s → IsEnd (state_shown s) end → KeepsPromise before r.progress.steps r.progress.free end
+ends_well before r s end h counts empty some left =
+    let all : h.front ≡ before = sym (h.parts ∙ ap (λ (x : List ℕ). h.front ++ x) empty ∙ append-nil h.front) in
+    let count : s.steps ≡ r.progress.steps = subst (λ c. StepsAre c r.progress.steps) some counts.steps in
+    subst (λ (x : List ℕ). KeepsPromise x r.progress.steps r.progress.free end) all (end_well h.front r.progress r.lines s end h.taken some count left)
 
 pub ends_badly : (before : List ℕ) (r : LogReader) (line : ℕ) → HasRead before r → (r.line.items ≡ [] → is_some r.progress.checker ≡ false)
     → line ≡ r.lines + 1 → IsFirstBadLine before line
@@ -269,13 +269,13 @@ ends_badly before r line h none one = end_bad before r line h (λ empty. nothing
 
 -- the line that ended was taken so, or there is no line that has its text
 abbrev pub Judged : LogReader → Progress → Taken → Type 0
-Judged r now taken = ((l : LogLine) × IsLineText r.line.items l × ((lines : List LogLine) → HasChecked r.progress.checker lines → Takes lines l now taken))
+Judged r now taken = ((l : LogLine) × IsLineText r.line.items l × ((lines : List LogLine) → HasChecked r.progress lines → Takes lines l now taken))
     ⊎ ((taken ≡ Bad) × ((l : LogLine) → ¬ IsLineText r.line.items l))
 
 -- what is known of the log then
 abbrev pub end_of : Taken → (line steps : ℕ) → Option LogVerdict
 end_of GoesOn line steps = None
-end_of (NotLegal expected) line steps = Some (kinds.NotLegal line steps expected)
+end_of (NotLegal expected reason) line steps = Some (kinds.NotLegal line (steps + 1) expected reason)
 end_of Bad line steps = Some (kinds.BadLine line)
 
 pub line_ended : (before : List ℕ) (r s : LogReader) (taken : Taken) (end : Option LogVerdict) → HasRead before r → Judged r s.progress taken
@@ -283,9 +283,9 @@ pub line_ended : (before : List ℕ) (r s : LogReader) (taken : Taken) (end : Op
 line_ended before r s GoesOn end h (inl j) empty one is =
     subst (Reads (before ++ 10 ∷ []) s) (sym is) (read_line before r s j.0 h j.1 j.2 empty one)
 line_ended before r s GoesOn end h (inr none) empty one is = let wrong = none.0 in cc
-line_ended before r s (NotLegal expected) end h (inl j) empty one is =
-    subst (Reads (before ++ 10 ∷ []) s) (sym is) (λ rest. line_illegal before rest r j.0 s.lines s.progress.steps expected h j.1 j.2 one)
-line_ended before r s (NotLegal expected) end h (inr none) empty one is = let wrong = none.0 in cc
+line_ended before r s (NotLegal expected reason) end h (inl j) empty one is =
+    subst (Reads (before ++ 10 ∷ []) s) (sym is) (λ rest. line_illegal before rest r j.0 s.lines (s.progress.steps + 1) expected reason h j.1 j.2 one)
+line_ended before r s (NotLegal expected reason) end h (inr none) empty one is = let wrong = none.0 in cc
 line_ended before r s Bad end h (inl j) empty one is =
     subst (Reads (before ++ 10 ∷ []) s) (sym is) (λ rest. line_bad before rest r s.lines h (only_line r j.0 j.1 j.2) one)
 line_ended before r s Bad end h (inr none) empty one is =

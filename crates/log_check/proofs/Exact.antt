@@ -5,6 +5,7 @@ use Rattle.std.proofs.lemmas.List.{take_at}
 use Rattle.step_rules.specs.declared.step.Step.{Step}
 use Rattle.step_rules.specs.declared.step.Answer.{Answer}
 use Rattle.step_rules.specs.State.{Zone}
+use Rattle.step_reasons.specs.declared.reason.Reason.{Reason}
 use Rattle.step_rules.specs.After.{IsLegalRun}
 use Rattle.step_rules.proofs.Runs.{legal_from}
 use Rattle.mem_core.specs.declared.verdict.Verdict.TheVariants as verdict
@@ -63,8 +64,8 @@ legal_front zone run more legal = subst (IsLegalRun zone) (take_at run more (len
 no_verdict : (k : ℕ) (expected : Answer) → verdict.IllegalAt k expected ≡ verdict.Legal → ⊥
 no_verdict k expected e = cc
 
-breaks_rules : (text : List ℕ) (line step : ℕ) (expected : Answer) → BreaksRules text line step expected → ¬ IsLegalLog text
-breaks_rules text line step expected breaks legal =
+breaks_rules : (text : List ℕ) (line step : ℕ) (expected : Answer) (reason : Reason) → BreaksRules text line step expected reason → ¬ IsLegalLog text
+breaks_rules text line step expected reason breaks legal =
     let on = goes_on text breaks.front breaks.rest legal.log breaks.log breaks.parts legal.is breaks.is in
     let zone = zone_in breaks.log in
     let whole : IsLegalRun zone legal.log.run = subst (λ z. IsLegalRun z legal.log.run) on.zone legal.legal in
@@ -72,8 +73,8 @@ breaks_rules text line step expected breaks legal =
     no_verdict (step - 1) expected ((illegal_only zone breaks.log.run (step - 1) expected breaks.first).1 run)
 
 pub exact : (text : List ℕ) (end : LogVerdict) → IsLogVerdict text end → IsTrue (says_legal end) ↔ IsLegalLog text
-exact text (Legal steps) is = (λ yes. record { log = is.log; is = is.is; legal = is.legal }, λ legal. refl)
-exact text (NotLegal line step expected) is = (λ no. absurd (false≢true no), λ legal. absurd (breaks_rules text line step expected is legal))
+exact text (Legal steps free left) is = (λ yes. record { log = is.log; is = is.is; legal = is.legal }, λ legal. refl)
+exact text (NotLegal line step expected reason) is = (λ no. absurd (false≢true no), λ legal. absurd (breaks_rules text line step expected reason is legal))
 exact text (BadLine line) is = (λ no. absurd (false≢true no), λ legal. absurd (bad_line_is_no_log text line legal.log is legal.is))
 
 pub exact_if : (input : Option (List ℕ)) (end : LogVerdict) → IfSome input (λ text. IsLogVerdict text end)

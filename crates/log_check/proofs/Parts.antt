@@ -85,15 +85,15 @@ up_to input left after log piece line so_far fits read short few = record {
 -- a piece more was read, in which a line is named
 pub ended_far : (input left after : Option (List ℕ)) (log : LogReader) (piece : List ℕ) (end : LogVerdict) → IsReadTo input left log → Fits log
     → Consumes left after piece → length piece ≤ 4096 → NamesLineAfter log.lines end → ReadsAsFar end input after
-ended_far input left after log piece (Legal steps) so_far fits read short names = absurd names
-ended_far input left after log piece (NotLegal line step expected) so_far fits read short names = up_to input left after log piece line so_far fits read short names
+ended_far input left after log piece (Legal steps free left_end) so_far fits read short names = absurd names
+ended_far input left after log piece (NotLegal line step expected reason) so_far fits read short names = up_to input left after log piece line so_far fits read short names
 ended_far input left after log piece (BadLine line) so_far fits read short names = up_to input left after log piece line so_far fits read short names
 
 -- all was read
 pub all_far : (input left after : Option (List ℕ)) (log : LogReader) (end : LogVerdict) → IsReadTo input left log → Fits log → Consumes left after []
     → IsAtEnd after → (says_legal end ≡ false → NamesLineAfter log.lines end) → ReadsAsFar end input after
-all_far input left after log (Legal steps) so_far fits read at_end names = at_end
-all_far input left after log (NotLegal line step expected) so_far fits read at_end names =
+all_far input left after log (Legal steps free left_end) so_far fits read at_end names = at_end
+all_far input left after log (NotLegal line step expected reason) so_far fits read at_end names =
     up_to input left after log [] line so_far fits read (omega arith) (names refl)
 all_far input left after log (BadLine line) so_far fits read at_end names =
     up_to input left after log [] line so_far fits read (omega arith) (names refl)

@@ -31,12 +31,12 @@ pub record ReadsUpTo (line : ℕ) (before after : Option (List ℕ)) : Type 0 wh
 
 -- how far a check reads: to the end if the log is legal, or else up to the line that it names
 abbrev pub ReadsAsFar : LogVerdict → (before after : Option (List ℕ)) → Type 0
-ReadsAsFar (Legal steps) before after = IsAtEnd after
-ReadsAsFar (NotLegal line step expected) before after = ReadsUpTo line before after
+ReadsAsFar (Legal steps free end) before after = IsAtEnd after
+ReadsAsFar (NotLegal line step expected reason) before after = ReadsUpTo line before after
 ReadsAsFar (BadLine line) before after = ReadsUpTo line before after
 
 -- the log isn't legal, and the line that is named comes after so many
 abbrev pub NamesLineAfter : ℕ → LogVerdict → Type 0
-NamesLineAfter lines (Legal steps) = ⊥
-NamesLineAfter lines (NotLegal line step expected) = lines < line
+NamesLineAfter lines (Legal steps free end) = ⊥
+NamesLineAfter lines (NotLegal line step expected reason) = lines < line
 NamesLineAfter lines (BadLine line) = lines < line

@@ -1,7 +1,9 @@
 -- The result of a check as text.
-use Rattle.std.specs.Prelude.{ℕ, List, ◌++◌, codes, decimal}
+use Rattle.std.specs.Prelude.{ℕ, List, ◌++◌, Option, None, Some, codes, decimal}
 use Rattle.step_rules.specs.declared.step.Answer.{Answer}
 use Rattle.log_lines.specs.Words.{answer_words, spaced}
+use Rattle.step_reasons.specs.Texts.{reason_text}
+use Rattle.log_check.specs.declared.verdict.LogEnd.{LogEnd}
 use Rattle.log_check.specs.declared.verdict.LogVerdict.{LogVerdict}
 use Rattle.log_check.specs.declared.verdict.LogVerdict.TheVariants.{Legal, NotLegal, BadLine}
 
@@ -11,10 +13,32 @@ place_text line step = codes "line " ++ decimal line ++ codes ": step " ++ decim
 
 -- the answer that is allowed there
 abbrev pub due_text : Answer → List ℕ
-due_text expected = codes " is not legal:" ++ spaced (answer_words expected) ++ codes " was due\n"
+due_text expected = codes " is not legal:" ++ spaced (answer_words expected) ++ codes " was due: "
 
--- the line that says what a log is
+-- how many steps a legal log has
+abbrev pub steps_text : ℕ → List ℕ
+steps_text steps = codes "legal: " ++ decimal steps ++ codes " steps, the promise holds\n"
+
+-- after how many of them the lock was free
+abbrev pub free_text : ℕ → List ℕ
+free_text free = codes "free: the lock was free after " ++ decimal free ++ codes " of them\n"
+
+-- how many units and pages are left
+abbrev pub left_text : LogEnd → List ℕ
+left_text end = codes "left: " ++ decimal end.units ++ codes " units without references, " ++ decimal end.pending
+    ++ codes " pages pending"
+
+-- who holds the lock
+abbrev pub holder_text : Option ℕ → List ℕ
+holder_text None = codes "\n"
+holder_text (Some cpu) = codes ", locked by CPU " ++ decimal cpu ++ codes "\n"
+
+-- what a legal log leaves
+abbrev pub end_text : LogEnd → List ℕ
+end_text end = left_text end ++ holder_text end.holder
+
+-- the lines that say what a log is
 abbrev pub verdict_text : LogVerdict → List ℕ
-verdict_text (Legal steps) = codes "legal: " ++ decimal steps ++ codes " steps, the promise holds\n"
-verdict_text (NotLegal line step expected) = place_text line step ++ due_text expected
+verdict_text (Legal steps free end) = steps_text steps ++ (free_text free ++ end_text end)
+verdict_text (NotLegal line step expected reason) = place_text line step ++ (due_text expected ++ (reason_text reason ++ codes "\n"))
 verdict_text (BadLine line) = codes "bad line " ++ decimal line ++ codes "\n"

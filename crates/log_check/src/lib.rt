@@ -2,6 +2,7 @@
 //! checked as soon as it ends.
 #![tactic(auto)]
 
+mod ending;
 mod progress;
 mod reader;
 mod reading;

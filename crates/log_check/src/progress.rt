@@ -1,6 +1,7 @@
 //! How far the run of a log was checked.
 
 ghost use Rattle.std.specs.Prelude.{◌≡◌, ◌+◌, ◌^◌, ◌<◌, ◌≤◌, IfErr, IfOk, List};
+ghost use Rattle.step_rules.specs.State.{is_unheld, one_if};
 ghost use Rattle.log_lines.specs.declared.line.LogLine.{LogLine};
 ghost use Rattle.log_lines.specs.declared.line.LogLine.TheVariants as kinds;
 ghost use Rattle.log_lines.specs.Line.{IsZone};
@@ -8,9 +9,13 @@ ghost use Rattle.log_check.specs.Taking.{CountsSteps, HasChecked, IsInRange, Tak
 ghost use Rattle.log_check.specs.declared.verdict.LogFault.TheVariants.{NoMemory};
 
 use crate::verdict::LogFault;
+use core_rows::holds::is_unheld;
 use log_lines::line::LogLine;
 use mem_core::checker::Checker;
 use std::alloc::Global;
+use step_reasons::reason::Reason;
+use step_reasons::reason_of;
+use step_rules::phase::Hold;
 use step_rules::step::{Answer, Step};
 use zone_sizes::config::Config;
 
@@ -19,6 +24,8 @@ use zone_sizes::config::Config;
 pub(crate) struct Progress {
     pub(crate) checker: Option<Checker>,
     pub(crate) steps: u64,
+    // How many of them left the lock free.
+    pub(crate) free: u64,
 }
 
 /// The result of a line.
@@ -26,8 +33,8 @@ pub(crate) struct Progress {
 pub(crate) enum Taken {
     /// The log goes on.
     GoesOn,
-    /// The line is a step whose answer the rules don't allow; they allow this one.
-    NotLegal(Answer),
+    /// The line is a step whose answer the rules don't allow; they allow this one, for this reason.
+    NotLegal { expected: Answer, reason: Reason },
     /// No log continues with this line.
     Bad,
 }
@@ -39,7 +46,7 @@ impl Progress {
         requires counts { CountsSteps self.old }
         requires few { self.old.steps + 1 < 2 ^ 64 }
         ensures taken { IfOk result (λ taken.
-            (lines : List LogLine) → HasChecked self.old.checker lines → Takes lines line.now self.new taken) }
+            (lines : List LogLine) → HasChecked self.old lines → Takes lines line.now self.new taken) }
         ensures fault { IfErr result (λ fault. fault ≡ NoMemory) }
         ensures counts { CountsSteps self.new }
         ensures few { self.new.steps ≤ self.old.steps + 1 }
@@ -54,7 +61,7 @@ impl Progress {
     fn take_zone(&mut self, alloc: Global, frames: u32, cpus: u32) -> Result<Taken, LogFault>
         requires sizes { IsZone frames cpus }
         requires counts { CountsSteps self.old }
-        ensures taken { IfOk result (λ taken. (lines : List LogLine) → HasChecked self.old.checker lines
+        ensures taken { IfOk result (λ taken. (lines : List LogLine) → HasChecked self.old lines
             → Takes lines (kinds.Zone frames cpus) self.new taken) }
         ensures fault { IfErr result (λ fault. fault ≡ NoMemory) }
         ensures counts { CountsSteps self.new }
@@ -82,20 +89,32 @@ impl Progress {
     fn take_step(&mut self, step: &Step, answer: &Answer) -> Taken
         requires counts { CountsSteps self.old }
         requires few { self.old.steps + 1 < 2 ^ 64 }
-        ensures taken { (lines : List LogLine) → HasChecked self.old.checker lines
+        ensures taken { (lines : List LogLine) → HasChecked self.old lines
             → Takes lines (kinds.Step step.now answer.now) self.new result }
         ensures counts { CountsSteps self.new }
         ensures few { self.new.steps ≤ self.old.steps + 1 }
     {
         match &mut self.checker {
             None => Taken::Bad,
-            Some(checker) => {
-                self.steps += 1;
-                match checker.accept(step, answer) {
-                    Ok(()) => Taken::GoesOn,
-                    Err(expected) => Taken::NotLegal(expected),
+            Some(checker) => match checker.accept(step, answer) {
+                Ok(()) => {
+                    self.steps += 1;
+                    self.free += free_once(checker.rows().hold);
+                    Taken::GoesOn
                 }
-            }
+                Err(expected) => Taken::NotLegal {
+                    expected,
+                    reason: reason_of(checker.rows(), step, answer, &expected),
+                },
+            },
         }
     }
+}
+
+// 1 if the lock is free, else 0.
+fn free_once(hold: Hold) -> u64
+    ensures once { result ≡ one_if (is_unheld hold) }
+    ensures few { result ≤ 1 }
+{
+    if is_unheld(hold) { 1 } else { 0 }
 }

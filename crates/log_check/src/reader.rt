@@ -6,6 +6,7 @@ ghost use Rattle.log_check.specs.Taking.{Fits, HasRead, Reads};
 ghost use Rattle.log_check.specs.Verdicts.{IsLogVerdict, says_legal};
 ghost use Rattle.log_check.specs.declared.verdict.LogFault.TheVariants.{Input, NoMemory};
 
+use crate::ending::end_of;
 use crate::progress::{Progress, Taken};
 use crate::verdict::{LogFault, LogVerdict};
 use log_lines::parse_line;
@@ -34,6 +35,7 @@ impl LogReader {
             progress: Progress {
                 checker: None,
                 steps: 0,
+                free: 0,
             },
         }
     }
@@ -66,13 +68,19 @@ impl LogReader {
         ensures verdict { (before : List ℕ) → HasRead before self.now → IsLogVerdict before result }
         ensures line { says_legal result ≡ false → NamesLineAfter self.now.lines result }
     {
-        if self.line.is_empty() && self.progress.checker.is_some() {
-            LogVerdict::Legal {
-                steps: self.progress.steps,
-            }
-        } else {
-            LogVerdict::BadLine {
-                line: self.lines + 1,
+        let line = self.lines + 1;
+        match &self.progress.checker {
+            None => LogVerdict::BadLine { line },
+            Some(checker) => {
+                if self.line.is_empty() {
+                    LogVerdict::Legal {
+                        steps: self.progress.steps,
+                        free: self.progress.free,
+                        end: end_of(checker.rows()),
+                    }
+                } else {
+                    LogVerdict::BadLine { line }
+                }
             }
         }
     }
@@ -121,10 +129,11 @@ impl LogReader {
         self.line.clear();
         Ok(match taken {
             Taken::GoesOn => None,
-            Taken::NotLegal(expected) => Some(LogVerdict::NotLegal {
+            Taken::NotLegal { expected, reason } => Some(LogVerdict::NotLegal {
                 line: self.lines,
-                step: self.progress.steps,
+                step: self.progress.steps + 1,
                 expected,
+                reason,
             }),
             Taken::Bad => Some(LogVerdict::BadLine { line: self.lines }),
         })

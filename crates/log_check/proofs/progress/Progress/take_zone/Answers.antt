@@ -5,9 +5,9 @@ use Rattle.log_check.proofs.progress.Progress.take_zone.Goals as goal
 
 pub returns-then-is_some-clause-taken : goal.returns-then-is_some-clause-taken
 returns-then-is_some-clause-taken c = λ lines checked.
-    second_sizes c.args.self.now.checker lines c.args.frames c.args.cpus (sym c.is_some.ensures ∙ c.if-is_some.true) checked
+    second_sizes c.args.self.now.checker c.args.self.now.free lines c.args.frames c.args.cpus (sym c.is_some.ensures ∙ c.if-is_some.true) checked
 
 pub returns-in-Ok-clause-taken : goal.returns-in-Ok-clause-taken
 returns-in-Ok-clause-taken c = λ lines checked.
-    takes_zone lines c.args.frames c.args.cpus c.in-Ok.checker
-    (no_sizes c.args.self.now.checker lines (sym c.is_some.ensures ∙ c.if-is_some.false) checked) c.in-Ok.ensures.state c.in-Ok.ensures.steps
+    takes_zone lines c.args.frames c.args.cpus c.args.self.now.free c.in-Ok.checker
+    (no_sizes c.args.self.now.checker c.args.self.now.free lines (sym c.is_some.ensures ∙ c.if-is_some.false) checked) c.in-Ok.ensures.state c.in-Ok.ensures.steps

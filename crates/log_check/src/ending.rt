@@ -1,0 +1,77 @@
+//! What a log leaves at its end.
+
+ghost use Rattle.std.specs.Prelude.{◌≡◌, ◌≤◌, ◌*◌, ◌^◌};
+ghost use Rattle.group_tree.specs.Bounds.{most_groups};
+ghost use Rattle.step_rules.specs.State.{sum_to, one_if};
+ghost use Rattle.core_rows.specs.Shown.{state_in};
+ghost use Rattle.core_rows.specs.Rooms.{FitsZone, IsBelowBounds};
+ghost use Rattle.log_check.specs.Ends.{IsEnd, holder_of, is_unreferenced};
+
+use crate::verdict::LogEnd;
+use core_rows::phases::is_head;
+use core_rows::rows::Rows;
+use group_tree::group::GroupId;
+use step_rules::phase::Hold;
+
+/// What the state leaves.
+pub(crate) fn end_of(rows: &Rows) -> LogEnd
+    requires fits { FitsZone rows.now }
+    requires bounded { IsBelowBounds (state_in rows.now) }
+    ensures { IsEnd (state_in rows.now) result }
+{
+    LogEnd {
+        units: units(rows),
+        pending: pending(rows),
+        holder: holder(rows.hold),
+    }
+}
+
+// The CPU that holds the lock.
+fn holder(hold: Hold) -> Option<u32>
+    ensures { result ≡ holder_of hold }
+{
+    match hold {
+        Hold::Unheld => None,
+        Hold::HeldBy(cpu) => Some(cpu),
+        Hold::Visiting(cpu) => Some(cpu),
+    }
+}
+
+// Whether the frame heads a unit that has no reference.
+fn is_unreferenced(rows: &Rows, frame: u32) -> bool
+    requires fits { FitsZone rows.now }
+    requires bounded { IsBelowBounds (state_in rows.now) }
+    ensures { result ≡ is_unreferenced (state_in rows.now) frame }
+{
+    is_head(rows.phase(frame)) && rows.live_references(frame) == 0
+}
+
+// How many units have no reference.
+#[tactic(auto, using(core_rows::proofs::Adding::sum_start, core_rows::proofs::Adding::sum_next))]
+fn units(rows: &Rows) -> u32
+    requires fits { FitsZone rows.now }
+    requires bounded { IsBelowBounds (state_in rows.now) }
+    ensures { result ≡ sum_to rows.now.frames (λ f. one_if (is_unreferenced (state_in rows.now) f)) }
+{
+    let mut sum = 0u32;
+    for frame in 0..rows.frames {
+        if is_unreferenced(rows, frame) {
+            sum += 1;
+        }
+    }
+    sum
+}
+
+// How many pages are pending, for all groups together.
+#[tactic(auto, using(core_rows::proofs::Adding::sum_start, core_rows::proofs::Adding::sum_next))]
+fn pending(rows: &Rows) -> u128
+    requires bounded { IsBelowBounds (state_in rows.now) }
+    ensures { result ≡ sum_to most_groups (state_in rows.now).pending }
+{
+    let mut sum = 0u128;
+    for number in 0..64u32 {
+        let group = GroupId::of(number).unwrap();
+        sum += rows.pending(group);
+    }
+    sum
+}

@@ -1,0 +1,3 @@
+pub mod AllMet
+pub mod Childless
+pub mod Pieces
