@@ -110,7 +110,7 @@ first_step said step answer e (inr other) = let same = sym e ∙ other.1 in cc
 pub refuses_step : (free : ℕ) (lines : List LogLine) (step : Step) (answer : Answer) → Checked None free lines → ¬ MayBegin (lines ++ kinds.Step step answer ∷ [])
 refuses_step free lines step answer none begins =
     first_step (filter says_something (lines ++ kinds.Step step answer ∷ [])) step answer
-    (filter_append lines (kinds.Step step answer ∷ []) ∙ ap (λ (ls : List LogLine). ls ++ kinds.Step step answer ∷ []) none) begins
+    (filter_append lines (kinds.Step step answer ∷ []) ∙ ap (λ (ls : List LogLine). ls ++ kinds.Step step answer ∷ []) none.0) begins
 
 step_in_order : (lines : List LogLine) (log : WholeLog) (step : Step) (answer : Answer) → SayInOrder lines log
     → SayInOrder (lines ++ kinds.Step step answer ∷ []) (log_more log step answer)

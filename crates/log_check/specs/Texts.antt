@@ -2,7 +2,7 @@
 use Rattle.std.specs.Prelude.{ℕ, List, ◌++◌, Option, None, Some, codes, decimal}
 use Rattle.step_rules.specs.declared.step.Answer.{Answer}
 use Rattle.log_lines.specs.Words.{answer_words, spaced}
-use Rattle.step_reasons.specs.Texts.{reason_text}
+use Rattle.step_reasons.specs.Texts.{reason_text, said}
 use Rattle.log_check.specs.declared.verdict.LogEnd.{LogEnd}
 use Rattle.log_check.specs.declared.verdict.LogVerdict.{LogVerdict}
 use Rattle.log_check.specs.declared.verdict.LogVerdict.TheVariants.{Legal, NotLegal, BadLine}
@@ -17,21 +17,21 @@ due_text expected = codes " is not legal:" ++ spaced (answer_words expected) ++ 
 
 -- how many steps a legal log has
 abbrev pub steps_text : ℕ → List ℕ
-steps_text steps = codes "legal: " ++ decimal steps ++ codes " steps, the promise holds\n"
+steps_text steps = said (codes "legal: ") steps (codes " steps, the promise holds\n")
 
 -- after how many of them the lock was free
 abbrev pub free_text : ℕ → List ℕ
-free_text free = codes "free: the lock was free after " ++ decimal free ++ codes " of them\n"
+free_text free = said (codes "free: the lock was free after ") free (codes " of them\n")
 
 -- how many units and pages are left
 abbrev pub left_text : LogEnd → List ℕ
-left_text end = codes "left: " ++ decimal end.units ++ codes " units without references, " ++ decimal end.pending
-    ++ codes " pages pending"
+left_text end =
+    said (codes "left: ") end.units (codes " units without references, ") ++ (decimal end.pending ++ codes " pages pending")
 
 -- who holds the lock
 abbrev pub holder_text : Option ℕ → List ℕ
 holder_text None = codes "\n"
-holder_text (Some cpu) = codes ", locked by CPU " ++ decimal cpu ++ codes "\n"
+holder_text (Some cpu) = said (codes ", locked by CPU ") cpu (codes "\n")
 
 -- what a legal log leaves
 abbrev pub end_text : LogEnd → List ℕ

@@ -1,6 +1,6 @@
 //! What a log leaves at its end.
 
-ghost use Rattle.std.specs.Prelude.{◌≡◌, ◌≤◌, ◌*◌, ◌^◌};
+ghost use Rattle.std.specs.Prelude.{◌≡◌, ◌≤◌, ◌<◌, ◌^◌};
 ghost use Rattle.group_tree.specs.Bounds.{most_groups};
 ghost use Rattle.step_rules.specs.State.{sum_to, one_if};
 ghost use Rattle.core_rows.specs.Shown.{state_in};
@@ -46,6 +46,16 @@ fn is_unreferenced(rows: &Rows, frame: u32) -> bool
     is_head(rows.phase(frame)) && rows.live_references(frame) == 0
 }
 
+// 1 if the frame heads a unit that has no reference, else 0.
+fn unreferenced(rows: &Rows, frame: u32) -> u32
+    requires fits { FitsZone rows.now }
+    requires bounded { IsBelowBounds (state_in rows.now) }
+    ensures one { result ≡ one_if (is_unreferenced (state_in rows.now) frame) }
+    ensures few { result ≤ 1 }
+{
+    if is_unreferenced(rows, frame) { 1 } else { 0 }
+}
+
 // How many units have no reference.
 #[tactic(auto, using(core_rows::proofs::Adding::sum_start, core_rows::proofs::Adding::sum_next))]
 fn units(rows: &Rows) -> u32
@@ -55,9 +65,7 @@ fn units(rows: &Rows) -> u32
 {
     let mut sum = 0u32;
     for frame in 0..rows.frames {
-        if is_unreferenced(rows, frame) {
-            sum += 1;
-        }
+        sum += unreferenced(rows, frame);
     }
     sum
 }
@@ -70,8 +78,17 @@ fn pending(rows: &Rows) -> u128
 {
     let mut sum = 0u128;
     for number in 0..64u32 {
-        let group = GroupId::of(number).unwrap();
-        sum += rows.pending(group);
+        sum += pending_for(rows, number);
     }
     sum
+}
+
+// How many pages are pending for the group of this number.
+fn pending_for(rows: &Rows, number: u32) -> u128
+    requires number { number < 64 }
+    requires bounded { IsBelowBounds (state_in rows.now) }
+    ensures pages { result ≡ (state_in rows.now).pending number }
+    ensures few { result ≤ 2 ^ 96 }
+{
+    rows.pending(GroupId::of(number).unwrap())
 }

@@ -1,7 +1,7 @@
 //! The result of a check as text.
 
 ghost use Rattle.std.specs.Prelude.{◌≡◌, ◌++◌, IfOk, codes, decimal};
-ghost use Rattle.step_reasons.specs.Texts.{reason_text};
+ghost use Rattle.step_reasons.specs.Texts.{reason_text, said};
 ghost use Rattle.log_check.specs.declared.verdict.LogVerdict.TheVariants.{BadLine, Legal, NotLegal};
 ghost use Rattle.log_check.specs.Texts.{due_text, end_text, free_text, holder_text, left_text, place_text, steps_text, verdict_text};
 
@@ -48,17 +48,13 @@ fn write_legal(steps: u64, free: u64, end: &LogEnd, text: &mut Vec<u8>) -> Resul
 fn write_steps(steps: u64, text: &mut Vec<u8>) -> Result<(), AllocError>
     ensures { IfOk result (λ _. text.new.items ≡ text.old.items ++ steps_text steps) }
 {
-    text.extend_from_slice(b"legal: ")?;
-    push_number(steps, text)?;
-    text.extend_from_slice(b" steps, the promise holds\n")
+    say(b"legal: ", steps, b" steps, the promise holds\n", text)
 }
 
 fn write_free(free: u64, text: &mut Vec<u8>) -> Result<(), AllocError>
     ensures { IfOk result (λ _. text.new.items ≡ text.old.items ++ free_text free) }
 {
-    text.extend_from_slice(b"free: the lock was free after ")?;
-    push_number(free, text)?;
-    text.extend_from_slice(b" of them\n")
+    say(b"free: the lock was free after ", free, b" of them\n", text)
 }
 
 // Appends what a log leaves at its end.
@@ -73,18 +69,31 @@ fn write_end(end: &LogEnd, text: &mut Vec<u8>) -> Result<(), AllocError>
 fn write_left(end: &LogEnd, text: &mut Vec<u8>) -> Result<(), AllocError>
     ensures { IfOk result (λ _. text.new.items ≡ text.old.items ++ left_text end.now) }
 {
-    text.extend_from_slice(b"left: ")?;
-    push_number(u64::from(end.units), text)?;
-    text.extend_from_slice(b" units without references, ")?;
-    push_pages(end.pending, text)?;
-    text.extend_from_slice(b" pages pending")
+    say(
+        b"left: ",
+        u64::from(end.units),
+        b" units without references, ",
+        text,
+    )?;
+    say_pages(end.pending, b" pages pending", text)
 }
 
-fn push_pages(pages: u128, text: &mut Vec<u8>) -> Result<(), AllocError>
-    ensures { IfOk result (λ _. text.new.items ≡ text.old.items ++ decimal pages) }
+// Appends a number between two texts.
+fn say(before: &[u8], number: u64, after: &[u8], text: &mut Vec<u8>) -> Result<(), AllocError>
+    ensures { IfOk result (λ _. text.new.items ≡ text.old.items ++ said before.now number after.now) }
+{
+    text.extend_from_slice(before)?;
+    push_number(number, text)?;
+    text.extend_from_slice(after)
+}
+
+// Appends a number of pages and a text.
+fn say_pages(pages: u128, after: &[u8], text: &mut Vec<u8>) -> Result<(), AllocError>
+    ensures { IfOk result (λ _. text.new.items ≡ text.old.items ++ (decimal pages ++ after.now)) }
 {
     let mut buffer = Buffer::new();
-    text.extend_from_slice(buffer.format(pages).as_bytes())
+    text.extend_from_slice(buffer.format(pages).as_bytes())?;
+    text.extend_from_slice(after)
 }
 
 // Appends who holds the lock at the end.
@@ -93,11 +102,7 @@ fn write_holder(holder: Option<u32>, text: &mut Vec<u8>) -> Result<(), AllocErro
 {
     match holder {
         None => text.extend_from_slice(b"\n"),
-        Some(cpu) => {
-            text.extend_from_slice(b", locked by CPU ")?;
-            push_number(u64::from(cpu), text)?;
-            text.extend_from_slice(b"\n")
-        }
+        Some(cpu) => say(b", locked by CPU ", u64::from(cpu), b"\n", text),
     }
 }
 

@@ -13,5 +13,5 @@ follow (Ok x) old a b z s t u one two three =
 
 pub returns : goal.returns
 returns c =
-    follow c.extend_from_slice-2.result c.args.text.now.items (codes " is not legal:") (spaced (answer_words c.args.expected.now)) (codes " was due\n")
+    follow c.extend_from_slice-2.result c.args.text.now.items (codes " is not legal:") (spaced (answer_words c.args.expected.now)) (codes " was due: ")
     _ _ _ c.in_ok-extend_from_slice.ensures.items c.in_ok-write_answer.ensures c.extend_from_slice-2.ensures.items

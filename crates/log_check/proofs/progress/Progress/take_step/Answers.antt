@@ -1,6 +1,7 @@
 -- Serves the contract of `take_step`: the step goes on the run, or is the first that is not allowed.
 use Rattle.std.proofs.Common.{◌+◌, ◌∙◌, ap, subst, sym}
 use Rattle.step_rules.specs.State.{State, is_unheld, one_if}
+use Rattle.mem_core.specs.Shown.{state_shown}
 use Rattle.log_check.specs.Taking.{Checked, StepsAre}
 use Rattle.step_reasons.specs.Reasons.{IsReason}
 use Rattle.log_check.proofs.Steps.{ends_illegally, takes_step}
@@ -16,6 +17,7 @@ returns-in-Ok-clause-taken c = λ lines checked.
 pub returns-in-Err-clause-taken : goal.returns-in-Err-clause-taken
 returns-in-Err-clause-taken c = λ lines checked.
     let count = subst (λ s. StepsAre s c.args.self.now.steps) c.in-Some.is c.requires.counts.steps in
-    ends_illegally lines c.args.step.now c.args.answer.now c.in-Err.expected c.reason_of-reason.result c.in-Some.checker c.args.self.now.free (c.args.self.now.steps + 1)
+    ends_illegally lines c.args.step.now c.args.answer.now c.in-Err.expected c.reason_of.result c.in-Some.checker c.args.self.now.free (c.args.self.now.steps + 1)
     (subst (λ s. Checked s c.args.self.now.free lines) c.in-Some.is checked) c.in-Err.ensures.denied c.in-Err.ensures.refused
-    ? (ap (λ n. n + 1) (sym count))
+    (subst (λ (x : State). IsReason x c.args.step.now c.args.answer.now c.in-Err.expected c.reason_of.result)
+    (c.rows-in-Err.ensures.state ∙ ap state_shown c.in-Err.ensures.unchanged) c.reason_of.ensures) (ap (λ n. n + 1) (sym count))
