@@ -25,7 +25,8 @@ const SESSION_ANSWERS: &str = "group 1\n\nframe 0\n\n2:4 3:8\n\n16384\n\n";
 const GOOD_LOG: &str =
     "zone 16 2\n# a comment\n1 lock > done\n0 open 1 > done\n0 shut 1 > done\n1 unlock > done\n";
 
-const GOOD_VERDICT: &str = "legal: 4 steps, the promise holds\nfree: the lock was free after 1 of them\nleft: 0 units without references, 0 pages pending\n";
+const GOOD_VERDICT: &str =
+    "legal: 4 steps, the promise holds\nfree: the lock was free after 1 of them\nleft: 0 units without references, 0 pages pending\n";
 
 // The run succeeded, with this output and no fault.
 fn is_good(ended: &ProgramRun, output: &str) -> bool {
