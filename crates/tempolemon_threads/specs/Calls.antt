@@ -91,20 +91,25 @@ pub record ReadsPart (path file : List ℕ) (before after : Option Led) (status 
   pub out_is : out ≡ read_result answer
   pub buffer : PutsRead answer old new
 
--- the buffer is too small for the longest text of a file, and nothing was done
+-- the buffer is refused as too small, and nothing was done
 pub record IsTooSmall (before after : Option Led) (status : ℕ) (out : TypedResult) (old new : List ℕ) : Type 0 where
   pub status_is : status ≡ small_buffer
-  pub small : length old < longest_text
   pub stays : after ≡ before
   pub out_is : out ≡ no_result
   pub buffer_stays : new ≡ old
 
--- what a read of a file does
-abbrev pub ReadsInto : (path file : List ℕ) (before after : Option Led) (status : ℕ) (out : TypedResult)
+-- a read into a buffer with room for the longest text of a file: the handle leads nowhere, or the read was answered
+abbrev pub ReadsBehind : (path file : List ℕ) (before after : Option Led) (status : ℕ) (out : TypedResult)
     (old new : List ℕ) → Type 0
-ReadsInto path file before after status out old new =
-    IsTooSmall before after status out old new
-    ⊎ ((IsNotLive before after status out × (new ≡ old)) ⊎ ReadsPart path file before after status out old new)
+ReadsBehind path file before after status out old new =
+    (IsNotLive before after status out × (new ≡ old)) ⊎ ReadsPart path file before after status out old new
+
+-- What a read of a file does. Whether the buffer has room for the longest text of a file is looked at first, whatever
+-- the handle and the call
+pub record ReadsInto (path file : List ℕ) (before after : Option Led) (status : ℕ) (out : TypedResult)
+    (old new : List ℕ) : Type 0 where
+  pub refused : length old < longest_text → IsTooSmall before after status out old new
+  pub read : longest_text ≤ length old → ReadsBehind path file before after status out old new
 
 -- The buffer and the length of a text, by the answer. If the buffer is too small for a text, the length is what it
 -- needs.

@@ -56,3 +56,19 @@ cpus_out = 111
 -- a part of the zone wasn't there
 abbrev pub lost : ℕ
 lost = 112
+
+-- the statuses with which a boot is answered
+abbrev pub IsBootStatus : ℕ → Type 0
+IsBootStatus status = Contains (done ∷ bad_config ∷ no_memory ∷ is_live ∷ []) status
+
+-- the statuses with which an end is answered
+abbrev pub IsEndStatus : ℕ → Type 0
+IsEndStatus status = Contains (done ∷ not_live ∷ cpus_out ∷ no_memory ∷ lost ∷ []) status
+
+-- the statuses with which a take is answered
+abbrev pub IsTakeStatus : ℕ → Type 0
+IsTakeStatus status = Contains (done ∷ not_live ∷ is_live ∷ bad_cpu ∷ cpu_out ∷ no_memory ∷ busy ∷ []) status
+
+-- the statuses with which a return is answered
+abbrev pub IsReturnStatus : ℕ → Type 0
+IsReturnStatus status = Contains (done ∷ not_live ∷ busy ∷ []) status

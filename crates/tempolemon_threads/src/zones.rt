@@ -3,7 +3,8 @@
 ghost use Rattle.std.specs.Prelude.{◌≡◌, ◌≢◌, ◌↔◌, IsSome, None};
 ghost use Rattle.zone_sizes.specs.Config.{IsValidConfig};
 ghost use Rattle.tempolemon_threads.specs.Behind.{part_behind, zone_behind};
-ghost use Rattle.tempolemon_threads.specs.Statuses.{bad_config, bad_cpu, busy, cpus_out, done, is_live, not_live};
+ghost use Rattle.tempolemon_threads.specs.Statuses.{IsBootStatus, IsEndStatus, IsReturnStatus, IsTakeStatus};
+ghost use Rattle.tempolemon_threads.specs.Statuses.{bad_config, bad_cpu, cpus_out, done, is_live, not_live};
 ghost use Rattle.tempolemon_threads.specs.Zones.{BootsZone, EndsWith, HasNoSuchCpu, ReturnsPart, TakesPart, config_of};
 
 use crate::handles::{CpuPart, Zone};
@@ -21,8 +22,10 @@ use zone_threads::home::{Entered, Left};
 /// the zone stays.
 #[unsafe(no_mangle)]
 pub extern "C" fn tempolemon_zone_boot(alloc: Global, sizes: &Sizes, zone: &mut Zone) -> u8
+    ensures statuses { IsBootStatus result }
     ensures refused_live { (result ≡ is_live) ↔ (zone_behind zone.old ≢ None) }
-    ensures bad_sizes { result ≡ bad_config → ¬ IsValidConfig (config_of sizes.now) }
+    ensures bad_sizes { (result ≡ bad_config)
+        ↔ ((zone_behind zone.old ≡ None) × (¬ IsValidConfig (config_of sizes.now))) }
     ensures booted { result ≡ done → BootsZone (config_of sizes.now) (zone_behind zone.new) }
     ensures stays { result ≢ done → zone_behind zone.new ≡ zone_behind zone.old }
 {
@@ -45,6 +48,7 @@ pub extern "C" fn tempolemon_zone_boot(alloc: Global, sizes: &Sizes, zone: &mut 
 /// Ends the zone and reports what it counted, if all its CPUs are returned. Pins that are still held are put first.
 #[unsafe(no_mangle)]
 pub extern "C" fn tempolemon_zone_end(alloc: Global, zone: &mut Zone, report: &mut Report) -> u8
+    ensures statuses { IsEndStatus result }
     ensures none_live { (result ≡ not_live) ↔ (zone_behind zone.old ≡ None) }
     ensures ended { result ≡ done → EndsWith report.new (zone_behind zone.old) (zone_behind zone.new) }
     ensures cpus_out { result ≡ cpus_out → zone_behind zone.new ≡ zone_behind zone.old }
@@ -73,8 +77,9 @@ pub extern "C" fn tempolemon_try_take(
     cpu: u32,
     part: &mut CpuPart,
 ) -> u8
+    ensures statuses { IsTakeStatus result }
     ensures none_live { (result ≡ not_live) ↔ (zone_behind zone.old ≡ None) }
-    ensures has_cpu { result ≡ is_live → IsSome (part_behind part.old) }
+    ensures has_cpu { (result ≡ is_live) ↔ (IsSome (zone_behind zone.old) × IsSome (part_behind part.old)) }
     ensures no_cpu { result ≡ bad_cpu → HasNoSuchCpu cpu (zone_behind zone.old) }
     ensures taken { result ≡ done → TakesPart cpu (zone_behind zone.old) (part_behind part.new) }
     ensures part_stays { result ≢ done → part_behind part.new ≡ part_behind part.old }
@@ -103,9 +108,10 @@ pub extern "C" fn tempolemon_try_take(
 /// lock.
 #[unsafe(no_mangle)]
 pub extern "C" fn tempolemon_try_return(alloc: Global, part: &mut CpuPart) -> u8
+    ensures statuses { IsReturnStatus result }
     ensures none_live { (result ≡ not_live) ↔ (part_behind part.old ≡ None) }
     ensures returned { result ≡ done → ReturnsPart (part_behind part.old) (part_behind part.new) }
-    ensures busy { result ≡ busy → part_behind part.new ≡ part_behind part.old }
+    ensures stays { result ≢ done → part_behind part.new ≡ part_behind part.old }
 {
     if !part.is_live() {
         return NOT_LIVE;

@@ -1,5 +1,5 @@
 -- Each step of a cell keeps its rule.
-use Rattle.std.proofs.Common.{◌≡◌, ℕ, List, ◌∷◌, [], get_or, sym, refl, ◌∙◌, subst, arith, Option, Some, None, length-set, get_or-set_same}
+use Rattle.std.proofs.Common.{◌≡◌, ℕ, List, ◌∷◌, get_or, sym, refl, ◌∙◌, subst, arith, Option, Some, length-set, get_or-set_same}
 use mathlib.Core.Logic.{dite}
 use mathlib.Core.Option.{some}
 use native.Mathlib.Decide.{ℕ_discrete}

@@ -1,4 +1,4 @@
-use Rattle.std.proofs.Common.{rules, ap, refl, sym, ◌∙◌, ◌++◌, ◌∷◌, [], Some}
+use Rattle.std.proofs.Common.{ap, refl, ◌∙◌, ◌++◌, ◌∷◌, [], Some}
 use Rattle.try_cell.proofs.TryCell.new.Goals as goal
 
 pub new-requires : goal.new-requires

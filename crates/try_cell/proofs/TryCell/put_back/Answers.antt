@@ -1,5 +1,5 @@
-use Rattle.std.proofs.Common.{rules, subst, sym, ◌∙◌, ap, ◌∷◌}
-use Rattle.atomic_table.specs.Table.{Allows, rest}
+use Rattle.std.proofs.Common.{rules, subst, sym}
+use Rattle.atomic_table.specs.Table.{Allows}
 use Rattle.try_cell.specs.Cells.{IsGuarded}
 use Rattle.try_cell.proofs.Steps.{gives_back}
 use Rattle.try_cell.proofs.TryCell.put_back.Goals as goal
