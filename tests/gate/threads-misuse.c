@@ -1,4 +1,4 @@
-/* Each way to misuse the calls for threads, and what a host may rely on about the lock: tests/threads-c runs it. */
+/* Each way to misuse the calls for threads, and what a host may rely on about the lock: tests/gate/threads-c runs it. */
 #define _DEFAULT_SOURCE
 #include <pthread.h>
 #include <stdatomic.h>

@@ -1,4 +1,4 @@
-/* Random typed calls: tests/threads-c runs it.
+/* Random typed calls: tests/gate/threads-c runs it.
  *
  *     threads-storm storm THREADS SECONDS SEED     by so many threads; at the end the audit has to add up
  *     threads-storm replay COMMANDS SEED           by one CPU handle; the script is written to standard output, and what

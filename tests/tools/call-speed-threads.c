@@ -1,6 +1,6 @@
 /* Times calls of the library by threads:
  *
- *     cc -O2 -DNDEBUG tests/call-speed-threads.c -Iout/lib -Lout/lib -ltempolemon -lpthread -o call-speed-threads
+ *     cc -O2 -DNDEBUG tests/tools/call-speed-threads.c -Iout/lib -Lout/lib -ltempolemon -lpthread -o call-speed-threads
  *     ./call-speed-threads [ROUNDS]
  *
  * Each row is the least of five runs. The first number is the time between begin and end over the rounds of all threads,
