@@ -4,7 +4,7 @@ use Rattle.frame_word.specs.Seats.{KnownTable}
 use Rattle.stock_word.specs.Stock.{KnownStockTable}
 use Rattle.cpu_part.specs.Cpus.{KnownCpu}
 use Rattle.mem_system.specs.declared.audit.Audit.{Audit}
-use Rattle.mem_system.specs.Ends.{AddsUp, Ends}
+use Rattle.mem_system.specs.Ends.{AddsUp, Ends, pins_of}
 use Rattle.mem_system.specs.Locked.{BehindLock, KnownLocked}
 use Rattle.zone_threads.specs.declared.home.Entered.{Entered}
 use Rattle.zone_threads.specs.declared.home.Entered.TheVariants as entered
@@ -81,7 +81,9 @@ abbrev pub EndsSome : KnownTable → KnownStockTable → Audit → Type 0
 EndsSome frames stock_table audit =
     (cpus : List KnownCpu) × BehindLock frames stock_table (λ found. Ends frames stock_table found cpus audit)
 
--- the zone ended so, and what was counted adds up
+-- the parked parts had so many pins, the zone ended so, and what was counted adds up
 pub record EndsZone (frames : KnownTable) (stock_table : KnownStockTable) (ended : ZoneEnd) : Type 0 where
+  pub parked : List KnownCpu
+  pub held_is : ended.held ≡ pins_of parked
   pub ends : EndsSome frames stock_table ended.audit
   pub adds_up : AddsUp ended.audit

@@ -1,7 +1,7 @@
 //! The end of a zone, once no thread has a CPU.
 
 ghost use Rattle.std.specs.Prelude.{◌≡◌, [], IfSome, length};
-ghost use Rattle.mem_system.specs.Ends.{AddsUp};
+ghost use Rattle.mem_system.specs.Ends.{AddsUp, pins_of};
 ghost use Rattle.zone_threads.specs.Homes.{EndsSome, EndsZone};
 
 use crate::behind::Behind;
@@ -21,7 +21,8 @@ pub struct ZoneEnd {
 /// Ends a zone by its parts, once no thread has a CPU. Pins that are still held are put first. `None` if the part of a CPU
 /// isn't there, which no call leaves so: the parts stay in memory then.
 pub fn end_parts<N: BootName>(tables: Tables<N>, behind: Behind<N>) -> Option<ZoneEnd>
-    ensures { IfSome result (λ ended. EndsZone N.frames N.stocks ended) }
+    ensures ends { IfSome result (λ ended. EndsZone N.frames N.stocks ended) }
+    ensures held { IfSome result (λ ended. ended.held ≡ pins_of behind.parked) }
 {
     let Behind { locked, parked } = behind;
     if parked.len() != tables.frames.cpus() as usize {
