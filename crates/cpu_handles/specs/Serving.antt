@@ -105,8 +105,8 @@ Serves frames stock_table before (Start alloc boot) after returned.NoMemory = af
 Serves frames stock_table before (Enter number) after (returned.Entered entered) =
     OnHome (λ from to. Enters frames.cpus number from entered to) before after
 Serves frames stock_table before (Leave alloc) after (returned.Left answer) = LeavesFrom answer before after
-Serves frames stock_table before (Text alloc asked) after (returned.Text told) =
-    OnHome (Shows frames stock_table asked told) before after
+Serves frames stock_table before (Text alloc asked) after (returned.Text text) =
+    OnHome (Shows frames stock_table asked text) before after
 Serves frames stock_table before (Text alloc asked) after returned.Busy = after ≡ before
 Serves frames stock_table before (End alloc) after returned.Out = after ≡ before
 Serves frames stock_table before (End alloc) after (returned.Ended ended) =

@@ -138,12 +138,12 @@ fn text<N: BootName>(
     ensures serves { Serves N.frames N.stocks pointer.home (Text alloc asked) result.0.home result.1 }
 {
     let mut home = pointer.into_box_parts().into_box();
-    let told = home.text(alloc, asked);
+    let text = home.text(alloc, asked);
     let pointer = HomePointer::of(BoxParts::of(home));
-    let Some(told) = told else {
+    let Some(text) = text else {
         return (pointer, RequestAnswer::Busy);
     };
-    (pointer, RequestAnswer::Text(told))
+    (pointer, RequestAnswer::Text(text))
 }
 
 fn end<N: BootName>(pointer: HomePointer<N>, alloc: Global) -> (HomePointer<N>, RequestAnswer)

@@ -1,4 +1,4 @@
--- A status that tells a refusal is at most 22.
+-- The number of a refusal is at most 22.
 use Rattle.std.proofs.Common.{ℕ, ◌≤◌, arith}
 use Rattle.group_tree.specs.declared.fault.Fault.{Fault}
 use Rattle.group_tree.specs.declared.fault.Fault.TheVariants.{NoParent, Exists, BadName, TreeFull, TooDeep, NoGroup, HasChildren, Busy, PinsFull, NoFile, ReadOnly}

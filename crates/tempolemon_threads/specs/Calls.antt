@@ -114,9 +114,9 @@ pub record ReadsInto (path file : List ℕ) (before after : Option Led) (status 
 -- The buffer and the length of a text, by the answer. If the buffer is too small for a text, the length is what it
 -- needs.
 abbrev pub GivesText : TextAnswer → (status : ℕ) (old new : List ℕ) (written : ℕ) → Type 0
-GivesText (text.Text told) status old new written =
-    ((status ≡ done) × FillsBuffer (λ shown. shown ≡ told.items) old new written)
-    ⊎ ((status ≡ small_buffer) × (new ≡ old) × ExceedsBuffer (λ shown. shown ≡ told.items) old written)
+GivesText (text.Text answer) status old new written =
+    ((status ≡ done) × FillsBuffer (λ shown. shown ≡ answer.items) old new written)
+    ⊎ ((status ≡ small_buffer) × (new ≡ old) × ExceedsBuffer (λ shown. shown ≡ answer.items) old written)
 GivesText text.NoGroup status old new written = (status ≡ number_of NoGroup) × (new ≡ old) × (written ≡ 0)
 GivesText text.NoMemory status old new written = (status ≡ no_memory) × (new ≡ old) × (written ≡ 0)
 

@@ -84,11 +84,11 @@ pub extern "C" fn tempolemon_try_read(
     }
     match part.read(alloc, &ReadCall { path, file }) {
         ReadAnswer::Busy => BUSY,
-        ReadAnswer::Text(told) => {
-            let told = told.as_bytes();
-            let _fits = copy_answers(told, text);
+        ReadAnswer::Text(shown) => {
+            let shown = shown.as_bytes();
+            let _fits = copy_answers(shown, text);
             *out = TypedResult {
-                number: told.len() as u64,
+                number: shown.len() as u64,
                 kind: TEXT,
             };
             DONE

@@ -142,15 +142,15 @@ impl CpuPart {
     /// Gets a text of the zone; `None` if another thread has the lock.
     pub(crate) fn text(&mut self, alloc: Global, asked: TextCall) -> Option<TextAnswer>
         requires live { IsSome (part_behind self.old) }
-        ensures told { IfSome result (λ told.
-            OnPart (λ frames stocks. Shows frames stocks asked told) (part_behind self.old) (part_behind self.new)) }
+        ensures shown { IfSome result (λ answer.
+            OnPart (λ frames stocks. Shows frames stocks asked answer) (part_behind self.old) (part_behind self.new)) }
         ensures busy { IfNone result (part_behind self.new ≡ part_behind self.old) }
     {
         let raw = std::mem::replace(&mut self.raw, RawHome::none(alloc));
         let (raw, answer) = serve_raw(raw, Request::Text { alloc, asked });
         self.raw = raw;
         match answer {
-            RequestAnswer::Text(told) => Some(told),
+            RequestAnswer::Text(answer) => Some(answer),
             RequestAnswer::Busy => None,
             _ => unreachable!(),
         }

@@ -88,9 +88,9 @@ fn give(
         None => BUSY,
         Some(TextAnswer::NoGroup) => Fault::NoGroup.number() as u8,
         Some(TextAnswer::NoMemory) => NO_MEMORY,
-        Some(TextAnswer::Text(told)) => {
-            *written = told.len();
-            if copy_answers(&told, buffer) {
+        Some(TextAnswer::Text(shown)) => {
+            *written = shown.len();
+            if copy_answers(&shown, buffer) {
                 DONE
             } else {
                 SMALL_BUFFER

@@ -1,4 +1,4 @@
--- The rule of a cell with one word and one slot, and what a taking tells.
+-- The rule of a cell with one word and one slot, and what a take returns.
 use Rattle.std.specs.Prelude.{◌≡◌, ℕ, ◌∷◌, [], Option, Some, None, slice_index, length}
 use mathlib.Core.Option.{some}
 use lib.ListN.{get_elem?}

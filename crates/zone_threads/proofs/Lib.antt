@@ -1,2 +1,2 @@
 mod Putting
-mod UnitsTold
+mod UnitsShown

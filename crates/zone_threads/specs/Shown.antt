@@ -23,26 +23,26 @@ pub record IsShown (shown text : List ℕ) (before after : KnownMachine) : Type 
 
 -- What is said of a text of the units of the group of this path, of the settled state and of the machine that the looks
 -- at words left.
-abbrev pub TellsUnits : (path : List ℕ) → TextAnswer → LockedState → KnownMachine → Type 0
-TellsUnits path (answer.Text text) settled machine =
+abbrev pub SaysUnits : (path : List ℕ) → TextAnswer → LockedState → KnownMachine → Type 0
+SaysUnits path (answer.Text text) settled machine =
     UnitsAt (number_at settled.locked.machine.ledger.groups path) ⊥ (λ shown. text.items ≡ shown)
     settled.locked.machine machine
-TellsUnits path answer.NoGroup settled machine = number_at settled.locked.machine.ledger.groups path ≡ None
-TellsUnits path answer.NoMemory settled machine = Unit {0}
+SaysUnits path answer.NoGroup settled machine = number_at settled.locked.machine.ledger.groups path ≡ None
+SaysUnits path answer.NoMemory settled machine = Unit {0}
 
 -- The same of each text. If memory ran out, the CPU is settled all the same.
-abbrev pub TellsText : TextCall → TextAnswer → LockedState → KnownMachine → Type 0
-TellsText call.Show (answer.Text text) settled machine =
+abbrev pub SaysText : TextCall → TextAnswer → LockedState → KnownMachine → Type 0
+SaysText call.Show (answer.Text text) settled machine =
     IsShown (show_text machine) text.items settled.locked.machine machine
-TellsText call.Blocks (answer.Text text) settled machine =
+SaysText call.Blocks (answer.Text text) settled machine =
     IsShown (blocks_text machine.blocks) text.items settled.locked.machine machine
-TellsText call.Stock (answer.Text text) settled machine =
+SaysText call.Stock (answer.Text text) settled machine =
     IsShown (stock_line_text (visit_state_of settled)) text.items (with_look settled.locked.machine) machine
-TellsText (call.Units path) told settled machine = TellsUnits path.items told settled machine
-TellsText asked answer.NoMemory settled machine = Unit {0}
-TellsText asked told settled machine = ⊥
+SaysText (call.Units path) answer settled machine = SaysUnits path.items answer settled machine
+SaysText asked answer.NoMemory settled machine = Unit {0}
+SaysText asked other settled machine = ⊥
 
 -- what is done for a text
 abbrev pub Shows : KnownTable → KnownStockTable → TextCall → TextAnswer → (from to : KnownHome) → Type 0
-Shows frames stock_table asked told from to =
-    OnCpu (ReadsAfterSettling frames stock_table (TellsText asked told)) from to
+Shows frames stock_table asked answer from to =
+    OnCpu (ReadsAfterSettling frames stock_table (SaysText asked answer)) from to

@@ -2,7 +2,7 @@
 
 ghost use Rattle.std.specs.Prelude.{◌≡◌, IfNone, IfSome, IsSome};
 ghost use Rattle.mem_system.specs.Shown.{ReadsAfterSettling};
-ghost use Rattle.zone_threads.specs.Shown.{Shows, TellsText, TellsUnits};
+ghost use Rattle.zone_threads.specs.Shown.{Shows, SaysText, SaysUnits};
 ghost use Rattle.zone_threads.specs.declared.texts.TextCall.TheVariants.{Blocks, Show, Stock};
 
 use crate::behind::Behind;
@@ -39,7 +39,7 @@ impl<N: BootName> Home<N> {
     /// Settles the CPU, and returns a text, under the lock; `None` if another thread has it.
     pub fn text(&mut self, alloc: Global, asked: TextCall) -> Option<TextAnswer>
         requires some { IsSome self.old.cpu }
-        ensures told { IfSome result (λ told. Shows N.frames N.stocks asked told self.old self.new) }
+        ensures shown { IfSome result (λ answer. Shows N.frames N.stocks asked answer self.old self.new) }
         ensures busy { IfNone result (self.new ≡ self.old) }
     {
         let zone = &*self.zone;
@@ -62,7 +62,7 @@ impl<N: BootName> Behind<N> {
         cpu: &mut Cpu<N>,
         asked: TextCall,
     ) -> TextAnswer
-        ensures { ReadsAfterSettling N.frames N.stocks (TellsText asked result) cpu.old cpu.new }
+        ensures { ReadsAfterSettling N.frames N.stocks (SaysText asked result) cpu.old cpu.new }
     {
         match asked {
             TextCall::Show => self.show(alloc, tables, cpu),
@@ -73,38 +73,38 @@ impl<N: BootName> Behind<N> {
     }
 
     fn show(&mut self, alloc: Global, tables: &Tables<N>, cpu: &mut Cpu<N>) -> TextAnswer
-        ensures { ReadsAfterSettling N.frames N.stocks (TellsText Show result) cpu.old cpu.new }
+        ensures { ReadsAfterSettling N.frames N.stocks (SaysText Show result) cpu.old cpu.new }
     {
         self.locked.prove_quiet();
-        let told = show_text(alloc, &mut self.locked, tables, cpu);
+        let shown = show_text(alloc, &mut self.locked, tables, cpu);
         self.locked.prove_quiet();
-        let Ok(text) = told else {
+        let Ok(text) = shown else {
             return TextAnswer::NoMemory;
         };
         TextAnswer::Text(text)
     }
 
     fn blocks(&mut self, alloc: Global, tables: &Tables<N>, cpu: &mut Cpu<N>) -> TextAnswer
-        ensures { ReadsAfterSettling N.frames N.stocks (TellsText Blocks result) cpu.old cpu.new }
+        ensures { ReadsAfterSettling N.frames N.stocks (SaysText Blocks result) cpu.old cpu.new }
     {
         self.locked.prove_quiet();
-        let told = blocks_text(alloc, &mut self.locked, tables, cpu);
+        let shown = blocks_text(alloc, &mut self.locked, tables, cpu);
         self.locked.prove_quiet();
-        let Ok(text) = told else {
+        let Ok(text) = shown else {
             return TextAnswer::NoMemory;
         };
         TextAnswer::Text(text)
     }
 
     fn stock(&mut self, alloc: Global, tables: &Tables<N>, cpu: &mut Cpu<N>) -> TextAnswer
-        ensures { ReadsAfterSettling N.frames N.stocks (TellsText Stock result) cpu.old cpu.new }
+        ensures { ReadsAfterSettling N.frames N.stocks (SaysText Stock result) cpu.old cpu.new }
     {
         self.locked.prove_quiet();
         settle(&mut self.locked, tables, cpu);
         let mut text = String::new(alloc);
-        let told = write_own_stock(&mut self.locked, tables, cpu, &mut text);
+        let shown = write_own_stock(&mut self.locked, tables, cpu, &mut text);
         self.locked.prove_quiet();
-        let Ok(()) = told else {
+        let Ok(()) = shown else {
             return TextAnswer::NoMemory;
         };
         TextAnswer::Text(text.into_bytes())
@@ -117,14 +117,14 @@ impl<N: BootName> Behind<N> {
         cpu: &mut Cpu<N>,
         path: &[u8],
     ) -> TextAnswer
-        ensures { ReadsAfterSettling N.frames N.stocks (TellsUnits path.now result) cpu.old cpu.new }
+        ensures { ReadsAfterSettling N.frames N.stocks (SaysUnits path.now result) cpu.old cpu.new }
     {
         self.locked.prove_quiet();
         settle(&mut self.locked, tables, cpu);
         let mut text = String::new(alloc);
-        let told = write_units_at(&mut self.locked, tables, path, &mut text);
+        let shown = write_units_at(&mut self.locked, tables, path, &mut text);
         self.locked.prove_quiet();
-        let Ok(is_there) = told else {
+        let Ok(is_there) = shown else {
             return TextAnswer::NoMemory;
         };
         if !is_there {
