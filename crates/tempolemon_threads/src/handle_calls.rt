@@ -104,9 +104,9 @@ impl CpuPart {
         self.raw = raw;
         match answer {
             RequestAnswer::Left(Left::Busy) => Left::Busy,
-            RequestAnswer::Left(left) => {
+            RequestAnswer::Left(Left::Done) => {
                 self.is_live = false;
-                left
+                Left::Done
             }
             _ => unreachable!(),
         }

@@ -58,15 +58,14 @@ pub extern "C" fn tempolemon_zone_end(alloc: Global, zone: &mut Zone, report: &m
     if !zone.is_live() {
         return NOT_LIVE;
     }
-    match zone.end(alloc) {
-        RequestAnswer::Ended(ended) => {
-            *report = Report::of(ended);
-            DONE
-        }
-        RequestAnswer::Out => CPUS_OUT,
-        RequestAnswer::NoMemory => NO_MEMORY,
-        _ => LOST,
-    }
+    let ended = match zone.end(alloc) {
+        RequestAnswer::Ended(ended) => ended,
+        RequestAnswer::Out => return CPUS_OUT,
+        RequestAnswer::NoMemory => return NO_MEMORY,
+        _ => return LOST,
+    };
+    *report = Report::of(ended);
+    DONE
 }
 
 /// Takes the CPU of this number, from 1, for a handle that has none. It tries the lock.
