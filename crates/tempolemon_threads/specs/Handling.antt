@@ -25,7 +25,7 @@ pub record ForksTo (zone : Option Led) (frames : KnownTable) (stocks : KnownStoc
 -- what a fork returns
 abbrev pub ForksAs : Forked → (zone : Option Led) → KnownTable → KnownStockTable → Option KnownHome → Type 0
 ForksAs forked.Done zone frames stocks home = ForksTo zone frames stocks home
-ForksAs forked.NoMemory zone frames stocks home = home ≡ None
+ForksAs forked.NoMemory from frames stocks home = home ≡ None
 
 -- what an entry by a pointer to these tables does
 abbrev pub EntersAs : (number : ℕ) → Entered → KnownTable → KnownStockTable → (after : Option Led) → Type 0

@@ -102,14 +102,15 @@ impl CpuPart {
         let raw = std::mem::replace(&mut self.raw, RawHome::none(alloc));
         let (raw, answer) = serve_raw(raw, Request::Leave { alloc });
         self.raw = raw;
-        match answer {
-            RequestAnswer::Left(Left::Busy) => Left::Busy,
-            RequestAnswer::Left(Left::Done) => {
-                self.is_live = false;
-                Left::Done
-            }
-            _ => unreachable!(),
+        let RequestAnswer::Left(left) = answer else {
+            unreachable!()
+        };
+        match left {
+            Left::Done => self.is_live = false,
+            Left::Busy => {}
+            Left::NoCpu => unreachable!(),
         }
+        left
     }
 
     /// Serves a call of the CPU.

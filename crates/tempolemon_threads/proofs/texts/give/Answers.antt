@@ -34,10 +34,10 @@ pub returns : goal.returns
 returns c = inr (record {
   answer = answer.Text c.in-Some-Text.shown;
   shows = rw c.in-Some-Text.field-0-is at c.in-Some-Text.ensures.shown;
-  gives = inr (refl, (search rules, record {
+  gives = inr (refl, search rules, record {
     text = c.in-Some-Text.shown.items;
     is = refl;
     needed_is = search rules;
     exceeds = search rules;
-  }));
+  });
 })
