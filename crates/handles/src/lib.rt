@@ -9,6 +9,7 @@
 
 pub mod box_parts;
 pub mod calls;
+pub mod crossing;
 pub mod live;
 pub mod live_pointer;
 pub mod raw;

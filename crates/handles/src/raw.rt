@@ -19,7 +19,7 @@ use std::alloc::Global;
 use std::marker::{Brand, Model};
 
 /// A pointer to the parts of a boot, or to nothing, and the tables that the parts are of. If it is dropped, what it
-/// points to stays in memory.
+/// points to stays in memory. It may go to another thread.
 #[repr(C)]
 #[derive(Drop)]
 pub struct RawBoot {
@@ -33,6 +33,8 @@ pub struct RawBoot {
 impl Model for RawBoot {
     ghost also_owns = { λ r. live_owns marker r.frames r.stocks r.alloc r.ptr r.live };
 }
+
+unsafe impl Send for RawBoot {}
 
 impl RawBoot {
     /// A pointer to nothing.

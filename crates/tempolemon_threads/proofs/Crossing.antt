@@ -1,0 +1,49 @@
+-- From a call on the pointer behind a handle to what the handle leads to.
+use Rattle.std.proofs.Common.{◌≡◌, ◌∙◌, Some, None, ap, refl, subst, sym}
+use Rattle.std.proofs.lemmas.Bool.{false≢true}
+use Rattle.std.specs.Prelude.{Bool, IsSome, IsSomeAnd, Option}
+use Rattle.std.specs.Global.{Global}
+use Rattle.cpu_part.specs.Cpus.{KnownCpu}
+use Rattle.frame_word.specs.Seats.{KnownTable}
+use Rattle.stock_word.specs.Stock.{KnownStockTable}
+use Rattle.zone_threads.specs.Homes.{HasCpu, HasNoCpu, KnownHome}
+use Rattle.zone_threads.specs.declared.home.Left as returning
+use Rattle.zone_threads.specs.declared.home.Left.TheVariants as left
+use Rattle.cpu_handles.specs.Serving.{LeavesFrom, OnRaw, Serves}
+use Rattle.cpu_handles.specs.declared.requests.Request.TheVariants.{Leave}
+use Rattle.cpu_handles.specs.declared.requests.RequestAnswer.{RequestAnswer}
+use Rattle.cpu_handles.specs.declared.requests.RequestAnswer.TheVariants as answer
+use Rattle.tempolemon_threads.specs.Zones.{IsCpuHandle, IsZoneHandle, OnPart, led_of}
+
+-- what was done to the home that the pointer leads to was done behind the handle
+pub crossed : (does : KnownTable → KnownStockTable → (from to : KnownHome) → Type 0) (f : KnownTable) (s : KnownStockTable) (o : Option KnownHome)
+    (g : KnownTable) (t : KnownStockTable) (p : Option KnownHome) → OnRaw (does f s) f s o g t p → OnPart does (led_of f s o) (led_of g t p)
+crossed does f s o g t p on = record {
+  frames = f;
+  stocks = s;
+  from = on.on_home.from;
+  to = on.on_home.to;
+  was = ap (led_of f s) on.on_home.was;
+  is = ap (λ (h : KnownTable). led_of h t p) on.frames_are ∙ (ap (λ (u : KnownStockTable). led_of f u p) on.stocks_are ∙ ap (led_of f s) on.on_home.is);
+  done = on.on_home.done;
+}
+
+-- a CPU's handle leads to a home with a CPU, if to anything
+pub cpu_behind : (f : KnownTable) (s : KnownStockTable) (is_live : Bool) (o : Option KnownHome) → IsCpuHandle is_live o → IsSome (led_of f s o)
+    → IsSomeAnd o HasCpu
+cpu_behind f s is_live None is some = absurd (false≢true some)
+cpu_behind f s is_live (Some home) is some = is.cpu home refl
+
+-- a zone's handle leads to a home without one
+pub zone_behind : (f : KnownTable) (s : KnownStockTable) (is_live : Bool) (o : Option KnownHome) → IsZoneHandle is_live o → IsSome (led_of f s o)
+    → IsSomeAnd o HasNoCpu
+zone_behind f s is_live None is some = absurd (false≢true some)
+zone_behind f s is_live (Some home) is some = is.no_cpu home refl
+
+-- a return by a CPU's handle doesn't find that there is no CPU
+pub no_cpu_left : (f : KnownTable) (s : KnownStockTable) (a : Global) (is_live : Bool) (o before after : Option KnownHome) (said : RequestAnswer)
+    (l : returning.Left) → IsCpuHandle is_live o → before ≡ o → Serves f s before (Leave a) after said → said ≡ answer.Left l → l ≡ left.NoCpu → ⊥
+no_cpu_left f s a is_live o before after said l is same serves one two =
+    let drops : LeavesFrom left.NoCpu before after = subst (λ (x : returning.Left). LeavesFrom x before after) two
+    (subst (λ (x : RequestAnswer). Serves f s before (Leave a) after x) one serves) in
+    false≢true (subst (λ (x : Option KnownCpu). IsSome x) drops.none (is.cpu drops.from (sym same ∙ drops.was)))

@@ -1,0 +1,158 @@
+-- What the calls on a CPU's handle do, and what they give the host.
+use Rattle.std.specs.Prelude.{◌≡◌, ◌⊎◌, ℕ, zero, suc, ◌<◌, ◌≤◌, List, ◌++◌, Option, None, drop, length}
+use Rattle.group_tree.specs.Faults.{number_of}
+use Rattle.group_tree.specs.declared.fault.Fault.TheVariants.{NoGroup}
+use Rattle.control_files.specs.Text.{longest_text}
+use Rattle.mem_system.specs.declared.command.Cmd.{Cmd}
+use Rattle.mem_system.specs.declared.command.Cmd.TheVariants as cmd
+use Rattle.zone_threads.specs.Calling.{Calls, Reads}
+use Rattle.zone_threads.specs.Shown.{Shows}
+use Rattle.zone_threads.specs.declared.calls.Call.{Call}
+use Rattle.zone_threads.specs.declared.calls.Call.TheVariants.{AllocBlock, AllocFrame, Visit}
+use Rattle.zone_threads.specs.declared.calls.CallAnswer.{CallAnswer}
+use Rattle.zone_threads.specs.declared.calls.ReadAnswer.{ReadAnswer}
+use Rattle.zone_threads.specs.declared.calls.ReadAnswer.TheVariants as read
+use Rattle.zone_threads.specs.declared.calls.ReadCall.{ReadCall}
+use Rattle.zone_threads.specs.declared.texts.TextAnswer.{TextAnswer}
+use Rattle.zone_threads.specs.declared.texts.TextAnswer.TheVariants as text
+use Rattle.zone_threads.specs.declared.texts.TextCall.{TextCall}
+use Rattle.zone_threads.specs.declared.texts.TextCall.TheVariants.{Units}
+use Rattle.tempolemon_threads.specs.Buffers.{ExceedsBuffer, FillsBuffer}
+use Rattle.tempolemon_threads.specs.Kinds.{no_result, read_result, read_status, result_of, status_of}
+use Rattle.tempolemon_threads.specs.Statuses.{busy, done, no_memory, not_live, small_buffer}
+use Rattle.tempolemon_threads.specs.Zones.{Led, OnPart}
+use Rattle.tempolemon_threads.specs.declared.typed_result.TypedResult.{TypedResult}
+
+-- the handle leads nowhere, and nothing was done
+pub record IsNotLive (before after : Option Led) (status : ℕ) (out : TypedResult) : Type 0 where
+  pub was : before ≡ None
+  pub is : after ≡ None
+  pub status_is : status ≡ not_live
+  pub out_is : out ≡ no_result
+
+-- the call was answered: `Calls` says what each answer means for the CPU, and `status_of` and `result_of` which status
+-- and result go with it
+pub record AnswersPart (asked : Call) (before after : Option Led) (status : ℕ) (out : TypedResult) : Type 0 where
+  pub answer : CallAnswer
+  pub calls : OnPart (λ frames stocks from to. Calls frames stocks asked from to answer) before after
+  pub status_is : status ≡ status_of answer
+  pub out_is : out ≡ result_of answer
+
+-- what a call does
+abbrev pub CallsPart : Call → (before after : Option Led) (status : ℕ) (out : TypedResult) → Type 0
+CallsPart asked before after status out = IsNotLive before after status out ⊎ AnswersPart asked before after status out
+
+-- what an allocation does: a single frame may need no lock
+abbrev pub AllocsPart : (group order : ℕ) (before after : Option Led) (status : ℕ) (out : TypedResult) → Type 0
+AllocsPart group zero before after status out = CallsPart (AllocFrame group) before after status out
+AllocsPart group (suc less) before after status out = CallsPart (AllocBlock group (suc less)) before after status out
+
+-- a command with these texts was given
+pub record Visits (is_asked : Cmd → Type 0) (before after : Option Led) (status : ℕ) (out : TypedResult) : Type 0 where
+  pub asked : Cmd
+  pub is : is_asked asked
+  pub calls : CallsPart (Visit asked) before after status out
+
+-- the command makes the group of this path
+abbrev pub IsMkdir : (path : List ℕ) → Cmd → Type 0
+IsMkdir path (cmd.Mkdir named) = named.now ≡ path
+IsMkdir path other = ⊥
+
+-- the command removes the group of this path
+abbrev pub IsRmdir : (path : List ℕ) → Cmd → Type 0
+IsRmdir path (cmd.Rmdir named) = named.now ≡ path
+IsRmdir path other = ⊥
+
+-- the command writes this value to this file of the group of this path
+abbrev pub IsWrite : (path file value : List ℕ) → Cmd → Type 0
+IsWrite path file value (cmd.Write named in_file text) =
+    (named.now ≡ path) × ((in_file.now ≡ file) × (text.now ≡ value))
+IsWrite path file value other = ⊥
+
+-- a text was written at the start of a buffer that has room for it; one without room stays
+pub record PutsText (text : List ℕ) (old new : List ℕ) : Type 0 where
+  pub fits : length text ≤ length old → new ≡ text ++ drop (length text) old
+  pub exceeds : length old < length text → new ≡ old
+
+-- what a buffer gets of a read
+abbrev pub PutsRead : ReadAnswer → (old new : List ℕ) → Type 0
+PutsRead (read.Text text) old new = PutsText text old new
+PutsRead other old new = new ≡ old
+
+-- the read was answered, and the buffer has the text
+pub record ReadsPart (path file : List ℕ) (before after : Option Led) (status : ℕ) (out : TypedResult)
+    (old new : List ℕ) : Type 0 where
+  pub asked : ReadCall
+  pub path_is : asked.path.now ≡ path
+  pub file_is : asked.file.now ≡ file
+  pub answer : ReadAnswer
+  pub reads : OnPart (λ frames stocks from to. Reads frames stocks asked from to answer) before after
+  pub status_is : status ≡ read_status answer
+  pub out_is : out ≡ read_result answer
+  pub buffer : PutsRead answer old new
+
+-- the buffer is refused as too small, and nothing was done
+pub record IsTooSmall (before after : Option Led) (status : ℕ) (out : TypedResult) (old new : List ℕ) : Type 0 where
+  pub status_is : status ≡ small_buffer
+  pub stays : after ≡ before
+  pub out_is : out ≡ no_result
+  pub buffer_stays : new ≡ old
+
+-- a read into a buffer with room for the longest text of a file: the handle leads nowhere, or the read was answered
+abbrev pub ReadsBehind : (path file : List ℕ) (before after : Option Led) (status : ℕ) (out : TypedResult)
+    (old new : List ℕ) → Type 0
+ReadsBehind path file before after status out old new =
+    (IsNotLive before after status out × (new ≡ old)) ⊎ ReadsPart path file before after status out old new
+
+-- What a read of a file does. Whether the buffer has room for the longest text of a file is looked at first, whatever
+-- the handle and the call
+pub record ReadsInto (path file : List ℕ) (before after : Option Led) (status : ℕ) (out : TypedResult)
+    (old new : List ℕ) : Type 0 where
+  pub refused : length old < longest_text → IsTooSmall before after status out old new
+  pub read : longest_text ≤ length old → ReadsBehind path file before after status out old new
+
+-- The buffer and the length of a text, by the answer. If the buffer is too small for a text, the length is what it
+-- needs.
+abbrev pub GivesText : TextAnswer → (status : ℕ) (old new : List ℕ) (written : ℕ) → Type 0
+GivesText (text.Text answer) status old new written =
+    ((status ≡ done) × FillsBuffer (λ shown. shown ≡ answer.items) old new written)
+    ⊎ ((status ≡ small_buffer) × (new ≡ old) × ExceedsBuffer (λ shown. shown ≡ answer.items) old written)
+GivesText text.NoGroup status old new written = (status ≡ number_of NoGroup) × (new ≡ old) × (written ≡ 0)
+GivesText text.NoMemory status old new written = (status ≡ no_memory) × (new ≡ old) × (written ≡ 0)
+
+-- a text was asked for
+pub record ShowsPart (asked : TextCall) (before after : Option Led) (status : ℕ) (old new : List ℕ) (written : ℕ)
+    : Type 0 where
+  pub answer : TextAnswer
+  pub shows : OnPart (λ frames stocks. Shows frames stocks asked answer) before after
+  pub gives : GivesText answer status old new written
+
+-- nothing was done: the handle leads nowhere, another thread has the lock, or memory ran out before
+pub record ShowsNothing (before after : Option Led) (status : ℕ) (old new : List ℕ) (written : ℕ) : Type 0 where
+  pub stays : after ≡ before
+  pub status_is : ((before ≡ None) × (status ≡ not_live)) ⊎ ((status ≡ busy) ⊎ (status ≡ no_memory))
+  pub buffer_stays : new ≡ old
+  pub none_written : written ≡ 0
+
+-- what a call for a text does
+abbrev pub ShowsInto : TextCall → (before after : Option Led) (status : ℕ) (old new : List ℕ) (written : ℕ) → Type 0
+ShowsInto asked before after status old new written =
+    ShowsNothing before after status old new written ⊎ ShowsPart asked before after status old new written
+
+-- the call asks for the units of the group of this path
+abbrev pub IsUnits : (path : List ℕ) → TextCall → Type 0
+IsUnits path (Units named) = named.items ≡ path
+IsUnits path other = ⊥
+
+-- the text is of the units of the group of this path
+pub record ShowsUnitsPart (path : List ℕ) (before after : Option Led) (status : ℕ) (old new : List ℕ) (written : ℕ)
+    : Type 0 where
+  pub asked : TextCall
+  pub is : IsUnits path asked
+  pub shows : ShowsPart asked before after status old new written
+
+-- what a call for units does
+abbrev pub ShowsUnits : (path : List ℕ) (before after : Option Led) (status : ℕ) (old new : List ℕ) (written : ℕ)
+    → Type 0
+ShowsUnits path before after status old new written =
+    ShowsNothing before after status old new written ⊎ ShowsUnitsPart path before after status old new written

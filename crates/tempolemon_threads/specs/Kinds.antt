@@ -1,0 +1,91 @@
+-- The statuses and the results of typed calls, with their kinds as the header numbers them.
+use Rattle.std.specs.Prelude.{ℕ, length}
+use Rattle.group_tree.specs.Faults.{number_of}
+use Rattle.frame_word.specs.declared.answers.Get.{Get}
+use Rattle.frame_word.specs.declared.answers.Get.TheVariants.{Held, Zero, Raced, Full}
+use Rattle.frame_word.specs.declared.answers.Put as word
+use Rattle.frame_word.specs.declared.answers.Put.TheVariants as put
+use Rattle.mem_system.specs.declared.outcome.Outcome.{Outcome}
+use Rattle.mem_system.specs.declared.outcome.Outcome.TheVariants as outcome
+use Rattle.zone_threads.specs.declared.calls.CallAnswer.{CallAnswer}
+use Rattle.zone_threads.specs.declared.calls.CallAnswer.TheVariants as answer
+use Rattle.zone_threads.specs.declared.calls.ReadAnswer.{ReadAnswer}
+use Rattle.zone_threads.specs.declared.calls.ReadAnswer.TheVariants as read
+use Rattle.tempolemon_threads.specs.Statuses.{bad_frame, bad_group, busy, done, over_limit}
+use Rattle.tempolemon_threads.specs.declared.typed_result.TypedResult.{TypedResult}
+
+-- a kind with a number
+abbrev pub result_with : (kind number : ℕ) → TypedResult
+result_with kind number = record { number = number; kind = kind }
+
+-- the result of a call that wasn't served
+abbrev pub no_result : TypedResult
+no_result = result_with 0 0
+
+-- the result of an outcome; a text has its length from the read that returns it
+abbrev pub outcome_result : Outcome → TypedResult
+outcome_result outcome.Done = result_with 1 0
+outcome_result (outcome.Group group) = result_with 2 group
+outcome_result (outcome.Frame frame) = result_with 3 frame
+outcome_result (outcome.Text group file) = result_with 4 0
+outcome_result outcome.Free = result_with 5 0
+outcome_result (outcome.Lent cpu) = result_with 6 cpu
+outcome_result (outcome.Charged group) = result_with 7 group
+outcome_result outcome.Marked = result_with 8 0
+outcome_result outcome.Active = result_with 9 0
+outcome_result (outcome.Left references) = result_with 10 references
+outcome_result outcome.Returned = result_with 11 0
+outcome_result (outcome.OverLimit group) = result_with 20 group
+outcome_result (outcome.Refused fault) = result_with 20 0
+
+-- the status of an outcome: a refusal's number, or 0
+abbrev pub outcome_status : Outcome → ℕ
+outcome_status (outcome.OverLimit group) = over_limit
+outcome_status (outcome.Refused fault) = number_of fault
+outcome_status other = done
+
+-- the result of a pin that was asked for
+abbrev pub get_result : Get → TypedResult
+get_result Held = result_with 14 0
+get_result Zero = result_with 15 0
+get_result (Raced found) = result_with 16 0
+get_result Full = result_with 17 0
+
+-- the result of a pin that was put
+abbrev pub put_result : word.Put → TypedResult
+put_result (put.Left references) = result_with 10 references
+put_result put.Last = result_with 18 0
+
+-- the result of an answer
+abbrev pub result_of : CallAnswer → TypedResult
+result_of answer.Busy = no_result
+result_of answer.NoFrame = no_result
+result_of answer.NoGroup = no_result
+result_of (answer.Served outcome) = outcome_result outcome
+result_of (answer.Taken frame) = result_with 3 frame
+result_of answer.Listed = result_with 13 0
+result_of (answer.Got got) = get_result got
+result_of (answer.Put put) = put_result put
+result_of answer.Settled = result_with 12 0
+result_of (answer.Refused fault) = result_with 20 0
+
+-- the status of an answer
+abbrev pub status_of : CallAnswer → ℕ
+status_of answer.Busy = busy
+status_of answer.NoFrame = bad_frame
+status_of answer.NoGroup = bad_group
+status_of (answer.Served outcome) = outcome_status outcome
+status_of (answer.Refused fault) = number_of fault
+status_of other = done
+
+-- the result of a read
+abbrev pub read_result : ReadAnswer → TypedResult
+read_result read.Busy = no_result
+read_result (read.Text text) = result_with 4 (length text)
+read_result (read.Served outcome) = outcome_result outcome
+
+-- the status of a read
+abbrev pub read_status : ReadAnswer → ℕ
+read_status read.Busy = busy
+read_status (read.Text text) = done
+read_status (read.Served outcome) = outcome_status outcome

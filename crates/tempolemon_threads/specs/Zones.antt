@@ -1,0 +1,116 @@
+-- What contracts see of a host's handles.
+use Rattle.std.specs.Prelude.{◌≡◌, ◌↔◌, ℕ, Bool, Option, None, Some, IsSome, IsTrue}
+use Rattle.frame_word.specs.Seats.{KnownTable}
+use Rattle.stock_word.specs.Stock.{KnownStockTable}
+use Rattle.zone_sizes.specs.declared.config.Config.{Config}
+use Rattle.cpu_part.specs.Cpus.{KnownCpu}
+use Rattle.mem_system.specs.Boots.{IsSizedAs}
+use Rattle.zone_threads.specs.Homes.{EndsZone, HasCpu, HasNoCpu, IsCpu, KnownHome, ParksCpu}
+use Rattle.zone_threads.specs.declared.home.Entered.{Entered}
+use Rattle.zone_threads.specs.declared.home.Entered.TheVariants as entered
+use Rattle.zone_threads.specs.declared.zone_end.ZoneEnd.{ZoneEnd}
+use Rattle.tempolemon_threads.specs.declared.report.Report.{Report}
+use Rattle.tempolemon_threads.specs.declared.sizes.Sizes.{Sizes}
+
+-- the sizes that a host passes, as those of a boot
+abbrev pub config_of : Sizes → Config
+config_of sizes = record {
+  frames = sizes.frames;
+  cpus = sizes.cpus;
+  batch = sizes.batch;
+  high = sizes.high;
+  stock = sizes.stock;
+}
+
+-- what a host reads of the end of a zone, as the zone reported it
+abbrev pub ended_of : Report → ZoneEnd
+ended_of report = record {
+  held = report.held;
+  audit = record {
+    frames = report.frames;
+    free = report.free;
+    charged = report.charged;
+    last_puts = report.last_puts;
+    freezes = report.freezes;
+    drops = report.drops;
+    returns = report.returns;
+  };
+}
+
+-- what a handle leads to: a zone, by its tables, and a CPU of it, if the handle is a CPU's
+pub record Led : Type 0 where
+  pub frames : KnownTable
+  pub stocks : KnownStockTable
+  pub home : KnownHome
+
+-- the same, of these parts
+abbrev pub led : KnownTable → KnownStockTable → KnownHome → Led
+led frames stocks home = record { frames = frames; stocks = stocks; home = home }
+
+-- what a handle leads to, if anything; tables without a home don't matter
+abbrev pub led_of : KnownTable → KnownStockTable → Option KnownHome → Option Led
+led_of frames stocks None = None
+led_of frames stocks (Some home) = Some (led frames stocks home)
+
+-- a zone's handle says whether it leads to a zone, and has no CPU
+pub record IsZoneHandle (is_live : Bool) (home : Option KnownHome) : Type 0 where
+  pub live : IsTrue is_live ↔ IsSome home
+  pub no_cpu : (at : KnownHome) → home ≡ Some at → HasNoCpu at
+
+-- a CPU's handle says whether it leads to a zone, and has a CPU then
+pub record IsCpuHandle (is_live : Bool) (home : Option KnownHome) : Type 0 where
+  pub live : IsTrue is_live ↔ IsSome home
+  pub cpu : (at : KnownHome) → home ≡ Some at → HasCpu at
+
+-- the handle leads to a zone before and after a call, of the same tables, and under them `does` leads from one home to the
+-- other
+pub record OnPart (does : KnownTable → KnownStockTable → (from to : KnownHome) → Type 0) (before after : Option Led)
+    : Type 0 where
+  pub frames : KnownTable
+  pub stocks : KnownStockTable
+  pub from : KnownHome
+  pub to : KnownHome
+  pub was : before ≡ Some (led frames stocks from)
+  pub is : after ≡ Some (led frames stocks to)
+  pub done : does frames stocks from to
+
+-- the handle leads to a zone of these sizes
+pub record BootsZone (sizes : Config) (after : Option Led) : Type 0 where
+  pub zone : Led
+  pub is : after ≡ Some zone
+  pub sized : IsSizedAs sizes zone.frames zone.stocks
+
+-- the handle leads to this CPU of the zone of these tables
+pub record CpuIn (number : ℕ) (frames : KnownTable) (stocks : KnownStockTable) (part : Option Led) : Type 0 where
+  pub home : KnownHome
+  pub cpu : KnownCpu
+  pub part_is : part ≡ Some (led frames stocks home)
+  pub cpu_is : home.cpu ≡ Some cpu
+  pub number_is : cpu.number ≡ number
+
+-- the part's handle leads to this CPU of the zone that the zone's handle leads to
+pub record TakesPart (number : ℕ) (zone part : Option Led) : Type 0 where
+  pub zone_led : Led
+  pub zone_is : zone ≡ Some zone_led
+  pub cpu_in : CpuIn number zone_led.frames zone_led.stocks part
+
+-- the zone that the handle leads to has no CPU of this number
+pub record HasNoSuchCpu (number : ℕ) (zone : Option Led) : Type 0 where
+  pub led_to : Led
+  pub is : zone ≡ Some led_to
+  pub none : ¬ IsCpu led_to.frames.cpus number
+
+-- the CPU was parked, and the handle leads nowhere
+pub record ReturnsPart (before after : Option Led) : Type 0 where
+  pub part : Led
+  pub left : KnownHome
+  pub was : before ≡ Some part
+  pub parks : ParksCpu part.home left
+  pub is : after ≡ None
+
+-- the zone ended with this report, and the handle leads nowhere
+pub record EndsWith (report : Report) (before after : Option Led) : Type 0 where
+  pub zone : Led
+  pub was : before ≡ Some zone
+  pub ends : EndsZone zone.frames zone.stocks (ended_of report)
+  pub is : after ≡ None

@@ -1,0 +1,102 @@
+//! The calls that make and remove groups, and write and read their files. None of them takes memory, and each tries the
+//! lock.
+
+ghost use Rattle.tempolemon_threads.specs.Behind.{part_behind};
+ghost use Rattle.tempolemon_threads.specs.Calls.{IsMkdir, IsRmdir, IsWrite, ReadsInto, Visits};
+
+use crate::buffers::copy_answers;
+use crate::calling::serve_call;
+use crate::handles::CpuPart;
+use crate::kinds::{NOTHING, TEXT};
+use crate::status::{BUSY, DONE, NOT_LIVE, SMALL_BUFFER};
+use crate::typed_result::{TypedResult, answer_of_outcome};
+use control_files::text::MAX_TEXT;
+use mem_system::Cmd;
+use std::alloc::Global;
+use zone_threads::calls::{Call, ReadAnswer, ReadCall};
+
+/// Makes the group of this path.
+#[unsafe(no_mangle)]
+pub extern "C" fn tempolemon_try_mkdir(
+    alloc: Global,
+    part: &mut CpuPart,
+    path: &[u8],
+    out: &mut TypedResult,
+) -> u8
+    ensures { Visits (IsMkdir path.now) (part_behind part.old) (part_behind part.new) result out.new }
+{
+    serve_call(alloc, part, &Call::Visit(Cmd::Mkdir { path }), out)
+}
+
+/// Removes the group of this path.
+#[unsafe(no_mangle)]
+pub extern "C" fn tempolemon_try_rmdir(
+    alloc: Global,
+    part: &mut CpuPart,
+    path: &[u8],
+    out: &mut TypedResult,
+) -> u8
+    ensures { Visits (IsRmdir path.now) (part_behind part.old) (part_behind part.new) result out.new }
+{
+    serve_call(alloc, part, &Call::Visit(Cmd::Rmdir { path }), out)
+}
+
+/// Writes a value to a file of the group of this path.
+#[unsafe(no_mangle)]
+pub extern "C" fn tempolemon_try_write(
+    alloc: Global,
+    part: &mut CpuPart,
+    path: &[u8],
+    file: &[u8],
+    value: &[u8],
+    out: &mut TypedResult,
+) -> u8
+    ensures { Visits (IsWrite path.now file.now value.now)
+        (part_behind part.old) (part_behind part.new) result out.new }
+{
+    let cmd = Cmd::Write { path, file, value };
+    serve_call(alloc, part, &Call::Visit(cmd), out)
+}
+
+/// Reads a file of the group of this path, and writes its text at the start of the buffer, which has room for at least
+/// 160 bytes.
+#[unsafe(no_mangle)]
+pub extern "C" fn tempolemon_try_read(
+    alloc: Global,
+    part: &mut CpuPart,
+    path: &[u8],
+    file: &[u8],
+    text: &mut [u8],
+    out: &mut TypedResult,
+) -> u8
+    ensures { ReadsInto path.now file.now (part_behind part.old) (part_behind part.new)
+        result out.new text.old text.new }
+{
+    *out = TypedResult {
+        number: 0,
+        kind: NOTHING,
+    };
+    if text.len() < MAX_TEXT {
+        return SMALL_BUFFER;
+    }
+    if !part.is_live() {
+        return NOT_LIVE;
+    }
+    match part.read(alloc, &ReadCall { path, file }) {
+        ReadAnswer::Busy => BUSY,
+        ReadAnswer::Text(shown) => {
+            let shown = shown.as_bytes();
+            let _fits = copy_answers(shown, text);
+            *out = TypedResult {
+                number: shown.len() as u64,
+                kind: TEXT,
+            };
+            DONE
+        }
+        ReadAnswer::Served(outcome) => {
+            let answered = answer_of_outcome(outcome);
+            *out = answered.typed;
+            answered.status
+        }
+    }
+}

@@ -1,0 +1,159 @@
+//! What is done with what a handle leads to.
+
+ghost use Rattle.std.specs.Prelude.{◌≡◌, ◌↔◌, IfNone, IfSome, IsSome, IsSomeAnd, IsTrue, MatchBool, None};
+ghost use Rattle.mem_system.specs.Boots.{IsSizedAs};
+ghost use Rattle.zone_threads.specs.Calling.{Calls, Reads};
+ghost use Rattle.zone_threads.specs.Homes.{HasNoCpu};
+ghost use Rattle.zone_threads.specs.Shown.{Shows};
+ghost use Rattle.tempolemon_threads.specs.Behind.{part_behind, zone_behind};
+ghost use Rattle.tempolemon_threads.specs.Handling.{EndsAs, EntersAs, ForksAs, LeavesAs};
+ghost use Rattle.tempolemon_threads.specs.Zones.{BootsZone, OnPart};
+
+use crate::handles::{CpuPart, Zone};
+use cpu_handles::raw::{RawHome, call_raw, fork_raw, read_raw, serve_raw};
+use cpu_handles::requests::{Forked, Request, RequestAnswer};
+use mem_system::Boot;
+use std::alloc::Global;
+use zone_threads::calls::{Call, CallAnswer, ReadAnswer, ReadCall};
+use zone_threads::home::{Entered, Left};
+use zone_threads::texts::{TextAnswer, TextCall};
+
+impl Zone {
+    /// Whether it leads to a zone.
+    pub fn is_live(&self) -> bool
+        ensures { IsTrue result ↔ IsSome (zone_behind self.now) }
+    {
+        self.is_live
+    }
+
+    /// Starts this boot. Returns false if memory ran out: nothing is left then.
+    pub(crate) fn start(&mut self, alloc: Global, boot: Boot) -> bool
+        requires none { zone_behind self.old ≡ None }
+        requires sized { IsSizedAs boot.sizes boot.frames boot.stocks }
+        ensures { MatchBool result (BootsZone boot.sizes (zone_behind self.new)) (zone_behind self.new ≡ None) }
+    {
+        let raw = std::mem::replace(&mut self.raw, RawHome::none(alloc));
+        let (raw, answer) = serve_raw(raw, Request::Start { alloc, boot });
+        self.raw = raw;
+        self.is_live = matches!(answer, RequestAnswer::Started);
+        self.is_live
+    }
+
+    /// A second pointer to the zone, for a CPU.
+    pub(crate) fn fork(&mut self, alloc: Global) -> (RawHome, Forked)
+        requires live { IsSome (zone_behind self.old) }
+        ensures stays { zone_behind self.new ≡ zone_behind self.old }
+        ensures forked { ForksAs result.1 (zone_behind self.old)
+            result.0.frames result.0.stocks result.0.home }
+    {
+        let raw = std::mem::replace(&mut self.raw, RawHome::none(alloc));
+        let (raw, other, forked) = fork_raw(raw, alloc);
+        self.raw = raw;
+        (other, forked)
+    }
+
+    /// Ends the zone, if all its CPUs are returned.
+    pub(crate) fn end(&mut self, alloc: Global) -> RequestAnswer
+        requires live { IsSome (zone_behind self.old) }
+        ensures { EndsAs result (zone_behind self.old) (zone_behind self.new) }
+    {
+        let raw = std::mem::replace(&mut self.raw, RawHome::none(alloc));
+        let (raw, answer) = serve_raw(raw, Request::End { alloc });
+        self.raw = raw;
+        self.is_live = matches!(answer, RequestAnswer::Out);
+        answer
+    }
+}
+
+impl CpuPart {
+    /// Whether it leads to a CPU.
+    pub fn is_live(&self) -> bool
+        ensures { IsTrue result ↔ IsSome (part_behind self.now) }
+    {
+        self.is_live
+    }
+
+    /// Takes the CPU of this number, by a pointer to the zone.
+    pub(crate) fn enter(&mut self, alloc: Global, raw: RawHome, number: u32) -> Entered
+        requires no_cpu { IsSomeAnd raw.home HasNoCpu }
+        requires none { part_behind self.old ≡ None }
+        ensures { EntersAs number result raw.frames raw.stocks (part_behind self.new) }
+    {
+        let (raw, answer) = serve_raw(raw, Request::Enter { number });
+        match answer {
+            RequestAnswer::Entered(Entered::Done) => {
+                self.raw = raw;
+                self.is_live = true;
+                Entered::Done
+            }
+            RequestAnswer::Entered(entered) => {
+                let (_none, _left) = serve_raw(raw, Request::Leave { alloc });
+                entered
+            }
+            _ => unreachable!(),
+        }
+    }
+
+    /// Parks the CPU.
+    pub(crate) fn leave(&mut self, alloc: Global) -> Left
+        requires live { IsSome (part_behind self.old) }
+        ensures { LeavesAs result (part_behind self.old) (part_behind self.new) }
+    {
+        let raw = std::mem::replace(&mut self.raw, RawHome::none(alloc));
+        let (raw, answer) = serve_raw(raw, Request::Leave { alloc });
+        self.raw = raw;
+        let RequestAnswer::Left(left) = answer else {
+            unreachable!()
+        };
+        match left {
+            Left::Done => self.is_live = false,
+            Left::Busy => {}
+            Left::NoCpu => unreachable!(),
+        }
+        left
+    }
+
+    /// Serves a call of the CPU.
+    #[inline(always)]
+    #[tactic(auto, using(crate::proofs::Crossing::crossed, crate::proofs::Crossing::cpu_behind))]
+    pub(crate) fn call(&mut self, alloc: Global, call: &Call<'_>) -> CallAnswer
+        requires live { IsSome (part_behind self.old) }
+        ensures { OnPart (λ frames stocks from to. Calls frames stocks call.now from to result)
+            (part_behind self.old) (part_behind self.new) }
+    {
+        let raw = std::mem::replace(&mut self.raw, RawHome::none(alloc));
+        let (raw, answer) = call_raw(raw, call);
+        self.raw = raw;
+        answer
+    }
+
+    /// Reads a file for the CPU.
+    #[tactic(auto, using(crate::proofs::Crossing::crossed, crate::proofs::Crossing::cpu_behind))]
+    pub(crate) fn read(&mut self, alloc: Global, asked: &ReadCall<'_>) -> ReadAnswer
+        requires live { IsSome (part_behind self.old) }
+        ensures { OnPart (λ frames stocks from to. Reads frames stocks asked.now from to result)
+            (part_behind self.old) (part_behind self.new) }
+    {
+        let raw = std::mem::replace(&mut self.raw, RawHome::none(alloc));
+        let (raw, answer) = read_raw(raw, asked);
+        self.raw = raw;
+        answer
+    }
+
+    /// Gets a text of the zone; `None` if another thread has the lock.
+    pub(crate) fn text(&mut self, alloc: Global, asked: TextCall) -> Option<TextAnswer>
+        requires live { IsSome (part_behind self.old) }
+        ensures shown { IfSome result (λ answer.
+            OnPart (λ frames stocks. Shows frames stocks asked answer) (part_behind self.old) (part_behind self.new)) }
+        ensures busy { IfNone result (part_behind self.new ≡ part_behind self.old) }
+    {
+        let raw = std::mem::replace(&mut self.raw, RawHome::none(alloc));
+        let (raw, answer) = serve_raw(raw, Request::Text { alloc, asked });
+        self.raw = raw;
+        match answer {
+            RequestAnswer::Text(answer) => Some(answer),
+            RequestAnswer::Busy => None,
+            _ => unreachable!(),
+        }
+    }
+}

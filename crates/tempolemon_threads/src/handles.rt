@@ -1,0 +1,23 @@
+//! The two kinds of handle.
+
+ghost use Rattle.tempolemon_threads.specs.Zones.{IsCpuHandle, IsZoneHandle};
+
+use cpu_handles::raw::RawHome;
+
+/// A zone, or none. A host begins with all bytes 0, which is none. If it is dropped, the zone stays in memory.
+#[repr(C)]
+#[derive(Drop)]
+pub struct Zone {
+    pub(crate) raw: RawHome,
+    pub(crate) is_live: bool,
+    pub ghost is_zone: { IsZoneHandle is_live raw.home },
+}
+
+/// A CPU of a zone, or none. A host begins with all bytes 0, which is none. If it is dropped, the CPU stays in memory.
+#[repr(C)]
+#[derive(Drop)]
+pub struct CpuPart {
+    pub(crate) raw: RawHome,
+    pub(crate) is_live: bool,
+    pub ghost is_cpu: { IsCpuHandle is_live raw.home },
+}

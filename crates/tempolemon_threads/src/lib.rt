@@ -1,0 +1,21 @@
+//! The controller for hosts in C with threads: one zone, and a CPU for each thread. `include/tempolemon_threads.h`
+//! declares each call.
+//!
+//! A call gets memory through pointers that the host promises to be good: never null, to as many bytes as it says, and
+//! no two of them to the same bytes. A handle is used by one call at a time. Everything else is tested, and each refusal
+//! has a status of its own. No call waits.
+#![tactic(auto)]
+
+mod buffers;
+mod calling;
+mod frames;
+mod groups;
+mod handle_calls;
+mod handles;
+mod kinds;
+mod report;
+mod sizes;
+mod status;
+mod texts;
+mod typed_result;
+mod zones;

@@ -1,0 +1,39 @@
+//! The sizes of a zone, as a host in C passes them.
+
+ghost use Rattle.std.specs.Prelude.{◌≡◌};
+
+use zone_sizes::config::Config;
+
+/// The sizes that a host asks for, each in the order and of the width that the header gives. A value may be out of
+/// range.
+#[repr(C)]
+#[derive(Clone, Copy, Debug, PartialEq, Eq)]
+pub struct Sizes {
+    /// Frames of the zone, numbered from 0: 1 to 1,048,576.
+    pub frames: u32,
+    /// CPUs, numbered from 1: 1 to 64.
+    pub cpus: u32,
+    /// Frames by which a CPU's list is refilled or cut: 1 to 64.
+    pub batch: u32,
+    /// Frames at which a CPU's list is cut: `batch` to 256.
+    pub high: u32,
+    /// Pages that a CPU prepays at once: 1 to 64.
+    pub stock: u32,
+}
+
+impl Sizes {
+    ghost use Rattle.tempolemon_threads.specs.Zones.{config_of};
+
+    /// The same sizes for a boot.
+    pub fn config(&self) -> Config
+        ensures { result ≡ config_of self.now }
+    {
+        Config {
+            frames: self.frames,
+            cpus: self.cpus,
+            batch: self.batch,
+            high: self.high,
+            stock: self.stock,
+        }
+    }
+}

@@ -1,0 +1,123 @@
+//! The calls that boot and end a zone, and take and return its CPUs.
+
+ghost use Rattle.std.specs.Prelude.{◌≡◌, ◌≢◌, ◌↔◌, IsSome, None};
+ghost use Rattle.zone_sizes.specs.Config.{IsValidConfig};
+ghost use Rattle.tempolemon_threads.specs.Behind.{part_behind, zone_behind};
+ghost use Rattle.tempolemon_threads.specs.Statuses.{IsBootStatus, IsEndStatus, IsReturnStatus, IsTakeStatus};
+ghost use Rattle.tempolemon_threads.specs.Statuses.{bad_config, bad_cpu, cpus_out, done, is_live, not_live};
+ghost use Rattle.tempolemon_threads.specs.Zones.{BootsZone, EndsWith, HasNoSuchCpu, ReturnsPart, TakesPart, config_of};
+
+use crate::handles::{CpuPart, Zone};
+use crate::report::Report;
+use crate::sizes::Sizes;
+use crate::status::{
+    BAD_CONFIG, BAD_CPU, BUSY, CPU_OUT, CPUS_OUT, DONE, IS_LIVE, LOST, NO_MEMORY, NOT_LIVE,
+};
+use cpu_handles::requests::{Forked, RequestAnswer};
+use mem_system::{BootFault, boot};
+use std::alloc::Global;
+use zone_threads::home::{Entered, Left};
+
+/// Boots a zone of these sizes behind a handle that has none, with all its CPUs parked. Unless the status is 0, nothing of
+/// the zone stays.
+#[unsafe(no_mangle)]
+pub extern "C" fn tempolemon_zone_boot(alloc: Global, sizes: &Sizes, zone: &mut Zone) -> u8
+    ensures statuses { IsBootStatus result }
+    ensures refused_live { (result ≡ is_live) ↔ (zone_behind zone.old ≢ None) }
+    ensures bad_sizes { (result ≡ bad_config)
+        ↔ ((zone_behind zone.old ≡ None) × (¬ IsValidConfig (config_of sizes.now))) }
+    ensures booted { result ≡ done → BootsZone (config_of sizes.now) (zone_behind zone.new) }
+    ensures stays { result ≢ done → zone_behind zone.new ≡ zone_behind zone.old }
+{
+    if zone.is_live() {
+        return IS_LIVE;
+    }
+    match boot(alloc, sizes.config()) {
+        Ok(boot) => {
+            if zone.start(alloc, boot) {
+                DONE
+            } else {
+                NO_MEMORY
+            }
+        }
+        Err(BootFault::BadConfig) => BAD_CONFIG,
+        Err(BootFault::NoMemory) => NO_MEMORY,
+    }
+}
+
+/// Ends the zone and reports what it counted, if all its CPUs are returned. Pins that are still held are put first.
+#[unsafe(no_mangle)]
+pub extern "C" fn tempolemon_zone_end(alloc: Global, zone: &mut Zone, report: &mut Report) -> u8
+    ensures statuses { IsEndStatus result }
+    ensures none_live { (result ≡ not_live) ↔ (zone_behind zone.old ≡ None) }
+    ensures ended { result ≡ done → EndsWith report.new (zone_behind zone.old) (zone_behind zone.new) }
+    ensures cpus_out { result ≡ cpus_out → zone_behind zone.new ≡ zone_behind zone.old }
+    ensures none_left { result ≢ cpus_out → zone_behind zone.new ≡ None }
+    ensures report_stays { result ≢ done → report.new ≡ report.old }
+{
+    if !zone.is_live() {
+        return NOT_LIVE;
+    }
+    let ended = match zone.end(alloc) {
+        RequestAnswer::Ended(ended) => ended,
+        RequestAnswer::Out => return CPUS_OUT,
+        RequestAnswer::NoMemory => return NO_MEMORY,
+        _ => return LOST,
+    };
+    *report = Report::of(ended);
+    DONE
+}
+
+/// Takes the CPU of this number, from 1, for a handle that has none. It tries the lock.
+#[unsafe(no_mangle)]
+pub extern "C" fn tempolemon_try_take(
+    alloc: Global,
+    zone: &mut Zone,
+    cpu: u32,
+    part: &mut CpuPart,
+) -> u8
+    ensures statuses { IsTakeStatus result }
+    ensures none_live { (result ≡ not_live) ↔ (zone_behind zone.old ≡ None) }
+    ensures has_cpu { (result ≡ is_live) ↔ (IsSome (zone_behind zone.old) × IsSome (part_behind part.old)) }
+    ensures no_cpu { result ≡ bad_cpu → HasNoSuchCpu cpu (zone_behind zone.old) }
+    ensures taken { result ≡ done → TakesPart cpu (zone_behind zone.old) (part_behind part.new) }
+    ensures part_stays { result ≢ done → part_behind part.new ≡ part_behind part.old }
+    ensures zone_stays { zone_behind zone.new ≡ zone_behind zone.old }
+{
+    if !zone.is_live() {
+        return NOT_LIVE;
+    }
+    if part.is_live() {
+        return IS_LIVE;
+    }
+    let (raw, forked) = zone.fork(alloc);
+    if forked == Forked::NoMemory {
+        return NO_MEMORY;
+    }
+    match part.enter(alloc, raw, cpu) {
+        Entered::Done => DONE,
+        Entered::NoCpu => BAD_CPU,
+        Entered::Out => CPU_OUT,
+        Entered::HasCpu => unreachable!(),
+        Entered::Busy => BUSY,
+    }
+}
+
+/// Returns the CPU to its zone as it is, with its list, stock and pins: who takes it next goes on with them. It tries the
+/// lock.
+#[unsafe(no_mangle)]
+pub extern "C" fn tempolemon_try_return(alloc: Global, part: &mut CpuPart) -> u8
+    ensures statuses { IsReturnStatus result }
+    ensures none_live { (result ≡ not_live) ↔ (part_behind part.old ≡ None) }
+    ensures returned { result ≡ done → ReturnsPart (part_behind part.old) (part_behind part.new) }
+    ensures stays { result ≢ done → part_behind part.new ≡ part_behind part.old }
+{
+    if !part.is_live() {
+        return NOT_LIVE;
+    }
+    match part.leave(alloc) {
+        Left::Done => DONE,
+        Left::Busy => BUSY,
+        Left::NoCpu => unreachable!(),
+    }
+}

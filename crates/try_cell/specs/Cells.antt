@@ -1,0 +1,22 @@
+-- The rule of a cell with one word and one slot, and what a take returns.
+use Rattle.std.specs.Prelude.{◌≡◌, ℕ, ◌∷◌, [], Option, Some, None, slice_index, length}
+use mathlib.Core.Option.{some}
+use lib.ListN.{get_elem?}
+use Rattle.atomic_table.specs.Table.{State, Me}
+
+module _ {T V : Type 0} where
+  -- while the word is 0, the value is at home
+  abbrev pub IsGuarded : State (Option T) V → Type 0
+  IsGuarded s = (length s.words ≡ 1) × (slice_index s.words 0 ≡ 0 → (value : T) × (get_elem? s.homes 0 ≡ some (some (Some value))))
+
+  -- the slot is out with this seat, with a value in it
+  abbrev pub HasTaken : Me (Option T) V → Type 0
+  HasTaken m = (value : T) × (m.1 ≡ (0, Some value) ∷ [])
+
+  -- a taking that found 0 has the slot
+  abbrev pub Takes : ℕ → Me (Option T) V → Type 0
+  Takes found m = found ≡ 0 → HasTaken m
+
+  -- the slot is out with this seat, and nothing is in it
+  abbrev pub HasEmptied : Me (Option T) V → Type 0
+  HasEmptied m = m.1 ≡ (0, None) ∷ []

@@ -1,0 +1,98 @@
+//! A value behind a `&` that one caller at a time takes out. No call waits: `take` returns `None` while the value is
+//! out.
+#![tactic(auto)]
+
+ghost use Rattle.std.specs.Prelude.{◌≡◌, IfErr, IfSome};
+ghost use Rattle.try_cell.specs.Cells.{HasEmptied, IsGuarded, Takes};
+
+use atomic_table::{Play, Refused, Seat, Table, TableRule};
+use std::alloc::Global;
+
+/// The rule: while the word is 0, the value is at home.
+struct Guard;
+
+impl<T> TableRule<Option<T>, (), ()> for Guard {
+    ghost holds = { λ _ s. IsGuarded s };
+
+    ghost first = { λ _. tt };
+}
+
+struct Taking;
+
+impl<T> Play<Option<T>, ()> for Taking {
+    ghost then = { λ _ _ found me. Takes found me };
+}
+
+struct Giving;
+
+impl<T> Play<Option<T>, ()> for Giving {
+    ghost then = { λ _ _ _ _. Unit {0} };
+}
+
+/// A value, at home or out. `T` needn't be `Drop`: then the cell isn't either.
+pub struct TryCell<T> {
+    table: Table<Option<T>, (), (), Guard, Global>,
+    ghost sized: { (table.shared.table_id.words ≡ 1) × (table.shared.table_id.slots ≡ 1) },
+}
+
+/// The right to put the value back. It can't be dropped, so a value that is taken out is put back.
+pub struct Loan<T> {
+    seat: Seat<Option<T>, ()>,
+    ghost emptied: { HasEmptied seat.me },
+}
+
+impl<T> TryCell<T> {
+    /// A cell with this value at home. If memory runs out, the value is returned.
+    pub fn new(alloc: Global, value: T) -> Result<TryCell<T>, T>
+        ensures { IfErr result (λ returned. returned ≡ value) }
+    {
+        let mut slots = match Vec::with_capacity(alloc, 1) {
+            Ok(slots) => slots,
+            Err(_) => return Err(value),
+        };
+        slots.push_reserved(Some(value));
+        match Table::new(alloc, &[0], slots, &()) {
+            Ok((table, _seat)) => Ok(TryCell { table }),
+            Err(Refused { mut slots }) => {
+                let value = slots.pop().unwrap().unwrap();
+                slots.destroy_empty();
+                Err(value)
+            }
+        }
+    }
+
+    /// Takes the value out; `None` if it is out already.
+    #[inline(always)]
+    pub fn take(&self) -> Option<(T, Loan<T>)>
+        ensures { IfSome result (λ taken. taken.1.seat.table_id ≡ self.now.table.shared.table_id) }
+    {
+        let shared = &self.table.shared;
+        let (found, mut seat) = shared.swap_new_seat::<Taking>(0, 1);
+        if found != 0 {
+            return None;
+        }
+        let value = shared.exchange(&mut seat, 0, None).unwrap();
+        Some((value, Loan { seat }))
+    }
+
+    /// Puts a value back.
+    #[inline(always)]
+    pub fn put_back(&self, value: T, loan: Loan<T>)
+        requires { loan.seat.table_id ≡ self.now.table.shared.table_id }
+    {
+        let Loan { mut seat } = loan;
+        let shared = &self.table.shared;
+        let left = shared.exchange(&mut seat, 0, Some(value));
+        let None = left else { unreachable!() };
+        shared.store::<Giving>(&mut seat, 0, 0);
+    }
+
+    /// The value, after all sharing ended; `None` if it is still out.
+    pub fn into_inner(self) -> Option<T> {
+        let TryCell { table } = self;
+        let mut closed = table.close();
+        let value = closed.take(0);
+        closed.free();
+        value
+    }
+}

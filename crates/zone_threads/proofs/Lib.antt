@@ -1,0 +1,2 @@
+mod Putting
+mod UnitsShown

@@ -1,0 +1,20 @@
+-- Serves `units`: the CPU was settled, and one look at the word of each unit was made.
+use Rattle.std.proofs.Common.{rules, ◌≡◌, ◌∙◌, ◌++◌, List, ℕ, ap, true}
+use Rattle.std.specs.String.{string_bytes}
+use Rattle.zone_threads.proofs.UnitsShown.{there_is, units_shown}
+use Rattle.zone_threads.proofs.behind.Behind.units.Goals as goal
+
+pub returns : goal.returns
+returns g c =
+    let there : c.in-Ok.is_there ≡ true = search rules in
+    let same : c.into_bytes.result.items ≡ string_bytes c.write_units_at-shown.new.text = search rules in
+    record {
+      found = c.self.inside.locked;
+      settled = c.settle.new.locked;
+      left = c.write_units_at-shown.new.locked;
+      sound_before = search rules;
+      settles = c.settle.ensures.served;
+      sound_after = search rules;
+      told = units_shown _ _ _ _ _ _ (λ missing. there_is c.in-Ok.is_there there missing.0)
+          (λ shown told. same ∙ told.1 ∙ ap (λ (b : List ℕ). b ++ shown) c.new-text.ensures.bytes) c.in-Ok.ensures.units;
+    }

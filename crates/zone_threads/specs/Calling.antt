@@ -1,0 +1,129 @@
+-- What each call does to the CPU of a thread, by its answer.
+use Rattle.std.specs.Prelude.{◌≡◌, ◌≢◌, ◌≤◌, ◌⊎◌, ℕ, false, List, Option, Some}
+use Rattle.std.specs.Borrow.{Bor}
+use Rattle.frame_word.specs.Seats.{KnownTable}
+use Rattle.stock_word.specs.Stock.{KnownStockTable}
+use Rattle.group_tree.specs.Bounds.{most_groups}
+use Rattle.group_tree.specs.Groups.{has_group, path_of}
+use Rattle.group_tree.specs.declared.group.Group.{Group}
+use Rattle.group_tree.specs.declared.fault.Fault.{Fault}
+use Rattle.group_tree.specs.declared.fault.Fault.TheVariants.{NotPinned, PinsFull}
+use Rattle.cpu_part.specs.Calls.{DropAnswers, FastAnswers, PinAnswers, UnpinAnswers}
+use Rattle.cpu_part.specs.Cpus.{KnownCpu, times}
+use Rattle.cpu_part.specs.declared.answers.Dropped.TheVariants.{Listed, NeedVisit}
+use Rattle.cpu_part.specs.declared.answers.Fast.{Fast}
+use Rattle.cpu_part.specs.declared.answers.Fast.TheVariants.{Got}
+use Rattle.mem_system.specs.Commands.{IsOfZone}
+use Rattle.mem_system.specs.Locked.{BehindLock}
+use Rattle.mem_system.specs.Shown.{SettlesCaller}
+use Rattle.mem_system.specs.Visits.{IsServed, IsVisited, LockedState, ServesFrameOutcome, ServesOutcome}
+use Rattle.mem_system.specs.declared.command.Cmd.{Cmd}
+use Rattle.mem_system.specs.declared.command.Cmd.TheVariants as cmd
+use Rattle.mem_system.specs.declared.command.Reply.TheVariants as reply
+use Rattle.mem_system.specs.declared.outcome.Outcome.{Outcome}
+use Rattle.zone_threads.specs.Homes.{KnownHome, OnCpu}
+use Rattle.zone_threads.specs.declared.calls.Call.{Call}
+use Rattle.zone_threads.specs.declared.calls.Call.TheVariants as call
+use Rattle.zone_threads.specs.declared.calls.CallAnswer.{CallAnswer}
+use Rattle.zone_threads.specs.declared.calls.CallAnswer.TheVariants as answer
+use Rattle.zone_threads.specs.declared.served.Missed.{Missed}
+use Rattle.zone_threads.specs.declared.served.Missed.TheVariants as missed
+use Rattle.zone_threads.specs.declared.calls.ReadCall.{ReadCall}
+use Rattle.zone_threads.specs.declared.calls.ReadAnswer.{ReadAnswer}
+use Rattle.zone_threads.specs.declared.calls.ReadAnswer.TheVariants as read
+
+-- a block was allocated for the group of this number, by its path
+pub record ServesBlock (frames : KnownTable) (group order : ℕ) (outcome : Outcome) (before after : LockedState)
+    : Type 0 where
+  pub path : Bor (List ℕ)
+  pub path_is : path_of before.locked.machine.ledger.groups group ≡ Some path.now
+  pub serves : ServesOutcome frames (cmd.Alloc path order) outcome before after
+
+-- the fast allocation got no frame
+abbrev pub IsMissed : Fast → Type 0
+IsMissed (Got frame) = ⊥
+IsMissed other = Unit {0}
+
+-- a fast allocation for the group got no frame; of the CPU, at most what it knows of its stock has changed
+pub record MissesFast (group : ℕ) (from to : KnownCpu) : Type 0 where
+  pub fast : Fast
+  pub missed : IsMissed fast
+  pub answers : FastAnswers group fast from to
+
+-- the frame wasn't a fresh one of the CPU, or its stock was drained, and at most what it knows of that has changed
+abbrev pub MissesDrop : (frame : ℕ) → (from to : KnownCpu) → Type 0
+MissesDrop frame from to = (to ≡ from) ⊎ DropAnswers frame NeedVisit from to
+
+-- `first` leads from one part to another, and `rest` on from there
+pub record Then (first rest : (from to : KnownCpu) → Type 0) (from to : KnownCpu) : Type 0 where
+  pub between : KnownCpu
+  pub first_done : first from between
+  pub rest_done : rest between to
+
+-- no group has this number; those of groups are below 64
+abbrev pub IsMissingIn : List Group → ℕ → Type 0
+IsMissingIn groups number = (most_groups ≤ number) ⊎ (has_group groups number ≡ false)
+
+-- behind the lock, no group had this number
+abbrev pub HasNoGroup : KnownTable → KnownStockTable → ℕ → Type 0
+HasNoGroup frames stock_table group =
+    BehindLock frames stock_table (λ found. IsMissingIn found.machine.ledger.groups group)
+
+-- what is so, if nothing was allocated under the lock for this reason
+abbrev pub IfMissing : KnownTable → KnownStockTable → (group : ℕ) → Missed → Type 0
+IfMissing frames stock_table group missed.NoGroup = HasNoGroup frames stock_table group
+IfMissing frames stock_table group missed.Busy = Unit {0}
+
+-- a frame was asked for a number that no group has
+abbrev pub MissesGroup : KnownTable → KnownStockTable → (group : ℕ) → (from to : KnownHome) → Type 0
+MissesGroup frames stock_table group from to =
+    ((most_groups ≤ group) × (to ≡ from)) ⊎ (HasNoGroup frames stock_table group × OnCpu (MissesFast group) from to)
+
+-- What each call does, by its answer.
+abbrev pub Calls : KnownTable → KnownStockTable → Call → (from to : KnownHome) → CallAnswer → Type 0
+Calls frames stock_table (call.Visit cmd) from to answer.Busy = to ≡ from
+Calls frames stock_table (call.Visit cmd) from to answer.NoFrame = (¬ IsOfZone frames cmd) × (to ≡ from)
+Calls frames stock_table (call.Visit cmd) from to (answer.Served outcome) =
+    OnCpu (IsVisited frames stock_table (ServesOutcome frames cmd outcome)) from to
+Calls frames stock_table (call.AllocFrame group) from to answer.Busy = OnCpu (MissesFast group) from to
+Calls frames stock_table (call.AllocFrame group) from to answer.NoGroup = MissesGroup frames stock_table group from to
+Calls frames stock_table (call.AllocFrame group) from to (answer.Taken frame) =
+    OnCpu (FastAnswers group (Got frame)) from to
+Calls frames stock_table (call.AllocFrame group) from to (answer.Served outcome) =
+    OnCpu (Then (MissesFast group) (IsVisited frames stock_table (ServesFrameOutcome frames group outcome))) from to
+Calls frames stock_table (call.AllocBlock group order) from to answer.Busy = to ≡ from
+Calls frames stock_table (call.AllocBlock group order) from to answer.NoGroup =
+    HasNoGroup frames stock_table group × (to ≡ from)
+Calls frames stock_table (call.AllocBlock group order) from to (answer.Served outcome) =
+    OnCpu (IsVisited frames stock_table (ServesBlock frames group order outcome)) from to
+Calls frames stock_table (call.Release frame) from to answer.Busy = OnCpu (MissesDrop frame) from to
+Calls frames stock_table (call.Release frame) from to answer.NoFrame = (frames.frames ≤ frame) × (to ≡ from)
+Calls frames stock_table (call.Release frame) from to answer.Listed = OnCpu (DropAnswers frame Listed) from to
+Calls frames stock_table (call.Release frame) from to (answer.Served outcome) =
+    OnCpu (Then (MissesDrop frame) (IsVisited frames stock_table (ServesOutcome frames (cmd.Release frame) outcome)))
+    from to
+Calls frames stock_table (call.Get frame) from to answer.NoFrame = (frames.frames ≤ frame) × (to ≡ from)
+Calls frames stock_table (call.Get frame) from to (answer.Got got) = OnCpu (PinAnswers frame got) from to
+Calls frames stock_table (call.Get frame) from to (answer.Refused fault) = (fault ≡ PinsFull) × (to ≡ from)
+Calls frames stock_table (call.Put frame) from to answer.NoFrame = (frames.frames ≤ frame) × (to ≡ from)
+Calls frames stock_table (call.Put frame) from to (answer.Put put) = OnCpu (UnpinAnswers frame put) from to
+Calls frames stock_table (call.Put frame) from to (answer.Refused fault) =
+    (fault ≡ NotPinned) × OnCpu (λ cpu left. (times frame cpu.pins ≡ 0) × (left ≡ cpu)) from to
+Calls frames stock_table call.Settle from to answer.Busy = to ≡ from
+Calls frames stock_table call.Settle from to answer.Settled =
+    OnCpu (IsVisited frames stock_table (SettlesCaller frames)) from to
+Calls frames stock_table asked from to returned = ⊥
+
+-- what a read of a file does under the lock, by its answer
+abbrev pub ReadsBehind : KnownTable → KnownStockTable → ReadCall → (from to : KnownCpu) → ReadAnswer → Type 0
+ReadsBehind frames stock_table asked from to read.Busy = ⊥
+ReadsBehind frames stock_table asked from to (read.Text text) =
+    IsVisited frames stock_table (IsServed frames (cmd.Read asked.path asked.file) (reply.Text text)) from to
+ReadsBehind frames stock_table asked from to (read.Served outcome) =
+    IsVisited frames stock_table (ServesOutcome frames (cmd.Read asked.path asked.file) outcome) from to
+
+-- what a read of a file does, by its answer
+abbrev pub Reads : KnownTable → KnownStockTable → ReadCall → (from to : KnownHome) → ReadAnswer → Type 0
+Reads frames stock_table asked from to read.Busy = to ≡ from
+Reads frames stock_table asked from to answer =
+    OnCpu (λ cpu left. ReadsBehind frames stock_table asked cpu left answer) from to

@@ -1,0 +1,49 @@
+//! What lies behind the zone's lock.
+
+ghost use Rattle.std.specs.Prelude.{◌≡◌, ◌++◌, ◌∷◌, [], IfNone, IfSome};
+
+use cpu_part::{BootName, Cpu};
+use mem_system::Locked;
+use std::marker::Model;
+
+/// What lies behind the lock: the machine, and the parts of the CPUs that no thread has, in any order.
+pub struct Behind<N: BootName> {
+    pub(crate) locked: Locked<N>,
+    pub(crate) parked: Vec<Cpu<N>>,
+}
+
+impl<N: BootName> Model for Behind<N> {
+    ghost use Rattle.zone_threads.specs.Homes.{KnownBehind};
+
+    ghost Value = { KnownBehind };
+
+    ghost view = { λ b. record { locked = b.locked; parked = b.parked.items } };
+}
+
+impl<N: BootName> Behind<N> {
+    ghost use Rattle.zone_threads.specs.Homes.{parked_with};
+
+    /// Takes the part of the CPU of this number; `None` if it isn't parked.
+    pub fn unpark(&mut self, number: u32) -> Option<Cpu<N>>
+        ensures { IfSome result (λ cpu. cpu.number ≡ number) }
+    {
+        for at in 0..self.parked.len() {
+            if self.parked[at].number() == number {
+                return Some(self.parked.swap_remove(at));
+            }
+        }
+        None
+    }
+
+    /// Parks the part of a CPU. It is returned if there is no room, which a boot reserves for all.
+    pub fn park(&mut self, cpu: Cpu<N>) -> Option<Cpu<N>>
+        ensures parked { IfNone result (self.new ≡ parked_with self.old cpu) }
+        ensures returned { IfSome result (λ returned. (returned ≡ cpu) × (self.new ≡ self.old)) }
+    {
+        if self.parked.len() == self.parked.capacity() {
+            return Some(cpu);
+        }
+        self.parked.push_reserved(cpu);
+        None
+    }
+}

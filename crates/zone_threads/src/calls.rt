@@ -1,0 +1,68 @@
+//! What a thread asks for its CPU, and what it gets.
+
+use control_files::text::ArrayText;
+use frame_word::{Frame, Get, Put};
+use group_tree::fault::Fault;
+use mem_system::{Cmd, Outcome};
+
+/// What a thread asks for its CPU.
+#[derive(Clone, Copy, PartialEq, Eq)]
+pub enum Call<'a> {
+    /// Serves this command under the lock.
+    Visit(Cmd<'a>),
+    /// Takes a frame, charged to the group of this number: of the CPU's list and stock, or else under the lock.
+    AllocFrame { group: u32 },
+    /// Takes a block of 2^order frames, charged to the group of this number, under the lock.
+    AllocBlock { group: u32, order: u32 },
+    /// Releases the unit that this frame heads: if it is a fresh frame of the CPU, to its list, or else under the lock.
+    Release { frame: u32 },
+    /// Pins this frame, without the lock.
+    Get { frame: u32 },
+    /// Puts a pin of this frame, without the lock.
+    Put { frame: u32 },
+    /// Settles the CPU, under the lock.
+    Settle,
+}
+
+/// What a call returns.
+#[derive(Clone, Copy, PartialEq, Eq)]
+pub enum CallAnswer {
+    /// Another thread has the lock.
+    Busy,
+    /// The zone has no such frame, and nothing was done.
+    NoFrame,
+    /// No group has such a number.
+    NoGroup,
+    /// It was served under the lock, with this outcome.
+    Served(Outcome),
+    /// This frame of the CPU's list was taken.
+    Taken(Frame),
+    /// The fresh frame is on the CPU's list again.
+    Listed,
+    /// The answer of a get.
+    Got(Get),
+    /// The answer of a put.
+    Put(Put),
+    /// The CPU was settled.
+    Settled,
+    /// It is refused for this reason, and nothing was done.
+    Refused(Fault),
+}
+
+/// A read of a file of the group of this path.
+#[derive(Clone, Copy, PartialEq, Eq)]
+pub struct ReadCall<'a> {
+    pub path: &'a [u8],
+    pub file: &'a [u8],
+}
+
+/// What a read of a file returns.
+#[derive(Clone, Copy, PartialEq, Eq)]
+pub enum ReadAnswer {
+    /// Another thread has the lock.
+    Busy,
+    /// The file's text.
+    Text(ArrayText),
+    /// It was served, with this outcome, which has no text.
+    Served(Outcome),
+}

@@ -1,0 +1,124 @@
+//! What is served with what lies behind the lock.
+
+ghost use Rattle.std.specs.Prelude.{◌≡◌, IfNone, IfSome, IsTrue};
+ghost use Rattle.group_tree.specs.Groups.{has_group};
+ghost use Rattle.mem_system.specs.Commands.{IsOfZone};
+ghost use Rattle.mem_system.specs.Shown.{SettlesCaller};
+ghost use Rattle.mem_system.specs.Visits.{IsVisited, ServesFrameOutcome, ServesOutcome};
+ghost use Rattle.zone_threads.specs.Calling.{HasNoGroup, IsMissingIn, ReadsBehind, ServesBlock};
+
+use crate::behind::Behind;
+use crate::calls::{ReadAnswer, ReadCall};
+use control_files::file::file_text;
+use cpu_part::{BootName, Cpu, Tables};
+use group_charge::charges::Charges;
+use group_tree::group::GroupId;
+use mem_system::{Cmd, Outcome, serve_frame_outcome, serve_outcome, settle};
+
+/// Why nothing was allocated under the lock.
+#[derive(Clone, Copy, Debug, PartialEq, Eq)]
+pub enum Missed {
+    /// Another thread has it.
+    Busy,
+    /// No group has the number.
+    NoGroup,
+}
+
+impl<N: BootName> Behind<N> {
+    /// Serves a command of a CPU, as `mem_system::serve_outcome` does.
+    #[inline(always)]
+    pub fn serve(&mut self, tables: &Tables<N>, cpu: &mut Cpu<N>, cmd: &Cmd<'_>) -> Outcome
+        requires { IsOfZone N.frames cmd.now }
+        ensures { IsVisited N.frames N.stocks (ServesOutcome N.frames cmd.now result) cpu.old cpu.new }
+    {
+        self.locked.prove_quiet();
+        let outcome = serve_outcome(&mut self.locked, tables, cpu, cmd);
+        self.locked.prove_quiet();
+        outcome
+    }
+
+    /// Allocates a frame for the group of this number; `None` if there is none.
+    #[inline(always)]
+    pub fn alloc_frame(
+        &mut self,
+        tables: &Tables<N>,
+        cpu: &mut Cpu<N>,
+        group: u32,
+    ) -> Option<Outcome>
+        ensures served { IfSome result (λ outcome.
+            IsVisited N.frames N.stocks (ServesFrameOutcome N.frames group outcome) cpu.old cpu.new) }
+        ensures none { IfNone result (HasNoGroup N.frames N.stocks group × (cpu.new ≡ cpu.old)) }
+    {
+        self.locked.prove_quiet();
+        let Some(group) = find_group(self.locked.charges(), group) else {
+            return None;
+        };
+        let outcome = serve_frame_outcome(&mut self.locked, tables, cpu, group);
+        self.locked.prove_quiet();
+        Some(outcome)
+    }
+
+    /// Allocates a block for the group of this number; `None` if there is none.
+    pub fn alloc_block(
+        &mut self,
+        tables: &Tables<N>,
+        cpu: &mut Cpu<N>,
+        group: u32,
+        order: u32,
+    ) -> Option<Outcome>
+        ensures served { IfSome result (λ outcome.
+            IsVisited N.frames N.stocks (ServesBlock N.frames group order outcome) cpu.old cpu.new) }
+        ensures none { IfNone result (HasNoGroup N.frames N.stocks group × (cpu.new ≡ cpu.old)) }
+    {
+        self.locked.prove_quiet();
+        let Some(group) = find_group(self.locked.charges(), group) else {
+            return None;
+        };
+        let path = *self.locked.charges().tree().path_of(group);
+        let path = path.as_bytes();
+        let outcome = serve_outcome(&mut self.locked, tables, cpu, &Cmd::Alloc { path, order });
+        self.locked.prove_quiet();
+        Some(outcome)
+    }
+
+    /// Settles a CPU.
+    #[inline(always)]
+    pub fn settle(&mut self, tables: &Tables<N>, cpu: &mut Cpu<N>)
+        ensures { IsVisited N.frames N.stocks (SettlesCaller N.frames) cpu.old cpu.new }
+    {
+        self.locked.prove_quiet();
+        settle(&mut self.locked, tables, cpu);
+        self.locked.prove_quiet();
+    }
+
+    /// Reads a file of a group, with its text.
+    pub fn read(&mut self, tables: &Tables<N>, cpu: &mut Cpu<N>, asked: &ReadCall<'_>) -> ReadAnswer
+        ensures { ReadsBehind N.frames N.stocks asked.now cpu.old cpu.new result }
+    {
+        let ReadCall { path, file } = *asked;
+        self.locked.prove_quiet();
+        let outcome = serve_outcome(&mut self.locked, tables, cpu, &Cmd::Read { path, file });
+        self.locked.prove_quiet();
+        let Outcome::Text(group, file) = outcome else {
+            return ReadAnswer::Served(outcome);
+        };
+        match file_text(self.locked.charges(), group, file) {
+            Ok(text) => ReadAnswer::Text(text),
+            Err(_) => ReadAnswer::Served(outcome),
+        }
+    }
+}
+
+// The group of this number; `None` if there is none.
+fn find_group(charges: &Charges, number: u32) -> Option<GroupId>
+    ensures found { IfSome result (λ group. (group ≡ number) × IsTrue (has_group charges.now.groups group)) }
+    ensures none { IfNone result (IsMissingIn charges.now.groups number) }
+{
+    let Some(group) = GroupId::of(number) else {
+        return None;
+    };
+    if !charges.tree().contains(group) {
+        return None;
+    }
+    Some(group)
+}

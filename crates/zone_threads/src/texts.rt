@@ -1,0 +1,135 @@
+//! The texts that a settled CPU gets of the zone.
+
+ghost use Rattle.std.specs.Prelude.{◌≡◌, IfNone, IfSome, IsSome};
+ghost use Rattle.mem_system.specs.Shown.{ReadsAfterSettling};
+ghost use Rattle.zone_threads.specs.Shown.{Shows, SaysText, SaysUnits};
+ghost use Rattle.zone_threads.specs.declared.texts.TextCall.TheVariants.{Blocks, Show, Stock};
+
+use crate::behind::Behind;
+use crate::home::Home;
+use cpu_part::{BootName, Cpu, Tables};
+use mem_system::{blocks_text, settle, show_text, write_own_stock, write_units_at};
+use std::alloc::Global;
+
+/// Which text a thread asks for. Its CPU is settled first.
+#[derive(Drop)]
+pub enum TextCall {
+    /// The place of each frame, and the usage of each group.
+    Show,
+    /// The free blocks.
+    Blocks,
+    /// The CPU's stock, and how many frames and pins it has.
+    Stock,
+    /// The kept units of the group of this path.
+    Units { path: Vec<u8> },
+}
+
+/// What it gets.
+#[derive(Drop)]
+pub enum TextAnswer {
+    /// The text.
+    Text(Vec<u8>),
+    /// No group has the path.
+    NoGroup,
+    /// Memory ran out.
+    NoMemory,
+}
+
+impl<N: BootName> Home<N> {
+    /// Settles the CPU, and returns a text, under the lock; `None` if another thread has it.
+    pub fn text(&mut self, alloc: Global, asked: TextCall) -> Option<TextAnswer>
+        requires some { IsSome self.old.cpu }
+        ensures shown { IfSome result (λ answer. Shows N.frames N.stocks asked answer self.old self.new) }
+        ensures busy { IfNone result (self.new ≡ self.old) }
+    {
+        let zone = &*self.zone;
+        let Some(cpu) = &mut self.cpu else {
+            unreachable!()
+        };
+        let (mut behind, loan) = zone.lock.take()?;
+        let answer = behind.text(alloc, &zone.tables, cpu, asked);
+        zone.lock.put_back(behind, loan);
+        Some(answer)
+    }
+}
+
+impl<N: BootName> Behind<N> {
+    /// Settles a CPU, and returns a text.
+    pub fn text(
+        &mut self,
+        alloc: Global,
+        tables: &Tables<N>,
+        cpu: &mut Cpu<N>,
+        asked: TextCall,
+    ) -> TextAnswer
+        ensures { ReadsAfterSettling N.frames N.stocks (SaysText asked result) cpu.old cpu.new }
+    {
+        match asked {
+            TextCall::Show => self.show(alloc, tables, cpu),
+            TextCall::Blocks => self.blocks(alloc, tables, cpu),
+            TextCall::Stock => self.stock(alloc, tables, cpu),
+            TextCall::Units { path } => self.units(alloc, tables, cpu, &path),
+        }
+    }
+
+    fn show(&mut self, alloc: Global, tables: &Tables<N>, cpu: &mut Cpu<N>) -> TextAnswer
+        ensures { ReadsAfterSettling N.frames N.stocks (SaysText Show result) cpu.old cpu.new }
+    {
+        self.locked.prove_quiet();
+        let shown = show_text(alloc, &mut self.locked, tables, cpu);
+        self.locked.prove_quiet();
+        let Ok(text) = shown else {
+            return TextAnswer::NoMemory;
+        };
+        TextAnswer::Text(text)
+    }
+
+    fn blocks(&mut self, alloc: Global, tables: &Tables<N>, cpu: &mut Cpu<N>) -> TextAnswer
+        ensures { ReadsAfterSettling N.frames N.stocks (SaysText Blocks result) cpu.old cpu.new }
+    {
+        self.locked.prove_quiet();
+        let shown = blocks_text(alloc, &mut self.locked, tables, cpu);
+        self.locked.prove_quiet();
+        let Ok(text) = shown else {
+            return TextAnswer::NoMemory;
+        };
+        TextAnswer::Text(text)
+    }
+
+    fn stock(&mut self, alloc: Global, tables: &Tables<N>, cpu: &mut Cpu<N>) -> TextAnswer
+        ensures { ReadsAfterSettling N.frames N.stocks (SaysText Stock result) cpu.old cpu.new }
+    {
+        self.locked.prove_quiet();
+        settle(&mut self.locked, tables, cpu);
+        let mut text = String::new(alloc);
+        let shown = write_own_stock(&mut self.locked, tables, cpu, &mut text);
+        self.locked.prove_quiet();
+        let Ok(()) = shown else {
+            return TextAnswer::NoMemory;
+        };
+        TextAnswer::Text(text.into_bytes())
+    }
+
+    fn units(
+        &mut self,
+        alloc: Global,
+        tables: &Tables<N>,
+        cpu: &mut Cpu<N>,
+        path: &[u8],
+    ) -> TextAnswer
+        ensures { ReadsAfterSettling N.frames N.stocks (SaysUnits path.now result) cpu.old cpu.new }
+    {
+        self.locked.prove_quiet();
+        settle(&mut self.locked, tables, cpu);
+        let mut text = String::new(alloc);
+        let shown = write_units_at(&mut self.locked, tables, path, &mut text);
+        self.locked.prove_quiet();
+        let Ok(is_there) = shown else {
+            return TextAnswer::NoMemory;
+        };
+        if !is_there {
+            return TextAnswer::NoGroup;
+        }
+        TextAnswer::Text(text.into_bytes())
+    }
+}

@@ -1,0 +1,169 @@
+//! The calls that are served under the lock.
+
+ghost use Rattle.std.specs.Prelude.{◌≡◌, ◌↔◌, IfNone, IfSome, IsSome, IsTrue, MatchResult};
+ghost use Rattle.mem_system.specs.Commands.{IsOfZone, NamesFrameBelow};
+ghost use Rattle.mem_system.specs.Visits.{IsVisited, ServesFrameOutcome, ServesOutcome};
+ghost use Rattle.zone_threads.specs.Calling.{Calls, IfMissing, Reads, ServesBlock};
+ghost use Rattle.zone_threads.specs.Homes.{OnCpu};
+ghost use Rattle.zone_threads.specs.declared.calls.Call.TheVariants.{AllocBlock, Settle, Visit};
+
+use crate::calls::{Call, CallAnswer, ReadAnswer, ReadCall};
+use crate::home::Home;
+use crate::served::Missed;
+use cpu_part::BootName;
+use mem_system::{Cmd, Outcome};
+
+impl<N: BootName> Home<N> {
+    /// Serves a call of the home's CPU. It is inlined, so that a caller that names the call has its steps alone.
+    #[inline(always)]
+    pub fn call(&mut self, call: &Call<'_>) -> CallAnswer
+        requires some { IsSome self.old.cpu }
+        ensures { Calls N.frames N.stocks call.now self.old self.new result }
+    {
+        match *call {
+            Call::Visit(cmd) => self.visit(&cmd),
+            Call::AllocFrame { group } => self.alloc_frame(group),
+            Call::AllocBlock { group, order } => self.alloc_block(group, order),
+            Call::Release { frame } => self.release(frame),
+            Call::Get { frame } => self.get(frame),
+            Call::Put { frame } => self.put(frame),
+            Call::Settle => self.settle(),
+        }
+    }
+
+    /// Serves a command under the lock.
+    pub fn visit(&mut self, cmd: &Cmd<'_>) -> CallAnswer
+        requires some { IsSome self.old.cpu }
+        ensures { Calls N.frames N.stocks (Visit cmd.now) self.old self.new result }
+    {
+        if !is_of_zone(cmd, self.zone.tables.frames.frames()) {
+            return CallAnswer::NoFrame;
+        }
+        match self.serve(cmd) {
+            Some(outcome) => CallAnswer::Served(outcome),
+            None => CallAnswer::Busy,
+        }
+    }
+
+    /// Allocates a block under the lock.
+    pub fn alloc_block(&mut self, group: u32, order: u32) -> CallAnswer
+        requires some { IsSome self.old.cpu }
+        ensures { Calls N.frames N.stocks (AllocBlock group order) self.old self.new result }
+    {
+        match self.serve_block(group, order) {
+            Ok(outcome) => CallAnswer::Served(outcome),
+            Err(Missed::Busy) => CallAnswer::Busy,
+            Err(Missed::NoGroup) => CallAnswer::NoGroup,
+        }
+    }
+
+    /// Settles the CPU under the lock.
+    pub fn settle(&mut self) -> CallAnswer
+        requires some { IsSome self.old.cpu }
+        ensures { Calls N.frames N.stocks Settle self.old self.new result }
+    {
+        let zone = &*self.zone;
+        let Some(cpu) = &mut self.cpu else {
+            unreachable!()
+        };
+        let Some((mut behind, loan)) = zone.lock.take() else {
+            return CallAnswer::Busy;
+        };
+        behind.settle(&zone.tables, cpu);
+        zone.lock.put_back(behind, loan);
+        CallAnswer::Settled
+    }
+
+    /// Reads a file of a group under the lock, with its text.
+    pub fn read(&mut self, asked: &ReadCall<'_>) -> ReadAnswer
+        requires some { IsSome self.old.cpu }
+        ensures { Reads N.frames N.stocks asked.now self.old self.new result }
+    {
+        let zone = &*self.zone;
+        let Some(cpu) = &mut self.cpu else {
+            unreachable!()
+        };
+        let Some((mut behind, loan)) = zone.lock.take() else {
+            return ReadAnswer::Busy;
+        };
+        let answer = behind.read(&zone.tables, cpu, asked);
+        zone.lock.put_back(behind, loan);
+        answer
+    }
+
+    // Serves a command under the lock; `None` if another thread has it.
+    pub(crate) fn serve(&mut self, cmd: &Cmd<'_>) -> Option<Outcome>
+        requires some { IsSome self.old.cpu }
+        requires of_zone { IsOfZone N.frames cmd.now }
+        ensures served { IfSome result (λ outcome.
+            OnCpu (IsVisited N.frames N.stocks (ServesOutcome N.frames cmd.now outcome)) self.old self.new) }
+        ensures busy { IfNone result (self.new ≡ self.old) }
+    {
+        let zone = &*self.zone;
+        let Some(cpu) = &mut self.cpu else {
+            unreachable!()
+        };
+        let (mut behind, loan) = zone.lock.take()?;
+        let outcome = behind.serve(&zone.tables, cpu, cmd);
+        zone.lock.put_back(behind, loan);
+        Some(outcome)
+    }
+
+    // Allocates a frame under the lock.
+    pub(crate) fn serve_frame(&mut self, group: u32) -> Result<Outcome, Missed>
+        requires some { IsSome self.old.cpu }
+        ensures { MatchResult result
+            (λ outcome. OnCpu (IsVisited N.frames N.stocks (ServesFrameOutcome N.frames group outcome)) self.old self.new)
+            (λ missed. IfMissing N.frames N.stocks group missed × (self.new ≡ self.old)) }
+    {
+        let zone = &*self.zone;
+        let Some(cpu) = &mut self.cpu else {
+            unreachable!()
+        };
+        let Some((mut behind, loan)) = zone.lock.take() else {
+            return Err(Missed::Busy);
+        };
+        let served = behind.alloc_frame(&zone.tables, cpu, group);
+        zone.lock.put_back(behind, loan);
+        match served {
+            Some(outcome) => Ok(outcome),
+            None => Err(Missed::NoGroup),
+        }
+    }
+
+    // Allocates a block under the lock.
+    fn serve_block(&mut self, group: u32, order: u32) -> Result<Outcome, Missed>
+        requires some { IsSome self.old.cpu }
+        ensures { MatchResult result
+            (λ outcome. OnCpu (IsVisited N.frames N.stocks (ServesBlock N.frames group order outcome)) self.old self.new)
+            (λ missed. IfMissing N.frames N.stocks group missed × (self.new ≡ self.old)) }
+    {
+        let zone = &*self.zone;
+        let Some(cpu) = &mut self.cpu else {
+            unreachable!()
+        };
+        let Some((mut behind, loan)) = zone.lock.take() else {
+            return Err(Missed::Busy);
+        };
+        let served = behind.alloc_block(&zone.tables, cpu, group, order);
+        zone.lock.put_back(behind, loan);
+        let Some(outcome) = served else {
+            return Err(Missed::NoGroup);
+        };
+        Ok(outcome)
+    }
+}
+
+// Whether each frame that the command names is one of so many.
+fn is_of_zone(cmd: &Cmd<'_>, frames: u32) -> bool
+    ensures { IsTrue result ↔ NamesFrameBelow frames cmd.now }
+{
+    match *cmd {
+        Cmd::Owner { frame } => frame < frames,
+        Cmd::Touch { frame } => frame < frames,
+        Cmd::Dirty { frame } => frame < frames,
+        Cmd::Clean { frame } => frame < frames,
+        Cmd::Release { frame } => frame < frames,
+        _ => true,
+    }
+}

@@ -1,0 +1,250 @@
+/* Each way to misuse the calls for threads, and what a host may rely on about the lock: tests/gate/threads-c runs it. */
+#define _DEFAULT_SOURCE
+#include <pthread.h>
+#include <stdatomic.h>
+#include <stdio.h>
+#include <string.h>
+#include "tempolemon_threads.h"
+
+static const tempolemon_sizes SIZES = {.frames = 64, .cpus = 3, .batch = 4, .high = 16, .stock = 8};
+static int failures;
+static tempolemon_result result;
+
+static void is(const char *what, unsigned long given, unsigned long wanted) {
+    if (given == wanted) return;
+    printf("%s: %lu in place of %lu\n", what, given, wanted);
+    failures++;
+}
+
+/* Each typed call on the CPU handle returns this. */
+static void all_are(const char *what, tempolemon_cpu *cpu, uint8_t wanted) {
+    char text[200];
+    size_t written;
+    const uint8_t given[] = {
+        tempolemon_on_get(cpu, 0, &result), tempolemon_on_put(cpu, 0, &result),
+        tempolemon_on_alloc(cpu, 0, 0, &result), tempolemon_on_alloc(cpu, 0, 1, &result),
+        tempolemon_on_release(cpu, 0, &result), tempolemon_on_mkdir(cpu, "/x", 2, &result),
+        tempolemon_on_rmdir(cpu, "/x", 2, &result), tempolemon_on_write(cpu, "/x", 2, "memory.max", 10, "1", 1, &result),
+        tempolemon_on_read(cpu, "/x", 2, "memory.max", 10, text, sizeof text, &result),
+        tempolemon_on_touch(cpu, 0, &result), tempolemon_on_dirty(cpu, 0, &result), tempolemon_on_clean(cpu, 0, &result),
+        tempolemon_on_owner(cpu, 0, &result), tempolemon_on_settle(cpu, &result),
+        tempolemon_on_show(cpu, text, sizeof text, &written), tempolemon_on_blocks(cpu, text, sizeof text, &written),
+        tempolemon_on_stock(cpu, text, sizeof text, &written), tempolemon_on_units(cpu, "/", 1, text, sizeof text, &written),
+        tempolemon_return(cpu),
+    };
+    for (size_t at = 0; at < sizeof given; at++) is(what, given[at], wanted);
+}
+
+/* Handles with nothing behind them, and numbers that aren't there. */
+static void refusals(void) {
+    tempolemon_zone zone = {0}, none = {0};
+    static tempolemon_cpu one, two, copy, empty;
+    tempolemon_report report = {.held = 77};
+    tempolemon_sizes low_high = SIZES;
+    char text[300];
+    size_t written;
+    low_high.high = 3;
+
+    is("an end of none", tempolemon_zone_end(&none, &report), TEMPOLEMON_NOT_LIVE);
+    is("a take of none", tempolemon_take(&none, 1, &one), TEMPOLEMON_NOT_LIVE);
+    all_are("a call of none", &one, TEMPOLEMON_NOT_LIVE);
+    is("a low high", tempolemon_zone_boot(&low_high, &zone), TEMPOLEMON_BAD_CONFIG);
+    is("a boot", tempolemon_zone_boot(&SIZES, &zone), TEMPOLEMON_DONE);
+    is("a second boot", tempolemon_zone_boot(&SIZES, &zone), TEMPOLEMON_IS_LIVE);
+    is("CPU 0", tempolemon_take(&zone, 0, &one), TEMPOLEMON_BAD_CPU);
+    is("CPU 4", tempolemon_take(&zone, 4, &one), TEMPOLEMON_BAD_CPU);
+    is("CPU 2^32 - 1", tempolemon_take(&zone, UINT32_MAX, &one), TEMPOLEMON_BAD_CPU);
+    is("CPU 1", tempolemon_take(&zone, 1, &one), TEMPOLEMON_DONE);
+    is("CPU 1 again", tempolemon_take(&zone, 1, &two), TEMPOLEMON_CPU_OUT);
+    is("CPU 2 for CPU 1's handle", tempolemon_take(&zone, 2, &one), TEMPOLEMON_IS_LIVE);
+    all_are("a call of the second handle", &two, TEMPOLEMON_NOT_LIVE);
+    is("an end with a CPU out", tempolemon_zone_end(&zone, &report), TEMPOLEMON_CPUS_OUT);
+    is("its report", report.held, 77);
+
+    is("frame 64", tempolemon_on_get(&one, 64, &result), TEMPOLEMON_BAD_FRAME);
+    is("frame 2^32 - 1", tempolemon_on_release(&one, UINT32_MAX, &result), TEMPOLEMON_BAD_FRAME);
+    is("owner of frame 64", tempolemon_on_owner(&one, 64, &result), TEMPOLEMON_BAD_FRAME);
+    is("group 1", tempolemon_on_alloc(&one, 1, 0, &result), TEMPOLEMON_BAD_GROUP);
+    is("group 63, a block", tempolemon_on_alloc(&one, 63, 2, &result), TEMPOLEMON_BAD_GROUP);
+    is("group 64", tempolemon_on_alloc(&one, 64, 0, &result), TEMPOLEMON_BAD_GROUP);
+    is("a put without a pin", tempolemon_on_put(&one, 0, &result), 21);
+    is("its kind", result.kind, TEMPOLEMON_REFUSED);
+    is("a short buffer", tempolemon_on_read(&one, "/a", 2, "memory.max", 10, text, 159, &result), TEMPOLEMON_SMALL_BUFFER);
+    is("units of no group", tempolemon_on_units(&one, "/a", 2, text, sizeof text, &written), 6);
+
+    is("mkdir", tempolemon_on_mkdir(&one, "/a", 2, &result), TEMPOLEMON_DONE);
+    const uint32_t group = (uint32_t)result.number;
+    is("a short text", tempolemon_on_show(&one, text, 3, &written), TEMPOLEMON_SMALL_BUFFER);
+    const size_t needed = written;
+    is("the text", tempolemon_on_show(&one, text, needed, &written), TEMPOLEMON_DONE);
+    is("its length", written, needed);
+
+    /* a returned CPU keeps its pins: whoever takes it next puts them */
+    is("alloc", tempolemon_on_alloc(&one, group, 0, &result), TEMPOLEMON_DONE);
+    const uint32_t frame = (uint32_t)result.number;
+    is("settle", tempolemon_on_settle(&one, &result), TEMPOLEMON_DONE);
+    is("get", tempolemon_on_get(&one, frame, &result), TEMPOLEMON_DONE);
+    is("held", result.kind, TEMPOLEMON_HELD);
+    is("return", tempolemon_return(&one), TEMPOLEMON_DONE);
+    is("return again", tempolemon_return(&one), TEMPOLEMON_NOT_LIVE);
+    all_are("a call after the return", &one, TEMPOLEMON_NOT_LIVE);
+    is("CPU 1 by the second handle", tempolemon_take(&zone, 1, &two), TEMPOLEMON_DONE);
+    is("its put", tempolemon_on_put(&two, frame, &result), TEMPOLEMON_DONE);
+    is("is left", result.kind, TEMPOLEMON_LEFT);
+    is("its get", tempolemon_on_get(&two, frame, &result), TEMPOLEMON_DONE);
+
+#ifndef NDEBUG
+    copy = two;
+    all_are("a call of a copy", &copy, TEMPOLEMON_COPIED);
+    two.in_use = 1;
+    all_are("a call during a call", &two, TEMPOLEMON_IN_USE);
+    two.in_use = 0;
+#else
+    (void)copy;
+#endif
+    all_are("an empty handle", &empty, TEMPOLEMON_NOT_LIVE);
+    is("the last return", tempolemon_return(&two), TEMPOLEMON_DONE);
+    is("an end", tempolemon_zone_end(&zone, &report), TEMPOLEMON_DONE);
+    is("its pins", report.held, 1);
+    is("its frames", report.free + report.charged, report.frames);
+    is("an end again", tempolemon_zone_end(&zone, &report), TEMPOLEMON_NOT_LIVE);
+    is("a take after it", tempolemon_take(&zone, 1, &one), TEMPOLEMON_NOT_LIVE);
+}
+
+/* The lock is free after each call, so another CPU's try is never BUSY. */
+static void free_lock(void) {
+    tempolemon_zone zone = {0};
+    static tempolemon_cpu one, two;
+    tempolemon_report report;
+    char text[4000];
+    size_t written;
+    is("boot", tempolemon_zone_boot(&SIZES, &zone), TEMPOLEMON_DONE);
+    is("take", tempolemon_take(&zone, 1, &one), TEMPOLEMON_DONE);
+    is("take", tempolemon_take(&zone, 2, &two), TEMPOLEMON_DONE);
+#define FREE_AFTER(call)                                                                                              \
+    do {                                                                                                               \
+        (void)(call);                                                                                                  \
+        is(#call, tempolemon_try_settle(&two.part, &result), TEMPOLEMON_DONE);                                         \
+    } while (0)
+    for (int round = 0; round < 3; round++) {
+        FREE_AFTER(tempolemon_try_mkdir(&one.part, (const uint8_t *)"/a", 2, &result));
+        FREE_AFTER(tempolemon_try_alloc(&one.part, 1, 0, &result));
+        const uint32_t frame = (uint32_t)result.number;
+        FREE_AFTER(tempolemon_try_alloc(&one.part, 1, 2, &result));
+        FREE_AFTER(tempolemon_try_alloc(&one.part, 40, 2, &result));
+        FREE_AFTER(tempolemon_try_alloc(&one.part, 40, 0, &result));
+        FREE_AFTER(tempolemon_try_write(&one.part, (const uint8_t *)"/a", 2, (const uint8_t *)"memory.max", 10,
+                                        (const uint8_t *)"64K", 3, &result));
+        FREE_AFTER(tempolemon_try_read(&one.part, (const uint8_t *)"/a", 2, (const uint8_t *)"memory.max", 10,
+                                       (uint8_t *)text, 160, &result));
+        FREE_AFTER(tempolemon_try_read(&one.part, (const uint8_t *)"/b", 2, (const uint8_t *)"memory.max", 10,
+                                       (uint8_t *)text, 160, &result));
+        FREE_AFTER(tempolemon_try_touch(&one.part, frame, &result));
+        FREE_AFTER(tempolemon_try_dirty(&one.part, frame, &result));
+        FREE_AFTER(tempolemon_try_clean(&one.part, frame, &result));
+        FREE_AFTER(tempolemon_try_owner(&one.part, frame, &result));
+        FREE_AFTER(tempolemon_cpu_get(&one.part, frame, &result));
+        FREE_AFTER(tempolemon_cpu_put(&one.part, frame, &result));
+        FREE_AFTER(tempolemon_try_release(&one.part, frame, &result));
+        FREE_AFTER(tempolemon_try_settle(&one.part, &result));
+        FREE_AFTER(tempolemon_try_show(&one.part, (uint8_t *)text, sizeof text, &written));
+        FREE_AFTER(tempolemon_try_blocks(&one.part, (uint8_t *)text, sizeof text, &written));
+        FREE_AFTER(tempolemon_try_stock(&one.part, (uint8_t *)text, sizeof text, &written));
+        FREE_AFTER(tempolemon_try_units(&one.part, (const uint8_t *)"/a", 2, (uint8_t *)text, sizeof text, &written));
+        FREE_AFTER(tempolemon_try_units(&one.part, (const uint8_t *)"/b", 2, (uint8_t *)text, sizeof text, &written));
+        FREE_AFTER(tempolemon_try_rmdir(&one.part, (const uint8_t *)"/b", 2, &result));
+        FREE_AFTER(tempolemon_zone_end(&zone, &report));
+        FREE_AFTER(tempolemon_try_return(&one.part));
+        FREE_AFTER(tempolemon_try_take(&zone, 9, &one.part));
+        FREE_AFTER(tempolemon_try_take(&zone, 2, &one.part));
+        FREE_AFTER(tempolemon_try_take(&zone, 1, &one.part));
+    }
+    is("return", tempolemon_return(&one), TEMPOLEMON_DONE);
+    is("return", tempolemon_return(&two), TEMPOLEMON_DONE);
+    is("end", tempolemon_zone_end(&zone, &report), TEMPOLEMON_DONE);
+}
+
+static tempolemon_zone shared;
+static tempolemon_cpu holders[2];
+static _Atomic bool is_over;
+static pthread_mutex_t turn = PTHREAD_MUTEX_INITIALIZER;
+
+/* Holds the lock for long: the text of a large zone. */
+static void *hold(void *at) {
+    static char text[1000];
+    tempolemon_cpu *cpu = at;
+    size_t written;
+    while (!atomic_load(&is_over)) (void)tempolemon_on_show(cpu, text, sizeof text, &written);
+    is("return of the holder", tempolemon_return(cpu), TEMPOLEMON_DONE);
+    return NULL;
+}
+
+/* While another thread holds the lock, a try is BUSY and a get answers at once; an end does nothing. */
+static void busy_lock(void) {
+    const tempolemon_sizes large = {.frames = 1 << 18, .cpus = 2, .batch = 32, .high = 128, .stock = 32};
+    tempolemon_report report;
+    pthread_t thread;
+    unsigned long busy = 0;
+    is("boot", tempolemon_zone_boot(&large, &shared), TEMPOLEMON_DONE);
+    for (uint32_t at = 0; at < 2; at++) is("take", tempolemon_take(&shared, at + 1, &holders[at]), TEMPOLEMON_DONE);
+    is("mkdir", tempolemon_on_mkdir(&holders[1], "/a", 2, &result), TEMPOLEMON_DONE);
+    const uint32_t group = (uint32_t)result.number;
+    is("alloc", tempolemon_on_alloc(&holders[1], group, 0, &result), TEMPOLEMON_DONE);
+    const uint32_t frame = (uint32_t)result.number;
+    is("settle", tempolemon_on_settle(&holders[1], &result), TEMPOLEMON_DONE);
+    if (pthread_create(&thread, NULL, hold, &holders[0])) return;
+    for (unsigned long tries = 0; busy < 20 && tries < 2000000000ul; tries++) {
+        tempolemon_result given;
+        if (tempolemon_try_settle(&holders[1].part, &given) != TEMPOLEMON_BUSY) continue;
+        busy++;
+        is("its kind", given.kind, TEMPOLEMON_NOTHING);
+        is("a get meanwhile", tempolemon_cpu_get(&holders[1].part, frame, &given), TEMPOLEMON_DONE);
+        is("a put meanwhile", tempolemon_cpu_put(&holders[1].part, frame, &given), TEMPOLEMON_DONE);
+        is("an end meanwhile", tempolemon_zone_end(&shared, &report), TEMPOLEMON_CPUS_OUT);
+    }
+    is("tries that were busy", busy, 20);
+    atomic_store(&is_over, true);
+    pthread_join(thread, NULL);
+    is("return", tempolemon_return(&holders[1]), TEMPOLEMON_DONE);
+    is("end", tempolemon_zone_end(&shared, &report), TEMPOLEMON_DONE);
+}
+
+/* Takes the one CPU, uses it and returns it, in turn with other threads. */
+static void *take_turns(void *at) {
+    static tempolemon_cpu cpus[8];
+    tempolemon_cpu *cpu = &cpus[*(int *)at];
+    tempolemon_result given;
+    for (int round = 0; round < 2000;) {
+        pthread_mutex_lock(&turn); /* boot, take and end are made one at a time */
+        const uint8_t status = tempolemon_take(&shared, 1, cpu);
+        pthread_mutex_unlock(&turn);
+        if (status == TEMPOLEMON_CPU_OUT) continue;
+        is("a take in turn", status, TEMPOLEMON_DONE);
+        is("a settle in turn", tempolemon_on_settle(cpu, &given), TEMPOLEMON_DONE);
+        is("a return in turn", tempolemon_return(cpu), TEMPOLEMON_DONE);
+        round++;
+    }
+    return NULL;
+}
+
+static void turns(void) {
+    const tempolemon_sizes one = {.frames = 64, .cpus = 1, .batch = 4, .high = 16, .stock = 8};
+    tempolemon_report report;
+    pthread_t threads[8];
+    int numbers[8];
+    is("boot", tempolemon_zone_boot(&one, &shared), TEMPOLEMON_DONE);
+    for (int at = 0; at < 8; at++) {
+        numbers[at] = at;
+        if (pthread_create(&threads[at], NULL, take_turns, &numbers[at])) return;
+    }
+    for (int at = 0; at < 8; at++) pthread_join(threads[at], NULL);
+    is("end", tempolemon_zone_end(&shared, &report), TEMPOLEMON_DONE);
+}
+
+int main(void) {
+    refusals();
+    free_lock();
+    busy_lock();
+    turns();
+    return failures ? 1 : 0;
+}
