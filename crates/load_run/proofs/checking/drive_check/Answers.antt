@@ -1,7 +1,7 @@
--- Serves the contract of `drive_check`: the input failed, or memory ran out for the check.
+-- Serves the contract of `drive_check`: what the log is, was reported; or the input failed, or memory ran out.
 use Rattle.std.specs.Prelude.{alloc_error}
 use Rattle.load_run.specs.declared.fault.ProgramFault.TheVariants.{Input, NoMemory}
-use Rattle.load_run.proofs.Verdicts.{checks_fault}
+use Rattle.load_run.proofs.Verdicts.{checks_fault, verdict_of}
 use Rattle.load_run.proofs.checking.drive_check.Goals as goal
 
 pub returns-in-Err-NoMemory : goal.returns-in-Err-NoMemory
@@ -14,3 +14,8 @@ pub returns-in-Err-Input : goal.returns-in-Err-Input
 returns-in-Err-Input g c = record {
   checks = checks_fault _ _ _ _ Input _ tt c.report_fault.ensures.status c.report_fault.ensures.told;
 }
+
+pub returns-in-Ok : goal.returns-in-Ok
+returns-in-Ok g c =
+    let input = g.I.Read.remaining c.args.input.now in
+    record { checks = c.report_log.ensures.checks input (verdict_of input c.in-Ok.verdict c.in-Ok.ensures.verdict c.in-Ok.ensures.exact) }
