@@ -17,7 +17,7 @@ enum { MOST_THREADS = 16, PATHS = 8, TEXT_ROOM = 100000 };
 static const char *const PATH[PATHS] = {"/a", "/b", "/a/c", "/a/d", "/b/e", "/a/c/f", "/g", "/no/where"};
 static const char *const FILES[] = {"memory.current", "memory.max", "memory.peak", "memory.events", "memory.oom.group",
                                     "memory.reclaim", "nothing"};
-static const char *const VALUES[] = {"max", "0", "1", "4096", "40K", "100K", "1M", "x"};
+static const char *const VALUES[] = {"max", "1M", "800K", "400K", "200K", "1", "4096", "x"};
 static const char *const AT_FRAME[] = {"release", "get", "put", "touch", "dirty", "clean", "owner"};
 static const char *const REFUSALS[] = {"", "NoParent", "Exists", "BadName", "TreeFull", "TooDeep", "NoGroup", "HasChildren",
     "Busy", "PinsFull", "NoFile", "ReadOnly", "BadLimit", "BadNumber", "BadConfig", "OverLimit", "NoFrames", "Again", "Killed",

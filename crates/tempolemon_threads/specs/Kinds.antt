@@ -82,10 +82,10 @@ status_of other = done
 abbrev pub read_result : ReadAnswer → TypedResult
 read_result read.Busy = no_result
 read_result (read.Text text) = result_with 4 (length text)
-read_result (read.Served outcome) = outcome_result outcome
+read_result (read.Refused fault) = result_with 20 0
 
 -- the status of a read
 abbrev pub read_status : ReadAnswer → ℕ
 read_status read.Busy = busy
 read_status (read.Text text) = done
-read_status (read.Served outcome) = outcome_status outcome
+read_status (read.Refused fault) = number_of fault

@@ -7,9 +7,9 @@ ghost use Rattle.tempolemon_threads.specs.Calls.{IsMkdir, IsRmdir, IsWrite, Read
 use crate::buffers::copy_answers;
 use crate::calling::serve_call;
 use crate::handles::CpuPart;
-use crate::kinds::{NOTHING, TEXT};
+use crate::kinds::{NOTHING, REFUSED, TEXT};
 use crate::status::{BUSY, DONE, NOT_LIVE, SMALL_BUFFER};
-use crate::typed_result::{TypedResult, answer_of_outcome};
+use crate::typed_result::TypedResult;
 use control_files::text::MAX_TEXT;
 use mem_system::Cmd;
 use std::alloc::Global;
@@ -61,6 +61,7 @@ pub extern "C" fn tempolemon_try_write(
 /// Reads a file of the group of this path, and writes its text at the start of the buffer, which has room for at least
 /// 160 bytes.
 #[unsafe(no_mangle)]
+#[tactic(auto, using(crate::proofs::Numbers::number_low))]
 pub extern "C" fn tempolemon_try_read(
     alloc: Global,
     part: &mut CpuPart,
@@ -93,10 +94,9 @@ pub extern "C" fn tempolemon_try_read(
             };
             DONE
         }
-        ReadAnswer::Served(outcome) => {
-            let answered = answer_of_outcome(outcome);
-            *out = answered.typed;
-            answered.status
+        ReadAnswer::Refused(fault) => {
+            out.kind = REFUSED;
+            fault.number() as u8
         }
     }
 }

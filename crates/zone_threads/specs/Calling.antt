@@ -119,8 +119,8 @@ abbrev pub ReadsBehind : KnownTable → KnownStockTable → ReadCall → (from t
 ReadsBehind frames stock_table asked from to read.Busy = ⊥
 ReadsBehind frames stock_table asked from to (read.Text text) =
     IsVisited frames stock_table (IsServed frames (cmd.Read asked.path asked.file) (reply.Text text)) from to
-ReadsBehind frames stock_table asked from to (read.Served outcome) =
-    IsVisited frames stock_table (ServesOutcome frames (cmd.Read asked.path asked.file) outcome) from to
+ReadsBehind frames stock_table asked from to (read.Refused fault) =
+    IsVisited frames stock_table (IsServed frames (cmd.Read asked.path asked.file) (reply.Refused fault)) from to
 
 -- what a read of a file does, by its answer
 abbrev pub Reads : KnownTable → KnownStockTable → ReadCall → (from to : KnownHome) → ReadAnswer → Type 0

@@ -63,6 +63,6 @@ pub enum ReadAnswer {
     Busy,
     /// The file's text.
     Text(ArrayText),
-    /// It was served, with this outcome, which has no text.
-    Served(Outcome),
+    /// It is refused for this reason.
+    Refused(Fault),
 }

@@ -99,12 +99,15 @@ impl<N: BootName> Behind<N> {
         self.locked.prove_quiet();
         let outcome = serve_outcome(&mut self.locked, tables, cpu, &Cmd::Read { path, file });
         self.locked.prove_quiet();
+        if let Outcome::Refused(fault) = outcome {
+            return ReadAnswer::Refused(fault);
+        }
         let Outcome::Text(group, file) = outcome else {
-            return ReadAnswer::Served(outcome);
+            unreachable!()
         };
         match file_text(self.locked.charges(), group, file) {
             Ok(text) => ReadAnswer::Text(text),
-            Err(_) => ReadAnswer::Served(outcome),
+            Err(fault) => ReadAnswer::Refused(fault),
         }
     }
 }
