@@ -60,8 +60,8 @@ pub extern "C" fn tempolemon_try_write(
 
 /// Reads a file of the group of this path, and writes its text at the start of the buffer, which has room for at least
 /// 160 bytes.
-#[unsafe(no_mangle)]
 #[tactic(auto, using(crate::proofs::Numbers::number_low))]
+#[unsafe(no_mangle)]
 pub extern "C" fn tempolemon_try_read(
     alloc: Global,
     part: &mut CpuPart,

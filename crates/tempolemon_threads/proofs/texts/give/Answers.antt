@@ -21,23 +21,30 @@ pub returns-then-copy_answers : goal.returns-then-copy_answers
 returns-then-copy_answers c = inr (record {
   answer = answer.Text c.in-Some-Text.shown;
   shows = rw c.in-Some-Text.field-0-is at c.in-Some-Text.ensures.shown;
-  gives = inl (refl, record {
-    text = c.in-Some-Text.shown.items;
-    is = refl;
-    written_is = search rules;
-    fits = search rules;
-    after_is = search rules;
-  });
+  gives = inl (
+    refl,
+    record {
+      text = c.in-Some-Text.shown.items;
+      is = refl;
+      written_is = search rules;
+      fits = search rules;
+      after_is = search rules;
+    },
+  );
 })
 
 pub returns : goal.returns
 returns c = inr (record {
   answer = answer.Text c.in-Some-Text.shown;
   shows = rw c.in-Some-Text.field-0-is at c.in-Some-Text.ensures.shown;
-  gives = inr (refl, search rules, record {
-    text = c.in-Some-Text.shown.items;
-    is = refl;
-    needed_is = search rules;
-    exceeds = search rules;
-  });
+  gives = inr (
+    refl,
+    search rules,
+    record {
+      text = c.in-Some-Text.shown.items;
+      is = refl;
+      needed_is = search rules;
+      exceeds = search rules;
+    },
+  );
 })
