@@ -74,6 +74,8 @@ static void refusals(void) {
 
     is("mkdir", tempolemon_on_mkdir(&one, "/a", 2, &result), TEMPOLEMON_DONE);
     const uint32_t group = (uint32_t)result.number;
+    is("a read of memory.reclaim", tempolemon_on_read(&one, "/a", 2, "memory.reclaim", 14, text, 160, &result), 22);
+    is("its kind", result.kind, TEMPOLEMON_REFUSED);
     is("a short text", tempolemon_on_show(&one, text, 3, &written), TEMPOLEMON_SMALL_BUFFER);
     const size_t needed = written;
     is("the text", tempolemon_on_show(&one, text, needed, &written), TEMPOLEMON_DONE);
