@@ -1,0 +1,4 @@
+pub mod Owning
+pub mod Holding
+pub mod Showing
+pub mod Hiding

@@ -1,0 +1,24 @@
+//! Laws: each function's `ensures` clause is a statement about all legal runs.
+
+ghost use Rattle.run_words.specs.Sight.{FastIsHidden, HolderGoesOn, HolderSeesBoth, ListsAreOwn};
+
+/// A CPU's list, fresh frames, back frames and references are those at its own last step, whatever others did since.
+pub fn lists_are_own()
+    ensures { ListsAreOwn }
+{}
+
+/// A get, put, consume or credit of a CPU changes nothing that another CPU or the zone sees, whether or not the lock is
+/// held.
+pub fn fast_is_hidden()
+    ensures { FastIsHidden }
+{}
+
+/// What the lock's holder sees is what nobody's step hides, with the holder's own part and references.
+pub fn holder_sees_both()
+    ensures { HolderSeesBoth }
+{}
+
+/// A step that is legal in what the lock's holder saw at its last step is legal behind all that other CPUs did since.
+pub fn holder_goes_on()
+    ensures { HolderGoesOn }
+{}
