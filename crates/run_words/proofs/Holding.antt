@@ -16,7 +16,7 @@ at_length : (xs : Run) (y : Step × Answer) (ys : Run) → slice_get (xs ++ y �
 at_length [] y ys = refl
 at_length (x ∷ xs) y ys = at_length xs y ys
 
-take_length : (xs ys : Run) → take (length xs) (xs ++ ys) ≡ xs
+pub take_length : (xs ys : Run) → take (length xs) (xs ++ ys) ≡ xs
 take_length [] ys = refl
 take_length (x ∷ xs) ys = ap (λ l. x ∷ l) (take_length xs ys)
 

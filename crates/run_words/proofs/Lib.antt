@@ -2,3 +2,12 @@ pub mod Owning
 pub mod Holding
 pub mod Showing
 pub mod Hiding
+pub mod Lasting
+pub mod WordLists
+pub mod Following
+pub mod Counting
+pub mod Referencing
+pub mod Passing
+pub mod Stocking
+pub mod Stepping
+pub mod Plain

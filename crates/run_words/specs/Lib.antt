@@ -1,3 +1,5 @@
 pub mod Runs
 pub mod Hidden
 pub mod Sight
+pub mod Words
+pub mod Steps

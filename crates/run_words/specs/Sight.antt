@@ -1,9 +1,10 @@
 -- What a CPU knows of a run, whatever others did since its own last step.
 use Rattle.std.specs.Prelude.{◌≡◌, ◌≢◌, ℕ, ◌++◌}
 use Rattle.step_rules.specs.declared.step.Step.{Step}
+use Rattle.step_rules.specs.declared.step.Action.{Action}
 use Rattle.step_rules.specs.declared.step.Answer.{Answer}
 use Rattle.step_rules.specs.State.{Zone, State}
-use Rattle.step_rules.specs.Legal.{Allows, IsCounted}
+use Rattle.step_rules.specs.Legal.{is_legal, Allows, IsCounted}
 use Rattle.step_rules.specs.After.{Run, after, state_of, IsLegalRun}
 use Rattle.step_rules.specs.Laws.{ShowsLocal, IsLocalStep, pushed}
 use Rattle.step_rules.specs.Views.{seen_by}
@@ -50,3 +51,9 @@ HolderGoesOn = (zone : Zone) (seen rest : Run) (cpu : ℕ) (local : State) (step
     → IsLocalStep local cpu step.seat step.action answer
     → IsCounted (state_of zone (seen ++ rest)) step.action answer
     → ShowsLocal zone (pushed (seen ++ rest) step answer) cpu (after local step.seat step.action answer)
+
+-- A fast step is legal behind a run exactly if it was legal at the CPU's own last step, whatever others did since.
+abbrev pub FastLegalityLasts : Type 0
+FastLegalityLasts = (zone : Zone) (seen run : Run) (cpu : ℕ) (action : Action) → cpu ≢ 0 → IsLegalRun zone run
+    → OthersFollow cpu seen run → IsFast action
+    → is_legal (state_of zone run) cpu action ≡ is_legal (state_of zone seen) cpu action

@@ -1,6 +1,7 @@
 //! Laws: each function's `ensures` clause is a statement about all legal runs.
 
-ghost use Rattle.run_words.specs.Sight.{FastIsHidden, HolderGoesOn, HolderSeesBoth, ListsAreOwn};
+ghost use Rattle.run_words.specs.Sight.{FastIsHidden, FastLegalityLasts, HolderGoesOn, HolderSeesBoth, ListsAreOwn};
+ghost use Rattle.run_words.specs.Steps.{PlainStepsKeepWords, WordsFollow};
 
 /// A CPU's list, fresh frames, back frames and references are those at its own last step, whatever others did since.
 pub fn lists_are_own()
@@ -21,4 +22,20 @@ pub fn holder_sees_both()
 /// A step that is legal in what the lock's holder saw at its last step is legal behind all that other CPUs did since.
 pub fn holder_goes_on()
     ensures { HolderGoesOn }
+{}
+
+/// A get, put, consume or credit that was legal at the CPU's own last step is legal behind all that others did since.
+pub fn fast_legality_lasts()
+    ensures { FastLegalityLasts }
+{}
+
+/// A step that changes a frame's word, a visit word, a stock word or a report word leaves the words those of the run,
+/// if its answer is the one that the word decides.
+pub fn words_follow()
+    ensures { WordsFollow }
+{}
+
+/// A step that changes no word leaves the words those of the run.
+pub fn plain_steps_keep_words()
+    ensures { PlainStepsKeepWords }
 {}
