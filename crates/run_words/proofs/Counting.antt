@@ -1,12 +1,11 @@
 -- The word of a frame and its number of references.
-use Rattle.std.proofs.Common.{◌≡◌, ◌≢◌, ℕ, ◌+◌, ◌-◌, ◌<◌, ◌≤◌, ◌==◌, ◌&&◌, Bool, true, false, refl, sym, ◌∙◌, ap, arith, inl, inr, cond}
+use Rattle.std.proofs.Common.{◌≡◌, ◌≢◌, ℕ, ◌+◌, ◌<◌, ◌≤◌, ◌==◌, ◌&&◌, Bool, true, false, refl, sym, ◌∙◌, ap, arith, inl, inr, cond}
 use Rattle.std.specs.Prelude.{nat_le}
-use Rattle.std.proofs.lemmas.Bool.{cases_Bool, cond-false, cond-true, le-leb, leb-true, ne_eqb}
+use Rattle.std.proofs.lemmas.Bool.{cases_Bool, cond-false, le-leb, leb-true, ne_eqb}
 use Rattle.step_rules.specs.declared.phase.Way.TheVariants.{PassingOut, PassingBack}
 use Rattle.step_rules.specs.declared.phase.Stage.TheVariants.{FreshPassing, BackPassing}
 use Rattle.step_rules.specs.declared.phase.Phase.{Phase}
-use Rattle.step_rules.specs.declared.phase.Phase.TheVariants.{InZone, Lent, Head, Tail}
-use Rattle.step_rules.specs.declared.step.Answer.{Answer}
+use Rattle.step_rules.specs.declared.phase.Phase.TheVariants.{Lent, Head}
 use Rattle.step_rules.specs.declared.step.Answer.TheVariants.{Held, Zero, Full}
 use Rattle.step_rules.specs.Phases.{is_live}
 use Rattle.step_rules.specs.State.{State, live_references, sum_to}

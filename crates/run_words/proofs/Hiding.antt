@@ -6,15 +6,14 @@ use Rattle.step_rules.specs.declared.phase.Way.TheVariants.{OnList}
 use Rattle.step_rules.specs.declared.phase.Stage.TheVariants.{AwaitsReturn, BackAt}
 use Rattle.step_rules.specs.declared.phase.Phase.{Phase}
 use Rattle.step_rules.specs.declared.phase.Phase.TheVariants.{Lent}
-use Rattle.step_rules.specs.declared.step.Step.{Step}
 use Rattle.step_rules.specs.declared.step.Action.{Action}
 use Rattle.step_rules.specs.declared.step.Action.TheVariants.{Get, Put, Consume, Credit}
 use Rattle.step_rules.specs.declared.step.Answer.{Answer}
 use Rattle.step_rules.specs.declared.step.Answer.TheVariants.{Held, Left, Last, Took, Stocked}
 use Rattle.step_rules.specs.Phases.{FreshFrame, has_as, at_stage, stage_after_last}
-use Rattle.step_rules.specs.State.{State, Part, Zone, with_at, one_if, front_of, without}
-use Rattle.step_rules.specs.Legal.{is_legal, IsAnswer, Allows}
-use Rattle.step_rules.specs.After.{Run, after, after_last, state_of, paid, credited, with_back, consumed, IsLegalRun}
+use Rattle.step_rules.specs.State.{State, Part, with_at, one_if, front_of, without}
+use Rattle.step_rules.specs.Legal.{is_legal, IsAnswer}
+use Rattle.step_rules.specs.After.{after, after_last, state_of, paid, credited, with_back, consumed}
 use Rattle.step_rules.specs.Views.{seen_by, other_part_seen}
 use Rattle.step_rules.proofs.Basics.{at_each, at_other, same_state}
 use Rattle.step_rules.proofs.LegalTests.{consume_tests, credit_tests, put_tests}
@@ -26,7 +25,7 @@ use Rattle.step_rules.proofs.Runs.{after_illegal, allowed, legal_more, sound_run
 use Rattle.step_rules.proofs.Sound.{IsSound}
 use Rattle.run_words.specs.Runs.{IsFast}
 use Rattle.run_words.specs.Hidden.{hide, hide_phase, show_own, zone_references}
-use Rattle.run_words.specs.Sight.{LooksTheSame, FastIsHidden}
+use Rattle.run_words.specs.Sight.{FastIsHidden}
 use Rattle.run_words.proofs.Showing.{sees_both}
 
 -- a frame in a phase that looks the same if it is hidden leaves the hidden phases as they are

@@ -11,3 +11,6 @@ pub mod Passing
 pub mod Stocking
 pub mod Stepping
 pub mod Plain
+pub mod Booting
+pub mod Returning
+pub mod Draining

@@ -12,7 +12,7 @@ use Rattle.step_rules.specs.After.{Run, after, state_of, with_back, absorbed, fi
 use Rattle.step_rules.proofs.Basics.{at_other, at_each}
 use Rattle.step_rules.proofs.Runs.{next}
 use Rattle.run_words.specs.Runs.{HasNoStepOf, OthersFollow}
-use Rattle.run_words.specs.Sight.{HasSameLists, ListsAreOwn}
+use Rattle.run_words.specs.Sight.{ListsAreOwn}
 
 -- the lists of a part
 abbrev pub lists_in : Part → List ℕ × (List ℕ × List ℕ)

@@ -1,5 +1,5 @@
 -- Frames in transit, and visits.
-use Rattle.std.proofs.Common.{◌≡◌, ◌≢◌, ℕ, ◌+◌, ◌≤◌, ◌==◌, ◌&&◌, ◌||◌, Bool, true, false, refl, sym, ◌∙◌, ap, subst, inl, inr, eq-eqb}
+use Rattle.std.proofs.Common.{◌≡◌, ℕ, ◌==◌, ◌&&◌, ◌||◌, true, false, refl, sym, ◌∙◌, ap, inl, inr, eq-eqb}
 use Rattle.std.proofs.lemmas.Bool.{and_parts, ne_eqb, or_cases}
 use Rattle.frame_word.specs.ReferenceRule.{mark}
 use Rattle.step_rules.specs.declared.phase.Hold.{Hold}
@@ -11,15 +11,15 @@ use Rattle.step_rules.specs.declared.step.Action.TheVariants.{OpenVisit, ShutVis
 use Rattle.step_rules.specs.declared.step.Answer.TheVariants.{Done}
 use Rattle.step_rules.specs.Phases.{ListFrame, FreshFrame, is_live, has_as, passed_back, collected}
 use Rattle.step_rules.specs.Phases as kinds
-use Rattle.step_rules.specs.State.{Zone, State, with_at, live_references, one_if, front_of, is_held_by, visits}
+use Rattle.step_rules.specs.State.{State, with_at, live_references, one_if, front_of, is_held_by, visits}
 use Rattle.step_rules.specs.Legal.{is_legal}
 use Rattle.step_rules.specs.After.{after, with_listed, without_frame}
 use Rattle.step_rules.proofs.Basics.{at_same, at_other}
 use Rattle.step_rules.proofs.LegalTests.{pass_out_tests, take_in_tests, pass_back_tests, collect_tests, open_visit_tests, shut_visit_tests}
 use Rattle.step_rules.proofs.PhaseLemmas.{out_is, came_back, CameBack, FromList, FromFresh, FromBack, listed_is, fresh_is, back_is, visited}
 use Rattle.step_rules.proofs.SoundSteps.{below_frames, cpu_range}
-use Rattle.run_words.specs.Words.{Words, word_in_phase, frame_word, visit_word, with_frame_word, with_visit_word}
-use Rattle.run_words.proofs.WordLists.{HasFrameWord, HasSameStock, frame_set, visit_set, stocks_same}
+use Rattle.run_words.specs.Words.{Words, word_in_phase, with_frame_word, with_visit_word}
+use Rattle.run_words.proofs.WordLists.{HasFrameWord, frame_set, visit_set, stocks_same}
 use Rattle.run_words.proofs.Following.{Stands, Follows, all_stocks, same_stocks, holding_cpu, visited_cpu}
 use Rattle.run_words.proofs.Counting.{none_live}
 

@@ -1,35 +1,33 @@
 -- Plain steps leave the words those of the run.
-use Rattle.std.proofs.Common.{◌≡◌, ◌≢◌, ℕ, ◌+◌, ◌^◌, ◌<◌, ◌≤◌, ◌==◌, Bool, true, false, Some, refl, sym, ◌∙◌, ap, subst, arith, inl, inr, cond}
+use Rattle.std.proofs.Common.{◌≡◌, ◌≢◌, ℕ, ◌+◌, ◌^◌, ◌<◌, ◌≤◌, ◌==◌, Bool, true, false, refl, sym, ◌∙◌, ap, subst, arith, inl, inr, cond}
 use Rattle.std.proofs.lemmas.Bool.{cases_eq, false≢true}
 use Rattle.zone_blocks.specs.declared.block.Block.{Block}
 use Rattle.zone_blocks.specs.Areas.{IsFreeBlock}
 use Rattle.step_rules.specs.declared.phase.ChargedUnit.{ChargedUnit}
 use Rattle.step_rules.specs.declared.phase.Hold.{Hold}
-use Rattle.step_rules.specs.declared.phase.Hold.TheVariants.{Unheld, HeldBy, Visiting}
+use Rattle.step_rules.specs.declared.phase.Hold.TheVariants.{Unheld, HeldBy}
 use Rattle.step_rules.specs.declared.phase.Stage.{Stage}
 use Rattle.step_rules.specs.declared.phase.Stage.TheVariants.{Bare, Collected, AwaitsReturn}
 use Rattle.step_rules.specs.declared.phase.Phase.{Phase}
 use Rattle.step_rules.specs.declared.phase.Phase.TheVariants.{InZone, Head, Tail}
-use Rattle.step_rules.specs.declared.step.Step.{Step}
 use Rattle.step_rules.specs.declared.step.Action.{Action}
 use Rattle.step_rules.specs.declared.step.Action.TheVariants.{Lock, Unlock, Grant, Ungrant, PlaceBlock, Publish, Return}
 use Rattle.step_rules.specs.declared.step.Action.TheVariants.{NoteMax, NoteOom, NoteGroupKill, SetMax, SetFlag, Make, Remove, Kill}
 use Rattle.step_rules.specs.declared.step.Answer.{Answer}
-use Rattle.step_rules.specs.declared.step.Answer.TheVariants.{Illegal, Done, Granted, Placed, Number}
+use Rattle.step_rules.specs.declared.step.Answer.TheVariants.{Done, Granted, Placed, Number}
 use Rattle.step_rules.specs.Phases.{is_free, unit_of}
-use Rattle.step_rules.specs.State.{Zone, State, Part, free_in, is_unheld, is_held_by, live_references, one_if, visits}
+use Rattle.step_rules.specs.State.{State, Part, free_in, is_unheld, is_held_by, live_references, one_if, visits}
 use Rattle.step_rules.specs.Legal.{is_legal, IsAnswer}
-use Rattle.step_rules.specs.After.{Run, after, placed_phase, state_of, unit_size, with_block, without_unit}
-use Rattle.step_rules.specs.Laws.{pushed}
+use Rattle.step_rules.specs.After.{after, placed_phase, state_of, unit_size, with_block, without_unit}
 use Rattle.step_rules.proofs.LegalTests.{lock_tests, unlock_tests, return_tests}
 use Rattle.step_rules.proofs.PhaseLemmas.{is_quiet, is_quiet_stage, returning_is, Returns, AsEnded, AsKilled}
 use Rattle.step_rules.proofs.Placing.{block_free, in_block, in_unit, off_block, off_unit, within_cases}
 use Rattle.step_rules.proofs.Runs.{after_illegal, allowed, legal_more, state_more}
 use Rattle.step_rules.proofs.Sound.{IsSound}
-use Rattle.run_words.specs.Words.{Words, AreFrameWords, AreStockWords, IsRunOf, word_in_phase, frame_word, visit_word}
+use Rattle.run_words.specs.Words.{Words, AreFrameWords, AreStockWords, word_in_phase, frame_word}
 use Rattle.run_words.specs.Steps.{IsPlain, PlainStepsKeepWords}
 use Rattle.run_words.proofs.WordLists.{HasSameFrameWords, frames_same, stocks_same}
-use Rattle.run_words.proofs.Following.{Stands, all_stocks, stands_in}
+use Rattle.run_words.proofs.Following.{Stands, stands_in}
 
 -- the parts and all words of frames and visits stay
 record StaysSo (s t : State) : Type 0 where

@@ -1,12 +1,9 @@
 -- Gets, puts, freezes and unfreezes.
-use Rattle.std.proofs.Common.{◌≡◌, ◌≢◌, ℕ, ◌+◌, ◌-◌, ◌<◌, ◌≤◌, ◌==◌, Bool, true, false, refl, sym, ◌∙◌, ap, subst, arith, inl, inr, cond}
-use Rattle.std.specs.Prelude.{nat_le, slice_index}
+use Rattle.std.proofs.Common.{◌≡◌, ◌≢◌, ℕ, ◌+◌, ◌-◌, ◌<◌, ◌≤◌, ◌==◌, Bool, true, false, refl, sym, ◌∙◌, ap, arith, cond}
 use Rattle.std.proofs.lemmas.Bool.{leb-true}
-use Rattle.step_rules.specs.declared.phase.Stage.{Stage}
 use Rattle.step_rules.specs.declared.phase.Stage.TheVariants.{Live, BackAt, AwaitsReturn}
 use Rattle.step_rules.specs.declared.phase.Phase.{Phase}
 use Rattle.step_rules.specs.declared.phase.Phase.TheVariants.{Head}
-use Rattle.step_rules.specs.declared.step.Action.{Action}
 use Rattle.step_rules.specs.declared.step.Action.TheVariants.{Get, Put, Freeze, Unfreeze}
 use Rattle.step_rules.specs.declared.step.Answer.{Answer}
 use Rattle.step_rules.specs.declared.step.Answer.TheVariants.{Done, Held, Zero, Full, Left, Last, Missed}
@@ -22,10 +19,10 @@ use Rattle.step_rules.proofs.Referring.{live_from_one, live_from_references, sea
 use Rattle.step_rules.proofs.SoundSteps.{below_frames, cpu_range}
 use Rattle.step_rules.proofs.Sums.{sum_part}
 use Rattle.run_words.specs.Words.{Words, word_in_phase, frame_word, with_frame_word}
-use Rattle.run_words.specs.Steps.{word_at, AddsReference, RefusesGet, LeavesReferences}
+use Rattle.run_words.specs.Steps.{word_at}
 use Rattle.run_words.proofs.WordLists.{HasSameStock, frame_set, stocks_same}
 use Rattle.run_words.proofs.Following.{Stands, Follows, all_stocks, same_stocks}
-use Rattle.run_words.proofs.Counting.{answer_by_word, held_answer, live_word, low_word, none_live, referenced, sum_others}
+use Rattle.run_words.proofs.Counting.{answer_by_word, held_answer, live_word, low_word, none_live, sum_others}
 
 -- the number of references of a live frame is its word
 word_is_live : (s : State) (words : Words) (f : ℕ) → Stands s words → f < s.zone.frames → is_live (s.phases f) ≡ true → word_at words f ≡ live_references s f

@@ -1,5 +1,5 @@
 -- What a CPU sees is the hidden state with its own part shown.
-use Rattle.std.proofs.Common.{◌≡◌, ◌≢◌, ℕ, ◌+◌, ◌≤◌, ◌==◌, ◌&&◌, ◌||◌, Bool, true, false, cond, Some, None, Option, refl, sym, ap, ◌∙◌, subst, arith, inl, inr, eq-eqb}
+use Rattle.std.proofs.Common.{◌≡◌, ◌≢◌, ℕ, ◌==◌, ◌&&◌, ◌||◌, Bool, true, false, cond, Some, Option, refl, sym, ap, ◌∙◌, inl, inr, eq-eqb}
 use Rattle.std.specs.Prelude.{nat_le}
 use Rattle.std.proofs.lemmas.Bool.{cases_eq, ne_eqb}
 use Rattle.step_rules.specs.declared.phase.ChargedUnit.{ChargedUnit}
@@ -14,7 +14,7 @@ use Rattle.step_rules.specs.State.{State, Part, one_if, with_at}
 use Rattle.step_rules.specs.After.{state_of}
 use Rattle.step_rules.specs.Views.{seen_by, phase_seen_by, parts_seen_by, references_seen_by, other_part_seen}
 use Rattle.step_rules.proofs.Basics.{at_each, same_state}
-use Rattle.step_rules.proofs.CoverParts.{own_part, other_part, own_reference, other_reference}
+use Rattle.step_rules.proofs.CoverParts.{own_part, other_part, own_reference}
 use Rattle.step_rules.proofs.Lists.{times}
 use Rattle.step_rules.proofs.Sound.{IsSound, PhasePaid, groups_in}
 use Rattle.step_rules.proofs.Runs.{sound_run}

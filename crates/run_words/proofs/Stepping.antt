@@ -1,15 +1,15 @@
 -- Each step of the table keeps the words those of the run.
-use Rattle.std.proofs.Common.{◌≡◌, ℕ, true, sym, ◌∙◌, ap, subst}
+use Rattle.std.proofs.Common.{◌≡◌, ℕ, true, sym, subst}
 use Rattle.step_rules.specs.declared.step.Action.{Action}
 use Rattle.step_rules.specs.declared.step.Action.TheVariants.{OpenVisit, ShutVisit, Get, Put, Freeze, Unfreeze, PassOut, TakeIn}
 use Rattle.step_rules.specs.declared.step.Action.TheVariants.{PassBack, Collect, Consume, Credit, Report, Absorb, Fill, DrainStock}
 use Rattle.step_rules.specs.declared.step.Answer.{Answer}
 use Rattle.step_rules.specs.declared.step.Answer.TheVariants.{Done, Held, Zero, Full, Left, Last, Missed, Took, Drained, Stocked, Pages}
-use Rattle.step_rules.specs.State.{Zone, State}
+use Rattle.step_rules.specs.State.{State}
 use Rattle.step_rules.specs.Legal.{is_legal}
-use Rattle.step_rules.specs.After.{Run, state_of}
+use Rattle.step_rules.specs.After.{state_of}
 use Rattle.step_rules.proofs.Freeing.{zone_of_run}
-use Rattle.run_words.specs.Words.{Words, IsRunOf}
+use Rattle.run_words.specs.Words.{Words}
 use Rattle.run_words.specs.Steps.{ChangesWords, WordsFollow}
 use Rattle.run_words.proofs.Following.{Stands, Follows, stands_in, run_follows}
 use Rattle.run_words.proofs.Referencing.{follows_get, follows_zero, follows_full, follows_put, follows_last, follows_freeze, follows_missed, follows_unfreeze}

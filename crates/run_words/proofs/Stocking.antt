@@ -1,5 +1,5 @@
 -- Stocks and reports.
-use Rattle.std.proofs.Common.{◌≡◌, ◌≢◌, ℕ, ◌+◌, ◌-◌, ◌*◌, ◌<◌, ◌≤◌, Bool, true, false, Option, Some, None, List, length, refl, sym, ◌∙◌, ap, subst, arith, inl, inr}
+use Rattle.std.proofs.Common.{◌≡◌, ℕ, ◌+◌, ◌-◌, ◌*◌, ◌<◌, ◌≤◌, Bool, true, false, Option, Some, None, List, length, refl, sym, ◌∙◌, ap, subst, arith}
 use Rattle.std.specs.Prelude.{slice_set, is_some}
 use Rattle.std.proofs.lemmas.Bool.{leb-true}
 use Rattle.stock_word.specs.declared.view.Stock.{Stock}
@@ -24,7 +24,7 @@ use Rattle.step_rules.proofs.SoundSteps.{cpu_range}
 use Rattle.step_rules.proofs.Stocked.{FitsStock}
 use Rattle.run_words.specs.Words.{Words, AreStockWords, word_in_phase, frame_word, stock_by, stock_in, with_stock_word, with_report_word}
 use Rattle.run_words.specs.Steps.{stock_word_at, report_word_at, ExchangesStock, FindsStock, DrainsStock, OfGroup, OfNone}
-use Rattle.run_words.proofs.WordLists.{HasSameStock, HasSameFrameWords, frames_same, stock_set, report_set, stocks_same}
+use Rattle.run_words.proofs.WordLists.{frames_same, stock_set, report_set, stocks_same}
 use Rattle.run_words.proofs.Following.{Stands, Follows, same_stocks, visited_cpu}
 
 -- ---- a word says one stock

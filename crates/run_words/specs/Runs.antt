@@ -1,7 +1,7 @@
 -- A run that others continue.
-use Rattle.std.specs.Prelude.{◌≡◌, ◌≢◌, ℕ, ◌++◌, [], ◌∷◌}
+use Rattle.std.specs.Prelude.{◌≡◌, ◌≢◌, ℕ, ◌==◌, ◌++◌, Bool, false, [], ◌∷◌}
 use Rattle.step_rules.specs.declared.step.Action.{Action}
-use Rattle.step_rules.specs.declared.step.Action.TheVariants.{Get, Put, Consume, Credit}
+use Rattle.step_rules.specs.declared.step.Action.TheVariants.{Get, Put, Consume, Credit, Absorb, Fill}
 use Rattle.step_rules.specs.After.{Run}
 
 -- no step of the run is this seat's
@@ -22,3 +22,14 @@ IsFast (Put f) = Unit {0}
 IsFast (Consume g) = Unit {0}
 IsFast (Credit f) = Unit {0}
 IsFast action = ⊥
+
+-- the step fills the CPU's stock or absorbs its reports
+abbrev pub books : ℕ → Action → Bool
+books cpu (Fill other g n) = other == cpu
+books cpu (Absorb other) = other == cpu
+books cpu action = false
+
+-- no step of the run fills the CPU's stock or absorbs its reports
+abbrev pub BooksNothingOf : ℕ → Run → Type 0
+BooksNothingOf cpu [] = Unit {0}
+BooksNothingOf cpu (e ∷ run) = (books cpu e.0.action ≡ false) × BooksNothingOf cpu run

@@ -1,14 +1,16 @@
 -- What a CPU knows of a run, whatever others did since its own last step.
-use Rattle.std.specs.Prelude.{◌≡◌, ◌≢◌, ℕ, ◌++◌}
+use Rattle.std.specs.Prelude.{◌≡◌, ◌≢◌, ◌⊎◌, ℕ, ◌≤◌, ◌++◌, true, None, is_some, [], length}
 use Rattle.step_rules.specs.declared.step.Step.{Step}
 use Rattle.step_rules.specs.declared.step.Action.{Action}
+use Rattle.step_rules.specs.declared.step.Action.TheVariants.{PassBack}
 use Rattle.step_rules.specs.declared.step.Answer.{Answer}
-use Rattle.step_rules.specs.State.{Zone, State}
+use Rattle.step_rules.specs.State.{Zone, State, Part, front_of, visits}
 use Rattle.step_rules.specs.Legal.{is_legal, Allows, IsCounted}
 use Rattle.step_rules.specs.After.{Run, after, state_of, IsLegalRun}
 use Rattle.step_rules.specs.Laws.{ShowsLocal, IsLocalStep, pushed}
 use Rattle.step_rules.specs.Views.{seen_by}
-use Rattle.run_words.specs.Runs.{HasNoStepOf, OthersFollow, IsFast}
+use Rattle.step_rules.proofs.Lists.{times}
+use Rattle.run_words.specs.Runs.{HasNoStepOf, BooksNothingOf, OthersFollow, IsFast}
 use Rattle.run_words.specs.Hidden.{hide, show_own}
 
 -- the CPU's lists and references are the same in both states
@@ -57,3 +59,40 @@ abbrev pub FastLegalityLasts : Type 0
 FastLegalityLasts = (zone : Zone) (seen run : Run) (cpu : ℕ) (action : Action) → cpu ≢ 0 → IsLegalRun zone run
     → OthersFollow cpu seen run → IsFast action
     → is_legal (state_of zone run) cpu action ≡ is_legal (state_of zone seen) cpu action
+
+-- the frame is the front of the CPU's list, a fresh frame there or a back frame there, by its part
+pub data MayPassBack (part : Part) (f : ℕ) : Type 0 where
+  FromList : 1 ≤ length part.list → f ≡ front_of part.list → MayPassBack part f
+  FromFresh : 1 ≤ times f part.fresh → MayPassBack part f
+  FromBack : 1 ≤ times f part.back → MayPassBack part f
+
+-- A CPU whose visit is open may pass back the front of its list, each fresh frame and each back frame.
+abbrev pub FrontsPassBack : Type 0
+FrontsPassBack = (zone : Zone) (run : Run) (cpu f : ℕ) (local : State) → ShowsLocal zone run cpu local
+    → visits cpu local.hold ≡ true → MayPassBack (local.parts cpu) f → is_legal local cpu (PassBack f) ≡ true
+
+-- the CPU has no fresh page, nothing to report or to absorb, and its stock was drained or never filled
+pub record IsSettledAndDrained (part : Part) : Type 0 where
+  pub fresh : part.fresh ≡ []
+  pub unreported : part.unreported ≡ 0
+  pub reported : part.reported ≡ 0
+  pub drained : (part.stock.group ≡ None) ⊎ (part.stock.is_drained ≡ true)
+
+-- After any legal run nothing is booked for a CPU that is settled and drained.
+abbrev pub NoneBooked : Type 0
+NoneBooked = (zone : Zone) (run : Run) (cpu : ℕ) → IsLegalRun zone run
+    → IsSettledAndDrained ((state_of zone run).parts cpu) → ((state_of zone run).parts cpu).book ≡ 0
+
+-- the part has the same stock, or its stock was drained since, and the same pages to report and to absorb
+pub record HasSameOrDrained (was is : Part) : Type 0 where
+  pub group : is.stock.group ≡ was.stock.group
+  pub unreported : is.unreported ≡ was.unreported
+  pub reported : is.reported ≡ was.reported
+  pub stock : (is.stock ≡ was.stock) ⊎ ((is.stock.pages ≡ 0) × (is.stock.is_drained ≡ is_some was.stock.group))
+
+-- In a legal run a CPU's stock and its unreported and reported pages are those at its own last step, whatever others did
+-- since, except that the stock may have been drained, if it wasn't filled and nothing of the CPU was absorbed.
+abbrev pub StocksAreOwn : Type 0
+StocksAreOwn = (zone : Zone) (seen rest : Run) (cpu : ℕ) → IsLegalRun zone (seen ++ rest) → HasNoStepOf cpu rest
+    → BooksNothingOf cpu rest
+    → HasSameOrDrained ((state_of zone seen).parts cpu) ((state_of zone (seen ++ rest)).parts cpu)

@@ -1,5 +1,5 @@
 -- How each step with its answer changes the words, by the word that it finds. What isn't named here is unchanged.
-use Rattle.std.specs.Prelude.{◌≡◌, ◌≢◌, ℕ, ◌+◌, ◌<◌, ◌≤◌, true, Some, slice_index}
+use Rattle.std.specs.Prelude.{◌≡◌, ◌≢◌, ℕ, ◌+◌, ◌*◌, ◌<◌, ◌≤◌, true, Some, [], length, slice_index}
 use Rattle.frame_word.specs.ReferenceRule.{mark, most_references}
 use Rattle.stock_word.specs.declared.view.Stock.{Stock}
 use Rattle.stock_word.specs.declared.view.Stock.TheVariants.{NoGroup, HeldBy, DrainedOf}
@@ -134,3 +134,14 @@ abbrev pub PlainStepsKeepWords : Type 0
 PlainStepsKeepWords = (zone : Zone) (words : Words) (run : Run) (step : Step) (answer : Answer) → IsRunOf zone words run
     → IsPlain step.action → Allows (state_of zone run) step.seat step.action answer
     → IsRunOf zone words (pushed run step answer)
+
+-- all words are 0
+pub record AreZero (zone : Zone) (words : Words) : Type 0 where
+  pub frames_wide : zone.frames + zone.cpus ≤ length words.frames
+  pub stocks_wide : 16 * (zone.cpus + 1) ≤ length words.stocks
+  pub frames : (i : ℕ) → slice_index words.frames i ≡ 0
+  pub stocks : (i : ℕ) → slice_index words.stocks i ≡ 0
+
+-- Words that are all 0 are those of the run without steps.
+abbrev pub ABootHasWords : Type 0
+ABootHasWords = (zone : Zone) (words : Words) → AreZero zone words → IsRunOf zone words []
