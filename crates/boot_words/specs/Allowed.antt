@@ -1,0 +1,80 @@
+-- Which atomic steps the rule of the one table allows, and what each adds to the run.
+use Rattle.std.specs.Prelude.{◌≡◌, ◌≢◌, ℕ, ◌+◌, ◌-◌, ◌%◌, ◌^◌, ◌<◌, ◌≤◌, ◌==◌, true, List, [], ◌∷◌, ◌++◌, if◌then◌else◌}
+use prog.Atomic.{either}
+use Rattle.atomic_table.specs.Table.{Me, Allows}
+use Rattle.frame_word.specs.declared.view.FrameView.{FrameView}
+use Rattle.frame_word.specs.Views.{note_of}
+use Rattle.frame_word.specs.ReferenceRule.{most_references}
+use Rattle.frame_word.specs.Kinds.{adds, looks, puts}
+use Rattle.step_rules.specs.declared.step.Step.{Step}
+use Rattle.step_rules.specs.declared.step.Action.TheVariants.{Get, Put}
+use Rattle.step_rules.specs.declared.step.Answer.{Answer}
+use Rattle.step_rules.specs.declared.step.Answer.TheVariants.{Held, Left, Last}
+use Rattle.step_rules.specs.State.{Zone}
+use Rattle.step_rules.specs.Legal.{is_legal, get_answer}
+use Rattle.step_rules.specs.After.{Run, state_of}
+use Rattle.run_words.specs.Runs.{HasNoStepOf}
+use Rattle.boot_words.specs.Rule.{Past, BootView, OfFrames, OfRun, boot_rule}
+
+-- the past has grown by the step with its answer, behind steps of others
+pub record GrewBy (before : Past) (step : Step) (answer : Answer) (later : Past) : Type 0 where
+  pub between : Run
+  pub others : HasNoStepOf before.number between
+  pub number : later.number ≡ before.number
+  pub seen : later.seen ≡ (before.seen ++ between) ++ (step, answer) ∷ []
+
+-- the answer of a put that finds this word
+abbrev pub put_answer : ℕ → Answer
+put_answer found = if found == 1 then Last else Left (found - 1)
+
+-- a seat with a view of the frames and its past makes a step of this kind on word f, which is this step of the run
+pub record MadeByOne (S : Type 0) (kind : FrameView → ℕ → ℕ → ℕ → FrameView → Type 0) (v : FrameView) (p : Past) (f : ℕ)
+    (step : Step) (answer : Answer) (found : ℕ) (later : Me S (List BootView)) : Type 0 where
+  pub view : FrameView
+  pub past : Past
+  pub later_is : later ≡ (OfRun past ∷ OfFrames view ∷ [], [])
+  pub made : kind v f 1 found view
+  pub grew : GrewBy p step answer past
+
+-- A CPU that has a reference by its view takes one off the word by a subtraction. If the put was legal at its own last
+-- step, the table allows it, whatever others did since: the run grows by the put and the answer that the word decides.
+abbrev pub PutIsAllowed : Type 0 → Type 0
+PutIsAllowed S = (zone : Zone) (slots id f : ℕ) (v : FrameView) (p : Past) → p.number ≢ 0 → f < zone.frames
+    → 1 ≤ (note_of v f).references
+    → is_legal (state_of zone p.seen) p.number (Put f) ≡ true
+    → Allows {S = S} (boot_rule zone) slots id (OfRun p ∷ OfFrames v ∷ [], []) f (λ n. (n + (2 ^ 64 - 1)) % 2 ^ 64)
+    (λ found later. MadeByOne S puts v p f (record { seat = p.number; action = Put f }) (put_answer found) found later)
+
+-- a seat loads word f for a get: a word that refuses the get is that step of the run, with the answer that it decides
+pub record LooksByOne (S : Type 0) (v : FrameView) (p : Past) (f found : ℕ) (later : Me S (List BootView)) : Type 0 where
+  pub view : FrameView
+  pub past : Past
+  pub later_is : later ≡ (OfRun past ∷ OfFrames view ∷ [], [])
+  pub made : looks v f 0 found view
+  pub refused : get_answer found ≢ Held
+      → GrewBy p (record { seat = p.number; action = Get f }) (get_answer found) past
+  pub goes_on : get_answer found ≡ Held → past ≡ p
+
+-- The load of a get. If the get was legal at the CPU's own last step, the table allows it, whatever others did since.
+abbrev pub LookIsAllowed : Type 0 → Type 0
+LookIsAllowed S = (zone : Zone) (slots id f : ℕ) (v : FrameView) (p : Past) → p.number ≢ 0 → f < zone.frames
+    → is_legal (state_of zone p.seen) p.number (Get f) ≡ true
+    → Allows {S = S} (boot_rule zone) slots id (OfRun p ∷ OfFrames v ∷ [], []) f (λ n. n) (λ found later. LooksByOne S v p f found later)
+
+-- a seat exchanges word f for a get, from the word that its load saw to one more: that is a get answered Held, or the
+-- exchange found another word, and no step
+pub record AddsByOne (S : Type 0) (v : FrameView) (p : Past) (f seen found : ℕ) (later : Me S (List BootView)) : Type 0 where
+  pub view : FrameView
+  pub past : Past
+  pub later_is : later ≡ (OfRun past ∷ OfFrames view ∷ [], [])
+  pub made : adds v f seen found view
+  pub held : found ≡ seen → GrewBy p (record { seat = p.number; action = Get f }) Held past
+  pub raced : found ≢ seen → past ≡ p
+
+-- The exchange of a get. If the get was legal at the CPU's own last step, the table allows it, whatever others did since.
+abbrev pub AddIsAllowed : Type 0 → Type 0
+AddIsAllowed S = (zone : Zone) (slots id f seen : ℕ) (v : FrameView) (p : Past) → p.number ≢ 0 → f < zone.frames
+    → 1 ≤ seen → seen < most_references → (note_of v f).seen ≡ seen
+    → is_legal (state_of zone p.seen) p.number (Get f) ≡ true
+    → Allows {S = S} (boot_rule zone) slots id (OfRun p ∷ OfFrames v ∷ [], []) f (λ n. either (n == seen) (seen + 1) n)
+    (λ found later. AddsByOne S v p f seen found later)

@@ -1,0 +1,86 @@
+-- The rule of one table that has all words of a boot.
+use Rattle.std.specs.Prelude.{ℕ, ◌+◌, ◌*◌, ◌/◌, ◌≤◌, ◌==◌, cond, List, [], ◌∷◌, map, take, drop}
+use Rattle.atomic_table.specs.Table.{State}
+use Rattle.seat_sums.specs.Totals.{total_over}
+use Rattle.frame_word.specs.declared.view.FrameView.{FrameView}
+use Rattle.frame_word.specs.ReferenceRule.{ReferenceRule}
+use Rattle.stock_word.specs.declared.view.StockView.{StockView}
+use Rattle.stock_word.specs.StockRule.{StockRule}
+use Rattle.step_rules.specs.State.{Zone}
+use Rattle.step_rules.specs.After.{Run}
+use Rattle.run_words.specs.Runs.{OthersFollow}
+use Rattle.run_words.specs.Words.{Words, IsRunOf}
+
+-- what a seat knows of the run: the run up to the last step that it noted
+pub record Past : Type 0 where
+  pub number : ℕ
+  pub seen : Run
+
+-- A seat's view of the frames, of the stocks, or of the run. A seat has a list of views; those of several seats while they
+-- are joined.
+pub data BootView : Type 0 where
+  OfFrames : FrameView → BootView
+  OfStocks : StockView → BootView
+  OfRun : Past → BootView
+
+-- the words of frames and visits come first
+abbrev pub frame_count : Zone → ℕ
+frame_count zone = zone.frames + zone.cpus
+
+-- the rows of the stocks begin at the next multiple of 16, so that no two CPUs' rows share a cache line. The first word of
+-- row 0 is one that nobody writes.
+abbrev pub stock_base : Zone → ℕ
+stock_base zone = 16 * ((frame_count zone + 15) / 16)
+
+-- the words of the table, as `run_words` has them
+abbrev pub words_in : Zone → List ℕ → Words
+words_in zone words = record { frames = take (frame_count zone) words; stocks = drop (stock_base zone) words }
+
+-- the views of frames alone
+abbrev pub frames_in : List BootView → List FrameView
+frames_in [] = []
+frames_in (OfFrames v ∷ views) = v ∷ frames_in views
+frames_in (OfStocks v ∷ views) = frames_in views
+frames_in (OfRun p ∷ views) = frames_in views
+
+-- the views of stocks alone
+abbrev pub stocks_in : List BootView → List StockView
+stocks_in [] = []
+stocks_in (OfFrames v ∷ views) = stocks_in views
+stocks_in (OfStocks v ∷ views) = v ∷ stocks_in views
+stocks_in (OfRun p ∷ views) = stocks_in views
+
+-- 1 for a past of this number, else 0
+abbrev pub past_of : ℕ → BootView → ℕ
+past_of number (OfRun p) = cond (p.number == number) 1 0
+past_of number (OfFrames v) = 0
+past_of number (OfStocks v) = 0
+
+-- a past is a beginning of the run, behind which no step of its number follows
+abbrev pub Fits : Run → BootView → Type 0
+Fits run (OfRun p) = OthersFollow p.number p.seen run
+Fits run (OfFrames v) = Unit {0}
+Fits run (OfStocks v) = Unit {0}
+
+-- P holds of each
+abbrev pub AllOf : {A : Type 0} → (A → Type 0) → List A → Type 0
+AllOf P [] = Unit {0}
+AllOf P (x ∷ xs) = P x × AllOf P xs
+
+-- P holds of each view of each seat
+abbrev pub AllViews : (BootView → Type 0) → List (List BootView) → Type 0
+AllViews P seats = AllOf (λ (views : List BootView). AllOf P views) seats
+
+-- There is a legal run whose state has just these words. The reference rule and the stock rule hold of their words and
+-- views, each number has at most one past, and each past fits the run.
+pub record BootRule (zone : Zone) (words : List ℕ) (seats : List (List BootView)) : Type 0 where
+  pub run : Run
+  pub is : IsRunOf zone (words_in zone words) run
+  pub frames : ReferenceRule zone.frames zone.cpus (words_in zone words).frames (map frames_in seats)
+  pub stocks : StockRule zone.cpus (words_in zone words).stocks (map stocks_in seats)
+  pub one_past : (number : ℕ) → total_over (past_of number) seats ≤ 1
+  pub fits : AllViews (Fits run) seats
+
+-- the rule of a table's state
+abbrev pub boot_rule : {S : Type 0} → Zone → State S (List BootView) → Type 0
+boot_rule zone s = BootRule zone s.words s.views

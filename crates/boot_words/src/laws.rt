@@ -1,0 +1,21 @@
+//! Laws: each function's `ensures` clause says that the rule of the one table allows an atomic step.
+
+ghost use Rattle.boot_words.specs.Allowed.{AddIsAllowed, LookIsAllowed, PutIsAllowed};
+
+/// A put that is legal at the CPU's own last step is allowed, and the run grows by it with the answer that the word
+/// decides.
+pub fn a_put_is_allowed<S>()
+    ensures { PutIsAllowed S }
+{}
+
+/// The load of a get that is legal at the CPU's own last step is allowed. If the word refuses the get, the run grows by
+/// it, with the answer that the word decides.
+pub fn a_look_is_allowed<S>()
+    ensures { LookIsAllowed S }
+{}
+
+/// The exchange of a get that is legal at the CPU's own last step is allowed. If it finds the word that it expects, the
+/// run grows by a get answered Held.
+pub fn an_add_is_allowed<S>()
+    ensures { AddIsAllowed S }
+{}

@@ -1,0 +1,4 @@
+//! One table for all words of a boot: its rule holds a legal run of steps between any two atomic steps.
+#![tactic(auto)]
+
+pub mod laws;
