@@ -17,7 +17,7 @@ use Rattle.boot_words.proofs.Growing.{other_fits}
 use Rattle.boot_words.proofs.Parts.{stocks_stay, words_set}
 use Rattle.boot_words.proofs.Seats.{all_set, counts_same, seats_set}
 
-one_whole : (a b : ℕ) → a ≤ 1 → 1 ≤ b → a ≤ b
+pub one_whole : (a b : ℕ) → a ≤ 1 → 1 ≤ b → a ≤ b
 one_whole a b h k = omega arith
 
 -- A seat makes a step of the run on the word of frame f. It has the past of the step's seat, and its new views fit the

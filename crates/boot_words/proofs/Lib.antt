@@ -5,3 +5,5 @@ pub mod Growing
 pub mod FrameSteps
 pub mod Putting
 pub mod Getting
+pub mod StockSteps
+pub mod Prepaying

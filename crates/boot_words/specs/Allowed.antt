@@ -6,15 +6,20 @@ use Rattle.frame_word.specs.declared.view.FrameView.{FrameView}
 use Rattle.frame_word.specs.Views.{note_of}
 use Rattle.frame_word.specs.ReferenceRule.{most_references}
 use Rattle.frame_word.specs.Kinds.{adds, looks, puts}
+use Rattle.stock_word.specs.declared.view.Stock.TheVariants.{HeldBy}
+use Rattle.stock_word.specs.declared.view.StockView.{StockView}
+use Rattle.stock_word.specs.Stock.{word_of}
+use Rattle.stock_word.specs.StockRule.{stock_index}
+use Rattle.stock_word.specs.Kinds.{Consumes, Credits, SeesDrained}
 use Rattle.step_rules.specs.declared.step.Step.{Step}
-use Rattle.step_rules.specs.declared.step.Action.TheVariants.{Get, Put}
+use Rattle.step_rules.specs.declared.step.Action.TheVariants.{Get, Put, Consume, Credit}
 use Rattle.step_rules.specs.declared.step.Answer.{Answer}
-use Rattle.step_rules.specs.declared.step.Answer.TheVariants.{Held, Left, Last}
+use Rattle.step_rules.specs.declared.step.Answer.TheVariants.{Held, Left, Last, Took, Drained, Stocked}
 use Rattle.step_rules.specs.State.{Zone}
 use Rattle.step_rules.specs.Legal.{is_legal, get_answer}
 use Rattle.step_rules.specs.After.{Run, state_of}
 use Rattle.run_words.specs.Runs.{HasNoStepOf}
-use Rattle.boot_words.specs.Rule.{Past, BootView, OfFrames, OfRun, boot_rule}
+use Rattle.boot_words.specs.Rule.{Past, BootView, OfFrames, OfStocks, OfRun, boot_rule, stock_base}
 
 -- the past has grown by the step with its answer, behind steps of others
 pub record GrewBy (before : Past) (step : Step) (answer : Answer) (later : Past) : Type 0 where
@@ -78,3 +83,41 @@ AddIsAllowed S = (zone : Zone) (slots id f seen : ℕ) (v : FrameView) (p : Past
     → is_legal (state_of zone p.seen) p.number (Get f) ≡ true
     → Allows {S = S} (boot_rule zone) slots id (OfRun p ∷ OfFrames v ∷ [], []) f (λ n. either (n == seen) (seen + 1) n)
     (λ found later. AddsByOne S v p f seen found later)
+
+-- a CPU's seat exchanges its stock word for a consume for g, from n + 1 pages to n: that is a consume answered Took, or, if
+-- the stock is found drained, one answered Drained
+pub record TakesByOne (S : Type 0) (v : StockView) (p : Past) (g n found : ℕ) (later : Me S (List BootView)) : Type 0 where
+  pub view : StockView
+  pub past : Past
+  pub later_is : later ≡ (OfRun past ∷ OfStocks view ∷ [], [])
+  pub took : found ≡ word_of (HeldBy g (n + 1)) → Consumes (stock_index p.number) found (word_of (HeldBy g n)) v view
+      × GrewBy p (record { seat = p.number; action = Consume g }) Took past
+  pub drained : found ≢ word_of (HeldBy g (n + 1)) → SeesDrained (stock_index p.number) found found v view
+      × GrewBy p (record { seat = p.number; action = Consume g }) Drained past
+
+-- The exchange of a consume. If it was legal at the CPU's own last step, the table allows it, whatever others did since.
+abbrev pub ConsumeIsAllowed : Type 0 → Type 0
+ConsumeIsAllowed S = (zone : Zone) (slots id g n : ℕ) (v : StockView) (p : Past) → p.number ≢ 0 → p.number ≡ v.number
+    → p.number ≤ zone.cpus → v.last ≡ HeldBy g (n + 1)
+    → is_legal (state_of zone p.seen) p.number (Consume g) ≡ true
+    → Allows {S = S} (boot_rule zone) slots id (OfRun p ∷ OfStocks v ∷ [], []) (stock_base zone + stock_index p.number)
+    (λ x. either (x == word_of (HeldBy g (n + 1))) (word_of (HeldBy g n)) x) (λ found later. TakesByOne S v p g n found later)
+
+-- a CPU's seat exchanges its stock word for a credit of frame f, from n pages of g to n + 1: that is a credit answered
+-- Stocked, or, if the stock is found drained, one answered Drained
+pub record BacksByOne (S : Type 0) (v : StockView) (p : Past) (f g n found : ℕ) (later : Me S (List BootView)) : Type 0 where
+  pub view : StockView
+  pub past : Past
+  pub later_is : later ≡ (OfRun past ∷ OfStocks view ∷ [], [])
+  pub stocked : found ≡ word_of (HeldBy g n) → Credits (stock_index p.number) found (word_of (HeldBy g (n + 1))) v view
+      × GrewBy p (record { seat = p.number; action = Credit f }) Stocked past
+  pub drained : found ≢ word_of (HeldBy g n) → SeesDrained (stock_index p.number) found found v view
+      × GrewBy p (record { seat = p.number; action = Credit f }) Drained past
+
+-- The exchange of a credit. If it was legal at the CPU's own last step, the table allows it, whatever others did since.
+abbrev pub CreditIsAllowed : Type 0 → Type 0
+CreditIsAllowed S = (zone : Zone) (slots id f g n : ℕ) (v : StockView) (p : Past) → p.number ≢ 0 → p.number ≡ v.number
+    → p.number ≤ zone.cpus → v.last ≡ HeldBy g n → 0 < v.fresh
+    → is_legal (state_of zone p.seen) p.number (Credit f) ≡ true
+    → Allows {S = S} (boot_rule zone) slots id (OfRun p ∷ OfStocks v ∷ [], []) (stock_base zone + stock_index p.number)
+    (λ x. either (x == word_of (HeldBy g n)) (word_of (HeldBy g (n + 1))) x) (λ found later. BacksByOne S v p f g n found later)
