@@ -7,3 +7,4 @@ pub mod Putting
 pub mod Getting
 pub mod StockSteps
 pub mod Prepaying
+pub mod Storing

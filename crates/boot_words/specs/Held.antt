@@ -1,0 +1,94 @@
+-- Which stores on a frame's word the rule of the one table allows under the lock, and what each adds to the run.
+use Rattle.std.specs.Prelude.{◌≡◌, ◌≢◌, ℕ, ◌+◌, ◌<◌, ◌≤◌, true, List, [], ◌∷◌, map, slice_index}
+use mathlib.Core.Option.{none}
+use Rattle.atomic_table.specs.Table.{Me, Allows, step}
+use Rattle.frame_word.specs.declared.view.FrameView.{FrameView}
+use Rattle.frame_word.specs.Views.{begun, ended, in_hands, note_of}
+use Rattle.frame_word.specs.ReferenceRule.{mark, most_references}
+use Rattle.frame_word.specs.Kinds.{by_one, by_two, collects, passes_back, passes_out, takes_in, unfreezes}
+use Rattle.step_rules.specs.declared.step.Step.{Step}
+use Rattle.step_rules.specs.declared.step.Action.TheVariants.{Collect, PassBack, PassOut, TakeIn, Unfreeze}
+use Rattle.step_rules.specs.declared.step.Answer.{Answer}
+use Rattle.step_rules.specs.declared.step.Answer.TheVariants.{Done}
+use Rattle.step_rules.specs.State.{Zone, State}
+use Rattle.step_rules.specs.Legal.{is_legal}
+use Rattle.step_rules.specs.Laws.{ShowsLocal}
+use Rattle.boot_words.specs.Rule.{Past, BootView, OfFrames, OfRun, boot_rule}
+use Rattle.boot_words.specs.Allowed.{GrewBy}
+
+-- A CPU holds the lock, and its past is joined with the zone's: both end with the last step of the two, after which the
+-- run shows the CPU this local state.
+pub record HoldsLock (zone : Zone) (z c : Past) (local : State) : Type 0 where
+  pub zone_is : z.number ≡ 0
+  pub cpu_is : c.number ≢ 0
+  pub same : z.seen ≡ c.seen
+  pub shows : ShowsLocal zone c.seen c.number local
+
+-- the two pasts, joined with these views of frames
+abbrev pub joined : Past → Past → List FrameView → List BootView
+joined z c views = OfRun z ∷ OfRun c ∷ map OfFrames views
+
+-- a step under the lock is made with this answer: both pasts have grown by it, and the views of frames are as its kind
+-- says
+pub record MadeUnderLock (S : Type 0) (z c : Past) (made_step : Step) (answer : Answer) (kind : Me S (List FrameView) → Type 0)
+    (later : Me S (List BootView)) : Type 0 where
+  pub views : List FrameView
+  pub zone_past : Past
+  pub cpu_past : Past
+  pub later_is : later ≡ (joined zone_past cpu_past views, [])
+  pub made : kind (views, [])
+  pub zone_grew : GrewBy z made_step answer zone_past
+  pub cpu_grew : GrewBy c made_step answer cpu_past
+  pub same : zone_past.seen ≡ cpu_past.seen
+
+-- the table allows a seat with both pasts and these views to store this number in word f
+abbrev pub StoresUnderLock : (S : Type 0) → Zone → ℕ → ℕ → Past → Past → List FrameView → ℕ → ℕ → Step
+    → (Me S (List FrameView) → Type 0) → Type 0
+StoresUnderLock S zone slots id z c views f word made_step kind = Allows {S = S} (boot_rule zone) slots id (joined z c views, []) f
+    (λ n. word) (λ found later. MadeUnderLock S z c made_step Done kind later)
+
+-- An unfreeze by the zone's seat, legal in what the lock's holder sees.
+abbrev pub UnfreezeIsAllowed : Type 0 → Type 0
+UnfreezeIsAllowed S = (zone : Zone) (slots id f count : ℕ) (z c : Past) (local : State) (v : FrameView) → HoldsLock zone z c local
+    → is_legal local 0 (Unfreeze f count) ≡ true → f < zone.frames → 1 ≤ count → count ≤ most_references → (note_of v f).own ≡ 1
+    → StoresUnderLock S zone slots id z c (v ∷ []) f count (record { seat = 0; action = Unfreeze f count })
+    (by_one unfreezes (step slots f count 0 none) (v ∷ [], []) count)
+
+-- A pass of a frame to the CPU whose visit is open.
+abbrev pub PassOutIsAllowed : Type 0 → Type 0
+PassOutIsAllowed S = (zone : Zone) (slots id f cpu : ℕ) (z c : Past) (local : State) (v : FrameView) → HoldsLock zone z c local
+    → is_legal local 0 (PassOut f cpu) ≡ true → f < zone.frames → v.number ≡ 0 → 1 ≤ cpu → cpu ≤ zone.cpus
+    → slice_index v.opened cpu ≡ 1 → (note_of v f).own ≡ 1
+    → StoresUnderLock S zone slots id z c (v ∷ []) f (mark cpu) (record { seat = 0; action = PassOut f cpu })
+    (by_one passes_out (step slots f (mark cpu) 0 none) (v ∷ [], []) (mark cpu))
+
+-- what holds of the zone's view and of that of the CPU that holds the lock
+pub record AreViewsOf (zone : Zone) (c : Past) (m v : FrameView) : Type 0 where
+  pub zone_is : m.number ≡ 0
+  pub cpu_is : v.number ≡ c.number
+  pub low : 1 ≤ v.number
+  pub high : v.number ≤ zone.cpus
+
+-- The CPU takes in a frame that is in transit to it.
+abbrev pub TakeInIsAllowed : Type 0 → Type 0
+TakeInIsAllowed S = (zone : Zone) (slots id f : ℕ) (z c : Past) (local : State) (m v : FrameView) → HoldsLock zone z c local
+    → is_legal local c.number (TakeIn f) ≡ true → f < zone.frames → AreViewsOf zone c m v
+    → begun m v f ≡ ended m v f + 1 → (note_of m f).lent ≡ v.number
+    → StoresUnderLock S zone slots id z c (m ∷ v ∷ []) f 0 (record { seat = c.number; action = TakeIn f })
+    (by_two takes_in (step slots f 0 0 none) (m ∷ v ∷ [], []) 0)
+
+-- The CPU passes back a frame of its hand.
+abbrev pub PassBackIsAllowed : Type 0 → Type 0
+PassBackIsAllowed S = (zone : Zone) (slots id f : ℕ) (z c : Past) (local : State) (m v : FrameView) → HoldsLock zone z c local
+    → is_legal local c.number (PassBack f) ≡ true → f < zone.frames → AreViewsOf zone c m v
+    → slice_index m.opened v.number ≡ 1 → in_hands (note_of v f) ≡ 1
+    → StoresUnderLock S zone slots id z c (m ∷ v ∷ []) f (mark c.number) (record { seat = c.number; action = PassBack f })
+    (by_two passes_back (step slots f (mark c.number) 0 none) (m ∷ v ∷ [], []) (mark c.number))
+
+-- The zone's seat collects a frame that the CPU passed back.
+abbrev pub CollectIsAllowed : Type 0 → Type 0
+CollectIsAllowed S = (zone : Zone) (slots id f : ℕ) (z c : Past) (local : State) (m v : FrameView) → HoldsLock zone z c local
+    → is_legal local 0 (Collect f c.number) ≡ true → f < zone.frames → AreViewsOf zone c m v
+    → begun m v f ≡ ended m v f + 1
+    → StoresUnderLock S zone slots id z c (m ∷ v ∷ []) f 0 (record { seat = 0; action = Collect f c.number })
+    (by_two collects (step slots f 0 0 none) (m ∷ v ∷ [], []) 0)

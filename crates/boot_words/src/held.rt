@@ -1,0 +1,30 @@
+//! Laws of the steps that are made under the lock, by a seat that has the zone's past and that of the lock's holder.
+//! Each step that is legal in what the holder sees is allowed, and both pasts grow by it.
+
+ghost use Rattle.boot_words.specs.Held.{CollectIsAllowed, PassBackIsAllowed, PassOutIsAllowed, TakeInIsAllowed};
+ghost use Rattle.boot_words.specs.Held.{UnfreezeIsAllowed};
+
+/// The zone puts references on a frame of its hand.
+pub fn an_unfreeze_is_allowed<S>()
+    ensures { UnfreezeIsAllowed S }
+{}
+
+/// The zone passes a frame to the CPU.
+pub fn a_pass_out_is_allowed<S>()
+    ensures { PassOutIsAllowed S }
+{}
+
+/// The CPU takes in a frame that was passed to it.
+pub fn a_take_in_is_allowed<S>()
+    ensures { TakeInIsAllowed S }
+{}
+
+/// The CPU passes a frame back.
+pub fn a_pass_back_is_allowed<S>()
+    ensures { PassBackIsAllowed S }
+{}
+
+/// The zone collects a frame that was passed back.
+pub fn a_collect_is_allowed<S>()
+    ensures { CollectIsAllowed S }
+{}
