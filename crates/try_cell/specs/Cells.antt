@@ -20,3 +20,8 @@ module _ {T V : Type 0} where
   -- the slot is out with this seat, and nothing is in it
   abbrev pub HasEmptied : Me (Option T) V → Type 0
   HasEmptied m = m.1 ≡ (0, None) ∷ []
+
+module _ {T : Type 0} where
+  -- the slot was out with this seat, and its value is at home now, which is the seat's view
+  abbrev pub Gives : Me (Option T) (Option T) → Me (Option T) (Option T) → Type 0
+  Gives from to = (value : T) × (from.1 ≡ (0, Some value) ∷ []) × (to ≡ (Some value, []))

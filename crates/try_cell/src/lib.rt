@@ -2,43 +2,56 @@
 //! out.
 #![tactic(auto)]
 
-ghost use Rattle.std.specs.Prelude.{◌≡◌, IfErr, IfSome};
-ghost use Rattle.try_cell.specs.Cells.{HasEmptied, IsGuarded, Takes};
+ghost use Rattle.std.specs.Prelude.{◌≡◌, IfErr, IfSome, None, Option, Some};
+ghost use Rattle.try_cell.specs.Cells.{Gives, HasEmptied, IsGuarded, Takes};
 
 use atomic_table::{Play, Refused, Seat, Table, TableRule};
 use std::alloc::Global;
+use std::marker::Model;
 
 /// The rule: while the word is 0, the value is at home.
 struct Guard;
 
-impl<T> TableRule<Option<T>, (), ()> for Guard {
+impl<T> TableRule<Option<T>, Option<T>, ()> for Guard {
     ghost holds = { λ _ s. IsGuarded s };
 
-    ghost first = { λ _. tt };
+    ghost first = { λ _. None };
 }
 
 struct Taking;
 
-impl<T> Play<Option<T>, ()> for Taking {
+impl<T> Play<Option<T>, Option<T>> for Taking {
     ghost then = { λ _ _ found me. Takes found me };
 }
 
 struct Giving;
 
-impl<T> Play<Option<T>, ()> for Giving {
-    ghost then = { λ _ _ _ _. Unit {0} };
+impl<T> Play<Option<T>, Option<T>> for Giving {
+    ghost then = { λ _ from _ to. Gives from to };
 }
 
 /// A value, at home or out. `T` needn't be `Drop`: then the cell isn't either.
 pub struct TryCell<T> {
-    table: Table<Option<T>, (), (), Guard, Global>,
+    table: Table<Option<T>, Option<T>, (), Guard, Global>,
     ghost sized: { (table.shared.table_id.words ≡ 1) × (table.shared.table_id.slots ≡ 1) },
 }
 
 /// The right to put the value back. It can't be dropped, so a value that is taken out is put back.
 pub struct Loan<T> {
-    seat: Seat<Option<T>, ()>,
+    seat: Seat<Option<T>, Option<T>>,
     ghost emptied: { HasEmptied seat.me },
+}
+
+/// Shows that a value was put back, and which. Only `put_back` makes one.
+#[derive(Drop)]
+pub struct PutBack<T> {
+    seat: Seat<Option<T>, Option<T>>,
+}
+
+impl<T> Model for PutBack<T> {
+    ghost Value = { Option T };
+
+    ghost view = { λ p. p.seat.me.0 };
 }
 
 impl<T> TryCell<T> {
@@ -77,14 +90,16 @@ impl<T> TryCell<T> {
 
     /// Puts a value back.
     #[inline(always)]
-    pub fn put_back(&self, value: T, loan: Loan<T>)
+    pub fn put_back(&self, value: T, loan: Loan<T>) -> PutBack<T>
         requires { loan.seat.table_id ≡ self.now.table.shared.table_id }
+        ensures { result ≡ Some value }
     {
         let Loan { mut seat } = loan;
         let shared = &self.table.shared;
         let left = shared.exchange(&mut seat, 0, Some(value));
         let None = left else { unreachable!() };
         shared.store::<Giving>(&mut seat, 0, 0);
+        PutBack { seat }
     }
 
     /// The value, after all sharing ended; `None` if it is still out.

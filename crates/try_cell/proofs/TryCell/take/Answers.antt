@@ -1,10 +1,10 @@
-use Rattle.std.proofs.Common.{rules, Some, ap, sym, ◌∙◌, ◌∷◌}
+use Rattle.std.proofs.Common.{rules, None, Some, ap, sym, ◌∙◌, ◌∷◌}
 use Rattle.atomic_table.specs.Table.{rest}
 use Rattle.try_cell.proofs.Steps.{takes_out}
 use Rattle.try_cell.proofs.TryCell.take.Goals as goal
 
 pub swap_new_seat-found-requires : goal.swap_new_seat-found-requires
-swap_new_seat-found-requires g c = (search rules, takes_out _ _)
+swap_new_seat-found-requires g c = (search rules, takes_out _ None)
 
 pub exchange-requires : goal.exchange-requires
 exchange-requires g c = let t = c.swap_new_seat-found.ensures.1 c.if-found-ne0.false in
