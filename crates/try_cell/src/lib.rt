@@ -2,56 +2,69 @@
 //! out.
 #![tactic(auto)]
 
-ghost use Rattle.std.specs.Prelude.{◌≡◌, IfErr, IfSome, None, Option, Some};
+ghost use Rattle.std.specs.Prelude.{◌≡◌, IfErr, IfSome, None, Some};
 ghost use Rattle.try_cell.specs.Cells.{Gives, HasEmptied, IsGuarded, Takes};
 
 use atomic_table::{Play, Refused, Seat, Table, TableRule};
 use std::alloc::Global;
 use std::marker::Model;
 
+// What a seat knows: the value that it took out, and the one that it put back.
+type Change<T> = (Option<T>, Option<T>);
+
 /// The rule: while the word is 0, the value is at home.
 struct Guard;
 
-impl<T> TableRule<Option<T>, Option<T>, ()> for Guard {
+impl<T> TableRule<Option<T>, Change<T>, ()> for Guard {
     ghost holds = { λ _ s. IsGuarded s };
 
-    ghost first = { λ _. None };
+    ghost first = { λ _. (None, None) };
 }
 
 struct Taking;
 
-impl<T> Play<Option<T>, Option<T>> for Taking {
+impl<T> Play<Option<T>, Change<T>> for Taking {
     ghost then = { λ _ _ found me. Takes found me };
 }
 
 struct Giving;
 
-impl<T> Play<Option<T>, Option<T>> for Giving {
+impl<T> Play<Option<T>, Change<T>> for Giving {
     ghost then = { λ _ from _ to. Gives from to };
 }
 
 /// A value, at home or out. `T` needn't be `Drop`: then the cell isn't either.
 pub struct TryCell<T> {
-    table: Table<Option<T>, Option<T>, (), Guard, Global>,
+    table: Table<Option<T>, Change<T>, (), Guard, Global>,
     ghost sized: { (table.shared.table_id.words ≡ 1) × (table.shared.table_id.slots ≡ 1) },
 }
 
 /// The right to put the value back. It can't be dropped, so a value that is taken out is put back.
 pub struct Loan<T> {
-    seat: Seat<Option<T>, Option<T>>,
+    seat: Seat<Option<T>, Change<T>>,
     ghost emptied: { HasEmptied seat.me },
 }
 
-/// Shows that a value was put back, and which. Only `put_back` makes one.
+impl<T> Model for Loan<T> {
+    ghost use Rattle.try_cell.specs.Cells.{KnownLoan};
+
+    ghost Value = { KnownLoan T };
+
+    ghost view = { λ l. record { table_id = l.seat.table_id; found = l.seat.me.0.0 } };
+}
+
+/// Shows which value was taken out, and which one was put back for it. Only `put_back` makes one.
 #[derive(Drop)]
 pub struct PutBack<T> {
-    seat: Seat<Option<T>, Option<T>>,
+    seat: Seat<Option<T>, Change<T>>,
 }
 
 impl<T> Model for PutBack<T> {
-    ghost Value = { Option T };
+    ghost use Rattle.try_cell.specs.Cells.{KnownChange};
 
-    ghost view = { λ p. p.seat.me.0 };
+    ghost Value = { KnownChange T };
+
+    ghost view = { λ p. record { found = p.seat.me.0.0; left = p.seat.me.0.1 } };
 }
 
 impl<T> TryCell<T> {
@@ -77,7 +90,8 @@ impl<T> TryCell<T> {
     /// Takes the value out; `None` if it is out already.
     #[inline(always)]
     pub fn take(&self) -> Option<(T, Loan<T>)>
-        ensures { IfSome result (λ taken. taken.1.seat.table_id ≡ self.now.table.shared.table_id) }
+        ensures fits { IfSome result (λ taken. taken.1.table_id ≡ self.now.table.shared.table_id) }
+        ensures found { IfSome result (λ taken. taken.1.found ≡ Some taken.0) }
     {
         let shared = &self.table.shared;
         let (found, mut seat) = shared.swap_new_seat::<Taking>(0, 1);
@@ -88,11 +102,12 @@ impl<T> TryCell<T> {
         Some((value, Loan { seat }))
     }
 
-    /// Puts a value back.
+    /// Puts a value back, and shows it beside the one that was taken out.
     #[inline(always)]
     pub fn put_back(&self, value: T, loan: Loan<T>) -> PutBack<T>
-        requires { loan.seat.table_id ≡ self.now.table.shared.table_id }
-        ensures { result ≡ Some value }
+        requires { loan.table_id ≡ self.now.table.shared.table_id }
+        ensures found { result.found ≡ loan.found }
+        ensures left { result.left ≡ Some value }
     {
         let Loan { mut seat } = loan;
         let shared = &self.table.shared;

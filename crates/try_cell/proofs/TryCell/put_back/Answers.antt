@@ -11,5 +11,5 @@ store-requires g c =
       search rules,
       search rules,
       subst (λ n. Allows IsGuarded n seat.id seat.me 0 (λ _. 0) (λ _. Gives seat.me)) (sym c.args.self.now.sized.1)
-          (gives_back _ _ _ _ _ c.exchange-left.ensures.3 (ap rest c.args.loan.emptied)),
+          (gives_back _ _ _ _ _ c.exchange-left.ensures.3 (ap rest c.loan.inside.emptied)),
     )
