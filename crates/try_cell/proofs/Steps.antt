@@ -13,8 +13,13 @@ module _ {T : Type 0} where
   gives_back id m v value more e none =
       subst (λ (x : Me (Option T) (Option T × Option T)). Allows IsGuarded 1 id x 0 (λ _. 0) (λ _. Gives x))
       (sym (e ∙ ap (λ l. (v, (0, Some value) ∷ l)) none))
-      (λ s g wide me _. ((v.0, Some value), gives, tt,
-          (length-set s.words 0 0 ∙ g.0, λ _. (value, set_here s.homes 0 (some (Some value)) (omega arith))), (value, refl, refl)))
+      (λ s g wide me _. (
+        (v.0, Some value),
+        gives,
+        tt,
+        (length-set s.words 0 0 ∙ g.0, λ _. (value, set_here s.homes 0 (some (Some value)) (omega arith))),
+        (value, refl, refl),
+      ))
 
   pub takes_out : (n : ℕ) → Arrives (IsGuarded {T = T}) n 0 (λ _. 1) (λ r m. Takes {T = T} r m)
   takes_out n s g wide _ = let long = g.0 in let one = get_or-set_same s.words 0 1 0 (omega arith) in
