@@ -35,13 +35,21 @@ static void all_are(const char *what, tempolemon_cpu *cpu, uint8_t wanted) {
     for (size_t at = 0; at < sizeof given; at++) is(what, given[at], wanted);
 }
 
+/* What the zone and the CPU show. */
+static void look(tempolemon_cpu *cpu, char text[4000]) {
+    size_t shown = 0, stock = 0;
+    is("show", tempolemon_on_show(cpu, text, 3000, &shown), TEMPOLEMON_DONE);
+    is("stock", tempolemon_on_stock(cpu, text + shown, 900, &stock), TEMPOLEMON_DONE);
+    text[shown + stock] = 0;
+}
+
 /* Handles with nothing behind them, and numbers that aren't there. */
 static void refusals(void) {
     tempolemon_zone zone = {0}, none = {0};
     static tempolemon_cpu one, two, copy, empty;
     tempolemon_report report = {.held = 77};
     tempolemon_sizes low_high = SIZES;
-    char text[300];
+    char text[300], before[4000], after[4000];
     size_t written;
     low_high.high = 3;
 
@@ -55,6 +63,7 @@ static void refusals(void) {
     is("CPU 4", tempolemon_take(&zone, 4, &one), TEMPOLEMON_BAD_CPU);
     is("CPU 2^32 - 1", tempolemon_take(&zone, UINT32_MAX, &one), TEMPOLEMON_BAD_CPU);
     is("CPU 1", tempolemon_take(&zone, 1, &one), TEMPOLEMON_DONE);
+    look(&one, before);
     is("CPU 1 again", tempolemon_take(&zone, 1, &two), TEMPOLEMON_CPU_OUT);
     is("CPU 2 for CPU 1's handle", tempolemon_take(&zone, 2, &one), TEMPOLEMON_IS_LIVE);
     all_are("a call of the second handle", &two, TEMPOLEMON_NOT_LIVE);
@@ -71,6 +80,8 @@ static void refusals(void) {
     is("its kind", result.kind, TEMPOLEMON_REFUSED);
     is("a short buffer", tempolemon_on_read(&one, "/a", 2, "memory.max", 10, text, 159, &result), TEMPOLEMON_SMALL_BUFFER);
     is("units of no group", tempolemon_on_units(&one, "/a", 2, text, sizeof text, &written), 6);
+    look(&one, after);
+    is("what these calls changed", (unsigned long)strcmp(before, after), 0);
 
     is("mkdir", tempolemon_on_mkdir(&one, "/a", 2, &result), TEMPOLEMON_DONE);
     const uint32_t group = (uint32_t)result.number;

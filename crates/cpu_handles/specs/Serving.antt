@@ -2,10 +2,9 @@
 use Rattle.std.specs.Prelude.{◌≡◌, Option, None, Some, IsSome}
 use Rattle.frame_word.specs.Seats.{KnownTable}
 use Rattle.stock_word.specs.Stock.{KnownStockTable}
-use Rattle.zone_threads.specs.Homes.{EndsZone, Enters, HasCpu, HasNoCpu, KnownHome, ParksCpu}
+use Rattle.zone_threads.specs.Homes.{EndsZone, GetsCpu, HasCpu, HasNoCpu, IfNotEntered, KnownHome}
 use Rattle.zone_threads.specs.Shown.{Shows}
-use Rattle.zone_threads.specs.declared.home.Left.{Left}
-use Rattle.zone_threads.specs.declared.home.Left.TheVariants as left
+use Rattle.zone_threads.specs.declared.home.NotLeft.TheVariants as not_left
 use Rattle.cpu_handles.specs.declared.requests.Request.{Request}
 use Rattle.cpu_handles.specs.declared.requests.Request.TheVariants.{Start, Enter, Leave, Text, End}
 use Rattle.cpu_handles.specs.declared.requests.RequestAnswer.{RequestAnswer}
@@ -76,12 +75,11 @@ pub record StartsHome (after : Option KnownHome) : Type 0 where
   pub is : after ≡ Some home
   pub no_cpu : HasNoCpu home
 
--- the home's CPU was parked, and the pointer leads nowhere
+-- the home had a CPU, and the pointer leads nowhere
 pub record LeavesHome (before after : Option KnownHome) : Type 0 where
   pub from : KnownHome
-  pub to : KnownHome
   pub was : before ≡ Some from
-  pub parks : ParksCpu from to
+  pub cpu : HasCpu from
   pub is : after ≡ None
 
 -- the home had no CPU, and the pointer leads nowhere
@@ -91,20 +89,17 @@ pub record DropsHome (before after : Option KnownHome) : Type 0 where
   pub none : HasNoCpu from
   pub is : after ≡ None
 
--- what a leave does: unless the lock was taken, the pointer leads nowhere
-abbrev pub LeavesFrom : Left → (before after : Option KnownHome) → Type 0
-LeavesFrom left.Done before after = LeavesHome before after
-LeavesFrom left.NoCpu before after = DropsHome before after
-LeavesFrom left.Busy before after = after ≡ before
-
 -- what a request does under the name of these tables, by its answer
 abbrev pub Serves : KnownTable → KnownStockTable → (before : Option KnownHome) (request : Request)
     (after : Option KnownHome) (answer : RequestAnswer) → Type 0
 Serves frames stock_table before (Start alloc boot) after returned.Started = StartsHome after
 Serves frames stock_table before (Start alloc boot) after returned.NoMemory = after ≡ None
-Serves frames stock_table before (Enter number) after (returned.Entered entered) =
-    OnHome (λ from to. Enters frames.cpus number from entered to) before after
-Serves frames stock_table before (Leave alloc) after (returned.Left answer) = LeavesFrom answer before after
+Serves frames stock_table before (Enter number) after returned.Entered = OnHome (GetsCpu number) before after
+Serves frames stock_table before (Enter number) after (returned.NotEntered reason) =
+    OnHome (λ from to. IfNotEntered frames.cpus number from reason to) before after
+Serves frames stock_table before (Leave alloc) after returned.Left = LeavesHome before after
+Serves frames stock_table before (Leave alloc) after (returned.NotLeft not_left.NoCpu) = DropsHome before after
+Serves frames stock_table before (Leave alloc) after (returned.NotLeft not_left.Busy) = after ≡ before
 Serves frames stock_table before (Text alloc asked) after (returned.Text text) =
     OnHome (Shows frames stock_table asked text) before after
 Serves frames stock_table before (Text alloc asked) after returned.Busy = after ≡ before

@@ -2,7 +2,7 @@
 
 use mem_system::Boot;
 use std::alloc::Global;
-use zone_threads::home::{Entered, Left};
+use zone_threads::home::{NotEntered, NotLeft};
 use zone_threads::texts::{TextAnswer, TextCall};
 use zone_threads::zone_end::ZoneEnd;
 
@@ -13,7 +13,7 @@ pub enum Request {
     Start { alloc: Global, boot: Boot },
     /// Take the CPU of this number.
     Enter { number: u32 },
-    /// Park the CPU. If that is done, or there is none, the handle leads nowhere.
+    /// Return the CPU. If that is done, or there is none, the handle leads nowhere.
     Leave { alloc: Global },
     /// Return a text of the zone.
     Text { alloc: Global, asked: TextCall },
@@ -28,10 +28,14 @@ pub enum RequestAnswer {
     Started,
     /// Memory ran out.
     NoMemory,
-    /// The answer of an entry.
-    Entered(Entered),
-    /// The answer of a leave.
-    Left(Left),
+    /// The home has the CPU now.
+    Entered,
+    /// Why no CPU was taken.
+    NotEntered(NotEntered),
+    /// The CPU was returned.
+    Left,
+    /// Why no CPU was returned.
+    NotLeft(NotLeft),
     /// A text, or why there is none.
     Text(TextAnswer),
     /// Another thread has the lock, so there is no text.

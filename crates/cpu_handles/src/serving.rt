@@ -13,7 +13,7 @@ use cpu_part::BootName;
 use mem_system::Boot;
 use std::alloc::Global;
 use zone_threads::calls::{Call, CallAnswer, ReadAnswer, ReadCall};
-use zone_threads::home::{Home, Left};
+use zone_threads::home::{Home, NotLeft};
 use zone_threads::texts::TextCall;
 
 /// Serves a request. A start needs a pointer to nothing, and all else one to a home.
@@ -106,11 +106,12 @@ fn enter<N: BootName>(pointer: HomePointer<N>, number: u32) -> (HomePointer<N>, 
     ensures serves { Serves N.frames N.stocks pointer.home (Enter number) result.0.home result.1 }
 {
     let mut home = pointer.into_box_parts().into_box();
-    let answer = home.enter(number);
-    (
-        HomePointer::of(BoxParts::of(home)),
-        RequestAnswer::Entered(answer),
-    )
+    let entered = home.enter(number);
+    let pointer = HomePointer::of(BoxParts::of(home));
+    match entered {
+        Ok(_) => (pointer, RequestAnswer::Entered),
+        Err(reason) => (pointer, RequestAnswer::NotEntered(reason)),
+    }
 }
 
 fn leave<N: BootName>(pointer: HomePointer<N>, alloc: Global) -> (HomePointer<N>, RequestAnswer)
@@ -118,15 +119,18 @@ fn leave<N: BootName>(pointer: HomePointer<N>, alloc: Global) -> (HomePointer<N>
     ensures serves { Serves N.frames N.stocks pointer.home (Leave alloc) result.0.home result.1 }
 {
     let mut home = pointer.into_box_parts().into_box();
-    let answer = home.leave();
-    if answer == Left::Busy {
+    let left = home.leave();
+    if let Err(NotLeft::Busy) = left {
         return (
             HomePointer::of(BoxParts::of(home)),
-            RequestAnswer::Left(answer),
+            RequestAnswer::NotLeft(NotLeft::Busy),
         );
     }
-    let _left = Box::into_inner(home);
-    (HomePointer::none(alloc), RequestAnswer::Left(answer))
+    let _home = Box::into_inner(home);
+    match left {
+        Ok(_) => (HomePointer::none(alloc), RequestAnswer::Left),
+        Err(reason) => (HomePointer::none(alloc), RequestAnswer::NotLeft(reason)),
+    }
 }
 
 fn text<N: BootName>(

@@ -7,9 +7,9 @@ use Rattle.cpu_part.specs.Cpus.{KnownCpu}
 use Rattle.frame_word.specs.Seats.{KnownTable}
 use Rattle.stock_word.specs.Stock.{KnownStockTable}
 use Rattle.zone_threads.specs.Homes.{HasCpu, HasNoCpu, KnownHome}
-use Rattle.zone_threads.specs.declared.home.Left as returning
-use Rattle.zone_threads.specs.declared.home.Left.TheVariants as left
-use Rattle.cpu_handles.specs.Serving.{LeavesFrom, OnRaw, Serves}
+use Rattle.zone_threads.specs.declared.home.NotLeft.{NotLeft}
+use Rattle.zone_threads.specs.declared.home.NotLeft.TheVariants as not_left
+use Rattle.cpu_handles.specs.Serving.{DropsHome, OnRaw, Serves}
 use Rattle.cpu_handles.specs.declared.requests.Request.TheVariants.{Leave}
 use Rattle.cpu_handles.specs.declared.requests.RequestAnswer.{RequestAnswer}
 use Rattle.cpu_handles.specs.declared.requests.RequestAnswer.TheVariants as answer
@@ -42,8 +42,8 @@ zone_behind f s is_live (Some home) is some = is.no_cpu home refl
 
 -- a return by a CPU's handle doesn't find that there is no CPU
 pub no_cpu_left : (f : KnownTable) (s : KnownStockTable) (a : Global) (is_live : Bool) (o before after : Option KnownHome) (said : RequestAnswer)
-    (l : returning.Left) → IsCpuHandle is_live o → before ≡ o → Serves f s before (Leave a) after said → said ≡ answer.Left l → l ≡ left.NoCpu → ⊥
-no_cpu_left f s a is_live o before after said l is same serves one two =
-    let drops : LeavesFrom left.NoCpu before after = subst (λ (x : returning.Left). LeavesFrom x before after) two
-    (subst (λ (x : RequestAnswer). Serves f s before (Leave a) after x) one serves) in
+    (reason : NotLeft) → IsCpuHandle is_live o → before ≡ o → Serves f s before (Leave a) after said → said ≡ answer.NotLeft reason
+    → reason ≡ not_left.NoCpu → ⊥
+no_cpu_left f s a is_live o before after said reason is same serves one two =
+    let drops : DropsHome before after = subst (λ (x : RequestAnswer). Serves f s before (Leave a) after x) (one ∙ ap answer.NotLeft two) serves in
     false≢true (subst (λ (x : Option KnownCpu). IsSome x) drops.none (is.cpu drops.from (sym same ∙ drops.was)))

@@ -2,16 +2,14 @@
 use Rattle.std.specs.Prelude.{◌≡◌, ℕ, Option, None, Some, IsSome}
 use Rattle.frame_word.specs.Seats.{KnownTable}
 use Rattle.stock_word.specs.Stock.{KnownStockTable}
-use Rattle.zone_threads.specs.Homes.{EndsZone, HasNoCpu, IsCpu, KnownHome, ParksCpu}
-use Rattle.zone_threads.specs.declared.home.Entered.{Entered}
-use Rattle.zone_threads.specs.declared.home.Entered.TheVariants as entered
-use Rattle.zone_threads.specs.declared.home.Left.{Left}
-use Rattle.zone_threads.specs.declared.home.Left.TheVariants as left
+use Rattle.zone_threads.specs.Homes.{EndsZone, HasNoCpu, IsCpu, KnownHome}
+use Rattle.zone_threads.specs.declared.home.NotEntered.{NotEntered}
+use Rattle.zone_threads.specs.declared.home.NotEntered.TheVariants as not_entered
 use Rattle.cpu_handles.specs.declared.requests.Forked.{Forked}
 use Rattle.cpu_handles.specs.declared.requests.Forked.TheVariants as forked
 use Rattle.cpu_handles.specs.declared.requests.RequestAnswer.{RequestAnswer}
 use Rattle.cpu_handles.specs.declared.requests.RequestAnswer.TheVariants as returned
-use Rattle.tempolemon_threads.specs.Zones.{CpuIn, Led, ReturnsPart, led}
+use Rattle.tempolemon_threads.specs.Zones.{Led, led}
 
 -- a second pointer leads to the same zone, without a CPU
 pub record ForksTo (zone : Option Led) (frames : KnownTable) (stocks : KnownStockTable) (home : Option KnownHome)
@@ -27,18 +25,11 @@ abbrev pub ForksAs : Forked → (zone : Option Led) → KnownTable → KnownStoc
 ForksAs forked.Done zone frames stocks home = ForksTo zone frames stocks home
 ForksAs forked.NoMemory from frames stocks home = home ≡ None
 
--- what an entry by a pointer to these tables does
-abbrev pub EntersAs : (number : ℕ) → Entered → KnownTable → KnownStockTable → (after : Option Led) → Type 0
-EntersAs number entered.Done frames stocks after = CpuIn number frames stocks after
-EntersAs number entered.NoCpu frames stocks after = (¬ IsCpu frames.cpus number) × (after ≡ None)
-EntersAs number entered.HasCpu frames stocks after = ⊥
-EntersAs number other frames stocks after = after ≡ None
-
--- what a return does
-abbrev pub LeavesAs : Left → (before after : Option Led) → Type 0
-LeavesAs left.Done before after = ReturnsPart before after
-LeavesAs left.NoCpu before after = ⊥
-LeavesAs left.Busy before after = after ≡ before
+-- what is so, if an entry by a pointer to these tables took no CPU
+abbrev pub EntersNone : (number : ℕ) → NotEntered → KnownTable → (after : Option Led) → Type 0
+EntersNone number not_entered.NoCpu frames after = (¬ IsCpu frames.cpus number) × (after ≡ None)
+EntersNone number not_entered.HasCpu frames after = ⊥
+EntersNone number other frames after = after ≡ None
 
 -- the zone ended
 pub record EndsLed (before after : Option Led) (ends : KnownTable → KnownStockTable → Type 0) : Type 0 where

@@ -5,9 +5,7 @@ use Rattle.stock_word.specs.Stock.{KnownStockTable}
 use Rattle.zone_sizes.specs.declared.config.Config.{Config}
 use Rattle.cpu_part.specs.Cpus.{KnownCpu}
 use Rattle.mem_system.specs.Boots.{IsSizedAs}
-use Rattle.zone_threads.specs.Homes.{EndsZone, HasCpu, HasNoCpu, IsCpu, KnownHome, ParksCpu}
-use Rattle.zone_threads.specs.declared.home.Entered.{Entered}
-use Rattle.zone_threads.specs.declared.home.Entered.TheVariants as entered
+use Rattle.zone_threads.specs.Homes.{EndsZone, HasCpu, HasNoCpu, IsCpu, KnownHome}
 use Rattle.zone_threads.specs.declared.zone_end.ZoneEnd.{ZoneEnd}
 use Rattle.tempolemon_threads.specs.declared.report.Report.{Report}
 use Rattle.tempolemon_threads.specs.declared.sizes.Sizes.{Sizes}
@@ -100,12 +98,11 @@ pub record HasNoSuchCpu (number : ℕ) (zone : Option Led) : Type 0 where
   pub is : zone ≡ Some led_to
   pub none : ¬ IsCpu led_to.frames.cpus number
 
--- the CPU was parked, and the handle leads nowhere
+-- the handle led to a CPU, and leads nowhere now
 pub record ReturnsPart (before after : Option Led) : Type 0 where
   pub part : Led
-  pub left : KnownHome
   pub was : before ≡ Some part
-  pub parks : ParksCpu part.home left
+  pub cpu : HasCpu part.home
   pub is : after ≡ None
 
 -- the zone ended with this report, and the handle leads nowhere

@@ -1,13 +1,13 @@
 //! What is done with what a handle leads to.
 
-ghost use Rattle.std.specs.Prelude.{◌≡◌, ◌↔◌, IfNone, IfSome, IsSome, IsSomeAnd, IsTrue, MatchBool, None};
+ghost use Rattle.std.specs.Prelude.{◌≡◌, ◌↔◌, IfNone, IfSome, IsSome, IsSomeAnd, IsTrue, MatchBool, MatchResult, None};
 ghost use Rattle.mem_system.specs.Boots.{IsSizedAs};
 ghost use Rattle.zone_threads.specs.Calling.{Calls, Reads};
 ghost use Rattle.zone_threads.specs.Homes.{HasNoCpu};
 ghost use Rattle.zone_threads.specs.Shown.{Shows};
 ghost use Rattle.tempolemon_threads.specs.Behind.{part_behind, zone_behind};
-ghost use Rattle.tempolemon_threads.specs.Handling.{EndsAs, EntersAs, ForksAs, LeavesAs};
-ghost use Rattle.tempolemon_threads.specs.Zones.{BootsZone, OnPart};
+ghost use Rattle.tempolemon_threads.specs.Handling.{EndsAs, EntersNone, ForksAs};
+ghost use Rattle.tempolemon_threads.specs.Zones.{BootsZone, CpuIn, OnPart, ReturnsPart};
 
 use crate::handles::{CpuPart, Zone};
 use cpu_handles::raw::{RawHome, call_raw, fork_raw, read_raw, serve_raw};
@@ -15,7 +15,7 @@ use cpu_handles::requests::{Forked, Request, RequestAnswer};
 use mem_system::Boot;
 use std::alloc::Global;
 use zone_threads::calls::{Call, CallAnswer, ReadAnswer, ReadCall};
-use zone_threads::home::{Entered, Left};
+use zone_threads::home::{NotEntered, NotLeft};
 use zone_threads::texts::{TextAnswer, TextCall};
 
 impl Zone {
@@ -74,43 +74,52 @@ impl CpuPart {
     }
 
     /// Takes the CPU of this number, by a pointer to the zone.
-    pub(crate) fn enter(&mut self, alloc: Global, raw: RawHome, number: u32) -> Entered
+    pub(crate) fn enter(
+        &mut self,
+        alloc: Global,
+        raw: RawHome,
+        number: u32,
+    ) -> Result<(), NotEntered>
         requires no_cpu { IsSomeAnd raw.home HasNoCpu }
         requires none { part_behind self.old ≡ None }
-        ensures { EntersAs number result raw.frames raw.stocks (part_behind self.new) }
+        ensures { MatchResult result
+            (λ _. CpuIn number raw.frames raw.stocks (part_behind self.new))
+            (λ reason. EntersNone number reason raw.frames (part_behind self.new)) }
     {
         let (raw, answer) = serve_raw(raw, Request::Enter { number });
         match answer {
-            RequestAnswer::Entered(Entered::Done) => {
+            RequestAnswer::Entered => {
                 self.raw = raw;
                 self.is_live = true;
-                Entered::Done
+                Ok(())
             }
-            RequestAnswer::Entered(entered) => {
+            RequestAnswer::NotEntered(reason) => {
                 let (_none, _left) = serve_raw(raw, Request::Leave { alloc });
-                entered
+                Err(reason)
             }
             _ => unreachable!(),
         }
     }
 
-    /// Parks the CPU.
-    pub(crate) fn leave(&mut self, alloc: Global) -> Left
+    /// Returns the CPU to its zone. Returns false if another thread has the lock: nothing was done then.
+    pub(crate) fn leave(&mut self, alloc: Global) -> bool
         requires live { IsSome (part_behind self.old) }
-        ensures { LeavesAs result (part_behind self.old) (part_behind self.new) }
+        ensures { MatchBool result
+            (ReturnsPart (part_behind self.old) (part_behind self.new))
+            (part_behind self.new ≡ part_behind self.old) }
     {
         let raw = std::mem::replace(&mut self.raw, RawHome::none(alloc));
         let (raw, answer) = serve_raw(raw, Request::Leave { alloc });
         self.raw = raw;
-        let RequestAnswer::Left(left) = answer else {
-            unreachable!()
-        };
-        match left {
-            Left::Done => self.is_live = false,
-            Left::Busy => {}
-            Left::NoCpu => unreachable!(),
+        match answer {
+            RequestAnswer::Left => {
+                self.is_live = false;
+                true
+            }
+            RequestAnswer::NotLeft(NotLeft::Busy) => false,
+            RequestAnswer::NotLeft(NotLeft::NoCpu) => unreachable!(),
+            _ => unreachable!(),
         }
-        left
     }
 
     /// Serves a call of the CPU.

@@ -16,7 +16,7 @@ use crate::status::{
 use cpu_handles::requests::{Forked, RequestAnswer};
 use mem_system::{BootFault, boot};
 use std::alloc::Global;
-use zone_threads::home::{Entered, Left};
+use zone_threads::home::NotEntered;
 
 /// Boots a zone of these sizes behind a handle that has none, with all its CPUs parked. Unless the status is 0, nothing of
 /// the zone stays.
@@ -95,11 +95,11 @@ pub extern "C" fn tempolemon_try_take(
         return NO_MEMORY;
     }
     match part.enter(alloc, raw, cpu) {
-        Entered::Done => DONE,
-        Entered::NoCpu => BAD_CPU,
-        Entered::Out => CPU_OUT,
-        Entered::HasCpu => unreachable!(),
-        Entered::Busy => BUSY,
+        Ok(()) => DONE,
+        Err(NotEntered::NoCpu) => BAD_CPU,
+        Err(NotEntered::Out) => CPU_OUT,
+        Err(NotEntered::HasCpu) => unreachable!(),
+        Err(NotEntered::Busy) => BUSY,
     }
 }
 
@@ -115,9 +115,5 @@ pub extern "C" fn tempolemon_try_return(alloc: Global, part: &mut CpuPart) -> u8
     if !part.is_live() {
         return NOT_LIVE;
     }
-    match part.leave(alloc) {
-        Left::Done => DONE,
-        Left::Busy => BUSY,
-        Left::NoCpu => unreachable!(),
-    }
+    if part.leave(alloc) { DONE } else { BUSY }
 }

@@ -1,15 +1,18 @@
 -- What a thread has of a zone, and how CPUs are taken and returned.
-use Rattle.std.specs.Prelude.{◌≡◌, ◌≤◌, ℕ, List, [], ◌∷◌, ◌++◌, Option, Some, None, IsSome}
+use Rattle.std.specs.Prelude.{◌≡◌, ◌≤◌, ◌<◌, ℕ, List, length, [], ◌∷◌, ◌++◌, Option, Some, None, IsSome}
+use Rattle.std.specs.Global.{Box}
+use Rattle.std.specs.List.{HoldsAt, swap_remove}
+use Rattle.try_cell.specs.Cells.{KnownChange}
 use Rattle.frame_word.specs.Seats.{KnownTable}
 use Rattle.stock_word.specs.Stock.{KnownStockTable}
 use Rattle.cpu_part.specs.Cpus.{KnownCpu}
 use Rattle.mem_system.specs.declared.audit.Audit.{Audit}
 use Rattle.mem_system.specs.Ends.{AddsUp, Ends, pins_of}
 use Rattle.mem_system.specs.Locked.{BehindLock, KnownLocked}
-use Rattle.zone_threads.specs.declared.home.Entered.{Entered}
-use Rattle.zone_threads.specs.declared.home.Entered.TheVariants as entered
-use Rattle.zone_threads.specs.declared.home.Left.{Left}
-use Rattle.zone_threads.specs.declared.home.Left.TheVariants as left
+use Rattle.zone_threads.specs.declared.home.NotEntered.{NotEntered}
+use Rattle.zone_threads.specs.declared.home.NotEntered.TheVariants as not_entered
+use Rattle.zone_threads.specs.declared.home.NotLeft.{NotLeft}
+use Rattle.zone_threads.specs.declared.home.NotLeft.TheVariants as not_left
 use Rattle.zone_threads.specs.declared.zone_end.ZoneEnd.{ZoneEnd}
 
 -- what a thread has of a zone: the part of a CPU, if it took one
@@ -46,35 +49,59 @@ pub record IsCpu (cpus number : ℕ) : Type 0 where
   pub low : 1 ≤ number
   pub high : number ≤ cpus
 
--- the CPU of this number was parked, and is the home's now
-pub record TakesCpu (number : ℕ) (before after : KnownHome) : Type 0 where
+-- What a thread that has the lock took out from behind it, and what it put back.
+abbrev pub LockedChange : Type 0
+LockedChange = KnownChange (Box KnownBehind)
+
+-- this part was parked, and was taken out: the last one has its place now
+pub record Unparks (cpu : KnownCpu) (found left : KnownBehind) : Type 0 where
+  pub place : ℕ
+  pub low : place < length found.parked
+  pub is_there : HoldsAt (λ part. part ≡ cpu) found.parked place
+  pub left_is : left ≡ record found { parked = swap_remove found.parked place cpu }
+
+-- the home had no CPU, and has the one of this number now
+pub record GetsCpu (number : ℕ) (before after : KnownHome) : Type 0 where
   pub none : HasNoCpu before
   pub cpu : KnownCpu
   pub is : after.cpu ≡ Some cpu
   pub number_is : cpu.number ≡ number
 
--- what an entry does
-abbrev pub Enters : (cpus number : ℕ) → (before : KnownHome) → Entered → (after : KnownHome) → Type 0
-Enters cpus number before entered.Done after = TakesCpu number before after
-Enters cpus number before entered.NoCpu after = (¬ IsCpu cpus number) × (after ≡ before)
-Enters cpus number before entered.Out after = after ≡ before
-Enters cpus number before entered.HasCpu after = HasCpu before × (after ≡ before)
-Enters cpus number before entered.Busy after = after ≡ before
+-- The CPU of this number was parked, and is the home's now: what was put back behind the lock is what was taken out,
+-- without this part.
+pub record TakesCpu (number : ℕ) (change : LockedChange) (before after : KnownHome) : Type 0 where
+  pub none : HasNoCpu before
+  pub cpu : KnownCpu
+  pub is : after.cpu ≡ Some cpu
+  pub number_is : cpu.number ≡ number
+  pub found : Box KnownBehind
+  pub left : Box KnownBehind
+  pub found_is : change.found ≡ Some found
+  pub left_is : change.left ≡ Some left
+  pub unparks : Unparks cpu found.value left.value
 
--- The home's CPU was parked: some value lay behind the lock, and was left there with this part.
-pub record ParksCpu (before after : KnownHome) : Type 0 where
+-- what is so, if no CPU was taken
+abbrev pub IfNotEntered : (cpus number : ℕ) → (before : KnownHome) → NotEntered → (after : KnownHome) → Type 0
+IfNotEntered cpus number before not_entered.NoCpu after = (¬ IsCpu cpus number) × (after ≡ before)
+IfNotEntered cpus number before not_entered.Out after = after ≡ before
+IfNotEntered cpus number before not_entered.HasCpu after = HasCpu before × (after ≡ before)
+IfNotEntered cpus number before not_entered.Busy after = after ≡ before
+
+-- The home's CPU was parked: what was put back behind the lock is what was taken out, with this part.
+pub record ParksCpu (change : LockedChange) (before after : KnownHome) : Type 0 where
   pub cpu : KnownCpu
   pub was : before.cpu ≡ Some cpu
   pub none : HasNoCpu after
-  pub found : KnownBehind
-  pub left : KnownBehind
-  pub left_is : left ≡ parked_with found cpu
+  pub found : Box KnownBehind
+  pub left : Box KnownBehind
+  pub found_is : change.found ≡ Some found
+  pub left_is : change.left ≡ Some left
+  pub parked : left.value ≡ parked_with found.value cpu
 
--- what a return does
-abbrev pub Leaves : (before : KnownHome) → Left → (after : KnownHome) → Type 0
-Leaves before left.Done after = ParksCpu before after
-Leaves before left.NoCpu after = HasNoCpu before × (after ≡ before)
-Leaves before left.Busy after = after ≡ before
+-- what is so, if no CPU was returned
+abbrev pub IfNotLeft : (before : KnownHome) → NotLeft → (after : KnownHome) → Type 0
+IfNotLeft before not_left.NoCpu after = HasNoCpu before × (after ≡ before)
+IfNotLeft before not_left.Busy after = after ≡ before
 
 -- some sound value was behind the lock, all CPUs were parked, and they ended so
 abbrev pub EndsSome : KnownTable → KnownStockTable → Audit → Type 0

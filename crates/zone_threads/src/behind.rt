@@ -1,6 +1,7 @@
 //! What lies behind the zone's lock.
 
-ghost use Rattle.std.specs.Prelude.{◌≡◌, ◌++◌, ◌∷◌, [], IfNone, IfSome};
+ghost use Rattle.std.specs.Prelude.{◌≡◌, ◌<◌, ◌++◌, ◌∷◌, [], IfNone, IfSome, length};
+ghost use Rattle.std.specs.List.{HoldsAt};
 
 use cpu_part::{BootName, Cpu};
 use mem_system::Locked;
@@ -21,15 +22,25 @@ impl<N: BootName> Model for Behind<N> {
 }
 
 impl<N: BootName> Behind<N> {
-    ghost use Rattle.zone_threads.specs.Homes.{parked_with};
+    ghost use Rattle.zone_threads.specs.Homes.{Unparks, parked_with};
 
     /// Takes the part of the CPU of this number; `None` if it isn't parked.
     pub fn unpark(&mut self, number: u32) -> Option<Cpu<N>>
-        ensures { IfSome result (λ cpu. cpu.number ≡ number) }
+        ensures unparked { IfSome result (λ cpu. (cpu.number ≡ number) × Unparks cpu self.old self.new) }
+        ensures stays { IfNone result (self.new ≡ self.old) }
     {
-        for at in 0..self.parked.len() {
-            if self.parked[at].number() == number {
-                return Some(self.parked.swap_remove(at));
+        let place = self.place_of(number)?;
+        Some(self.parked.swap_remove(place))
+    }
+
+    // The place of the part of this number.
+    fn place_of(&self, number: u32) -> Option<usize>
+        ensures { IfSome result (λ place. (place < length self.now.parked)
+            × HoldsAt (λ cpu. cpu.number ≡ number) self.now.parked place) }
+    {
+        for place in 0..self.parked.len() {
+            if self.parked[place].number() == number {
+                return Some(place);
             }
         }
         None

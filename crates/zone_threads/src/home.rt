@@ -1,8 +1,9 @@
 //! What a thread has of a zone.
 
-ghost use Rattle.std.specs.Prelude.{◌≡◌, IfErr, IfOk};
-ghost use Rattle.zone_threads.specs.Homes.{Enters, HasNoCpu, Leaves};
+ghost use Rattle.std.specs.Prelude.{◌≡◌, IfErr, IfOk, MatchResult};
+ghost use Rattle.zone_threads.specs.Homes.{HasNoCpu, IfNotEntered, IfNotLeft, ParksCpu, TakesCpu};
 
+use crate::behind::Behind;
 use crate::zone::Zone;
 use cpu_part::{BootName, Cpu};
 use mem_system::Boot;
@@ -10,6 +11,7 @@ use std::alloc::{AllocError, Global};
 use std::marker::Model;
 use std::mem::ManuallyDrop;
 use std::sync::Arc;
+use try_cell::PutBack;
 
 /// What a thread has of a zone: the zone, and the part of a CPU, if it took one. All homes of a zone share it, so the CPU
 /// is of that zone.
@@ -26,11 +28,9 @@ impl<N: BootName> Model for Home<N> {
     ghost view = { λ h. record { cpu = h.cpu } };
 }
 
-/// What an entry returns.
+/// Why no CPU was taken.
 #[derive(Clone, Copy, Debug, PartialEq, Eq)]
-pub enum Entered {
-    /// The home has the CPU now.
-    Done,
+pub enum NotEntered {
     /// The zone has no such CPU.
     NoCpu,
     /// Another home has it.
@@ -41,11 +41,9 @@ pub enum Entered {
     Busy,
 }
 
-/// What a return of a CPU returns.
+/// Why no CPU was returned.
 #[derive(Clone, Copy, Debug, PartialEq, Eq)]
-pub enum Left {
-    /// The CPU is parked.
-    Done,
+pub enum NotLeft {
     /// The home had no CPU.
     NoCpu,
     /// Another thread has the lock.
@@ -73,51 +71,56 @@ impl<N: BootName> Home<N> {
         Ok(Home { zone, cpu: None })
     }
 
-    /// Takes the part of the CPU of this number, from 1.
-    pub fn enter(&mut self, number: u32) -> Entered
-        ensures { Enters N.frames.cpus number self.old result self.new }
+    /// Takes the part of the CPU of this number, from 1. What was put back behind the lock is shown.
+    pub fn enter(&mut self, number: u32) -> Result<PutBack<Box<Behind<N>, Global>>, NotEntered>
+        ensures { MatchResult result
+            (λ change. TakesCpu number change self.old self.new)
+            (λ reason. IfNotEntered N.frames.cpus number self.old reason self.new) }
     {
         if self.cpu.is_some() {
-            return Entered::HasCpu;
+            return Err(NotEntered::HasCpu);
         }
         let zone = &*self.zone;
         if number == 0 || number > zone.tables.frames.cpus() {
-            return Entered::NoCpu;
+            return Err(NotEntered::NoCpu);
         }
         let Some((mut behind, loan)) = zone.lock.take() else {
-            return Entered::Busy;
+            return Err(NotEntered::Busy);
         };
         let found = behind.unpark(number);
-        zone.lock.put_back(behind, loan);
+        let change = zone.lock.put_back(behind, loan);
         let Some(cpu) = found else {
-            return Entered::Out;
+            return Err(NotEntered::Out);
         };
         let old = std::mem::replace(&mut self.cpu, Some(cpu));
         let None = old else { unreachable!() };
-        Entered::Done
+        Ok(change)
     }
 
-    /// Parks the CPU as it is, with its list, stock and pins: who takes it next goes on with them.
-    pub fn leave(&mut self) -> Left
-        ensures { Leaves self.old result self.new }
+    /// Parks the CPU as it is, with its list, stock and pins: who takes it next goes on with them. What was put back
+    /// behind the lock is shown.
+    pub fn leave(&mut self) -> Result<PutBack<Box<Behind<N>, Global>>, NotLeft>
+        ensures { MatchResult result
+            (λ change. ParksCpu change self.old self.new)
+            (λ reason. IfNotLeft self.old reason self.new) }
     {
         let zone = &*self.zone;
         let Some(cpu) = std::mem::replace(&mut self.cpu, None) else {
-            return Left::NoCpu;
+            return Err(NotLeft::NoCpu);
         };
         let Some((mut behind, loan)) = zone.lock.take() else {
             let old = std::mem::replace(&mut self.cpu, Some(cpu));
             let None = old else { unreachable!() };
-            return Left::Busy;
+            return Err(NotLeft::Busy);
         };
         let returned = behind.park(cpu);
-        zone.lock.put_back(behind, loan);
+        let change = zone.lock.put_back(behind, loan);
         let Some(cpu) = returned else {
-            return Left::Done;
+            return Ok(change);
         };
         let old = std::mem::replace(&mut self.cpu, Some(cpu));
         let None = old else { unreachable!() };
-        Left::Busy
+        Err(NotLeft::Busy)
     }
 
     /// What all homes shared, if there is no other one. Else the home is returned as it was.

@@ -8,8 +8,8 @@ returns-then-is_live-clause-statuses c = (2, omega arith, refl)
 pub returns-then-eq-clause-statuses : goal.returns-then-eq-clause-statuses
 returns-then-eq-clause-statuses c = (5, omega arith, refl)
 
-pub returns-in-NoCpu-clause-statuses : goal.returns-in-NoCpu-clause-statuses
-returns-in-NoCpu-clause-statuses c = (3, omega arith, refl)
+pub returns-in-Err-NoCpu-clause-statuses : goal.returns-in-Err-NoCpu-clause-statuses
+returns-in-Err-NoCpu-clause-statuses c = (3, omega arith, refl)
 
-pub returns-in-Out-clause-statuses : goal.returns-in-Out-clause-statuses
-returns-in-Out-clause-statuses c = (4, omega arith, refl)
+pub returns-in-Err-Out-clause-statuses : goal.returns-in-Err-Out-clause-statuses
+returns-in-Err-Out-clause-statuses c = (4, omega arith, refl)
