@@ -72,9 +72,9 @@ serve_shape = record (sized_shape (codes "serve")) {
   rules = (size_rules ++ flag_rule (codes "audit") ∷ []) ++ flag_rule (codes "explain") ∷ [];
 }
 
--- `check`, which has no option
+-- `check`, which has one option
 abbrev pub check_shape : Shape
-check_shape = new_shape (codes "check")
+check_shape = record (new_shape (codes "check")) { rules = flag_rule (codes "all") ∷ [] }
 
 -- the program without its subcommands
 abbrev pub bare_program : App
@@ -182,7 +182,8 @@ bare_options task = record {
 -- the options that are found under the name of a subcommand
 abbrev pub options_under : List ℕ → List Row → Option Options
 options_under name found =
-    if bytes_eq name (codes "check") then Some (bare_options Check) else script_options_under name found
+    if bytes_eq name (codes "check") then Some (bare_options (Check (is_given (codes "all") found)))
+    else script_options_under name found
 
 -- what was found, if there is no fault
 abbrev pub if_none : Kinds → Option Options → Option Options

@@ -34,6 +34,9 @@ const RUN_HELP: &str =
 
 const CHECK_HELP: &str = "Checks a log of steps: whether each step keeps the rules";
 
+const ALL_HELP: &str =
+    "Names each step that isn't legal, up to 1000, and goes on as if it hadn't been made";
+
 const LINT_HELP: &str =
     "Reports each bad line of a script, from which byte on and why, and each line that is refused";
 
@@ -87,8 +90,8 @@ pub fn words<R: Env + AllocGlobal>(rt: &R) -> Result<Vec<String>, WordsFault> {
 /// Parses the words after the program's name. They are `replay`, `run`, `lint` or `serve`, then any of `--frames`,
 /// `--cpus`, `--batch`, `--high` and `--stock`. After `replay` and `run` there may also be `--audit`, `--numbered` and
 /// `--strict`, and after `replay` `--explain` and `--check`. After `replay` there may be `--steps` instead of these
-/// five. After `serve` there may be `--audit` and `--explain`. Each is given at most once. Or the words are `check`
-/// alone, or `--version` or `-V` alone. Anything else is a fault of the words, even a request for help.
+/// five. After `serve` there may be `--audit` and `--explain`. Each is given at most once. Or the words are `check`, alone
+/// or with `--all`, or `--version` or `-V` alone. Anything else is a fault of the words, even a request for help.
 ///
 /// A size is a whole number in its own range: 1 to 1,048,576 frames, 1 to 64 CPUs, batch 1 to 64, high 1 to 256,
 /// stock 1 to 64. `Config::is_valid` requires more: high is at least batch. The defaults are 16, 2, 4, 8 and 4.
@@ -146,7 +149,7 @@ fn memcg<'a>(alloc: Global) -> Result<Command<'a>, AllocError>
     bare_command(alloc)?
         .subcommand(replay_command(alloc)?)?
         .subcommand(subcommand(alloc, "run", RUN_HELP)?)?
-        .subcommand(check_command(alloc))?
+        .subcommand(check_command(alloc)?)?
         .subcommand(sized(alloc, "lint", LINT_HELP)?)?
         .subcommand(serve_command(alloc)?)
 }
@@ -186,12 +189,14 @@ fn serve_command<'a>(alloc: Global) -> Result<Command<'a>, AllocError>
         .arg(flag_option(alloc, "explain", EXPLAIN_HELP))
 }
 
-// `check`, which has no option.
-fn check_command<'a>(alloc: Global) -> Command<'a>
-    ensures shape { (app_of result).top ≡ check_shape }
-    ensures local { (fields_of result).has_globals ≡ false }
+// `check`, which has one option.
+fn check_command<'a>(alloc: Global) -> Result<Command<'a>, AllocError>
+    ensures shape { IfOk result (λ command. (app_of command).top ≡ check_shape) }
+    ensures local { IfOk result (λ command. (fields_of command).has_globals ≡ false) }
 {
-    Command::new(alloc, "check").about(CHECK_HELP)
+    Command::new(alloc, "check")
+        .about(CHECK_HELP)
+        .arg(flag_option(alloc, "all", ALL_HELP))
 }
 
 // A subcommand that answers scripts, with its options.

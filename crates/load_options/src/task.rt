@@ -1,9 +1,10 @@
 //! What the words of the command line ask for, read from clap's matches.
 
-ghost use Rattle.std.specs.Prelude.{◌≡◌, ◌≤◌, IfSome, option_and_then};
+ghost use Rattle.std.specs.Prelude.{◌≡◌, ◌≤◌, IfSome, codes, option_and_then};
 ghost use Rattle.clap.specs.Words.{found_of, rows_of, subcommand_rows_of};
 ghost use Rattle.load_options.specs.Sizes.{HasSizesInRange};
-ghost use Rattle.load_options.specs.Words.{answering_task, has_other_flag, has_task_flag, is_given, number_kept};
+ghost use Rattle.load_options.specs.Words.{answering_task, bare_options, has_other_flag, has_task_flag, is_given, number_kept};
+ghost use Rattle.load_options.specs.declared.task.Task.TheVariants.{Check};
 ghost use Rattle.load_options.specs.Words.{options_under, replay_task_in, script_options_under, size_in, sizes_in};
 ghost use Rattle.load_options.specs.Words.{task_in};
 
@@ -26,7 +27,10 @@ pub enum Task {
     /// The lines from `go` on run in one thread for each CPU.
     Run,
     /// The input is a log, which is checked.
-    Check,
+    Check {
+        /// Whether each step that isn't legal is named, and not the first alone.
+        is_all: bool,
+    },
     /// The bad lines of the script are reported.
     Lint,
     /// Each line is answered before the next one is read.
@@ -61,16 +65,7 @@ const DEFAULT_SIZES: Config = Config {
     stock: 4,
 };
 
-// `check` takes no options.
-const CHECK_OPTIONS: Options = Options {
-    task: Task::Check,
-    sizes: DEFAULT_SIZES,
-    is_audited: false,
-    is_numbered: false,
-    is_strict: false,
-};
-
-// Nor does `--version`.
+// `--version` takes no options.
 pub(crate) const VERSION_OPTIONS: Options = Options {
     task: Task::Version,
     sizes: DEFAULT_SIZES,
@@ -86,9 +81,21 @@ pub(crate) fn read_options(found: &ArgMatches<'_>) -> Option<Options>
 {
     let (name, given) = found.subcommand()?;
     if name == "check" {
-        Some(CHECK_OPTIONS)
+        Some(check_options(given))
     } else {
         script_options(name, given)
+    }
+}
+
+// The options of `check`, which takes no sizes.
+fn check_options(given: &ArgMatches<'_>) -> Options
+    ensures { result ≡ bare_options (Check (is_given (codes "all") (rows_of (found_of given.now)))) }
+{
+    Options {
+        task: Task::Check {
+            is_all: is_set(given, "all"),
+        },
+        ..VERSION_OPTIONS
     }
 }
 

@@ -27,7 +27,7 @@ pub words_cause : (asked : Option Options) (input : Option (List ℕ)) (fault : 
 words_cause asked None fault is = tt
 words_cause asked (Some bytes) (Words fault) is = is
 words_cause asked (Some bytes) (Script fault) is = absurd is
-words_cause asked (Some bytes) (BadLogLine number) is = absurd is
+words_cause asked (Some bytes) (BadLogLine number reason) is = absurd is
 words_cause asked (Some bytes) BadConfig is = absurd is
 words_cause asked (Some bytes) (IllegalLine number) is = absurd is
 words_cause asked (Some bytes) IllegalEnd is = absurd is
@@ -41,7 +41,7 @@ pub read_cause : (asked : Option Options) (options : Options) (input : Option (L
 read_cause asked options None fault is_asked is = tt
 read_cause asked options (Some bytes) (Words fault) is_asked is = absurd is
 read_cause asked options (Some bytes) (Script fault) is_asked is = absurd is
-read_cause asked options (Some bytes) (BadLogLine number) is_asked is = absurd is
+read_cause asked options (Some bytes) (BadLogLine number reason) is_asked is = absurd is
 read_cause asked options (Some bytes) BadConfig is_asked is = absurd is
 read_cause asked options (Some bytes) (IllegalLine number) is_asked is = absurd is
 read_cause asked options (Some bytes) IllegalEnd is_asked is = absurd is
@@ -62,7 +62,7 @@ script_cause asked options (Some bytes) text (Script (script.BadLine n)) is_aske
   first = subst (λ (l : List ℕ). IsScriptFault options.sizes l (Script (script.BadLine n))) read is;
 }
 script_cause asked options (Some bytes) text (Script script.NoMemory) is_asked in_range read is = subst IsSome (sym is_asked) refl
-script_cause asked options (Some bytes) text (BadLogLine number) is_asked in_range read is = absurd is
+script_cause asked options (Some bytes) text (BadLogLine number reason) is_asked in_range read is = absurd is
 script_cause asked options (Some bytes) text BadConfig is_asked in_range read is = absurd is
 script_cause asked options (Some bytes) text (IllegalLine number) is_asked in_range read is = absurd is
 script_cause asked options (Some bytes) text IllegalEnd is_asked in_range read is = absurd is
@@ -86,7 +86,7 @@ pub boot_cause : (asked : Option Options) (options : Options) (input : Option (L
 boot_cause asked options None text lines fault is_asked read script is = tt
 boot_cause asked options (Some bytes) text lines (Words fault) is_asked read script is = absurd is.0
 boot_cause asked options (Some bytes) text lines (Script fault) is_asked read script is = absurd is.0
-boot_cause asked options (Some bytes) text lines (BadLogLine number) is_asked read script is = absurd is.0
+boot_cause asked options (Some bytes) text lines (BadLogLine number reason) is_asked read script is = absurd is.0
 boot_cause asked options (Some bytes) text lines BadConfig is_asked read script is =
     record { options = options; is_asked = is_asked; lines = lines; script = whole_script options bytes text lines read script; refused = is }
 boot_cause asked options (Some bytes) text lines (IllegalLine number) is_asked read script is =
@@ -101,7 +101,7 @@ boot_cause asked options (Some bytes) text lines (NoMemory e) is_asked read scri
 pub failed_boot : (options : Options) (lines : List Line) (fault : ProgramFault) → IsValidConfig options.sizes → IsFailedTask options lines fault → IsBootFault options lines fault
 failed_boot options lines (Words f) valid is = (is, valid)
 failed_boot options lines (Script f) valid is = (is, valid)
-failed_boot options lines (BadLogLine n) valid is = (is, valid)
+failed_boot options lines (BadLogLine n reason) valid is = (is, valid)
 failed_boot options lines BadConfig valid is = absurd is
 failed_boot options lines (IllegalLine n) valid is = (is, valid)
 failed_boot options lines IllegalEnd valid is = (is, valid)
@@ -121,7 +121,7 @@ nothing_left : (asked : Option Options) (input : List ℕ) (fault : ProgramFault
     → LeavesAnswers asked fault output output input
 nothing_left asked input (Words fault) output cause = Keeps-refl output
 nothing_left asked input (Script fault) output cause = Keeps-refl output
-nothing_left asked input (BadLogLine number) output cause = absurd cause
+nothing_left asked input (BadLogLine number reason) output cause = absurd cause
 nothing_left asked input BadConfig output cause = Keeps-refl output
 nothing_left asked input (IllegalLine number) output cause = Keeps-refl output
 nothing_left asked input IllegalEnd output cause = Keeps-refl output

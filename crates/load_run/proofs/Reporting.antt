@@ -104,7 +104,7 @@ lints_early sizes input output faults faults_after (Words (words.NoMemory e)) st
     (everywhere input (LeavesFindings sizes (Words (words.NoMemory e)) output output) (λ b. (early, refl))) ended told
 lints_early sizes input output faults faults_after (Words (words.BadWords text)) status early ended told = absurd early
 lints_early sizes input output faults faults_after (Script f) status early ended told = absurd early
-lints_early sizes input output faults faults_after (BadLogLine n) status early ended told = absurd early
+lints_early sizes input output faults faults_after (BadLogLine n reason) status early ended told = absurd early
 lints_early sizes input output faults faults_after BadConfig status early ended told = absurd early
 lints_early sizes input output faults faults_after (IllegalLine n) status early ended told = absurd early
 lints_early sizes input output faults faults_after IllegalEnd status early ended told = absurd early

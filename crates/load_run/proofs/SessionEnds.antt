@@ -37,7 +37,7 @@ work_status (kinds.NoMemory error) is = refl
 work_status (kinds.Words (words.NoMemory error)) is = refl
 work_status (kinds.Words (words.BadWords text)) is = absurd is
 work_status (kinds.Script f) is = absurd is
-work_status (kinds.BadLogLine n) is = absurd is
+work_status (kinds.BadLogLine n reason) is = absurd is
 work_status kinds.BadConfig is = absurd is
 work_status (kinds.IllegalLine n) is = absurd is
 work_status kinds.IllegalEnd is = absurd is
@@ -46,7 +46,7 @@ work_status kinds.IllegalEnd is = absurd is
 pub of_valid : (sizes : Config) (fault : ProgramFault) → IsValidConfig sizes → IsOfValid sizes fault
 of_valid sizes (kinds.Words f) valid = tt
 of_valid sizes (kinds.Script f) valid = valid
-of_valid sizes (kinds.BadLogLine n) valid = valid
+of_valid sizes (kinds.BadLogLine n reason) valid = valid
 of_valid sizes kinds.BadConfig valid = valid
 of_valid sizes (kinds.IllegalLine n) valid = valid
 of_valid sizes kinds.IllegalEnd valid = valid
@@ -74,9 +74,9 @@ same_at_work why (kinds.Script f) is = absurd (none why is)
     none serve.Input is = is
     none serve.Output is = is
     none serve.NoMemory is = is
-same_at_work why (kinds.BadLogLine n) is = absurd (none why is)
+same_at_work why (kinds.BadLogLine n reason) is = absurd (none why is)
   where
-    none : (why : ServeFault) → IsSameFault why (kinds.BadLogLine n) → ⊥
+    none : (why : ServeFault) → IsSameFault why (kinds.BadLogLine n reason) → ⊥
     none serve.Input is = is
     none serve.Output is = is
     none serve.NoMemory is = is

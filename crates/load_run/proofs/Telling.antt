@@ -43,7 +43,7 @@ version_unwritten before after faults faults_after (NoMemory e) status left is t
     (subst (λ (o : Option (List ℕ)). AppendsBeginning before o version_text) (sym left) (0, Appends-nil before)) is told
 version_unwritten before after faults faults_after (Words f) status left is told = absurd left
 version_unwritten before after faults faults_after (Script f) status left is told = absurd left
-version_unwritten before after faults faults_after (BadLogLine n) status left is told = absurd left
+version_unwritten before after faults faults_after (BadLogLine n reason) status left is told = absurd left
 version_unwritten before after faults faults_after BadConfig status left is told = absurd left
 version_unwritten before after faults faults_after (IllegalLine n) status left is told = absurd left
 version_unwritten before after faults faults_after IllegalEnd status left is told = absurd left

@@ -1,14 +1,13 @@
 -- What a check promises, from what the log is and what the writers took. Serves `drive_check`.
-use Rattle.std.proofs.Common.{◌≡◌, ◌↔◌, ℕ, Bool, List, Option, None, Some, IfSome, IsTrue, ap, arith, inl, inr, refl, subst, sym}
+use Rattle.std.proofs.Common.{◌≡◌, ◌∙◌, ◌↔◌, ℕ, Bool, false, List, Option, None, Some, IfSome, IsTrue, ap, arith, inl, inr, refl, subst, sym}
 use Rattle.std.proofs.lemmas.Bool.{false≢true}
 use Rattle.std.specs.Prelude.{◌⊎◌, ⊤, is_some}
 use Rattle.std.specs.Io.KnownBytes.{Appends}
 use Rattle.std.proofs.KnownBytes.{Appends-nil}
-use Rattle.step_rules.specs.declared.step.Answer.{Answer}
-use Rattle.step_reasons.specs.declared.reason.Reason.{Reason}
+use Rattle.log_check.specs.declared.line_fault.LineFault.{LineFault}
 use Rattle.log_check.specs.declared.verdict.LogEnd.{LogEnd}
 use Rattle.log_check.specs.declared.verdict.LogVerdict.{LogVerdict}
-use Rattle.log_check.specs.declared.verdict.LogVerdict.TheVariants.{BadLine, Legal, NotLegal}
+use Rattle.log_check.specs.declared.verdict.LogVerdict.TheVariants.{BadLine, Legal, LeftOut, NotLegal}
 use Rattle.log_check.specs.Verdicts.{IsLegalLog, IsLogVerdict, says_legal}
 use Rattle.log_check.specs.Texts.{verdict_text}
 use Rattle.load_options.specs.declared.fault.WordsFault.TheVariants as words
@@ -19,7 +18,7 @@ use Rattle.load_run.specs.declared.fault.ProgramFault.{ProgramFault}
 use Rattle.load_run.specs.declared.fault.ProgramFault.TheVariants.{BadConfig, BadLogLine, IllegalEnd, IllegalLine, Input, NoMemory, Output, Script, Words}
 use Rattle.load_run.specs.Answers.{IsOnScript}
 use Rattle.load_run.specs.Causes.{Written, written}
-use Rattle.load_run.specs.Checks.{Checks, FailsToCheck, IsLogVerdictOf, IsVerdict, LeavesLine, LeavesVerdict}
+use Rattle.load_run.specs.Checks.{Checks, FailsToCheck, HasStatus, IsLogVerdictOf, LeavesLine, LeavesVerdict}
 use Rattle.load_run.specs.Checks.{ReportsBadLine, ReportsLegal, ReportsNotLegal}
 use Rattle.load_run.specs.Driving.{Drives, DrivesScript, DrivesTask, LintsAsked}
 use Rattle.load_run.specs.Lints.{Lints}
@@ -34,15 +33,15 @@ use Rattle.load_run.proofs.SessionEnds.{drives_failed}
 use Rattle.load_run.proofs.Telling.{version_failed}
 
 -- both are known of the input
-pub verdict_of : (input : Option (List ℕ)) (end : LogVerdict) → IfSome input (λ text. IsLogVerdict text end)
-    → IfSome input (λ text. IsTrue (says_legal end) ↔ IsLegalLog text) → IsLogVerdictOf input end
-verdict_of None end is exact = tt
-verdict_of (Some text) end is exact = (is, exact)
+pub verdict_of : (all : Bool) (input : Option (List ℕ)) (end : LogVerdict) → IfSome input (λ text. IsLogVerdict all text end)
+    → IfSome input (λ text. IsTrue (says_legal end) ↔ IsLegalLog text) → IsLogVerdictOf all input end
+verdict_of all None end is exact = tt
+verdict_of all (Some text) end is exact = (is, exact)
 
 -- the log is legal, and that was written
-checks_legal : (input before after faults : Option (List ℕ)) (steps free : ℕ) (end : LogEnd) → IsLogVerdictOf input (Legal steps free end)
-    → Appends before after (verdict_text (Legal steps free end)) → Checks input (written before faults) (written after faults) 0
-checks_legal input before after faults steps free end is whole = record {
+checks_legal : (all : Bool) (input before after faults : Option (List ℕ)) (steps free : ℕ) (end : LogEnd) → IsLogVerdictOf all input (Legal steps free end)
+    → Appends before after (verdict_text (Legal steps free end)) → Checks all input (written before faults) (written after faults) 0
+checks_legal all input before after faults steps free end is whole = record {
   status_at_most = omega arith;
   silent = λ zero. refl;
   legal = λ zero. go input is;
@@ -51,14 +50,14 @@ checks_legal input before after faults steps free end is whole = record {
   bad_line = λ two. absurd (omega (arith, two));
 }
   where
-    go : (bytes : Option (List ℕ)) → IsLogVerdictOf bytes (Legal steps free end) → IfSome bytes (ReportsLegal before after)
+    go : (bytes : Option (List ℕ)) → IsLogVerdictOf all bytes (Legal steps free end) → IfSome bytes (ReportsLegal before after)
     go None is = tt
     go (Some text) is = record { steps = steps; free = free; end = end; keeps = is.0; written = whole }
 
--- a step is not legal, and that was written
-checks_not_legal : (input before after faults : Option (List ℕ)) (line step : ℕ) (expected : Answer) (reason : Reason) → IsLogVerdictOf input (NotLegal line step expected reason)
-    → Appends before after (verdict_text (NotLegal line step expected reason)) → Checks input (written before faults) (written after faults) 1
-checks_not_legal input before after faults line step expected reason is whole = record {
+-- steps are not legal, and that was written
+checks_not_legal : (all : Bool) (input before after faults : Option (List ℕ)) (end : LogVerdict) → IsLogVerdictOf all input end → HasStatus end 1
+    → says_legal end ≡ false → Appends before after (verdict_text end) → Checks all input (written before faults) (written after faults) 1
+checks_not_legal all input before after faults end is names no whole = record {
   status_at_most = omega arith;
   silent = λ zero. refl;
   legal = λ zero. absurd (omega (arith, zero));
@@ -67,33 +66,36 @@ checks_not_legal input before after faults line step expected reason is whole = 
   bad_line = λ two. absurd (omega (arith, two));
 }
   where
-    go : (bytes : Option (List ℕ)) → IsLogVerdictOf bytes (NotLegal line step expected reason)
-        → IfSome bytes (λ text. ReportsNotLegal (written before faults) (written after faults) text ⊎ FailsToCheck (written before faults) (written after faults) text)
+    go : (bytes : Option (List ℕ)) → IsLogVerdictOf all bytes end
+        → IfSome bytes (λ text. ReportsNotLegal all (written before faults) (written after faults) text ⊎ FailsToCheck all (written before faults) (written after faults) text)
     go None is = tt
     go (Some text) is = inl (record {
-      line = line;
-      step = step;
-      expected = expected;
-      reason = reason;
-      breaks = is.0;
-      not_legal = λ legal. false≢true (is.1.1 legal);
+      verdict = end;
+      is = is.0;
+      names = names;
+      not_legal = λ legal. false≢true (sym no ∙ is.1.1 legal);
       written = whole;
       silent = refl;
     })
 
 -- what was to be written was, whole
-pub checks_written : (input before after faults : Option (List ℕ)) (end : LogVerdict) (status : ℕ) → IsLogVerdictOf input end → IsVerdict end status
-    → Appends before after (verdict_text end) → Checks input (written before faults) (written after faults) status
-checks_written input before after faults (Legal steps free end) status is verdict whole =
-    subst (Checks input (written before faults) (written after faults)) (sym verdict) (checks_legal input before after faults steps free end is whole)
-checks_written input before after faults (NotLegal line step expected reason) status is verdict whole =
-    subst (Checks input (written before faults) (written after faults)) (sym verdict) (checks_not_legal input before after faults line step expected reason is whole)
-checks_written input before after faults (BadLine line) status is verdict whole = absurd verdict
+pub checks_written : (all : Bool) (input before after faults : Option (List ℕ)) (end : LogVerdict) (status : ℕ) → IsLogVerdictOf all input end
+    → HasStatus end status → Appends before after (verdict_text end) → Checks all input (written before faults) (written after faults) status
+checks_written all input before after faults (Legal steps free end) status is verdict whole =
+    subst (Checks all input (written before faults) (written after faults)) (sym verdict) (checks_legal all input before after faults steps free end is whole)
+checks_written all input before after faults (NotLegal illegal) status is verdict whole =
+    subst (Checks all input (written before faults) (written after faults)) (sym verdict)
+    (checks_not_legal all input before after faults (NotLegal illegal) is refl refl whole)
+checks_written all input before after faults (LeftOut steps count first) status is verdict whole =
+    subst (Checks all input (written before faults) (written after faults)) (sym verdict)
+    (checks_not_legal all input before after faults (LeftOut steps count first) is refl refl whole)
+checks_written all input before after faults (BadLine line reason) status is verdict whole = absurd verdict
 
 -- the input is no log, and that was told
-pub checks_bad_line : (input output faults faults_after : Option (List ℕ)) (line status : ℕ) → IsLogVerdictOf input (BadLine line) → status ≡ 2
-    → AppendsBeginning faults faults_after (fault_text (BadLogLine line)) → Checks input (written output faults) (written output faults_after) status
-checks_bad_line input output faults faults_after line status is ended told = record {
+pub checks_bad_line : (all : Bool) (input output faults faults_after : Option (List ℕ)) (line : ℕ) (reason : LineFault) (status : ℕ)
+    → IsLogVerdictOf all input (BadLine line reason) → status ≡ 2 → AppendsBeginning faults faults_after (fault_text (BadLogLine line reason))
+    → Checks all input (written output faults) (written output faults_after) status
+checks_bad_line all input output faults faults_after line reason status is ended told = record {
   status_at_most = omega (arith, ended);
   silent = λ zero. absurd (omega (arith, ended, zero));
   legal = λ zero. absurd (omega (arith, ended, zero));
@@ -102,15 +104,15 @@ checks_bad_line input output faults faults_after line status is ended told = rec
   bad_line = λ two. go input is;
 }
   where
-    go : (bytes : Option (List ℕ)) → IsLogVerdictOf bytes (BadLine line) → IfSome bytes (ReportsBadLine faults faults_after)
+    go : (bytes : Option (List ℕ)) → IsLogVerdictOf all bytes (BadLine line reason) → IfSome bytes (ReportsBadLine faults faults_after)
     go None is = tt
-    go (Some text) is = record { line = line; first = is.0; not_legal = λ legal. false≢true (is.1.1 legal); told = told }
+    go (Some text) is = record { line = line; reason = reason; first = is.0; not_legal = λ legal. false≢true (is.1.1 legal); told = told }
 
 -- the check failed, and that was told
-checks_failed : (input before after faults faults_after : Option (List ℕ)) (fault : ProgramFault) (status : ℕ)
-    → IfSome input (LeavesVerdict fault before after) → status ≡ 1 → AppendsBeginning faults faults_after (fault_text fault)
-    → Checks input (written before faults) (written after faults_after) status
-checks_failed input before after faults faults_after fault status left ended told = record {
+checks_failed : (all : Bool) (input before after faults faults_after : Option (List ℕ)) (fault : ProgramFault) (status : ℕ)
+    → IfSome input (LeavesVerdict all fault before after) → status ≡ 1 → AppendsBeginning faults faults_after (fault_text fault)
+    → Checks all input (written before faults) (written after faults_after) status
+checks_failed all input before after faults faults_after fault status left ended told = record {
   status_at_most = omega (arith, ended);
   silent = λ zero. absurd (omega (arith, ended, zero));
   legal = λ zero. absurd (omega (arith, ended, zero));
@@ -119,8 +121,8 @@ checks_failed input before after faults faults_after fault status left ended tol
   bad_line = λ two. absurd (omega (arith, ended, two));
 }
   where
-    go : (bytes : Option (List ℕ)) → IfSome bytes (LeavesVerdict fault before after)
-        → IfSome bytes (λ text. ReportsNotLegal (written before faults) (written after faults_after) text ⊎ FailsToCheck (written before faults) (written after faults_after) text)
+    go : (bytes : Option (List ℕ)) → IfSome bytes (LeavesVerdict all fault before after)
+        → IfSome bytes (λ text. ReportsNotLegal all (written before faults) (written after faults_after) text ⊎ FailsToCheck all (written before faults) (written after faults_after) text)
     go None left = tt
     go (Some text) left = inr (record { fault = fault; left = left; told = told })
 
@@ -129,11 +131,11 @@ everywhere None P all = tt
 everywhere (Some text) P all = all text
 
 -- it failed before anything was written
-pub checks_early : (input output faults faults_after : Option (List ℕ)) (fault : ProgramFault) (status : ℕ)
-    → ((text : List ℕ) → LeavesVerdict fault output output text) → status ≡ 1 → AppendsBeginning faults faults_after (fault_text fault)
-    → Checks input (written output faults) (written output faults_after) status
-checks_early input output faults faults_after fault status left ended told =
-    checks_failed input output output faults faults_after fault status (everywhere input (LeavesVerdict fault output output) left) ended told
+pub checks_early : (all : Bool) (input output faults faults_after : Option (List ℕ)) (fault : ProgramFault) (status : ℕ)
+    → ((text : List ℕ) → LeavesVerdict all fault output output text) → status ≡ 1 → AppendsBeginning faults faults_after (fault_text fault)
+    → Checks all input (written output faults) (written output faults_after) status
+checks_early all input output faults faults_after fault status left ended told =
+    checks_failed all input output output faults faults_after fault status (everywhere input (LeavesVerdict all fault output output) left) ended told
 
 -- a fault that comes before anything is known of the log
 abbrev pub IsEarly : ProgramFault → Type 0
@@ -142,39 +144,39 @@ IsEarly (NoMemory e) = ⊤
 IsEarly fault = ⊥
 
 -- so with each of these
-pub checks_fault : (input output faults faults_after : Option (List ℕ)) (fault : ProgramFault) (status : ℕ) → IsEarly fault
+pub checks_fault : (all : Bool) (input output faults faults_after : Option (List ℕ)) (fault : ProgramFault) (status : ℕ) → IsEarly fault
     → status ≡ status_of fault → AppendsBeginning faults faults_after (fault_text fault)
-    → Checks input (written output faults) (written output faults_after) status
-checks_fault input output faults faults_after Input status is ended told =
-    checks_early input output faults faults_after Input status (λ text. refl) ended told
-checks_fault input output faults faults_after (NoMemory e) status is ended told =
-    checks_early input output faults faults_after (NoMemory e) status (λ text. refl) ended told
-checks_fault input output faults faults_after (Words f) status is ended told = absurd is
-checks_fault input output faults faults_after (Script f) status is ended told = absurd is
-checks_fault input output faults faults_after (BadLogLine n) status is ended told = absurd is
-checks_fault input output faults faults_after BadConfig status is ended told = absurd is
-checks_fault input output faults faults_after (IllegalLine n) status is ended told = absurd is
-checks_fault input output faults faults_after IllegalEnd status is ended told = absurd is
-checks_fault input output faults faults_after Output status is ended told = absurd is
+    → Checks all input (written output faults) (written output faults_after) status
+checks_fault all input output faults faults_after Input status is ended told =
+    checks_early all input output faults faults_after Input status (λ text. refl) ended told
+checks_fault all input output faults faults_after (NoMemory e) status is ended told =
+    checks_early all input output faults faults_after (NoMemory e) status (λ text. refl) ended told
+checks_fault all input output faults faults_after (Words f) status is ended told = absurd is
+checks_fault all input output faults faults_after (Script f) status is ended told = absurd is
+checks_fault all input output faults faults_after (BadLogLine n reason) status is ended told = absurd is
+checks_fault all input output faults faults_after BadConfig status is ended told = absurd is
+checks_fault all input output faults faults_after (IllegalLine n) status is ended told = absurd is
+checks_fault all input output faults faults_after IllegalEnd status is ended told = absurd is
+checks_fault all input output faults faults_after Output status is ended told = absurd is
 
 -- what was to be written wasn't, or not whole
-pub checks_unwritten : (input before after faults faults_after : Option (List ℕ)) (end : LogVerdict) (fault : ProgramFault) (status : ℕ) → IsLogVerdictOf input end
+pub checks_unwritten : (all : Bool) (input before after faults faults_after : Option (List ℕ)) (end : LogVerdict) (fault : ProgramFault) (status : ℕ) → IsLogVerdictOf all input end
     → LeavesLine (verdict_text end) before after fault → status ≡ status_of fault → AppendsBeginning faults faults_after (fault_text fault)
-    → Checks input (written before faults) (written after faults_after) status
-checks_unwritten input before after faults faults_after end fault status is left ended told = go fault left ended told
+    → Checks all input (written before faults) (written after faults_after) status
+checks_unwritten all input before after faults faults_after end fault status is left ended told = go fault left ended told
   where
-    begun : (bytes : Option (List ℕ)) → IsLogVerdictOf bytes end → AppendsBeginning before after (verdict_text end) → IfSome bytes (LeavesVerdict Output before after)
+    begun : (bytes : Option (List ℕ)) → IsLogVerdictOf all bytes end → AppendsBeginning before after (verdict_text end) → IfSome bytes (LeavesVerdict all Output before after)
     begun None is begins = tt
     begun (Some text) is begins = record { verdict = end; is = is.0; begun = begins }
 
     go : (f : ProgramFault) → LeavesLine (verdict_text end) before after f → status ≡ status_of f → AppendsBeginning faults faults_after (fault_text f)
-        → Checks input (written before faults) (written after faults_after) status
-    go Output left ended told = checks_failed input before after faults faults_after Output status (begun input is left) ended told
+        → Checks all input (written before faults) (written after faults_after) status
+    go Output left ended told = checks_failed all input before after faults faults_after Output status (begun input is left) ended told
     go (NoMemory e) left ended told =
-        checks_failed input before after faults faults_after (NoMemory e) status (everywhere input (LeavesVerdict (NoMemory e) before after) (λ text. left)) ended told
+        checks_failed all input before after faults faults_after (NoMemory e) status (everywhere input (LeavesVerdict all (NoMemory e) before after) (λ text. left)) ended told
     go (Words f) left ended told = absurd left
     go (Script f) left ended told = absurd left
-    go (BadLogLine n) left ended told = absurd left
+    go (BadLogLine n reason) left ended told = absurd left
     go BadConfig left ended told = absurd left
     go (IllegalLine n) left ended told = absurd left
     go IllegalEnd left ended told = absurd left
@@ -190,18 +192,19 @@ drives_words None input output faults faults_after fault status is ended told =
     drives_badly None input output faults faults_after fault status (words_cause None input fault is) ended told
 drives_words (Some options) input output faults faults_after fault status is ended told = by_task options.task
   where
-    for_check : (f : ProgramFault) → IsWordsFault (Some options) f → status ≡ status_of f → AppendsBeginning faults faults_after (fault_text f)
-        → Checks input (written output faults) (written output faults_after) status
-    for_check (Words (words.NoMemory e)) is ended told = checks_early input output faults faults_after (Words (words.NoMemory e)) status (λ text. refl) ended told
-    for_check (Words (words.BadWords text)) is ended told = absurd (false≢true (sym (ap is_some is)))
-    for_check (Script f) is ended told = absurd is
-    for_check (BadLogLine n) is ended told = absurd is
-    for_check BadConfig is ended told = absurd is
-    for_check (IllegalLine n) is ended told = absurd is
-    for_check IllegalEnd is ended told = absurd is
-    for_check Input is ended told = absurd is
-    for_check Output is ended told = absurd is
-    for_check (NoMemory e) is ended told = absurd is
+    for_check : (all : Bool) (f : ProgramFault) → IsWordsFault (Some options) f → status ≡ status_of f
+        → AppendsBeginning faults faults_after (fault_text f) → Checks all input (written output faults) (written output faults_after) status
+    for_check all (Words (words.NoMemory e)) is ended told =
+        checks_early all input output faults faults_after (Words (words.NoMemory e)) status (λ text. refl) ended told
+    for_check all (Words (words.BadWords text)) is ended told = absurd (false≢true (sym (ap is_some is)))
+    for_check all (Script f) is ended told = absurd is
+    for_check all (BadLogLine n reason) is ended told = absurd is
+    for_check all BadConfig is ended told = absurd is
+    for_check all (IllegalLine n) is ended told = absurd is
+    for_check all IllegalEnd is ended told = absurd is
+    for_check all Input is ended told = absurd is
+    for_check all Output is ended told = absurd is
+    for_check all (NoMemory e) is ended told = absurd is
 
     for_lint : (f : ProgramFault) → IsWordsFault (Some options) f → status ≡ status_of f → AppendsBeginning faults faults_after (fault_text f)
         → Lints options.sizes input (written output faults) (written output faults_after) status
@@ -209,7 +212,7 @@ drives_words (Some options) input output faults faults_after fault status is end
         lints_early options.sizes input output faults faults_after (Words (words.NoMemory e)) status tt ended told
     for_lint (Words (words.BadWords text)) is ended told = absurd (false≢true (sym (ap is_some is)))
     for_lint (Script f) is ended told = absurd is
-    for_lint (BadLogLine n) is ended told = absurd is
+    for_lint (BadLogLine n reason) is ended told = absurd is
     for_lint BadConfig is ended told = absurd is
     for_lint (IllegalLine n) is ended told = absurd is
     for_lint IllegalEnd is ended told = absurd is
@@ -223,7 +226,7 @@ drives_words (Some options) input output faults faults_after fault status is end
         version_failed output output faults faults_after (Words (words.NoMemory e)) status refl (0, Appends-nil output) ended told
     for_version (Words (words.BadWords text)) is ended told = absurd (false≢true (sym (ap is_some is)))
     for_version (Script f) is ended told = absurd is
-    for_version (BadLogLine n) is ended told = absurd is
+    for_version (BadLogLine n reason) is ended told = absurd is
     for_version BadConfig is ended told = absurd is
     for_version (IllegalLine n) is ended told = absurd is
     for_version IllegalEnd is ended told = absurd is
@@ -239,7 +242,7 @@ drives_words (Some options) input output faults faults_after fault status is end
         (record { at_work = tt; valid = tt; left = inl refl }) ended told
     for_serve is_explained (Words (words.BadWords text)) is ended told = absurd (false≢true (sym (ap is_some is)))
     for_serve is_explained (Script f) is ended told = absurd is
-    for_serve is_explained (BadLogLine n) is ended told = absurd is
+    for_serve is_explained (BadLogLine n reason) is ended told = absurd is
     for_serve is_explained BadConfig is ended told = absurd is
     for_serve is_explained (IllegalLine n) is ended told = absurd is
     for_serve is_explained IllegalEnd is ended told = absurd is
@@ -251,7 +254,7 @@ drives_words (Some options) input output faults faults_after fault status is end
     by_task (Replay is_explained is_checked) =
         drives_badly (Some options) input output faults faults_after fault status (words_cause (Some options) input fault is) ended told
     by_task Run = drives_badly (Some options) input output faults faults_after fault status (words_cause (Some options) input fault is) ended told
-    by_task Check = for_check fault is ended told
+    by_task (Check is_all) = for_check is_all fault is ended told
     by_task Lint = record { options = options; is_asked = refl; lints = for_lint fault is ended told }
     by_task Steps = drives_badly (Some options) input output faults faults_after fault status (words_cause (Some options) input fault is) ended told
     by_task (Serve is_explained) = record { options = options; is_asked = refl; drives = for_serve is_explained fault is ended told }
@@ -266,15 +269,15 @@ script_drives options input before after status on_script drives = go options.ta
     go (Replay is_explained is_checked) on_script = drives
     go Run on_script = drives
     go Steps on_script = drives
-    go Check on_script = absurd on_script
+    go (Check is_all) on_script = absurd on_script
     go Lint on_script = absurd on_script
     go (Serve is_explained) on_script = absurd on_script
     go Version on_script = absurd on_script
 
 -- and a check
-pub check_drives : (options : Options) (input : Option (List ℕ)) (before after : Written) (status : ℕ) → options.task ≡ Check
-    → Checks input before after status → Drives (Some options) input before after status
-check_drives options input before after status is checks =
+pub check_drives : (options : Options) (is_all : Bool) (input : Option (List ℕ)) (before after : Written) (status : ℕ) → options.task ≡ Check is_all
+    → Checks is_all input before after status → Drives (Some options) input before after status
+check_drives options is_all input before after status is checks =
     subst (λ (task : Task). DrivesTask task (Some options) input before after status) (sym is) checks
 
 -- and a lint

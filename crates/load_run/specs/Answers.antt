@@ -115,7 +115,7 @@ abbrev pub IsOnScript : Task → Type 0
 IsOnScript (Replay is_explained is_checked) = ⊤
 IsOnScript Run = ⊤
 IsOnScript Steps = ⊤
-IsOnScript Check = ⊥
+IsOnScript (Check is_all) = ⊥
 IsOnScript Lint = ⊥
 IsOnScript (Serve is_explained) = ⊥
 IsOnScript Version = ⊥
@@ -130,7 +130,7 @@ AreAnswers (Replay is_explained true) sizes is_audited is_numbered script lines 
     AreCheckedAnswers sizes (form_of is_explained is_numbered) is_audited lines text
 AreAnswers Run sizes is_audited is_numbered script lines text = AreThreadAnswers sizes is_numbered is_audited lines text
 AreAnswers Steps sizes is_audited is_numbered script lines text = AreLoggedSteps sizes script lines text
-AreAnswers Check sizes is_audited is_numbered script lines text = ⊥
+AreAnswers (Check is_all) sizes is_audited is_numbered script lines text = ⊥
 AreAnswers Lint sizes is_audited is_numbered script lines text = ⊥
 AreAnswers (Serve is_explained) sizes is_audited is_numbered script lines text = ⊥
 AreAnswers Version sizes is_audited is_numbered script lines text = ⊥

@@ -55,7 +55,7 @@ abbrev pub HasCause : Option Options → ProgramFault → (input : List ℕ) →
 HasCause asked (Words fault) input = GivesOptions asked (Err fault)
 HasCause asked (Script (script.BadLine number)) input = IsBadAt asked number input
 HasCause asked (Script script.NoMemory) input = IsSome asked
-HasCause asked (BadLogLine number) input = ⊥
+HasCause asked (BadLogLine number reason) input = ⊥
 HasCause asked BadConfig input = IsRefused asked input
 HasCause asked (IllegalLine number) input =
     IsStopped asked input (λ sizes form lines. StopsAtIllegalLine sizes form lines number)

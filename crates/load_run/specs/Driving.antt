@@ -52,7 +52,7 @@ DrivesTask (Replay is_explained is_checked) asked input before after status = Dr
     status
 DrivesTask Steps asked input before after status = DrivesScript asked input before after status
 DrivesTask Run asked input before after status = DrivesScript asked input before after status
-DrivesTask Check asked input before after status = Checks input before after status
+DrivesTask (Check is_all) asked input before after status = Checks is_all input before after status
 DrivesTask Lint asked input before after status = LintsAsked asked input before after status
 DrivesTask (Serve is_explained) asked input before after status =
     SessionAsked is_explained asked input before after status

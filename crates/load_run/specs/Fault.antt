@@ -6,6 +6,7 @@ use Rattle.zone_sizes.specs.Config.{IsValidConfig}
 use Rattle.script_lines.specs.declared.fault.ScriptFault.TheVariants as script
 use Rattle.script_lines.specs.declared.line.Line.{Line}
 use Rattle.script_lines.specs.Script.{NamesFirstBadLine}
+use Rattle.log_check.specs.Texts.{why_text}
 use Rattle.load_options.specs.declared.fault.WordsFault.TheVariants as words
 use Rattle.load_options.specs.declared.task.Options.{Options}
 use Rattle.load_options.specs.Words.{GivesOptions}
@@ -20,7 +21,7 @@ status_of (Words (words.BadWords text)) = 2
 status_of (Words (words.NoMemory error)) = 1
 status_of (Script (script.BadLine number)) = 2
 status_of (Script script.NoMemory) = 1
-status_of (BadLogLine number) = 2
+status_of (BadLogLine number reason) = 2
 status_of BadConfig = 2
 status_of (IllegalLine number) = 1
 status_of IllegalEnd = 1
@@ -42,7 +43,7 @@ fault_text (Words (words.BadWords text)) = string_bytes text
 fault_text (Words (words.NoMemory error)) = codes "no memory\n"
 fault_text (Script (script.BadLine number)) = bad_line_text number
 fault_text (Script script.NoMemory) = codes "no memory\n"
-fault_text (BadLogLine number) = bad_line_text number
+fault_text (BadLogLine number reason) = codes "bad line " ++ (decimal number ++ why_text reason)
 fault_text BadConfig = codes "refused 14 BadConfig\n"
 fault_text (IllegalLine number) = illegal_line_text number
 fault_text IllegalEnd = codes "end: a step is not legal\n"

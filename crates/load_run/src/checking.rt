@@ -1,36 +1,39 @@
 //! The check of a log: what the log is, is written to the output, or a fault is reported, and the status says which.
 
-ghost use Rattle.std.specs.Prelude.{List, Option, IfErr, OnOk, ℕ};
+ghost use Rattle.std.specs.Prelude.{Bool, List, Option, IfErr, OnOk, ℕ};
 ghost use Rattle.std.specs.Io.KnownBytes.{Appends};
 ghost use Rattle.log_check.specs.Texts.{verdict_text};
 ghost use Rattle.load_run.specs.Causes.{written};
-ghost use Rattle.load_run.specs.Checks.{Checks, IsLogVerdictOf, IsVerdict, LeavesLine};
+ghost use Rattle.load_run.specs.Checks.{Checks, HasStatus, IsLogVerdictOf, LeavesLine};
 
 use crate::fault::ProgramFault;
 use crate::fault_lines::report_fault;
 use crate::program::write_answers;
 use log_check::verdict::{LogFault, LogVerdict};
-use log_check::{check_log, write_verdict};
+use log_check::{check, write_verdict};
 use std::alloc::{AllocError, Global};
 use std::io::{Read, Write};
 
 /// Checks the log that the input holds, and returns the status to end with.
 ///
-/// The log is read up to where it is known what it is. If it is legal, the output gets the number of its steps, and the
-/// status is 0. If a step isn't legal, the output gets its line, its number and the answer that was due, and the status
-/// is 1. A bad line is a fault of status 2. If the input can't be read, the output can't be written, or memory runs
-/// out, that is a fault of status 1.
+/// The log is read up to where it is known what it is. If it is legal, the output gets the number of its steps, after how
+/// many of them the lock was free, and what the log leaves, and the status is 0. If a step isn't legal, the output gets
+/// its line, its number, the answer that was due and the reason, and the status is 1. With `is_all` the log is read to its
+/// end, as if such steps hadn't been made. The output gets the first 1,000 of them, and how many there are. A bad line is
+/// a fault of status 2, and the output gets nothing. If the input can't be read, the output can't be written, or memory
+/// runs out, that is a fault of status 1.
 #[tactic(auto, using(crate::proofs::Verdicts::verdict_of, crate::proofs::Verdicts::checks_fault))]
 pub fn drive_check<I: Read, O: Write, F: Write>(
     alloc: Global,
+    is_all: bool,
     input: &mut I,
     output: &mut O,
     faults: &mut F,
 ) -> u8
-    ensures checks { Checks (I.remaining input.old) (written (O.contents output.old) (F.contents faults.old))
+    ensures checks { Checks is_all (I.remaining input.old) (written (O.contents output.old) (F.contents faults.old))
         (written (O.contents output.new) (F.contents faults.new)) result }
 {
-    match check_log(alloc, input) {
+    match check(alloc, input, is_all) {
         Ok(verdict) => report_log(alloc, &verdict, output, faults),
         Err(LogFault::Input) => report_fault(&ProgramFault::Input, faults),
         Err(LogFault::NoMemory) => report_fault(&ProgramFault::NoMemory(AllocError), faults),
@@ -45,14 +48,17 @@ fn report_log<O: Write, F: Write>(
     output: &mut O,
     faults: &mut F,
 ) -> u8
-    ensures checks { (input : Option (List ℕ)) → IsLogVerdictOf input verdict.now
-        → Checks input (written (O.contents output.old) (F.contents faults.old))
+    ensures checks { (all : Bool) (input : Option (List ℕ)) → IsLogVerdictOf all input verdict.now
+        → Checks all input (written (O.contents output.old) (F.contents faults.old))
         (written (O.contents output.new) (F.contents faults.new)) result }
 {
     match verdict {
         LogVerdict::Legal { .. } => report_verdict(alloc, verdict, 0, output, faults),
-        LogVerdict::NotLegal { .. } => report_verdict(alloc, verdict, 1, output, faults),
-        LogVerdict::BadLine { line } => report_fault(&ProgramFault::BadLogLine(*line), faults),
+        LogVerdict::NotLegal(_) => report_verdict(alloc, verdict, 1, output, faults),
+        LogVerdict::LeftOut { .. } => report_verdict(alloc, verdict, 1, output, faults),
+        LogVerdict::BadLine { line, fault } => {
+            report_fault(&ProgramFault::BadLogLine(*line, *fault), faults)
+        }
     }
 }
 
@@ -65,8 +71,8 @@ fn report_verdict<O: Write, F: Write>(
     output: &mut O,
     faults: &mut F,
 ) -> u8
-    ensures checks { (input : Option (List ℕ)) → IsLogVerdictOf input verdict.now → IsVerdict verdict.now status
-        → Checks input (written (O.contents output.old) (F.contents faults.old))
+    ensures checks { (all : Bool) (input : Option (List ℕ)) → IsLogVerdictOf all input verdict.now → HasStatus verdict.now status
+        → Checks all input (written (O.contents output.old) (F.contents faults.old))
         (written (O.contents output.new) (F.contents faults.new)) result }
 {
     match write_verdict_line(alloc, verdict, output) {
@@ -75,7 +81,7 @@ fn report_verdict<O: Write, F: Write>(
     }
 }
 
-// Writes the line that says what the log is.
+// Writes the lines that say what the log is.
 fn write_verdict_line<O: Write>(
     alloc: Global,
     verdict: &LogVerdict,

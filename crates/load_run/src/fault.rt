@@ -3,6 +3,7 @@
 ghost use Rattle.std.specs.Prelude.{◌≡◌};
 
 use load_options::fault::WordsFault;
+use log_check::line_fault::LineFault;
 use script_lines::fault::ScriptFault;
 use std::alloc::AllocError;
 use thiserror::Error;
@@ -16,9 +17,9 @@ pub enum ProgramFault {
     /// The script gives no lines.
     #[error("{0}")]
     Script(ScriptFault),
-    /// The input is no log: the line of this number, counted from 1, is the first bad one.
-    #[error("bad line {0}")]
-    BadLogLine(u64),
+    /// The input is no log: the line of this number, counted from 1, is the first bad one, for this reason.
+    #[error("bad line {0}: {1}")]
+    BadLogLine(u64, LineFault),
     /// A size is out of its range.
     #[error("refused 14 BadConfig")]
     BadConfig,
@@ -49,7 +50,7 @@ impl ProgramFault {
         match self {
             ProgramFault::Words(WordsFault::BadWords(_))
             | ProgramFault::Script(ScriptFault::BadLine(_))
-            | ProgramFault::BadLogLine(_)
+            | ProgramFault::BadLogLine(_, _)
             | ProgramFault::BadConfig => 2,
             ProgramFault::Words(WordsFault::NoMemory(_))
             | ProgramFault::Script(ScriptFault::NoMemory)

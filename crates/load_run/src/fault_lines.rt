@@ -33,7 +33,9 @@ fn write_fault<F: Write>(fault: &ProgramFault, faults: &mut F) -> io::Result<()>
         ProgramFault::Script(ScriptFault::BadLine(number)) => {
             write_numbered("bad line ", *number as u64, "\n", faults)
         }
-        ProgramFault::BadLogLine(number) => write_numbered("bad line ", *number, "\n", faults),
+        ProgramFault::BadLogLine(number, reason) => {
+            write_numbered("bad line ", *number, reason.ending(), faults)
+        }
         ProgramFault::IllegalLine(number) => {
             write_numbered("line ", *number as u64, ": a step is not legal\n", faults)
         }

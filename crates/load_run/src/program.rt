@@ -87,7 +87,7 @@ fn drive_task<R: Threads + Wait + Sync, I: Read, O: Write, F: Write>(
         (written (O.contents output.new) (F.contents faults.new)) result }
 {
     match options.task {
-        Task::Check => drive_check(alloc, input, output, faults),
+        Task::Check { is_all } => drive_check(alloc, is_all, input, output, faults),
         Task::Lint => drive_lint(alloc, &options.sizes, input, output, faults),
         Task::Replay { .. } => drive_script(rt, alloc, options, input, output, faults),
         Task::Run => drive_script(rt, alloc, options, input, output, faults),
@@ -237,7 +237,7 @@ fn answers_on_boot<N: BootName + Send + Sync, R: Threads + Wait + Sync>(
             Ok(log) => Ok(log),
             Err(error) => Err(ProgramFault::NoMemory(error)),
         },
-        Task::Check | Task::Lint | Task::Serve { .. } | Task::Version => unreachable!(),
+        Task::Check { .. } | Task::Lint | Task::Serve { .. } | Task::Version => unreachable!(),
     }
 }
 

@@ -2,19 +2,18 @@
 use Rattle.std.proofs.Common.{◌≡◌, ◌≢◌, ℕ, ◌+◌, ◌<◌, ◌≤◌, zero, suc, List, [], ◌∷◌, ◌++◌, Option, Some, None, All, flat_map, get_or, length, refl, sym, ap, subst, ◌∙◌}
 use Rattle.std.proofs.Common.{append_assoc, append-nil, arith, inl, inr, length-append}
 use Rattle.std.specs.List.{AllByRecursion, AllZip}
-use Rattle.std.specs.Prelude.{◌⊎◌, is_some, true, false, drop, take}
-use Rattle.std.proofs.lemmas.List.{take_more, take-append-drop}
+use Rattle.std.specs.Prelude.{◌⊎◌, Bool, is_some, true, false, drop, take}
+use Rattle.std.proofs.lemmas.List.{nil_from_length, take_more, take-append-drop}
 use Rattle.std.proofs.lemmas.Bool.{false≢true}
 use Rattle.std.proofs.lemmas.Grind.{flat_map-append}
 use Rattle.std.proofs.lemmas.List.Elements.{All-append}
-use Rattle.step_rules.specs.declared.step.Answer.{Answer}
 use Rattle.step_rules.specs.State.{State}
-use Rattle.step_reasons.specs.declared.reason.Reason.{Reason}
+use Rattle.step_rules.specs.After.{IsLegalRun, Run, state_of}
 use Rattle.mem_core.specs.Shown.{CoreState, state_shown}
 use Rattle.mem_core.proofs.Keeping.{always_keeps}
 use Rattle.log_lines.specs.declared.line.LogLine.{LogLine}
 use Rattle.log_lines.specs.Line.{IsLineText}
-use Rattle.log_lines.specs.Log.{EndsBadly, IsFirstBadLine, MayBegin}
+use Rattle.log_lines.specs.Log.{EndsBadly, MayBegin}
 use Rattle.log_lines.proofs.BadLines.{same_first}
 use Rattle.log_lines.proofs.Lines.{same_line}
 use Rattle.log_lines.proofs.Logs.{ended}
@@ -24,10 +23,14 @@ use Rattle.log_check.specs.declared.verdict.LogVerdict.TheVariants as kinds
 use Rattle.log_check.specs.declared.progress.Progress.{Progress}
 use Rattle.log_check.specs.declared.progress.Taken.{Taken}
 use Rattle.log_check.specs.declared.progress.Taken.TheVariants.{GoesOn, NotLegal, Bad}
-use Rattle.log_check.specs.Verdicts.{BreaksRules, IsLogVerdict, KeepsPromise, zone_in}
+use Rattle.log_check.specs.declared.line_fault.LineFault.{LineFault}
+use Rattle.log_check.specs.declared.line_fault.LineFault.TheVariants.{NoLine, NoLineFeed, NoSizes, SizesAgain, StepFirst, TooLong}
+use Rattle.log_check.specs.declared.verdict.IllegalStep.{IllegalStep}
+use Rattle.log_check.specs.Verdicts.{BreaksRules, IsBadLine, IsLogVerdict, IsMisplaced, IsWhy, KeepsPromise, NamesLeftOut, zone_in}
 use Rattle.log_check.specs.declared.verdict.LogEnd.{LogEnd}
-use Rattle.log_check.specs.Ends.{IsEnd}
-use Rattle.log_check.specs.Taking.{AreWholeLines, Checked, CountsSteps, EndsIllegally, HasChecked, HasRead, HasTaken, Reads, StepsAre, Takes}
+use Rattle.log_check.specs.Ends.{IsEnd, free_count}
+use Rattle.log_check.specs.Taking.{AreLeftOut, AreWholeLines, Checked, Concludes, EndsIllegally, HasChecked, HasRead, HasTaken, LeadsTo, Reads, TakesAfter}
+use Rattle.log_check.specs.Taking.{illegal_in}
 
 abbrev NoFeed : List ℕ → Type 0
 NoFeed line = All (λ b. b ≢ 10) line
@@ -69,16 +72,27 @@ whole_more before r l m h is one =
 -- ---- what is read
 
 -- nothing is read at first
-pub read_none : (r : LogReader) → r.line.items ≡ [] → r.lines ≡ 0 → r.progress.checker ≡ None → r.progress.free ≡ 0 → HasRead [] r
-read_none r empty none checker free = record {
+pub read_none : (r : LogReader) → r.line.items ≡ [] → r.lines ≡ 0 → r.progress.checker ≡ None → r.progress.steps ≡ 0 → r.progress.free ≡ 0
+    → AreLeftOut [] r.left_out → HasRead [] r
+read_none r empty none checker steps free left = record {
   front = [];
   parts = sym empty;
   no_feed = subst NoFeed (sym empty) (λ k d h. absurd (omega (arith, h)));
+  left = [];
   taken = record {
     lines = [];
     are = record { texts = []; cut = record { parts = refl; no_feeds = tt }; says = tt; count_is = none };
-    checked = subst (λ c. Checked c r.progress.free []) (sym checker) (refl, free);
+    checked = subst (λ c. Checked c r.lines [] r.progress.steps r.progress.free []) (sym checker)
+        (subst (λ n. Checked None n [] r.progress.steps r.progress.free []) (sym none) (record {
+          empty = refl;
+          no_steps = steps;
+          none_free = free;
+          none_left = refl;
+          leaves = λ s. (refl, refl);
+        }));
   };
+  left_is = left;
+  none = λ stops. refl;
 }
 
 feed_less : (xs : List ℕ) (b : ℕ) → NoFeed xs → b ≢ 10 → NoFeed (xs ++ b ∷ [])
@@ -90,43 +104,44 @@ feed_less xs b all one = All-append (λ (x : ℕ). x ≢ 10) xs (b ∷ []) all (
 
 -- one byte more of the line
 pub read_byte : (before : List ℕ) (r s : LogReader) (b : ℕ) → HasRead before r → b ≢ 10 → s.line.items ≡ r.line.items ++ b ∷ []
-    → s.lines ≡ r.lines → s.progress ≡ r.progress → HasRead (before ++ b ∷ []) s
-read_byte before r s b h other line lines progress = record {
+    → s.lines ≡ r.lines → s.progress ≡ r.progress → s.is_all ≡ r.is_all → s.left_out ≡ r.left_out → HasRead (before ++ b ∷ []) s
+read_byte before r s b h other line lines progress all out = record {
   front = h.front;
   parts = ap (λ (x : List ℕ). x ++ b ∷ []) h.parts ∙ append_assoc h.front r.line.items (b ∷ []) ∙ ap (λ (x : List ℕ). h.front ++ x) (sym line);
   no_feed = subst NoFeed (sym line) (feed_less r.line.items b h.no_feed other);
-  taken = record {
-    lines = h.taken.lines;
-    are = subst (λ n. AreWholeLines h.front n h.taken.lines) (sym lines) h.taken.are;
-    checked = subst (λ (p : Progress). HasChecked p h.taken.lines) (sym progress) h.taken.checked;
-  };
+  left = h.left;
+  taken = subst (λ (p : Progress). HasTaken h.front s.lines p h.left) (sym progress)
+      (subst (λ n. HasTaken h.front n r.progress h.left) (sym lines) h.taken);
+  left_is = subst (AreLeftOut h.left) (sym out) h.left_is;
+  none = λ stops. h.none (sym all ∙ stops);
 }
 
 -- the line ended, and the log goes on
-pub read_line : (before : List ℕ) (r s : LogReader) (l : LogLine) → HasRead before r → IsLineText r.line.items l
-    → ((lines : List LogLine) → HasChecked r.progress lines → HasChecked s.progress (lines ++ l ∷ []))
+read_line : (before : List ℕ) (r s : LogReader) (l : LogLine) (left : List IllegalStep) (h : HasRead before r) → IsLineText r.line.items l
+    → HasChecked s.progress (r.lines + 1) (h.taken.lines ++ l ∷ []) left → AreLeftOut left s.left_out → (s.is_all ≡ false → left ≡ [])
     → s.line.items ≡ [] → s.lines ≡ r.lines + 1 → HasRead (before ++ 10 ∷ []) s
-read_line before r s l h is takes empty one = record {
+read_line before r s l left h is checked are none empty one = record {
   front = before ++ 10 ∷ [];
   parts = sym (ap (λ (x : List ℕ). (before ++ 10 ∷ []) ++ x) empty ∙ append-nil (before ++ 10 ∷ []));
   no_feed = subst NoFeed (sym empty) (λ k d h. absurd (omega (arith, h)));
+  left = left;
   taken = record {
     lines = h.taken.lines ++ l ∷ [];
     are = whole_more before r l s.lines h is one;
-    checked = takes h.taken.lines h.taken.checked;
+    checked = subst (λ n. HasChecked s.progress n (h.taken.lines ++ l ∷ []) left) (sym one) checked;
   };
+  left_is = are;
+  none = none;
 }
 
 -- ---- what the text is known to be
 
 -- a step was not allowed
-pub line_illegal : (before rest : List ℕ) (r : LogReader) (l : LogLine) (line steps : ℕ) (expected : Answer) (reason : Reason) → HasRead before r
-    → IsLineText r.line.items l
-    → ((lines : List LogLine) → HasChecked r.progress lines → EndsIllegally (lines ++ l ∷ []) steps expected reason)
-    → line ≡ r.lines + 1 → BreaksRules ((before ++ 10 ∷ []) ++ rest) line steps expected reason
-line_illegal before rest r l line steps expected reason h is takes one =
-    let ends = takes h.taken.lines h.taken.checked in
-    let are = whole_more before r l line h is one in
+line_illegal : (before rest : List ℕ) (r : LogReader) (l : LogLine) (illegal : IllegalStep) (h : HasRead before r)
+    → IsLineText r.line.items l → EndsIllegally (h.taken.lines ++ l ∷ []) illegal.step illegal.expected illegal.reason
+    → illegal.line ≡ r.lines + 1 → BreaksRules ((before ++ 10 ∷ []) ++ rest) illegal
+line_illegal before rest r l illegal h is ends one =
+    let are = whole_more before r l illegal.line h is one in
     record {
       front = before ++ 10 ∷ [];
       rest = rest;
@@ -139,52 +154,71 @@ line_illegal before rest r l line steps expected reason h is takes one =
       why = ends.why;
     }
 
-begins : (checker : Option CoreState) (free : ℕ) (lines : List LogLine) → Checked checker free lines → MayBegin lines
-begins None free lines checked = inl checked.0
-begins (Some s) free lines checked = inr (checked.log, checked.order)
+begins : (checker : Option CoreState) (count : ℕ) (lines : List LogLine) (steps free : ℕ) (left : List IllegalStep)
+    → Checked checker count lines steps free left → MayBegin lines
+begins None count lines steps free left checked = inl checked.empty
+begins (Some s) count lines steps free left checked = inr (checked.log, checked.order)
 
 -- what follows the lines before is bad
-first_bad : (text before rest : List ℕ) (r : LogReader) (line : ℕ) (h : HasRead before r) → text ≡ h.front ++ rest → EndsBadly h.taken.lines rest
-    → line ≡ r.lines + 1 → IsFirstBadLine text line
-first_bad text before rest r line h parts bad one = record {
-  front = h.front;
-  rest = rest;
-  parts = parts;
-  texts = h.taken.are.texts;
-  lines = h.taken.lines;
-  cut = h.taken.are.cut;
-  says = h.taken.are.says;
-  begins = begins r.progress.checker r.progress.free h.taken.lines h.taken.checked;
-  place = one ∙ ap (λ k. k + 1) h.taken.are.count_is;
-  bad = bad;
+first_bad : (text before rest : List ℕ) (r : LogReader) (line : ℕ) (fault : LineFault) (h : HasRead before r) → text ≡ h.front ++ rest
+    → EndsBadly h.taken.lines rest → IsWhy fault h.taken.lines rest → line ≡ r.lines + 1 → IsBadLine text line fault
+first_bad text before rest r line fault h parts bad why one = record {
+  first = record {
+    front = h.front;
+    rest = rest;
+    parts = parts;
+    texts = h.taken.are.texts;
+    lines = h.taken.lines;
+    cut = h.taken.are.cut;
+    says = h.taken.are.says;
+    begins = begins r.progress.checker r.lines h.taken.lines r.progress.steps r.progress.free h.left h.taken.checked;
+    place = one ∙ ap (λ k. k + 1) h.taken.are.count_is;
+    bad = bad;
+  };
+  why = why;
 }
 
 some_text : (x : List ℕ) (b : ℕ) (rest : List ℕ) → x ++ b ∷ rest ≡ [] → ⊥
 some_text [] b rest e = cc
 some_text (c ∷ x) b rest e = cc
 
+-- the text from the line that ended on
+line_parts : (before rest : List ℕ) (r : LogReader) (h : HasRead before r) → (before ++ 10 ∷ []) ++ rest ≡ h.front ++ (r.line.items ++ 10 ∷ rest)
+line_parts before rest r h =
+    append_assoc before (10 ∷ []) rest ∙ ap (λ (x : List ℕ). x ++ 10 ∷ rest) h.parts ∙ append_assoc h.front r.line.items (10 ∷ rest)
+
 -- the line ended, and no log goes on with it
-pub line_bad : (before rest : List ℕ) (r : LogReader) (line : ℕ) → HasRead before r
-    → ((lines : List LogLine) (l : LogLine) → HasChecked r.progress lines → IsLineText r.line.items l → ¬ MayBegin (lines ++ l ∷ []))
-    → line ≡ r.lines + 1 → IsFirstBadLine ((before ++ 10 ∷ []) ++ rest) line
-line_bad before rest r line h none one =
+line_bad : (before rest : List ℕ) (r : LogReader) (line : ℕ) (fault : LineFault) (h : HasRead before r)
+    → ((l : LogLine) → IsLineText r.line.items l → ¬ MayBegin (h.taken.lines ++ l ∷ [])) → IsWhy fault h.taken.lines (r.line.items ++ 10 ∷ rest)
+    → line ≡ r.lines + 1 → IsBadLine ((before ++ 10 ∷ []) ++ rest) line fault
+line_bad before rest r line fault h none why one =
     let t = r.line.items in
-    let parts : (before ++ 10 ∷ []) ++ rest ≡ h.front ++ (t ++ 10 ∷ rest) =
-    append_assoc before (10 ∷ []) rest ∙ ap (λ (x : List ℕ). x ++ 10 ∷ rest) h.parts ∙ append_assoc h.front t (10 ∷ rest) in
     let bad : EndsBadly h.taken.lines (t ++ 10 ∷ rest) = record {
       no_sizes = λ e. absurd (some_text t 10 rest e);
       no_line = λ next more l no_feed e is.
           let same : t ≡ next = (same_first t next rest more h.no_feed no_feed e).0 in
-          none h.taken.lines l h.taken.checked (subst (λ (x : List ℕ). IsLineText x l) (sym same) is);
+          none l (subst (λ (x : List ℕ). IsLineText x l) (sym same) is);
     } in
-    first_bad ((before ++ 10 ∷ []) ++ rest) before (t ++ 10 ∷ rest) r line h parts bad one
+    first_bad ((before ++ 10 ∷ []) ++ rest) before (t ++ 10 ∷ rest) r line fault h (line_parts before rest r h) bad why one
 
--- no other line has the text
-pub only_line : (r : LogReader) (known : LogLine) → IsLineText r.line.items known
-    → ((lines : List LogLine) → HasChecked r.progress lines → ¬ MayBegin (lines ++ known ∷ []))
-    → (lines : List LogLine) (l : LogLine) → HasChecked r.progress lines → IsLineText r.line.items l → ¬ MayBegin (lines ++ l ∷ [])
-only_line r known is bad lines l checked other =
-    subst (λ x. ¬ MayBegin (lines ++ x ∷ [])) (same_line r.line.items known l is other) (bad lines checked)
+-- a line that may not come here
+why_misplaced : (fault : LineFault) (lines : List LogLine) (l : LogLine) (t rest : List ℕ) → NoFeed t → IsLineText t l → IsMisplaced fault lines l
+    → IsWhy fault lines (t ++ 10 ∷ rest)
+why_misplaced SizesAgain lines l t rest no_feed is misplaced = (t, l, record { more = rest; no_feed = no_feed; parts = refl }, is, misplaced)
+why_misplaced StepFirst lines l t rest no_feed is misplaced = (t, l, record { more = rest; no_feed = no_feed; parts = refl }, is, misplaced)
+why_misplaced NoSizes lines l t rest no_feed is misplaced = absurd misplaced
+why_misplaced NoLineFeed lines l t rest no_feed is misplaced = absurd misplaced
+why_misplaced TooLong lines l t rest no_feed is misplaced = absurd misplaced
+why_misplaced NoLine lines l t rest no_feed is misplaced = absurd misplaced
+
+-- the line has a text of its own, and may not come here
+line_misplaced : (before rest : List ℕ) (r : LogReader) (line : ℕ) (fault : LineFault) (l : LogLine) (h : HasRead before r) → IsLineText r.line.items l
+    → ¬ MayBegin (h.taken.lines ++ l ∷ []) × IsMisplaced fault h.taken.lines l → line ≡ r.lines + 1
+    → IsBadLine ((before ++ 10 ∷ []) ++ rest) line fault
+line_misplaced before rest r line fault l h is bad one =
+    line_bad before rest r line fault h
+    (λ other has. subst (λ x. ¬ MayBegin (h.taken.lines ++ x ∷ [])) (same_line r.line.items l other is has) bad.0)
+    (why_misplaced fault h.taken.lines l r.line.items rest h.no_feed is bad.1) one
 
 tail_of : (x : ℕ) (xs : List ℕ) → NoFeed (x ∷ xs) → NoFeed xs
 tail_of x xs all k d h = all (suc k) d (omega (arith, h))
@@ -200,7 +234,7 @@ longer (x ∷ long) (y ∷ next) rest more no_feed e =
 
 -- the line is too long
 pub line_long : (before rest : List ℕ) (r : LogReader) (b line : ℕ) → HasRead before r → b ≢ 10 → 1024 ≤ length r.line.items
-    → line ≡ r.lines + 1 → IsFirstBadLine ((before ++ b ∷ []) ++ rest) line
+    → line ≡ r.lines + 1 → IsBadLine ((before ++ b ∷ []) ++ rest) line TooLong
 line_long before rest r b line h other long one =
     let t = r.line.items in
     let parts : (before ++ b ∷ []) ++ rest ≡ h.front ++ ((t ++ b ∷ []) ++ rest) =
@@ -214,7 +248,9 @@ line_long before rest r b line h other long one =
           let most = is.short in
           absurd (omega (arith, least, most, size, long));
     } in
-    first_bad ((before ++ b ∷ []) ++ rest) before ((t ++ b ∷ []) ++ rest) r line h parts bad one
+    let why : IsWhy TooLong h.taken.lines ((t ++ b ∷ []) ++ rest) =
+    (t ++ b ∷ [], rest, refl, feed_less t b h.no_feed other, omega (arith, size, long)) in
+    first_bad ((before ++ b ∷ []) ++ rest) before ((t ++ b ∷ []) ++ rest) r line TooLong h parts bad why one
 
 -- ---- the end of the text
 
@@ -226,70 +262,138 @@ cut_off (x ∷ t) (y ∷ next) more no_feed e =
     let tails : t ≡ next ++ 10 ∷ more = cc in
     cut_off t next more (tail_of x t no_feed) tails
 
-pub end_bad : (before : List ℕ) (r : LogReader) (line : ℕ) → HasRead before r → (r.line.items ≡ [] → r.progress.checker ≡ None)
-    → line ≡ r.lines + 1 → IsFirstBadLine before line
-end_bad before r line h none one =
+-- the last line has no line feed
+pub ends_cut : (before : List ℕ) (r : LogReader) (line : ℕ) → HasRead before r → r.line.items ≢ [] → line ≡ r.lines + 1
+    → IsBadLine before line NoLineFeed
+ends_cut before r line h some one =
     let bad : EndsBadly h.taken.lines r.line.items = record {
-      no_sizes = λ e. (subst (λ c. Checked c r.progress.free h.taken.lines) (none e) h.taken.checked).0;
+      no_sizes = λ e. absurd (some e);
       no_line = λ next more l no_feed e is. absurd (cut_off r.line.items next more h.no_feed e);
     } in
-    first_bad before before r.line.items r line h h.parts bad one
+    first_bad before before r.line.items r line NoLineFeed h h.parts bad (some, h.no_feed) one
 
-end_well : (before : List ℕ) (p : Progress) (n : ℕ) (s : CoreState) (end : LogEnd) (t : HasTaken before n p) → p.checker ≡ Some s
-    → s.steps ≡ p.steps → IsEnd (state_shown s) end → KeepsPromise before p.steps p.free end
-end_well before p n s end t some count left =
-    let leads = subst (λ c. Checked c p.free t.lines) some t.checked in
-    record {
-      log = leads.log;
-      is = record { texts = t.are.texts; lines = t.lines; cut = t.are.cut; says = t.are.says; in_order = leads.order };
-      count = sym count ∙ leads.count;
-      free_is = leads.free_is;
-      end_is = subst (λ (x : State). IsEnd x end) leads.state left;
-      legal = leads.legal;
-      promise = always_keeps (zone_in leads.log) leads.log.run leads.legal;
-    }
+-- all lines are empty or comments
+pub ends_unsized : (before : List ℕ) (r : LogReader) (line : ℕ) → HasRead before r → r.line.items ≡ [] → r.progress.checker ≡ None
+    → line ≡ r.lines + 1 → IsBadLine before line NoSizes
+ends_unsized before r line h empty none one =
+    let nothing = (subst (λ c. Checked c r.lines h.taken.lines r.progress.steps r.progress.free h.left) none h.taken.checked).empty in
+    let bad : EndsBadly h.taken.lines r.line.items = record {
+      no_sizes = λ e. nothing;
+      no_line = λ next more l no_feed e is. absurd (cut_off r.line.items next more h.no_feed e);
+    } in
+    first_bad before before r.line.items r line NoSizes h h.parts bad (empty, nothing) one
 
--- by what is known of the checker
-pub ends_well : (before : List ℕ) (r : LogReader) (s : CoreState) (end : LogEnd) → HasRead before r → CountsSteps r.progress → r.line.items ≡ []
-    → r.progress.checker ≡ Some s → IsEnd (state_shown s) end → KeepsPromise before r.progress.steps r.progress.free end
-ends_well before r s end h counts empty some left =
-    let all : h.front ≡ before = sym (h.parts ∙ ap (λ (x : List ℕ). h.front ++ x) empty ∙ append-nil h.front) in
-    let count : s.steps ≡ r.progress.steps = subst (λ c. StepsAre c r.progress.steps) some counts.steps in
-    subst (λ (x : List ℕ). KeepsPromise x r.progress.steps r.progress.free end) all (end_well h.front r.progress r.lines s end h.taken some count left)
+-- the text is its whole lines
+whole : (before : List ℕ) (r : LogReader) (h : HasRead before r) → r.line.items ≡ [] → h.front ≡ before
+whole before r h empty = sym (h.parts ∙ ap (λ (x : List ℕ). h.front ++ x) empty ∙ append-nil h.front)
 
-pub ends_badly : (before : List ℕ) (r : LogReader) (line : ℕ) → HasRead before r → (r.line.items ≡ [] → is_some r.progress.checker ≡ false)
-    → line ≡ r.lines + 1 → IsFirstBadLine before line
-ends_badly before r line h none one = end_bad before r line h (λ empty. nothing r.progress.checker (none empty)) one
+leads : (before : List ℕ) (r : LogReader) (s : CoreState) (h : HasRead before r) → r.progress.checker ≡ Some s
+    → LeadsTo r.lines h.taken.lines s r.progress.steps r.progress.free h.left
+leads before r s h some = subst (λ c. Checked c r.lines h.taken.lines r.progress.steps r.progress.free h.left) some h.taken.checked
+
+pub ends_well : (before : List ℕ) (r : LogReader) (s : CoreState) (end : LogEnd) → HasRead before r → r.line.items ≡ []
+    → r.progress.checker ≡ Some s → r.left_out.count ≡ 0 → IsEnd (state_shown s) end → KeepsPromise before r.progress.steps r.progress.free end
+ends_well before r s end h empty some none left =
+    let to = leads before r s h some in
+    let zone = zone_in to.log in
+    let all : to.made ≡ to.log.run = to.whole (nil_from_length h.left (sym h.left_is.count ∙ none)) in
+    let legal = subst (IsLegalRun zone) all to.legal in
+    let t = h.taken in
+    subst (λ (x : List ℕ). KeepsPromise x r.progress.steps r.progress.free end) (whole before r h empty) (record {
+      log = to.log;
+      is = record { texts = t.are.texts; lines = t.lines; cut = t.are.cut; says = t.are.says; in_order = to.order };
+      count = to.steps_are;
+      free_is = to.free_is ∙ ap (λ (run : Run). free_count zone run) all;
+      end_is = subst (λ (x : State). IsEnd x end) (to.state ∙ ap (state_of zone) all) left;
+      legal = legal;
+      promise = always_keeps zone to.log.run legal;
+    })
+
+-- some steps aren't legal
+pub ends_left_out : (before : List ℕ) (r : LogReader) (s : CoreState) → HasRead before r → r.line.items ≡ []
+    → r.progress.checker ≡ Some s → r.left_out.count ≢ 0
+    → (r.is_all ≡ true) × NamesLeftOut before r.progress.steps r.left_out.count r.left_out.first.items
+ends_left_out before r s h empty some more = (
+  by_mode r.is_all (λ stops. absurd (counted (h.none stops))),
+  subst (λ (x : List ℕ). NamesLeftOut x r.progress.steps r.left_out.count r.left_out.first.items) (whole before r h empty) (record {
+    log = to.log;
+    is = record { texts = t.are.texts; lines = t.lines; cut = t.are.cut; says = t.are.says; in_order = to.order };
+    steps_are = to.steps_are;
+    left = h.left;
+    end = record { lines = r.lines; steps = r.progress.steps; state = state_of (zone_in to.log) to.made };
+    leaves = to.leaves;
+    count_is = h.left_is.count;
+    first_are = h.left_is.first;
+    not_legal = λ legal. counted (to.none legal);
+  }),
+)
   where
-    nothing : (checker : Option CoreState) → is_some checker ≡ false → checker ≡ None
-    nothing None e = refl
-    nothing (Some s) e = absurd (false≢true (sym e))
+    to : LeadsTo r.lines h.taken.lines s r.progress.steps r.progress.free h.left
+    to = leads before r s h some
+
+    t : HasTaken h.front r.lines r.progress h.left
+    t = h.taken
+
+    counted : h.left ≡ [] → ⊥
+    counted none = more (h.left_is.count ∙ ap length none)
+
+    by_mode : (b : Bool) → (b ≡ false → ⊥) → b ≡ true
+    by_mode true other = refl
+    by_mode false other = absurd (other refl)
 
 -- ---- what came of a line
 
 -- the line that ended was taken so, or there is no line that has its text
 abbrev pub Judged : LogReader → Progress → Taken → Type 0
-Judged r now taken = ((l : LogLine) × IsLineText r.line.items l × ((lines : List LogLine) → HasChecked r.progress lines → Takes lines l now taken))
-    ⊎ ((taken ≡ Bad) × ((l : LogLine) → ¬ IsLineText r.line.items l))
+Judged r now taken = ((l : LogLine) × IsLineText r.line.items l × TakesAfter r.progress l now taken)
+    ⊎ ((taken ≡ Bad NoLine) × ((l : LogLine) → ¬ IsLineText r.line.items l))
 
--- what is known of the log then
-abbrev pub end_of : Taken → (line steps : ℕ) → Option LogVerdict
-end_of GoesOn line steps = None
-end_of (NotLegal expected reason) line steps = Some (kinds.NotLegal line (steps + 1) expected reason)
-end_of Bad line steps = Some (kinds.BadLine line)
+-- it stays known if the reader is another by name
+read_as : (text : List ℕ) (m s : LogReader) (known known_now : Option LogVerdict) → known ≡ known_now → s ≡ m → Reads text m known_now → Reads text s known
+read_as text m s known known_now is same reads =
+    subst (λ (x : LogReader). Reads text x known) (sym same) (subst (Reads text m) (sym is) reads)
 
-pub line_ended : (before : List ℕ) (r s : LogReader) (taken : Taken) (end : Option LogVerdict) → HasRead before r → Judged r s.progress taken
-    → s.line.items ≡ [] → s.lines ≡ r.lines + 1 → end ≡ end_of taken s.lines s.progress.steps → Reads (before ++ 10 ∷ []) s end
-line_ended before r s GoesOn end h (inl j) empty one is =
-    subst (Reads (before ++ 10 ∷ []) s) (sym is) (read_line before r s j.0 h j.1 j.2 empty one)
-line_ended before r s GoesOn end h (inr none) empty one is = let wrong = none.0 in cc
-line_ended before r s (NotLegal expected reason) end h (inl j) empty one is =
-    subst (Reads (before ++ 10 ∷ []) s) (sym is) (λ rest. line_illegal before rest r j.0 s.lines (s.progress.steps + 1) expected reason h j.1 j.2 one)
-line_ended before r s (NotLegal expected reason) end h (inr none) empty one is = let wrong = none.0 in cc
-line_ended before r s Bad end h (inl j) empty one is =
-    subst (Reads (before ++ 10 ∷ []) s) (sym is) (λ rest. line_bad before rest r s.lines h (only_line r j.0 j.1 j.2) one)
-line_ended before r s Bad end h (inr none) empty one is =
-    subst (Reads (before ++ 10 ∷ []) s) (sym is) (λ rest. line_bad before rest r s.lines h (λ lines l checked has. absurd (none.1 l has)) one)
+items : (r s : LogReader) → s.line ≡ r.line → s.line.items ≡ r.line.items
+items r s e = ap (λ l. l.items) e
+
+pub line_ended : (before : List ℕ) (r m s : LogReader) (taken : Taken) (known : Option LogVerdict) → HasRead before r → Judged r m.progress taken
+    → m.line.items ≡ [] → m.lines ≡ r.lines + 1 → m.is_all ≡ r.is_all → m.left_out ≡ r.left_out → s.line ≡ m.line → Concludes taken m s known
+    → Reads (before ++ 10 ∷ []) s known
+line_ended before r m s GoesOn known h (inl j) empty one all out line concluded =
+    read_as (before ++ 10 ∷ []) m s known None concluded.0 concluded.1
+    (read_line before r m j.0 h.left h j.1 (j.2 r.lines h.taken.lines h.left h.taken.checked) (subst (AreLeftOut h.left) (sym out) h.left_is)
+    (λ stops. h.none (sym all ∙ stops)) empty one)
+line_ended before r m s GoesOn known h (inr none) empty one all out line concluded = let wrong = none.0 in cc
+line_ended before r m s (NotLegal expected reason) known h (inl j) empty one all out line (inl stops) =
+    let illegal = illegal_in m expected reason in
+    let ends = (j.2 r.lines h.taken.lines h.left h.taken.checked).0 (h.none (sym all ∙ stops.0)) in
+    read_as (before ++ 10 ∷ []) m s known (Some (kinds.NotLegal illegal)) stops.1 stops.2
+    (λ rest. (stops.0, line_illegal before rest r j.0 illegal h j.1 ends one))
+line_ended before r m s (NotLegal expected reason) known h (inl j) empty one all out line (inr goes) =
+    let noted = goes.2 in
+    let illegal = illegal_in m expected reason in
+    let left = h.left ++ illegal ∷ [] in
+    let takes = (j.2 r.lines h.taken.lines h.left h.taken.checked).1 in
+    let named : HasChecked m.progress (r.lines + 1) (h.taken.lines ++ j.0 ∷ []) left =
+    subst (λ n. HasChecked m.progress (r.lines + 1) (h.taken.lines ++ j.0 ∷ [])
+    (h.left ++ record { line = n; step = m.progress.steps; expected = expected; reason = reason } ∷ [])) (sym one) takes in
+    let checked : HasChecked s.progress (r.lines + 1) (h.taken.lines ++ j.0 ∷ []) left =
+    subst (λ (p : Progress). HasChecked p (r.lines + 1) (h.taken.lines ++ j.0 ∷ []) left) (sym noted.progress) named in
+    subst (Reads (before ++ 10 ∷ []) s) (sym goes.1)
+    (read_line before r s j.0 left h j.1 checked (noted.noted h.left (subst (AreLeftOut h.left) (sym out) h.left_is))
+    (λ stops. absurd (false≢true (sym stops ∙ noted.is_all ∙ goes.0)))
+    (items m s line ∙ empty) (noted.lines ∙ one))
+line_ended before r m s (NotLegal expected reason) known h (inr none) empty one all out line concluded = let wrong = none.0 in cc
+line_ended before r m s (Bad fault) known h (inl j) empty one all out line concluded =
+    let takes = j.2 r.lines h.taken.lines h.left h.taken.checked in
+    read_as (before ++ 10 ∷ []) m s known (Some (kinds.BadLine m.lines fault)) concluded.0 concluded.1
+    (λ rest. line_misplaced before rest r m.lines fault j.0 h j.1 takes one)
+line_ended before r m s (Bad fault) known h (inr none) empty one all out line concluded =
+    let same : fault ≡ NoLine = let e = none.0 in cc in
+    read_as (before ++ 10 ∷ []) m s known (Some (kinds.BadLine m.lines fault)) concluded.0 concluded.1
+    (λ rest. subst (λ (f : LineFault). IsBadLine ((before ++ 10 ∷ []) ++ rest) m.lines f) (sym same)
+    (line_bad before rest r m.lines NoLine h (λ l has. absurd (none.1 l has))
+    (r.line.items, record { more = rest; no_feed = h.no_feed; parts = refl }, none.1) one))
 
 -- it is known before the bytes end
 pub stops : (before bytes : List ℕ) (i d : ℕ) (r : LogReader) (end : Option LogVerdict) → i < length bytes → is_some end ≡ true
@@ -304,4 +408,4 @@ stops before bytes i d r (Some end) h some reads = λ rest.
     ap (λ (x : List ℕ). x ++ (drop (i + 1) bytes ++ rest)) here
     ∙ sym (append_assoc (before ++ take (i + 1) bytes) (drop (i + 1) bytes) rest)
     ∙ ap (λ (x : List ℕ). x ++ rest) (append_assoc before (take (i + 1) bytes) (drop (i + 1) bytes) ∙ ap (λ (x : List ℕ). before ++ x) all) in
-    subst (λ (x : List ℕ). IsLogVerdict x end) whole (reads (drop (i + 1) bytes ++ rest))
+    subst (λ (x : List ℕ). IsLogVerdict r.is_all x end) whole (reads (drop (i + 1) bytes ++ rest))

@@ -1,11 +1,10 @@
 -- A check says `Legal` exactly of the legal logs.
-use Rattle.std.proofs.Common.{◌≡◌, ℕ, ◌-◌, ◌↔◌, List, [], ◌∷◌, ◌++◌, IfSome, IsTrue, None, Option, Some, filter, flat_map, length, map, refl, sym, ap, ap₂, subst, ◌∙◌}
+use Rattle.std.proofs.Common.{◌≡◌, ℕ, Bool, ◌-◌, ◌↔◌, List, [], ◌∷◌, ◌++◌, IfSome, IsTrue, None, Option, Some, filter, flat_map, length, map, refl, sym, ap, ap₂, subst, ◌∙◌}
 use Rattle.std.proofs.lemmas.Bool.{false≢true}
 use Rattle.std.proofs.lemmas.List.{take_at}
 use Rattle.step_rules.specs.declared.step.Step.{Step}
 use Rattle.step_rules.specs.declared.step.Answer.{Answer}
 use Rattle.step_rules.specs.State.{Zone}
-use Rattle.step_reasons.specs.declared.reason.Reason.{Reason}
 use Rattle.step_rules.specs.After.{IsLegalRun}
 use Rattle.step_rules.proofs.Runs.{legal_from}
 use Rattle.mem_core.specs.declared.verdict.Verdict.TheVariants as verdict
@@ -14,10 +13,11 @@ use Rattle.log_lines.specs.declared.line.LogLine.{LogLine}
 use Rattle.log_lines.specs.declared.line.LogLine.TheVariants as kinds
 use Rattle.log_lines.specs.Log.{IsLog, WholeLog, says_something}
 use Rattle.log_lines.proofs.BadLines.{bad_line_is_no_log, continues, filter_append, says_both}
-use Rattle.log_lines.proofs.Logs.{ended, line_of_entry, same_entry}
+use Rattle.log_lines.proofs.Logs.{ended, line_of_entry, same_entry, same_log}
 use Rattle.log_check.specs.declared.verdict.LogVerdict.{LogVerdict}
-use Rattle.log_check.specs.declared.verdict.LogVerdict.TheVariants.{Legal, NotLegal, BadLine}
-use Rattle.log_check.specs.Verdicts.{BreaksRules, IsLegalLog, IsLogVerdict, says_legal, zone_in}
+use Rattle.log_check.specs.declared.verdict.LogVerdict.TheVariants.{Legal, NotLegal, LeftOut, BadLine}
+use Rattle.log_check.specs.declared.verdict.IllegalStep.{IllegalStep}
+use Rattle.log_check.specs.Verdicts.{BreaksRules, IsLegalLog, IsLogVerdict, NamesLeftOut, says_legal, zone_in}
 
 steps_begin : (run all : List (Step × Answer)) (back : List LogLine) → map line_of_entry run ++ back ≡ map line_of_entry all
     → (more : List (Step × Answer)) × (all ≡ run ++ more)
@@ -58,26 +58,31 @@ goes_on text front rest log start parts is begin =
     (sym (ap (λ (ls : List LogLine). ls ++ filter says_something lines.lines) begin.in_order) ∙ sym (filter_append begin.lines lines.lines)
     ∙ ap (filter says_something) (sym lines.parts) ∙ is.in_order)
 
-legal_front : (zone : Zone) (run more : List (Step × Answer)) → IsLegalRun zone (run ++ more) → IsLegalRun zone run
+pub legal_front : (zone : Zone) (run more : List (Step × Answer)) → IsLegalRun zone (run ++ more) → IsLegalRun zone run
 legal_front zone run more legal = subst (IsLegalRun zone) (take_at run more (length run) refl) (legal_from zone (run ++ more) (length run) legal)
 
 no_verdict : (k : ℕ) (expected : Answer) → verdict.IllegalAt k expected ≡ verdict.Legal → ⊥
 no_verdict k expected e = cc
 
-breaks_rules : (text : List ℕ) (line step : ℕ) (expected : Answer) (reason : Reason) → BreaksRules text line step expected reason → ¬ IsLegalLog text
-breaks_rules text line step expected reason breaks legal =
+breaks_rules : (text : List ℕ) (illegal : IllegalStep) → BreaksRules text illegal → ¬ IsLegalLog text
+breaks_rules text illegal breaks legal =
     let on = goes_on text breaks.front breaks.rest legal.log breaks.log breaks.parts legal.is breaks.is in
     let zone = zone_in breaks.log in
     let whole : IsLegalRun zone legal.log.run = subst (λ z. IsLegalRun z legal.log.run) on.zone legal.legal in
     let run : IsLegalRun zone breaks.log.run = legal_front zone breaks.log.run on.more (subst (IsLegalRun zone) on.run whole) in
-    no_verdict (step - 1) expected ((illegal_only zone breaks.log.run (step - 1) expected breaks.first).1 run)
+    no_verdict (illegal.step - 1) illegal.expected ((illegal_only zone breaks.log.run (illegal.step - 1) illegal.expected breaks.first).1 run)
 
-pub exact : (text : List ℕ) (end : LogVerdict) → IsLogVerdict text end → IsTrue (says_legal end) ↔ IsLegalLog text
-exact text (Legal steps free left) is = (λ yes. record { log = is.log; is = is.is; legal = is.legal }, λ legal. refl)
-exact text (NotLegal line step expected reason) is = (λ no. absurd (false≢true no), λ legal. absurd (breaks_rules text line step expected reason is legal))
-exact text (BadLine line) is = (λ no. absurd (false≢true no), λ legal. absurd (bad_line_is_no_log text line legal.log is legal.is))
+leaves_out : (text : List ℕ) (steps count : ℕ) (first : List IllegalStep) → NamesLeftOut text steps count first → ¬ IsLegalLog text
+leaves_out text steps count first names legal =
+    names.not_legal (subst (λ (log : WholeLog). IsLegalRun (zone_in log) log.run) (same_log text legal.log names.log legal.is names.is) legal.legal)
 
-pub exact_if : (input : Option (List ℕ)) (end : LogVerdict) → IfSome input (λ text. IsLogVerdict text end)
+pub exact : (all : Bool) (text : List ℕ) (end : LogVerdict) → IsLogVerdict all text end → IsTrue (says_legal end) ↔ IsLegalLog text
+exact all text (Legal steps free left) is = (λ yes. record { log = is.log; is = is.is; legal = is.legal }, λ legal. refl)
+exact all text (NotLegal illegal) is = (λ no. absurd (false≢true no), λ legal. absurd (breaks_rules text illegal is.1 legal))
+exact all text (LeftOut steps count first) is = (λ no. absurd (false≢true no), λ legal. absurd (leaves_out text steps count first.items is.1 legal))
+exact all text (BadLine line fault) is = (λ no. absurd (false≢true no), λ legal. absurd (bad_line_is_no_log text line legal.log is.first legal.is))
+
+pub exact_if : (all : Bool) (input : Option (List ℕ)) (end : LogVerdict) → IfSome input (λ text. IsLogVerdict all text end)
     → IfSome input (λ text. IsTrue (says_legal end) ↔ IsLegalLog text)
-exact_if None end is = tt
-exact_if (Some text) end is = exact text end is
+exact_if all None end is = tt
+exact_if all (Some text) end is = exact all text end is

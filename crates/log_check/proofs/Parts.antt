@@ -1,12 +1,12 @@
 -- What was read of an input so far, piece by piece. Serves `check_log`.
-use Rattle.std.proofs.Common.{◌≡◌, ◌∙◌, ℕ, ◌<◌, ◌≤◌, List, [], ◌++◌, Option, None, Some, IfSome, ap, append_assoc, append-nil, arith, false, length, refl, subst, sym}
+use Rattle.std.proofs.Common.{◌≡◌, ◌∙◌, ℕ, ◌<◌, ◌≤◌, List, [], ◌++◌, Option, None, Some, IfSome, ap, append_assoc, append-nil, arith, Bool, length, subst, sym}
 use Rattle.std.proofs.KnownBytes.{Consumes-kept, Consumes-nil, Consumes-trans}
 use Rattle.std.specs.Io.KnownBytes.{Consumes, IsAtEnd, Keeps}
 use Rattle.log_check.specs.declared.verdict.LogVerdict.{LogVerdict}
 use Rattle.log_check.specs.declared.reader.LogReader.{LogReader}
-use Rattle.log_check.specs.declared.verdict.LogVerdict.TheVariants.{Legal, NotLegal, BadLine}
-use Rattle.log_check.specs.Reading.{EndsBefore, NamesLineAfter, ReadsAsFar, ReadsUpTo}
-use Rattle.log_check.specs.Verdicts.{IsLogVerdict, says_legal}
+use Rattle.log_check.specs.declared.verdict.LogVerdict.TheVariants.{Legal, NotLegal, LeftOut, BadLine}
+use Rattle.log_check.specs.Reading.{EndsBefore, NamesLineAfter, ReadsAsFar, ReadsUpTo, StopsAfter}
+use Rattle.log_check.specs.Verdicts.{IsLogVerdict}
 use Rattle.log_check.specs.Taking.{Fits, HasRead, Reads}
 
 -- these bytes were read of the input, and are what the log is known to begin with
@@ -36,26 +36,29 @@ kept input left after log so_far same = record {
 }
 
 -- all was read
-pub all_read : (input left after : Option (List ℕ)) (log : LogReader) (end : LogVerdict) → IsReadTo input left log → Consumes left after [] → IsAtEnd after
-    → ((before : List ℕ) → HasRead before log → IsLogVerdict before end) → IfSome input (λ text. IsLogVerdict text end)
-all_read None left after log end so_far read at_end is = tt
-all_read (Some all) None after log end so_far read at_end is = absurd so_far.read
-all_read (Some all) (Some rest) None log end so_far read at_end is = absurd read
-all_read (Some all) (Some rest) (Some last) log end so_far read at_end is =
+pub all_read : (all : Bool) (input left after : Option (List ℕ)) (log : LogReader) (end : LogVerdict) → log.is_all ≡ all → IsReadTo input left log
+    → Consumes left after [] → IsAtEnd after → ((before : List ℕ) → HasRead before log → IsLogVerdict log.is_all before end)
+    → IfSome input (λ text. IsLogVerdict all text end)
+all_read mode None left after log end same so_far read at_end is = tt
+all_read mode (Some all) None after log end same so_far read at_end is = absurd so_far.read
+all_read mode (Some all) (Some rest) None log end same so_far read at_end is = absurd read
+all_read mode (Some all) (Some rest) (Some last) log end same so_far read at_end is =
     let none : rest ≡ [] = read ∙ at_end in
     let whole : all ≡ so_far.bytes = so_far.read ∙ ap (λ (l : List ℕ). so_far.bytes ++ l) none ∙ append-nil so_far.bytes in
-    subst (λ (l : List ℕ). IsLogVerdict l end) (sym whole) (is so_far.bytes so_far.known)
+    subst (λ (l : List ℕ). IsLogVerdict mode l end) (sym whole) (subst (λ (b : Bool). IsLogVerdict b so_far.bytes end) same (is so_far.bytes so_far.known))
 
 -- a piece more was read, and it is known what the log is
-pub ended : (input left after : Option (List ℕ)) (log new : LogReader) (piece : List ℕ) (end : LogVerdict) → IsReadTo input left log → Consumes left after piece
-    → ((before : List ℕ) → HasRead before log → Reads (before ++ piece) new (Some end)) → IfSome input (λ text. IsLogVerdict text end)
-ended None left after log new piece end so_far read is = tt
-ended (Some all) None after log new piece end so_far read is = absurd so_far.read
-ended (Some all) (Some rest) None log new piece end so_far read is = absurd read
-ended (Some all) (Some rest) (Some last) log new piece end so_far read is =
+pub ended : (all : Bool) (input left after : Option (List ℕ)) (log new : LogReader) (piece : List ℕ) (end : LogVerdict) → new.is_all ≡ all
+    → IsReadTo input left log → Consumes left after piece → ((before : List ℕ) → HasRead before log → Reads (before ++ piece) new (Some end))
+    → IfSome input (λ text. IsLogVerdict all text end)
+ended mode None left after log new piece end same so_far read is = tt
+ended mode (Some all) None after log new piece end same so_far read is = absurd so_far.read
+ended mode (Some all) (Some rest) None log new piece end same so_far read is = absurd read
+ended mode (Some all) (Some rest) (Some last) log new piece end same so_far read is =
     let whole : all ≡ (so_far.bytes ++ piece) ++ last
     = so_far.read ∙ ap (λ (l : List ℕ). so_far.bytes ++ l) read ∙ sym (append_assoc so_far.bytes piece last) in
-    subst (λ (l : List ℕ). IsLogVerdict l end) (sym whole) (is so_far.bytes so_far.known last)
+    subst (λ (l : List ℕ). IsLogVerdict mode l end) (sym whole)
+    (subst (λ (b : Bool). IsLogVerdict b ((so_far.bytes ++ piece) ++ last) end) same (is so_far.bytes so_far.known last))
 
 -- ---- how far it was read
 
@@ -86,14 +89,16 @@ up_to input left after log piece line so_far fits read short few = record {
 pub ended_far : (input left after : Option (List ℕ)) (log : LogReader) (piece : List ℕ) (end : LogVerdict) → IsReadTo input left log → Fits log
     → Consumes left after piece → length piece ≤ 4096 → NamesLineAfter log.lines end → ReadsAsFar end input after
 ended_far input left after log piece (Legal steps free left_end) so_far fits read short names = absurd names
-ended_far input left after log piece (NotLegal line step expected reason) so_far fits read short names = up_to input left after log piece line so_far fits read short names
-ended_far input left after log piece (BadLine line) so_far fits read short names = up_to input left after log piece line so_far fits read short names
+ended_far input left after log piece (LeftOut steps count first) so_far fits read short names = absurd names
+ended_far input left after log piece (NotLegal illegal) so_far fits read short names = up_to input left after log piece illegal.line so_far fits read short names
+ended_far input left after log piece (BadLine line fault) so_far fits read short names = up_to input left after log piece line so_far fits read short names
 
 -- all was read
 pub all_far : (input left after : Option (List ℕ)) (log : LogReader) (end : LogVerdict) → IsReadTo input left log → Fits log → Consumes left after []
-    → IsAtEnd after → (says_legal end ≡ false → NamesLineAfter log.lines end) → ReadsAsFar end input after
-all_far input left after log (Legal steps free left_end) so_far fits read at_end names = at_end
-all_far input left after log (NotLegal line step expected reason) so_far fits read at_end names =
-    up_to input left after log [] line so_far fits read (omega arith) (names refl)
-all_far input left after log (BadLine line) so_far fits read at_end names =
-    up_to input left after log [] line so_far fits read (omega arith) (names refl)
+    → IsAtEnd after → StopsAfter log.lines end → ReadsAsFar end input after
+all_far input left after log (Legal steps free left_end) so_far fits read at_end stops = at_end
+all_far input left after log (LeftOut steps count first) so_far fits read at_end stops = at_end
+all_far input left after log (NotLegal illegal) so_far fits read at_end stops =
+    up_to input left after log [] illegal.line so_far fits read (omega arith) stops
+all_far input left after log (BadLine line fault) so_far fits read at_end stops =
+    up_to input left after log [] line so_far fits read (omega arith) stops

@@ -2,7 +2,7 @@
 use Rattle.std.proofs.Common.{◌≡◌, ℕ, ◌+◌, ◌-◌, List, [], ◌∷◌, ◌++◌, ◌⊎◌, Option, Some, None, inl, inr, filter, length, map, refl, sym, ap, subst, ◌∙◌, append-nil}
 use Rattle.std.proofs.Common.{add-one, ap₂, arith, length-append, suc, take}
 use Rattle.std.specs.List.{slice_get}
-use Rattle.std.specs.Prelude.{is_some, true, false}
+use Rattle.std.specs.Prelude.{IfSome, is_some, true, false}
 use Rattle.std.proofs.lemmas.Bool.{false≢true}
 use Rattle.std.proofs.lemmas.List.{map-append, take-append-le, take_all, take_at}
 use Rattle.step_rules.specs.declared.step.Step.{Step}
@@ -19,7 +19,10 @@ use Rattle.log_lines.specs.declared.line.LogLine.TheVariants as kinds
 use Rattle.log_lines.specs.Log.{MayBegin, SayInOrder, WholeLog, says_something}
 use Rattle.log_lines.proofs.BadLines.{filter_append}
 use Rattle.log_lines.proofs.Logs.{line_of_entry}
-use Rattle.log_check.specs.Verdicts.{zone_in}
+use Rattle.log_check.specs.declared.line_fault.LineFault.TheVariants.{SizesAgain, StepFirst}
+use Rattle.log_check.specs.declared.verdict.IllegalStep.{IllegalStep}
+use Rattle.log_check.specs.Verdicts.{IsIllegalAt, IsMisplaced, LeavesOut, Reached, at_start, line_on, step_on, zone_in}
+use Rattle.log_check.proofs.Exact.{legal_front}
 use Rattle.log_check.specs.Ends.{free_count}
 use Rattle.log_check.specs.Taking.{Checked, EndsIllegally}
 use Rattle.step_reasons.specs.declared.reason.Reason.{Reason}
@@ -29,20 +32,51 @@ use Rattle.step_reasons.specs.Reasons.{IsReason}
 abbrev pub log_more : WholeLog → Step → Answer → WholeLog
 log_more log step answer = record { frames = log.frames; cpus = log.cpus; run = one_more log.run step answer }
 
+-- ---- what is left out
+
+-- the lines before, and then more
+pub left_more : (at : Reached) (lines more : List LogLine) (left others : List IllegalStep) (middle end : Reached) → LeavesOut at lines left middle
+    → LeavesOut middle more others end → LeavesOut at (lines ++ more) (left ++ others) end
+left_more at [] more left others middle end one two =
+    subst (λ (l : List IllegalStep). LeavesOut at more (l ++ others) end) (sym one.0) (subst (λ (x : Reached). LeavesOut x more others end) one.1 two)
+left_more at (kinds.Skipped ∷ lines) more left others middle end one two = left_more (line_on at) lines more left others middle end one two
+left_more at (kinds.Zone frames cpus ∷ lines) more left others middle end one two = left_more (line_on at) lines more left others middle end one two
+left_more at (kinds.Step step answer ∷ lines) more left others middle end (inl made) two =
+    inl (made.0, left_more (step_on at (after at.state step.seat step.action answer)) lines more left others middle end made.1 two)
+left_more at (kinds.Step step answer ∷ lines) more left others middle end (inr x) two =
+    inr (x.0, x.1 ++ others, ap (λ (l : List IllegalStep). l ++ others) x.2, x.3, left_more (step_on at at.state) lines more x.1 others middle end x.4 two)
+
+-- the lines before, and then one of which no step is left out
+none_more : (at : Reached) (lines : List LogLine) (line : LogLine) (left : List IllegalStep) (middle end : Reached) → LeavesOut at lines left middle
+    → LeavesOut middle (line ∷ []) [] end → LeavesOut at (lines ++ line ∷ []) left end
+none_more at lines line left middle end one two =
+    subst (λ (l : List IllegalStep). LeavesOut at (lines ++ line ∷ []) l end) (append-nil left) (left_more at lines (line ∷ []) left [] middle end one two)
+
 -- ---- a skipped line
 
 skipped_says : (lines : List LogLine) → filter says_something (lines ++ kinds.Skipped ∷ []) ≡ filter says_something lines
 skipped_says lines = filter_append lines (kinds.Skipped ∷ []) ∙ append-nil (filter says_something lines)
 
-pub takes_skipped : (checker : Option CoreState) (free : ℕ) (lines : List LogLine) → Checked checker free lines → Checked checker free (lines ++ kinds.Skipped ∷ [])
-takes_skipped None free lines checked = (skipped_says lines ∙ checked.0, checked.1)
-takes_skipped (Some s) free lines checked = record {
+pub takes_skipped : (checker : Option CoreState) (count : ℕ) (lines : List LogLine) (steps free : ℕ) (left : List IllegalStep)
+    → Checked checker count lines steps free left → Checked checker (count + 1) (lines ++ kinds.Skipped ∷ []) steps free left
+takes_skipped None count lines steps free left checked = record {
+  empty = skipped_says lines ∙ checked.empty;
+  no_steps = checked.no_steps;
+  none_free = checked.none_free;
+  none_left = checked.none_left;
+  leaves = λ s. none_more _ lines kinds.Skipped [] _ _ (checked.leaves s) (refl, refl);
+}
+takes_skipped (Some s) count lines steps free left checked = record {
   log = checked.log;
   order = skipped_says lines ∙ checked.order;
+  steps_are = checked.steps_are;
+  made = checked.made;
   legal = checked.legal;
   state = checked.state;
-  count = checked.count;
   free_is = checked.free_is;
+  leaves = none_more _ lines kinds.Skipped left _ _ checked.leaves (refl, refl);
+  whole = checked.whole;
+  none = checked.none;
 }
 
 -- ---- the sizes of the zone
@@ -54,16 +88,28 @@ no_steps_free : (frames cpus : ℕ) → free_count (record { frames = frames; cp
 unfolding sum_to
 no_steps_free frames cpus = refl
 
-pub takes_zone : (lines : List LogLine) (frames cpus free : ℕ) (s : CoreState) → Checked None free lines
-    → state_shown s ≡ at_boot (record { frames = frames; cpus = cpus }) → s.steps ≡ 0 → Checked (Some s) free (lines ++ kinds.Zone frames cpus ∷ [])
-takes_zone lines frames cpus free s none state steps = record {
-  log = record { frames = frames; cpus = cpus; run = [] };
-  order = filter_append lines (kinds.Zone frames cpus ∷ []) ∙ ap (λ (ls : List LogLine). ls ++ kinds.Zone frames cpus ∷ []) none.0;
-  legal = no_steps_legal frames cpus;
-  state = state;
-  count = steps;
-  free_is = none.1 ∙ sym (no_steps_free frames cpus);
-}
+pub takes_zone : (count : ℕ) (lines : List LogLine) (frames cpus steps free : ℕ) (left : List IllegalStep) (s : CoreState)
+    → Checked None count lines steps free left → state_shown s ≡ at_boot (record { frames = frames; cpus = cpus })
+    → Checked (Some s) (count + 1) (lines ++ kinds.Zone frames cpus ∷ []) steps free left
+takes_zone count lines frames cpus steps free left s nothing state =
+    let boot = at_boot (record { frames = frames; cpus = cpus }) in
+    let leaves : LeavesOut (record { lines = 0; steps = 0; state = boot }) (lines ++ kinds.Zone frames cpus ∷ []) []
+    (record { lines = count + 1; steps = 0; state = boot }) =
+    none_more _ lines (kinds.Zone frames cpus) [] _ _ (nothing.leaves boot) (refl, refl) in
+    record {
+      log = record { frames = frames; cpus = cpus; run = [] };
+      order = filter_append lines (kinds.Zone frames cpus ∷ []) ∙ ap (λ (ls : List LogLine). ls ++ kinds.Zone frames cpus ∷ []) nothing.empty;
+      steps_are = nothing.no_steps;
+      made = [];
+      legal = no_steps_legal frames cpus;
+      state = state;
+      free_is = nothing.none_free ∙ sym (no_steps_free frames cpus);
+      leaves = subst (λ (l : List IllegalStep). LeavesOut (at_start (record { frames = frames; cpus = cpus })) (lines ++ kinds.Zone frames cpus ∷ []) l (record { lines = count + 1; steps = steps; state = boot }))
+          (sym nothing.none_left) (subst (λ (n : ℕ). LeavesOut (at_start (record { frames = frames; cpus = cpus })) (lines ++ kinds.Zone frames cpus ∷ []) [] (record { lines = count + 1; steps = n; state = boot }))
+          (sym nothing.no_steps) leaves);
+      whole = λ none. refl;
+      none = λ legal. nothing.none_left;
+    }
 
 -- the steps of no log are followed by the sizes of a zone
 no_zone_among : (run more : List (Step × Answer)) (frames cpus : ℕ) → map line_of_entry run ++ kinds.Zone frames cpus ∷ [] ≡ map line_of_entry more → ⊥
@@ -86,19 +132,28 @@ second_zone : (said : List LogLine) (log : WholeLog) (frames cpus : ℕ)
 second_zone said log frames cpus e (inl none) = cc
 second_zone said log frames cpus e (inr other) = second_in_order log other.0 frames cpus (sym e ∙ other.1)
 
-pub refuses_zone : (lines : List LogLine) (frames cpus free : ℕ) (s : CoreState) → Checked (Some s) free lines → ¬ MayBegin (lines ++ kinds.Zone frames cpus ∷ [])
-refuses_zone lines frames cpus free s checked begins =
+pub refuses_zone : (count : ℕ) (lines : List LogLine) (frames cpus steps free : ℕ) (left : List IllegalStep) (s : CoreState)
+    → Checked (Some s) count lines steps free left → ¬ MayBegin (lines ++ kinds.Zone frames cpus ∷ [])
+refuses_zone count lines frames cpus steps free left s checked begins =
     second_zone (filter says_something (lines ++ kinds.Zone frames cpus ∷ [])) checked.log frames cpus
     (filter_append lines (kinds.Zone frames cpus ∷ []) ∙ ap (λ (ls : List LogLine). ls ++ kinds.Zone frames cpus ∷ []) checked.order) begins
 
-pub second_sizes : (checker : Option CoreState) (free : ℕ) (lines : List LogLine) (frames cpus : ℕ) → is_some checker ≡ true → Checked checker free lines
-    → ¬ MayBegin (lines ++ kinds.Zone frames cpus ∷ [])
-second_sizes None free lines frames cpus some checked = absurd (false≢true some)
-second_sizes (Some s) free lines frames cpus some checked = refuses_zone lines frames cpus free s checked
+some_lines : (log : WholeLog) (said : List LogLine) → said ≡ kinds.Zone log.frames log.cpus ∷ map line_of_entry log.run → said ≡ [] → ⊥
+some_lines log said order none = let same = sym order ∙ none in cc
 
-pub no_sizes : (checker : Option CoreState) (free : ℕ) (lines : List LogLine) → is_some checker ≡ false → Checked checker free lines → Checked None free lines
-no_sizes None free lines none checked = checked
-no_sizes (Some s) free lines none checked = absurd (false≢true (sym none))
+pub second_sizes : (checker : Option CoreState) (count : ℕ) (lines : List LogLine) (frames cpus steps free : ℕ) (left : List IllegalStep)
+    → is_some checker ≡ true → Checked checker count lines steps free left
+    → ¬ MayBegin (lines ++ kinds.Zone frames cpus ∷ []) × IsMisplaced SizesAgain lines (kinds.Zone frames cpus)
+second_sizes None count lines frames cpus steps free left some checked = absurd (false≢true some)
+second_sizes (Some s) count lines frames cpus steps free left some checked = (
+  refuses_zone count lines frames cpus steps free left s checked,
+  some_lines checked.log (filter says_something lines) checked.order,
+)
+
+pub no_sizes : (checker : Option CoreState) (count : ℕ) (lines : List LogLine) (steps free : ℕ) (left : List IllegalStep) → is_some checker ≡ false
+    → Checked checker count lines steps free left → Checked None count lines steps free left
+no_sizes None count lines steps free left none checked = checked
+no_sizes (Some s) count lines steps free left none checked = absurd (false≢true (sym none))
 
 -- ---- a step
 
@@ -107,10 +162,14 @@ first_step : (said : List LogLine) (step : Step) (answer : Answer) → said ≡ 
 first_step said step answer e (inl none) = cc
 first_step said step answer e (inr other) = let same = sym e ∙ other.1 in cc
 
-pub refuses_step : (free : ℕ) (lines : List LogLine) (step : Step) (answer : Answer) → Checked None free lines → ¬ MayBegin (lines ++ kinds.Step step answer ∷ [])
-refuses_step free lines step answer none begins =
-    first_step (filter says_something (lines ++ kinds.Step step answer ∷ [])) step answer
-    (filter_append lines (kinds.Step step answer ∷ []) ∙ ap (λ (ls : List LogLine). ls ++ kinds.Step step answer ∷ []) none.0) begins
+pub refuses_step : (count : ℕ) (lines : List LogLine) (step : Step) (answer : Answer) (steps free : ℕ) (left : List IllegalStep)
+    → Checked None count lines steps free left
+    → ¬ MayBegin (lines ++ kinds.Step step answer ∷ []) × IsMisplaced StepFirst lines (kinds.Step step answer)
+refuses_step count lines step answer steps free left nothing = (
+  λ begins. first_step (filter says_something (lines ++ kinds.Step step answer ∷ [])) step answer
+      (filter_append lines (kinds.Step step answer ∷ []) ∙ ap (λ (ls : List LogLine). ls ++ kinds.Step step answer ∷ []) nothing.empty) begins,
+  nothing.empty,
+)
 
 step_in_order : (lines : List LogLine) (log : WholeLog) (step : Step) (answer : Answer) → SayInOrder lines log
     → SayInOrder (lines ++ kinds.Step step answer ∷ []) (log_more log step answer)
@@ -138,51 +197,114 @@ free_more zone run step answer =
     ap (λ n. sum_to n (λ k. test (take (k + 1) all))) (long ∙ add-one (length run)) in
     whole ∙ ap₂ (λ (a b : ℕ). a + b) before last
 
-pub takes_step : (lines : List LogLine) (step : Step) (answer : Answer) (s t : CoreState) (free later : ℕ) → Checked (Some s) free lines
-    → Leads (state_shown s) step answer (state_shown t) → t.steps ≡ s.steps + 1 → later ≡ free + one_if (is_unheld (state_shown t).hold)
-    → Checked (Some t) later (lines ++ kinds.Step step answer ∷ [])
-takes_step lines step answer s t free later checked leads one counted =
+abbrev reached : (lines steps : ℕ) → State → Reached
+reached lines steps s = record { lines = lines; steps = steps; state = s }
+
+pub takes_step : (count : ℕ) (lines : List LogLine) (step : Step) (answer : Answer) (s t : CoreState) (steps free later : ℕ) (left : List IllegalStep)
+    → Checked (Some s) count lines steps free left → Leads (state_shown s) step answer (state_shown t)
+    → later ≡ free + one_if (is_unheld (state_shown t).hold)
+    → Checked (Some t) (count + 1) (lines ++ kinds.Step step answer ∷ []) (steps + 1) later left
+takes_step count lines step answer s t steps free later left checked leads counted =
     let log = checked.log in
     let zone = zone_in log in
-    let here : Allows (state_of zone log.run) step.seat step.action answer =
+    let made = checked.made in
+    let all = one_more made step answer in
+    let here : Allows (state_of zone made) step.seat step.action answer =
     subst (λ (x : State). Allows x step.seat step.action answer) checked.state leads.allowed in
-    let there : state_shown t ≡ state_of zone (one_more log.run step answer) =
-    leads.state ∙ ap (λ (x : State). after x step.seat step.action answer) checked.state ∙ sym (state_more zone log.run step answer) in
+    let there : state_shown t ≡ state_of zone all =
+    leads.state ∙ ap (λ (x : State). after x step.seat step.action answer) checked.state ∙ sym (state_more zone made step answer) in
+    let end : reached (count + 1) (steps + 1) (state_of zone all)
+    ≡ reached (count + 1) (steps + 1) (after (state_of zone made) step.seat step.action answer) =
+    ap (reached (count + 1) (steps + 1)) (state_more zone made step answer) in
     record {
       log = log_more log step answer;
       order = step_in_order lines log step answer checked.order;
-      legal = legal_more zone log.run step answer checked.legal here;
+      steps_are = ap (λ n. n + 1) checked.steps_are ∙ sym (length-append log.run ((step, answer) ∷ []));
+      made = all;
+      legal = legal_more zone made step answer checked.legal here;
       state = there;
-      count = one ∙ ap (λ n. n + 1) checked.count ∙ sym (length-append log.run ((step, answer) ∷ []));
       free_is = counted ∙ ap₂ (λ (a b : ℕ). a + b) checked.free_is (ap (λ (x : State). one_if (is_unheld x.hold)) there)
-          ∙ sym (free_more zone log.run step answer);
+          ∙ sym (free_more zone made step answer);
+      leaves = none_more _ lines (kinds.Step step answer) left _ _ checked.leaves (inl (here, (refl, end)));
+      whole = λ none. ap (λ (r : List (Step × Answer)). one_more r step answer) (checked.whole none);
+      none = λ legal. checked.none (legal_front zone log.run ((step, answer) ∷ []) legal);
     }
 
-pub ends_illegally : (lines : List LogLine) (step : Step) (answer expected : Answer) (reason : Reason) (s : CoreState) (free steps : ℕ)
-    → Checked (Some s) free lines
+none_behind : (left : List IllegalStep) (illegal : IllegalStep) → left ++ illegal ∷ [] ≡ [] → ⊥
+none_behind [] illegal e = cc
+none_behind (x ∷ left) illegal e = cc
+
+-- the last step of a legal run is allowed
+last_allowed : (zone : Zone) (run : List (Step × Answer)) (step : Step) (answer : Answer) → IsLegalRun zone (one_more run step answer)
+    → Allows (state_of zone run) step.seat step.action answer
+last_allowed zone run step answer legal =
+    let all = one_more run step answer in
+    let allowed : Allows (state_of zone (take (length run) all)) step.seat step.action answer =
+    subst (λ (o : Option (Step × Answer)). IfSome o (λ e. Allows (state_of zone (take (length run) all)) e.0.seat e.0.action e.1)) (get_last run (step, answer))
+    (legal (length run)) in
+    subst (λ (r : List (Step × Answer)). Allows (state_of zone r) step.seat step.action answer) (take_at run ((step, answer) ∷ []) (length run) refl) allowed
+
+pub leaves_step : (count : ℕ) (lines : List LogLine) (step : Step) (answer expected : Answer) (reason : Reason) (s t : CoreState) (steps free : ℕ)
+    (left : List IllegalStep) → Checked (Some s) count lines steps free left → t ≡ s
     → ¬ Allows (state_shown s) step.seat step.action answer → Allows (state_shown s) step.seat step.action expected
-    → IsReason (state_shown s) step answer expected reason → steps ≡ s.steps + 1
-    → EndsIllegally (lines ++ kinds.Step step answer ∷ []) steps expected reason
-ends_illegally lines step answer expected reason s free steps checked denied allowed why one =
+    → IsReason (state_shown s) step answer expected reason
+    → Checked (Some t) (count + 1) (lines ++ kinds.Step step answer ∷ []) (steps + 1) free
+    (left ++ record { line = count + 1; step = steps + 1; expected = expected; reason = reason } ∷ [])
+leaves_step count lines step answer expected reason s t steps free left checked same denied allowed why =
     let log = checked.log in
-    let run = one_more log.run step answer in
-    let long : length run ≡ length log.run + 1 = length-append log.run ((step, answer) ∷ []) in
-    let counted = checked.count in
-    let index : length log.run ≡ steps - 1 = omega (arith, one, counted) in
-    let all : steps ≡ length run = omega (arith, one, counted, long) in
-    let front : log.run ≡ take (length log.run) run = sym (take_at log.run ((step, answer) ∷ []) (length log.run) refl) in
-    let here : state_shown s ≡ state_of (zone_in log) (take (length log.run) run) = checked.state ∙ ap (state_of (zone_in log)) front in
+    let zone = zone_in log in
+    let made = checked.made in
+    let illegal : IllegalStep = record { line = count + 1; step = steps + 1; expected = expected; reason = reason } in
+    let at : Reached = record { lines = count; steps = steps; state = state_of zone made } in
+    let is : IsIllegalAt at step answer illegal = record {
+      line_is = refl;
+      step_is = refl;
+      denied = subst (λ (x : State). ¬ Allows x step.seat step.action answer) checked.state denied;
+      allowed = subst (λ (x : State). Allows x step.seat step.action expected) checked.state allowed;
+      why = subst (λ (x : State). IsReason x step answer expected reason) checked.state why;
+    } in
     record {
       log = log_more log step answer;
       order = step_in_order lines log step answer checked.order;
-      count = all;
+      steps_are = ap (λ n. n + 1) checked.steps_are ∙ sym (length-append log.run ((step, answer) ∷ []));
+      made = made;
+      legal = checked.legal;
+      state = ap state_shown same ∙ checked.state;
+      free_is = checked.free_is;
+      leaves = left_more _ lines (kinds.Step step answer ∷ []) left (illegal ∷ []) at _ checked.leaves (inr (illegal, [], refl, is, (refl, refl)));
+      whole = λ none. absurd (none_behind left illegal none);
+      none = λ legal.
+          let empty = checked.none (legal_front zone log.run ((step, answer) ∷ []) legal) in
+          let run : state_shown s ≡ state_of zone log.run = checked.state ∙ ap (state_of zone) (checked.whole empty) in
+          absurd (denied (subst (λ (x : State). Allows x step.seat step.action answer) (sym run) (last_allowed zone log.run step answer legal)));
+    }
+
+pub ends_illegally : (count : ℕ) (lines : List LogLine) (step : Step) (answer expected : Answer) (reason : Reason) (s : CoreState) (steps free : ℕ)
+    (left : List IllegalStep) → Checked (Some s) count lines steps free left
+    → ¬ Allows (state_shown s) step.seat step.action answer → Allows (state_shown s) step.seat step.action expected
+    → IsReason (state_shown s) step answer expected reason → left ≡ []
+    → EndsIllegally (lines ++ kinds.Step step answer ∷ []) (steps + 1) expected reason
+ends_illegally count lines step answer expected reason s steps free left checked denied allowed why none =
+    let log = checked.log in
+    let zone = zone_in log in
+    let run = one_more log.run step answer in
+    let long : length run ≡ length log.run + 1 = length-append log.run ((step, answer) ∷ []) in
+    let counted = checked.steps_are in
+    let index : length log.run ≡ steps + 1 - 1 = omega (arith, counted) in
+    let front : checked.made ≡ take (length log.run) run = checked.whole none ∙ sym (take_at log.run ((step, answer) ∷ []) (length log.run) refl) in
+    let here : state_shown s ≡ state_of zone (take (steps + 1 - 1) run) =
+    checked.state ∙ ap (state_of zone) front ∙ ap (λ k. state_of zone (take k run)) index in
+    record {
+      log = log_more log step answer;
+      order = step_in_order lines log step answer checked.order;
+      count = omega (arith, counted, long);
       first = record {
-        before = subst (λ k. IsLegalRun (zone_in log) (take k run)) index (subst (IsLegalRun (zone_in log)) front checked.legal);
+        before = subst (λ k. IsLegalRun zone (take k run)) index (subst (IsLegalRun zone) front checked.legal);
         step = step;
         answer = answer;
         there = subst (λ k. slice_get run k ≡ Some (step, answer)) index (get_last log.run (step, answer));
-        denied = subst (λ (x : State). ¬ Allows x step.seat step.action answer) (here ∙ ap (λ k. state_of (zone_in log) (take k run)) index) denied;
-        allowed = subst (λ (x : State). Allows x step.seat step.action expected) (here ∙ ap (λ k. state_of (zone_in log) (take k run)) index) allowed;
+        denied = subst (λ (x : State). ¬ Allows x step.seat step.action answer) here denied;
+        allowed = subst (λ (x : State). Allows x step.seat step.action expected) here allowed;
       };
-      why = subst (λ (x : State). IsReason x step answer expected reason) (here ∙ ap (λ k. state_of (zone_in log) (take k run)) index) why;
+      why = subst (λ (x : State). IsReason x step answer expected reason) here why;
     }

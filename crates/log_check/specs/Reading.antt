@@ -1,10 +1,10 @@
 -- How far a check reads a log.
-use Rattle.std.specs.Prelude.{◌≡◌, ◌≢◌, ℕ, ◌<◌, ◌≤◌, List, ◌++◌, Option, All, length}
+use Rattle.std.specs.Prelude.{◌≡◌, ◌≢◌, ℕ, ◌<◌, ◌≤◌, List, ◌++◌, Option, All, length, ⊤}
 use Rattle.std.specs.Io.KnownBytes.{Consumes, IsAtEnd}
 use Rattle.log_lines.specs.Line.{longest_line}
 use Rattle.log_lines.specs.Log.{AreLinesOf}
 use Rattle.log_check.specs.declared.verdict.LogVerdict.{LogVerdict}
-use Rattle.log_check.specs.declared.verdict.LogVerdict.TheVariants.{Legal, NotLegal, BadLine}
+use Rattle.log_check.specs.declared.verdict.LogVerdict.TheVariants.{Legal, NotLegal, LeftOut, BadLine}
 
 -- the most bytes of one read
 abbrev pub longest_piece : ℕ
@@ -29,14 +29,24 @@ pub record ReadsUpTo (line : ℕ) (before after : Option (List ℕ)) : Type 0 wh
   pub short : length piece ≤ longest_piece
   pub taken : Consumes before after (text ++ piece)
 
--- how far a check reads: to the end if the log is legal, or else up to the line that it names
+-- how far a check reads: up to the first step that isn't legal, if it stops there, up to the first bad line, or to the
+-- end
 abbrev pub ReadsAsFar : LogVerdict → (before after : Option (List ℕ)) → Type 0
 ReadsAsFar (Legal steps free end) before after = IsAtEnd after
-ReadsAsFar (NotLegal line step expected reason) before after = ReadsUpTo line before after
-ReadsAsFar (BadLine line) before after = ReadsUpTo line before after
+ReadsAsFar (NotLegal illegal) before after = ReadsUpTo illegal.line before after
+ReadsAsFar (LeftOut steps count first) before after = IsAtEnd after
+ReadsAsFar (BadLine line fault) before after = ReadsUpTo line before after
 
--- the log isn't legal, and the line that is named comes after so many
+-- the check stops at a line that comes after so many, if it stops at a line
+abbrev pub StopsAfter : ℕ → LogVerdict → Type 0
+StopsAfter lines (Legal steps free end) = ⊤
+StopsAfter lines (LeftOut steps count first) = ⊤
+StopsAfter lines (NotLegal illegal) = lines < illegal.line
+StopsAfter lines (BadLine line fault) = lines < line
+
+-- the check stops at a line that comes after so many
 abbrev pub NamesLineAfter : ℕ → LogVerdict → Type 0
 NamesLineAfter lines (Legal steps free end) = ⊥
-NamesLineAfter lines (NotLegal line step expected reason) = lines < line
-NamesLineAfter lines (BadLine line) = lines < line
+NamesLineAfter lines (NotLegal illegal) = lines < illegal.line
+NamesLineAfter lines (LeftOut steps count first) = ⊥
+NamesLineAfter lines (BadLine line fault) = lines < line

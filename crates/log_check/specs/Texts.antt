@@ -1,11 +1,14 @@
 -- The result of a check as text.
-use Rattle.std.specs.Prelude.{ℕ, List, ◌++◌, Option, None, Some, codes, decimal}
+use Rattle.std.specs.Prelude.{ℕ, List, ◌++◌, Option, None, Some, codes, decimal, flat_map}
 use Rattle.step_rules.specs.declared.step.Answer.{Answer}
 use Rattle.log_lines.specs.Words.{answer_words, spaced}
 use Rattle.step_reasons.specs.Texts.{reason_text, said}
 use Rattle.log_check.specs.declared.verdict.LogEnd.{LogEnd}
 use Rattle.log_check.specs.declared.verdict.LogVerdict.{LogVerdict}
-use Rattle.log_check.specs.declared.verdict.LogVerdict.TheVariants.{Legal, NotLegal, BadLine}
+use Rattle.log_check.specs.declared.verdict.LogVerdict.TheVariants.{Legal, NotLegal, LeftOut, BadLine}
+use Rattle.log_check.specs.declared.verdict.IllegalStep.{IllegalStep}
+use Rattle.log_check.specs.declared.line_fault.LineFault.{LineFault}
+use Rattle.log_check.specs.declared.line_fault.LineFault.TheVariants.{NoSizes, NoLineFeed, TooLong, NoLine, SizesAgain, StepFirst}
 
 -- the line and the number of a step
 abbrev pub place_text : (line step : ℕ) → List ℕ
@@ -14,6 +17,25 @@ place_text line step = codes "line " ++ decimal line ++ codes ": step " ++ decim
 -- the answer that is allowed there
 abbrev pub due_text : Answer → List ℕ
 due_text expected = codes " is not legal:" ++ spaced (answer_words expected) ++ codes " was due: "
+
+-- the line for a step that isn't legal
+abbrev pub illegal_text : IllegalStep → List ℕ
+illegal_text illegal =
+    place_text illegal.line illegal.step
+    ++ (due_text illegal.expected ++ (reason_text illegal.reason ++ codes "\n"))
+
+-- how many of the steps aren't legal
+abbrev pub count_text : (count steps : ℕ) → List ℕ
+count_text count steps = said (codes "not legal: ") count (said (codes " of ") steps (codes " steps\n"))
+
+-- why a line is bad, behind its number
+abbrev pub why_text : LineFault → List ℕ
+why_text NoSizes = codes ": the sizes are missing\n"
+why_text NoLineFeed = codes ": it has no line feed\n"
+why_text TooLong = codes ": it has more than 1024 bytes\n"
+why_text NoLine = codes ": it is neither a step nor sizes\n"
+why_text SizesAgain = codes ": the sizes were given before\n"
+why_text StepFirst = codes ": the sizes come first\n"
 
 -- how many steps a legal log has
 abbrev pub steps_text : ℕ → List ℕ
@@ -40,5 +62,6 @@ end_text end = left_text end ++ holder_text end.holder
 -- the lines that say what a log is
 abbrev pub verdict_text : LogVerdict → List ℕ
 verdict_text (Legal steps free end) = steps_text steps ++ (free_text free ++ end_text end)
-verdict_text (NotLegal line step expected reason) = place_text line step ++ (due_text expected ++ (reason_text reason ++ codes "\n"))
-verdict_text (BadLine line) = codes "bad line " ++ decimal line ++ codes "\n"
+verdict_text (NotLegal illegal) = illegal_text illegal
+verdict_text (LeftOut steps count first) = flat_map illegal_text first.items ++ count_text count steps
+verdict_text (BadLine line fault) = said (codes "bad line ") line (why_text fault)

@@ -3,11 +3,13 @@
 #![tactic(auto)]
 
 mod ending;
+mod left_out;
+pub mod line_fault;
 mod progress;
 mod reader;
 mod reading;
 mod text;
 pub mod verdict;
 
-pub use reading::check_log;
+pub use reading::{check, check_log};
 pub use text::write_verdict;

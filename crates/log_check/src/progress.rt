@@ -1,13 +1,13 @@
 //! How far the run of a log was checked.
 
-ghost use Rattle.std.specs.Prelude.{◌≡◌, ◌+◌, ◌^◌, ◌<◌, ◌≤◌, IfErr, IfOk, List};
+ghost use Rattle.std.specs.Prelude.{◌≡◌, ◌+◌, ◌^◌, ◌<◌, ◌≤◌, IfErr, IfOk};
 ghost use Rattle.step_rules.specs.State.{is_unheld, one_if};
-ghost use Rattle.log_lines.specs.declared.line.LogLine.{LogLine};
 ghost use Rattle.log_lines.specs.declared.line.LogLine.TheVariants as kinds;
 ghost use Rattle.log_lines.specs.Line.{IsZone};
-ghost use Rattle.log_check.specs.Taking.{CountsSteps, HasChecked, IsInRange, Takes};
+ghost use Rattle.log_check.specs.Taking.{CountsSteps, IsInRange, TakesAfter};
 ghost use Rattle.log_check.specs.declared.verdict.LogFault.TheVariants.{NoMemory};
 
+use crate::line_fault::LineFault;
 use crate::verdict::LogFault;
 use core_rows::holds::is_unheld;
 use log_lines::line::LogLine;
@@ -19,12 +19,12 @@ use step_rules::phase::Hold;
 use step_rules::step::{Answer, Step};
 use zone_sizes::config::Config;
 
-/// The checker, once the sizes of the zone are known, and how many steps it has taken.
+/// The checker, once the sizes of the zone are known, and how many steps it was asked to take.
 #[derive(Drop)]
 pub(crate) struct Progress {
     pub(crate) checker: Option<Checker>,
     pub(crate) steps: u64,
-    // How many of them left the lock free.
+    // How many of these were legal and left the lock free.
     pub(crate) free: u64,
 }
 
@@ -36,7 +36,7 @@ pub(crate) enum Taken {
     /// The line is a step whose answer the rules don't allow; they allow this one, for this reason.
     NotLegal { expected: Answer, reason: Reason },
     /// No log continues with this line.
-    Bad,
+    Bad(LineFault),
 }
 
 impl Progress {
@@ -45,8 +45,7 @@ impl Progress {
         requires in_range { IsInRange line.now }
         requires counts { CountsSteps self.old }
         requires few { self.old.steps + 1 < 2 ^ 64 }
-        ensures taken { IfOk result (λ taken.
-            (lines : List LogLine) → HasChecked self.old lines → Takes lines line.now self.new taken) }
+        ensures taken { IfOk result (TakesAfter self.old line.now self.new) }
         ensures fault { IfErr result (λ fault. fault ≡ NoMemory) }
         ensures counts { CountsSteps self.new }
         ensures few { self.new.steps ≤ self.old.steps + 1 }
@@ -61,14 +60,13 @@ impl Progress {
     fn take_zone(&mut self, alloc: Global, frames: u32, cpus: u32) -> Result<Taken, LogFault>
         requires sizes { IsZone frames cpus }
         requires counts { CountsSteps self.old }
-        ensures taken { IfOk result (λ taken. (lines : List LogLine) → HasChecked self.old lines
-            → Takes lines (kinds.Zone frames cpus) self.new taken) }
+        ensures taken { IfOk result (TakesAfter self.old (kinds.Zone frames cpus) self.new) }
         ensures fault { IfErr result (λ fault. fault ≡ NoMemory) }
         ensures counts { CountsSteps self.new }
         ensures steps { self.new.steps ≡ self.old.steps }
     {
         if self.checker.is_some() {
-            return Ok(Taken::Bad);
+            return Ok(Taken::Bad(LineFault::SizesAgain));
         }
         let config = Config {
             frames,
@@ -89,24 +87,25 @@ impl Progress {
     fn take_step(&mut self, step: &Step, answer: &Answer) -> Taken
         requires counts { CountsSteps self.old }
         requires few { self.old.steps + 1 < 2 ^ 64 }
-        ensures taken { (lines : List LogLine) → HasChecked self.old lines
-            → Takes lines (kinds.Step step.now answer.now) self.new result }
+        ensures taken { TakesAfter self.old (kinds.Step step.now answer.now) self.new result }
         ensures counts { CountsSteps self.new }
         ensures few { self.new.steps ≤ self.old.steps + 1 }
     {
         match &mut self.checker {
-            None => Taken::Bad,
-            Some(checker) => match checker.accept(step, answer) {
-                Ok(()) => {
-                    self.steps += 1;
-                    self.free += free_once(checker.rows().hold);
-                    Taken::GoesOn
+            None => Taken::Bad(LineFault::StepFirst),
+            Some(checker) => {
+                self.steps += 1;
+                match checker.accept(step, answer) {
+                    Ok(()) => {
+                        self.free += free_once(checker.rows().hold);
+                        Taken::GoesOn
+                    }
+                    Err(expected) => Taken::NotLegal {
+                        expected,
+                        reason: reason_of(checker.rows(), step, answer, &expected),
+                    },
                 }
-                Err(expected) => Taken::NotLegal {
-                    expected,
-                    reason: reason_of(checker.rows(), step, answer, &expected),
-                },
-            },
+            }
         }
     }
 }

@@ -1,11 +1,12 @@
 //! The result of a check as text.
 
-ghost use Rattle.std.specs.Prelude.{◌≡◌, ◌++◌, IfOk, codes, decimal};
+ghost use Rattle.std.specs.Prelude.{◌≡◌, ◌++◌, IfOk, codes, decimal, flat_map};
 ghost use Rattle.step_reasons.specs.Texts.{reason_text, said};
-ghost use Rattle.log_check.specs.declared.verdict.LogVerdict.TheVariants.{BadLine, Legal, NotLegal};
-ghost use Rattle.log_check.specs.Texts.{due_text, end_text, free_text, holder_text, left_text, place_text, steps_text, verdict_text};
+ghost use Rattle.log_check.specs.declared.verdict.LogVerdict.TheVariants.{Legal};
+ghost use Rattle.log_check.specs.Texts.{count_text, due_text, end_text, free_text, holder_text, illegal_text, left_text};
+ghost use Rattle.log_check.specs.Texts.{place_text, steps_text, verdict_text};
 
-use crate::verdict::{LogEnd, LogVerdict};
+use crate::verdict::{IllegalStep, LogEnd, LogVerdict};
 use itoa::Buffer;
 use log_lines::write_answer;
 use std::alloc::AllocError;
@@ -13,19 +14,21 @@ use step_reasons::reason::Reason;
 use step_reasons::write_reason;
 use step_rules::step::Answer;
 
-/// Appends the line that says what a log is. It fails only if memory runs out.
+/// Appends the lines that say what a log is. It fails only if memory runs out.
 pub fn write_verdict(verdict: &LogVerdict, text: &mut Vec<u8>) -> Result<(), AllocError>
     ensures { IfOk result (λ _. text.new.items ≡ text.old.items ++ verdict_text verdict.now) }
 {
-    match *verdict {
-        LogVerdict::Legal { steps, free, end } => write_legal(steps, free, &end, text),
-        LogVerdict::NotLegal {
-            line,
-            step,
-            expected,
-            reason,
-        } => write_not_legal(line, step, &expected, &reason, text),
-        LogVerdict::BadLine { line } => write_bad_line(line, text),
+    match verdict {
+        LogVerdict::Legal { steps, free, end } => write_legal(*steps, *free, end, text),
+        LogVerdict::NotLegal(illegal) => write_illegal(illegal, text),
+        LogVerdict::LeftOut {
+            steps,
+            count,
+            first,
+        } => write_left_out(*steps, *count, first, text),
+        LogVerdict::BadLine { line, fault } => {
+            say(b"bad line ", *line, fault.ending().as_bytes(), text)
+        }
     }
 }
 
@@ -106,20 +109,45 @@ fn write_holder(holder: Option<u32>, text: &mut Vec<u8>) -> Result<(), AllocErro
     }
 }
 
-// Appends the line for a log with a step that isn't allowed.
-fn write_not_legal(
-    line: u64,
-    step: u64,
-    expected: &Answer,
-    reason: &Reason,
+// Appends the lines for a log with steps that aren't legal: each that is kept, and how many there are.
+fn write_left_out(
+    steps: u64,
+    count: u64,
+    first: &[IllegalStep],
     text: &mut Vec<u8>,
 ) -> Result<(), AllocError>
     ensures { IfOk result (λ _. text.new.items
-        ≡ text.old.items ++ verdict_text (NotLegal line step expected.now reason.now)) }
+        ≡ text.old.items ++ (flat_map illegal_text first.now ++ count_text count steps)) }
 {
-    write_place(line, step, text)?;
-    write_due(expected, text)?;
-    write_why(reason, text)
+    write_each(first, text)?;
+    write_count(count, steps, text)
+}
+
+fn write_each(first: &[IllegalStep], text: &mut Vec<u8>) -> Result<(), AllocError>
+    ensures { IfOk result (λ _. text.new.items ≡ text.old.items ++ flat_map illegal_text first.now) }
+{
+    for illegal in first {
+        write_illegal(illegal, text)?;
+    }
+    Ok(())
+}
+
+// Appends how many of the steps aren't legal.
+fn write_count(count: u64, steps: u64, text: &mut Vec<u8>) -> Result<(), AllocError>
+    ensures { IfOk result (λ _. text.new.items ≡ text.old.items ++ count_text count steps) }
+{
+    text.extend_from_slice(b"not legal: ")?;
+    push_number(count, text)?;
+    say(b" of ", steps, b" steps\n", text)
+}
+
+// Appends the line for a step that isn't legal.
+fn write_illegal(illegal: &IllegalStep, text: &mut Vec<u8>) -> Result<(), AllocError>
+    ensures { IfOk result (λ _. text.new.items ≡ text.old.items ++ illegal_text illegal.now) }
+{
+    write_place(illegal.line, illegal.step, text)?;
+    write_due(&illegal.expected, text)?;
+    write_why(&illegal.reason, text)
 }
 
 // Appends why that answer was due.
@@ -147,12 +175,4 @@ fn write_due(expected: &Answer, text: &mut Vec<u8>) -> Result<(), AllocError>
     text.extend_from_slice(b" is not legal:")?;
     write_answer(expected, text)?;
     text.extend_from_slice(b" was due: ")
-}
-
-fn write_bad_line(line: u64, text: &mut Vec<u8>) -> Result<(), AllocError>
-    ensures { IfOk result (λ _. text.new.items ≡ text.old.items ++ verdict_text (BadLine line)) }
-{
-    text.extend_from_slice(b"bad line ")?;
-    push_number(line, text)?;
-    text.extend_from_slice(b"\n")
 }

@@ -1,5 +1,6 @@
 //! What a check says of a log, and why it may fail.
 
+use crate::line_fault::LineFault;
 use step_reasons::reason::Reason;
 use step_rules::step::Answer;
 use thiserror::Error;
@@ -15,8 +16,21 @@ pub struct LogEnd {
     pub holder: Option<u32>,
 }
 
-/// What a check says of the text of a log. Lines and steps are counted from 1.
+/// A step whose answer the rules don't allow. Lines and steps are counted from 1.
 #[derive(Clone, Copy)]
+pub struct IllegalStep {
+    /// Its line.
+    pub line: u64,
+    /// Its number among the steps.
+    pub step: u64,
+    /// An answer that the rules allow there: `Illegal` if the step may not be made at all.
+    pub expected: Answer,
+    /// Why.
+    pub reason: Reason,
+}
+
+/// What a check says of the text of a log.
+#[derive(Drop)]
 pub enum LogVerdict {
     /// The log is a legal run.
     Legal {
@@ -27,21 +41,23 @@ pub enum LogVerdict {
         /// What it leaves at its end.
         end: LogEnd,
     },
-    /// The rules don't allow the answer of some step.
-    NotLegal {
-        /// The line of the first such step.
-        line: u64,
-        /// Its number among the steps.
-        step: u64,
-        /// An answer that the rules allow there: `Illegal` if the step may not be made at all.
-        expected: Answer,
-        /// Why.
-        reason: Reason,
+    /// The rules don't allow the answer of some step. This is the first one.
+    NotLegal(IllegalStep),
+    /// The rules don't allow the answers of some steps, each judged in the state that the legal steps before it made.
+    LeftOut {
+        /// How many steps the log has.
+        steps: u64,
+        /// How many of them aren't legal.
+        count: u64,
+        /// The first 1,000 of these.
+        first: Vec<IllegalStep>,
     },
     /// The text is not the text of a log.
     BadLine {
-        /// The first line that no log continues with.
+        /// The first line that no log continues with, counted from 1.
         line: u64,
+        /// Why.
+        fault: LineFault,
     },
 }
 

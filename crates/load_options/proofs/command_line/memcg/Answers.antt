@@ -10,8 +10,8 @@ returns c =
     ∙ ap₂ with_subcommand c.in_ok-bare_command.ensures.app c.in_ok-replay_command.ensures.shape in
     let run = c.in_ok-subcommand-3.ensures.shape c.in_ok-subcommand-2.ensures.local
     ∙ ap₂ with_subcommand replay c.in_ok-subcommand-2.ensures.shape in
-    let check = c.in_ok-subcommand-4.ensures.shape c.check_command.ensures.local
-    ∙ ap₂ with_subcommand run c.check_command.ensures.shape in
+    let check = c.in_ok-subcommand-4.ensures.shape c.in_ok-check_command.ensures.local
+    ∙ ap₂ with_subcommand run c.in_ok-check_command.ensures.shape in
     let lint = c.in_ok-subcommand-5.ensures.shape c.in_ok-sized.ensures.local
     ∙ ap₂ with_subcommand check c.in_ok-sized.ensures.shape in
     record {

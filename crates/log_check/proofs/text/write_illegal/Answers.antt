@@ -1,14 +1,15 @@
--- Serves the contract of `write_not_legal`: one text follows the other.
+-- Serves the contract of `write_illegal`: one text follows the other.
 use Rattle.std.proofs.Common.{◌++◌, codes}
 use Rattle.step_reasons.specs.Texts.{reason_text}
 use Rattle.step_reasons.proofs.Pieces.{behind}
 use Rattle.log_check.specs.Texts.{due_text, place_text}
-use Rattle.log_check.proofs.text.write_not_legal.Goals as goal
+use Rattle.log_check.proofs.text.write_illegal.Goals as goal
 
 pub returns : goal.returns
 returns c =
-    let place = place_text c.args.line c.args.step in
-    let due = due_text c.args.expected.now in
-    let why = reason_text c.args.reason.now ++ codes "\n" in
+    let illegal = c.args.illegal.now in
+    let place = place_text illegal.line illegal.step in
+    let due = due_text illegal.expected in
+    let why = reason_text illegal.reason ++ codes "\n" in
     behind c.write_why.result c.args.text.now.items _ _ place (due ++ why) c.in_ok-write_place.ensures
     (behind c.write_why.result _ _ _ due why c.in_ok-write_due.ensures c.write_why.ensures)
