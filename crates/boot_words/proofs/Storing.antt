@@ -1,15 +1,15 @@
 -- A store on a frame's word under the lock.
-use Rattle.std.proofs.Common.{◌≡◌, ◌≢◌, ℕ, ◌+◌, ◌<◌, ◌≤◌, Bool, true, false, ◌==◌, List, [], ◌∷◌, ◌++◌, cond, map, take, refl, ap, sym, ◌∙◌, subst, arith, inl, inr, eq-eqb}
+use Rattle.std.proofs.Common.{◌≡◌, ◌≢◌, ℕ, ◌+◌, ◌-◌, ◌<◌, ◌≤◌, Bool, true, false, ◌==◌, List, [], ◌∷◌, ◌++◌, cond, map, take, refl, ap, sym, ◌∙◌, subst, arith, inl, inr, eq-eqb}
 use Rattle.std.specs.Prelude.{◌⊎◌, slice_index}
 use Rattle.std.proofs.lemmas.List.{append_cancel_left}
 use mathlib.Core.Option.{none}
 use Rattle.atomic_table.specs.Table.{Me, Allows, carried_after, step}
 use Rattle.seat_sums.specs.Totals.{sum_over}
 use Rattle.frame_word.specs.declared.view.FrameView.{FrameView}
-use Rattle.frame_word.specs.ReferenceRule.{mark}
+use Rattle.frame_word.specs.ReferenceRule.{mark, visit_index}
 use Rattle.frame_word.specs.Kinds.{rule_of}
 use Rattle.frame_word.proofs.Alone.{unfreezes_as}
-use Rattle.frame_word.proofs.Joined.{collects_as, passes_back_as, passes_out_as, takes_in_as}
+use Rattle.frame_word.proofs.Joined.{collects_as, opens_as, passes_back_as, passes_out_as, shuts_as, takes_in_as}
 use Rattle.step_rules.specs.declared.step.Step.{Step}
 use Rattle.step_rules.specs.declared.step.Answer.{Answer}
 use Rattle.step_rules.specs.declared.step.Answer.TheVariants.{Done}
@@ -20,17 +20,17 @@ use Rattle.step_rules.specs.Laws.{ShowsLocal, is_of_lock}
 use Rattle.step_rules.proofs.Own.{own_legal}
 use Rattle.step_rules.proofs.Runs.{sound_run}
 use Rattle.run_words.specs.Runs.{HasNoStepOf, OthersFollow}
-use Rattle.run_words.specs.Words.{Words, IsRunOf, with_frame_word}
+use Rattle.run_words.specs.Words.{Words, IsRunOf, with_frame_word, with_visit_word}
 use Rattle.run_words.specs.Steps.{ChangesWords}
 use Rattle.run_words.proofs.Holding.{still_shows}
 use Rattle.run_words.proofs.Stepping.{words_follow}
 use Rattle.boot_words.specs.Rule.{Past, BootView, OfFrames, OfRun, AllOf, BootRule, Fits, boot_rule, frame_count, frames_in, past_of, stocks_in, words_in}
 use Rattle.boot_words.specs.Held.{HoldsLock, MadeUnderLock, StoresUnderLock, joined, UnfreezeIsAllowed, PassOutIsAllowed}
-use Rattle.boot_words.specs.Held.{TakeInIsAllowed, PassBackIsAllowed, CollectIsAllowed}
+use Rattle.boot_words.specs.Held.{TakeInIsAllowed, PassBackIsAllowed, CollectIsAllowed, OpenVisitIsAllowed, ShutVisitIsAllowed}
 use Rattle.boot_words.proofs.Growing.{grown, grown_fits}
 use Rattle.boot_words.proofs.FrameSteps.{frame_step}
 use Rattle.boot_words.proofs.Lifting.{lift}
-use Rattle.boot_words.proofs.Parts.{frame_is_at}
+use Rattle.boot_words.proofs.Parts.{count_low, frame_is_at}
 use Rattle.boot_words.proofs.Seats.{all_at}
 
 -- ---- views of frames among those of a seat
@@ -88,7 +88,7 @@ same_seen zone z c local run e holds zone_fits fits = ap (λ r. r ++ e ∷ []) (
 
 pub store_allowed : {S : Type 0} (zone : Zone) (slots id f word : ℕ) (z c : Past) (local : State) (views : List FrameView) (made_step : Step)
     (kind : Me S (List FrameView) → Type 0) → HoldsLock zone z c local → (made_step.seat ≡ 0) ⊎ (made_step.seat ≡ c.number)
-    → is_of_lock made_step.action ≡ false → is_legal local made_step.seat made_step.action ≡ true → f < zone.frames
+    → is_of_lock made_step.action ≡ false → is_legal local made_step.seat made_step.action ≡ true → f < frame_count zone
     → ((words : Words) → ChangesWords zone words made_step.seat made_step.action Done (with_frame_word words f word))
     → ((m : Me S (List FrameView)) → kind m → m.1 ≡ []) → Allows (rule_of {S = S} zone.frames zone.cpus) slots id (views, []) f (λ n. word) (λ n. kind)
     → StoresUnderLock S zone slots id z c views f word made_step kind
@@ -132,25 +132,42 @@ store_allowed {S} zone slots id f word z c local views made_step kind holds own 
 -- ---- the kinds
 pub unfreeze_is_allowed : {S : Type 0} → UnfreezeIsAllowed S
 unfreeze_is_allowed {S} zone slots id f count z c local v holds legal inside low high own =
-    store_allowed zone slots id f count z c local (v ∷ []) _ _ holds (inl refl) refl legal inside (λ words. refl) (λ m told. ap (λ (x : Me S (List FrameView)). x.1) told.1)
+    store_allowed zone slots id f count z c local (v ∷ []) _ _ holds (inl refl) refl legal (count_low zone f inside) (λ words. refl) (λ m told. ap (λ (x : Me S (List FrameView)). x.1) told.1)
     (unfreezes_as ((v ∷ []), []) v refl zone.frames zone.cpus slots id f inside count low high own)
 
 pub pass_out_is_allowed : {S : Type 0} → PassOutIsAllowed S
 pass_out_is_allowed {S} zone slots id f cpu z c local v holds legal inside zone_is low high visiting own =
-    store_allowed zone slots id f (mark cpu) z c local (v ∷ []) _ _ holds (inl refl) refl legal inside (λ words. refl) (λ m told. ap (λ (x : Me S (List FrameView)). x.1) told.1)
+    store_allowed zone slots id f (mark cpu) z c local (v ∷ []) _ _ holds (inl refl) refl legal (count_low zone f inside) (λ words. refl) (λ m told. ap (λ (x : Me S (List FrameView)). x.1) told.1)
     (passes_out_as zone.frames zone.cpus slots id ((v ∷ []), []) v refl f cpu inside zone_is low high visiting own (mark cpu) refl)
 
 pub take_in_is_allowed : {S : Type 0} → TakeInIsAllowed S
 take_in_is_allowed {S} zone slots id f z c local m v holds legal inside are passes lent =
-    store_allowed zone slots id f 0 z c local (m ∷ v ∷ []) _ _ holds (inr refl) refl legal inside (λ words. refl) (λ x told. ap (λ (y : Me S (List FrameView)). y.1) told.2)
+    store_allowed zone slots id f 0 z c local (m ∷ v ∷ []) _ _ holds (inr refl) refl legal (count_low zone f inside) (λ words. refl) (λ x told. ap (λ (y : Me S (List FrameView)). y.1) told.2)
     (takes_in_as zone.frames zone.cpus slots id ((m ∷ v ∷ []), []) m v refl are.zone_is are.low are.high f inside passes lent)
 
 pub pass_back_is_allowed : {S : Type 0} → PassBackIsAllowed S
 pass_back_is_allowed {S} zone slots id f z c local m v holds legal inside are visiting hand =
-    store_allowed zone slots id f (mark c.number) z c local (m ∷ v ∷ []) _ _ holds (inr refl) refl legal inside (λ words. refl) (λ x told. ap (λ (y : Me S (List FrameView)). y.1) told.2)
+    store_allowed zone slots id f (mark c.number) z c local (m ∷ v ∷ []) _ _ holds (inr refl) refl legal (count_low zone f inside) (λ words. refl) (λ x told. ap (λ (y : Me S (List FrameView)). y.1) told.2)
     (passes_back_as zone.frames zone.cpus slots id ((m ∷ v ∷ []), []) m v refl are.zone_is are.low are.high f inside visiting hand (mark c.number) (ap mark (sym are.cpu_is)))
 
 pub collect_is_allowed : {S : Type 0} → CollectIsAllowed S
 collect_is_allowed {S} zone slots id f z c local m v holds legal inside are passes =
-    store_allowed zone slots id f 0 z c local (m ∷ v ∷ []) _ _ holds (inl refl) refl legal inside (λ words. refl) (λ x told. ap (λ (y : Me S (List FrameView)). y.1) told.2)
+    store_allowed zone slots id f 0 z c local (m ∷ v ∷ []) _ _ holds (inl refl) refl legal (count_low zone f inside) (λ words. refl) (λ x told. ap (λ (y : Me S (List FrameView)). y.1) told.2)
     (collects_as zone.frames zone.cpus slots id ((m ∷ v ∷ []), []) m v refl are.zone_is are.low are.high f inside passes)
+
+visit_low : (zone : Zone) (cpu : ℕ) → 1 ≤ cpu → cpu ≤ zone.cpus → zone.frames + (cpu - 1) < frame_count zone
+visit_low zone cpu low high = omega (arith, low, high)
+
+pub open_is_allowed : {S : Type 0} → OpenVisitIsAllowed S
+open_is_allowed {S} zone slots id z c local m v holds legal are shut =
+    let index = visit_index zone.frames v.number in
+    store_allowed zone slots id index 1 z c local (m ∷ v ∷ []) _ _ holds (inl refl) refl legal (visit_low zone v.number are.low are.high)
+    (λ words. ap (λ q. with_visit_word zone words q 1) are.cpu_is) (λ x told. ap (λ (y : Me S (List FrameView)). y.1) told.2)
+    (opens_as zone.frames zone.cpus slots id ((m ∷ v ∷ []), []) m v refl are.zone_is are.low are.high shut index refl)
+
+pub shut_is_allowed : {S : Type 0} → ShutVisitIsAllowed S
+shut_is_allowed {S} zone slots id z c local m v holds legal are nothing =
+    let index = visit_index zone.frames v.number in
+    store_allowed zone slots id index 0 z c local (m ∷ v ∷ []) _ _ holds (inl refl) refl legal (visit_low zone v.number are.low are.high)
+    (λ words. ap (λ q. with_visit_word zone words q 0) are.cpu_is) (λ x told. ap (λ (y : Me S (List FrameView)). y.1) told.2)
+    (shuts_as zone.frames zone.cpus slots id ((m ∷ v ∷ []), []) m v refl are.zone_is are.low are.high nothing index refl)

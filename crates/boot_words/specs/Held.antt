@@ -4,10 +4,10 @@ use mathlib.Core.Option.{none}
 use Rattle.atomic_table.specs.Table.{Me, Allows, step}
 use Rattle.frame_word.specs.declared.view.FrameView.{FrameView}
 use Rattle.frame_word.specs.Views.{begun, ended, in_hands, note_of}
-use Rattle.frame_word.specs.ReferenceRule.{mark, most_references}
-use Rattle.frame_word.specs.Kinds.{by_one, by_two, collects, passes_back, passes_out, takes_in, unfreezes}
+use Rattle.frame_word.specs.ReferenceRule.{mark, most_references, visit_index}
+use Rattle.frame_word.specs.Kinds.{by_one, by_two, collects, passes_back, passes_out, takes_in, unfreezes, visits}
 use Rattle.step_rules.specs.declared.step.Step.{Step}
-use Rattle.step_rules.specs.declared.step.Action.TheVariants.{Collect, PassBack, PassOut, TakeIn, Unfreeze}
+use Rattle.step_rules.specs.declared.step.Action.TheVariants.{Collect, OpenVisit, PassBack, PassOut, ShutVisit, TakeIn, Unfreeze}
 use Rattle.step_rules.specs.declared.step.Answer.{Answer}
 use Rattle.step_rules.specs.declared.step.Answer.TheVariants.{Done}
 use Rattle.step_rules.specs.State.{Zone, State}
@@ -92,3 +92,20 @@ CollectIsAllowed S = (zone : Zone) (slots id f : ℕ) (z c : Past) (local : Stat
     → begun m v f ≡ ended m v f + 1
     → StoresUnderLock S zone slots id z c (m ∷ v ∷ []) f 0 (record { seat = 0; action = Collect f c.number })
     (by_two collects (step slots f 0 0 none) (m ∷ v ∷ [], []) 0)
+
+-- The zone's seat opens the CPU's visit, which is shut.
+abbrev pub OpenVisitIsAllowed : Type 0 → Type 0
+OpenVisitIsAllowed S = (zone : Zone) (slots id : ℕ) (z c : Past) (local : State) (m v : FrameView) → HoldsLock zone z c local
+    → is_legal local 0 (OpenVisit c.number) ≡ true → AreViewsOf zone c m v → slice_index m.opened v.number ≡ 0
+    → StoresUnderLock S zone slots id z c (m ∷ v ∷ []) (visit_index zone.frames v.number) 1
+    (record { seat = 0; action = OpenVisit c.number })
+    (by_two visits (step slots (visit_index zone.frames v.number) 1 0 none) (m ∷ v ∷ [], []) 1)
+
+-- The zone's seat shuts the CPU's visit, in which no frame is in transit any more.
+abbrev pub ShutVisitIsAllowed : Type 0 → Type 0
+ShutVisitIsAllowed S = (zone : Zone) (slots id : ℕ) (z c : Past) (local : State) (m v : FrameView) → HoldsLock zone z c local
+    → is_legal local 0 (ShutVisit c.number) ≡ true → AreViewsOf zone c m v
+    → ((f : ℕ) → f < zone.frames → begun m v f ≡ ended m v f)
+    → StoresUnderLock S zone slots id z c (m ∷ v ∷ []) (visit_index zone.frames v.number) 0
+    (record { seat = 0; action = ShutVisit c.number })
+    (by_two visits (step slots (visit_index zone.frames v.number) 0 0 none) (m ∷ v ∷ [], []) 0)
