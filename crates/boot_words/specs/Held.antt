@@ -12,8 +12,9 @@ use Rattle.step_rules.specs.declared.step.Answer.{Answer}
 use Rattle.step_rules.specs.declared.step.Answer.TheVariants.{Done}
 use Rattle.step_rules.specs.State.{Zone, State}
 use Rattle.step_rules.specs.Legal.{is_legal}
-use Rattle.step_rules.specs.Laws.{ShowsLocal}
-use Rattle.boot_words.specs.Rule.{Past, BootView, OfFrames, OfRun, boot_rule}
+use Rattle.step_rules.specs.Laws.{IsLocalStep, ShowsLocal}
+use Rattle.run_words.specs.Steps.{IsPlain}
+use Rattle.boot_words.specs.Rule.{Past, BootView, OfFrames, OfRun, boot_rule, stock_base}
 use Rattle.boot_words.specs.Allowed.{GrewBy}
 
 -- A CPU holds the lock, and its past is joined with the zone's: both end with the last step of the two, after which the
@@ -109,3 +110,11 @@ ShutVisitIsAllowed S = (zone : Zone) (slots id : ℕ) (z c : Past) (local : Stat
     → StoresUnderLock S zone slots id z c (m ∷ v ∷ []) (visit_index zone.frames v.number) 0
     (record { seat = 0; action = ShutVisit c.number })
     (by_two visits (step slots (visit_index zone.frames v.number) 0 0 none) (m ∷ v ∷ [], []) 0)
+
+-- A step that no word is of, legal in what the lock's holder sees, is made by a load of the word that nobody writes.
+abbrev pub PlainIsAllowed : Type 0 → Type 0
+PlainIsAllowed S = (zone : Zone) (slots id : ℕ) (z c : Past) (local : State) (made_step : Step) (answer : Answer)
+    → HoldsLock zone z c local → IsPlain made_step.action
+    → IsLocalStep local c.number made_step.seat made_step.action answer
+    → Allows {S = S} (boot_rule zone) slots id (joined z c [], []) (stock_base zone) (λ n. n)
+    (λ found later. MadeUnderLock S z c made_step answer (λ m. Unit {0}) later)

@@ -2,7 +2,7 @@
 //! Each step that is legal in what the holder sees is allowed, and both pasts grow by it.
 
 ghost use Rattle.boot_words.specs.Held.{CollectIsAllowed, PassBackIsAllowed, PassOutIsAllowed, TakeInIsAllowed};
-ghost use Rattle.boot_words.specs.Held.{OpenVisitIsAllowed, ShutVisitIsAllowed, UnfreezeIsAllowed};
+ghost use Rattle.boot_words.specs.Held.{OpenVisitIsAllowed, PlainIsAllowed, ShutVisitIsAllowed, UnfreezeIsAllowed};
 
 /// The zone puts references on a frame of its hand.
 pub fn an_unfreeze_is_allowed<S>()
@@ -37,4 +37,9 @@ pub fn an_open_is_allowed<S>()
 /// The zone shuts the CPU's visit.
 pub fn a_shut_is_allowed<S>()
     ensures { ShutVisitIsAllowed S }
+{}
+
+/// A step that changes no word is made by a load of a word that nobody writes.
+pub fn a_plain_step_is_allowed<S>()
+    ensures { PlainIsAllowed S }
 {}
