@@ -23,7 +23,7 @@ one_whole a b h k = omega arith
 -- A seat makes a step of the run on the word of frame f. It has the past of the step's seat, and its new views fit the
 -- longer run.
 pub frame_step : (zone : Zone) (words : List ℕ) (seats : List (List BootView)) (k : BootRule zone words seats) (id f x : ℕ) (old new : List BootView) (e : Step × Answer)
-    → f < zone.frames → get_elem? seats id ≡ some old → stocks_in new ≡ stocks_in old → ((q : ℕ) → sum_over (past_of q) new ≡ sum_over (past_of q) old)
+    → f < frame_count zone → get_elem? seats id ≡ some old → stocks_in new ≡ stocks_in old → ((q : ℕ) → sum_over (past_of q) new ≡ sum_over (past_of q) old)
     → 1 ≤ sum_over (past_of e.0.seat) old → AllOf (Fits (k.run ++ e ∷ [])) new
     → ReferenceRule zone.frames zone.cpus (take (frame_count zone) (set words f x)) (map frames_in (set seats id new))
     → IsRunOf zone (with_frame_word (words_in zone words) f x) (k.run ++ e ∷ []) → BootRule zone (set words f x) (set seats id new)

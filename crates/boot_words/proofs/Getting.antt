@@ -25,7 +25,7 @@ use Rattle.boot_words.specs.Allowed.{AddIsAllowed, LookIsAllowed, AddsByOne, Loo
 use Rattle.boot_words.proofs.Growing.{grown, grown_fits}
 use Rattle.boot_words.proofs.FrameSteps.{frame_kept, frame_step}
 use Rattle.boot_words.proofs.Lifting.{lift}
-use Rattle.boot_words.proofs.Parts.{frame_is_at, frame_reads, frame_same}
+use Rattle.boot_words.proofs.Parts.{count_low, frame_is_at, frame_reads, frame_same}
 use Rattle.boot_words.proofs.Putting.{own_past}
 use Rattle.boot_words.proofs.Seats.{all_at}
 
@@ -58,14 +58,14 @@ look_is_allowed {S} zone slots id f v p ne inside legal s k homes at small =
     let q = p.number in
     let old : List BootView = OfRun p ∷ OfFrames v ∷ [] in
     let lifted = lift (rule_of {S = S} zone.frames zone.cpus) (take (frame_count zone)) frames_in slots id f f old (λ m. m)
-    (by_one looks (step slots f 0 0 none) (v ∷ [], [])) (looks_at zone.frames zone.cpus slots id v f inside) (frame_is_at zone f inside) s k.frames homes at small in
+    (by_one looks (step slots f 0 0 none) (v ∷ [], [])) (looks_at zone.frames zone.cpus slots id v f inside) (frame_is_at zone f (count_low zone f inside)) s k.frames homes at small in
     let made = lifted.4 in
     let fits : OthersFollow q p.seen k.run = (all_at (AllOf (Fits k.run)) s.views id old at k.fits).0 in
     let legal_now : is_legal (state_of zone k.run) q (Get f) ≡ true = fast_legality_lasts zone p.seen k.run q (Get f) ne k.is.legal fits tt ∙ legal in
     let words = words_in zone s.words in
-    let is : word_at words f ≡ n = frame_reads zone f inside s.words in
+    let is : word_at words f ≡ n = frame_reads zone f (count_low zone f inside) s.words in
     let made_step : Step = record { seat = q; action = Get f } in
-    let same : with_frame_word words f n ≡ words = frame_same zone f inside s.words in
+    let same : with_frame_word words f n ≡ words = frame_same zone f (count_low zone f inside) s.words in
     let refused : (answer : Answer) → get_answer n ≡ answer → (answer ≡ Held → ⊥) → ChangesWords zone words q (Get f) answer words
     → (w : List BootView) × (a : Act S) × Valid s.homes [] a × BootRule zone (set s.words f n) (set s.views id w) × LooksByOne S v p f n (w, carried_after [] a)
     = λ answer says other changes.
@@ -76,7 +76,7 @@ look_is_allowed {S} zone slots id f v p ne inside legal s k homes at small =
       new,
       lifted.1,
       lifted.2,
-      frame_step zone s.words s.views k id f n old new e inside at refl (λ m. refl) (own_past p (OfFrames v)) (grown_fits k.run p e fits, (tt, tt))
+      frame_step zone s.words s.views k id f n old new e (count_low zone f inside) at refl (λ m. refl) (own_past p (OfFrames v)) (grown_fits k.run p e fits, (tt, tt))
           (lifted.3 new (sym (ap (λ (m : Me S (List FrameView)). m.0) made.1)))
           (subst (λ (w : Words). IsRunOf zone w (k.run ++ e ∷ [])) (sym same) now),
       record {
@@ -116,12 +116,12 @@ add_is_allowed {S} zone slots id f seen v p ne inside low high saw legal s k hom
     let old : List BootView = OfRun p ∷ OfFrames v ∷ [] in
     let x = either (eqb n seen) (seen + 1) n in
     let lifted = lift (rule_of {S = S} zone.frames zone.cpus) (take (frame_count zone)) frames_in slots id f f old (λ m. either (eqb m seen) (seen + 1) m)
-    (by_one adds (step slots f seen (seen + 1) none) (v ∷ [], [])) (adds_at zone.frames zone.cpus slots id v f inside seen low high saw) (frame_is_at zone f inside) s k.frames homes at small in
+    (by_one adds (step slots f seen (seen + 1) none) (v ∷ [], [])) (adds_at zone.frames zone.cpus slots id v f inside seen low high saw) (frame_is_at zone f (count_low zone f inside)) s k.frames homes at small in
     let made = lifted.4 in
     let fits : OthersFollow q p.seen k.run = (all_at (AllOf (Fits k.run)) s.views id old at k.fits).0 in
     let legal_now : is_legal (state_of zone k.run) q (Get f) ≡ true = fast_legality_lasts zone p.seen k.run q (Get f) ne k.is.legal fits tt ∙ legal in
     let words = words_in zone s.words in
-    let is : word_at words f ≡ n = frame_reads zone f inside s.words in
+    let is : word_at words f ≡ n = frame_reads zone f (count_low zone f inside) s.words in
     let made_step : Step = record { seat = q; action = Get f } in
     let e : Step × Answer = (made_step, Held) in
     let past = grown p fits.rest e in
@@ -137,7 +137,7 @@ add_is_allowed {S} zone slots id f seen v p ne inside low high saw legal s k hom
       grew,
       lifted.1,
       lifted.2,
-      frame_step zone s.words s.views k id f x old grew e inside at refl (λ m. refl) (own_past p (OfFrames v)) (grown_fits k.run p e fits, (tt, tt))
+      frame_step zone s.words s.views k id f x old grew e (count_low zone f inside) at refl (λ m. refl) (own_past p (OfFrames v)) (grown_fits k.run p e fits, (tt, tt))
           (lifted.3 grew (sym (ap (λ (m : Me S (List FrameView)). m.0) made.1)))
           (subst (λ (m : ℕ). IsRunOf zone (with_frame_word words f m) (k.run ++ e ∷ [])) (ap (λ m. m + 1) found ∙ word) now),
       record {

@@ -8,3 +8,4 @@ pub mod Getting
 pub mod StockSteps
 pub mod Prepaying
 pub mod Storing
+pub mod Quiet

@@ -14,25 +14,25 @@ use Rattle.boot_words.proofs.Lifting.{IsAt}
 base_high : (a : ℕ) → a ≤ 16 * ((a + 15) / 16)
 base_high a = omega arith
 
-count_low : (zone : Zone) (f : ℕ) → f < zone.frames → f < zone.frames + zone.cpus
+pub count_low : (zone : Zone) (f : ℕ) → f < zone.frames → f < frame_count zone
 count_low zone f inside = omega (arith, inside)
 
-base_low : (zone : Zone) (f : ℕ) → f < zone.frames → f < stock_base zone
-base_low zone f inside = let low = count_low zone f inside in let high = base_high (zone.frames + zone.cpus) in omega arith
+base_low : (zone : Zone) (f : ℕ) → f < frame_count zone → f < stock_base zone
+base_low zone f low = let high = base_high (zone.frames + zone.cpus) in omega (arith, low, high)
 
-pub frame_reads : (zone : Zone) (f : ℕ) → f < zone.frames → (ws : List ℕ) → slice_index (take (frame_count zone) ws) f ≡ slice_index ws f
-frame_reads zone f inside ws = get_or-take (frame_count zone) ws f 0 (count_low zone f inside)
+pub frame_reads : (zone : Zone) (f : ℕ) → f < frame_count zone → (ws : List ℕ) → slice_index (take (frame_count zone) ws) f ≡ slice_index ws f
+frame_reads zone f inside ws = get_or-take (frame_count zone) ws f 0 inside
 
 -- word f of the frames is word f of the table
-pub frame_is_at : (zone : Zone) (f : ℕ) → f < zone.frames → IsAt (take (frame_count zone)) f f
+pub frame_is_at : (zone : Zone) (f : ℕ) → f < frame_count zone → IsAt (take (frame_count zone)) f f
 frame_is_at zone f inside = record {
   reads = frame_reads zone f inside;
-  writes = λ ws x. take-set-lt (frame_count zone) ws f x (count_low zone f inside);
+  writes = λ ws x. take-set-lt (frame_count zone) ws f x inside;
 }
 
-pub words_set : (zone : Zone) (f x : ℕ) → f < zone.frames → (ws : List ℕ) → words_in zone (set ws f x) ≡ with_frame_word (words_in zone ws) f x
+pub words_set : (zone : Zone) (f x : ℕ) → f < frame_count zone → (ws : List ℕ) → words_in zone (set ws f x) ≡ with_frame_word (words_in zone ws) f x
 words_set zone f x inside ws i = record {
-  frames = take-set-lt (frame_count zone) ws f x (count_low zone f inside) i;
+  frames = take-set-lt (frame_count zone) ws f x inside i;
   stocks = drop-set-lt (stock_base zone) ws f x (base_low zone f inside) i;
 }
 
@@ -43,5 +43,5 @@ stocks_stay seats id old new at same =
     map-set stocks_in seats id new ∙ ap (set (map stocks_in seats) id) same ∙ set_again (map stocks_in seats) id (stocks_in old) (at_map stocks_in seats id old at)
 
 -- a word that is stored again changes nothing
-pub frame_same : (zone : Zone) (f : ℕ) → f < zone.frames → (ws : List ℕ) → with_frame_word (words_in zone ws) f (slice_index ws f) ≡ words_in zone ws
+pub frame_same : (zone : Zone) (f : ℕ) → f < frame_count zone → (ws : List ℕ) → with_frame_word (words_in zone ws) f (slice_index ws f) ≡ words_in zone ws
 frame_same zone f inside ws = sym (words_set zone f (slice_index ws f) inside ws) ∙ ap (words_in zone) (set-get_or ws f 0)

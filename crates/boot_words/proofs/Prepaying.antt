@@ -1,8 +1,7 @@
 -- The exchanges of a consume and of a credit are allowed by the rule of the one table.
 use Rattle.std.proofs.Common.{◌≡◌, ◌≢◌, ℕ, eqb, ◌+◌, ◌<◌, ◌≤◌, true, List, [], ◌∷◌, ◌++◌, drop, map, set, refl, ap, sym, ◌∙◌, subst, arith}
 use Rattle.std.specs.Prelude.{slice_index}
-use mathlib.Core.Option.{none, some}
-use lib.ListN.{get_elem?}
+use mathlib.Core.Option.{none}
 use prog.Atomic.{either}
 use Rattle.atomic_table.specs.Table.{Act, Me, State, Valid, carried_after, step}
 use Rattle.atomic_table.proofs.Lists.{at_map, exchanged}
@@ -11,23 +10,21 @@ use Rattle.stock_word.specs.declared.view.Stock.TheVariants.{HeldBy, DrainedOf}
 use Rattle.stock_word.specs.declared.view.StockView.{StockView}
 use Rattle.stock_word.specs.Stock.{HasWord, drained_of, word_of}
 use Rattle.stock_word.specs.StockRule.{StockRule, stock_index}
-use Rattle.stock_word.specs.Kinds.{Alone, Credits, Consumes, SeesDrained, consuming_step, crediting_step}
+use Rattle.stock_word.specs.Kinds.{Alone, consuming_step, crediting_step}
 use Rattle.stock_word.proofs.Keeps.{cpu_stock}
 use Rattle.stock_word.proofs.Steps.{consume_allowed, credit_allowed}
 use Rattle.step_rules.specs.declared.step.Step.{Step}
-use Rattle.step_rules.specs.declared.step.Action.{Action}
 use Rattle.step_rules.specs.declared.step.Action.TheVariants.{Consume, Credit}
 use Rattle.step_rules.specs.declared.step.Answer.{Answer}
 use Rattle.step_rules.specs.declared.step.Answer.TheVariants.{Drained, Stocked, Took}
-use Rattle.step_rules.specs.State.{Zone}
 use Rattle.step_rules.specs.Legal.{is_legal}
 use Rattle.step_rules.specs.After.{state_of}
 use Rattle.run_words.specs.Runs.{OthersFollow}
 use Rattle.run_words.specs.Words.{Words, IsRunOf}
-use Rattle.run_words.specs.Steps.{ChangesWords, stock_word_at}
+use Rattle.run_words.specs.Steps.{stock_word_at}
 use Rattle.run_words.proofs.Lasting.{fast_legality_lasts}
 use Rattle.run_words.proofs.Stepping.{words_follow}
-use Rattle.boot_words.specs.Rule.{Past, BootView, OfStocks, OfRun, AllOf, BootRule, Fits, stock_base, stocks_in, words_in}
+use Rattle.boot_words.specs.Rule.{BootView, OfStocks, OfRun, AllOf, BootRule, Fits, stock_base, stocks_in, words_in}
 use Rattle.boot_words.specs.Allowed.{BacksByOne, ConsumeIsAllowed, CreditIsAllowed, GrewBy, TakesByOne}
 use Rattle.boot_words.proofs.Growing.{grown, grown_fits}
 use Rattle.boot_words.proofs.Lifting.{lift}
@@ -60,9 +57,9 @@ consume_is_allowed {S} zone slots id g n v p ne same high last legal s k homes a
     let low : 0 < v.number = above_zero q v.number ne same in
     let most : v.number ≤ zone.cpus = subst (λ m. m ≤ zone.cpus) same high in
     let lifted = lift (λ (t : State S (List StockView)). StockRule zone.cpus t.words t.views) (drop (stock_base zone)) stocks_in slots id i j old
-        (λ m. either (eqb m before) after m) (Alone consuming_step (step slots i before after none) (v ∷ [], []))
-        (consume_allowed zone.cpus slots id (v ∷ [], []) g n refl low most last i before after (ap stock_index same) refl refl)
-        (stock_is_at zone i) s k.stocks homes at small in
+    (λ m. either (eqb m before) after m) (Alone consuming_step (step slots i before after none) (v ∷ [], []))
+    (consume_allowed zone.cpus slots id (v ∷ [], []) g n refl low most last i before after (ap stock_index same) refl refl)
+    (stock_is_at zone i) s k.stocks homes at small in
     let made = lifted.4 in
     let words = words_in zone s.words in
     let fits : OthersFollow q p.seen k.run = (all_at (AllOf (Fits k.run)) s.views id old at k.fits).0 in
@@ -75,13 +72,13 @@ consume_is_allowed {S} zone slots id g n v p ne same high last legal s k homes a
     let grew : (answer : Answer) → GrewBy p made_step answer (grown p fits.rest (made_step, answer)) = λ answer. record { between = fits.rest; others = fits.others; number = refl; seen = refl } in
     let rule : (answer : Answer) → IsRunOf zone (with_stocks_at words i x) (k.run ++ (made_step, answer) ∷ []) → BootRule zone (set s.words j x) (set s.views id (new answer))
     = λ answer now. stock_step zone s.words s.views k id i x old (new answer) (made_step, answer) at refl (λ m. refl) (own_past p (OfStocks v))
-        (grown_fits k.run p (made_step, answer) fits, (tt, tt)) (lifted.3 (new answer) (sym (ap (λ (m : Me S (List StockView)). m.0) made.1))) now in
+    (grown_fits k.run p (made_step, answer) fits, (tt, tt)) (lifted.3 (new answer) (sym (ap (λ (m : Me S (List StockView)). m.0) made.1))) now in
     let F : ℕ → Type 0 = λ word. word ≡ x → (w : List BootView) × (a : Act S) × Valid s.homes [] a × BootRule zone (set s.words j x) (set s.views id w)
-        × TakesByOne S v p g n found (w, carried_after [] a) in
+    × TakesByOne S v p g n found (w, carried_after [] a) in
     exchanged found before after F
     (λ hit word.
     let now = words_follow zone words (with_stocks_at words i after) k.run made_step Took k.is legal_now
-        (n, record { before_fits = fit; after_fits = fewer_fits g n fit; found = is ∙ hit; later_is = refl }) in (
+    (n, record { before_fits = fit; after_fits = fewer_fits g n fit; found = is ∙ hit; later_is = refl }) in (
       new Took,
       lifted.1,
       lifted.2,
@@ -124,9 +121,9 @@ credit_is_allowed {S} zone slots id f g n v p ne same high last fresh legal s k 
     let low : 0 < v.number = above_zero q v.number ne same in
     let most : v.number ≤ zone.cpus = subst (λ m. m ≤ zone.cpus) same high in
     let lifted = lift (λ (t : State S (List StockView)). StockRule zone.cpus t.words t.views) (drop (stock_base zone)) stocks_in slots id i j old
-        (λ m. either (eqb m before) after m) (Alone crediting_step (step slots i before after none) (v ∷ [], []))
-        (credit_allowed zone.cpus slots id (v ∷ [], []) g n refl low most last fresh i before after (ap stock_index same) refl refl)
-        (stock_is_at zone i) s k.stocks homes at small in
+    (λ m. either (eqb m before) after m) (Alone crediting_step (step slots i before after none) (v ∷ [], []))
+    (credit_allowed zone.cpus slots id (v ∷ [], []) g n refl low most last fresh i before after (ap stock_index same) refl refl)
+    (stock_is_at zone i) s k.stocks homes at small in
     let made = lifted.4 in
     let words = words_in zone s.words in
     let fits : OthersFollow q p.seen k.run = (all_at (AllOf (Fits k.run)) s.views id old at k.fits).0 in
@@ -139,15 +136,15 @@ credit_is_allowed {S} zone slots id f g n v p ne same high last fresh legal s k 
     let grew : (answer : Answer) → GrewBy p made_step answer (grown p fits.rest (made_step, answer)) = λ answer. record { between = fits.rest; others = fits.others; number = refl; seen = refl } in
     let rule : (answer : Answer) → IsRunOf zone (with_stocks_at words i x) (k.run ++ (made_step, answer) ∷ []) → BootRule zone (set s.words j x) (set s.views id (new answer))
     = λ answer now. stock_step zone s.words s.views k id i x old (new answer) (made_step, answer) at refl (λ m. refl) (own_past p (OfStocks v))
-        (grown_fits k.run p (made_step, answer) fits, (tt, tt)) (lifted.3 (new answer) (sym (ap (λ (m : Me S (List StockView)). m.0) made.1))) now in
+    (grown_fits k.run p (made_step, answer) fits, (tt, tt)) (lifted.3 (new answer) (sym (ap (λ (m : Me S (List StockView)). m.0) made.1))) now in
     let F : ℕ → Type 0 = λ word. word ≡ x → (w : List BootView) × (a : Act S) × Valid s.homes [] a × BootRule zone (set s.words j x) (set s.views id w)
-        × BacksByOne S v p f g n found (w, carried_after [] a) in
+    × BacksByOne S v p f g n found (w, carried_after [] a) in
     exchanged found before after F
     (λ hit word.
     let credits = made.2.0 hit in
     let more : HasWord (HeldBy g (n + 1)) = same_held credits.group credits.pages g n (sym credits.from_held ∙ last) credits.has_word in
     let now = words_follow zone words (with_stocks_at words i after) k.run made_step Stocked k.is legal_now
-        (g, n, record { before_fits = fit; after_fits = more; found = is ∙ hit; later_is = refl }) in (
+    (g, n, record { before_fits = fit; after_fits = more; found = is ∙ hit; later_is = refl }) in (
       new Stocked,
       lifted.1,
       lifted.2,

@@ -26,7 +26,7 @@ use Rattle.boot_words.specs.Allowed.{PutIsAllowed, put_answer}
 use Rattle.boot_words.proofs.Growing.{grown, grown_fits}
 use Rattle.boot_words.proofs.FrameSteps.{frame_step}
 use Rattle.boot_words.proofs.Lifting.{lift}
-use Rattle.boot_words.proofs.Parts.{frame_is_at, frame_reads}
+use Rattle.boot_words.proofs.Parts.{count_low, frame_is_at, frame_reads}
 use Rattle.boot_words.proofs.Seats.{all_at}
 
 -- ---- the answer by the word
@@ -70,7 +70,7 @@ put_is_allowed {S} zone slots id f v p ne inside some legal s k homes at small =
     let q = p.number in
     let old : List BootView = OfRun p ∷ OfFrames v ∷ [] in
     let lifted = lift (rule_of {S = S} zone.frames zone.cpus) (take (frame_count zone)) frames_in slots id f f old (λ m. (m + (2 ^ 64 - 1)) % 2 ^ 64)
-    (by_one puts (step slots f 1 0 none) (v ∷ [], [])) (puts_at zone.frames zone.cpus slots id v f inside some) (frame_is_at zone f inside) s k.frames homes at small in
+    (by_one puts (step slots f 1 0 none) (v ∷ [], [])) (puts_at zone.frames zone.cpus slots id v f inside some) (frame_is_at zone f (count_low zone f inside)) s k.frames homes at small in
     let made = lifted.4 in
     let positive : 1 ≤ n = at_least_one (note_of v f).references n some made.2.0 in
     let fits : OthersFollow q p.seen k.run = (all_at (AllOf (Fits k.run)) s.views id old at k.fits).0 in
@@ -80,13 +80,13 @@ put_is_allowed {S} zone slots id f v p ne inside some legal s k homes at small =
     let e : Step × Answer = (made_step, put_answer n) in
     let x = (n + (2 ^ 64 - 1)) % 2 ^ 64 in
     let now = words_follow zone words (with_frame_word words f (n - 1)) k.run made_step (put_answer n) k.is legal_now
-    (put_changes zone words q f n (frame_reads zone f inside s.words) positive) in
+    (put_changes zone words q f n (frame_reads zone f (count_low zone f inside) s.words) positive) in
     let past = grown p fits.rest e in
     let new : List BootView = OfRun past ∷ OfFrames made.0 ∷ [] in (
       new,
       lifted.1,
       lifted.2,
-      frame_step zone s.words s.views k id f x old new e inside at refl (λ m. refl) (own_past p (OfFrames v)) (grown_fits k.run p e fits, (tt, tt))
+      frame_step zone s.words s.views k id f x old new e (count_low zone f inside) at refl (λ m. refl) (own_past p (OfFrames v)) (grown_fits k.run p e fits, (tt, tt))
           (lifted.3 new (sym (ap (λ (m : Me S (List FrameView)). m.0) made.1)))
           (subst (λ (m : ℕ). IsRunOf zone (with_frame_word words f m) (k.run ++ e ∷ [])) (sym (less_one n positive small)) now),
       record {

@@ -1,5 +1,5 @@
 -- The rule of the one table after an atomic step on a word of a stock.
-use Rattle.std.proofs.Common.{◌≡◌, ◌≢◌, ℕ, ◌+◌, ◌*◌, ◌/◌, ◌<◌, ◌≤◌, List, [], ◌∷◌, ◌++◌, drop, map, set, take, refl, ap, sym, ◌∙◌, subst, arith}
+use Rattle.std.proofs.Common.{◌≡◌, ℕ, ◌+◌, ◌*◌, ◌/◌, ◌≤◌, List, [], ◌∷◌, ◌++◌, drop, map, set, ap, sym, ◌∙◌, subst, arith}
 use Rattle.std.specs.Prelude.{slice_index}
 use Rattle.std.proofs.lemmas.List.{drop-set-add, get_or-drop, map-set, set-get_or, take-set-le}
 use mathlib.Core.Option.{some}
@@ -47,7 +47,7 @@ pub stock_same : (words : Words) (i x : ℕ) → x ≡ slice_index words.stocks 
 stock_same words i x e j = record { frames = words.frames; stocks = (ap (set words.stocks i) e ∙ set-get_or words.stocks i 0) j }
 
 -- a seat whose views of frames stay leaves those of all seats
-frames_stay : (seats : List (List BootView)) (id : ℕ) (old new : List BootView) → get_elem? seats id ≡ some old → frames_in new ≡ frames_in old
+pub frames_stay : (seats : List (List BootView)) (id : ℕ) (old new : List BootView) → get_elem? seats id ≡ some old → frames_in new ≡ frames_in old
     → map frames_in (set seats id new) ≡ map frames_in seats
 frames_stay seats id old new at same =
     map-set frames_in seats id new ∙ ap (set (map frames_in seats) id) same ∙ set_again (map frames_in seats) id (frames_in old) (at_map frames_in seats id old at)

@@ -4,16 +4,17 @@ use mathlib.Core.Option.{none}
 use Rattle.atomic_table.specs.Table.{Me, Allows, step}
 use Rattle.frame_word.specs.declared.view.FrameView.{FrameView}
 use Rattle.frame_word.specs.Views.{begun, ended, in_hands, note_of}
-use Rattle.frame_word.specs.ReferenceRule.{mark, most_references}
-use Rattle.frame_word.specs.Kinds.{by_one, by_two, collects, passes_back, passes_out, takes_in, unfreezes}
+use Rattle.frame_word.specs.ReferenceRule.{mark, most_references, visit_index}
+use Rattle.frame_word.specs.Kinds.{by_one, by_two, collects, passes_back, passes_out, takes_in, unfreezes, visits}
 use Rattle.step_rules.specs.declared.step.Step.{Step}
-use Rattle.step_rules.specs.declared.step.Action.TheVariants.{Collect, PassBack, PassOut, TakeIn, Unfreeze}
+use Rattle.step_rules.specs.declared.step.Action.TheVariants.{Collect, OpenVisit, PassBack, PassOut, ShutVisit, TakeIn, Unfreeze}
 use Rattle.step_rules.specs.declared.step.Answer.{Answer}
 use Rattle.step_rules.specs.declared.step.Answer.TheVariants.{Done}
 use Rattle.step_rules.specs.State.{Zone, State}
 use Rattle.step_rules.specs.Legal.{is_legal}
-use Rattle.step_rules.specs.Laws.{ShowsLocal}
-use Rattle.boot_words.specs.Rule.{Past, BootView, OfFrames, OfRun, boot_rule}
+use Rattle.step_rules.specs.Laws.{IsLocalStep, ShowsLocal}
+use Rattle.run_words.specs.Steps.{IsPlain}
+use Rattle.boot_words.specs.Rule.{Past, BootView, OfFrames, OfRun, boot_rule, stock_base}
 use Rattle.boot_words.specs.Allowed.{GrewBy}
 
 -- A CPU holds the lock, and its past is joined with the zone's: both end with the last step of the two, after which the
@@ -92,3 +93,28 @@ CollectIsAllowed S = (zone : Zone) (slots id f : ℕ) (z c : Past) (local : Stat
     → begun m v f ≡ ended m v f + 1
     → StoresUnderLock S zone slots id z c (m ∷ v ∷ []) f 0 (record { seat = 0; action = Collect f c.number })
     (by_two collects (step slots f 0 0 none) (m ∷ v ∷ [], []) 0)
+
+-- The zone's seat opens the CPU's visit, which is shut.
+abbrev pub OpenVisitIsAllowed : Type 0 → Type 0
+OpenVisitIsAllowed S = (zone : Zone) (slots id : ℕ) (z c : Past) (local : State) (m v : FrameView) → HoldsLock zone z c local
+    → is_legal local 0 (OpenVisit c.number) ≡ true → AreViewsOf zone c m v → slice_index m.opened v.number ≡ 0
+    → StoresUnderLock S zone slots id z c (m ∷ v ∷ []) (visit_index zone.frames v.number) 1
+    (record { seat = 0; action = OpenVisit c.number })
+    (by_two visits (step slots (visit_index zone.frames v.number) 1 0 none) (m ∷ v ∷ [], []) 1)
+
+-- The zone's seat shuts the CPU's visit, in which no frame is in transit any more.
+abbrev pub ShutVisitIsAllowed : Type 0 → Type 0
+ShutVisitIsAllowed S = (zone : Zone) (slots id : ℕ) (z c : Past) (local : State) (m v : FrameView) → HoldsLock zone z c local
+    → is_legal local 0 (ShutVisit c.number) ≡ true → AreViewsOf zone c m v
+    → ((f : ℕ) → f < zone.frames → begun m v f ≡ ended m v f)
+    → StoresUnderLock S zone slots id z c (m ∷ v ∷ []) (visit_index zone.frames v.number) 0
+    (record { seat = 0; action = ShutVisit c.number })
+    (by_two visits (step slots (visit_index zone.frames v.number) 0 0 none) (m ∷ v ∷ [], []) 0)
+
+-- A step that no word is of, legal in what the lock's holder sees, is made by a load of the word that nobody writes.
+abbrev pub PlainIsAllowed : Type 0 → Type 0
+PlainIsAllowed S = (zone : Zone) (slots id : ℕ) (z c : Past) (local : State) (made_step : Step) (answer : Answer)
+    → HoldsLock zone z c local → IsPlain made_step.action
+    → IsLocalStep local c.number made_step.seat made_step.action answer
+    → Allows {S = S} (boot_rule zone) slots id (joined z c [], []) (stock_base zone) (λ n. n)
+    (λ found later. MadeUnderLock S z c made_step answer (λ m. Unit {0}) later)

@@ -2,7 +2,7 @@
 //! Each step that is legal in what the holder sees is allowed, and both pasts grow by it.
 
 ghost use Rattle.boot_words.specs.Held.{CollectIsAllowed, PassBackIsAllowed, PassOutIsAllowed, TakeInIsAllowed};
-ghost use Rattle.boot_words.specs.Held.{UnfreezeIsAllowed};
+ghost use Rattle.boot_words.specs.Held.{OpenVisitIsAllowed, PlainIsAllowed, ShutVisitIsAllowed, UnfreezeIsAllowed};
 
 /// The zone puts references on a frame of its hand.
 pub fn an_unfreeze_is_allowed<S>()
@@ -27,4 +27,19 @@ pub fn a_pass_back_is_allowed<S>()
 /// The zone collects a frame that was passed back.
 pub fn a_collect_is_allowed<S>()
     ensures { CollectIsAllowed S }
+{}
+
+/// The zone opens the CPU's visit.
+pub fn an_open_is_allowed<S>()
+    ensures { OpenVisitIsAllowed S }
+{}
+
+/// The zone shuts the CPU's visit.
+pub fn a_shut_is_allowed<S>()
+    ensures { ShutVisitIsAllowed S }
+{}
+
+/// A step that changes no word is made by a load of a word that nobody writes.
+pub fn a_plain_step_is_allowed<S>()
+    ensures { PlainIsAllowed S }
 {}
