@@ -1,2 +1,4 @@
 pub mod Answering
+pub mod Commented
+pub mod Logged
 pub mod Sessions
