@@ -1,5 +1,5 @@
-//! The program over any reader and two writers: what a new boot answers to the script, or what the log is, is written
-//! to the output, or a fault is reported, and the status says which.
+//! The program over any reader and two writers: an answer that a new boot may give to the script, or what the log is,
+//! is written to the output, or a fault is reported, and the status says which.
 
 ghost use Rattle.std.specs.Prelude.{◌≡◌, All, IfErr, IfOk, OnOk, Some, map, true};
 ghost use Rattle.std.specs.Io.KnownBytes.{Appends};
@@ -169,7 +169,7 @@ fn lines_of<'a>(
     }
 }
 
-// What a new boot answers to the lines of this script.
+// An answer that a new boot may give to the lines of this script.
 fn answers_of<R: Threads + Wait + Sync>(
     rt: &R,
     alloc: Global,
@@ -193,7 +193,7 @@ fn answers_of<R: Threads + Wait + Sync>(
     }
 }
 
-// What a boot under a name of its tables answers to the lines, as the task says.
+// An answer that a boot under a name of its tables may give to the lines, as the task says.
 fn answers_on_boot<N: BootName + Send + Sync, R: Threads + Wait + Sync>(
     rt: &R,
     alloc: Global,
@@ -256,7 +256,7 @@ fn form_of(options: &Options, is_explained: bool) -> Form
     }
 }
 
-// What a boot under a name of its tables answers to the lines, with a check of each step.
+// An answer that a boot under a name of its tables may give to the lines, with a check of each step.
 fn check_answers<N: BootName>(
     alloc: Global,
     boot: Boot,
