@@ -42,5 +42,5 @@ module _ {T E : Type 0} (r : Result T E) (on : Terms) (text : List ℕ) (line : 
       let wrote : log_text after.locked.machine.watch ≡ made = wrote_alone begun.locked.machine.watch serves.serves.steps after.locked.machine.watch
       is_new (line_watched on line begun after answer serves.serves) whole in
       line_part (IfOk-weaker r _ _ (λ done is. is ∙ ap (λ (l : List ℕ). both ++ answer_comments l) is_told
-          ∙ ap (λ (l : List ℕ). l ++ answered) (is_both ∙ ap (λ (l : List ℕ). front ++ l) wrote ∙ ap (λ (l : List ℕ). l ++ made) is_front)
-          ∙ append_assoc (old ++ named) made answered ∙ append_assoc old named (made ++ answered)) added)
+      ∙ ap (λ (l : List ℕ). l ++ answered) (is_both ∙ ap (λ (l : List ℕ). front ++ l) wrote ∙ ap (λ (l : List ℕ). l ++ made) is_front)
+      ∙ append_assoc (old ++ named) made answered ∙ append_assoc old named (made ++ answered)) added)

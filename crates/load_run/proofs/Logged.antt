@@ -59,7 +59,7 @@ module _ {T E : Type 0} (r : Result T E) (t : KnownTable) (w : KnownStockTable) 
       let is_new : IsNewLog begun.locked.machine.watch = subst IsNewLog (sym (ap (λ (x : SystemState). x.locked.machine.watch) renews.begun_is)) renews.is_new in
       let wrote : log_text last ≡ made = wrote_alone begun.locked.machine.watch ends.leaves.steps last is_new ends.leaves.watched whole in
       end_part (IfOk-weaker r _ _ (λ done is. is ∙ ap (λ (l : List ℕ). l ++ told) (is_both ∙ ap (λ (l : List ℕ). old ++ (front ++ l)) wrote)
-          ∙ append_assoc old (front ++ made) told ∙ ap (λ (l : List ℕ). old ++ l) (append_assoc front made told)) added)
+      ∙ append_assoc old (front ++ made) told ∙ ap (λ (l : List ℕ). old ++ l) (append_assoc front made told)) added)
 
 -- ---- both
 
