@@ -1,8 +1,10 @@
 -- A line's part of a log. Serves `log_line`, and `log_end` of `load_run`.
 use Rattle.std.proofs.Common.{◌≡◌, ◌∙◌, ℕ, List, [], ◌++◌, Result, IfOk, ap, append_assoc, refl, subst, sym, true}
 use Rattle.std.proofs.lemmas.Result.{IfOk-weaker}
+use Rattle.cpu_part.specs.Cpus.{KnownCpu}
 use Rattle.step_rules.specs.After.{Run}
 use Rattle.step_watch.specs.Watched.{IsNewLog, KnownWatch, Watches, has_whole_log, log_text, steps_text}
+use Rattle.mem_system.specs.Locked.{KnownLocked}
 use Rattle.script_lines.specs.declared.line.Line.{Line}
 use Rattle.script_replay.specs.Answers.{locked_with_watch}
 use Rattle.script_replay.specs.History.{ServesAndKeeps}
@@ -10,6 +12,12 @@ use Rattle.script_replay.specs.Lines.{ServesLine, SystemState, system_state}
 use Rattle.script_replay.specs.Terms.{Terms}
 use Rattle.script_replay.proofs.Seeing.{line_seen}
 use Rattle.line_server.specs.Logs.{AddsPart, LogsLine, RenewsWatch, answer_comments, line_comment, line_log}
+
+-- a new watch was put behind the lock
+pub renewed : (old new : KnownLocked) (cpus : List KnownCpu) (watch : KnownWatch) → IsNewLog watch → new ≡ locked_with_watch old watch
+    → RenewsWatch (system_state old cpus) (system_state new cpus)
+renewed old new cpus watch is_new is =
+    record { watch = watch; is_new = is_new; begun_is = ap (λ (l : KnownLocked). system_state l cpus) is }
 
 -- a new watch wrote the steps that it took, and no others
 pub wrote_alone : (begun : KnownWatch) (steps : Run) (later : KnownWatch) → IsNewLog begun → Watches begun steps later → has_whole_log later ≡ true

@@ -12,7 +12,6 @@ use Rattle.script_replay.specs.Lines.{SystemState}
 use Rattle.script_replay.specs.Terms.{Terms, terms}
 use Rattle.line_server.specs.declared.form.SessionForm.{SessionForm}
 use Rattle.line_server.specs.declared.form.SessionForm.TheVariants.{Answers, Steps}
-use Rattle.line_server.specs.Forms.{SessionTerms}
 use Rattle.line_server.specs.Logs.{LogsLine}
 use Rattle.line_server.specs.Turns.{Turn}
 

@@ -1,9 +1,8 @@
 -- Serves the contract of `log_end`: the boot ended with a new watch, and what that wrote was added.
-use Rattle.std.proofs.Common.{◌≡◌, ◌∙◌, ◌++◌, List, ℕ, ap, codes, refl, subst, sym, true}
+use Rattle.std.proofs.Common.{◌≡◌, ◌∙◌, ◌++◌, ap, codes, sym}
 use Rattle.step_watch.specs.Watched.{KnownWatch, has_whole_log, log_text}
-use Rattle.mem_system.specs.Locked.{KnownLocked}
 use Rattle.script_replay.specs.Lines.{SystemState, system_state}
-use Rattle.line_server.specs.Logs.{RenewsWatch}
+use Rattle.line_server.proofs.Logged.{renewed}
 use Rattle.load_run.specs.declared.boot_end.BootEnd.{BootEnd}
 use Rattle.load_run.specs.Ending.{EndsHeld}
 use Rattle.load_run.proofs.Logged.{end_logged, end_part}
@@ -15,11 +14,7 @@ returns-in_err-added g c =
     let w = g.N.BootName.stocks in
     let s : SystemState = system_state c.args.locked c.args.cpus.items in
     let begun : SystemState = system_state c.set_watch.new.self c.args.cpus.items in
-    let renews : RenewsWatch s begun = record {
-      watch = c.logging.result;
-      is_new = c.logging.ensures;
-      begun_is = ap (λ (l : KnownLocked). system_state l c.args.cpus.items) c.set_watch.ensures;
-    } in
+    let renews = renewed c.args.locked c.set_watch.new.self c.args.cpus.items c.logging.result c.logging.ensures c.set_watch.ensures in
     let ended : BootEnd = record { held = c.empty_cpus-held.result.0; audit = c.close-audit.result } in
     let ends : EndsHeld t w begun ended = record {
       emptied = c.empty_cpus-held.result.1;
@@ -34,11 +29,7 @@ returns g c =
     let w = g.N.BootName.stocks in
     let s : SystemState = system_state c.args.locked c.args.cpus.items in
     let begun : SystemState = system_state c.set_watch.new.self c.args.cpus.items in
-    let renews : RenewsWatch s begun = record {
-      watch = c.logging.result;
-      is_new = c.logging.ensures;
-      begun_is = ap (λ (l : KnownLocked). system_state l c.args.cpus.items) c.set_watch.ensures;
-    } in
+    let renews = renewed c.args.locked c.set_watch.new.self c.args.cpus.items c.logging.result c.logging.ensures c.set_watch.ensures in
     let ended : BootEnd = record { held = c.empty_cpus-held.result.0; audit = c.close-audit.result } in
     let ends : EndsHeld t w begun ended = record {
       emptied = c.empty_cpus-held.result.1;
