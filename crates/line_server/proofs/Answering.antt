@@ -1,5 +1,5 @@
 -- What a line was answered.
-use Rattle.std.proofs.Common.{◌≡◌, ◌∙◌, ℕ, true, false, List, [], ◌++◌, None, Some, Result, Ok, Err, Vec, IfOk, OnErr, append-nil, ap, codes, inl, inr, refl, subst, sym}
+use Rattle.std.proofs.Common.{◌≡◌, ◌∙◌, ℕ, true, false, List, [], ◌∷◌, ◌++◌, Option, None, Some, Result, Ok, Err, Vec, IfOk, OnErr, append-nil, ap, codes, inl, inr, refl, subst, sym}
 use Rattle.std.specs.Cmp.Lexicographic.{same_text}
 use Rattle.zone_sizes.specs.declared.config.Config.{Config}
 use Rattle.script_lines.specs.Script.{IsLineText, is_skipped}
@@ -9,7 +9,7 @@ use Rattle.script_lint.specs.Shapes.{IsGoodText}
 use Rattle.script_replay.specs.Lines.{SystemState}
 use Rattle.line_server.specs.Forms.{SessionTerms, bad_line}
 use Rattle.line_server.specs.Lines.{RefusesText}
-use Rattle.line_server.specs.Turns.{AnswersServed, GivesAnswer, HasAnswer, ServesAtMost}
+use Rattle.line_server.specs.Turns.{AnswersServed, GivesAnswer, HasAnswer, ServesAtMost, WritesTurn}
 
 -- a good text that isn't skipped has a line
 pub says_line : (sizes : Config) (number : ℕ) (text : List ℕ) → IsGoodText sizes false text → is_skipped text ≡ false
@@ -46,6 +46,16 @@ module _ (on : SessionTerms) (sizes : Config) (number : ℕ) (text : List ℕ) w
       → GivesAnswer r (AnswersServed on text line before after) → OnErr r (ServesAtMost on before after)
   served_some (Ok x) line before after gives = tt
   served_some (Err e) line before after gives = inr (record { text = text; line = line; answer = gives.answer; serves = gives.so })
+
+-- the answer of a turn was written, with an empty line
+pub turn_written : (on : SessionTerms) (sizes : Config) (number : ℕ) (text : Option (List ℕ)) (before after : SystemState) (plain answer : List ℕ)
+    → HasAnswer on sizes number text before after plain → answer ≡ plain ++ 10 ∷ [] → WritesTurn on sizes number text before after answer
+turn_written on sizes number text before after plain answer has is = record {
+  turn = record { text = text; served = has.served; answer = plain };
+  text_is = refl;
+  answered = has.answered;
+  written_is = is;
+}
 
 -- a line is too long
 pub too_long : {Z E : Type 0} (on : SessionTerms) (sizes : Config) (number : ℕ) (r : Result (Vec ℕ Z) E) (state : SystemState)
