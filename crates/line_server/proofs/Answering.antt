@@ -1,15 +1,18 @@
 -- What a line was answered.
 use Rattle.std.proofs.Common.{◌≡◌, ◌∙◌, ℕ, true, false, List, [], ◌∷◌, ◌++◌, Option, None, Some, Result, Ok, Err, Vec, IfOk, OnErr, append-nil, ap, codes, inl, inr, refl, subst, sym}
 use Rattle.std.specs.Cmp.Lexicographic.{same_text}
+use Rattle.frame_word.specs.Seats.{KnownTable}
+use Rattle.stock_word.specs.Stock.{KnownStockTable}
 use Rattle.zone_sizes.specs.declared.config.Config.{Config}
 use Rattle.script_lines.specs.Script.{IsLineText, is_skipped}
 use Rattle.script_lines.specs.declared.line.Line.{Line}
 use Rattle.script_lines.specs.declared.line.Line.TheVariants.{Go, At}
 use Rattle.script_lint.specs.Shapes.{IsGoodText}
 use Rattle.script_replay.specs.Lines.{SystemState}
-use Rattle.line_server.specs.Forms.{SessionTerms, bad_line}
+use Rattle.line_server.specs.declared.form.SessionForm.{SessionForm}
+use Rattle.line_server.specs.Forms.{SessionTerms, bad_line, session_terms}
 use Rattle.line_server.specs.Lines.{RefusesText}
-use Rattle.line_server.specs.Turns.{AnswersServed, GivesAnswer, HasAnswer, ServesAtMost, WritesTurn}
+use Rattle.line_server.specs.Turns.{AnswersServed, GivesAnswer, HasAnswer, ServesAtMost, ServesInForm, WritesTurn}
 
 -- a good text that isn't skipped has a line
 pub says_line : (sizes : Config) (number : ℕ) (text : List ℕ) → IsGoodText sizes false text → is_skipped text ≡ false
@@ -18,6 +21,16 @@ says_line sizes number text good asks = elim (good.says asks) [
   | inl goes ↦ (Go, same_text text (codes "go") (sym goes))
   | inr is ↦ (At number is.0 is.1, (refl, is.2))
 ]
+
+-- a line that was served in this form was answered so
+pub answered_in : {Z E : Type 0} (r : Result (Vec ℕ Z) E) (t : KnownTable) (w : KnownStockTable) (form is_form : SessionForm) (text : List ℕ) (line : Line)
+    (before after : SystemState) (answer : List ℕ) → form ≡ is_form → ServesInForm is_form t w text line before after answer
+    → IfOk r (λ found. found.items ≡ answer) → GivesAnswer r (AnswersServed (session_terms t w form) text line before after)
+answered_in r t w form is_form text line before after answer is serves found = record {
+  answer = answer;
+  so = subst (λ (f : SessionForm). ServesInForm f t w text line before after answer) (sym is) serves;
+  given = found;
+}
 
 module _ (on : SessionTerms) (sizes : Config) (number : ℕ) (text : List ℕ) where
   -- a line is skipped
