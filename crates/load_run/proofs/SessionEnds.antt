@@ -1,5 +1,8 @@
 -- What a session promises, from how it ended. Serves `drive_serve`, `serve_on_boot`.
-use Rattle.std.proofs.Common.{◌≡◌, ◌∙◌, ℕ, List, [], Option, Result, Ok, Err, IfErr, OnOk, arith, inl, inr, refl, subst, sym}
+use Rattle.std.proofs.Common.{◌≡◌, ◌∙◌, ◌++◌, ◌⊎◌, ℕ, Bool, List, [], Option, Result, Ok, Err, Vec, IfErr, IfOk, OnOk, ap, arith, inl, inr, refl, subst, sym}
+use Rattle.std.proofs.lemmas.Result.{IfOk-weaker}
+use Rattle.std.proofs.KnownBytes.{Appends-nil}
+use Rattle.std.specs.declared.alloc.AllocError.{AllocError}
 use Rattle.std.specs.Io.KnownBytes.{Appends}
 use Rattle.frame_word.specs.Seats.{KnownTable}
 use Rattle.stock_word.specs.Stock.{KnownStockTable}
@@ -27,9 +30,12 @@ use Rattle.load_options.specs.declared.fault.WordsFault.TheVariants as words
 use Rattle.load_options.specs.declared.task.Options.{Options}
 use Rattle.load_run.specs.declared.fault.ProgramFault.{ProgramFault}
 use Rattle.load_run.specs.declared.fault.ProgramFault.TheVariants as kinds
+use Rattle.load_run.specs.declared.boot_end.BootEnd.{BootEnd}
 use Rattle.load_run.specs.Starting.{IsNewBootState}
 use Rattle.load_run.specs.Causes.{written}
+use Rattle.load_run.specs.Ending.{EndsHeld, boot_end_text}
 use Rattle.load_run.specs.Fault.{fault_text, status_of}
+use Rattle.load_run.specs.Logs.{LogsEnd, head_text}
 use Rattle.load_run.specs.Sessions.{BeginsHead, DrivesSession, EndsInForm, EndsSession, IsOfValid, IsSameFault, IsWorkFault, LeavesEnding, LeavesSession}
 use Rattle.load_run.specs.Sessions.{LeavesWithHead, ServesInput, ServesWithHead, StopsSession, WritesHead}
 use Rattle.line_streams.specs.Writing.{AppendsBeginning}
@@ -178,6 +184,28 @@ stops_early options form input before after fault valid at_work begun = left_sto
     left_stops options form input before after kinds.BadConfig left = absurd left.at_work
     left_stops options form input before after fault left = left
 
+-- a session that writes answers has no head
+pub no_head : (form : SessionForm) (is_explained : Bool) (sizes : Config) (before : Option (List ℕ)) → form ≡ Answers is_explained → WritesHead form sizes before before
+no_head form is_explained sizes before is = subst (λ (f : SessionForm). WritesHead f sizes before before) (sym is) refl
+
+-- the head of a log was written, or not whole, or not at all
+pub head_written : {T : Type 0} (r : Result T ProgramFault) (form : SessionForm) (sizes : Config) (before after : Option (List ℕ)) (bytes : List ℕ) → form ≡ Steps
+    → bytes ≡ head_text sizes → OnOk r (Appends before after bytes) → OnOk r (WritesHead form sizes before after)
+head_written r form sizes before after bytes is same written =
+    subst (λ (f : SessionForm). OnOk r (WritesHead f sizes before after)) (sym is) (subst (λ (l : List ℕ). OnOk r (Appends before after l)) same written)
+
+pub head_begun : {T : Type 0} (r : Result T ProgramFault) (form : SessionForm) (sizes : Config) (before after : Option (List ℕ)) (bytes : List ℕ) → form ≡ Steps
+    → bytes ≡ head_text sizes → IfErr r (λ fault. fault ≡ kinds.Output) → AppendsBeginning before after bytes
+    → IfErr r (λ fault. IsWorkFault fault × BeginsHead form sizes before after)
+head_begun (Ok x) form sizes before after bytes is same failed begun = tt
+head_begun (Err fault) form sizes before after bytes is same failed begun = (
+  subst IsWorkFault (sym failed) tt,
+  subst (λ (f : SessionForm). BeginsHead f sizes before after) (sym is) (subst (AppendsBeginning before after) same begun),
+)
+
+pub head_missed : (form : SessionForm) (sizes : Config) (before : Option (List ℕ)) → form ≡ Steps → BeginsHead form sizes before before
+head_missed form sizes before is = subst (λ (f : SessionForm). BeginsHead f sizes before before) (sym is) (0, Appends-nil before)
+
 -- a session behind its head
 pub headed_serves : {T : Type 0} (options : Options) (form : SessionForm) (input before headed after : Option (List ℕ)) (r : Result T ProgramFault)
     → WritesHead form options.sizes before headed → OnOk r (ServesInput options form input headed after) → OnOk r (ServesWithHead options form input before after)
@@ -258,6 +286,26 @@ module _ (booted : Config) (options : Options) (form : SessionForm) (t : KnownTa
 
 -- ---- the end
 
+module _ {Z E : Type 0} (r : Result (Vec ℕ Z) E) (t : KnownTable) (w : KnownStockTable) (form : SessionForm) (is_audited : Bool) (before : SystemState) where
+  -- the boot ended after answers
+  pub ended_plainly : (is_explained : Bool) (ended : BootEnd) (empty : List ℕ) → form ≡ Answers is_explained → EndsHeld t w before ended → empty ≡ []
+      → IfOk r (λ text. text.items ≡ empty ++ boot_end_text is_audited ended) → GivesAnswer r (EndsInForm form t w is_audited before)
+  ended_plainly is_explained ended empty is ends none told = record {
+    answer = boot_end_text is_audited ended;
+    so = subst (λ (f : SessionForm). EndsInForm f t w is_audited before (boot_end_text is_audited ended)) (sym is)
+        (record { ended = ended; ends = ends; text_is = refl });
+    given = IfOk-weaker r _ _ (λ text is_text. is_text ∙ ap (λ (l : List ℕ). l ++ boot_end_text is_audited ended) none) told;
+  }
+
+  -- or after parts of a log
+  pub ended_logged : (part : List ℕ) → form ≡ Steps → LogsEnd t w before part → IfOk r (λ found. found.items ≡ part)
+      → GivesAnswer r (EndsInForm form t w is_audited before)
+  ended_logged part is ends found = record {
+    answer = part;
+    so = subst (λ (f : SessionForm). EndsInForm f t w is_audited before part) (sym is) ends;
+    given = found;
+  }
+
 -- the text of the end was written
 pub ending_written : {T : Type 0} (options : Options) (form : SessionForm) (input before middle after : Option (List ℕ)) (ending : List ℕ)
     (r : Result T ProgramFault) → EndsSession options form input before middle ending → OnOk r (Appends middle after ending)
@@ -275,6 +323,15 @@ ending_begun options form input before middle after ending (Err fault) valid end
   at_work = is.at_work;
   valid = of_valid options.sizes fault valid;
   left = inr (inr (record { middle = middle; ending = ending; ends = ends; begun = is.begun }));
+}
+
+-- or not at all
+pub ending_missed : (options : Options) (form : SessionForm) (input before middle : Option (List ℕ)) (ending : List ℕ) (error : AllocError) → IsValidConfig options.sizes
+    → EndsSession options form input before middle ending → LeavesSession options form input before middle (kinds.NoMemory error)
+ending_missed options form input before middle ending error valid ends = record {
+  at_work = tt;
+  valid = valid;
+  left = inr (inr (record { middle = middle; ending = ending; ends = ends; begun = (0, Appends-nil middle) }));
 }
 
 -- the output took a beginning of the text
