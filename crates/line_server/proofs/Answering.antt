@@ -1,74 +1,78 @@
 -- What a line was answered.
-use Rattle.std.proofs.Common.{◌≡◌, ℕ, true, false, List, [], ◌++◌, None, Some, Result, Ok, Err, IfOk, OnOk, append-nil, codes, inl, inr, refl, sym}
-use Rattle.std.specs.Prelude.{if◌then◌else◌}
-use Rattle.std.specs.Result.{is_ok}
+use Rattle.std.proofs.Common.{◌≡◌, ◌∙◌, ℕ, true, false, List, [], ◌∷◌, ◌++◌, Option, None, Some, Result, Ok, Err, Vec, IfOk, OnErr, append-nil, ap, codes, inl, inr, refl, subst, sym}
 use Rattle.std.specs.Cmp.Lexicographic.{same_text}
+use Rattle.frame_word.specs.Seats.{KnownTable}
+use Rattle.stock_word.specs.Stock.{KnownStockTable}
 use Rattle.zone_sizes.specs.declared.config.Config.{Config}
 use Rattle.script_lines.specs.Script.{IsLineText, is_skipped}
 use Rattle.script_lines.specs.declared.line.Line.{Line}
 use Rattle.script_lines.specs.declared.line.Line.TheVariants.{Go, At}
-use Rattle.script_lint.specs.Findings.{IsFoundInText}
 use Rattle.script_lint.specs.Shapes.{IsGoodText}
-use Rattle.script_lint.specs.declared.finding.Finding.{Finding}
-use Rattle.script_replay.specs.History.{ServesAndKeeps}
 use Rattle.script_replay.specs.Lines.{SystemState}
-use Rattle.script_replay.specs.Terms.{Terms}
-use Rattle.line_server.specs.Lines.{RefusesText, bad_text}
-use Rattle.line_server.specs.Turns.{AddsAnswer}
+use Rattle.line_server.specs.declared.form.SessionForm.{SessionForm}
+use Rattle.line_server.specs.Forms.{SessionTerms, bad_line, session_terms}
+use Rattle.line_server.specs.Lines.{RefusesText}
+use Rattle.line_server.specs.Turns.{AnswersServed, GivesAnswer, HasAnswer, ServesAtMost, ServesInForm, WritesTurn}
 
 -- a good text that isn't skipped has a line
-pub says_line : (sizes : Config) (text : List ℕ) → IsGoodText sizes false text → is_skipped text ≡ false → (line : Line) × IsLineText sizes 1 line text
-says_line sizes text good asks = elim (good.says asks) [
+pub says_line : (sizes : Config) (number : ℕ) (text : List ℕ) → IsGoodText sizes false text → is_skipped text ≡ false
+    → (line : Line) × IsLineText sizes number line text
+says_line sizes number text good asks = elim (good.says asks) [
   | inl goes ↦ (Go, same_text text (codes "go") (sym goes))
-  | inr is ↦ (At 1 is.0 is.1, (refl, is.2))
+  | inr is ↦ (At number is.0 is.1, (refl, is.2))
 ]
 
--- why the line is bad was added
-pub refused : {T E : Type 0} (r : Result T E) (sizes : Config) (text old new : List ℕ) (found : Finding) → IsFoundInText sizes text found
-    → OnOk r (new ≡ old ++ bad_text sizes found) → OnOk r ((said : List ℕ) × RefusesText sizes text said × (new ≡ old ++ said))
-refused (Ok x) sizes text old new found is added =
-    (bad_text sizes found, record { found = found; is_found = is; answer_is = refl }, added)
-refused (Err e) sizes text old new found is added = tt
+-- a line that was served in this form was answered so
+pub answered_in : {Z E : Type 0} (r : Result (Vec ℕ Z) E) (t : KnownTable) (w : KnownStockTable) (form is_form : SessionForm) (text : List ℕ) (line : Line)
+    (before after : SystemState) (answer : List ℕ) → form ≡ is_form → ServesInForm is_form t w text line before after answer
+    → IfOk r (λ found. found.items ≡ answer) → GivesAnswer r (AnswersServed (session_terms t w form) text line before after)
+answered_in r t w form is_form text line before after answer is serves found = record {
+  answer = answer;
+  so = subst (λ (f : SessionForm). ServesInForm f t w text line before after answer) (sym is) serves;
+  given = found;
+}
 
-module _ (on : Terms) (sizes : Config) (text : List ℕ) where
+module _ (on : SessionTerms) (sizes : Config) (number : ℕ) (text : List ℕ) where
   -- a line is skipped
-  pub skipped : (state : SystemState) (old : List ℕ) → is_skipped text ≡ true → AddsAnswer on sizes (Some text) state state old old
-  skipped state old is = record {
-    turn = record { text = Some text; served = None; answer = [] };
-    text_is = refl;
-    answered = (refl, inl (is, refl));
-    added = sym (append-nil old);
-  }
+  pub skipped : (state : SystemState) (answer : List ℕ) → is_skipped text ≡ true → answer ≡ [] → HasAnswer on sizes number (Some text) state state answer
+  skipped state answer is none = record { served = None; answered = (refl, inl (is, none)) }
 
   -- a line is bad
-  pub bad : {T E : Type 0} (r : Result T E) (state : SystemState) (old new : List ℕ) → is_skipped text ≡ false
-      → OnOk r ((said : List ℕ) × RefusesText sizes text said × (new ≡ old ++ said)) → OnOk r (AddsAnswer on sizes (Some text) state state old new)
-  bad (Ok x) state old new asks is = record {
-    turn = record { text = Some text; served = None; answer = is.0 };
-    text_is = refl;
-    answered = (refl, inr (asks, is.1));
-    added = is.2;
-  }
-  bad (Err e) state old new asks is = tt
+  pub bad : {Z E : Type 0} (r : Result (Vec ℕ Z) E) (state : SystemState) → is_skipped text ≡ false
+      → IfOk r (λ answer. RefusesText on.form sizes text answer.items)
+      → IfOk r (λ answer. HasAnswer on sizes number (Some text) state state answer.items)
+  bad (Ok x) state asks is = record { served = None; answered = (refl, inr (asks, is)) }
+  bad (Err e) state asks is = tt
 
   -- a line is served
-  pub served : {T E : Type 0} (r : Result T E) (line : Line) (before after : SystemState) (old new said : List ℕ) → IsLineText sizes 1 line text
-      → ServesAndKeeps on line before after said → IfOk r (λ _. new ≡ old ++ said) → OnOk r (AddsAnswer on sizes (Some text) before after old new)
-  served (Ok x) line before after old new said is serves added = record {
-    turn = record { text = Some text; served = Some line; answer = said };
-    text_is = refl;
-    answered = (is, serves);
-    added = added;
+  pub served : {Z E : Type 0} (r : Result (Vec ℕ Z) E) (line : Line) (before after : SystemState) → IsLineText sizes number line text
+      → GivesAnswer r (AnswersServed on text line before after)
+      → IfOk r (λ answer. HasAnswer on sizes number (Some text) before after answer.items)
+  served (Ok x) line before after is gives = record {
+    served = Some line;
+    answered = (is, subst (AnswersServed on text line before after) (sym gives.given) gives.so);
   }
-  served (Err e) line before after old new said is serves added = tt
+  served (Err e) line before after is gives = tt
+
+  -- or nothing more
+  pub served_some : {Z E : Type 0} (r : Result (Vec ℕ Z) E) (line : Line) (before after : SystemState)
+      → GivesAnswer r (AnswersServed on text line before after) → OnErr r (ServesAtMost on before after)
+  served_some (Ok x) line before after gives = tt
+  served_some (Err e) line before after gives = inr (record { text = text; line = line; answer = gives.answer; serves = gives.so })
+
+-- the answer of a turn was written, with an empty line
+pub turn_written : (on : SessionTerms) (sizes : Config) (number : ℕ) (text : Option (List ℕ)) (before after : SystemState) (plain answer : List ℕ)
+    → HasAnswer on sizes number text before after plain → answer ≡ plain ++ 10 ∷ [] → WritesTurn on sizes number text before after answer
+turn_written on sizes number text before after plain answer has is = record {
+  turn = record { text = text; served = has.served; answer = plain };
+  text_is = refl;
+  answered = has.answered;
+  written_is = is;
+}
 
 -- a line is too long
-pub too_long : {T E : Type 0} (on : Terms) (sizes : Config) (r : Result T E) (state : SystemState) (old new : List ℕ)
-    → new ≡ (if is_ok r then old ++ codes "bad: line too long\n" else old) → OnOk r (AddsAnswer on sizes None state state old new)
-too_long on sizes (Ok x) state old new added = record {
-  turn = record { text = None; served = None; answer = codes "bad: line too long\n" };
-  text_is = refl;
-  answered = (refl, refl, refl);
-  added = added;
-}
-too_long on sizes (Err e) state old new added = tt
+pub too_long : {Z E : Type 0} (on : SessionTerms) (sizes : Config) (number : ℕ) (r : Result (Vec ℕ Z) E) (state : SystemState)
+    → IfOk r (λ line. line.items ≡ bad_line on.form (codes "line too long"))
+    → IfOk r (λ answer. HasAnswer on sizes number None state state answer.items)
+too_long on sizes number (Ok x) state is = record { served = None; answered = (refl, refl, is) }
+too_long on sizes number (Err e) state is = tt

@@ -1,5 +1,5 @@
 -- The lines of a session, and what a bad one is answered.
-use Rattle.std.specs.Prelude.{◌≡◌, ◌⊎◌, ℕ, ◌<◌, ◌≤◌, Bool, true, false, List, [], ◌++◌, Option, None, Some, IfSome}
+use Rattle.std.specs.Prelude.{◌≡◌, ◌⊎◌, ℕ, ◌<◌, ◌≤◌, Bool, true, false, List, [], Option, None, Some, IfSome}
 use Rattle.std.specs.Prelude.{codes, length, nat_eq}
 use Rattle.std.specs.Cmp.Lexicographic.{pointwise}
 use Rattle.std.specs.Io.BufRead.{DropsThrough}
@@ -8,8 +8,10 @@ use Rattle.script_lint.specs.Findings.{IsFoundInText}
 use Rattle.script_lint.specs.Texts.{cause_text}
 use Rattle.script_lint.specs.declared.finding.Finding.{Finding}
 use Rattle.line_streams.specs.Lines.{first_text, longest_line}
+use Rattle.line_server.specs.declared.form.SessionForm.{SessionForm}
 use Rattle.line_server.specs.declared.input_line.InputLine.{InputLine}
 use Rattle.line_server.specs.declared.input_line.InputLine.TheVariants as input_line
+use Rattle.line_server.specs.Forms.{bad_line}
 
 -- ---- what is read
 -- whether a line ends the session
@@ -42,12 +44,8 @@ ReadsInputLine before after None = IfSome before EndsAt
 ReadsInputLine before after (Some line) = ReadsLine (text_of line) before after
 
 -- ---- a bad line
--- the answer to a bad line
-abbrev pub bad_text : Config → Finding → List ℕ
-bad_text sizes found = codes "bad: " ++ (cause_text sizes found found.spot.cause ++ codes "\n")
-
 -- the answer says why the line is bad by itself
-pub record RefusesText (sizes : Config) (text answer : List ℕ) : Type 0 where
+pub record RefusesText (form : SessionForm) (sizes : Config) (text answer : List ℕ) : Type 0 where
   pub found : Finding
   pub is_found : IsFoundInText sizes text found
-  pub answer_is : answer ≡ bad_text sizes found
+  pub answer_is : answer ≡ bad_line form (cause_text sizes found found.spot.cause)

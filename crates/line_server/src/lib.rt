@@ -1,11 +1,19 @@
 //! A session with a boot: each line is answered before the next one is read. An answer is what `replay` writes for the
-//! line, with an empty line behind it. A bad line is answered with the reason, and changes nothing.
+//! line, with an empty line behind it; or it is the line's part of a log. A bad line is answered with the reason, and
+//! changes nothing.
 #![tactic(auto)]
 
+mod answering;
+mod comments;
 pub mod fault;
+pub mod form;
 mod input_line;
+mod logging;
 mod refusing;
 pub mod server;
 
+pub use comments::add_answer;
 pub use fault::ServeFault;
+pub use form::SessionForm;
+pub use logging::{add_steps, log_line};
 pub use server::Server;

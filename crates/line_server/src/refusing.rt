@@ -1,52 +1,56 @@
 //! The answer to a bad line.
 
-ghost use Rattle.std.specs.Prelude.{◌≡◌, ◌++◌, OnOk, List, ℕ, false};
-ghost use Rattle.std.specs.String.{string_bytes};
+ghost use Rattle.std.specs.Prelude.{◌≡◌, IfOk, false, ℕ};
 ghost use Rattle.script_lines.specs.Script.{IsLineText, is_skipped};
 ghost use Rattle.script_lines.specs.Verb.{IsNames};
 ghost use Rattle.script_lines.specs.declared.line.Line.{Line};
-ghost use Rattle.script_lint.specs.Findings.{IsFoundInText};
 ghost use Rattle.script_lint.specs.Shapes.{HasValidCounts};
-ghost use Rattle.line_server.specs.Lines.{RefusesText, bad_text};
+ghost use Rattle.line_server.specs.Forms.{bad_line};
+ghost use Rattle.line_server.specs.Lines.{RefusesText};
 
+use crate::comments::add_comment;
+use crate::form::SessionForm;
 use script_lines::verb::Names;
-use script_lint::finding::Finding;
 use script_lint::{lint_text, write_cause};
 use std::alloc::{AllocError, Global};
 use zone_sizes::config::Config;
 
-/// Adds why the text of a line is bad. It fails only if memory runs out.
+/// Why the text of a line is bad, as a line of this form. It fails only if memory runs out.
 pub fn refuse_text(
     alloc: Global,
+    form: SessionForm,
     names: &Names,
     text: &[u8],
     sizes: &Config,
-    answer: &mut String,
-) -> Result<(), AllocError>
+) -> Result<Vec<u8>, AllocError>
     requires names { IsNames names.now }
     requires counts { HasValidCounts sizes.now }
     requires asks { is_skipped text.now ≡ false }
-    requires bad { (line : Line) → ¬ IsLineText sizes.now 1 line text.now }
-    ensures { OnOk result ((said : List ℕ) × RefusesText sizes.now text.now said
-        × (string_bytes answer.new ≡ string_bytes answer.old ++ said)) }
+    requires bad { (number : ℕ) × ((line : Line) → ¬ IsLineText sizes.now number line text.now) }
+    ensures { IfOk result (λ answer. RefusesText form sizes.now text.now answer.items) }
 {
     match lint_text(alloc, names, text, sizes)? {
-        Some(finding) => write_bad(&finding, text, sizes, answer),
+        Some(finding) => {
+            let mut why = String::new(alloc);
+            write_cause(&finding, sizes, &mut why)?;
+            bad_line(alloc, form, why.as_bytes())
+        }
         None => unreachable!(),
     }
 }
 
-// Adds the line that says why a line with this text is bad.
-fn write_bad(
-    finding: &Finding<'_>,
-    text: &[u8],
-    sizes: &Config,
-    answer: &mut String,
-) -> Result<(), AllocError>
-    requires found { IsFoundInText sizes.now text.now finding.now }
-    ensures { OnOk result (string_bytes answer.new ≡ string_bytes answer.old ++ bad_text sizes.now finding.now) }
+/// The line that says why a line is bad. It fails only if memory runs out.
+pub fn bad_line(alloc: Global, form: SessionForm, why: &[u8]) -> Result<Vec<u8>, AllocError>
+    ensures { IfOk result (λ line. line.items ≡ bad_line form why.now) }
 {
-    answer.push_str("bad: ")?;
-    write_cause(finding, sizes, answer)?;
-    answer.push_str("\n")
+    let mut line = Vec::new(alloc);
+    match form {
+        SessionForm::Answers { .. } => {
+            line.extend_from_slice(b"bad: ")?;
+            line.extend_from_slice(why)?;
+            line.push(b'\n')?;
+        }
+        SessionForm::Steps => add_comment(b"# bad: ", why, &mut line)?,
+    }
+    Ok(line)
 }

@@ -1,7 +1,6 @@
 //! The boot that answers.
 
 ghost use Rattle.std.specs.Prelude.{◌≡◌, IfErr, IfOk, OnErr, OnOk, Some, length};
-ghost use Rattle.std.specs.String.{string_bytes};
 ghost use Rattle.mem_system.specs.Boots.{IsSizedAs};
 ghost use Rattle.script_lines.specs.Verb.{IsNames};
 ghost use Rattle.script_lint.specs.Shapes.{HasValidCounts};
@@ -9,31 +8,31 @@ ghost use Rattle.script_replay.specs.Lines.{system_state};
 ghost use Rattle.line_server.specs.Known.{KeepsTerms, terms_of};
 ghost use Rattle.line_server.specs.Sessions.{EndsTurn, FailsSession, FailsTurn, ServesSession};
 ghost use Rattle.line_server.specs.Lines.{text_of};
-ghost use Rattle.line_server.specs.Turns.{AddsAnswer, ServesAtMost, WritesTurn};
+ghost use Rattle.line_server.specs.Turns.{HasAnswer, ServesAtMost, WritesTurn};
 
+use crate::answering::answer_line;
 use crate::fault::ServeFault;
+use crate::form::SessionForm;
 use crate::input_line::{InputLine, read_input_line};
-use crate::refusing::refuse_text;
+use crate::refusing::{bad_line, refuse_text};
 use cpu_part::{BootName, Cpu, Tables};
 use line_streams::write_and_flush;
 use mem_system::Locked;
 use script_lines::script::{is_skipped, parse_line};
 use script_lines::verb::Names;
-use script_replay::serve_line;
 use std::alloc::{AllocError, Global};
 use std::io::{BufReader, Read, Write};
 use std::marker::Model;
 use zone_sizes::config::Config;
 
-/// A boot that answers lines, with the table of the commands' names, its sizes, and whether an answer explains why
-/// groups were killed.
+/// A boot that answers lines, with the table of the commands' names, its sizes, and what it writes for a line.
 pub struct Server<N: BootName> {
     names: Names,
     locked: Locked<N>,
     tables: Tables<N>,
     cpus: Vec<Cpu<N>>,
     sizes: Config,
-    is_explained: bool,
+    form: SessionForm,
 }
 
 impl<N: BootName> Model for Server<N> {
@@ -48,7 +47,7 @@ impl<N: BootName> Model for Server<N> {
 
     ghost view = { λ s. record {
       sizes = s.sizes;
-      is_explained = s.is_explained;
+      form = s.form;
       state = system_state s.locked s.cpus.items;
     } };
 
@@ -64,7 +63,7 @@ impl<N: BootName> Server<N> {
         tables: Tables<N>,
         cpus: Vec<Cpu<N>>,
         sizes: Config,
-        is_explained: bool,
+        form: SessionForm,
     ) -> Server<N>
         requires names { IsNames names }
         requires count { length cpus.items ≡ N.frames.cpus }
@@ -72,7 +71,7 @@ impl<N: BootName> Server<N> {
         requires counts { HasValidCounts sizes }
         ensures state { result.state ≡ system_state locked cpus.items }
         ensures sizes { result.sizes ≡ sizes }
-        ensures is_explained { result.is_explained ≡ is_explained }
+        ensures form { result.form ≡ form }
     {
         Server {
             names,
@@ -80,7 +79,7 @@ impl<N: BootName> Server<N> {
             tables,
             cpus,
             sizes,
-            is_explained,
+            form,
         }
     }
 
@@ -95,7 +94,7 @@ impl<N: BootName> Server<N> {
             tables,
             cpus,
             sizes: _,
-            is_explained: _,
+            form: _,
         } = self;
         (locked, tables, cpus)
     }
@@ -114,8 +113,8 @@ impl<N: BootName> Server<N> {
             (I.remaining input.old) self.old.state self.new.state (O.contents output.old) (O.contents output.new)) }
         ensures terms { KeepsTerms self.old self.new }
     {
-        for _ in 0..u64::MAX {
-            let goes_on = match self.serve_line(alloc, input, output) {
+        for before in 0..usize::MAX {
+            let goes_on = match self.serve_line(alloc, before + 1, input, output) {
                 Ok(goes_on) => goes_on,
                 Err(fault) => return Err(fault),
             };
@@ -145,91 +144,98 @@ impl<N: BootName> Server<N> {
         }
     }
 
-    /// Reads a line, writes its answer and an empty line, and flushes the output. False if the session ends instead:
-    /// the line is `quit`, or the input has ended. Nothing is written then.
+    /// Reads a line, writes its answer and an empty line, and flushes the output. The line's part of a log names it by
+    /// this number. False if the session ends instead: the line is `quit`, or the input has ended. Nothing is written
+    /// then.
     pub fn serve_line<I: Read, O: Write>(
         &mut self,
         alloc: Global,
+        number: usize,
         input: &mut I,
         output: &mut O,
     ) -> Result<bool, ServeFault>
-        ensures served { IfOk result (EndsTurn (terms_of N.frames N.stocks self.old) self.old.sizes
+        ensures served { IfOk result (EndsTurn (terms_of N.frames N.stocks self.old) self.old.sizes number
             (I.remaining input.old) (I.remaining input.new) self.old.state self.new.state
             (O.contents output.old) (O.contents output.new)) }
-        ensures failed { IfErr result (FailsTurn (terms_of N.frames N.stocks self.old) self.old.sizes
+        ensures failed { IfErr result (FailsTurn (terms_of N.frames N.stocks self.old) self.old.sizes number
             self.old.state self.new.state (O.contents output.old) (O.contents output.new)) }
         ensures terms { KeepsTerms self.old self.new }
     {
         let Some(input_line) = read_input_line(alloc, input)? else {
             return Ok(false);
         };
-        let answer = self.answer(alloc, &input_line)?;
-        match write_and_flush(answer.as_bytes(), output) {
+        let answer = self.answer(alloc, number, &input_line)?;
+        match write_and_flush(&answer, output) {
             Ok(()) => Ok(true),
             Err(_) => Err(ServeFault::Output),
         }
     }
 
-    // Serves a line, and returns its answer with an empty line behind it.
-    fn answer(&mut self, alloc: Global, input_line: &InputLine) -> Result<String, AllocError>
+    // Serves the line of this number, and returns its answer with an empty line behind it.
+    #[tactic(auto, using(crate::proofs::Answering::turn_written))]
+    fn answer(
+        &mut self,
+        alloc: Global,
+        number: usize,
+        input_line: &InputLine,
+    ) -> Result<Vec<u8>, AllocError>
         ensures answered { IfOk result (λ answer. WritesTurn (terms_of N.frames N.stocks self.old) self.old.sizes
-            (text_of input_line.now) self.old.state self.new.state (string_bytes answer)) }
+            number (text_of input_line.now) self.old.state self.new.state answer.items) }
         ensures failed { OnErr result
             (ServesAtMost (terms_of N.frames N.stocks self.old) self.old.state self.new.state) }
         ensures terms { KeepsTerms self.old self.new }
     {
-        let mut answer = String::new(alloc);
-        self.add_answer(alloc, input_line, &mut answer)?;
-        answer.push_str("\n")?;
+        let mut answer = self.answer_plainly(alloc, number, input_line)?;
+        answer.push(b'\n')?;
         Ok(answer)
     }
 
-    // Serves a line, and adds its answer.
-    fn add_answer(
+    // The same without the empty line.
+    fn answer_plainly(
         &mut self,
         alloc: Global,
+        number: usize,
         input_line: &InputLine,
-        answer: &mut String,
-    ) -> Result<(), AllocError>
-        ensures answered { OnOk result (AddsAnswer (terms_of N.frames N.stocks self.old) self.old.sizes
-            (text_of input_line.now) self.old.state self.new.state
-            (string_bytes answer.old) (string_bytes answer.new)) }
+    ) -> Result<Vec<u8>, AllocError>
+        ensures answered { IfOk result (λ answer. HasAnswer (terms_of N.frames N.stocks self.old) self.old.sizes
+            number (text_of input_line.now) self.old.state self.new.state answer.items) }
         ensures failed { OnErr result
             (ServesAtMost (terms_of N.frames N.stocks self.old) self.old.state self.new.state) }
         ensures terms { KeepsTerms self.old self.new }
     {
         match input_line {
-            InputLine::Text(text) => self.add_answer_to_text(alloc, text, answer),
-            InputLine::TooLong => answer.push_str("bad: line too long\n"),
+            InputLine::Text(text) => self.answer_text(alloc, number, text),
+            InputLine::TooLong => bad_line(alloc, self.form, b"line too long"),
         }
     }
 
     // The same for a line with this text.
-    fn add_answer_to_text(
+    fn answer_text(
         &mut self,
         alloc: Global,
+        number: usize,
         text: &[u8],
-        answer: &mut String,
-    ) -> Result<(), AllocError>
-        ensures answered { OnOk result (AddsAnswer (terms_of N.frames N.stocks self.old) self.old.sizes
-            (Some text.now) self.old.state self.new.state (string_bytes answer.old) (string_bytes answer.new)) }
+    ) -> Result<Vec<u8>, AllocError>
+        ensures answered { IfOk result (λ answer. HasAnswer (terms_of N.frames N.stocks self.old) self.old.sizes
+            number (Some text.now) self.old.state self.new.state answer.items) }
         ensures failed { OnErr result
             (ServesAtMost (terms_of N.frames N.stocks self.old) self.old.state self.new.state) }
         ensures terms { KeepsTerms self.old self.new }
     {
         if is_skipped(text) {
-            return Ok(());
+            return Ok(Vec::new(alloc));
         }
-        match parse_line(&self.names, 1, text, &self.sizes) {
-            Some(line) => serve_line(
+        match parse_line(&self.names, number, text, &self.sizes) {
+            Some(line) => answer_line(
+                alloc,
+                self.form,
                 &mut self.locked,
                 &self.tables,
                 &mut self.cpus,
                 &line,
-                self.is_explained,
-                answer,
+                text,
             ),
-            None => refuse_text(alloc, &self.names, text, &self.sizes, answer),
+            None => refuse_text(alloc, self.form, &self.names, text, &self.sizes),
         }
     }
 }

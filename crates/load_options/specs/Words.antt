@@ -14,7 +14,7 @@ use Rattle.zone_sizes.specs.declared.config.Config.{Config}
 use Rattle.zone_sizes.specs.Config.{most_batch, most_cpus, most_frames, most_high, most_stock}
 use Rattle.load_options.specs.declared.task.Options.{Options}
 use Rattle.load_options.specs.declared.task.Task.{Task}
-use Rattle.load_options.specs.declared.task.Task.TheVariants.{Replay, Steps, Run, Check, Lint, Serve, Version}
+use Rattle.load_options.specs.declared.task.Task.TheVariants.{Replay, Steps, Run, Check, Lint, Serve, ServeSteps, Version}
 use Rattle.load_options.specs.declared.fault.WordsFault.{WordsFault}
 use Rattle.load_options.specs.declared.fault.WordsFault.TheVariants.{BadWords, NoMemory}
 
@@ -66,10 +66,12 @@ replay_shape = record (command_shape (codes "replay")) {
       ++ flag_rule (codes "steps") ∷ [];
 }
 
--- `serve`, which has two more options than the sizes
+-- `serve`, which has three more options than the sizes
 abbrev pub serve_shape : Shape
 serve_shape = record (sized_shape (codes "serve")) {
-  rules = (size_rules ++ flag_rule (codes "audit") ∷ []) ++ flag_rule (codes "explain") ∷ [];
+  rules =
+      ((size_rules ++ flag_rule (codes "audit") ∷ []) ++ flag_rule (codes "explain") ∷ [])
+      ++ flag_rule (codes "steps") ∷ [];
 }
 
 -- `check`, which has one option
@@ -148,13 +150,20 @@ replay_task_in found =
     then if has_other_flag found then None else Some Steps
     else Some (answering_task found)
 
+-- the task of `serve`, with its own options; `--steps` goes with no other flag
+abbrev pub serve_task_in : List Row → Option Task
+serve_task_in found =
+    if is_given (codes "steps") found
+    then if is_given (codes "explain") found || is_given (codes "audit") found then None else Some ServeSteps
+    else Some (Serve (is_given (codes "explain") found))
+
 -- the task on a script that has this name
 abbrev pub task_in : List ℕ → List Row → Option Task
 task_in name found =
     if bytes_eq name (codes "replay") then replay_task_in found
     else if bytes_eq name (codes "run") then Some Run
     else if bytes_eq name (codes "lint") then Some Lint
-    else if bytes_eq name (codes "serve") then Some (Serve (is_given (codes "explain") found)) else None
+    else if bytes_eq name (codes "serve") then serve_task_in found else None
 
 -- the options that are given under the name of a subcommand on scripts
 abbrev pub script_options_under : List ℕ → List Row → Option Options

@@ -14,7 +14,7 @@ use crate::fault::WordsFault;
 use crate::task::{Options, VERSION_OPTIONS, read_options};
 use clap::builder::ValueParser;
 use clap::error::ErrorKind;
-use clap::{Arg, ArgAction, Command, Error, value_parser};
+use clap::{Arg, ArgAction, ArgMatches, Command, Error, value_parser};
 use std::alloc::{AllocError, Global};
 use std::convert::AsStr;
 use std::rt::Env;
@@ -72,6 +72,9 @@ const STEPS_ALONE: &str =
     "the argument '--steps' cannot be used with '--audit', '--numbered', '--strict', '--explain' \
     or '--check'";
 
+const SERVE_STEPS_ALONE: &str =
+    "the argument '--steps' cannot be used with '--audit' or '--explain'";
+
 /// The words of the command line after the program's name. A word that isn't UTF-8 is a fault of the words. It has no
 /// contract: no clause can name the words with which a process was started.
 pub fn words<R: Env + AllocGlobal>(rt: &R) -> Result<Vec<String>, WordsFault> {
@@ -90,8 +93,9 @@ pub fn words<R: Env + AllocGlobal>(rt: &R) -> Result<Vec<String>, WordsFault> {
 /// Parses the words after the program's name. They are `replay`, `run`, `lint` or `serve`, then any of `--frames`,
 /// `--cpus`, `--batch`, `--high` and `--stock`. After `replay` and `run` there may also be `--audit`, `--numbered` and
 /// `--strict`, and after `replay` `--explain` and `--check`. After `replay` there may be `--steps` instead of these
-/// five. After `serve` there may be `--audit` and `--explain`. Each is given at most once. Or the words are `check`, alone
-/// or with `--all`, or `--version` or `-V` alone. Anything else is a fault of the words, even a request for help.
+/// five. After `serve` there may be `--audit` and `--explain`, or `--steps` instead. Each is given at most once. Or the words
+/// are `check`, alone or with `--all`, or `--version` or `-V` alone. Anything else is a fault of the words, even a request
+/// for help.
 ///
 /// A size is a whole number in its own range: 1 to 1,048,576 frames, 1 to 64 CPUs, batch 1 to 64, high 1 to 256,
 /// stock 1 to 64. `Config::is_valid` requires more: high is at least batch. The defaults are 16, 2, 4, 8 and 4.
@@ -113,10 +117,18 @@ pub fn options<S: AsStr>(alloc: Global, words: &[S]) -> Result<Options, WordsFau
         // and values out of range, and every size has a default. But its contract says none of that.
         None => {
             let error = command
-                .error(ErrorKind::ArgumentConflict, STEPS_ALONE)
+                .error(ErrorKind::ArgumentConflict, steps_alone(&found))
                 .map_err(WordsFault::NoMemory)?;
             Err(fault_of(alloc, &error))
         }
+    }
+}
+
+// Why `--steps` goes with no other flag of its subcommand.
+fn steps_alone(found: &ArgMatches<'_>) -> &'static str {
+    match found.subcommand() {
+        Some(("serve", _)) => SERVE_STEPS_ALONE,
+        _ => STEPS_ALONE,
     }
 }
 
@@ -179,14 +191,15 @@ fn replay_command<'a>(alloc: Global) -> Result<Command<'a>, AllocError>
         .arg(flag_option(alloc, "steps", STEPS_HELP))
 }
 
-// `serve`, which has two more options than the sizes.
+// `serve`, which has three more options than the sizes.
 fn serve_command<'a>(alloc: Global) -> Result<Command<'a>, AllocError>
     ensures shape { IfOk result (λ command. (app_of command).top ≡ serve_shape) }
     ensures local { IfOk result (λ command. (fields_of command).has_globals ≡ false) }
 {
     sized(alloc, "serve", SERVE_HELP)?
         .arg(flag_option(alloc, "audit", AUDIT_HELP))?
-        .arg(flag_option(alloc, "explain", EXPLAIN_HELP))
+        .arg(flag_option(alloc, "explain", EXPLAIN_HELP))?
+        .arg(flag_option(alloc, "steps", STEPS_HELP))
 }
 
 // `check`, which has one option.

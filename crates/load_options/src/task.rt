@@ -6,7 +6,7 @@ ghost use Rattle.load_options.specs.Sizes.{HasSizesInRange};
 ghost use Rattle.load_options.specs.Words.{answering_task, bare_options, has_other_flag, has_task_flag, is_given, number_kept};
 ghost use Rattle.load_options.specs.declared.task.Task.TheVariants.{Check};
 ghost use Rattle.load_options.specs.Words.{options_under, replay_task_in, script_options_under, size_in, sizes_in};
-ghost use Rattle.load_options.specs.Words.{task_in};
+ghost use Rattle.load_options.specs.Words.{serve_task_in, task_in};
 
 use clap::ArgMatches;
 use zone_sizes::config::Config;
@@ -38,6 +38,8 @@ pub enum Task {
         /// Whether a refusal, and what a command drained, reclaimed and killed, is explained after its answer.
         is_explained: bool,
     },
+    /// For each line its part of a log is written before the next one is read.
+    ServeSteps,
     /// The input isn't read, and the program's version is written.
     Version,
 }
@@ -129,9 +131,7 @@ fn named_task(name: &str, given: &ArgMatches<'_>) -> Option<Task>
     } else if name == "lint" {
         Some(Task::Lint)
     } else if name == "serve" {
-        Some(Task::Serve {
-            is_explained: is_set(given, "explain"),
-        })
+        serve_task(given)
     } else {
         None
     }
@@ -147,6 +147,20 @@ fn replay_task(given: &ArgMatches<'_>) -> Option<Task>
         None
     } else {
         Some(Task::Steps)
+    }
+}
+
+// The task of `serve`. `--steps` goes with no other flag.
+fn serve_task(given: &ArgMatches<'_>) -> Option<Task>
+    ensures { result ≡ serve_task_in (rows_of (found_of given.now)) }
+{
+    let is_explained = is_set(given, "explain");
+    if !is_set(given, "steps") {
+        Some(Task::Serve { is_explained })
+    } else if is_explained || is_set(given, "audit") {
+        None
+    } else {
+        Some(Task::ServeSteps)
     }
 }
 

@@ -1,6 +1,5 @@
 pub mod Answering
 pub mod Causing
-pub mod Commented
 pub mod Driving
 pub mod Joining
 mod Pieces

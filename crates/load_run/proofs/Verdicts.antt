@@ -13,7 +13,9 @@ use Rattle.log_check.specs.Texts.{verdict_text}
 use Rattle.load_options.specs.declared.fault.WordsFault.TheVariants as words
 use Rattle.load_options.specs.declared.task.Options.{Options}
 use Rattle.load_options.specs.declared.task.Task.{Task}
-use Rattle.load_options.specs.declared.task.Task.TheVariants.{Check, Lint, Replay, Run, Serve, Steps, Version}
+use Rattle.load_options.specs.declared.task.Task.TheVariants.{Check, Lint, Replay, Run, Serve, ServeSteps, Steps, Version}
+use Rattle.line_server.specs.declared.form.SessionForm.{SessionForm}
+use Rattle.line_server.specs.declared.form.SessionForm.TheVariants as session
 use Rattle.load_run.specs.declared.fault.ProgramFault.{ProgramFault}
 use Rattle.load_run.specs.declared.fault.ProgramFault.TheVariants.{BadConfig, BadLogLine, IllegalEnd, IllegalLine, Input, NoMemory, Output, Script, Words}
 use Rattle.load_run.specs.Answers.{IsOnScript}
@@ -234,21 +236,21 @@ drives_words (Some options) input output faults faults_after fault status is end
     for_version Output is ended told = absurd is
     for_version (NoMemory e) is ended told = absurd is
 
-    for_serve : (is_explained : Bool) (f : ProgramFault) → IsWordsFault (Some options) f → status ≡ status_of f
+    for_serve : (form : SessionForm) (f : ProgramFault) → IsWordsFault (Some options) f → status ≡ status_of f
         → AppendsBeginning faults faults_after (fault_text f)
-        → DrivesSession options is_explained input (written output faults) (written output faults_after) status
-    for_serve is_explained (Words (words.NoMemory e)) is ended told =
-        drives_failed options is_explained input output output faults faults_after (Words (words.NoMemory e)) status
+        → DrivesSession options form input (written output faults) (written output faults_after) status
+    for_serve form (Words (words.NoMemory e)) is ended told =
+        drives_failed options form input output output faults faults_after (Words (words.NoMemory e)) status
         (record { at_work = tt; valid = tt; left = inl refl }) ended told
-    for_serve is_explained (Words (words.BadWords text)) is ended told = absurd (false≢true (sym (ap is_some is)))
-    for_serve is_explained (Script f) is ended told = absurd is
-    for_serve is_explained (BadLogLine n reason) is ended told = absurd is
-    for_serve is_explained BadConfig is ended told = absurd is
-    for_serve is_explained (IllegalLine n) is ended told = absurd is
-    for_serve is_explained IllegalEnd is ended told = absurd is
-    for_serve is_explained Input is ended told = absurd is
-    for_serve is_explained Output is ended told = absurd is
-    for_serve is_explained (NoMemory e) is ended told = absurd is
+    for_serve form (Words (words.BadWords text)) is ended told = absurd (false≢true (sym (ap is_some is)))
+    for_serve form (Script f) is ended told = absurd is
+    for_serve form (BadLogLine n reason) is ended told = absurd is
+    for_serve form BadConfig is ended told = absurd is
+    for_serve form (IllegalLine n) is ended told = absurd is
+    for_serve form IllegalEnd is ended told = absurd is
+    for_serve form Input is ended told = absurd is
+    for_serve form Output is ended told = absurd is
+    for_serve form (NoMemory e) is ended told = absurd is
 
     by_task : (task : Task) → DrivesTask task (Some options) input (written output faults) (written output faults_after) status
     by_task (Replay is_explained is_checked) =
@@ -257,7 +259,8 @@ drives_words (Some options) input output faults faults_after fault status is end
     by_task (Check is_all) = for_check is_all fault is ended told
     by_task Lint = record { options = options; is_asked = refl; lints = for_lint fault is ended told }
     by_task Steps = drives_badly (Some options) input output faults faults_after fault status (words_cause (Some options) input fault is) ended told
-    by_task (Serve is_explained) = record { options = options; is_asked = refl; drives = for_serve is_explained fault is ended told }
+    by_task (Serve is_explained) = record { options = options; is_asked = refl; drives = for_serve (session.Answers is_explained) fault is ended told }
+    by_task ServeSteps = record { options = options; is_asked = refl; drives = for_serve session.Steps fault is ended told }
     by_task Version = for_version fault is ended told
 
 -- what a task on a script promises
@@ -272,6 +275,7 @@ script_drives options input before after status on_script drives = go options.ta
     go (Check is_all) on_script = absurd on_script
     go Lint on_script = absurd on_script
     go (Serve is_explained) on_script = absurd on_script
+    go ServeSteps on_script = absurd on_script
     go Version on_script = absurd on_script
 
 -- and a check
@@ -289,11 +293,18 @@ lint_drives options input before after status is lints =
 
 -- and a session
 pub serve_drives : (options : Options) (is_explained : Bool) (input : Option (List ℕ)) (before after : Written) (status : ℕ)
-    → options.task ≡ Serve is_explained → DrivesSession options is_explained input before after status
+    → options.task ≡ Serve is_explained → DrivesSession options (session.Answers is_explained) input before after status
     → Drives (Some options) input before after status
 serve_drives options is_explained input before after status is drives =
-    let here : SessionAsked is_explained (Some options) input before after status =
+    let here : SessionAsked (session.Answers is_explained) (Some options) input before after status =
     record { options = options; is_asked = refl; drives = drives } in
+    subst (λ (task : Task). DrivesTask task (Some options) input before after status) (sym is) here
+
+-- and one that writes a log
+pub serve_steps_drives : (options : Options) (input : Option (List ℕ)) (before after : Written) (status : ℕ) → options.task ≡ ServeSteps
+    → DrivesSession options session.Steps input before after status → Drives (Some options) input before after status
+serve_steps_drives options input before after status is drives =
+    let here : SessionAsked session.Steps (Some options) input before after status = record { options = options; is_asked = refl; drives = drives } in
     subst (λ (task : Task). DrivesTask task (Some options) input before after status) (sym is) here
 
 -- and the version

@@ -21,7 +21,7 @@ use Rattle.script_threads.specs.Each.{AreAllAnswers, workers_from}
 use Rattle.script_threads.specs.Runs.{lines_before_go}
 use Rattle.load_options.specs.declared.task.Options.{Options}
 use Rattle.load_options.specs.declared.task.Task.{Task}
-use Rattle.load_options.specs.declared.task.Task.TheVariants.{Replay, Steps, Run, Check, Lint, Serve, Version}
+use Rattle.load_options.specs.declared.task.Task.TheVariants.{Replay, Steps, Run, Check, Lint, Serve, ServeSteps, Version}
 use Rattle.load_run.specs.Ending.{WritesEnd}
 use Rattle.load_run.specs.Logs.{AreLoggedSteps}
 -- the state after a boot
@@ -118,6 +118,7 @@ IsOnScript Steps = ⊤
 IsOnScript (Check is_all) = ⊥
 IsOnScript Lint = ⊥
 IsOnScript (Serve is_explained) = ⊥
+IsOnScript ServeSteps = ⊥
 IsOnScript Version = ⊥
 
 -- what a boot with these sizes answers to the lines of the script for this task, with numbers or without, and reports
@@ -133,6 +134,7 @@ AreAnswers Steps sizes is_audited is_numbered script lines text = AreLoggedSteps
 AreAnswers (Check is_all) sizes is_audited is_numbered script lines text = ⊥
 AreAnswers Lint sizes is_audited is_numbered script lines text = ⊥
 AreAnswers (Serve is_explained) sizes is_audited is_numbered script lines text = ⊥
+AreAnswers ServeSteps sizes is_audited is_numbered script lines text = ⊥
 AreAnswers Version sizes is_audited is_numbered script lines text = ⊥
 
 -- These options are asked for, a boot takes their sizes, and the input is a script for them. The text is what a boot of

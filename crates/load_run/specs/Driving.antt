@@ -3,7 +3,8 @@ use Rattle.std.specs.Prelude.{◌≡◌, ◌⊎◌, ℕ, ◌≤◌, List, Option
 use Rattle.std.specs.Prelude.{IfErr, IfOk, IfSome, IsSome, OnOk}
 use Rattle.load_options.specs.declared.task.Options.{Options}
 use Rattle.load_options.specs.declared.task.Task.{Task}
-use Rattle.load_options.specs.declared.task.Task.TheVariants.{Replay, Steps, Run, Check, Lint, Serve, Version}
+use Rattle.load_options.specs.declared.task.Task.TheVariants.{Replay, Steps, Run, Check, Lint, Serve, ServeSteps, Version}
+use Rattle.line_server.specs.declared.form.SessionForm.TheVariants as session
 use Rattle.load_run.specs.declared.fault.ProgramFault.{ProgramFault}
 use Rattle.load_run.specs.Answers.{IsAnswered, IsWritten}
 use Rattle.load_run.specs.Causes.{FailsAtWork, HasCause, IsMisused, Written}
@@ -55,7 +56,8 @@ DrivesTask Run asked input before after status = DrivesScript asked input before
 DrivesTask (Check is_all) asked input before after status = Checks is_all input before after status
 DrivesTask Lint asked input before after status = LintsAsked asked input before after status
 DrivesTask (Serve is_explained) asked input before after status =
-    SessionAsked is_explained asked input before after status
+    SessionAsked (session.Answers is_explained) asked input before after status
+DrivesTask ServeSteps asked input before after status = SessionAsked session.Steps asked input before after status
 DrivesTask Version asked input before after status = WritesVersion before after status
 
 -- The program ran for the options that are asked for, if any. If none are, that is the fault of `DrivesScript`

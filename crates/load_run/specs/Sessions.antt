@@ -6,12 +6,15 @@ use Rattle.stock_word.specs.Stock.{KnownStockTable}
 use Rattle.zone_sizes.specs.declared.config.Config.{Config}
 use Rattle.zone_sizes.specs.Config.{IsValidConfig}
 use Rattle.mem_machine.specs.Agreeing.{AgreesWithRun}
-use Rattle.script_replay.specs.History.{HasHistory, past}
+use Rattle.script_replay.specs.History.{past}
 use Rattle.script_replay.specs.Lines.{SystemState}
-use Rattle.script_replay.specs.Terms.{terms}
 use Rattle.line_server.specs.declared.fault.ServeFault.{ServeFault}
 use Rattle.line_server.specs.declared.fault.ServeFault.TheVariants as serve
-use Rattle.line_server.specs.Sessions.{FailsSession, ServesSession, answers_of, lines_of}
+use Rattle.line_server.specs.declared.form.SessionForm.{SessionForm}
+use Rattle.line_server.specs.declared.form.SessionForm.TheVariants.{Answers, Steps}
+use Rattle.line_server.specs.Forms.{session_terms}
+use Rattle.line_server.specs.Histories.{HasTurnsHistory}
+use Rattle.line_server.specs.Sessions.{FailsSession, ServesSession}
 use Rattle.load_options.specs.declared.fault.WordsFault.TheVariants as words
 use Rattle.load_options.specs.declared.task.Options.{Options}
 use Rattle.load_run.specs.declared.fault.ProgramFault.{ProgramFault}
@@ -20,37 +23,43 @@ use Rattle.load_run.specs.Starting.{IsNewBootState}
 use Rattle.load_run.specs.Causes.{Written}
 use Rattle.load_run.specs.Ending.{WritesEnd}
 use Rattle.load_run.specs.Fault.{fault_text}
+use Rattle.load_run.specs.Logs.{LogsEnd, head_text}
 use Rattle.line_streams.specs.Writing.{AppendsBeginning}
 
+-- a boot ended from this state after a session of this form, and this is what is written about that
+abbrev pub EndsInForm : SessionForm → KnownTable → KnownStockTable → (is_audited : Bool) → (before : SystemState)
+    → (text : List ℕ) → Type 0
+EndsInForm (Answers is_explained) frames stocks is_audited before text = WritesEnd frames stocks is_audited before text
+EndsInForm Steps frames stocks is_audited before text = LogsEnd frames stocks before text
+
 -- A new boot served a session on an input, and ended. `middle` is what the output holds after the session, and `ending`
--- the text of the end, if the options ask for one. All steps of the lines that were served are one run from the boot
--- on. Its history says of each line that the promise is kept after it, if the run is legal. The ledger of the boot is
--- that of a run without steps.
-pub record EndsSession (options : Options) (is_explained : Bool) (input before middle : Option (List ℕ))
+-- the text of the end, if there is one. All steps of the lines that were served are one run from the boot on. Its
+-- history says of each line that the promise is kept after it, if the run is legal. The ledger of the boot is that of a
+-- run without steps.
+pub record EndsSession (options : Options) (form : SessionForm) (input before middle : Option (List ℕ))
     (ending : List ℕ) : Type 0 where
   pub frames : KnownTable
   pub stocks : KnownStockTable
   pub start : SystemState
   pub end : SystemState
   pub first : IsNewBootState options.sizes frames stocks start
-  pub session : ServesSession (terms frames stocks is_explained) options.sizes input start end before middle
-  pub history : HasHistory (terms frames stocks is_explained) (lines_of session.turns) (past [] start) end
-      (answers_of session.turns)
+  pub session : ServesSession (session_terms frames stocks form) options.sizes input start end before middle
+  pub history : HasTurnsHistory form frames stocks session.turns (past [] start) end
   pub agrees : AgreesWithRun frames [] start.locked.machine.ledger
-  pub ends : WritesEnd frames stocks options.is_audited end ending
+  pub ends : EndsInForm form frames stocks options.is_audited end ending
 
 -- a session ended, and all of the text of its end was written behind its answers
-pub record ServesInput (options : Options) (is_explained : Bool) (input before after : Option (List ℕ)) : Type 0 where
+pub record ServesInput (options : Options) (form : SessionForm) (input before after : Option (List ℕ)) : Type 0 where
   pub middle : Option (List ℕ)
   pub ending : List ℕ
-  pub ends : EndsSession options is_explained input before middle ending
+  pub ends : EndsSession options form input before middle ending
   pub written : Appends middle after ending
 
 -- a session ended, and a beginning of the text of its end was written behind its answers
-pub record BeginsEnding (options : Options) (is_explained : Bool) (input before after : Option (List ℕ)) : Type 0 where
+pub record BeginsEnding (options : Options) (form : SessionForm) (input before after : Option (List ℕ)) : Type 0 where
   pub middle : Option (List ℕ)
   pub ending : List ℕ
-  pub ends : EndsSession options is_explained input before middle ending
+  pub ends : EndsSession options form input before middle ending
   pub begun : AppendsBeginning middle after ending
 
 -- the same fault of the program
@@ -61,7 +70,7 @@ IsSameFault serve.NoMemory (kinds.NoMemory error) = ⊤
 IsSameFault why fault = ⊥
 
 -- a session on a new boot failed with this fault
-pub record FailsOnBoot (options : Options) (is_explained : Bool) (input before after : Option (List ℕ))
+pub record FailsOnBoot (options : Options) (form : SessionForm) (input before after : Option (List ℕ))
     (fault : ProgramFault) : Type 0 where
   pub frames : KnownTable
   pub stocks : KnownStockTable
@@ -70,7 +79,7 @@ pub record FailsOnBoot (options : Options) (is_explained : Bool) (input before a
   pub first : IsNewBootState options.sizes frames stocks start
   pub why : ServeFault
   pub same : IsSameFault why fault
-  pub fails : FailsSession (terms frames stocks is_explained) options.sizes input start end before after why
+  pub fails : FailsSession (session_terms frames stocks form) options.sizes input start end before after why
 
 -- a fault at work
 abbrev pub IsWorkFault : ProgramFault → Type 0
@@ -92,25 +101,55 @@ pub record LeavesEnding (before after : Option (List ℕ)) (ending : List ℕ) (
 
 -- What a fault at work leaves: nothing is written, and no line was read; or the session failed; or it ended, and the
 -- text of its end wasn't written whole. Sizes that a boot refuses have no such fault.
-pub record LeavesSession (options : Options) (is_explained : Bool) (input before after : Option (List ℕ))
+pub record LeavesSession (options : Options) (form : SessionForm) (input before after : Option (List ℕ))
     (fault : ProgramFault) : Type 0 where
   pub at_work : IsWorkFault fault
   pub valid : IsOfValid options.sizes fault
-  pub left : (after ≡ before) ⊎ (FailsOnBoot options is_explained input before after fault
-      ⊎ BeginsEnding options is_explained input before after)
+  pub left : (after ≡ before) ⊎ (FailsOnBoot options form input before after fault
+      ⊎ BeginsEnding options form input before after)
+
+-- the head was written: of a session that writes a log, the sizes
+abbrev pub WritesHead : SessionForm → Config → (before after : Option (List ℕ)) → Type 0
+WritesHead (Answers is_explained) sizes before after = after ≡ before
+WritesHead Steps sizes before after = Appends before after (head_text sizes)
+
+-- or a beginning of it
+abbrev pub BeginsHead : SessionForm → Config → (before after : Option (List ℕ)) → Type 0
+BeginsHead (Answers is_explained) sizes before after = after ≡ before
+BeginsHead Steps sizes before after = AppendsBeginning before after (head_text sizes)
+
+-- the head was written, and what holds then
+pub record WithHead (options : Options) (form : SessionForm) (before : Option (List ℕ))
+    (holds : Option (List ℕ) → Type 0) : Type 0 where
+  pub headed : Option (List ℕ)
+  pub head : WritesHead form options.sizes before headed
+  pub then : holds headed
+
+-- a session had its head, and ended
+abbrev pub ServesWithHead : (options : Options) (form : SessionForm) (input before after : Option (List ℕ)) → Type 0
+ServesWithHead options form input before after =
+    WithHead options form before (λ headed. ServesInput options form input headed after)
+
+-- What a fault at work leaves of a session with its head: nothing is written; or a beginning of the head, and no line
+-- was read; or the head, and then what `LeavesSession` says.
+pub record LeavesWithHead (options : Options) (form : SessionForm) (input before after : Option (List ℕ))
+    (fault : ProgramFault) : Type 0 where
+  pub at_work : IsWorkFault fault
+  pub valid : IsOfValid options.sizes fault
+  pub left : (after ≡ before) ⊎ (BeginsHead form options.sizes before after
+      ⊎ WithHead options form before (λ headed. LeavesSession options form input headed after fault))
 
 -- Why there is no session, or no more of it: a boot refuses the sizes, and nothing is written; or a fault at work.
-abbrev pub StopsSession : (options : Options) (is_explained : Bool) (input before after : Option (List ℕ))
+abbrev pub StopsSession : (options : Options) (form : SessionForm) (input before after : Option (List ℕ))
     → ProgramFault → Type 0
-StopsSession options is_explained input before after kinds.BadConfig = (after ≡ before) × ¬ IsValidConfig options.sizes
-StopsSession options is_explained input before after fault =
-    LeavesSession options is_explained input before after fault
+StopsSession options form input before after kinds.BadConfig = (after ≡ before) × ¬ IsValidConfig options.sizes
+StopsSession options form input before after fault = LeavesWithHead options form input before after fault
 
 -- a session failed at its work; the fault writer got why, as far as it took it
-pub record FailsToServe (options : Options) (is_explained : Bool) (input : Option (List ℕ)) (before after : Written)
+pub record FailsToServe (options : Options) (form : SessionForm) (input : Option (List ℕ)) (before after : Written)
     : Type 0 where
   pub fault : ProgramFault
-  pub left : LeavesSession options is_explained input before.output after.output fault
+  pub left : LeavesWithHead options form input before.output after.output fault
   pub told : AppendsBeginning before.faults after.faults (fault_text fault)
 
 -- a boot refuses the sizes, and that was told, as far as the writer took it
@@ -120,19 +159,19 @@ pub record RefusesSizes (options : Options) (before after : Option (List ℕ)) :
 
 -- A session on an input ended with at most 2. With 0 it ended by `quit` or at the end of the input, and no fault is
 -- reported. With 1 it failed at its work. With 2 the sizes are refused, and nothing is written to the output.
-pub record DrivesSession (options : Options) (is_explained : Bool) (input : Option (List ℕ)) (before after : Written)
+pub record DrivesSession (options : Options) (form : SessionForm) (input : Option (List ℕ)) (before after : Written)
     (status : ℕ) : Type 0 where
   pub status_at_most : status ≤ 2
   pub silent : status ≡ 0 → after.faults ≡ before.faults
-  pub served : status ≡ 0 → ServesInput options is_explained input before.output after.output
-  pub fails : status ≡ 1 → FailsToServe options is_explained input before after
+  pub served : status ≡ 0 → ServesWithHead options form input before.output after.output
+  pub fails : status ≡ 1 → FailsToServe options form input before after
   pub no_output : status ≡ 2 → after.output ≡ before.output
   pub refused : status ≡ 2 → RefusesSizes options before.faults after.faults
 
 -- a session was held for the options that are asked for
-pub record SessionAsked (is_explained : Bool) (asked : Option Options) (input : Option (List ℕ))
+pub record SessionAsked (form : SessionForm) (asked : Option Options) (input : Option (List ℕ))
     (before after : Written)
     (status : ℕ) : Type 0 where
   pub options : Options
   pub is_asked : asked ≡ Some options
-  pub drives : DrivesSession options is_explained input before after status
+  pub drives : DrivesSession options form input before after status

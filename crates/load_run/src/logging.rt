@@ -1,61 +1,61 @@
 //! The steps of a script as a log. A comment with the number and text of each line precedes its steps, and its answer
 //! follows them in comments.
 
-ghost use Rattle.std.specs.Prelude.{◌≡◌, ◌≤◌, ◌++◌, All, IfOk, OnOk, codes, drop, length, map, true};
+ghost use Rattle.std.specs.Prelude.{◌≡◌, ◌++◌, All, IfOk, OnOk, codes, length, map, true};
 ghost use Rattle.script_lines.specs.Script.{texts_of};
 ghost use Rattle.script_replay.specs.Lines.{system_state};
 ghost use Rattle.script_replay.specs.Ranges.{LineInRange};
 ghost use Rattle.script_replay.specs.Terms.{terms};
 ghost use Rattle.step_watch.specs.Watched.{has_whole_log, log_text};
+ghost use Rattle.line_server.specs.Logs.{AddsPart, answer_comments};
 ghost use Rattle.load_run.specs.Ending.{boot_end_text};
-ghost use Rattle.load_run.specs.Logs.{AreLoggedSteps, GrowsBy, LogsAll, LogsAllAndEnd, LogsLine, answer_comments};
-ghost use Rattle.load_run.specs.Logs.{head_text};
+ghost use Rattle.load_run.specs.Logs.{AreLoggedSteps, GrowsBy, LogsAll, LogsAllAndEnd, LogsEnd, head_text};
+ghost use Rattle.load_run.specs.Logs.{sizes_comment, text_at, text_of};
 
 use crate::boot_end::{BootEnd, empty_cpus, write_boot_end};
-use crate::comments::{add_answer, add_line, add_sizes};
 use cpu_part::{BootName, Cpu, Tables};
+use line_server::{add_answer, add_steps, log_line};
 use log_lines::write_zone;
 use mem_system::{Boot, Locked};
 use script_lines::line::Line;
 use script_lines::script::first_line;
-use script_replay::serve_line;
 use std::alloc::{AllocError, Global};
 use step_watch::Watch;
 use zone_sizes::config::Config;
 
-// Adds what the watch wrote behind the bytes that were seen before. It fails if memory ran out here or for the watch's
-// log.
-fn add_steps(watch: &Watch, log_start: usize, log: &mut Vec<u8>) -> Result<(), AllocError>
-    requires within { has_whole_log watch.now ≡ true → log_start ≤ length (log_text watch.now) }
-    ensures whole { OnOk result (has_whole_log watch.now ≡ true) }
-    ensures added { OnOk result (log.new.items ≡ log.old.items ++ drop log_start (log_text watch.now)) }
+// Adds the comment with the sizes of the boot that the zone's line doesn't have.
+fn add_sizes(alloc: Global, sizes: &Config, log: &mut Vec<u8>) -> Result<(), AllocError>
+    ensures { IfOk result (λ _. log.new.items ≡ log.old.items ++ sizes_comment sizes.now) }
 {
-    if !watch.is_whole() {
-        return Err(AllocError);
-    }
-    log.extend_from_slice(&watch.log()[log_start..])
+    let mut text = String::new(alloc);
+    let batch = sizes.batch;
+    let high = sizes.high;
+    let stock = sizes.stock;
+    writeln!(text, "# memcg batch {batch} high {high} stock {stock}")?;
+    log.extend_from_slice(text.as_bytes())
 }
 
-// Serves the line, and adds its comment, its steps and its answer.
-fn log_line<N: BootName>(
-    alloc: Global,
-    locked: &mut Locked<N>,
-    tables: &Tables<N>,
-    cpus: &mut [Cpu<N>],
-    line: &Line<'_>,
-    texts: &[&[u8]],
-    log: &mut Vec<u8>,
-) -> Result<(), AllocError>
-    requires there { LineInRange N.frames.frames (length cpus.old) line.now }
-    ensures logged { OnOk result (GrowsBy (LogsLine (terms N.frames N.stocks true) (map (λ text. text.now) texts.now)
-        line.now (system_state locked.old cpus.old) (system_state locked.new cpus.new)) log.old.items log.new.items) }
+// The text of the line of this number, from 1; nothing if there is none.
+fn text_at<'a>(texts: &[&'a [u8]], number: usize) -> &'a [u8]
+    ensures { result.now ≡ text_at (map (λ text. text.now) texts.now) number }
 {
-    add_line(alloc, texts, line, log)?;
-    let log_start = locked.watch().log().len();
-    let mut answer = String::new(alloc);
-    serve_line(locked, tables, cpus, line, true, &mut answer)?;
-    add_steps(locked.watch(), log_start, log)?;
-    add_answer(answer.as_bytes(), log)
+    if number == 0 {
+        return &[];
+    }
+    match texts.get(number - 1) {
+        Some(text) => text,
+        None => &[],
+    }
+}
+
+// The text of the line; nothing for `go`.
+fn text_of<'a>(texts: &[&'a [u8]], line: &Line<'_>) -> &'a [u8]
+    ensures { result.now ≡ text_of (map (λ text. text.now) texts.now) line.now }
+{
+    match line {
+        Line::Go => &[],
+        Line::At { number, .. } => text_at(texts, *number),
+    }
 }
 
 // Serves the lines one after the other, and adds the log of each.
@@ -73,20 +73,18 @@ fn log_each<N: BootName>(
         lines.now (system_state locked.old cpus.old) (system_state locked.new cpus.new)) log.old.items log.new.items) }
 {
     for next in lines {
-        log_line(alloc, locked, tables, cpus, next, texts, log)?;
+        log_line(alloc, locked, tables, cpus, next, text_of(texts, next), log)?;
     }
     Ok(())
 }
 
 // Adds the comment and the steps of the end.
-fn add_end_steps(watch: &Watch, log_start: usize, log: &mut Vec<u8>) -> Result<(), AllocError>
-    requires within { has_whole_log watch.now ≡ true → log_start ≤ length (log_text watch.now) }
+fn add_end_steps(watch: &Watch, log: &mut Vec<u8>) -> Result<(), AllocError>
     ensures whole { OnOk result (has_whole_log watch.now ≡ true) }
-    ensures added { OnOk result (log.new.items ≡ log.old.items ++ (codes "# end\n" ++ drop log_start
-        (log_text watch.now))) }
+    ensures added { OnOk result (log.new.items ≡ log.old.items ++ (codes "# end\n" ++ log_text watch.now)) }
 {
     log.extend_from_slice(b"# end\n")?;
-    add_steps(watch, log_start, log)
+    add_steps(watch, log)
 }
 
 // Adds what is reported of the end.
@@ -96,6 +94,26 @@ fn add_end_report(alloc: Global, ended: &BootEnd, log: &mut Vec<u8>) -> Result<(
     let mut text = String::new(alloc);
     write_boot_end(ended, &mut text)?;
     add_answer(text.as_bytes(), log)
+}
+
+/// Ends the boot, and adds the log of the end. `AllocError` means that memory ran out: the boot has ended then too.
+pub(crate) fn log_end<N: BootName>(
+    alloc: Global,
+    mut locked: Locked<N>,
+    tables: Tables<N>,
+    cpus: Vec<Cpu<N>>,
+    log: &mut Vec<u8>,
+) -> Result<(), AllocError>
+    requires count { length cpus.items ≡ N.frames.cpus }
+    ensures logged { AddsPart result log.old.items log.new.items
+        (LogsEnd N.frames N.stocks (system_state locked cpus.items)) }
+{
+    locked.set_watch(Watch::logging(alloc));
+    let (held, emptied) = empty_cpus(locked, tables, cpus);
+    let added = add_end_steps(emptied.watch(), log);
+    let audit = emptied.close();
+    added?;
+    add_end_report(alloc, &BootEnd { held, audit }, log)
 }
 
 // Serves the lines, ends the boot, also if memory ran out, and adds the log of both.
@@ -114,13 +132,9 @@ fn log_and_end_boot<N: BootName>(
         (system_state locked cpus.items)) log.old.items log.new.items) }
 {
     let served = log_each(alloc, &mut locked, &tables, &mut cpus, lines, texts, log);
-    let log_start = locked.watch().log().len();
-    let (held, emptied) = empty_cpus(locked, tables, cpus);
-    let added = add_end_steps(emptied.watch(), log_start, log);
-    let audit = emptied.close();
+    let ended = log_end(alloc, locked, tables, cpus, log);
     served?;
-    added?;
-    add_end_report(alloc, &BootEnd { held, audit }, log)
+    ended
 }
 
 // The texts between the line feeds of a script.
@@ -137,8 +151,8 @@ pub(crate) fn texts_of<'a>(alloc: Global, script: &'a [u8]) -> Result<Vec<&'a [u
     Ok(texts)
 }
 
-// What a log begins with: the sizes.
-fn log_head(alloc: Global, sizes: &Config) -> Result<Vec<u8>, AllocError>
+/// What a log begins with: the sizes.
+pub(crate) fn log_head(alloc: Global, sizes: &Config) -> Result<Vec<u8>, AllocError>
     ensures { IfOk result (λ log. log.items ≡ head_text sizes.now) }
 {
     let mut log = Vec::new(alloc);
@@ -166,8 +180,7 @@ pub fn steps_on_boot<N: BootName>(
 {
     let mut log = log_head(alloc, &sizes)?;
     let texts = texts_of(alloc, script)?;
-    let (mut locked, tables, cpus) = boot.into_parts::<N>(alloc)?;
-    locked.set_watch(Watch::logging(alloc));
+    let (locked, tables, cpus) = boot.into_parts::<N>(alloc)?;
     log_and_end_boot(alloc, locked, tables, cpus, lines, &texts, &mut log)?;
     Ok(log)
 }

@@ -1,5 +1,5 @@
-//! The program over any reader and two writers: what a new boot answers to the script, or what the log is, is written
-//! to the output, or a fault is reported, and the status says which.
+//! The program over any reader and two writers: an answer that a new boot may give to the script, or what the log is,
+//! is written to the output, or a fault is reported, and the status says which.
 
 ghost use Rattle.std.specs.Prelude.{◌≡◌, All, IfErr, IfOk, OnOk, Some, map, true};
 ghost use Rattle.std.specs.Io.KnownBytes.{Appends};
@@ -29,6 +29,7 @@ use crate::serving::drive_serve;
 use crate::thread_running::run_by_threads;
 use crate::versions::drive_version;
 use cpu_part::BootName;
+use line_server::SessionForm;
 use line_streams::write_whole;
 use load_options::command_line::options;
 use load_options::task::{Options, Task};
@@ -72,7 +73,7 @@ pub fn drive<R: Threads + Wait + Sync, S: AsStr, I: Read, O: Write, F: Write>(
 }
 
 // Runs the task that is asked for.
-#[tactic(auto, using(crate::proofs::Verdicts::check_drives, crate::proofs::Verdicts::lint_drives, crate::proofs::Verdicts::script_drives, crate::proofs::Verdicts::serve_drives, crate::proofs::Verdicts::version_drives))]
+#[tactic(auto, using(crate::proofs::Verdicts::check_drives, crate::proofs::Verdicts::lint_drives, crate::proofs::Verdicts::script_drives, crate::proofs::Verdicts::serve_drives, crate::proofs::Verdicts::serve_steps_drives, crate::proofs::Verdicts::version_drives))]
 fn drive_task<R: Threads + Wait + Sync, I: Read, O: Write, F: Write>(
     rt: &R,
     alloc: Global,
@@ -93,8 +94,10 @@ fn drive_task<R: Threads + Wait + Sync, I: Read, O: Write, F: Write>(
         Task::Run => drive_script(rt, alloc, options, input, output, faults),
         Task::Steps => drive_script(rt, alloc, options, input, output, faults),
         Task::Serve { is_explained } => {
-            drive_serve(alloc, options, is_explained, input, output, faults)
+            let form = SessionForm::Answers { is_explained };
+            drive_serve(alloc, options, form, input, output, faults)
         }
+        Task::ServeSteps => drive_serve(alloc, options, SessionForm::Steps, input, output, faults),
         Task::Version => drive_version(alloc, output, faults),
     }
 }
@@ -166,7 +169,7 @@ fn lines_of<'a>(
     }
 }
 
-// What a new boot answers to the lines of this script.
+// An answer that a new boot may give to the lines of this script.
 fn answers_of<R: Threads + Wait + Sync>(
     rt: &R,
     alloc: Global,
@@ -190,7 +193,7 @@ fn answers_of<R: Threads + Wait + Sync>(
     }
 }
 
-// What a boot under a name of its tables answers to the lines, as the task says.
+// An answer that a boot under a name of its tables may give to the lines, as the task says.
 fn answers_on_boot<N: BootName + Send + Sync, R: Threads + Wait + Sync>(
     rt: &R,
     alloc: Global,
@@ -237,7 +240,11 @@ fn answers_on_boot<N: BootName + Send + Sync, R: Threads + Wait + Sync>(
             Ok(log) => Ok(log),
             Err(error) => Err(ProgramFault::NoMemory(error)),
         },
-        Task::Check { .. } | Task::Lint | Task::Serve { .. } | Task::Version => unreachable!(),
+        Task::Check { .. }
+        | Task::Lint
+        | Task::Serve { .. }
+        | Task::ServeSteps
+        | Task::Version => unreachable!(),
     }
 }
 
@@ -251,7 +258,7 @@ fn form_of(options: &Options, is_explained: bool) -> Form
     }
 }
 
-// What a boot under a name of its tables answers to the lines, with a check of each step.
+// An answer that a boot under a name of its tables may give to the lines, with a check of each step.
 fn check_answers<N: BootName>(
     alloc: Global,
     boot: Boot,

@@ -1,5 +1,5 @@
 -- Serves the contract of `serve`: each line is one turn more, up to the end or to a fault.
-use Rattle.std.proofs.Common.{◌∙◌, refl, subst}
+use Rattle.std.proofs.Common.{◌+◌, ◌∙◌, refl, subst}
 use Rattle.line_server.specs.declared.fault.ServeFault.TheVariants.{Input}
 use Rattle.line_server.specs.Known.{terms_of}
 use Rattle.line_server.specs.Sessions.{EndsTurn, FailsTurn}
@@ -11,15 +11,15 @@ returns-then-not-goes_on-clause-served g c =
     let frames = g.N.BootName.frames in
     let stocks = g.N.BootName.stocks in
     let first = c.args.self.now in
-    let left = g.I.Read.remaining c.loop.input in
+    let left = g.I.Read.remaining c.loop-before.input in
     let after = g.I.Read.remaining c.serve_line.new.input in
-    let middle = g.O.Write.contents c.loop.output in
+    let middle = g.O.Write.contents c.loop-before.output in
     let now = g.O.Write.contents c.serve_line.new.output in
-    let end = at_first frames stocks first c.loop.self
-    (λ on sizes. EndsTurn on sizes left after c.loop.self.state c.serve_line.new.self.state middle now c.in-Ok.goes_on)
-    c.loop.invariant.1 c.in-Ok.ensures.served in
-    session_ended (terms_of frames stocks first) first.sizes _ left _ c.loop.self.state _ middle c.serve_line.new.self.state now c.loop.invariant.0
-    (subst (EndsTurn (terms_of frames stocks first) first.sizes left after c.loop.self.state c.serve_line.new.self.state middle now)
+    let end = at_first frames stocks first c.loop-before.self
+    (λ on sizes. EndsTurn on sizes (c.loop-before.before + 1) left after c.loop-before.self.state c.serve_line.new.self.state middle now c.in-Ok.goes_on)
+    c.loop-before.invariant.1 c.in-Ok.ensures.served in
+    session_ended (terms_of frames stocks first) first.sizes c.loop-before.before _ left _ c.loop-before.self.state _ middle c.serve_line.new.self.state now c.loop-before.invariant.0
+    (subst (EndsTurn (terms_of frames stocks first) first.sizes (c.loop-before.before + 1) left after c.loop-before.self.state c.serve_line.new.self.state middle now)
     c.if-not-goes_on.true end)
 
 pub returns-in-Err-clause-failed : goal.returns-in-Err-clause-failed
@@ -27,38 +27,38 @@ returns-in-Err-clause-failed g c =
     let frames = g.N.BootName.frames in
     let stocks = g.N.BootName.stocks in
     let first = c.args.self.now in
-    let middle = g.O.Write.contents c.loop.output in
+    let middle = g.O.Write.contents c.loop-before.output in
     let now = g.O.Write.contents c.serve_line.new.output in
-    let fails = at_first frames stocks first c.loop.self
-    (λ on sizes. FailsTurn on sizes c.loop.self.state c.serve_line.new.self.state middle now c.in-Err.fault)
-    c.loop.invariant.1 c.in-Err.ensures.failed in
-    session_failed (terms_of frames stocks first) first.sizes _ (g.I.Read.remaining c.loop.input) _ c.loop.self.state _ middle
-    c.serve_line.new.self.state now c.in-Err.fault c.loop.invariant.0 fails
+    let fails = at_first frames stocks first c.loop-before.self
+    (λ on sizes. FailsTurn on sizes (c.loop-before.before + 1) c.loop-before.self.state c.serve_line.new.self.state middle now c.in-Err.fault)
+    c.loop-before.invariant.1 c.in-Err.ensures.failed in
+    session_failed (terms_of frames stocks first) first.sizes c.loop-before.before _ (g.I.Read.remaining c.loop-before.input) _ c.loop-before.self.state _ middle
+    c.serve_line.new.self.state now c.in-Err.fault c.loop-before.invariant.0 fails
 
-pub loop-preserved : goal.loop-preserved
-loop-preserved g c =
+pub loop-before-preserved : goal.loop-before-preserved
+loop-before-preserved g c =
     let frames = g.N.BootName.frames in
     let stocks = g.N.BootName.stocks in
     let first = c.args.self.now in
-    let left = g.I.Read.remaining c.loop.input in
+    let left = g.I.Read.remaining c.loop-before.input in
     let after = g.I.Read.remaining c.serve_line.new.input in
-    let middle = g.O.Write.contents c.loop.output in
+    let middle = g.O.Write.contents c.loop-before.output in
     let now = g.O.Write.contents c.serve_line.new.output in
-    let turn = at_first frames stocks first c.loop.self
-    (λ on sizes. EndsTurn on sizes left after c.loop.self.state c.serve_line.new.self.state middle now c.in-Ok.goes_on)
-    c.loop.invariant.1 c.in-Ok.ensures.served in
-    let one = subst (EndsTurn (terms_of frames stocks first) first.sizes left after c.loop.self.state c.serve_line.new.self.state middle now)
+    let turn = at_first frames stocks first c.loop-before.self
+    (λ on sizes. EndsTurn on sizes (c.loop-before.before + 1) left after c.loop-before.self.state c.serve_line.new.self.state middle now c.in-Ok.goes_on)
+    c.loop-before.invariant.1 c.in-Ok.ensures.served in
+    let one = subst (EndsTurn (terms_of frames stocks first) first.sizes (c.loop-before.before + 1) left after c.loop-before.self.state c.serve_line.new.self.state middle now)
     c.if-not-goes_on.false turn in (
-      one_more (terms_of frames stocks first) first.sizes _ left _ c.loop.self.state _ middle after c.serve_line.new.self.state now
-          c.loop.invariant.0 one,
+      one_more (terms_of frames stocks first) first.sizes c.loop-before.before _ left _ c.loop-before.self.state _ middle after c.serve_line.new.self.state now
+          c.loop-before.invariant.0 one,
       record {
-        sizes = c.in-Ok.ensures.terms.sizes ∙ c.loop.invariant.1.sizes;
-        is_explained = c.in-Ok.ensures.terms.is_explained ∙ c.loop.invariant.1.is_explained;
+        sizes = c.in-Ok.ensures.terms.sizes ∙ c.loop-before.invariant.1.sizes;
+        form = c.in-Ok.ensures.terms.form ∙ c.loop-before.invariant.1.form;
       },
     )
 
 pub returns-clause-failed : goal.returns-clause-failed
 returns-clause-failed g c =
     let first = c.args.self.now in
-    session_failed (terms_of g.N.BootName.frames g.N.BootName.stocks first) first.sizes _ (g.I.Read.remaining c.loop.input) _ c.loop.self.state _
-    (g.O.Write.contents c.loop.output) c.loop.self.state (g.O.Write.contents c.loop.output) Input c.loop.invariant.0 (refl, refl)
+    session_failed (terms_of g.N.BootName.frames g.N.BootName.stocks first) first.sizes c.loop-before.before _ (g.I.Read.remaining c.loop-before.input) _ c.loop-before.self.state _
+    (g.O.Write.contents c.loop-before.output) c.loop-before.self.state (g.O.Write.contents c.loop-before.output) Input c.loop-before.invariant.0 (refl, refl)

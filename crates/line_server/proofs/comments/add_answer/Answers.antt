@@ -1,8 +1,8 @@
 use Rattle.std.proofs.Common.{◌≡◌, ◌∷◌, ◌++◌, subst}
 use Rattle.script_lines.specs.Script.{texts_left}
-use Rattle.load_run.specs.Logs.{answer_comments, comments_of}
-use Rattle.load_run.proofs.Commented.{answer_more}
-use Rattle.load_run.proofs.comments.add_answer.Goals as goal
+use Rattle.line_server.specs.Logs.{answer_comments, comments_of}
+use Rattle.line_server.proofs.Commented.{answer_more}
+use Rattle.line_server.proofs.comments.add_answer.Goals as goal
 
 pub loop-rest-preserved : goal.loop-rest-preserved
 loop-rest-preserved c =

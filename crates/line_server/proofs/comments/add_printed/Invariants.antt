@@ -1,6 +1,6 @@
 use Rattle.std.proofs.Common.{◌≡◌, ◌++◌, map, take}
-use Rattle.load_run.specs.Logs.{printed}
-use Rattle.load_run.proofs.comments.add_printed.Given as goal
+use Rattle.line_server.specs.Logs.{printed}
+use Rattle.line_server.proofs.comments.add_printed.Given as goal
 
 abbrev pub invariant-loop-byte : goal.invariant-loop-byte
 invariant-loop-byte l = l.log.items ≡ l.initial.log.items ++ map printed (take l.byte-index l.bytes)

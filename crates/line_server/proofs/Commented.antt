@@ -6,7 +6,7 @@ use Rattle.std.proofs.lemmas.List.Splits.{length-slice_split}
 use Rattle.std.proofs.Math.Seq.{take-append-add}
 use native.Mathlib.Numerals.{unary_clauses}
 use Rattle.script_lines.specs.Script.{texts_of}
-use Rattle.load_run.specs.Logs.{answer_comment, comment, comments_of, printed}
+use Rattle.line_server.specs.Logs.{answer_comment, comment, comments_of, printed}
 
 -- both texts were added as they are shown, cut, and ended
 pub commented : (old front back first both cut new : List ℕ) (start : ℕ) → start ≡ length old → first ≡ old ++ map printed front

@@ -1,7 +1,7 @@
 use Rattle.std.proofs.Common.{◌≡◌, ◌∷◌, ◌++◌, length}
 use Rattle.script_lines.specs.Script.{texts_left}
-use Rattle.load_run.specs.Logs.{answer_comments, comments_of}
-use Rattle.load_run.proofs.comments.add_answer.Given as goal
+use Rattle.line_server.specs.Logs.{answer_comments, comments_of}
+use Rattle.line_server.proofs.comments.add_answer.Given as goal
 
 -- the comments so far, and those of what is left, are those of the answer
 abbrev pub invariant-loop-rest : goal.invariant-loop-rest

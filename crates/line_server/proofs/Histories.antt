@@ -1,0 +1,135 @@
+-- The history of turns, in either form. Serves `serve`.
+use Rattle.std.proofs.Common.{◌≡◌, ◌∙◌, ℕ, ◌+◌, ◌-◌, ◌++◌, Bool, true, List, [], ◌∷◌, Option, None, Some, ap, append-nil, refl, subst, sym}
+use Rattle.std.specs.Prelude.{unwrap_or}
+use Rattle.frame_word.specs.Seats.{KnownTable}
+use Rattle.stock_word.specs.Stock.{KnownStockTable}
+use Rattle.cpu_part.specs.Cpus.{KnownCpu}
+use Rattle.zone_sizes.specs.declared.config.Config.{Config}
+use Rattle.step_rules.specs.After.{Run, IsLegalRun}
+use Rattle.mem_machine.specs.Interleaving.{zone_of}
+use Rattle.mem_history.specs.Whole.{ShowsAll}
+use Rattle.mem_history.specs.Kept.{AreTied}
+use Rattle.mem_history.proofs.Deciding.{legal_front}
+use Rattle.mem_system.specs.Visits.{transition, locked_state}
+use Rattle.script_lines.specs.declared.line.Line.{Line}
+use Rattle.script_lines.specs.declared.line.Line.TheVariants.{Go, At}
+use Rattle.script_replay.specs.Answers.{WritesWork}
+use Rattle.script_replay.specs.History.{HoldsPromise, Past, ServesAndKeeps, past, past_line}
+use Rattle.script_replay.specs.Lines.{AtPart, SystemState}
+use Rattle.script_replay.specs.Terms.{Terms, terms}
+use Rattle.script_replay.specs.Works.{work_of}
+use Rattle.script_replay.proofs.Following.{shows_watched, work_follows}
+use Rattle.script_replay.proofs.Going.{ServesAllAndKeeps, all_replayed, keeps_history}
+use Rattle.script_replay.proofs.InRange.{work_in_range}
+use Rattle.line_server.specs.declared.form.SessionForm.{SessionForm}
+use Rattle.line_server.specs.declared.form.SessionForm.TheVariants.{Answers, Steps}
+use Rattle.line_server.specs.Forms.{session_terms}
+use Rattle.line_server.specs.Histories.{HasLoggedHistory, HasLoggedTurn, ReplaysTurns, answer_of, answers_of, lines_of, with_line}
+use Rattle.line_server.specs.Logs.{LogsLine, RenewsWatch}
+use Rattle.line_server.specs.Sessions.{AnswersTurns}
+use Rattle.line_server.specs.Turns.{AnswersLine, Turn}
+
+-- ---- answers
+
+module _ (t : KnownTable) (w : KnownStockTable) (is_explained : Bool) (sizes : Config) where
+  -- a turn, and then lines that are served
+  turn_and : (number : ℕ) (text : Option (List ℕ)) (line : Option Line) (answer : List ℕ) (lines : List Line) (s m e : SystemState) (rest : List ℕ)
+      → AnswersLine (session_terms t w (Answers is_explained)) sizes number text line s m answer → ServesAllAndKeeps (terms t w is_explained) lines m e rest
+      → ServesAllAndKeeps (terms t w is_explained) (with_line line lines) s e (answer_of line answer ++ rest)
+  turn_and number None None answer lines s m e rest one all = subst (λ x. ServesAllAndKeeps (terms t w is_explained) lines x e rest) one.1 all
+  turn_and number None (Some line) answer lines s m e rest one all = let none = one.0 in cc
+  turn_and number (Some text) None answer lines s m e rest one all = subst (λ x. ServesAllAndKeeps (terms t w is_explained) lines x e rest) one.0 all
+  turn_and number (Some text) (Some line) answer lines s m e rest one all =
+      record { first = answer; rest = rest; between = m; serves_first = one.1; serves_rest = all; text_is = refl }
+
+  all_kept : (number : ℕ) (turns : List Turn) (s e : SystemState) → AnswersTurns (session_terms t w (Answers is_explained)) sizes number turns s e
+      → ServesAllAndKeeps (terms t w is_explained) (lines_of turns) s e (answers_of turns)
+  all_kept number [] s e same = (refl, same)
+  all_kept number (turn ∷ turns) s e all =
+      turn_and number turn.text turn.served turn.answer (lines_of turns) s all.0 e (answers_of turns) all.1 (all_kept (number + 1) turns all.0 e all.2)
+
+-- ---- parts of a log
+
+-- a run that shows the state before a line shows the state after it
+line_shown : (on : Terms) (run : Run) (line : Line) (s e : SystemState) (text : List ℕ) → ShowsAll on.frames run s.locked.machine s.cpus
+    → AreTied on.frames on.stocks s.cpus → (keeps : ServesAndKeeps on line s e text) → IsLegalRun (zone_of on.frames) (run ++ keeps.serves.steps)
+    → ShowsAll on.frames (run ++ keeps.serves.steps) e.locked.machine e.cpus
+line_shown on run Go s e text shows tied keeps legal =
+    subst (λ (r : Run). ShowsAll on.frames r e.locked.machine e.cpus) (sym (ap (λ (r : Run). run ++ r) keeps.serves.tells.so.steps_are ∙ append-nil run))
+    (subst (λ (x : SystemState). ShowsAll on.frames run x.locked.machine x.cpus) (sym keeps.serves.tells.so.stays) shows)
+line_shown on run (At number cpu command) s e text shows tied keeps legal =
+    let steps = keeps.serves.steps in
+    let is : AtPart cpu (λ part left. WritesWork on.is_explained (work_of command)
+    (transition on.frames (locked_state s.locked part) steps (locked_state e.locked left)) keeps.serves.tells.plain) s.cpus e.cpus = keeps.serves.tells.so in
+    subst (λ (cpus : List KnownCpu). ShowsAll on.frames (run ++ steps) e.locked.machine cpus) (sym is.cpus)
+    (work_follows on.frames on.stocks run s.locked s.cpus (cpu - 1) is.part shows is.is_part tied on.is_explained (work_of command) steps (locked_state e.locked is.left)
+    keeps.serves.tells.plain (work_in_range on.frames.frames command keeps.there.names) is.done keeps.keeps.holds.quiet.shut legal).0
+
+-- the promise holds after a line
+line_kept : (on : Terms) (run : Run) (line : Line) (s e : SystemState) (text : List ℕ)
+    → (IsLegalRun (zone_of on.frames) run → ShowsAll on.frames run s.locked.machine s.cpus) → AreTied on.frames on.stocks s.cpus
+    → (keeps : ServesAndKeeps on line s e text) → IsLegalRun (zone_of on.frames) (run ++ keeps.serves.steps)
+    → HoldsPromise on.frames run s (run ++ keeps.serves.steps) e
+unfolding keeps_history
+line_kept on run line s e text shows tied keeps legal =
+    let alone : ServesAllAndKeeps on (line ∷ []) s e text = record {
+      first = text;
+      rest = [];
+      between = e;
+      serves_first = keeps;
+      serves_rest = (refl, refl);
+      text_is = sym (append-nil text);
+    } in
+    (keeps_history on (line ∷ []) (past run s) e text shows tied alone).kept_where_legal legal
+
+module _ (t : KnownTable) (w : KnownStockTable) where
+  -- a state is shown with a new watch too
+  renewed_shown : (run : Run) (before begun : SystemState) → RenewsWatch before begun → ShowsAll t run before.locked.machine before.cpus
+      → ShowsAll t run begun.locked.machine begun.cpus
+  renewed_shown run before begun renews shows = subst (λ (x : SystemState). ShowsAll t run x.locked.machine x.cpus) (sym renews.begun_is)
+      (shows_watched t run before.locked.machine before.cpus renews.watch shows)
+
+  renewed_tied : (before begun : SystemState) → RenewsWatch before begun → AreTied t w before.cpus → AreTied t w begun.cpus
+  renewed_tied before begun renews tied = subst (λ (x : SystemState). AreTied t w x.cpus) (sym renews.begun_is) tied
+
+  -- what comes after a turn has its history, if that is so of each past in which the turn can end
+  turn_logged : (sizes : Config) (number : ℕ) (text : Option (List ℕ)) (line : Option Line) (answer : List ℕ) (before : Past) (m : SystemState)
+      (goes_on : SystemState → Type 0) (rest : Past → Type 0)
+      → (IsLegalRun (zone_of t) before.run → ShowsAll t before.run before.now.locked.machine before.now.cpus) → AreTied t w before.now.cpus
+      → AnswersLine (session_terms t w Steps) sizes number text line before.now m answer → goes_on m
+      → ((later : Past) → (IsLegalRun (zone_of t) later.run → ShowsAll t later.run later.now.locked.machine later.now.cpus) → AreTied t w later.now.cpus
+      → goes_on later.now → rest later)
+      → HasLoggedTurn (terms t w true) (unwrap_or text []) line before answer rest
+  turn_logged sizes number None None answer before m goes_on rest shows tied one more next = next before shows tied (subst goes_on one.1 more)
+  turn_logged sizes number None (Some line) answer before m goes_on rest shows tied one more next = let none = one.0 in cc
+  turn_logged sizes number (Some text) None answer before m goes_on rest shows tied one more next = next before shows tied (subst goes_on one.0 more)
+  turn_logged sizes number (Some text) (Some line) answer before m goes_on rest shows tied one more next =
+      let logs : LogsLine (terms t w true) text line before.now m answer = one.1 in
+      let steps : Run = logs.serves.serves.steps in
+      let shown : IsLegalRun (zone_of t) before.run → ShowsAll t before.run logs.begun.locked.machine logs.begun.cpus
+      = λ legal. renewed_shown before.run before.now logs.begun logs.renews (shows legal) in
+      let still : AreTied t w logs.begun.cpus = renewed_tied before.now logs.begun logs.renews tied in record {
+        between = m;
+        logs = logs;
+        kept_where_legal = λ legal. line_kept (terms t w true) before.run line logs.begun m logs.answer shown still logs.serves legal;
+        tells = next (past_line before steps m)
+            (λ legal. line_shown (terms t w true) before.run line logs.begun m logs.answer (shown (legal_front (zone_of t) before.run steps legal)) still logs.serves legal)
+            (logs.serves.keeps.tied still) more;
+      }
+
+  logged_history : (sizes : Config) (number : ℕ) (turns : List Turn) (before : Past) (e : SystemState)
+      → (IsLegalRun (zone_of t) before.run → ShowsAll t before.run before.now.locked.machine before.now.cpus) → AreTied t w before.now.cpus
+      → AnswersTurns (session_terms t w Steps) sizes number turns before.now e → HasLoggedHistory (terms t w true) turns before e
+  logged_history sizes number [] before e shows tied same = same
+  logged_history sizes number (turn ∷ turns) before e shows tied all =
+      turn_logged sizes number turn.text turn.served turn.answer before all.0 (λ x. AnswersTurns (session_terms t w Steps) sizes (number + 1) turns x e)
+      (λ later. HasLoggedHistory (terms t w true) turns later e) shows tied all.1 all.2
+      (λ later shows_later tied_later rest. logged_history sizes (number + 1) turns later e shows_later tied_later rest)
+
+-- ---- either
+
+pub turns_replayed : (form : SessionForm) (t : KnownTable) (w : KnownStockTable) (sizes : Config) (turns : List Turn) (s e : SystemState)
+    → AnswersTurns (session_terms t w form) sizes 1 turns s e → ReplaysTurns form t w turns s e
+turns_replayed (Answers is_explained) t w sizes turns s e all =
+    all_replayed (terms t w is_explained) (lines_of turns) s e (answers_of turns) (all_kept t w is_explained sizes 1 turns s e all)
+turns_replayed Steps t w sizes turns s e all = λ run shows tied. logged_history t w sizes 1 turns (past run s) e (λ legal. shows) tied all

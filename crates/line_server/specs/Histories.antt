@@ -1,0 +1,76 @@
+-- The history of a session's turns: what their steps are, and what holds after each line that was served.
+use Rattle.std.specs.Prelude.{◌≡◌, ℕ, true, List, [], ◌∷◌, ◌++◌, Option, None, Some, unwrap_or}
+use Rattle.frame_word.specs.Seats.{KnownTable}
+use Rattle.stock_word.specs.Stock.{KnownStockTable}
+use Rattle.step_rules.specs.After.{Run, IsLegalRun}
+use Rattle.mem_machine.specs.Interleaving.{zone_of}
+use Rattle.mem_history.specs.Whole.{ShowsAll}
+use Rattle.mem_history.specs.Kept.{AreTied}
+use Rattle.script_lines.specs.declared.line.Line.{Line}
+use Rattle.script_replay.specs.History.{HasHistory, HoldsPromise, Past, Replays, past, past_line}
+use Rattle.script_replay.specs.Lines.{SystemState}
+use Rattle.script_replay.specs.Terms.{Terms, terms}
+use Rattle.line_server.specs.declared.form.SessionForm.{SessionForm}
+use Rattle.line_server.specs.declared.form.SessionForm.TheVariants.{Answers, Steps}
+use Rattle.line_server.specs.Logs.{LogsLine}
+use Rattle.line_server.specs.Turns.{Turn}
+
+-- the line, if there is one, and then these
+abbrev pub with_line : Option Line → List Line → List Line
+with_line None lines = lines
+with_line (Some line) lines = line ∷ lines
+
+-- the lines that were served in these turns
+abbrev pub lines_of : List Turn → List Line
+lines_of [] = []
+lines_of (turn ∷ turns) = with_line turn.served (lines_of turns)
+
+-- the answer, if a line was served
+abbrev pub answer_of : Option Line → List ℕ → List ℕ
+answer_of None answer = []
+answer_of (Some line) answer = answer
+
+-- and the answers of these lines
+abbrev pub answers_of : List Turn → List ℕ
+answers_of [] = []
+answers_of (turn ∷ turns) = answer_of turn.served turn.answer ++ answers_of turns
+
+-- The part of a log of a line with this text. If the run so far with the line's steps is legal, the promise holds after
+-- it, and the ledger keeps the peaks and event counts of the run: to begin with a new watch changes no ledger. What
+-- comes next has its history from there on.
+pub record HasLoggedLine (terms : Terms) (text : List ℕ) (line : Line) (past : Past) (log : List ℕ)
+    (has_rest : Past → Type 0) : Type 0 where
+  pub between : SystemState
+  pub logs : LogsLine terms text line past.now between log
+  pub kept_where_legal : IsLegalRun (zone_of terms.frames) (past.run ++ logs.serves.serves.steps)
+      → HoldsPromise terms.frames past.run logs.begun (past.run ++ logs.serves.serves.steps) between
+  pub tells : has_rest (past_line past logs.serves.serves.steps between)
+
+-- the same for the line of a turn, if one was served
+abbrev pub HasLoggedTurn : Terms → (text : List ℕ) → Option Line → Past → (log : List ℕ) → (Past → Type 0) → Type 0
+HasLoggedTurn terms text None past log has_rest = has_rest past
+HasLoggedTurn terms text (Some line) past log has_rest = HasLoggedLine terms text line past log has_rest
+
+-- The history of turns for which parts of a log are written. All steps of the lines that were served are one run. After
+-- each line the promise holds if the steps so far are a legal run.
+abbrev pub HasLoggedHistory : Terms → List Turn → Past → (after : SystemState) → Type 0
+HasLoggedHistory terms [] past after = after ≡ past.now
+HasLoggedHistory terms (turn ∷ turns) past after =
+    HasLoggedTurn terms (unwrap_or turn.text []) turn.served past turn.answer
+    (λ later. HasLoggedHistory terms turns later after)
+
+-- the history of turns in either form
+abbrev pub HasTurnsHistory : SessionForm → KnownTable → KnownStockTable → List Turn → Past → (after : SystemState)
+    → Type 0
+HasTurnsHistory (Answers is_explained) frames stocks turns past after =
+    HasHistory (terms frames stocks is_explained) (lines_of turns) past after (answers_of turns)
+HasTurnsHistory Steps frames stocks turns past after = HasLoggedHistory (terms frames stocks true) turns past after
+
+-- the turns have a history from each run that shows the state before them, if the parts agree with their seats
+abbrev pub ReplaysTurns : SessionForm → KnownTable → KnownStockTable → List Turn → (before after : SystemState)
+    → Type 0
+ReplaysTurns (Answers is_explained) frames stocks turns before after =
+    Replays (terms frames stocks is_explained) (lines_of turns) before after (answers_of turns)
+ReplaysTurns Steps frames stocks turns before after =
+    (run : Run) → ShowsAll frames run before.locked.machine before.cpus → AreTied frames stocks before.cpus
+    → HasLoggedHistory (terms frames stocks true) turns (past run before) after
