@@ -9,3 +9,4 @@ pub mod StockSteps
 pub mod Prepaying
 pub mod Storing
 pub mod Quiet
+pub mod Banking

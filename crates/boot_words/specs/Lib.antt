@@ -1,3 +1,4 @@
 pub mod Rule
 pub mod Allowed
 pub mod Held
+pub mod StockHeld

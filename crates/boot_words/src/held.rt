@@ -3,6 +3,7 @@
 
 ghost use Rattle.boot_words.specs.Held.{CollectIsAllowed, PassBackIsAllowed, PassOutIsAllowed, TakeInIsAllowed};
 ghost use Rattle.boot_words.specs.Held.{OpenVisitIsAllowed, PlainIsAllowed, ShutVisitIsAllowed, UnfreezeIsAllowed};
+ghost use Rattle.boot_words.specs.StockHeld.{AbsorbIsAllowed, DrainIsAllowed, FillIsAllowed};
 
 /// The zone puts references on a frame of its hand.
 pub fn an_unfreeze_is_allowed<S>()
@@ -42,4 +43,19 @@ pub fn a_shut_is_allowed<S>()
 /// A step that changes no word is made by a load of a word that nobody writes.
 pub fn a_plain_step_is_allowed<S>()
     ensures { PlainIsAllowed S }
+{}
+
+/// The zone fills the stock of the CPU.
+pub fn a_fill_is_allowed<S>()
+    ensures { FillIsAllowed S }
+{}
+
+/// The zone absorbs a CPU's report: the answer is the report word.
+pub fn an_absorb_is_allowed<S>()
+    ensures { AbsorbIsAllowed S }
+{}
+
+/// The zone drains a stock that was filled before: the answer is the pages that the stock word says.
+pub fn a_drain_is_allowed<S>()
+    ensures { DrainIsAllowed S }
 {}
