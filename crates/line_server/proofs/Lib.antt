@@ -1,4 +1,4 @@
-pub mod Answering
+pub mod Answered
 pub mod Commented
 pub mod Histories
 pub mod Logged

@@ -172,7 +172,7 @@ impl<N: BootName> Server<N> {
     }
 
     // Serves the line of this number, and returns its answer with an empty line behind it.
-    #[tactic(auto, using(crate::proofs::Answering::turn_written))]
+    #[tactic(auto, using(crate::proofs::Answered::turn_written))]
     fn answer(
         &mut self,
         alloc: Global,

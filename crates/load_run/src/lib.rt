@@ -1,8 +1,7 @@
 //! The program `memcg` without its process: from the words of the command line and the bytes of an input to an output
 //! and a status. It answers a script by one boot (`replay`) or by threads (`run`), writes the steps and the
 //! answers of a replay as a log (`--steps`), answers the lines of a session one by one, or with their parts of a log
-//! (`serve`), checks a log (`check`),
-//! lints a script (`lint`), or writes its version.
+//! (`serve`), checks a log (`check`), lints a script (`lint`), or writes its version.
 //!
 //! With status 0 the output got the whole result, and nothing was found against the log or the script. Status 3 is the
 //! same with `--strict`, if some answer is a refusal. With status 1 the log isn't legal, the lint found something, or

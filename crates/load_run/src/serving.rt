@@ -27,8 +27,8 @@ use std::marker::Brand;
 use zone_sizes::config::Config;
 
 /// Boots with the sizes of the options, answers the lines that the input holds in this form, and returns the status to
-/// end with: 0 at `quit` or at the end of the input; 2 if the sizes are refused, before any line is read; 1 if the input can't be
-/// read, an answer can't be written, or memory runs out.
+/// end with: 0 at `quit` or at the end of the input; 2 if the sizes are refused, before any line is read; 1 if the
+/// input can't be read, an answer can't be written, or memory runs out.
 pub fn drive_serve<I: Read, O: Write, F: Write>(
     alloc: Global,
     options: &Options,

@@ -2,7 +2,7 @@
 use Rattle.std.proofs.Common.{◌≡◌, rules}
 use Rattle.script_replay.specs.Lines.{SystemState, system_state}
 use Rattle.line_server.specs.declared.form.SessionForm.TheVariants.{Answers, Steps}
-use Rattle.line_server.proofs.Answering.{answered_in}
+use Rattle.line_server.proofs.Answered.{answered_in}
 use Rattle.line_server.proofs.answering.answer_line.Goals as goal
 
 pub returns-in_err-serve_line : goal.returns-in_err-serve_line

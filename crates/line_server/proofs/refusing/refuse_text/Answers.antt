@@ -1,7 +1,7 @@
 -- Serves the contract of `refuse_text`: a text that is good by itself has a line.
 use Rattle.std.proofs.Common.{subst}
 use Rattle.script_lint.specs.Findings.{IsTextLinted}
-use Rattle.line_server.proofs.Answering.{says_line}
+use Rattle.line_server.proofs.Answered.{says_line}
 use Rattle.line_server.proofs.refusing.refuse_text.Goals as goal
 
 pub unreachable-requires : goal.unreachable-requires

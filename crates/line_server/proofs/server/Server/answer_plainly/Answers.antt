@@ -3,7 +3,7 @@ use Rattle.std.proofs.Common.{List, ℕ, IfOk, Option, ap, subst, sym}
 use Rattle.line_server.specs.Known.{terms_of}
 use Rattle.line_server.specs.Lines.{text_of}
 use Rattle.line_server.specs.Turns.{HasAnswer}
-use Rattle.line_server.proofs.Answering.{too_long}
+use Rattle.line_server.proofs.Answered.{too_long}
 use Rattle.line_server.proofs.server.Server.answer_plainly.Goals as goal
 
 pub returns-in-TooLong-clause-answered : goal.returns-in-TooLong-clause-answered

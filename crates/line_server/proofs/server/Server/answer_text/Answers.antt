@@ -5,7 +5,7 @@ use Rattle.cpu_part.specs.Cpus.{KnownCpu}
 use Rattle.script_replay.specs.Lines.{SystemState, system_state}
 use Rattle.line_server.specs.Known.{KnownServer, terms_of}
 use Rattle.line_server.specs.Turns.{AnswersServed, GivesAnswer, HasAnswer, ServesAtMost}
-use Rattle.line_server.proofs.Answering.{bad, served, served_some, skipped}
+use Rattle.line_server.proofs.Answered.{bad, served, served_some, skipped}
 use Rattle.line_server.proofs.server.Server.answer_text.Goals as goal
 
 pub returns-then-is_skipped-clause-answered : goal.returns-then-is_skipped-clause-answered
