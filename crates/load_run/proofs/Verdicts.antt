@@ -59,7 +59,7 @@ checks_legal all input before after faults steps free end is whole = record {
 -- steps are not legal, and that was written
 checks_not_legal : (all : Bool) (input before after faults : Option (List ℕ)) (end : LogVerdict) → IsLogVerdictOf all input end → HasStatus end 1
     → says_legal end ≡ false → Appends before after (verdict_text end) → Checks all input (written before faults) (written after faults) 1
-checks_not_legal all input before after faults end is names no whole = record {
+checks_not_legal all input before after faults end is names denied whole = record {
   status_at_most = omega arith;
   silent = λ zero. refl;
   legal = λ zero. absurd (omega (arith, zero));
@@ -75,7 +75,7 @@ checks_not_legal all input before after faults end is names no whole = record {
       verdict = end;
       is = is.0;
       names = names;
-      not_legal = λ legal. false≢true (sym no ∙ is.1.1 legal);
+      not_legal = λ legal. false≢true (sym denied ∙ is.1.1 legal);
       written = whole;
       silent = refl;
     })
