@@ -32,7 +32,7 @@ returns-in_err-log_line-in-Steps g c =
     let e : SystemState = system_state c.log_line.new.locked c.log_line.new.cpus in
     let logged = c.log_line.ensures.logged in
     record {
-      served = answered_in c.from_residual.result g.N.BootName.frames g.N.BootName.stocks c.args.form Steps c.args.text.now c.args.line.now s e logged.part
+      served = answered_in c.from_residual-in_err-log_line-in-Steps.result g.N.BootName.frames g.N.BootName.stocks c.args.form Steps c.args.text.now c.args.line.now s e logged.part
           c.in-Steps.is logged.so (search rules);
     }
 
