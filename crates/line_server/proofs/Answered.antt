@@ -7,7 +7,10 @@ use Rattle.zone_sizes.specs.declared.config.Config.{Config}
 use Rattle.script_lines.specs.Script.{IsLineText, is_skipped}
 use Rattle.script_lines.specs.declared.line.Line.{Line}
 use Rattle.script_lines.specs.declared.line.Line.TheVariants.{Go, At}
+use Rattle.script_lint.specs.Findings.{IsFoundInText}
 use Rattle.script_lint.specs.Shapes.{IsGoodText}
+use Rattle.script_lint.specs.Texts.{cause_text}
+use Rattle.script_lint.specs.declared.finding.Finding.{Finding}
 use Rattle.script_replay.specs.Lines.{SystemState}
 use Rattle.line_server.specs.declared.form.SessionForm.{SessionForm}
 use Rattle.line_server.specs.Forms.{SessionTerms, bad_line, session_terms}
@@ -21,6 +24,12 @@ says_line sizes number text good asks = elim (good.says asks) [
   | inl goes ↦ (Go, same_text text (codes "go") (sym goes))
   | inr is ↦ (At number is.0 is.1, (refl, is.2))
 ]
+
+-- why the line is bad was given
+pub refused : {Z E : Type 0} (r : Result (Vec ℕ Z) E) (form : SessionForm) (sizes : Config) (text why : List ℕ) (found : Finding) → IsFoundInText sizes text found
+    → why ≡ cause_text sizes found found.spot.cause → IfOk r (λ line. line.items ≡ bad_line form why) → IfOk r (λ answer. RefusesText form sizes text answer.items)
+refused (Ok x) form sizes text why found is said line = record { found = found; is_found = is; answer_is = line ∙ ap (bad_line form) said }
+refused (Err e) form sizes text why found is said line = tt
 
 -- a line that was served in this form was answered so
 pub answered_in : {Z E : Type 0} (r : Result (Vec ℕ Z) E) (t : KnownTable) (w : KnownStockTable) (form is_form : SessionForm) (text : List ℕ) (line : Line)

@@ -1,5 +1,5 @@
 -- The history of turns, in either form. Serves `serve`.
-use Rattle.std.proofs.Common.{◌≡◌, ◌∙◌, ℕ, ◌+◌, ◌-◌, ◌++◌, Bool, true, List, [], ◌∷◌, Option, None, Some, ap, append-nil, refl, subst, sym}
+use Rattle.std.proofs.Common.{◌≡◌, ◌∙◌, ℕ, ◌+◌, ◌-◌, ◌≤◌, ◌++◌, Bool, true, List, [], ◌∷◌, Option, None, Some, ap, append-nil, arith, refl, subst, sym}
 use Rattle.std.specs.Prelude.{unwrap_or}
 use Rattle.frame_word.specs.Seats.{KnownTable}
 use Rattle.stock_word.specs.Stock.{KnownStockTable}
@@ -9,7 +9,11 @@ use Rattle.step_rules.specs.After.{Run, IsLegalRun}
 use Rattle.mem_machine.specs.Interleaving.{zone_of}
 use Rattle.mem_history.specs.Whole.{ShowsAll}
 use Rattle.mem_history.specs.Kept.{AreTied}
+use Rattle.mem_machine.specs.Agreeing.{AgreesWithRun}
 use Rattle.mem_history.proofs.Deciding.{legal_front}
+use Rattle.mem_history.proofs.Promised.{the_whole_is_promised}
+use Rattle.mem_system.specs.Locked.{IsQuiet, KnownLocked}
+use Rattle.std.proofs.lemmas.Option.{none-some}
 use Rattle.mem_system.specs.Visits.{transition, locked_state}
 use Rattle.script_lines.specs.declared.line.Line.{Line}
 use Rattle.script_lines.specs.declared.line.Line.TheVariants.{Go, At}
@@ -19,7 +23,7 @@ use Rattle.script_replay.specs.Lines.{AtPart, SystemState}
 use Rattle.script_replay.specs.Terms.{Terms, terms}
 use Rattle.script_replay.specs.Works.{work_of}
 use Rattle.script_replay.proofs.Following.{shows_watched, work_follows}
-use Rattle.script_replay.proofs.Going.{ServesAllAndKeeps, all_replayed, keeps_history}
+use Rattle.script_replay.proofs.Going.{ServesAllAndKeeps, all_replayed}
 use Rattle.script_replay.proofs.InRange.{work_in_range}
 use Rattle.line_server.specs.declared.form.SessionForm.{SessionForm}
 use Rattle.line_server.specs.declared.form.SessionForm.TheVariants.{Answers, Steps}
@@ -31,56 +35,69 @@ use Rattle.line_server.specs.Turns.{AnswersLine, Turn}
 
 -- ---- answers
 
-module _ (t : KnownTable) (w : KnownStockTable) (is_explained : Bool) (sizes : Config) where
-  -- a turn, and then lines that are served
-  turn_and : (number : ℕ) (text : Option (List ℕ)) (line : Option Line) (answer : List ℕ) (lines : List Line) (s m e : SystemState) (rest : List ℕ)
-      → AnswersLine (session_terms t w (Answers is_explained)) sizes number text line s m answer → ServesAllAndKeeps (terms t w is_explained) lines m e rest
-      → ServesAllAndKeeps (terms t w is_explained) (with_line line lines) s e (answer_of line answer ++ rest)
-  turn_and number None None answer lines s m e rest one all = subst (λ x. ServesAllAndKeeps (terms t w is_explained) lines x e rest) one.1 all
-  turn_and number None (Some line) answer lines s m e rest one all = let none = one.0 in cc
-  turn_and number (Some text) None answer lines s m e rest one all = subst (λ x. ServesAllAndKeeps (terms t w is_explained) lines x e rest) one.0 all
-  turn_and number (Some text) (Some line) answer lines s m e rest one all =
-      record { first = answer; rest = rest; between = m; serves_first = one.1; serves_rest = all; text_is = refl }
+-- the line of a turn, if one was served, was served so; else nothing was done
+abbrev KeptOne : Terms → Option Line → SystemState → SystemState → List ℕ → Type 0
+KeptOne on None s m answer = m ≡ s
+KeptOne on (Some line) s m answer = ServesAndKeeps on line s m answer
 
-  all_kept : (number : ℕ) (turns : List Turn) (s e : SystemState) → AnswersTurns (session_terms t w (Answers is_explained)) sizes number turns s e
-      → ServesAllAndKeeps (terms t w is_explained) (lines_of turns) s e (answers_of turns)
-  all_kept number [] s e same = (refl, same)
-  all_kept number (turn ∷ turns) s e all =
-      turn_and number turn.text turn.served turn.answer (lines_of turns) s all.0 e (answers_of turns) all.1 (all_kept (number + 1) turns all.0 e all.2)
+kept_one : (t : KnownTable) (w : KnownStockTable) (is_explained : Bool) (sizes : Config) (number : ℕ) (text : Option (List ℕ)) (line : Option Line) (s m : SystemState)
+    (answer : List ℕ) → AnswersLine (session_terms t w (Answers is_explained)) sizes number text line s m answer → KeptOne (terms t w is_explained) line s m answer
+kept_one t w is_explained sizes number None None s m answer one = one.1
+kept_one t w is_explained sizes number None (Some line) s m answer one = absurd (none-some line (sym one.0))
+kept_one t w is_explained sizes number (Some text) None s m answer one = one.0
+kept_one t w is_explained sizes number (Some text) (Some line) s m answer one = one.1
+
+-- a turn, and then lines that are served
+turn_and : (on : Terms) (line : Option Line) (answer : List ℕ) (lines : List Line) (s m e : SystemState) (rest : List ℕ) → KeptOne on line s m answer
+    → ServesAllAndKeeps on lines m e rest → ServesAllAndKeeps on (with_line line lines) s e (answer_of line answer ++ rest)
+turn_and on None answer lines s m e rest one all = subst (λ x. ServesAllAndKeeps on lines x e rest) one all
+turn_and on (Some line) answer lines s m e rest one all =
+    record { first = answer; rest = rest; between = m; serves_first = one; serves_rest = all; text_is = refl }
+
+all_kept : (t : KnownTable) (w : KnownStockTable) (is_explained : Bool) (sizes : Config) (number : ℕ) (turns : List Turn) (s e : SystemState)
+    → AnswersTurns (session_terms t w (Answers is_explained)) sizes number turns s e
+    → ServesAllAndKeeps (terms t w is_explained) (lines_of turns) s e (answers_of turns)
+all_kept t w is_explained sizes number [] s e same = (refl, same)
+all_kept t w is_explained sizes number (turn ∷ turns) s e all =
+    turn_and (terms t w is_explained) turn.served turn.answer (lines_of turns) s all.0 e (answers_of turns)
+    (kept_one t w is_explained sizes number turn.text turn.served s all.0 turn.answer all.1) (all_kept t w is_explained sizes (number + 1) turns all.0 e all.2)
 
 -- ---- parts of a log
 
+-- a run shows the state; if the ledger before had the counts of the run before, the ledger now has those of this run
+abbrev Follows : KnownTable → Run → SystemState → Run → SystemState → Type 0
+Follows t earlier s run e = ShowsAll t run e.locked.machine e.cpus × (AgreesWithRun t earlier s.locked.machine.ledger → AgreesWithRun t run e.locked.machine.ledger)
+
 -- a run that shows the state before a line shows the state after it
-line_shown : (on : Terms) (run : Run) (line : Line) (s e : SystemState) (text : List ℕ) → ShowsAll on.frames run s.locked.machine s.cpus
+line_follows : (on : Terms) (run : Run) (line : Line) (s e : SystemState) (text : List ℕ) → ShowsAll on.frames run s.locked.machine s.cpus
     → AreTied on.frames on.stocks s.cpus → (keeps : ServesAndKeeps on line s e text) → IsLegalRun (zone_of on.frames) (run ++ keeps.serves.steps)
-    → ShowsAll on.frames (run ++ keeps.serves.steps) e.locked.machine e.cpus
-line_shown on run Go s e text shows tied keeps legal =
-    subst (λ (r : Run). ShowsAll on.frames r e.locked.machine e.cpus) (sym (ap (λ (r : Run). run ++ r) keeps.serves.tells.so.steps_are ∙ append-nil run))
-    (subst (λ (x : SystemState). ShowsAll on.frames run x.locked.machine x.cpus) (sym keeps.serves.tells.so.stays) shows)
-line_shown on run (At number cpu command) s e text shows tied keeps legal =
+    → Follows on.frames run s (run ++ keeps.serves.steps) e
+line_follows on run Go s e text shows tied keeps legal =
+    subst (λ (r : Run). Follows on.frames run s r e) (sym (ap (λ (r : Run). run ++ r) keeps.serves.tells.so.steps_are ∙ append-nil run))
+    (subst (λ (x : SystemState). Follows on.frames run s run x) (sym keeps.serves.tells.so.stays) (shows, λ told. told))
+line_follows on run (At number cpu command) s e text shows tied keeps legal =
     let steps = keeps.serves.steps in
     let is : AtPart cpu (λ part left. WritesWork on.is_explained (work_of command)
     (transition on.frames (locked_state s.locked part) steps (locked_state e.locked left)) keeps.serves.tells.plain) s.cpus e.cpus = keeps.serves.tells.so in
-    subst (λ (cpus : List KnownCpu). ShowsAll on.frames (run ++ steps) e.locked.machine cpus) (sym is.cpus)
+    subst (λ (cpus : List KnownCpu). ShowsAll on.frames (run ++ steps) e.locked.machine cpus
+    × (AgreesWithRun on.frames run s.locked.machine.ledger → AgreesWithRun on.frames (run ++ steps) e.locked.machine.ledger)) (sym is.cpus)
     (work_follows on.frames on.stocks run s.locked s.cpus (cpu - 1) is.part shows is.is_part tied on.is_explained (work_of command) steps (locked_state e.locked is.left)
-    keeps.serves.tells.plain (work_in_range on.frames.frames command keeps.there.names) is.done keeps.keeps.holds.quiet.shut legal).0
+    keeps.serves.tells.plain (work_in_range on.frames.frames command keeps.there.names) is.done keeps.keeps.holds.quiet.shut legal)
+
+some_cpu : (t : KnownTable) (w : KnownStockTable) (locked : KnownLocked) → IsQuiet t w locked → 1 ≤ t.cpus
+some_cpu t w locked quiet = let sized = quiet.sized.cpus in let low = quiet.valid.cpus_low in omega arith
 
 -- the promise holds after a line
-line_kept : (on : Terms) (run : Run) (line : Line) (s e : SystemState) (text : List ℕ)
-    → (IsLegalRun (zone_of on.frames) run → ShowsAll on.frames run s.locked.machine s.cpus) → AreTied on.frames on.stocks s.cpus
-    → (keeps : ServesAndKeeps on line s e text) → IsLegalRun (zone_of on.frames) (run ++ keeps.serves.steps)
+line_kept : (on : Terms) (run : Run) (line : Line) (s e : SystemState) (text : List ℕ) → ShowsAll on.frames run s.locked.machine s.cpus
+    → AreTied on.frames on.stocks s.cpus → (keeps : ServesAndKeeps on line s e text) → IsLegalRun (zone_of on.frames) (run ++ keeps.serves.steps)
     → HoldsPromise on.frames run s (run ++ keeps.serves.steps) e
-unfolding keeps_history
 line_kept on run line s e text shows tied keeps legal =
-    let alone : ServesAllAndKeeps on (line ∷ []) s e text = record {
-      first = text;
-      rest = [];
-      between = e;
-      serves_first = keeps;
-      serves_rest = (refl, refl);
-      text_is = sym (append-nil text);
-    } in
-    (keeps_history on (line ∷ []) (past run s) e text shows tied alone).kept_where_legal legal
+    let follows = line_follows on run line s e text shows tied keeps legal in
+    let holds = keeps.keeps.holds in record {
+      tells = follows.1;
+      promise = the_whole_is_promised on.frames on.stocks (run ++ keeps.serves.steps) e.locked.machine e.cpus follows.0 holds.consistent holds.charges
+          (keeps.keeps.tied tied) (some_cpu on.frames on.stocks e.locked holds.quiet);
+    }
 
 module _ (t : KnownTable) (w : KnownStockTable) where
   -- a state is shown with a new watch too
@@ -101,7 +118,7 @@ module _ (t : KnownTable) (w : KnownStockTable) where
       → goes_on later.now → rest later)
       → HasLoggedTurn (terms t w true) (unwrap_or text []) line before answer rest
   turn_logged sizes number None None answer before m goes_on rest shows tied one more next = next before shows tied (subst goes_on one.1 more)
-  turn_logged sizes number None (Some line) answer before m goes_on rest shows tied one more next = let none = one.0 in cc
+  turn_logged sizes number None (Some line) answer before m goes_on rest shows tied one more next = absurd (none-some line (sym one.0))
   turn_logged sizes number (Some text) None answer before m goes_on rest shows tied one more next = next before shows tied (subst goes_on one.0 more)
   turn_logged sizes number (Some text) (Some line) answer before m goes_on rest shows tied one more next =
       let logs : LogsLine (terms t w true) text line before.now m answer = one.1 in
@@ -111,9 +128,9 @@ module _ (t : KnownTable) (w : KnownStockTable) where
       let still : AreTied t w logs.begun.cpus = renewed_tied before.now logs.begun logs.renews tied in record {
         between = m;
         logs = logs;
-        kept_where_legal = λ legal. line_kept (terms t w true) before.run line logs.begun m logs.answer shown still logs.serves legal;
+        kept_where_legal = λ legal. line_kept (terms t w true) before.run line logs.begun m logs.answer (shown (legal_front (zone_of t) before.run steps legal)) still logs.serves legal;
         tells = next (past_line before steps m)
-            (λ legal. line_shown (terms t w true) before.run line logs.begun m logs.answer (shown (legal_front (zone_of t) before.run steps legal)) still logs.serves legal)
+            (λ legal. (line_follows (terms t w true) before.run line logs.begun m logs.answer (shown (legal_front (zone_of t) before.run steps legal)) still logs.serves legal).0)
             (logs.serves.keeps.tied still) more;
       }
 

@@ -14,7 +14,7 @@ returns-in_err-serve_line g c =
     let e : SystemState = system_state c.serve_line.new.locked c.serve_line.new.cpus in
     let renews = renewed c.args.locked.now c.set_watch.new.self c.args.cpus.now c.logging.result c.logging.ensures c.set_watch.ensures in
     let served = c.serve_line.ensures.served in
-    record { logged = line_part c.from_residual.result on c.args.text.now c.args.line.now s begun e served.text _ _ renews served.so tt }
+    record { logged = line_part c.from_residual.result on c.args.text.now c.args.line.now s begun e served.text c.args.log.now.items _ renews served.so (search rules) }
 
 pub returns-in_err-add_line : goal.returns-in_err-add_line
 returns-in_err-add_line g c =
@@ -24,7 +24,7 @@ returns-in_err-add_line g c =
     let e : SystemState = system_state c.serve_line.new.locked c.serve_line.new.cpus in
     let renews = renewed c.args.locked.now c.set_watch.new.self c.args.cpus.now c.logging.result c.logging.ensures c.set_watch.ensures in
     let served = c.in_ok-serve_line.ensures.served in
-    record { logged = line_part c.from_residual.result on c.args.text.now c.args.line.now s begun e served.text _ _ renews served.so tt }
+    record { logged = line_part c.from_residual-in_err-add_line.result on c.args.text.now c.args.line.now s begun e served.text c.args.log.now.items _ renews served.so (search rules) }
 
 pub returns-in_err-add_steps : goal.returns-in_err-add_steps
 returns-in_err-add_steps g c =
@@ -34,7 +34,7 @@ returns-in_err-add_steps g c =
     let e : SystemState = system_state c.serve_line.new.locked c.serve_line.new.cpus in
     let renews = renewed c.args.locked.now c.set_watch.new.self c.args.cpus.now c.logging.result c.logging.ensures c.set_watch.ensures in
     let served = c.in_ok-serve_line.ensures.served in
-    record { logged = line_part c.from_residual.result on c.args.text.now c.args.line.now s begun e served.text _ _ renews served.so tt }
+    record { logged = line_part c.from_residual-in_err-add_steps.result on c.args.text.now c.args.line.now s begun e served.text c.args.log.now.items _ renews served.so (search rules) }
 
 pub returns : goal.returns
 returns g c =

@@ -1,6 +1,7 @@
 -- Serves the contract of `answer_plainly`: the line is too long.
-use Rattle.std.proofs.Common.{List, ℕ, IfOk, Option, ap, subst, sym}
-use Rattle.line_server.specs.Known.{terms_of}
+use Rattle.std.proofs.Common.{List, ℕ, IfOk, None, Option, ap, subst, sym}
+use Rattle.script_replay.specs.Lines.{system_state}
+use Rattle.line_server.specs.Known.{KnownServer, terms_of}
 use Rattle.line_server.specs.Lines.{text_of}
 use Rattle.line_server.specs.Turns.{HasAnswer}
 use Rattle.line_server.proofs.Answered.{too_long}
@@ -8,7 +9,11 @@ use Rattle.line_server.proofs.server.Server.answer_plainly.Goals as goal
 
 pub returns-in-TooLong-clause-answered : goal.returns-in-TooLong-clause-answered
 returns-in-TooLong-clause-answered g c =
-    let on = terms_of g.N.BootName.frames g.N.BootName.stocks c.args.self.now in
-    let s = c.args.self.now.state in
-    subst (λ (text : Option (List ℕ)). IfOk c.bad_line.result (λ answer. HasAnswer on c.args.self.now.sizes c.args.number text s s answer.items))
-    (sym (ap text_of c.in-TooLong.is)) (too_long on c.args.self.now.sizes c.args.number c.bad_line.result s c.bad_line.ensures)
+    let frames = g.N.BootName.frames in
+    let stocks = g.N.BootName.stocks in
+    let inside = c.self.inside in
+    let here : KnownServer = record { sizes = inside.sizes; form = inside.form; state = system_state inside.locked inside.cpus.items } in
+    subst (λ (text : Option (List ℕ)). IfOk c.bad_line.result (λ answer. HasAnswer (terms_of frames stocks c.args.self.now) c.args.self.now.sizes c.args.number text
+    c.args.self.now.state c.args.self.now.state answer.items)) (sym (ap text_of c.in-TooLong.is))
+    (subst (λ (s : KnownServer). IfOk c.bad_line.result (λ answer. HasAnswer (terms_of frames stocks s) s.sizes c.args.number None s.state s.state answer.items)) c.self.view_is
+    (too_long (terms_of frames stocks here) inside.sizes c.args.number c.bad_line.result here.state c.bad_line.ensures))

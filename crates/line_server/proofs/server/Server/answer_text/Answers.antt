@@ -13,6 +13,9 @@ returns-then-is_skipped-clause-answered g c =
     skipped (terms_of g.N.BootName.frames g.N.BootName.stocks c.args.self.now) c.args.self.now.sizes c.args.number c.args.text.now c.args.self.now.state
     _ (sym c.is_skipped.ensures ∙ c.if-is_skipped.true) c.new.ensures.items
 
+pub refuse_text-requires-clause-bad : goal.refuse_text-requires-clause-bad
+refuse_text-requires-clause-bad g c = (c.args.number, c.in-None.ensures)
+
 pub returns-in-None-clause-answered : goal.returns-in-None-clause-answered
 returns-in-None-clause-answered g c =
     let frames = g.N.BootName.frames in
