@@ -106,11 +106,12 @@ fn enter<N: BootName>(pointer: HomePointer<N>, number: u32) -> (HomePointer<N>, 
     ensures serves { Serves N.frames N.stocks pointer.home (Enter number) result.0.home result.1 }
 {
     let mut home = pointer.into_box_parts().into_box();
-    let entered = home.enter(number);
-    let pointer = HomePointer::of(BoxParts::of(home));
-    match entered {
-        Ok(_) => (pointer, RequestAnswer::Entered),
-        Err(reason) => (pointer, RequestAnswer::NotEntered(reason)),
+    match home.enter(number) {
+        Ok(_) => (HomePointer::of(BoxParts::of(home)), RequestAnswer::Entered),
+        Err(reason) => (
+            HomePointer::of(BoxParts::of(home)),
+            RequestAnswer::NotEntered(reason),
+        ),
     }
 }
 
