@@ -36,6 +36,11 @@ logs_more on texts lines i default s m e old mid new part inside so_far one adde
   added = added ∙ ap (λ (l : List ℕ). l ++ part) so_far.added ∙ append_assoc old so_far.text part;
 }
 
+-- the text of the line, as it was looked up
+pub logs_text : (on : Terms) (texts : List (List ℕ)) {line : Line} {m e : SystemState} {part : List ℕ} (l : List ℕ)
+    → l ≡ text_of texts line → LogsLine on l line m e part → Logs on texts line m e part
+logs_text on texts {line} {m} {e} {part} l is one = subst (λ (x : List ℕ). LogsLine on x line m e part) is one
+
 -- ---- the end
 
 module _ {T E : Type 0} (r : Result T E) (t : KnownTable) (w : KnownStockTable) (before begun : SystemState) (ended : BootEnd) (old new : List ℕ)

@@ -22,7 +22,7 @@ returns g c =
     subst (λ (cpus : List KnownCpu). GrowsBy (LogsAll (terms t w true) texts c.args.lines.now (system_state c.args.locked cpus) e) c.args.log.now.items now.log.items)
     first c.in_ok-served.ensures.logged in
     let ended = subst (λ (cpus : List KnownCpu). AddsPart c.log_end-ended.result now.log.items c.log_end-ended.new.log.items (LogsEnd t w (system_state now.locked cpus)))
-    same c.log_end-ended.ensures in
+    same c.log_end-ended.ensures.logged in
     record {
       logged = both_logged c.log_end-ended.result t w texts c.args.lines.now (system_state c.args.locked c.args.cpus.items) e c.args.log.now.items now.log.items
           c.log_end-ended.new.log.items served ended;

@@ -1,8 +1,7 @@
-use Rattle.std.proofs.Common.{Bor, List, ℕ, map, subst, true}
+use Rattle.std.proofs.Common.{Bor, List, ℕ, map, true}
 use Rattle.script_replay.specs.Lines.{system_state}
 use Rattle.script_replay.specs.Terms.{terms}
-use Rattle.line_server.specs.Logs.{LogsLine}
-use Rattle.load_run.proofs.Logged.{logs_more}
+use Rattle.load_run.proofs.Logged.{logs_more, logs_text}
 use Rattle.load_run.proofs.logging.log_each.Goals as goal
 
 pub loop-next-preserved : goal.loop-next-preserved
@@ -13,4 +12,4 @@ loop-next-preserved g c =
     let e = system_state c.log_line.new.locked c.log_line.new.cpus in
     let adds = c.in_ok-log_line.ensures.logged in
     logs_more on texts c.args.lines.now c.loop-next.next-index _ (system_state c.args.locked.now c.args.cpus.now) m e _ _ _ adds.part c.loop-next-test.true
-    c.loop-next.invariant (subst (λ (l : List ℕ). LogsLine on l _ m e adds.part) c.text_of.ensures adds.so) adds.added
+    c.loop-next.invariant (logs_text on texts c.text_of.result.now c.text_of.ensures adds.so) adds.added

@@ -1,5 +1,5 @@
 -- Serves the contract of `log_end`: the boot ended with a new watch, and what that wrote was added.
-use Rattle.std.proofs.Common.{◌≡◌, ◌∙◌, ◌++◌, ap, codes, sym}
+use Rattle.std.proofs.Common.{◌≡◌, ◌∙◌, ◌++◌, ap, codes, rules, sym}
 use Rattle.step_watch.specs.Watched.{KnownWatch, has_whole_log, log_text}
 use Rattle.script_replay.specs.Lines.{SystemState, system_state}
 use Rattle.line_server.proofs.Logged.{renewed}
@@ -21,7 +21,7 @@ returns-in_err-added g c =
       leaves = c.empty_cpus-held.ensures.leaves;
       closes = c.close-audit.ensures;
     } in
-    record { logged = end_part c.from_residual.result t w s begun ended _ _ renews ends tt }
+    record { logged = end_part c.from_residual.result t w s begun ended _ _ renews ends (search rules) }
 
 pub returns : goal.returns
 returns g c =

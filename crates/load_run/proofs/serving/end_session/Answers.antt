@@ -12,18 +12,18 @@ returns-in-Answers g c =
           c.new.result.items c.in-Answers.is c.end_boot-ended.ensures.ends c.new.ensures.items c.with_end.ensures.told;
     }
 
-pub returns-in_err-log_end : goal.returns-in_err-log_end
-returns-in_err-log_end g c =
+pub returns-in_err-log_end-in-Steps : goal.returns-in_err-log_end-in-Steps
+returns-in_err-log_end-in-Steps g c =
     let s : SystemState = system_state c.args.locked c.args.cpus.items in
-    let adds = c.log_end.ensures in
+    let adds = c.log_end.ensures.logged in
     record {
-      ended = ended_logged c.from_residual.result g.N.BootName.frames g.N.BootName.stocks c.args.form c.args.is_audited s adds.part c.in-Steps.is adds.so tt;
+      ended = ended_logged c.from_residual.result g.N.BootName.frames g.N.BootName.stocks c.args.form c.args.is_audited s adds.part c.in-Steps.is adds.so (search rules);
     }
 
-pub returns-in-Steps : goal.returns-in-Steps
-returns-in-Steps g c =
+pub returns-in_ok-log_end-in-Steps : goal.returns-in_ok-log_end-in-Steps
+returns-in_ok-log_end-in-Steps g c =
     let s : SystemState = system_state c.args.locked c.args.cpus.items in
-    let adds = c.in_ok-log_end.ensures in
+    let adds = c.in_ok-log_end-in-Steps.ensures.logged in
     let told : c.log_end.new.log.items ≡ adds.part = search rules in
     record {
       ended = ended_logged _ g.N.BootName.frames g.N.BootName.stocks c.args.form c.args.is_audited s adds.part c.in-Steps.is adds.so told;

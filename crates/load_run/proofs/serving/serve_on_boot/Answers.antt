@@ -23,9 +23,9 @@ returns-in-Ok-ended-clause-served g c =
     let end = c.serve_buffered-served.new.self.state in
     let session = as_made t w c.new-server.result options.sizes c.args.form (system_state parts.0 parts.2.items)
     (λ on sizes start. ServesSession on sizes input start end before middle) made.sizes made.form made.state c.in-Ok-served.ensures.served in
-    let gives = c.end_session-ended.ensures.ended in
+    let gives = c.in-Ok-ended.ensures.ended in
     let ends = subst (λ (s : SystemState). EndsInForm c.args.form t w options.is_audited s gives.answer) c.into_parts-locked.ensures.state gives.so in
-    let same : c.deref.result.now ≡ gives.answer = c.deref.ensures.value ∙ c.in-Ok-ended.ensures.ended.given in
+    let same : c.deref.result.now ≡ gives.answer = c.deref.ensures.value ∙ gives.given in
     ending_written options c.args.form input before middle after gives.answer c.write_answers.result
     (session_ends c.args.boot.sizes options c.args.form t w parts.0 parts.2.items c.requires.sizes boot.sized boot.machine boot.sizes
     boot.cpus input before middle end gives.answer session ends) (subst (λ (l : List ℕ). OnOk c.write_answers.result (Appends middle after l)) same c.write_answers.ensures.written)
@@ -45,9 +45,9 @@ returns-in-Ok-ended-clause-left g c =
     let end = c.serve_buffered-served.new.self.state in
     let session = as_made t w c.new-server.result options.sizes c.args.form (system_state parts.0 parts.2.items)
     (λ on sizes start. ServesSession on sizes input start end before middle) made.sizes made.form made.state c.in-Ok-served.ensures.served in
-    let gives = c.end_session-ended.ensures.ended in
+    let gives = c.in-Ok-ended.ensures.ended in
     let ends = subst (λ (s : SystemState). EndsInForm c.args.form t w options.is_audited s gives.answer) c.into_parts-locked.ensures.state gives.so in
-    let same : c.deref.result.now ≡ gives.answer = c.deref.ensures.value ∙ c.in-Ok-ended.ensures.ended.given in
+    let same : c.deref.result.now ≡ gives.answer = c.deref.ensures.value ∙ gives.given in
     ending_begun options c.args.form input before middle after gives.answer c.write_answers.result c.requires.valid
     (session_ends c.args.boot.sizes options c.args.form t w parts.0 parts.2.items c.requires.sizes boot.sized boot.machine boot.sizes
     boot.cpus input before middle end gives.answer session ends)
