@@ -110,16 +110,19 @@ impl CpuPart {
     {
         let raw = std::mem::replace(&mut self.raw, RawHome::none(alloc));
         let (raw, answer) = serve_raw(raw, Request::Leave { alloc });
-        self.raw = raw;
-        match answer {
-            RequestAnswer::Left => {
-                self.is_live = false;
-                true
-            }
-            RequestAnswer::NotLeft(NotLeft::Busy) => false,
-            RequestAnswer::NotLeft(NotLeft::NoCpu) => unreachable!(),
-            _ => unreachable!(),
+        if let RequestAnswer::NotLeft(reason) = answer {
+            let NotLeft::Busy = reason else {
+                unreachable!()
+            };
+            self.raw = raw;
+            return false;
         }
+        let RequestAnswer::Left = answer else {
+            unreachable!()
+        };
+        self.raw = raw;
+        self.is_live = false;
+        true
     }
 
     /// Serves a call of the CPU.

@@ -4,8 +4,8 @@ use Rattle.cpu_handles.specs.declared.raw.RawHome.{RawHome}
 use Rattle.tempolemon_threads.proofs.Crossing.{no_cpu_left}
 use Rattle.tempolemon_threads.proofs.handles.CpuPart.leave.Goals as goal
 
-pub unreachable-requires-in-NotLeft-NoCpu : goal.unreachable-requires-in-NotLeft-NoCpu
-unreachable-requires-in-NotLeft-NoCpu c =
+pub unreachable-requires : goal.unreachable-requires
+unreachable-requires c =
     let raw = c.replace-raw in
     no_cpu_left raw.result.frames raw.result.stocks c.args.alloc _ _ _ _ _ _ c.args.self.now.is_cpu
-    (ap (λ (r : RawHome). r.home) raw.ensures.value) c.serve_raw-raw.ensures.serves.serves c.in-NotLeft-NoCpu.is refl
+    (ap (λ (r : RawHome). r.home) raw.ensures.value) c.serve_raw-raw.ensures.serves.serves c.in-NotLeft.is c.in_default-reason.is
