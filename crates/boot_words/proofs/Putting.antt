@@ -73,7 +73,7 @@ put_is_allowed {S} zone slots id f v p ne inside some legal s k homes at small =
     (by_one puts (step slots f 1 0 none) (v ∷ [], [])) (puts_at zone.frames zone.cpus slots id v f inside some) (frame_is_at zone f (count_low zone f inside)) s k.frames homes at small in
     let made = lifted.4 in
     let positive : 1 ≤ n = at_least_one (note_of v f).references n some made.2.0 in
-    let fits : OthersFollow q p.seen k.run = (all_at (AllOf (Fits k.run)) s.views id old at k.fits).0 in
+    let fits : OthersFollow q p.seen k.run = (all_at (AllOf (Fits k.run)) s.views id old at k.fits).0.goes in
     let legal_now : is_legal (state_of zone k.run) q (Put f) ≡ true = fast_legality_lasts zone p.seen k.run q (Put f) ne k.is.legal fits tt ∙ legal in
     let words = words_in zone s.words in
     let made_step : Step = record { seat = q; action = Put f } in
@@ -86,7 +86,7 @@ put_is_allowed {S} zone slots id f v p ne inside some legal s k homes at small =
       new,
       lifted.1,
       lifted.2,
-      frame_step zone s.words s.views k id f x old new e (count_low zone f inside) at refl (λ m. refl) (own_past p (OfFrames v)) (grown_fits k.run p e fits, (tt, tt))
+      frame_step zone s.words s.views k id f x old new e (count_low zone f inside) at refl (λ m. refl) (own_past p (OfFrames v)) refl (grown_fits k.run p e fits, (tt, tt))
           (lifted.3 new (sym (ap (λ (m : Me S (List FrameView)). m.0) made.1)))
           (subst (λ (m : ℕ). IsRunOf zone (with_frame_word words f m) (k.run ++ e ∷ [])) (sym (less_one n positive small)) now),
       record {

@@ -25,18 +25,18 @@ pub record HoldsLock (zone : Zone) (z c : Past) (local : State) : Type 0 where
   pub same : z.seen ≡ c.seen
   pub shows : ShowsLocal zone c.seen c.number local
 
--- the two pasts, joined with these views of frames
-abbrev pub joined : Past → Past → List FrameView → List BootView
-joined z c views = OfRun z ∷ OfRun c ∷ map OfFrames views
+-- the two pasts, joined with these views of frames or of stocks
+abbrev pub joined : {V : Type 0} → (V → BootView) → Past → Past → List V → List BootView
+joined wrap z c views = OfRun z ∷ OfRun c ∷ map wrap views
 
--- a step under the lock is made with this answer: both pasts have grown by it, and the views of frames are as its kind
--- says
-pub record MadeUnderLock (S : Type 0) (z c : Past) (made_step : Step) (answer : Answer) (kind : Me S (List FrameView) → Type 0)
-    (later : Me S (List BootView)) : Type 0 where
-  pub views : List FrameView
+-- a step under the lock is made with this answer: both pasts have grown by it, and the views of frames or of stocks are
+-- as its kind says
+pub record MadeUnderLock {V : Type 0} (wrap : V → BootView) (S : Type 0) (z c : Past) (made_step : Step) (answer : Answer)
+    (kind : Me S (List V) → Type 0) (later : Me S (List BootView)) : Type 0 where
+  pub views : List V
   pub zone_past : Past
   pub cpu_past : Past
-  pub later_is : later ≡ (joined zone_past cpu_past views, [])
+  pub later_is : later ≡ (joined wrap zone_past cpu_past views, [])
   pub made : kind (views, [])
   pub zone_grew : GrewBy z made_step answer zone_past
   pub cpu_grew : GrewBy c made_step answer cpu_past
@@ -45,8 +45,8 @@ pub record MadeUnderLock (S : Type 0) (z c : Past) (made_step : Step) (answer : 
 -- the table allows a seat with both pasts and these views to store this number in word f
 abbrev pub StoresUnderLock : (S : Type 0) → Zone → ℕ → ℕ → Past → Past → List FrameView → ℕ → ℕ → Step
     → (Me S (List FrameView) → Type 0) → Type 0
-StoresUnderLock S zone slots id z c views f word made_step kind = Allows {S = S} (boot_rule zone) slots id (joined z c views, []) f
-    (λ n. word) (λ found later. MadeUnderLock S z c made_step Done kind later)
+StoresUnderLock S zone slots id z c views f word made_step kind = Allows {S = S} (boot_rule zone) slots id (joined OfFrames z c views, []) f
+    (λ n. word) (λ found later. MadeUnderLock OfFrames S z c made_step Done kind later)
 
 -- An unfreeze by the zone's seat, legal in what the lock's holder sees.
 abbrev pub UnfreezeIsAllowed : Type 0 → Type 0
@@ -116,5 +116,5 @@ abbrev pub PlainIsAllowed : Type 0 → Type 0
 PlainIsAllowed S = (zone : Zone) (slots id : ℕ) (z c : Past) (local : State) (made_step : Step) (answer : Answer)
     → HoldsLock zone z c local → IsPlain made_step.action
     → IsLocalStep local c.number made_step.seat made_step.action answer
-    → Allows {S = S} (boot_rule zone) slots id (joined z c [], []) (stock_base zone) (λ n. n)
-    (λ found later. MadeUnderLock S z c made_step answer (λ m. Unit {0}) later)
+    → Allows {S = S} (boot_rule zone) slots id (joined OfFrames z c [], []) (stock_base zone) (λ n. n)
+    (λ found later. MadeUnderLock OfFrames S z c made_step answer (λ m. Unit {0}) later)
