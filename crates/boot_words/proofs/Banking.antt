@@ -48,11 +48,11 @@ stock_under_lock {S} zone slots id i F z c local views made_step answer kind hol
 
 -- ---- the kinds
 pub fill_is_allowed : {S : Type 0} → FillIsAllowed S
-fill_is_allowed {S} zone slots id g n z c local m v holds legal zone_is same low high fits may =
+fill_is_allowed {S} zone slots id g n z c local m v holds legal are fits may =
     let kind : ℕ → Me S (List StockView) → Type 0 = λ found. Joined filling_step (step slots (stock_index c.number) (word_of (HeldBy g n)) 0 none) (m ∷ v ∷ [], []) (word_of (HeldBy g n)) in
     stock_under_lock zone slots id (stock_index c.number) (λ x. word_of (HeldBy g n)) z c local (m ∷ v ∷ []) _ (λ found. Done) kind holds (inl refl) refl legal
     (λ s k at small x told. (fits, refl)) (λ found x told. ap (λ (y : Me S (List StockView)). y.1) told.2)
-    (filling_allowed zone.cpus slots id ((m ∷ v ∷ []), []) m v g n refl zone_is low high fits.0 fits.1 may.0 may.1 may.2 (stock_index c.number) (word_of (HeldBy g n)) (ap stock_index same) refl)
+    (filling_allowed zone.cpus slots id ((m ∷ v ∷ []), []) m v g n refl are.zone_is are.low are.high fits.0 fits.1 may.0 may.1 may.2 (stock_index c.number) (word_of (HeldBy g n)) (ap stock_index (sym are.cpu_is)) refl)
 
 pub absorb_is_allowed : {S : Type 0} → AbsorbIsAllowed S
 absorb_is_allowed {S} zone slots id cpu z c local m holds legal zone_is low high =

@@ -12,3 +12,5 @@ pub mod UnderLock
 pub mod Storing
 pub mod Quiet
 pub mod Banking
+pub mod Freezing
+pub mod Reporting

@@ -30,7 +30,7 @@ use Rattle.boot_words.proofs.Parts.{count_low, frame_is_at, frame_reads}
 use Rattle.boot_words.proofs.Seats.{all_at}
 
 -- ---- the answer by the word
-less_one : (x : ℕ) → 1 ≤ x → x < 18446744073709551616 → (x + (2 ^ 64 - 1)) % 2 ^ 64 ≡ x - 1
+pub less_one : (x : ℕ) → 1 ≤ x → x < 18446744073709551616 → (x + (2 ^ 64 - 1)) % 2 ^ 64 ≡ x - 1
 less_one x a h = omega arith
 
 minus_one : (n : ℕ) → n ≡ 1 → n - 1 ≡ 0
@@ -42,7 +42,7 @@ above_one n low ne = omega (arith, low, ne)
 and_one : (n : ℕ) → 1 ≤ n → n ≡ (n - 1) + 1
 and_one n low = omega arith
 
-put_changes : (zone : Zone) (words : Words) (seat f n : ℕ) → word_at words f ≡ n → 1 ≤ n
+pub put_changes : (zone : Zone) (words : Words) (seat f n : ℕ) → word_at words f ≡ n → 1 ≤ n
     → ChangesWords zone words seat (Put f) (put_answer n) (with_frame_word words f (n - 1))
 put_changes zone words seat f n is some = elim (cases_eq n 1) [
   | inl one ↦
@@ -54,7 +54,7 @@ put_changes zone words seat f n is some = elim (cases_eq n 1) [
       (record { some = above_one n some many; found = is ∙ and_one n some; later_is = refl })
 ]
 
-at_least_one : (a b : ℕ) → 1 ≤ a → a ≤ b → 1 ≤ b
+pub at_least_one : (a b : ℕ) → 1 ≤ a → a ≤ b → 1 ≤ b
 at_least_one a b h k = omega arith
 
 own_sum : (a b : ℕ) → a ≡ 1 → 1 ≤ a + (b + 0)

@@ -1,10 +1,10 @@
 -- A step under the lock on a word of the frames or of the stocks.
-use Rattle.std.proofs.Common.{◌≡◌, ℕ, ◌+◌, ◌<◌, ◌≤◌, true, false, List, [], ◌∷◌, ◌++◌, cond, map, set, refl, ap, sym, ◌∙◌, subst, arith, inl, inr, eq-eqb}
+use Rattle.std.proofs.Common.{◌≡◌, ℕ, ◌+◌, ◌<◌, ◌≤◌, true, false, List, [], ◌∷◌, ◌++◌, cond, length, map, set, refl, ap, sym, ◌∙◌, subst, arith, inl, inr, eq-eqb}
 use Rattle.std.specs.Prelude.{◌⊎◌, slice_index}
 use Rattle.std.proofs.lemmas.List.{append_cancel_left}
 use mathlib.Core.Option.{Option, some}
 use lib.ListN.{get_elem?}
-use Rattle.atomic_table.specs.Table.{Me, State as Board, Allows, carried_after, homes_after}
+use Rattle.atomic_table.specs.Table.{Act, Me, State as Board, Allows, Valid, carried_after, homes_after, stepped}
 use Rattle.seat_sums.specs.Totals.{sum_over}
 use Rattle.step_rules.specs.declared.step.Step.{Step}
 use Rattle.step_rules.specs.declared.step.Answer.{Answer}
@@ -74,15 +74,18 @@ module _ {S V W : Type 0} (zone : Zone) (wrap : V → BootView) (mine : List Boo
   same_counts z c before after q e views later = ap (λ m. past_of q (OfRun z) + (past_of q (OfRun c) + m))
       (no_pasts wrap mine other kind_is q later ∙ sym (no_pasts wrap mine other kind_is q views))
 
-  pub under_lock : (slots id : ℕ) (F : ℕ → ℕ) (z c : Past) (local : State) (views : List V) (made_step : Step) (answer : ℕ → Answer)
+  -- in this state of the table
+  pub under_lock_at : (slots id : ℕ) (F : ℕ → ℕ) (z c : Past) (local : State) (views : List V) (made_step : Step) (answer : Answer)
       (kind : ℕ → Me S (List V) → Type 0) → HoldsLock zone z c local → (made_step.seat ≡ 0) ⊎ (made_step.seat ≡ c.number)
       → is_of_lock made_step.action ≡ false → is_legal local made_step.seat made_step.action ≡ true
-      → ((s : Board S (List BootView)) → boot_rule zone s → get_elem? s.views id ≡ some (joined wrap z c views) → slice_index s.words j < 18446744073709551616
-      → (m : Me S (List V)) → kind (slice_index s.words j) m
-      → ChangesWords zone (words_in zone s.words) made_step.seat made_step.action (answer (slice_index s.words j)) (change (words_in zone s.words) (F (slice_index s.words j))))
       → ((found : ℕ) (m : Me S (List V)) → kind found m → m.1 ≡ []) → Allows holds slots id (views, []) i F kind
-      → Allows {S = S} (boot_rule zone) slots id (joined wrap z c views, []) j F (λ found later. MadeUnderLock wrap S z c made_step (answer found) (kind found) later)
-  under_lock slots id F z c local views made_step answer kind has_lock own unlocked legal changes empty allows s k homes at small =
+      → (s : Board S (List BootView)) → boot_rule zone s → length s.homes ≡ slots → get_elem? s.views id ≡ some (joined wrap z c views)
+      → slice_index s.words j < 18446744073709551616
+      → ((m : Me S (List V)) → kind (slice_index s.words j) m
+      → ChangesWords zone (words_in zone s.words) made_step.seat made_step.action answer (change (words_in zone s.words) (F (slice_index s.words j))))
+      → (w : List BootView) × (a : Act S) × Valid s.homes [] a × boot_rule zone (stepped s j (F (slice_index s.words j)) id [] w a)
+      × MadeUnderLock wrap S z c made_step answer (kind (slice_index s.words j)) (w, carried_after [] a)
+  under_lock_at slots id F z c local views made_step answer kind has_lock own unlocked legal empty allows s k homes at small changes =
       let old = joined wrap z c views in
       let found = slice_index s.words j in
       let own_allows : Allows holds slots id (mine old, []) i F kind =
@@ -92,10 +95,10 @@ module _ {S V W : Type 0} (zone : Zone) (wrap : V → BootView) (mine : List Boo
       let zone_fits : OthersFollow z.number z.seen k.run = all.0.goes in
       let fits : OthersFollow c.number c.seen k.run = all.1.0.goes in
       let words = words_in zone s.words in
-      let e : Step × Answer = (made_step, answer found) in
+      let e : Step × Answer = (made_step, answer) in
       let shows = shows_now zone z c local k.run has_lock zone_fits fits k.is.legal in
-      let now = words_follow zone words (change words (F found)) k.run made_step (answer found) k.is
-      (legal_now zone k.run c.number local made_step shows own unlocked legal) (changes s k at small (lifted.0, carried_after [] lifted.1) lifted.4) in
+      let now = words_follow zone words (change words (F found)) k.run made_step answer k.is
+      (legal_now zone k.run c.number local made_step shows own unlocked legal) (changes (lifted.0, carried_after [] lifted.1) lifted.4) in
       let zone_past = grown z zone_fits.rest e in
       let cpu_past = grown c fits.rest e in
       let new = joined wrap zone_past cpu_past lifted.0 in
@@ -118,3 +121,15 @@ module _ {S V W : Type 0} (zone : Zone) (wrap : V → BootView) (mine : List Boo
           same = same_seen z c k.run e zone_fits fits;
         },
       )
+
+  pub under_lock : (slots id : ℕ) (F : ℕ → ℕ) (z c : Past) (local : State) (views : List V) (made_step : Step) (answer : ℕ → Answer)
+      (kind : ℕ → Me S (List V) → Type 0) → HoldsLock zone z c local → (made_step.seat ≡ 0) ⊎ (made_step.seat ≡ c.number)
+      → is_of_lock made_step.action ≡ false → is_legal local made_step.seat made_step.action ≡ true
+      → ((s : Board S (List BootView)) → boot_rule zone s → get_elem? s.views id ≡ some (joined wrap z c views) → slice_index s.words j < 18446744073709551616
+      → (m : Me S (List V)) → kind (slice_index s.words j) m
+      → ChangesWords zone (words_in zone s.words) made_step.seat made_step.action (answer (slice_index s.words j)) (change (words_in zone s.words) (F (slice_index s.words j))))
+      → ((found : ℕ) (m : Me S (List V)) → kind found m → m.1 ≡ []) → Allows holds slots id (views, []) i F kind
+      → Allows {S = S} (boot_rule zone) slots id (joined wrap z c views, []) j F (λ found later. MadeUnderLock wrap S z c made_step (answer found) (kind found) later)
+  under_lock slots id F z c local views made_step answer kind has_lock own unlocked legal changes empty allows s k homes at small =
+      under_lock_at slots id F z c local views made_step (answer (slice_index s.words j)) kind has_lock own unlocked legal empty allows s k homes at small
+      (λ m told. changes s k at small m told)
