@@ -1,9 +1,9 @@
 -- Steps under the lock on the words of a stock.
-use Rattle.std.proofs.Common.{◌≡◌, ℕ, ◌+◌, ◌<◌, ◌*◌, ◌%◌, true, false, List, [], ◌∷◌, drop, refl, ap, sym, ◌∙◌, arith, inl}
+use Rattle.std.proofs.Common.{◌≡◌, ℕ, ◌+◌, ◌<◌, ◌*◌, ◌%◌, true, false, List, [], ◌∷◌, drop, length, refl, ap, sym, ◌∙◌, arith, inl}
 use Rattle.std.specs.Prelude.{◌⊎◌, slice_index}
 use mathlib.Core.Option.{none, some}
 use lib.ListN.{get_elem?}
-use Rattle.atomic_table.specs.Table.{Me, State as Board, Allows, step}
+use Rattle.atomic_table.specs.Table.{Act, Me, State as Board, Allows, Valid, carried_after, step, stepped}
 use Rattle.stock_word.specs.declared.view.Stock.{Stock}
 use Rattle.stock_word.specs.declared.view.Stock.TheVariants.{NoGroup, HeldBy, DrainedOf}
 use Rattle.stock_word.specs.declared.view.StockView.{StockView}
@@ -22,14 +22,32 @@ use Rattle.boot_words.specs.Rule.{Past, BootView, OfStocks, boot_rule, frames_in
 use Rattle.boot_words.specs.Held.{HoldsLock, MadeUnderLock, joined}
 use Rattle.boot_words.specs.StockHeld.{pages_said, AbsorbIsAllowed, DrainIsAllowed, FillIsAllowed}
 use Rattle.boot_words.proofs.StockSteps.{stock_is_at, stock_step, with_stocks_at}
-use Rattle.boot_words.proofs.UnderLock.{under_lock}
+use Rattle.boot_words.proofs.UnderLock.{under_lock_at}
 use Rattle.boot_words.proofs.Wraps.{of_stocks}
 
 -- the rule of the stocks
-abbrev stock_rule : {S : Type 0} → Zone → Board S (List StockView) → Type 0
+abbrev pub stock_rule : {S : Type 0} → Zone → Board S (List StockView) → Type 0
 stock_rule zone t = StockRule zone.cpus t.words t.views
 
--- a step under the lock on word i of the stocks
+-- a step under the lock on word i of the stocks, in this state of the table
+pub stock_under_lock_at : {S : Type 0} (zone : Zone) (slots id i : ℕ) (F : ℕ → ℕ) (z c : Past) (local : State) (views : List StockView) (made_step : Step) (answer : Answer)
+    (kind : ℕ → Me S (List StockView) → Type 0) → HoldsLock zone z c local → (made_step.seat ≡ 0) ⊎ (made_step.seat ≡ c.number)
+    → is_of_lock made_step.action ≡ false → is_legal local made_step.seat made_step.action ≡ true
+    → ((found : ℕ) (m : Me S (List StockView)) → kind found m → m.1 ≡ []) → Allows {S = S} (stock_rule zone) slots id (views, []) i F kind
+    → (s : Board S (List BootView)) → boot_rule zone s → length s.homes ≡ slots → get_elem? s.views id ≡ some (joined OfStocks z c views)
+    → slice_index s.words (stock_base zone + i) < 18446744073709551616
+    → ((m : Me S (List StockView)) → kind (slice_index s.words (stock_base zone + i)) m
+    → ChangesWords zone (words_in zone s.words) made_step.seat made_step.action answer
+    (with_stocks_at (words_in zone s.words) i (F (slice_index s.words (stock_base zone + i)))))
+    → (w : List BootView) × (a : Act S) × Valid s.homes [] a × boot_rule zone (stepped s (stock_base zone + i) (F (slice_index s.words (stock_base zone + i))) id [] w a)
+    × MadeUnderLock OfStocks S z c made_step answer (kind (slice_index s.words (stock_base zone + i))) (w, carried_after [] a)
+stock_under_lock_at {S} zone slots id i F z c local views made_step answer kind holds own unlocked legal empty allows =
+    under_lock_at {S = S} zone OfStocks stocks_in frames_in of_stocks (drop (stock_base zone)) i (stock_base zone + i) (stock_is_at zone i) (stock_rule {S = S} zone)
+    (λ s k. k.stocks) (λ words x. with_stocks_at words i x)
+    (λ s k homes id x old new e at others counts own free fits rule now. stock_step zone s.words s.views k id i x old new e at others counts own free fits rule now)
+    slots id F z c local views made_step answer kind holds own unlocked legal empty allows
+
+-- the same in any state
 pub stock_under_lock : {S : Type 0} (zone : Zone) (slots id i : ℕ) (F : ℕ → ℕ) (z c : Past) (local : State) (views : List StockView) (made_step : Step)
     (answer : ℕ → Answer) (kind : ℕ → Me S (List StockView) → Type 0) → HoldsLock zone z c local → (made_step.seat ≡ 0) ⊎ (made_step.seat ≡ c.number)
     → is_of_lock made_step.action ≡ false → is_legal local made_step.seat made_step.action ≡ true
@@ -40,11 +58,9 @@ pub stock_under_lock : {S : Type 0} (zone : Zone) (slots id i : ℕ) (F : ℕ �
     → ((found : ℕ) (m : Me S (List StockView)) → kind found m → m.1 ≡ []) → Allows {S = S} (stock_rule zone) slots id (views, []) i F kind
     → Allows {S = S} (boot_rule zone) slots id (joined OfStocks z c views, []) (stock_base zone + i) F
     (λ found later. MadeUnderLock OfStocks S z c made_step (answer found) (kind found) later)
-stock_under_lock {S} zone slots id i F z c local views made_step answer kind holds own unlocked legal changes empty allows =
-    under_lock {S = S} zone OfStocks stocks_in frames_in of_stocks (drop (stock_base zone)) i (stock_base zone + i) (stock_is_at zone i) (stock_rule {S = S} zone)
-    (λ s k. k.stocks) (λ words x. with_stocks_at words i x)
-    (λ s k homes id x old new e at others counts own free fits rule now. stock_step zone s.words s.views k id i x old new e at others counts own free fits rule now)
-    slots id F z c local views made_step answer kind holds own unlocked legal changes empty allows
+stock_under_lock {S} zone slots id i F z c local views made_step answer kind holds own unlocked legal changes empty allows s k homes at small =
+    stock_under_lock_at zone slots id i F z c local views made_step (answer (slice_index s.words (stock_base zone + i))) kind holds own unlocked legal empty allows s k homes at small
+    (λ m told. changes s k at small m told)
 
 -- ---- the kinds
 pub fill_is_allowed : {S : Type 0} → FillIsAllowed S

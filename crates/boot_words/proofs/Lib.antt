@@ -14,3 +14,4 @@ pub mod Quiet
 pub mod Banking
 pub mod Freezing
 pub mod Reporting
+pub mod Looking

@@ -18,7 +18,7 @@ use Rattle.run_words.specs.Words.{Words, IsRunOf}
 use Rattle.boot_words.specs.Rule.{BootView, AllOf, BootRule, Fits, frame_count, frames_in, past_of, stock_base, stocks_in, words_in}
 use Rattle.boot_words.proofs.Growing.{all_fit_later}
 use Rattle.boot_words.proofs.Lifting.{IsAt}
-use Rattle.boot_words.proofs.Seats.{counts_same}
+use Rattle.boot_words.proofs.Seats.{all_set, counts_same}
 
 base_high : (a : ℕ) → a ≤ 16 * ((a + 15) / 16)
 base_high a = omega arith
@@ -69,3 +69,20 @@ stock_step zone words seats k id i x old new e at frames counts own unlocked fit
   one_past = λ number. counts_same seats id old new at counts number (k.one_past number);
   fits = all_fit_later k.run seats id old new e at k.one_past own (λ locks. absurd (true≢false (sym locks ∙ unlocked))) k.fits fits;
 }
+
+-- A seat's step on word i of the stocks that is no step of the run: the word stays, and the seat keeps its pasts.
+pub stock_kept : (zone : Zone) (words : List ℕ) (seats : List (List BootView)) (k : BootRule zone words seats) (id i x : ℕ) (old new : List BootView)
+    → get_elem? seats id ≡ some old → frames_in new ≡ frames_in old → ((q : ℕ) → sum_over (past_of q) new ≡ sum_over (past_of q) old)
+    → AllOf (Fits k.run) new → StockRule zone.cpus (drop (stock_base zone) (set words (stock_base zone + i) x)) (map stocks_in (set seats id new))
+    → x ≡ slice_index words (stock_base zone + i) → BootRule zone (set words (stock_base zone + i) x) (set seats id new)
+stock_kept zone words seats k id i x old new at frames counts fits rule same =
+    let j = stock_base zone + i in
+    let words_same : set words j x ≡ words = ap (set words j) same ∙ set-get_or words j 0 in record {
+      run = k.run;
+      is = subst (λ (l : List ℕ). IsRunOf zone (words_in zone l) k.run) (sym words_same) k.is;
+      frames = subst (λ (w : List ℕ × List (List FrameView)). ReferenceRule zone.frames zone.cpus w.0 w.1)
+          (λ n. (sym (ap (λ (l : List ℕ). (words_in zone l).frames) words_same) n, sym (frames_stay seats id old new at frames) n)) k.frames;
+      stocks = rule;
+      one_past = λ number. counts_same seats id old new at counts number (k.one_past number);
+      fits = all_set (AllOf (Fits k.run)) seats id new fits k.fits;
+    }

@@ -24,7 +24,7 @@ use Rattle.boot_words.specs.Held.{HoldsLock, MadeUnderLock, joined}
 use Rattle.boot_words.proofs.Growing.{grown, grown_fits}
 use Rattle.boot_words.proofs.Lifting.{IsAt, lift}
 use Rattle.boot_words.proofs.Seats.{all_at}
-use Rattle.boot_words.proofs.Wraps.{IsKind, all_fit, no_pasts, picked, skipped}
+use Rattle.boot_words.proofs.Wraps.{IsKind, all_fit, picked, same_pasts, skipped}
 
 -- ---- what the holder sees at the end of the run
 pub shows_now : (zone : Zone) (z c : Past) (local : State) (run : Run) → HoldsLock zone z c local → OthersFollow z.number z.seen run → OthersFollow c.number c.seen run
@@ -69,11 +69,6 @@ module _ {S V W : Type 0} (zone : Zone) (wrap : V → BootView) (mine : List Boo
     → 1 ≤ sum_over (past_of e.0.seat) old → is_of_lock e.0.action ≡ false → AllOf (Fits (k.run ++ e ∷ [])) new
     → holds (record { words = front (set s.words j x); homes = homes; views = map mine (set s.views id new) })
     → IsRunOf zone (change (words_in zone s.words) x) (k.run ++ e ∷ []) → BootRule zone (set s.words j x) (set s.views id new)) where
-  same_counts : (z c : Past) (before after : Run) (q : ℕ) (e : Step × Answer) (views later : List V)
-      → sum_over (past_of q) (joined wrap (grown z before e) (grown c after e) later) ≡ sum_over (past_of q) (joined wrap z c views)
-  same_counts z c before after q e views later = ap (λ m. past_of q (OfRun z) + (past_of q (OfRun c) + m))
-      (no_pasts wrap mine other kind_is q later ∙ sym (no_pasts wrap mine other kind_is q views))
-
   -- in this state of the table
   pub under_lock_at : (slots id : ℕ) (F : ℕ → ℕ) (z c : Past) (local : State) (views : List V) (made_step : Step) (answer : Answer)
       (kind : ℕ → Me S (List V) → Type 0) → HoldsLock zone z c local → (made_step.seat ≡ 0) ⊎ (made_step.seat ≡ c.number)
@@ -89,7 +84,7 @@ module _ {S V W : Type 0} (zone : Zone) (wrap : V → BootView) (mine : List Boo
       let old = joined wrap z c views in
       let found = slice_index s.words j in
       let own_allows : Allows holds slots id (mine old, []) i F kind =
-      subst (λ (l : List V). Allows holds slots id (l, []) i F kind) (sym (picked wrap mine other kind_is z c views)) allows in
+      subst (λ (l : List V). Allows holds slots id (l, []) i F kind) (sym (picked wrap mine other kind_is (z ∷ c ∷ []) views)) allows in
       let lifted = lift holds front mine slots id i j old F kind own_allows is_at s (has s k) homes at small in
       let all = all_at (AllOf (Fits k.run)) s.views id old at k.fits in
       let zone_fits : OthersFollow z.number z.seen k.run = all.0.goes in
@@ -106,10 +101,10 @@ module _ {S V W : Type 0} (zone : Zone) (wrap : V → BootView) (mine : List Boo
         new,
         lifted.1,
         lifted.2,
-        stored s k (homes_after s.homes [] lifted.1) id (F found) old new e at (skipped wrap mine other kind_is zone_past cpu_past lifted.0 ∙ sym (skipped wrap mine other kind_is z c views)) (λ q. same_counts z c zone_fits.rest fits.rest q e views lifted.0)
+        stored s k (homes_after s.homes [] lifted.1) id (F found) old new e at (skipped wrap mine other kind_is (zone_past ∷ cpu_past ∷ []) lifted.0 ∙ sym (skipped wrap mine other kind_is (z ∷ c ∷ []) views)) (λ q. same_pasts wrap mine other kind_is q (z ∷ c ∷ []) views lifted.0)
             (has_past z c made_step.seat (map wrap views) has_lock.zone_is own) unlocked
             (grown_fits k.run z e zone_fits, (grown_fits k.run c e fits, all_fit wrap mine other kind_is (k.run ++ e ∷ []) lifted.0))
-            (lifted.3 new (picked wrap mine other kind_is zone_past cpu_past lifted.0)) now,
+            (lifted.3 new (picked wrap mine other kind_is (zone_past ∷ cpu_past ∷ []) lifted.0)) now,
         record {
           views = lifted.0;
           zone_past = zone_past;

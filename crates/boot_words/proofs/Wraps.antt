@@ -1,5 +1,5 @@
 -- Views of one kind among those of a seat.
-use Rattle.std.proofs.Common.{◌≡◌, ℕ, ◌+◌, List, [], ◌∷◌, map, refl, ap, ◌∙◌}
+use Rattle.std.proofs.Common.{◌≡◌, ℕ, ◌+◌, List, [], ◌∷◌, ◌++◌, map, refl, ap, sym, ◌∙◌}
 use Rattle.seat_sums.specs.Totals.{sum_over}
 use Rattle.frame_word.specs.declared.view.FrameView.{FrameView}
 use Rattle.stock_word.specs.declared.view.StockView.{StockView}
@@ -42,10 +42,22 @@ module _ {V W : Type 0} (wrap : V → BootView) (mine : List BootView → List V
   all_fit run [] = tt
   all_fit run (v ∷ views) = (is.fits run v, all_fit run views)
 
-  -- the same behind two pasts
-  pub picked : (z c : Past) (views : List V) → mine (OfRun z ∷ OfRun c ∷ map wrap views) ≡ views
-  picked z c views = (is.pasts_skip z (OfRun c ∷ map wrap views)).0 ∙ (is.pasts_skip c (map wrap views)).0 ∙ in_wrap views
+  -- ---- the same behind pasts
+  pub picked : (pasts : List Past) (views : List V) → mine (map OfRun pasts ++ map wrap views) ≡ views
+  picked [] views = in_wrap views
+  picked (p ∷ ps) views = (is.pasts_skip p (map OfRun ps ++ map wrap views)).0 ∙ picked ps views
 
-  -- and the views of the other kind are those of none
-  pub skipped : (z c : Past) (views : List V) → other (OfRun z ∷ OfRun c ∷ map wrap views) ≡ other []
-  skipped z c views = (is.pasts_skip z (OfRun c ∷ map wrap views)).1 ∙ (is.pasts_skip c (map wrap views)).1 ∙ is.skips views
+  -- the views of the other kind are those of none
+  pub skipped : (pasts : List Past) (views : List V) → other (map OfRun pasts ++ map wrap views) ≡ other []
+  skipped [] views = is.skips views
+  skipped (p ∷ ps) views = (is.pasts_skip p (map OfRun ps ++ map wrap views)).1 ∙ skipped ps views
+
+  pub same_pasts : (q : ℕ) (pasts : List Past) (views later : List V)
+      → sum_over (past_of q) (map OfRun pasts ++ map wrap later) ≡ sum_over (past_of q) (map OfRun pasts ++ map wrap views)
+  same_pasts q [] views later = no_pasts q later ∙ sym (no_pasts q views)
+  same_pasts q (p ∷ ps) views later = ap (λ n. past_of q (OfRun p) + n) (same_pasts q ps views later)
+
+  pub still_fit : (run : Run) (pasts : List Past) (views later : List V) → AllOf (Fits run) (map OfRun pasts ++ map wrap views)
+      → AllOf (Fits run) (map OfRun pasts ++ map wrap later)
+  still_fit run [] views later all = all_fit run later
+  still_fit run (p ∷ ps) views later all = (all.0, still_fit run ps views later all.1)
