@@ -1,41 +1,39 @@
 -- The rule of the one table after an atomic step on a frame's word.
-use Rattle.std.proofs.Common.{◌≡◌, ℕ, ◌<◌, ◌≤◌, List, [], ◌∷◌, ◌++◌, map, set, take, ap, sym, ◌∙◌, subst, arith}
+use Rattle.std.proofs.Common.{◌≡◌, ℕ, false, ◌<◌, ◌≤◌, List, [], ◌∷◌, ◌++◌, map, set, take, ap, sym, ◌∙◌, subst}
 use Rattle.std.specs.Prelude.{slice_index}
 use Rattle.std.proofs.lemmas.List.{set-get_or}
+use Rattle.std.proofs.lemmas.Bool.{true≢false}
 use mathlib.Core.Option.{some}
 use lib.ListN.{get_elem?}
-use Rattle.seat_sums.specs.Totals.{sum_over, total_over}
+use Rattle.seat_sums.specs.Totals.{sum_over}
 use Rattle.frame_word.specs.ReferenceRule.{ReferenceRule}
 use Rattle.stock_word.specs.declared.view.StockView.{StockView}
 use Rattle.stock_word.specs.StockRule.{StockRule}
 use Rattle.step_rules.specs.declared.step.Step.{Step}
 use Rattle.step_rules.specs.declared.step.Answer.{Answer}
 use Rattle.step_rules.specs.State.{Zone}
+use Rattle.step_rules.specs.Laws.{is_of_lock}
 use Rattle.run_words.specs.Words.{Words, IsRunOf, with_frame_word}
 use Rattle.boot_words.specs.Rule.{BootView, AllOf, BootRule, Fits, frame_count, frames_in, past_of, stocks_in, words_in}
-use Rattle.boot_words.proofs.Growing.{other_fits}
+use Rattle.boot_words.proofs.Growing.{all_fit_later}
 use Rattle.boot_words.proofs.Parts.{stocks_stay, words_set}
-use Rattle.boot_words.proofs.Seats.{all_set, counts_same, seats_set}
-
-pub one_whole : (a b : ℕ) → a ≤ 1 → 1 ≤ b → a ≤ b
-one_whole a b h k = omega arith
+use Rattle.boot_words.proofs.Seats.{all_set, counts_same}
 
 -- A seat makes a step of the run on the word of frame f. It has the past of the step's seat, and its new views fit the
 -- longer run.
 pub frame_step : (zone : Zone) (words : List ℕ) (seats : List (List BootView)) (k : BootRule zone words seats) (id f x : ℕ) (old new : List BootView) (e : Step × Answer)
     → f < frame_count zone → get_elem? seats id ≡ some old → stocks_in new ≡ stocks_in old → ((q : ℕ) → sum_over (past_of q) new ≡ sum_over (past_of q) old)
-    → 1 ≤ sum_over (past_of e.0.seat) old → AllOf (Fits (k.run ++ e ∷ [])) new
+    → 1 ≤ sum_over (past_of e.0.seat) old → is_of_lock e.0.action ≡ false → AllOf (Fits (k.run ++ e ∷ [])) new
     → ReferenceRule zone.frames zone.cpus (take (frame_count zone) (set words f x)) (map frames_in (set seats id new))
     → IsRunOf zone (with_frame_word (words_in zone words) f x) (k.run ++ e ∷ []) → BootRule zone (set words f x) (set seats id new)
-frame_step zone words seats k id f x old new e inside at stocks counts own fits rule now = record {
+frame_step zone words seats k id f x old new e inside at stocks counts own unlocked fits rule now = record {
   run = k.run ++ e ∷ [];
   is = subst (λ (w : Words). IsRunOf zone w (k.run ++ e ∷ [])) (sym (words_set zone f x inside words)) now;
   frames = rule;
   stocks = subst (λ (w : List ℕ × List (List StockView)). StockRule zone.cpus w.0 w.1)
       (λ i. (sym (ap (λ (w : Words). w.stocks) (words_set zone f x inside words)) i, sym (stocks_stay seats id old new at stocks) i)) k.stocks;
   one_past = λ number. counts_same seats id old new at counts number (k.one_past number);
-  fits = seats_set (Fits k.run) (Fits (k.run ++ e ∷ [])) (past_of e.0.seat) (other_fits k.run e) seats id old new at
-      (one_whole (total_over (past_of e.0.seat) seats) (sum_over (past_of e.0.seat) old) (k.one_past e.0.seat) own) k.fits fits;
+  fits = all_fit_later k.run seats id old new e at k.one_past own (λ locks. absurd (true≢false (sym locks ∙ unlocked))) k.fits fits;
 }
 
 -- A seat's step on the word of frame f that is no step of the run: the word stays, and the seat keeps its pasts.

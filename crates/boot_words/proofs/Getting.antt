@@ -60,7 +60,8 @@ look_is_allowed {S} zone slots id f v p ne inside legal s k homes at small =
     let lifted = lift (rule_of {S = S} zone.frames zone.cpus) (take (frame_count zone)) frames_in slots id f f old (λ m. m)
     (by_one looks (step slots f 0 0 none) (v ∷ [], [])) (looks_at zone.frames zone.cpus slots id v f inside) (frame_is_at zone f (count_low zone f inside)) s k.frames homes at small in
     let made = lifted.4 in
-    let fits : OthersFollow q p.seen k.run = (all_at (AllOf (Fits k.run)) s.views id old at k.fits).0 in
+    let known = (all_at (AllOf (Fits k.run)) s.views id old at k.fits).0 in
+    let fits : OthersFollow q p.seen k.run = known.goes in
     let legal_now : is_legal (state_of zone k.run) q (Get f) ≡ true = fast_legality_lasts zone p.seen k.run q (Get f) ne k.is.legal fits tt ∙ legal in
     let words = words_in zone s.words in
     let is : word_at words f ≡ n = frame_reads zone f (count_low zone f inside) s.words in
@@ -76,7 +77,7 @@ look_is_allowed {S} zone slots id f v p ne inside legal s k homes at small =
       new,
       lifted.1,
       lifted.2,
-      frame_step zone s.words s.views k id f n old new e (count_low zone f inside) at refl (λ m. refl) (own_past p (OfFrames v)) (grown_fits k.run p e fits, (tt, tt))
+      frame_step zone s.words s.views k id f n old new e (count_low zone f inside) at refl (λ m. refl) (own_past p (OfFrames v)) refl (grown_fits k.run p e fits, (tt, tt))
           (lifted.3 new (sym (ap (λ (m : Me S (List FrameView)). m.0) made.1)))
           (subst (λ (w : Words). IsRunOf zone w (k.run ++ e ∷ [])) (sym same) now),
       record {
@@ -94,7 +95,7 @@ look_is_allowed {S} zone slots id f v p ne inside legal s k homes at small =
             new,
             lifted.1,
             lifted.2,
-            frame_kept zone s.words s.views k id f n old new at refl (λ m. refl) (fits, (tt, tt))
+            frame_kept zone s.words s.views k id f n old new at refl (λ m. refl) (known, (tt, tt))
                 (lifted.3 new (sym (ap (λ (m : Me S (List FrameView)). m.0) made.1))) refl,
             record {
               view = made.0;
@@ -118,7 +119,8 @@ add_is_allowed {S} zone slots id f seen v p ne inside low high saw legal s k hom
     let lifted = lift (rule_of {S = S} zone.frames zone.cpus) (take (frame_count zone)) frames_in slots id f f old (λ m. either (eqb m seen) (seen + 1) m)
     (by_one adds (step slots f seen (seen + 1) none) (v ∷ [], [])) (adds_at zone.frames zone.cpus slots id v f inside seen low high saw) (frame_is_at zone f (count_low zone f inside)) s k.frames homes at small in
     let made = lifted.4 in
-    let fits : OthersFollow q p.seen k.run = (all_at (AllOf (Fits k.run)) s.views id old at k.fits).0 in
+    let known = (all_at (AllOf (Fits k.run)) s.views id old at k.fits).0 in
+    let fits : OthersFollow q p.seen k.run = known.goes in
     let legal_now : is_legal (state_of zone k.run) q (Get f) ≡ true = fast_legality_lasts zone p.seen k.run q (Get f) ne k.is.legal fits tt ∙ legal in
     let words = words_in zone s.words in
     let is : word_at words f ≡ n = frame_reads zone f (count_low zone f inside) s.words in
@@ -137,7 +139,7 @@ add_is_allowed {S} zone slots id f seen v p ne inside low high saw legal s k hom
       grew,
       lifted.1,
       lifted.2,
-      frame_step zone s.words s.views k id f x old grew e (count_low zone f inside) at refl (λ m. refl) (own_past p (OfFrames v)) (grown_fits k.run p e fits, (tt, tt))
+      frame_step zone s.words s.views k id f x old grew e (count_low zone f inside) at refl (λ m. refl) (own_past p (OfFrames v)) refl (grown_fits k.run p e fits, (tt, tt))
           (lifted.3 grew (sym (ap (λ (m : Me S (List FrameView)). m.0) made.1)))
           (subst (λ (m : ℕ). IsRunOf zone (with_frame_word words f m) (k.run ++ e ∷ [])) (ap (λ m. m + 1) found ∙ word) now),
       record {
@@ -153,7 +155,7 @@ add_is_allowed {S} zone slots id f seen v p ne inside low high saw legal s k hom
       stays,
       lifted.1,
       lifted.2,
-      frame_kept zone s.words s.views k id f x old stays at refl (λ m. refl) (fits, (tt, tt))
+      frame_kept zone s.words s.views k id f x old stays at refl (λ m. refl) (known, (tt, tt))
           (lifted.3 stays (sym (ap (λ (m : Me S (List FrameView)). m.0) made.1))) (sym word),
       record {
         view = made.0;

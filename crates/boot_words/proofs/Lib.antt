@@ -1,12 +1,17 @@
 pub mod Lifting
 pub mod Seats
 pub mod Parts
+pub mod Wraps
 pub mod Growing
 pub mod FrameSteps
 pub mod Putting
 pub mod Getting
 pub mod StockSteps
 pub mod Prepaying
+pub mod UnderLock
 pub mod Storing
 pub mod Quiet
 pub mod Banking
+pub mod Freezing
+pub mod Reporting
+pub mod Looking

@@ -62,7 +62,7 @@ consume_is_allowed {S} zone slots id g n v p ne same high last legal s k homes a
     (stock_is_at zone i) s k.stocks homes at small in
     let made = lifted.4 in
     let words = words_in zone s.words in
-    let fits : OthersFollow q p.seen k.run = (all_at (AllOf (Fits k.run)) s.views id old at k.fits).0 in
+    let fits : OthersFollow q p.seen k.run = (all_at (AllOf (Fits k.run)) s.views id old at k.fits).0.goes in
     let legal_now : is_legal (state_of zone k.run) q (Consume g) ≡ true = fast_legality_lasts zone p.seen k.run q (Consume g) ne k.is.legal fits tt ∙ legal in
     let stock = cpu_stock zone.cpus words.stocks (map stocks_in s.views) k.stocks words.stocks id v (at_map stocks_in s.views id old at) low most in
     let fit : HasWord (HeldBy g (n + 1)) = subst HasWord last stock.last_word in
@@ -71,7 +71,7 @@ consume_is_allowed {S} zone slots id g n v p ne same high last legal s k homes a
     let new : Answer → List BootView = λ answer. OfRun (grown p fits.rest (made_step, answer)) ∷ OfStocks made.0 ∷ [] in
     let grew : (answer : Answer) → GrewBy p made_step answer (grown p fits.rest (made_step, answer)) = λ answer. record { between = fits.rest; others = fits.others; number = refl; seen = refl } in
     let rule : (answer : Answer) → IsRunOf zone (with_stocks_at words i x) (k.run ++ (made_step, answer) ∷ []) → BootRule zone (set s.words j x) (set s.views id (new answer))
-    = λ answer now. stock_step zone s.words s.views k id i x old (new answer) (made_step, answer) at refl (λ m. refl) (own_past p (OfStocks v))
+    = λ answer now. stock_step zone s.words s.views k id i x old (new answer) (made_step, answer) at refl (λ m. refl) (own_past p (OfStocks v)) refl
     (grown_fits k.run p (made_step, answer) fits, (tt, tt)) (lifted.3 (new answer) (sym (ap (λ (m : Me S (List StockView)). m.0) made.1))) now in
     let F : ℕ → Type 0 = λ word. word ≡ x → (w : List BootView) × (a : Act S) × Valid s.homes [] a × BootRule zone (set s.words j x) (set s.views id w)
     × TakesByOne S v p g n found (w, carried_after [] a) in
@@ -126,7 +126,7 @@ credit_is_allowed {S} zone slots id f g n v p ne same high last fresh legal s k 
     (stock_is_at zone i) s k.stocks homes at small in
     let made = lifted.4 in
     let words = words_in zone s.words in
-    let fits : OthersFollow q p.seen k.run = (all_at (AllOf (Fits k.run)) s.views id old at k.fits).0 in
+    let fits : OthersFollow q p.seen k.run = (all_at (AllOf (Fits k.run)) s.views id old at k.fits).0.goes in
     let legal_now : is_legal (state_of zone k.run) q (Credit f) ≡ true = fast_legality_lasts zone p.seen k.run q (Credit f) ne k.is.legal fits tt ∙ legal in
     let stock = cpu_stock zone.cpus words.stocks (map stocks_in s.views) k.stocks words.stocks id v (at_map stocks_in s.views id old at) low most in
     let fit : HasWord (HeldBy g n) = subst HasWord last stock.last_word in
@@ -135,7 +135,7 @@ credit_is_allowed {S} zone slots id f g n v p ne same high last fresh legal s k 
     let new : Answer → List BootView = λ answer. OfRun (grown p fits.rest (made_step, answer)) ∷ OfStocks made.0 ∷ [] in
     let grew : (answer : Answer) → GrewBy p made_step answer (grown p fits.rest (made_step, answer)) = λ answer. record { between = fits.rest; others = fits.others; number = refl; seen = refl } in
     let rule : (answer : Answer) → IsRunOf zone (with_stocks_at words i x) (k.run ++ (made_step, answer) ∷ []) → BootRule zone (set s.words j x) (set s.views id (new answer))
-    = λ answer now. stock_step zone s.words s.views k id i x old (new answer) (made_step, answer) at refl (λ m. refl) (own_past p (OfStocks v))
+    = λ answer now. stock_step zone s.words s.views k id i x old (new answer) (made_step, answer) at refl (λ m. refl) (own_past p (OfStocks v)) refl
     (grown_fits k.run p (made_step, answer) fits, (tt, tt)) (lifted.3 (new answer) (sym (ap (λ (m : Me S (List StockView)). m.0) made.1))) now in
     let F : ℕ → Type 0 = λ word. word ≡ x → (w : List BootView) × (a : Act S) × Valid s.homes [] a × BootRule zone (set s.words j x) (set s.views id w)
     × BacksByOne S v p f g n found (w, carried_after [] a) in

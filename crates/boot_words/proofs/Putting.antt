@@ -30,7 +30,7 @@ use Rattle.boot_words.proofs.Parts.{count_low, frame_is_at, frame_reads}
 use Rattle.boot_words.proofs.Seats.{all_at}
 
 -- ---- the answer by the word
-less_one : (x : ℕ) → 1 ≤ x → x < 18446744073709551616 → (x + (2 ^ 64 - 1)) % 2 ^ 64 ≡ x - 1
+pub less_one : (x : ℕ) → 1 ≤ x → x < 18446744073709551616 → (x + (2 ^ 64 - 1)) % 2 ^ 64 ≡ x - 1
 less_one x a h = omega arith
 
 minus_one : (n : ℕ) → n ≡ 1 → n - 1 ≡ 0
@@ -42,7 +42,7 @@ above_one n low ne = omega (arith, low, ne)
 and_one : (n : ℕ) → 1 ≤ n → n ≡ (n - 1) + 1
 and_one n low = omega arith
 
-put_changes : (zone : Zone) (words : Words) (seat f n : ℕ) → word_at words f ≡ n → 1 ≤ n
+pub put_changes : (zone : Zone) (words : Words) (seat f n : ℕ) → word_at words f ≡ n → 1 ≤ n
     → ChangesWords zone words seat (Put f) (put_answer n) (with_frame_word words f (n - 1))
 put_changes zone words seat f n is some = elim (cases_eq n 1) [
   | inl one ↦
@@ -54,7 +54,7 @@ put_changes zone words seat f n is some = elim (cases_eq n 1) [
       (record { some = above_one n some many; found = is ∙ and_one n some; later_is = refl })
 ]
 
-at_least_one : (a b : ℕ) → 1 ≤ a → a ≤ b → 1 ≤ b
+pub at_least_one : (a b : ℕ) → 1 ≤ a → a ≤ b → 1 ≤ b
 at_least_one a b h k = omega arith
 
 own_sum : (a b : ℕ) → a ≡ 1 → 1 ≤ a + (b + 0)
@@ -73,7 +73,7 @@ put_is_allowed {S} zone slots id f v p ne inside some legal s k homes at small =
     (by_one puts (step slots f 1 0 none) (v ∷ [], [])) (puts_at zone.frames zone.cpus slots id v f inside some) (frame_is_at zone f (count_low zone f inside)) s k.frames homes at small in
     let made = lifted.4 in
     let positive : 1 ≤ n = at_least_one (note_of v f).references n some made.2.0 in
-    let fits : OthersFollow q p.seen k.run = (all_at (AllOf (Fits k.run)) s.views id old at k.fits).0 in
+    let fits : OthersFollow q p.seen k.run = (all_at (AllOf (Fits k.run)) s.views id old at k.fits).0.goes in
     let legal_now : is_legal (state_of zone k.run) q (Put f) ≡ true = fast_legality_lasts zone p.seen k.run q (Put f) ne k.is.legal fits tt ∙ legal in
     let words = words_in zone s.words in
     let made_step : Step = record { seat = q; action = Put f } in
@@ -86,7 +86,7 @@ put_is_allowed {S} zone slots id f v p ne inside some legal s k homes at small =
       new,
       lifted.1,
       lifted.2,
-      frame_step zone s.words s.views k id f x old new e (count_low zone f inside) at refl (λ m. refl) (own_past p (OfFrames v)) (grown_fits k.run p e fits, (tt, tt))
+      frame_step zone s.words s.views k id f x old new e (count_low zone f inside) at refl (λ m. refl) (own_past p (OfFrames v)) refl (grown_fits k.run p e fits, (tt, tt))
           (lifted.3 new (sym (ap (λ (m : Me S (List FrameView)). m.0) made.1)))
           (subst (λ (m : ℕ). IsRunOf zone (with_frame_word words f m) (k.run ++ e ∷ [])) (sym (less_one n positive small)) now),
       record {

@@ -1,9 +1,9 @@
 -- A plain step under the lock, made by a load of a word that nobody writes.
-use Rattle.std.proofs.Common.{◌≡◌, ℕ, List, [], ◌∷◌, ◌++◌, set, refl, sym, subst}
+use Rattle.std.proofs.Common.{◌≡◌, ℕ, List, [], ◌∷◌, ◌++◌, set, refl, sym, subst, inl}
 use Rattle.std.specs.Prelude.{slice_index}
 use Rattle.std.proofs.lemmas.List.{set-get_or}
 use Rattle.atomic_table.specs.Table.{keeps}
-use Rattle.seat_sums.specs.Totals.{sum_over, total_over}
+use Rattle.seat_sums.specs.Totals.{sum_over}
 use Rattle.frame_word.specs.declared.view.FrameView.{FrameView}
 use Rattle.frame_word.specs.ReferenceRule.{ReferenceRule}
 use Rattle.stock_word.specs.declared.view.StockView.{StockView}
@@ -22,14 +22,13 @@ use Rattle.step_rules.proofs.Runs.{sound_run}
 use Rattle.run_words.specs.Runs.{OthersFollow}
 use Rattle.run_words.specs.Steps.{IsPlain}
 use Rattle.run_words.proofs.Plain.{plain_steps_keep_words}
-use Rattle.boot_words.specs.Rule.{AllOf, BootRule, Fits, past_of, stock_base, words_in}
+use Rattle.boot_words.specs.Rule.{OfFrames, AllOf, BootRule, Fits, past_of, stock_base, words_in}
 use Rattle.boot_words.specs.Held.{PlainIsAllowed, joined}
-use Rattle.boot_words.proofs.Growing.{grown, grown_fits, other_fits}
-use Rattle.boot_words.proofs.FrameSteps.{one_whole}
+use Rattle.boot_words.proofs.Growing.{all_fit_later, grown, grown_fits}
 use Rattle.boot_words.proofs.Parts.{stocks_stay}
-use Rattle.boot_words.proofs.Seats.{all_at, counts_same, seats_set}
+use Rattle.boot_words.proofs.Seats.{all_at, counts_same}
 use Rattle.boot_words.proofs.StockSteps.{frames_stay}
-use Rattle.boot_words.proofs.Storing.{has_past, legal_now, same_counts, same_seen, shows_now}
+use Rattle.boot_words.proofs.UnderLock.{has_past, legal_now, same_seen, shows_now}
 
 plain_counted : (s : State) (action : Action) (answer : Answer) → IsPlain action → IsCounted s action answer
 plain_counted s Lock answer plain = tt
@@ -53,10 +52,10 @@ pub plain_is_allowed : {S : Type 0} → PlainIsAllowed S
 plain_is_allowed {S} zone slots id z c local made_step answer holds plain is_step s k homes at small =
     let j = stock_base zone in
     let n = slice_index s.words j in
-    let old = joined z c [] in
+    let old = joined OfFrames z c [] in
     let all = all_at (AllOf (Fits k.run)) s.views id old at k.fits in
-    let zone_fits : OthersFollow z.number z.seen k.run = all.0 in
-    let fits : OthersFollow c.number c.seen k.run = all.1.0 in
+    let zone_fits : OthersFollow z.number z.seen k.run = all.0.goes in
+    let fits : OthersFollow c.number c.seen k.run = all.1.0.goes in
     let state = state_of zone k.run in
     let e : Step × Answer = (made_step, answer) in
     let shows = shows_now zone z c local k.run holds zone_fits fits k.is.legal in
@@ -69,8 +68,8 @@ plain_is_allowed {S} zone slots id z c local made_step answer holds plain is_ste
     let now = plain_steps_keep_words zone (words_in zone s.words) k.run made_step answer k.is plain ok in
     let zone_past = grown z zone_fits.rest e in
     let cpu_past = grown c fits.rest e in
-    let new = joined zone_past cpu_past [] in
-    let counts : (q : ℕ) → sum_over (past_of q) new ≡ sum_over (past_of q) old = λ q. same_counts z c zone_fits.rest fits.rest q e [] [] in
+    let new = joined OfFrames zone_past cpu_past [] in
+    let counts : (q : ℕ) → sum_over (past_of q) new ≡ sum_over (past_of q) old = λ q. refl in
     let same : set s.words j n ≡ s.words = set-get_or s.words j 0 in
     let own = has_past z c made_step.seat [] holds.zone_is is_step.own in
     let later : BootRule zone s.words (set s.views id new) = record {
@@ -79,8 +78,7 @@ plain_is_allowed {S} zone slots id z c local made_step answer holds plain is_ste
       frames = subst (λ (l : List (List FrameView)). ReferenceRule zone.frames zone.cpus (words_in zone s.words).frames l) (sym (frames_stay s.views id old new at refl)) k.frames;
       stocks = subst (λ (l : List (List StockView)). StockRule zone.cpus (words_in zone s.words).stocks l) (sym (stocks_stay s.views id old new at refl)) k.stocks;
       one_past = λ number. counts_same s.views id old new at counts number (k.one_past number);
-      fits = seats_set (Fits k.run) (Fits (k.run ++ e ∷ [])) (past_of made_step.seat) (other_fits k.run e) s.views id old new at
-          (one_whole (total_over (past_of made_step.seat) s.views) (sum_over (past_of made_step.seat) old) (k.one_past made_step.seat) own) k.fits
+      fits = all_fit_later k.run s.views id old new e at k.one_past own (λ locks. has_past z c 0 [] holds.zone_is (inl refl)) k.fits
           (grown_fits k.run z e zone_fits, (grown_fits k.run c e fits, tt));
     } in (
       new,
@@ -95,6 +93,6 @@ plain_is_allowed {S} zone slots id z c local made_step answer holds plain is_ste
         made = tt;
         zone_grew = record { between = zone_fits.rest; others = zone_fits.others; number = refl; seen = refl };
         cpu_grew = record { between = fits.rest; others = fits.others; number = refl; seen = refl };
-        same = same_seen zone z c local k.run e holds zone_fits fits;
+        same = same_seen z c k.run e zone_fits fits;
       },
     )

@@ -1,23 +1,24 @@
 -- The rule of the one table after an atomic step on a word of a stock.
-use Rattle.std.proofs.Common.{◌≡◌, ℕ, ◌+◌, ◌*◌, ◌/◌, ◌≤◌, List, [], ◌∷◌, ◌++◌, drop, map, set, ap, sym, ◌∙◌, subst, arith}
+use Rattle.std.proofs.Common.{◌≡◌, ℕ, false, ◌+◌, ◌*◌, ◌/◌, ◌≤◌, List, [], ◌∷◌, ◌++◌, drop, map, set, ap, sym, ◌∙◌, subst, arith}
 use Rattle.std.specs.Prelude.{slice_index}
 use Rattle.std.proofs.lemmas.List.{drop-set-add, get_or-drop, map-set, set-get_or, take-set-le}
+use Rattle.std.proofs.lemmas.Bool.{true≢false}
 use mathlib.Core.Option.{some}
 use lib.ListN.{get_elem?}
 use Rattle.atomic_table.proofs.Lists.{at_map, set_again}
-use Rattle.seat_sums.specs.Totals.{sum_over, total_over}
+use Rattle.seat_sums.specs.Totals.{sum_over}
 use Rattle.frame_word.specs.declared.view.FrameView.{FrameView}
 use Rattle.frame_word.specs.ReferenceRule.{ReferenceRule}
 use Rattle.stock_word.specs.StockRule.{StockRule}
 use Rattle.step_rules.specs.declared.step.Step.{Step}
 use Rattle.step_rules.specs.declared.step.Answer.{Answer}
 use Rattle.step_rules.specs.State.{Zone}
+use Rattle.step_rules.specs.Laws.{is_of_lock}
 use Rattle.run_words.specs.Words.{Words, IsRunOf}
 use Rattle.boot_words.specs.Rule.{BootView, AllOf, BootRule, Fits, frame_count, frames_in, past_of, stock_base, stocks_in, words_in}
-use Rattle.boot_words.proofs.Growing.{other_fits}
-use Rattle.boot_words.proofs.FrameSteps.{one_whole}
+use Rattle.boot_words.proofs.Growing.{all_fit_later}
 use Rattle.boot_words.proofs.Lifting.{IsAt}
-use Rattle.boot_words.proofs.Seats.{counts_same, seats_set}
+use Rattle.boot_words.proofs.Seats.{all_set, counts_same}
 
 base_high : (a : ℕ) → a ≤ 16 * ((a + 15) / 16)
 base_high a = omega arith
@@ -56,16 +57,32 @@ frames_stay seats id old new at same =
 -- longer run.
 pub stock_step : (zone : Zone) (words : List ℕ) (seats : List (List BootView)) (k : BootRule zone words seats) (id i x : ℕ) (old new : List BootView) (e : Step × Answer)
     → get_elem? seats id ≡ some old → frames_in new ≡ frames_in old → ((q : ℕ) → sum_over (past_of q) new ≡ sum_over (past_of q) old)
-    → 1 ≤ sum_over (past_of e.0.seat) old → AllOf (Fits (k.run ++ e ∷ [])) new
+    → 1 ≤ sum_over (past_of e.0.seat) old → is_of_lock e.0.action ≡ false → AllOf (Fits (k.run ++ e ∷ [])) new
     → StockRule zone.cpus (drop (stock_base zone) (set words (stock_base zone + i) x)) (map stocks_in (set seats id new))
     → IsRunOf zone (with_stocks_at (words_in zone words) i x) (k.run ++ e ∷ []) → BootRule zone (set words (stock_base zone + i) x) (set seats id new)
-stock_step zone words seats k id i x old new e at frames counts own fits rule now = record {
+stock_step zone words seats k id i x old new e at frames counts own unlocked fits rule now = record {
   run = k.run ++ e ∷ [];
   is = subst (λ (w : Words). IsRunOf zone w (k.run ++ e ∷ [])) (sym (stock_words_set zone i x words)) now;
   frames = subst (λ (w : List ℕ × List (List FrameView)). ReferenceRule zone.frames zone.cpus w.0 w.1)
       (λ j. (sym (ap (λ (w : Words). w.frames) (stock_words_set zone i x words)) j, sym (frames_stay seats id old new at frames) j)) k.frames;
   stocks = rule;
   one_past = λ number. counts_same seats id old new at counts number (k.one_past number);
-  fits = seats_set (Fits k.run) (Fits (k.run ++ e ∷ [])) (past_of e.0.seat) (other_fits k.run e) seats id old new at
-      (one_whole (total_over (past_of e.0.seat) seats) (sum_over (past_of e.0.seat) old) (k.one_past e.0.seat) own) k.fits fits;
+  fits = all_fit_later k.run seats id old new e at k.one_past own (λ locks. absurd (true≢false (sym locks ∙ unlocked))) k.fits fits;
 }
+
+-- A seat's step on word i of the stocks that is no step of the run: the word stays, and the seat keeps its pasts.
+pub stock_kept : (zone : Zone) (words : List ℕ) (seats : List (List BootView)) (k : BootRule zone words seats) (id i x : ℕ) (old new : List BootView)
+    → get_elem? seats id ≡ some old → frames_in new ≡ frames_in old → ((q : ℕ) → sum_over (past_of q) new ≡ sum_over (past_of q) old)
+    → AllOf (Fits k.run) new → StockRule zone.cpus (drop (stock_base zone) (set words (stock_base zone + i) x)) (map stocks_in (set seats id new))
+    → x ≡ slice_index words (stock_base zone + i) → BootRule zone (set words (stock_base zone + i) x) (set seats id new)
+stock_kept zone words seats k id i x old new at frames counts fits rule same =
+    let j = stock_base zone + i in
+    let words_same : set words j x ≡ words = ap (set words j) same ∙ set-get_or words j 0 in record {
+      run = k.run;
+      is = subst (λ (l : List ℕ). IsRunOf zone (words_in zone l) k.run) (sym words_same) k.is;
+      frames = subst (λ (w : List ℕ × List (List FrameView)). ReferenceRule zone.frames zone.cpus w.0 w.1)
+          (λ n. (sym (ap (λ (l : List ℕ). (words_in zone l).frames) words_same) n, sym (frames_stay seats id old new at frames) n)) k.frames;
+      stocks = rule;
+      one_past = λ number. counts_same seats id old new at counts number (k.one_past number);
+      fits = all_set (AllOf (Fits k.run)) seats id new fits k.fits;
+    }

@@ -2,3 +2,4 @@ pub mod Rule
 pub mod Allowed
 pub mod Held
 pub mod StockHeld
+pub mod Looks

@@ -1,5 +1,5 @@
 -- The rule of one table that has all words of a boot.
-use Rattle.std.specs.Prelude.{ℕ, ◌+◌, ◌*◌, ◌/◌, ◌≤◌, ◌==◌, cond, List, [], ◌∷◌, map, take, drop}
+use Rattle.std.specs.Prelude.{◌≡◌, ℕ, ◌+◌, ◌*◌, ◌/◌, ◌≤◌, ◌==◌, cond, false, List, [], ◌∷◌, map, take, drop}
 use Rattle.atomic_table.specs.Table.{State}
 use Rattle.seat_sums.specs.Totals.{total_over}
 use Rattle.frame_word.specs.declared.view.FrameView.{FrameView}
@@ -8,6 +8,7 @@ use Rattle.stock_word.specs.declared.view.StockView.{StockView}
 use Rattle.stock_word.specs.StockRule.{StockRule}
 use Rattle.step_rules.specs.State.{Zone}
 use Rattle.step_rules.specs.After.{Run}
+use Rattle.step_rules.specs.Laws.{is_of_lock}
 use Rattle.run_words.specs.Runs.{OthersFollow}
 use Rattle.run_words.specs.Words.{Words, IsRunOf}
 
@@ -56,9 +57,20 @@ past_of number (OfRun p) = cond (p.number == number) 1 0
 past_of number (OfFrames v) = 0
 past_of number (OfStocks v) = 0
 
--- a past is a beginning of the run, behind which no step of its number follows
+-- nobody takes or releases the lock in the run
+abbrev pub LeavesLock : Run → Type 0
+LeavesLock [] = Unit {0}
+LeavesLock (e ∷ run) = (is_of_lock e.0.action ≡ false) × LeavesLock run
+
+-- A past is a beginning of the run, behind which no step of its number follows. Behind the zone's past nobody takes or
+-- releases the lock, so that the zone's past ends with each of these steps.
+pub record IsPastOf (run : Run) (p : Past) : Type 0 where
+  pub goes : OthersFollow p.number p.seen run
+  pub leaves_lock : p.number ≡ 0 → LeavesLock goes.rest
+
+-- a past fits the run if it is one of it
 abbrev pub Fits : Run → BootView → Type 0
-Fits run (OfRun p) = OthersFollow p.number p.seen run
+Fits run (OfRun p) = IsPastOf run p
 Fits run (OfFrames v) = Unit {0}
 Fits run (OfStocks v) = Unit {0}
 

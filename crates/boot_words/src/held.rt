@@ -3,7 +3,19 @@
 
 ghost use Rattle.boot_words.specs.Held.{CollectIsAllowed, PassBackIsAllowed, PassOutIsAllowed, TakeInIsAllowed};
 ghost use Rattle.boot_words.specs.Held.{OpenVisitIsAllowed, PlainIsAllowed, ShutVisitIsAllowed, UnfreezeIsAllowed};
-ghost use Rattle.boot_words.specs.StockHeld.{AbsorbIsAllowed, DrainIsAllowed, FillIsAllowed};
+ghost use Rattle.boot_words.specs.Held.{FreezeIsAllowed, HeldPutIsAllowed};
+ghost use Rattle.boot_words.specs.StockHeld.{AbsorbIsAllowed, DrainIsAllowed, FillIsAllowed, HeldConsumeIsAllowed};
+ghost use Rattle.boot_words.specs.StockHeld.{ReportIsAllowed};
+
+/// The zone exchanges its references on a frame, if they are all, for 0. Another word is a miss.
+pub fn a_freeze_is_allowed<S>()
+    ensures { FreezeIsAllowed S }
+{}
+
+/// The zone or the lock's holder puts a reference.
+pub fn a_held_put_is_allowed<S>()
+    ensures { HeldPutIsAllowed S }
+{}
 
 /// The zone puts references on a frame of its hand.
 pub fn an_unfreeze_is_allowed<S>()
@@ -58,4 +70,14 @@ pub fn an_absorb_is_allowed<S>()
 /// The zone drains a stock that was filled before: the answer is the pages that the stock word says.
 pub fn a_drain_is_allowed<S>()
     ensures { DrainIsAllowed S }
+{}
+
+/// The CPU reports fresh pages that it passed back.
+pub fn a_report_is_allowed<S>()
+    ensures { ReportIsAllowed S }
+{}
+
+/// The CPU consumes a page that its stock has by the book.
+pub fn a_held_consume_is_allowed<S>()
+    ensures { HeldConsumeIsAllowed S }
 {}

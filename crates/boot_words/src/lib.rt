@@ -3,3 +3,4 @@
 
 pub mod held;
 pub mod laws;
+pub mod looks;
