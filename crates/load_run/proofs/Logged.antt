@@ -14,32 +14,28 @@ use Rattle.line_server.specs.Logs.{AddsPart, LogsLine, RenewsWatch, answer_comme
 use Rattle.line_server.proofs.Logged.{wrote_alone}
 use Rattle.load_run.specs.declared.boot_end.BootEnd.{BootEnd}
 use Rattle.load_run.specs.Ending.{EndsHeld, boot_end_text}
-use Rattle.load_run.specs.Logs.{GrowsBy, LogsAll, LogsAllAndEnd, LogsEnd, text_of}
+use Rattle.load_run.specs.Logs.{GrowsBy, LogsAll, LogsAllAndEnd, LogsEnd, LogsNext, text_of}
 
 -- ---- the lines so far
 
--- each of these lines, with its text
-abbrev pub Logs : Terms → List (List ℕ) → Line → (before after : SystemState) (log : List ℕ) → Type 0
-Logs on texts line before after log = LogsLine on (text_of texts line) line before after log
-
 pub logs_start : (on : Terms) (texts : List (List ℕ)) (lines : List Line) (s : SystemState) (old : List ℕ)
-    → GrowsBy (λ log. InOrder (Logs on texts) (take 0 lines) s s log) old old
+    → GrowsBy (λ log. InOrder (LogsNext on texts) (take 0 lines) s s log) old old
 logs_start on texts lines s old = record { text = []; so = (refl, refl); added = sym (append-nil old) }
 
 pub logs_more : (on : Terms) (texts : List (List ℕ)) (lines : List Line) (i : ℕ) (default : Line) (s m e : SystemState) (old mid new part : List ℕ)
-    → i < length lines → GrowsBy (λ log. InOrder (Logs on texts) (take i lines) s m log) old mid
-    → Logs on texts (get_or lines i default) m e part → new ≡ mid ++ part
-    → GrowsBy (λ log. InOrder (Logs on texts) (take (i + 1) lines) s e log) old new
+    → i < length lines → GrowsBy (λ log. InOrder (LogsNext on texts) (take i lines) s m log) old mid
+    → LogsNext on texts (get_or lines i default) m e part → new ≡ mid ++ part
+    → GrowsBy (λ log. InOrder (LogsNext on texts) (take (i + 1) lines) s e log) old new
 logs_more on texts lines i default s m e old mid new part inside so_far one added = record {
   text = so_far.text ++ part;
-  so = in_order_line (Logs on texts) s m e lines i default so_far.text (so_far.text ++ part) inside so_far.so part one refl;
+  so = in_order_line (LogsNext on texts) s m e lines i default so_far.text (so_far.text ++ part) inside so_far.so part one refl;
   added = added ∙ ap (λ (l : List ℕ). l ++ part) so_far.added ∙ append_assoc old so_far.text part;
 }
 
 -- the text of the line, as it was looked up
-pub logs_text : (on : Terms) (texts : List (List ℕ)) {line : Line} {m e : SystemState} {part : List ℕ} (l : List ℕ)
-    → l ≡ text_of texts line → LogsLine on l line m e part → Logs on texts line m e part
-logs_text on texts {line} {m} {e} {part} l is one = subst (λ (x : List ℕ). LogsLine on x line m e part) is one
+pub logs_text : (on : Terms) (texts : List (List ℕ)) (m e : SystemState) {line : Line} {part : List ℕ} (l : List ℕ)
+    → l ≡ text_of texts line → LogsLine on l line m e part → LogsNext on texts line m e part
+logs_text on texts m e {line} {part} l is one = subst (λ (x : List ℕ). LogsLine on x line m e part) is one
 
 -- ---- the end
 

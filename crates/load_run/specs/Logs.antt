@@ -40,10 +40,13 @@ pub record GrowsBy (is_added : List ℕ → Type 0) (before after : List ℕ) : 
   pub so : is_added text
   pub added : after ≡ before ++ text
 
+-- the log of a line whose text is among these
+abbrev pub LogsNext : Terms → List (List ℕ) → Line → (before after : SystemState) (log : List ℕ) → Type 0
+LogsNext terms texts line before after log = LogsLine terms (text_of texts line) line before after log
+
 -- the log of lines that are served one after the other
 abbrev pub LogsAll : Terms → List (List ℕ) → List Line → (before after : SystemState) (log : List ℕ) → Type 0
-LogsAll terms texts lines before after log =
-    InOrder (λ line. LogsLine terms (text_of texts line) line) lines before after log
+LogsAll terms texts lines before after log = InOrder (LogsNext terms texts) lines before after log
 
 -- The log of the end: a comment, the steps that leave nothing at any CPU, and what an audited run writes about the end.
 -- The watch is new for it.

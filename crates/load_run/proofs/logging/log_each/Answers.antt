@@ -12,4 +12,4 @@ loop-next-preserved g c =
     let e = system_state c.log_line.new.locked c.log_line.new.cpus in
     let adds = c.in_ok-log_line.ensures.logged in
     logs_more on texts c.args.lines.now c.loop-next.next-index _ (system_state c.args.locked.now c.args.cpus.now) m e _ _ _ adds.part c.loop-next-test.true
-    c.loop-next.invariant (logs_text on texts c.text_of.result.now c.text_of.ensures adds.so) adds.added
+    c.loop-next.invariant (logs_text on texts m e c.text_of.result.now c.text_of.ensures adds.so) adds.added
