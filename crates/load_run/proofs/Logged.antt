@@ -5,7 +5,7 @@ use Rattle.std.proofs.lemmas.Result.{IfOk-weaker}
 use Rattle.std.specs.Prelude.{codes}
 use Rattle.frame_word.specs.Seats.{KnownTable}
 use Rattle.stock_word.specs.Stock.{KnownStockTable}
-use Rattle.step_watch.specs.Watched.{IsNewLog, KnownWatch, has_whole_log, log_text, steps_text}
+use Rattle.step_watch.specs.Watched.{IsNewLog, has_whole_log, log_text, steps_text}
 use Rattle.script_lines.specs.declared.line.Line.{Line}
 use Rattle.script_replay.specs.Lines.{InOrder, SystemState}
 use Rattle.script_replay.specs.Terms.{Terms, terms}

@@ -240,11 +240,8 @@ fn answers_on_boot<N: BootName + Send + Sync, R: Threads + Wait + Sync>(
             Ok(log) => Ok(log),
             Err(error) => Err(ProgramFault::NoMemory(error)),
         },
-        Task::Check { .. }
-        | Task::Lint
-        | Task::Serve { .. }
-        | Task::ServeSteps
-        | Task::Version => unreachable!(),
+        Task::Check { .. } | Task::Lint | Task::Serve { .. } | Task::ServeSteps | Task::Version =>
+            unreachable!(),
     }
 }
 

@@ -1,7 +1,7 @@
 -- Serves the contract of `memcg`: the program's own settings, and its subcommands, one after the other.
-use Rattle.std.proofs.Common.{rules, ◌≡◌, ◌∙◌, [], ap₂, codes, true}
+use Rattle.std.proofs.Common.{◌∙◌, ap₂}
 use Rattle.std.proofs.lemmas.Result.{IfOk-weaker}
-use Rattle.clap.specs.Simple.{App, app_of, new_shape, with_subcommand}
+use Rattle.clap.specs.Simple.{with_subcommand}
 use Rattle.load_options.proofs.command_line.memcg.Goals as goal
 
 pub returns : goal.returns

@@ -1,5 +1,5 @@
 -- Serves the contract of `log_end`: the boot ended with a new watch, and what that wrote was added.
-use Rattle.std.proofs.Common.{◌≡◌, ◌∙◌, ◌++◌, ap, codes, rules, sym}
+use Rattle.std.proofs.Common.{◌∙◌, ◌++◌, ap, codes, rules, sym}
 use Rattle.step_watch.specs.Watched.{KnownWatch, has_whole_log, log_text}
 use Rattle.script_replay.specs.Lines.{SystemState, system_state}
 use Rattle.line_server.proofs.Logged.{renewed}
