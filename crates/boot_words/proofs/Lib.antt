@@ -15,3 +15,5 @@ pub mod Banking
 pub mod Freezing
 pub mod Reporting
 pub mod Looking
+pub mod Resting
+pub mod Locking

@@ -1,9 +1,10 @@
 -- A plain step under the lock, made by a load of a word that nobody writes.
 use Rattle.std.proofs.Common.{◌≡◌, ℕ, List, [], ◌∷◌, ◌++◌, set, refl, sym, subst, inl}
-use Rattle.std.specs.Prelude.{slice_index}
+use Rattle.std.specs.Prelude.{◌⊎◌, slice_index}
 use Rattle.std.proofs.lemmas.List.{set-get_or}
-use Rattle.atomic_table.specs.Table.{keeps}
-use Rattle.seat_sums.specs.Totals.{sum_over}
+use mathlib.Core.Option.{some}
+use lib.ListN.{get_elem?}
+use Rattle.atomic_table.specs.Table.{State as Board, keeps}
 use Rattle.frame_word.specs.declared.view.FrameView.{FrameView}
 use Rattle.frame_word.specs.ReferenceRule.{ReferenceRule}
 use Rattle.stock_word.specs.declared.view.StockView.{StockView}
@@ -13,7 +14,7 @@ use Rattle.step_rules.specs.declared.step.Action.{Action}
 use Rattle.step_rules.specs.declared.step.Action.TheVariants.{Lock, Unlock, Grant, Ungrant, PlaceBlock, Publish, Return}
 use Rattle.step_rules.specs.declared.step.Action.TheVariants.{NoteMax, NoteOom, NoteGroupKill, SetMax, SetFlag, Make, Remove, Kill}
 use Rattle.step_rules.specs.declared.step.Answer.{Answer}
-use Rattle.step_rules.specs.State.{State}
+use Rattle.step_rules.specs.State.{State, Zone}
 use Rattle.step_rules.specs.Legal.{Allows, IsAnswer, IsCounted}
 use Rattle.step_rules.specs.After.{state_of}
 use Rattle.step_rules.proofs.LocalLaws.{made_allows}
@@ -22,7 +23,7 @@ use Rattle.step_rules.proofs.Runs.{sound_run}
 use Rattle.run_words.specs.Runs.{OthersFollow}
 use Rattle.run_words.specs.Steps.{IsPlain}
 use Rattle.run_words.proofs.Plain.{plain_steps_keep_words}
-use Rattle.boot_words.specs.Rule.{OfFrames, AllOf, BootRule, Fits, past_of, stock_base, words_in}
+use Rattle.boot_words.specs.Rule.{Past, BootView, OfFrames, AllOf, BootRule, Fits, boot_rule, stock_base, words_in}
 use Rattle.boot_words.specs.Held.{PlainIsAllowed, joined}
 use Rattle.boot_words.proofs.Growing.{all_fit_later, grown, grown_fits}
 use Rattle.boot_words.proofs.Parts.{stocks_stay}
@@ -48,12 +49,32 @@ plain_counted s (Remove g) answer plain = tt
 plain_counted s (Kill g) answer plain = tt
 plain_counted s action answer plain = absurd plain
 
+-- A seat with both pasts makes an allowed plain step behind the run, and both pasts note it.
+pub plain_step : {S : Type 0} (zone : Zone) (s : Board S (List BootView)) (k : boot_rule zone s) (id : ℕ) (z c : Past) (made_step : Step) (answer : Answer)
+    → z.number ≡ 0 → (made_step.seat ≡ 0) ⊎ (made_step.seat ≡ c.number) → get_elem? s.views id ≡ some (joined OfFrames z c [])
+    → (zone_fits : OthersFollow z.number z.seen k.run) → (fits : OthersFollow c.number c.seen k.run)
+    → IsPlain made_step.action → Allows (state_of zone k.run) made_step.seat made_step.action answer
+    → BootRule zone (set s.words (stock_base zone) (slice_index s.words (stock_base zone)))
+    (set s.views id (joined OfFrames (grown z zone_fits.rest (made_step, answer)) (grown c fits.rest (made_step, answer)) []))
+plain_step zone s k id z c made_step answer zone_is own at zone_fits fits plain ok =
+    let j = stock_base zone in
+    let e : Step × Answer = (made_step, answer) in
+    let old = joined OfFrames z c [] in
+    let new = joined OfFrames (grown z zone_fits.rest e) (grown c fits.rest e) [] in
+    let later : BootRule zone s.words (set s.views id new) = record {
+      run = k.run ++ e ∷ [];
+      is = plain_steps_keep_words zone (words_in zone s.words) k.run made_step answer k.is plain ok;
+      frames = subst (λ (l : List (List FrameView)). ReferenceRule zone.frames zone.cpus (words_in zone s.words).frames l) (sym (frames_stay s.views id old new at refl)) k.frames;
+      stocks = subst (λ (l : List (List StockView)). StockRule zone.cpus (words_in zone s.words).stocks l) (sym (stocks_stay s.views id old new at refl)) k.stocks;
+      one_past = λ number. counts_same s.views id old new at (λ q. refl) number (k.one_past number);
+      fits = all_fit_later k.run s.views id old new e at k.one_past (has_past z c made_step.seat [] zone_is own) (λ locks. has_past z c 0 [] zone_is (inl refl)) k.fits
+          (grown_fits k.run z e zone_fits, (grown_fits k.run c e fits, tt));
+    } in
+    subst (λ (l : List ℕ). BootRule zone l (set s.views id new)) (sym (set-get_or s.words j 0)) later
+
 pub plain_is_allowed : {S : Type 0} → PlainIsAllowed S
 plain_is_allowed {S} zone slots id z c local made_step answer holds plain is_step s k homes at small =
-    let j = stock_base zone in
-    let n = slice_index s.words j in
-    let old = joined OfFrames z c [] in
-    let all = all_at (AllOf (Fits k.run)) s.views id old at k.fits in
+    let all = all_at (AllOf (Fits k.run)) s.views id (joined OfFrames z c []) at k.fits in
     let zone_fits : OthersFollow z.number z.seen k.run = all.0.goes in
     let fits : OthersFollow c.number c.seen k.run = all.1.0.goes in
     let state = state_of zone k.run in
@@ -64,31 +85,15 @@ plain_is_allowed {S} zone slots id z c local made_step answer holds plain is_ste
     own_answer state c.number made_step.seat made_step.action answer (sound_run zone k.run k.is.legal) is_step.own legal
     (subst (λ (l : State). IsAnswer l made_step.seat made_step.action answer) shows.sees is_step.answered) in
     let ok : Allows state made_step.seat made_step.action answer = made_allows state made_step.seat made_step.action answer
-    (record { legal = legal; answered = answered; counted = plain_counted state made_step.action answer plain }) in
-    let now = plain_steps_keep_words zone (words_in zone s.words) k.run made_step answer k.is plain ok in
-    let zone_past = grown z zone_fits.rest e in
-    let cpu_past = grown c fits.rest e in
-    let new = joined OfFrames zone_past cpu_past [] in
-    let counts : (q : ℕ) → sum_over (past_of q) new ≡ sum_over (past_of q) old = λ q. refl in
-    let same : set s.words j n ≡ s.words = set-get_or s.words j 0 in
-    let own = has_past z c made_step.seat [] holds.zone_is is_step.own in
-    let later : BootRule zone s.words (set s.views id new) = record {
-      run = k.run ++ e ∷ [];
-      is = now;
-      frames = subst (λ (l : List (List FrameView)). ReferenceRule zone.frames zone.cpus (words_in zone s.words).frames l) (sym (frames_stay s.views id old new at refl)) k.frames;
-      stocks = subst (λ (l : List (List StockView)). StockRule zone.cpus (words_in zone s.words).stocks l) (sym (stocks_stay s.views id old new at refl)) k.stocks;
-      one_past = λ number. counts_same s.views id old new at counts number (k.one_past number);
-      fits = all_fit_later k.run s.views id old new e at k.one_past own (λ locks. has_past z c 0 [] holds.zone_is (inl refl)) k.fits
-          (grown_fits k.run z e zone_fits, (grown_fits k.run c e fits, tt));
-    } in (
-      new,
+    (record { legal = legal; answered = answered; counted = plain_counted state made_step.action answer plain }) in (
+      joined OfFrames (grown z zone_fits.rest e) (grown c fits.rest e) [],
       keeps,
       tt,
-      subst (λ (l : List ℕ). BootRule zone l (set s.views id new)) (sym same) later,
+      plain_step zone s k id z c made_step answer holds.zone_is is_step.own at zone_fits fits plain ok,
       record {
         views = [];
-        zone_past = zone_past;
-        cpu_past = cpu_past;
+        zone_past = grown z zone_fits.rest e;
+        cpu_past = grown c fits.rest e;
         later_is = refl;
         made = tt;
         zone_grew = record { between = zone_fits.rest; others = zone_fits.others; number = refl; seen = refl };

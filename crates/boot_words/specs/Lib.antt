@@ -3,3 +3,4 @@ pub mod Allowed
 pub mod Held
 pub mod StockHeld
 pub mod Looks
+pub mod Locks

@@ -3,4 +3,5 @@
 
 pub mod held;
 pub mod laws;
+pub mod locks;
 pub mod looks;

@@ -1,0 +1,18 @@
+//! Laws of the two steps that take and release the lock: they join a CPU's past with the zone's, and part them.
+
+ghost use Rattle.boot_words.specs.Locks.{LockIsAllowed, UnlockIsAllowed, ZoneRests};
+
+/// While nobody holds the lock, nothing changes but each CPU's own lists, fresh and back frames, and references.
+pub fn the_zone_rests()
+    ensures { ZoneRests }
+{}
+
+/// A CPU takes the lock, which is free by the zone's past. It then sees what the zone left and what it has itself.
+pub fn a_lock_is_allowed<S>()
+    ensures { LockIsAllowed S }
+{}
+
+/// The CPU that holds the lock releases it. The lock is free by the zone's past then.
+pub fn an_unlock_is_allowed<S>()
+    ensures { UnlockIsAllowed S }
+{}
