@@ -17,3 +17,5 @@ pub mod Reporting
 pub mod Looking
 pub mod Resting
 pub mod Locking
+pub mod Sharing
+pub mod Beginning

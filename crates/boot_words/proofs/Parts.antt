@@ -11,7 +11,7 @@ use Rattle.run_words.specs.Words.{with_frame_word}
 use Rattle.boot_words.specs.Rule.{BootView, frame_count, stock_base, stocks_in, words_in}
 use Rattle.boot_words.proofs.Lifting.{IsAt}
 
-base_high : (a : ℕ) → a ≤ 16 * ((a + 15) / 16)
+pub base_high : (a : ℕ) → a ≤ 16 * ((a + 15) / 16)
 base_high a = omega arith
 
 pub count_low : (zone : Zone) (f : ℕ) → f < zone.frames → f < frame_count zone

@@ -18,10 +18,8 @@ use Rattle.run_words.specs.Words.{Words, IsRunOf}
 use Rattle.boot_words.specs.Rule.{BootView, AllOf, BootRule, Fits, frame_count, frames_in, past_of, stock_base, stocks_in, words_in}
 use Rattle.boot_words.proofs.Growing.{all_fit_later}
 use Rattle.boot_words.proofs.Lifting.{IsAt}
+use Rattle.boot_words.proofs.Parts.{base_high}
 use Rattle.boot_words.proofs.Seats.{all_set, counts_same}
-
-base_high : (a : ℕ) → a ≤ 16 * ((a + 15) / 16)
-base_high a = omega arith
 
 count_below : (zone : Zone) (i : ℕ) → frame_count zone ≤ stock_base zone + i
 count_below zone i = let high = base_high (zone.frames + zone.cpus) in omega arith

@@ -4,3 +4,4 @@ pub mod Held
 pub mod StockHeld
 pub mod Looks
 pub mod Locks
+pub mod Seating

@@ -5,3 +5,4 @@ pub mod held;
 pub mod laws;
 pub mod locks;
 pub mod looks;
+pub mod seating;
