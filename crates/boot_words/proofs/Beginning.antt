@@ -1,5 +1,5 @@
 -- The rule holds at the start of the table.
-use Rattle.std.proofs.Common.{◌≡◌, ◌≢◌, ℕ, zero, suc, ◌+◌, ◌*◌, ◌-◌, ◌<◌, ◌≤◌, List, [], ◌∷◌, ◌++◌, cond, drop, get_or, length, map, replicate, take, refl, ap, sym, ◌∙◌, subst, arith, eq-eqb}
+use Rattle.std.proofs.Common.{◌≡◌, ◌≢◌, ℕ, zero, suc, ◌+◌, ◌*◌, ◌-◌, ◌<◌, ◌≤◌, List, [], ◌∷◌, ◌++◌, cond, drop, length, map, replicate, take, refl, ap, sym, ◌∙◌, subst, arith, eq-eqb}
 use Rattle.std.specs.Prelude.{slice_index}
 use Rattle.std.proofs.lemmas.Bool.{ne_eqb}
 use Rattle.std.proofs.lemmas.List.{append-nil, drop-replicate, length-replicate, take-replicate}
@@ -18,7 +18,7 @@ use Rattle.stock_word.proofs.Opens.{opens_at}
 use Rattle.step_rules.specs.State.{Zone}
 use Rattle.run_words.proofs.Booting.{a_boot_has_words}
 use Rattle.boot_words.specs.Rule.{Past, BootView, OfFrames, OfStocks, OfRun, AllOf, Fits, frame_count, frames_in, past_of, stock_base, stocks_in, words_in}
-use Rattle.boot_words.specs.Seating.{RuleOpens, all_views, first_pasts, no_past, word_count}
+use Rattle.boot_words.specs.Seating.{RuleOpens, first_pasts, no_past, word_count}
 use Rattle.boot_words.proofs.Parts.{base_high}
 use Rattle.boot_words.proofs.Sharing.{all_append}
 use Rattle.boot_words.proofs.Wraps.{all_fit, in_wrap, no_pasts, of_frames, of_stocks}
@@ -102,7 +102,10 @@ rule_opens zone =
       stocks = subst (λ (x : List ℕ × List (List StockView)). StockRule zone.cpus x.0 x.1)
           (λ i. (sym (stock_zeros zone) i, sym (all_stocks pasts fs ss) i ∷ [])) (opens_at zone.cpus);
       one_past = λ number. one_each number 0 (zone.cpus + 1) fs ss;
-      fits = (all_append (Fits []) (map OfRun pasts) (map OfFrames fs ++ map OfStocks ss) (pasts_fit 0 (zone.cpus + 1))
-          (all_append (Fits []) (map OfFrames fs) (map OfStocks ss) (all_fit OfFrames frames_in stocks_in of_frames [] fs)
-          (all_fit OfStocks stocks_in frames_in of_stocks [] ss)), tt);
+      fits = (
+        all_append (Fits []) (map OfRun pasts) (map OfFrames fs ++ map OfStocks ss) (pasts_fit 0 (zone.cpus + 1))
+            (all_append (Fits []) (map OfFrames fs) (map OfStocks ss) (all_fit OfFrames frames_in stocks_in of_frames [] fs)
+            (all_fit OfStocks stocks_in frames_in of_stocks [] ss)),
+        tt,
+      );
     }

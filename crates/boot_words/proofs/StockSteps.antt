@@ -1,5 +1,5 @@
 -- The rule of the one table after an atomic step on a word of a stock.
-use Rattle.std.proofs.Common.{◌≡◌, ℕ, false, ◌+◌, ◌*◌, ◌/◌, ◌≤◌, List, [], ◌∷◌, ◌++◌, drop, map, set, ap, sym, ◌∙◌, subst, arith}
+use Rattle.std.proofs.Common.{◌≡◌, ℕ, false, ◌+◌, ◌≤◌, List, [], ◌∷◌, ◌++◌, drop, map, set, ap, sym, ◌∙◌, subst, arith}
 use Rattle.std.specs.Prelude.{slice_index}
 use Rattle.std.proofs.lemmas.List.{drop-set-add, get_or-drop, map-set, set-get_or, take-set-le}
 use Rattle.std.proofs.lemmas.Bool.{true≢false}
