@@ -152,7 +152,7 @@ impl Cpu {
     /// A reference on the page, if somebody else has one.
     fn get(&self, frame: u32) -> Option<Page<'_>> {
         let got = self.call(|cpu, out| unsafe { tempolemon_cpu_get(cpu, frame, out) }).ok()?;
-        (got.kind == HELD).then_some(Page { cpu: self, frame })
+        (got.kind == HELD).then(|| Page { cpu: self, frame })
     }
 }
 
