@@ -8,7 +8,7 @@ use group_tree::fault::Fault;
 use group_tree::group::GroupId;
 use group_tree::path::PathText;
 use group_tree::tree::Tree;
-use kill_texts::write_refused;
+use machine_texts::write_refused;
 use std::process::Abort;
 use std::test::Fail;
 

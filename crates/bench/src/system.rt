@@ -14,7 +14,7 @@ use std::marker::Brand;
 use std::sync::Wait;
 use std::thread::Threads;
 use std::time::Clock;
-use zone_sizes::config::Config;
+use zone_blocks::config::Config;
 
 // The sizes of the system on which calls are measured.
 const SIZES: Config = Config {

@@ -11,7 +11,7 @@ use std::marker::Brand;
 use std::process::Abort;
 use std::sync::Wait;
 use std::sync::atomic::{AtomicU32, Ordering};
-use zone_sizes::config::Config;
+use zone_blocks::config::Config;
 
 /// 16 frames and two CPUs.
 pub const SIZES: Config = Config {

@@ -2,7 +2,7 @@
 
 use crate::streams::{expect_row, words_of};
 use load_run::{Options, Task, options};
-use zone_sizes::config::Config;
+use zone_blocks::config::Config;
 
 // Good words, separated by single spaces, and what they ask for: the task; frames, CPUs, `batch`, `high` and `stock`;
 // and whether the end is audited, lines are numbered, and refusals count.

@@ -6,3 +6,4 @@ pub mod StoredLemmas
 pub mod SumLemmas
 pub mod UsageLemmas
 pub mod WalkLemmas
+mod Counting

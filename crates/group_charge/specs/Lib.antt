@@ -1,2 +1,3 @@
 pub mod Charges
 pub mod Kept
+pub mod Notes

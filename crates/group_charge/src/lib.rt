@@ -6,4 +6,7 @@
 
 pub mod account;
 pub mod charges;
+pub mod note;
+pub mod notes;
+mod spans;
 mod walks;

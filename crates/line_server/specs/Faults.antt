@@ -1,7 +1,7 @@
 -- The faults of a session.
 use Rattle.std.specs.Prelude.{⊤}
-use Rattle.line_streams.specs.declared.reading.ReadFault.{ReadFault}
-use Rattle.line_streams.specs.declared.reading.ReadFault.TheVariants as reading
+use Rattle.line_server.specs.declared.reading.ReadFault.{ReadFault}
+use Rattle.line_server.specs.declared.reading.ReadFault.TheVariants as reading
 use Rattle.line_server.specs.declared.fault.ServeFault.{ServeFault}
 use Rattle.line_server.specs.declared.fault.ServeFault.TheVariants.{Input, Output, NoMemory}
 

@@ -6,3 +6,5 @@ pub mod Lines
 pub mod Logs
 pub mod Sessions
 pub mod Turns
+pub mod Streams
+pub mod Writing

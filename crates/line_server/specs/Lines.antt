@@ -3,11 +3,11 @@ use Rattle.std.specs.Prelude.{◌≡◌, ◌⊎◌, ℕ, ◌<◌, ◌≤◌, Boo
 use Rattle.std.specs.Prelude.{codes, length, nat_eq}
 use Rattle.std.specs.Cmp.Lexicographic.{pointwise}
 use Rattle.std.specs.Io.BufRead.{DropsThrough}
-use Rattle.zone_sizes.specs.declared.config.Config.{Config}
+use Rattle.zone_blocks.specs.declared.config.Config.{Config}
 use Rattle.script_lint.specs.Findings.{IsFoundInText}
 use Rattle.script_lint.specs.Texts.{cause_text}
 use Rattle.script_lint.specs.declared.finding.Finding.{Finding}
-use Rattle.line_streams.specs.Lines.{first_text, longest_line}
+use Rattle.line_server.specs.Streams.{first_text, longest_line}
 use Rattle.line_server.specs.declared.form.SessionForm.{SessionForm}
 use Rattle.line_server.specs.declared.input_line.InputLine.{InputLine}
 use Rattle.line_server.specs.declared.input_line.InputLine.TheVariants as input_line

@@ -4,7 +4,7 @@ ghost use Rattle.std.specs.Prelude.{◌≡◌};
 ghost use Rattle.line_server.specs.Faults.{read_fault};
 ghost use Rattle.line_server.specs.declared.fault.ServeFault.TheVariants.{NoMemory};
 
-use line_streams::ReadFault;
+use crate::ReadFault;
 use std::alloc::AllocError;
 
 /// Why a session fails.

@@ -5,7 +5,7 @@ ghost use Rattle.line_server.specs.Faults.{IsReadFault};
 ghost use Rattle.line_server.specs.Lines.{ReadsInputLine, is_quit};
 
 use crate::fault::ServeFault;
-use line_streams::{Found, read_line};
+use crate::{Found, read_line};
 use std::alloc::Global;
 use std::io::Read;
 

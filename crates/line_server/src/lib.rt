@@ -9,11 +9,15 @@ pub mod fault;
 pub mod form;
 mod input_line;
 mod logging;
+pub mod reading;
 mod refusing;
 pub mod server;
+pub mod writing;
 
 pub use comments::add_answer;
 pub use fault::ServeFault;
 pub use form::SessionForm;
 pub use logging::{add_steps, log_line};
 pub use server::Server;
+pub use reading::{Found, ReadFault, read_line};
+pub use writing::{write_and_flush, write_whole};

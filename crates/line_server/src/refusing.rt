@@ -13,7 +13,7 @@ use crate::form::SessionForm;
 use script_lines::verb::Names;
 use script_lint::{lint_text, write_cause};
 use std::alloc::{AllocError, Global};
-use zone_sizes::config::Config;
+use zone_blocks::config::Config;
 
 /// Why the text of a line is bad, as a line of this form. It fails only if memory runs out.
 pub fn refuse_text(

@@ -16,14 +16,14 @@ use crate::form::SessionForm;
 use crate::input_line::{InputLine, read_input_line};
 use crate::refusing::{bad_line, refuse_text};
 use cpu_part::{BootName, Cpu, Tables};
-use line_streams::write_and_flush;
+use crate::write_and_flush;
 use mem_system::Locked;
 use script_lines::script::{is_skipped, parse_line};
 use script_lines::verb::Names;
 use std::alloc::{AllocError, Global};
 use std::io::{BufReader, Read, Write};
 use std::marker::Model;
-use zone_sizes::config::Config;
+use zone_blocks::config::Config;
 
 /// A boot that answers lines, with the table of the commands' names, its sizes, and what it writes for a line.
 pub struct Server<N: BootName> {

@@ -1,7 +1,7 @@
 -- The sizes that the command line may ask for.
 use Rattle.std.specs.Prelude.{◌≤◌}
-use Rattle.zone_sizes.specs.declared.config.Config.{Config}
-use Rattle.zone_sizes.specs.Config.{most_batch, most_cpus, most_frames, most_high, most_stock}
+use Rattle.zone_blocks.specs.declared.config.Config.{Config}
+use Rattle.zone_blocks.specs.Config.{most_batch, most_cpus, most_frames, most_high, most_stock}
 
 -- each size is in the range of its own option
 pub record HasSizesInRange (sizes : Config) : Type 0 where

@@ -10,8 +10,8 @@ use Rattle.clap.specs.ValueTests.{is_unsigned_in}
 use Rattle.clap.specs.declared.builder.action.ArgAction.TheVariants.{SetTrue}
 use Rattle.clap.specs.declared.builder.value_parser.ValueParser.TheVariants.{Signed}
 use Rattle.clap.specs.Kinds.{Kinds}
-use Rattle.zone_sizes.specs.declared.config.Config.{Config}
-use Rattle.zone_sizes.specs.Config.{most_batch, most_cpus, most_frames, most_high, most_stock}
+use Rattle.zone_blocks.specs.declared.config.Config.{Config}
+use Rattle.zone_blocks.specs.Config.{most_batch, most_cpus, most_frames, most_high, most_stock}
 use Rattle.load_options.specs.declared.task.Options.{Options}
 use Rattle.load_options.specs.declared.task.Task.{Task}
 use Rattle.load_options.specs.declared.task.Task.TheVariants.{Replay, Steps, Run, Check, Lint, Serve, ServeSteps, Version}

@@ -19,7 +19,7 @@ use std::alloc::{AllocError, Global};
 use std::convert::AsStr;
 use std::rt::Env;
 use std::{env, io};
-use zone_sizes::config::Config;
+use zone_blocks::config::Config;
 
 /// The program's version.
 pub const VERSION: &str = "0.2.0";

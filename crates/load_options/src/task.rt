@@ -9,7 +9,7 @@ ghost use Rattle.load_options.specs.Words.{options_under, replay_task_in, script
 ghost use Rattle.load_options.specs.Words.{serve_task_in, task_in};
 
 use clap::ArgMatches;
-use zone_sizes::config::Config;
+use zone_blocks::config::Config;
 
 /// What the program does with its input, with the options of this task alone.
 #[derive(Clone, Copy, Debug, PartialEq, Eq)]

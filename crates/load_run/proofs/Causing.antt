@@ -5,7 +5,7 @@ use Rattle.std.proofs.KnownBytes.{Appends-nil, Keeps-refl}
 use Rattle.script_lines.specs.declared.line.Line.{Line}
 use Rattle.script_lines.specs.declared.fault.ScriptFault.TheVariants as script
 use Rattle.script_lines.specs.Script.{IsScript}
-use Rattle.zone_sizes.specs.Config.{IsValidConfig}
+use Rattle.zone_blocks.specs.Config.{IsValidConfig}
 use Rattle.load_options.specs.declared.task.Options.{Options}
 use Rattle.load_run.specs.declared.fault.ProgramFault.{ProgramFault}
 use Rattle.load_run.specs.declared.fault.ProgramFault.TheVariants.{Words, Script, BadLogLine, BadConfig, IllegalLine, IllegalEnd, Input, Output, NoMemory}
@@ -13,7 +13,7 @@ use Rattle.load_run.specs.Answers.{IsAnswered, bytes_read}
 use Rattle.load_run.specs.Causes.{FailsAtWork, HasCause, IsMisused, LeavesAnswers, written}
 use Rattle.load_run.specs.Fault.{IsBootFault, IsFailedTask, IsReadFault, IsScriptFault, IsWordsFault, fault_text, status_of}
 use Rattle.load_options.specs.Sizes.{HasSizesInRange}
-use Rattle.line_streams.specs.Writing.{AppendsBeginning}
+use Rattle.line_server.specs.Writing.{AppendsBeginning}
 
 -- what a fault is, where there is one
 pub on_error : {T E : Type 0} (r : Result T E) (P Q : E → Type 0) → ((e : E) → P e → Q e) → IfErr r P → IfErr r Q

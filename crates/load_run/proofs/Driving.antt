@@ -13,7 +13,7 @@ use Rattle.load_run.specs.Causes.{HasCause, written}
 use Rattle.load_run.specs.Driving.{DrivesScript, IsAnsweredStatus}
 use Rattle.load_run.specs.Fault.{fault_text, status_of}
 use Rattle.load_run.specs.Refusals.{answered_status, has_refusal}
-use Rattle.line_streams.specs.Writing.{AppendsBeginning}
+use Rattle.line_server.specs.Writing.{AppendsBeginning}
 use Rattle.load_run.proofs.Answering.{answers_written}
 use Rattle.load_run.proofs.Causing.{cut_short, failed, misused}
 

@@ -3,15 +3,15 @@ use Rattle.std.proofs.Common.{◌≡◌, ℕ, Bool, false, List, [], ◌++◌, A
 use Rattle.std.proofs.lemmas.List.Elements.{All-take, All-drop}
 use Rattle.frame_word.specs.Seats.{KnownTable}
 use Rattle.stock_word.specs.Stock.{KnownStockTable}
-use Rattle.zone_sizes.specs.declared.config.Config.{Config}
+use Rattle.zone_blocks.specs.declared.config.Config.{Config}
 use Rattle.mem_system.specs.Boots.{IsSizedAs}
 use Rattle.script_lines.specs.declared.line.Line.{Line}
 use Rattle.script_replay.specs.History.{HasHistory, past}
 use Rattle.script_replay.specs.Lines.{ServesAll, SystemState}
 use Rattle.script_replay.specs.Ranges.{LineInRange}
 use Rattle.script_replay.specs.Terms.{boot_tables, numbered_terms}
-use Rattle.script_threads.specs.Each.{AreAllAnswers, workers_from}
-use Rattle.script_threads.specs.Runs.{lines_before_go}
+use Rattle.script_replay.specs.Each.{AreAllAnswers, workers_from}
+use Rattle.script_replay.specs.Runs.{lines_before_go}
 use Rattle.load_run.specs.declared.boot_end.BootEnd.{BootEnd}
 use Rattle.load_run.specs.Answers.{IsNewBootState}
 use Rattle.load_run.specs.Ending.{EndsAfter, boot_end_text}

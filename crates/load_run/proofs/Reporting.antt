@@ -2,7 +2,7 @@
 use Rattle.std.proofs.Common.{◌≡◌, ◌∙◌, ℕ, List, Bool, true, false, Option, None, Some, IfSome, ap, arith, inl, inr, refl, subst, sym}
 use Rattle.std.specs.Prelude.{◌⊎◌}
 use Rattle.std.specs.Io.KnownBytes.{Appends}
-use Rattle.zone_sizes.specs.declared.config.Config.{Config}
+use Rattle.zone_blocks.specs.declared.config.Config.{Config}
 use Rattle.load_options.specs.declared.fault.WordsFault.TheVariants as words
 use Rattle.load_run.specs.declared.fault.ProgramFault.{ProgramFault}
 use Rattle.load_run.specs.declared.fault.ProgramFault.TheVariants.{BadConfig, BadLogLine, IllegalEnd, IllegalLine, Input, NoMemory, Output, Script, Words}
@@ -10,7 +10,7 @@ use Rattle.load_run.specs.Answers.{bytes_read}
 use Rattle.load_run.specs.Causes.{written}
 use Rattle.load_run.specs.Fault.{fault_text, status_of}
 use Rattle.load_run.specs.Lints.{FailsToLint, IsEarlyFault, IsLintText, LeavesFindings, Lints, ReportsFindings, ReportsNothing, lint_status}
-use Rattle.line_streams.specs.Writing.{AppendsBeginning}
+use Rattle.line_server.specs.Writing.{AppendsBeginning}
 
 -- what is known of what the lint says, if the input's bytes are known
 abbrev pub Reports : Config → Option (List ℕ) → List ℕ → Bool → Type 0

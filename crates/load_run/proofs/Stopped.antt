@@ -2,7 +2,7 @@
 use Rattle.std.proofs.Common.{◌≡◌, ◌∙◌, ℕ, Bool, true, List, ap, subst, sym}
 use Rattle.frame_word.specs.Seats.{KnownTable}
 use Rattle.stock_word.specs.Stock.{KnownStockTable}
-use Rattle.zone_sizes.specs.declared.config.Config.{Config}
+use Rattle.zone_blocks.specs.declared.config.Config.{Config}
 use Rattle.cpu_part.specs.Cpus.{KnownCpu}
 use Rattle.step_watch.specs.Watched.{IsNewWatch, KnownWatch}
 use Rattle.mem_core.specs.Shown as core

@@ -8,7 +8,7 @@ use Rattle.load_run.specs.Causes.{written}
 use Rattle.load_run.specs.Checks.{LeavesLine}
 use Rattle.load_run.specs.Fault.{fault_text, status_of}
 use Rattle.load_run.specs.Versions.{WritesVersion, version_text}
-use Rattle.line_streams.specs.Writing.{AppendsBeginning}
+use Rattle.line_server.specs.Writing.{AppendsBeginning}
 
 -- the version was written, whole
 pub version_written : (before after faults : Option (List ℕ)) → Appends before after version_text

@@ -27,7 +27,7 @@ use Rattle.load_run.specs.Lints.{Lints}
 use Rattle.load_run.specs.Sessions.{DrivesSession, SessionAsked}
 use Rattle.load_run.specs.Versions.{WritesVersion}
 use Rattle.load_run.specs.Fault.{IsWordsFault, fault_text, status_of}
-use Rattle.line_streams.specs.Writing.{AppendsBeginning}
+use Rattle.line_server.specs.Writing.{AppendsBeginning}
 use Rattle.load_run.proofs.Causing.{words_cause}
 use Rattle.load_run.proofs.Driving.{drives_badly}
 use Rattle.load_run.proofs.Reporting.{lints_early}

@@ -1,8 +1,8 @@
 -- Why the program ends without its answers to a script, and what it leaves then.
 use Rattle.std.specs.Prelude.{◌≡◌, ℕ, List, Option, Some, Err, IsSome}
 use Rattle.std.specs.Io.KnownBytes.{Keeps}
-use Rattle.zone_sizes.specs.declared.config.Config.{Config}
-use Rattle.zone_sizes.specs.Config.{IsValidConfig}
+use Rattle.zone_blocks.specs.declared.config.Config.{Config}
+use Rattle.zone_blocks.specs.Config.{IsValidConfig}
 use Rattle.script_lines.specs.declared.fault.ScriptFault.TheVariants as script
 use Rattle.script_lines.specs.declared.line.Line.{Line}
 use Rattle.script_lines.specs.Script.{IsFirstBadLine, IsScript}
@@ -16,7 +16,7 @@ use Rattle.load_run.specs.declared.fault.ProgramFault.TheVariants.{IllegalLine, 
 use Rattle.load_run.specs.Answers.{IsAnswered, bytes_read}
 use Rattle.load_run.specs.Fault.{fault_text, status_of}
 use Rattle.load_run.specs.Stopping.{OfCheckedForm, StopsAtIllegalEnd, StopsAtIllegalLine}
-use Rattle.line_streams.specs.Writing.{AppendsBeginning}
+use Rattle.line_server.specs.Writing.{AppendsBeginning}
 
 -- the line of this number of what is read of the input is the first bad one, for the sizes that are asked for
 pub record IsBadAt (asked : Option Options) (number : ℕ) (input : List ℕ) : Type 0 where

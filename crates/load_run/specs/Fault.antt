@@ -1,8 +1,8 @@
 -- The faults of a run: the status and the text of each, and which call has which.
 use Rattle.std.specs.Prelude.{ℕ, List, Option, Err, ⊤, ◌++◌, codes, string_bytes}
 use Rattle.std.specs.Fmt.{decimal}
-use Rattle.zone_sizes.specs.declared.config.Config.{Config}
-use Rattle.zone_sizes.specs.Config.{IsValidConfig}
+use Rattle.zone_blocks.specs.declared.config.Config.{Config}
+use Rattle.zone_blocks.specs.Config.{IsValidConfig}
 use Rattle.script_lines.specs.declared.fault.ScriptFault.TheVariants as script
 use Rattle.script_lines.specs.declared.line.Line.{Line}
 use Rattle.script_lines.specs.Script.{NamesFirstBadLine}

@@ -2,7 +2,7 @@
 use Rattle.std.specs.Prelude.{◌≡◌, ◌⊎◌, ℕ, ◌≤◌, Bool, true, false, List, [], ◌++◌, Option, IfSome, codes, ⊤}
 use Rattle.std.specs.Io.KnownBytes.{Appends}
 use Rattle.std.specs.List.{flat_map}
-use Rattle.zone_sizes.specs.declared.config.Config.{Config}
+use Rattle.zone_blocks.specs.declared.config.Config.{Config}
 use Rattle.script_lint.specs.Findings.{IsLinted}
 use Rattle.script_lint.specs.Refused.{AreRefused, refused_text}
 use Rattle.script_lint.specs.Texts.{finding_text, sizes_text}
@@ -14,7 +14,7 @@ use Rattle.load_run.specs.declared.fault.ProgramFault.TheVariants.{Words, Input,
 use Rattle.load_run.specs.Answers.{bytes_read}
 use Rattle.load_run.specs.Causes.{Written}
 use Rattle.load_run.specs.Fault.{fault_text}
-use Rattle.line_streams.specs.Writing.{AppendsBeginning}
+use Rattle.line_server.specs.Writing.{AppendsBeginning}
 
 -- no line is bad, and `high` is at least `batch`
 pub record IsClean (sizes : Config) (findings : List Finding) : Type 0 where

@@ -3,8 +3,8 @@ use Rattle.std.specs.Prelude.{◌≡◌, ◌⊎◌, ℕ, ◌≤◌, Bool, List, 
 use Rattle.std.specs.Io.KnownBytes.{Appends}
 use Rattle.frame_word.specs.Seats.{KnownTable}
 use Rattle.stock_word.specs.Stock.{KnownStockTable}
-use Rattle.zone_sizes.specs.declared.config.Config.{Config}
-use Rattle.zone_sizes.specs.Config.{IsValidConfig}
+use Rattle.zone_blocks.specs.declared.config.Config.{Config}
+use Rattle.zone_blocks.specs.Config.{IsValidConfig}
 use Rattle.mem_machine.specs.Agreeing.{AgreesWithRun}
 use Rattle.script_replay.specs.History.{past}
 use Rattle.script_replay.specs.Lines.{SystemState}
@@ -24,7 +24,7 @@ use Rattle.load_run.specs.Causes.{Written}
 use Rattle.load_run.specs.Ending.{WritesEnd}
 use Rattle.load_run.specs.Fault.{fault_text}
 use Rattle.load_run.specs.Logs.{LogsEnd, head_text}
-use Rattle.line_streams.specs.Writing.{AppendsBeginning}
+use Rattle.line_server.specs.Writing.{AppendsBeginning}
 
 -- a boot ended from this state after a session of this form, and this is what is written about that
 abbrev pub EndsInForm : SessionForm → KnownTable → KnownStockTable → (is_audited : Bool) → (before : SystemState)

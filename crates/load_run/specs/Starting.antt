@@ -2,7 +2,7 @@
 use Rattle.std.specs.Prelude.{◌≡◌}
 use Rattle.frame_word.specs.Seats.{KnownTable}
 use Rattle.stock_word.specs.Stock.{KnownStockTable}
-use Rattle.zone_sizes.specs.declared.config.Config.{Config}
+use Rattle.zone_blocks.specs.declared.config.Config.{Config}
 use Rattle.mem_machine.specs.Machines.{IsFirst}
 use Rattle.mem_system.specs.Boots.{IsSizedAs, first_cpus}
 use Rattle.script_replay.specs.Lines.{SystemState}

@@ -2,7 +2,7 @@
 use Rattle.std.specs.Prelude.{◌≡◌, ℕ, Bool, true, false, List, ⊤}
 use Rattle.frame_word.specs.Seats.{KnownTable}
 use Rattle.stock_word.specs.Stock.{KnownStockTable}
-use Rattle.zone_sizes.specs.declared.config.Config.{Config}
+use Rattle.zone_blocks.specs.declared.config.Config.{Config}
 use Rattle.step_watch.specs.Watched.{IsNewWatch, has_legal_steps}
 use Rattle.mem_machine.specs.Interleaving.{zone_of}
 use Rattle.script_lines.specs.declared.line.Line.{Line}

@@ -6,7 +6,7 @@ ghost use Rattle.script_replay.specs.Lines.{system_state};
 ghost use Rattle.script_replay.specs.Ranges.{LineInRange};
 ghost use Rattle.script_replay.specs.Terms.{form_terms};
 ghost use Rattle.step_watch.specs.Watched.{has_legal_steps};
-ghost use Rattle.zone_sizes.specs.Config.{IsValidConfig};
+ghost use Rattle.zone_blocks.specs.Config.{IsValidConfig};
 ghost use Rattle.load_run.specs.Answers.{AreCheckedAnswers, checked_text};
 ghost use Rattle.load_run.specs.declared.checked_replaying.CheckFault.TheVariants.{NoMemory};
 ghost use Rattle.load_run.specs.Ending.{EndsSeenAfter};
@@ -20,7 +20,7 @@ use script_lines::line::Line;
 use script_replay::{Form, Stopped, replay_checked};
 use std::alloc::{AllocError, Global};
 use step_watch::Watch;
-use zone_sizes::config::Config;
+use zone_blocks::config::Config;
 
 /// Why a boot whose steps are checked gives no answers.
 #[derive(Clone, Copy, Debug, PartialEq, Eq)]

@@ -3,11 +3,11 @@
 ghost use Rattle.std.specs.Prelude.{◌≡◌, ◌++◌, OnOk, decimal};
 ghost use Rattle.std.specs.Io.KnownBytes.{Appends};
 ghost use Rattle.load_run.specs.Fault.{fault_text, status_of};
-ghost use Rattle.line_streams.specs.Writing.{AppendsBeginning};
+ghost use Rattle.line_server.specs.Writing.{AppendsBeginning};
 
 use crate::fault::ProgramFault;
 use itoa::Buffer;
-use line_streams::write_whole;
+use line_server::write_whole;
 use load_options::fault::WordsFault;
 use script_lines::fault::ScriptFault;
 use std::io;

@@ -16,7 +16,7 @@ use script_lint::finding::Finding;
 use script_lint::{lint_script, refused_lines, write_findings, write_refused, write_sizes};
 use std::alloc::{AllocError, Global};
 use std::io::{Read, Write};
-use zone_sizes::config::Config;
+use zone_blocks::config::Config;
 
 // The name of the script in the findings: that of standard input.
 const NAME: &str = "-";

@@ -3,7 +3,7 @@
 
 ghost use Rattle.std.specs.Prelude.{◌≡◌, All, IfErr, IfOk, OnOk, Some, map, true};
 ghost use Rattle.std.specs.Io.KnownBytes.{Appends};
-ghost use Rattle.zone_sizes.specs.Config.{IsValidConfig};
+ghost use Rattle.zone_blocks.specs.Config.{IsValidConfig};
 ghost use Rattle.script_lines.specs.Script.{IsScript};
 ghost use Rattle.script_replay.specs.Ranges.{LineInRange};
 ghost use Rattle.load_options.specs.Sizes.{HasSizesInRange};
@@ -14,7 +14,7 @@ ghost use Rattle.load_run.specs.Answers.{AreAnswers, AreCheckedAnswers, IsOnScri
 ghost use Rattle.load_run.specs.Causes.{written};
 ghost use Rattle.load_run.specs.Driving.{AnswersTo, Drives, DrivesScript};
 ghost use Rattle.load_run.specs.Fault.{IsBootFault, IsFailedTask, IsScriptFault, IsWordsFault};
-ghost use Rattle.line_streams.specs.Writing.{AppendsBeginning};
+ghost use Rattle.line_server.specs.Writing.{AppendsBeginning};
 
 use crate::checked_replaying::{CheckFault, check_on_boot};
 use crate::checking::drive_check;
@@ -30,7 +30,7 @@ use crate::thread_running::run_by_threads;
 use crate::versions::drive_version;
 use cpu_part::BootName;
 use line_server::SessionForm;
-use line_streams::write_whole;
+use line_server::write_whole;
 use load_options::command_line::options;
 use load_options::task::{Options, Task};
 use mem_system::{Boot, BootFault, boot};

@@ -2,7 +2,7 @@
 //! says which.
 
 ghost use Rattle.std.specs.Prelude.{◌≡◌, IfErr, OnOk, length};
-ghost use Rattle.zone_sizes.specs.Config.{IsValidConfig};
+ghost use Rattle.zone_blocks.specs.Config.{IsValidConfig};
 ghost use Rattle.load_options.specs.Sizes.{HasSizesInRange};
 ghost use Rattle.script_replay.specs.Lines.{system_state};
 ghost use Rattle.line_server.specs.Turns.{GivesAnswer};
@@ -24,7 +24,7 @@ use script_lines::verb::command_names;
 use std::alloc::{AllocError, Global};
 use std::io::{Read, Write};
 use std::marker::Brand;
-use zone_sizes::config::Config;
+use zone_blocks::config::Config;
 
 /// Boots with the sizes of the options, answers the lines that the input holds in this form, and returns the status to
 /// end with: 0 at `quit` or at the end of the input; 2 if the sizes are refused, before any line is read; 1 if the

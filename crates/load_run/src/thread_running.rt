@@ -4,7 +4,7 @@
 ghost use Rattle.std.specs.Prelude.{◌≡◌, ◌<◌, ◌^◌, All, IfOk, length};
 ghost use Rattle.script_replay.specs.Ranges.{LineInRange};
 ghost use Rattle.script_replay.specs.Terms.{boot_tables};
-ghost use Rattle.script_threads.specs.Each.{AreAllAnswers, workers_from};
+ghost use Rattle.script_replay.specs.Each.{AreAllAnswers, workers_from};
 ghost use Rattle.load_run.specs.Ending.{EndsAfter};
 ghost use Rattle.load_run.specs.Answers.{AreThreadAnswers, IsQuietSystem};
 
@@ -14,7 +14,7 @@ use cpu_part::{BootName, Cpu, Tables};
 use mem_system::{Boot, Locked, NoGate, System};
 use script_lines::line::Line;
 use script_replay::{Form, replay};
-use script_threads::{before_go, run_each};
+use script_replay::{before_go, run_each};
 use std::alloc::{AllocError, Global};
 use std::sync::Wait;
 use std::thread::Threads;

@@ -3,13 +3,13 @@
 ghost use Rattle.std.specs.Prelude.{◌≡◌, ◌≤◌, ◌<◌, ◌^◌};
 ghost use Rattle.group_tree.specs.Bounds.{most_groups};
 ghost use Rattle.step_rules.specs.State.{sum_to, one_if};
-ghost use Rattle.core_rows.specs.Shown.{state_in};
-ghost use Rattle.core_rows.specs.Rooms.{FitsZone, IsBelowBounds};
+ghost use Rattle.mem_core.specs.Rows.{state_in};
+ghost use Rattle.mem_core.specs.Rooms.{FitsZone, IsBelowBounds};
 ghost use Rattle.log_check.specs.Ends.{IsEnd, holder_of, is_unreferenced};
 
 use crate::verdict::LogEnd;
-use core_rows::phases::is_head;
-use core_rows::rows::Rows;
+use mem_core::phases::is_head;
+use mem_core::rows::Rows;
 use group_tree::group::GroupId;
 use step_rules::phase::Hold;
 
@@ -57,7 +57,7 @@ fn unreferenced(rows: &Rows, frame: u32) -> u32
 }
 
 // How many units have no reference.
-#[tactic(auto, using(core_rows::proofs::Adding::sum_start, core_rows::proofs::Adding::sum_next))]
+#[tactic(auto, using(mem_core::proofs::Adding::sum_start, mem_core::proofs::Adding::sum_next))]
 fn units(rows: &Rows) -> u32
     requires fits { FitsZone rows.now }
     requires bounded { IsBelowBounds (state_in rows.now) }
@@ -71,7 +71,7 @@ fn units(rows: &Rows) -> u32
 }
 
 // How many pages are pending, for all groups together.
-#[tactic(auto, using(core_rows::proofs::Adding::sum_start, core_rows::proofs::Adding::sum_next))]
+#[tactic(auto, using(mem_core::proofs::Adding::sum_start, mem_core::proofs::Adding::sum_next))]
 fn pending(rows: &Rows) -> u128
     requires bounded { IsBelowBounds (state_in rows.now) }
     ensures { result ≡ sum_to most_groups (state_in rows.now).pending }

@@ -2,14 +2,30 @@
 //! checked as soon as it ends.
 #![tactic(auto)]
 
+mod answers;
+mod conditions;
 mod ending;
+mod finding;
 mod left_out;
+pub mod line;
 pub mod line_fault;
+mod meeting;
+mod name;
+mod parse;
 mod progress;
 mod reader;
 mod reading;
+pub mod reason;
+mod reason_text;
+mod showing;
 mod text;
 pub mod verdict;
+mod word;
+mod write;
 
 pub use reading::{check, check_log};
 pub use text::write_verdict;
+pub use parse::{bad_line_is_no_log, one_line, one_run, parse_line};
+pub use write::{write_answer, write_entry, write_zone};
+pub use finding::reason_of;
+pub use reason_text::write_reason;

@@ -2,22 +2,22 @@
 
 ghost use Rattle.std.specs.Prelude.{◌≡◌, ◌+◌, ◌^◌, ◌<◌, ◌≤◌, IfErr, IfOk};
 ghost use Rattle.step_rules.specs.State.{is_unheld, one_if};
-ghost use Rattle.log_lines.specs.declared.line.LogLine.TheVariants as kinds;
-ghost use Rattle.log_lines.specs.Line.{IsZone};
+ghost use Rattle.log_check.specs.declared.line.LogLine.TheVariants as kinds;
+ghost use Rattle.log_check.specs.Line.{IsZone};
 ghost use Rattle.log_check.specs.Taking.{CountsSteps, IsInRange, TakesAfter};
 ghost use Rattle.log_check.specs.declared.verdict.LogFault.TheVariants.{NoMemory};
 
 use crate::line_fault::LineFault;
 use crate::verdict::LogFault;
-use core_rows::holds::is_unheld;
-use log_lines::line::LogLine;
+use mem_core::holds::is_unheld;
+use crate::line::LogLine;
 use mem_core::checker::Checker;
 use std::alloc::Global;
-use step_reasons::reason::Reason;
-use step_reasons::reason_of;
+use crate::reason::Reason;
+use crate::reason_of;
 use step_rules::phase::Hold;
 use step_rules::step::{Answer, Step};
-use zone_sizes::config::Config;
+use zone_blocks::config::Config;
 
 /// The checker, once the sizes of the zone are known, and how many steps it was asked to take.
 #[derive(Drop)]

@@ -1,17 +1,17 @@
 //! The result of a check as text.
 
 ghost use Rattle.std.specs.Prelude.{◌≡◌, ◌++◌, IfOk, codes, decimal, flat_map};
-ghost use Rattle.step_reasons.specs.Texts.{reason_text, said};
+ghost use Rattle.log_check.specs.ReasonTexts.{reason_text, said};
 ghost use Rattle.log_check.specs.declared.verdict.LogVerdict.TheVariants.{Legal};
 ghost use Rattle.log_check.specs.Texts.{count_text, due_text, end_text, free_text, holder_text, illegal_text, left_text};
 ghost use Rattle.log_check.specs.Texts.{place_text, steps_text, verdict_text};
 
 use crate::verdict::{IllegalStep, LogEnd, LogVerdict};
 use itoa::Buffer;
-use log_lines::write_answer;
+use crate::write_answer;
 use std::alloc::AllocError;
-use step_reasons::reason::Reason;
-use step_reasons::write_reason;
+use crate::reason::Reason;
+use crate::write_reason;
 use step_rules::step::Answer;
 
 /// Appends the lines that say what a log is. It fails only if memory runs out.

@@ -1,7 +1,7 @@
 //! What a check says of a log, and why it may fail.
 
 use crate::line_fault::LineFault;
-use step_reasons::reason::Reason;
+use crate::reason::Reason;
 use step_rules::step::Answer;
 use thiserror::Error;
 

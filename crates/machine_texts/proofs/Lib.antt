@@ -3,3 +3,4 @@ pub mod Keepers
 pub mod Spans
 pub mod UnitLines
 pub mod Owners
+mod Adding

@@ -4,3 +4,6 @@ pub mod Places
 pub mod Show
 pub mod Stock
 pub mod Units
+pub mod Lines
+pub mod Explanation
+pub mod Refused

@@ -4,7 +4,11 @@
 
 mod blocks;
 mod characters;
+mod explanation;
+mod lines;
+mod parts;
 mod places;
+mod refused;
 mod show;
 mod stock;
 mod units;
@@ -14,3 +18,5 @@ pub use characters::push_characters;
 pub use show::write_show;
 pub use stock::write_stock;
 pub use units::write_units;
+pub use explanation::write_explanation;
+pub use refused::write_refused;

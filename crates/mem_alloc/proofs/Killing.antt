@@ -16,7 +16,7 @@ use Rattle.group_charge.proofs.SumLemmas.{share}
 use Rattle.stock_word.specs.Stock.{KnownStockTable}
 use Rattle.step_rules.specs.State.{sum_to}
 use Rattle.step_rules.specs.After.{Run}
-use Rattle.kill_notes.specs.declared.note.Note.TheVariants as notes
+use Rattle.group_charge.specs.declared.note.Note.TheVariants as notes
 use Rattle.mem_machine.specs.Machines.{IsConsistent, KnownMachine, is_killed, with_watch, with_note}
 use Rattle.mem_machine.specs.Local.{MakesForAny, visit_state}
 use Rattle.mem_machine.specs.Steps.{note_oom_steps}

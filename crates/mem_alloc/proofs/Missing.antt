@@ -4,9 +4,9 @@ use Rattle.std.specs.Prelude.{Result, Ok, Err}
 use Rattle.std.proofs.lemmas.Bool.{cases_Bool, cases_lt}
 use Rattle.frame_word.specs.Seats.{KnownTable, KnownSeat, misses_of}
 use Rattle.frame_word.specs.Views.{collected_from, passed_out_to, unfrozen}
-use Rattle.zone_sizes.specs.declared.config.Config.{Config}
+use Rattle.zone_blocks.specs.declared.config.Config.{Config}
 use Rattle.step_rules.specs.After.{Run}
-use Rattle.kill_notes.specs.declared.note.Note.TheVariants.{Zone}
+use Rattle.group_charge.specs.declared.note.Note.TheVariants.{Zone}
 use Rattle.mem_machine.specs.Machines.{KnownMachine, with_note, with_watch}
 use Rattle.mem_machine.specs.Local.{VisitState, visit_state}
 use Rattle.mem_machine.specs.Blocks.{taken_steps, unplaced_steps}

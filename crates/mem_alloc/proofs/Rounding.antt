@@ -5,8 +5,8 @@ use Rattle.std.proofs.lemmas.List.{append_assoc, append-nil}
 use Rattle.frame_word.specs.Seats.{KnownTable}
 use Rattle.cpu_part.specs.Cpus.{KnownCpu}
 use Rattle.step_rules.specs.After.{Run}
-use Rattle.kill_notes.specs.declared.note.Note.{Note}
-use Rattle.kill_notes.specs.declared.note.Note.TheVariants.{Zone}
+use Rattle.group_charge.specs.declared.note.Note.{Note}
+use Rattle.group_charge.specs.declared.note.Note.TheVariants.{Zone}
 use Rattle.mem_machine.specs.Machines.{KnownMachine, Visits, with_note}
 use Rattle.mem_machine.specs.Local.{VisitState, visit_state, MakesAs}
 use Rattle.mem_reclaim.specs.Wanted.{progress}

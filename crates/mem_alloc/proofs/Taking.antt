@@ -14,7 +14,7 @@ use Rattle.cpu_part.specs.Cpus.{KnownCpu}
 use Rattle.step_rules.specs.After.{Run}
 use Rattle.mem_machine.specs.declared.blocks.TakeFault.{TakeFault}
 use Rattle.mem_machine.specs.declared.blocks.TakeFault.TheVariants as fault
-use Rattle.kill_notes.specs.declared.note.Note.{Note}
+use Rattle.group_charge.specs.declared.note.Note.{Note}
 use Rattle.mem_machine.specs.Machines.{KnownMachine, is_killed, with_note, with_watch}
 use Rattle.mem_machine.specs.Local.{visit_state, MakesAs, VisitState}
 use Rattle.mem_machine.specs.Lending.{UnlistsMany}

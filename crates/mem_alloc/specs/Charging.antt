@@ -1,6 +1,6 @@
 -- How pages for single frames are charged, through the CPU's stock.
 use Rattle.std.specs.Prelude.{◌≡◌, ◌⊎◌, ℕ, Result, Ok, Err, ◌++◌}
-use Rattle.zone_sizes.specs.declared.config.Config.{Config}
+use Rattle.zone_blocks.specs.declared.config.Config.{Config}
 use Rattle.step_rules.specs.After.{Run}
 use Rattle.mem_machine.specs.Machines.{LacksRoom, with_watch}
 use Rattle.mem_machine.specs.Stocks.{Drains, Fills, stock_group, with_look}

@@ -2,7 +2,7 @@
 use Rattle.std.specs.Prelude.{◌≡◌, ◌⊎◌, ℕ, ◌<◌, ◌≤◌, Bool, true, false, Result, Ok, Err}
 use Rattle.std.specs.Prelude.{List, [], ◌++◌, length}
 use Rattle.zone_blocks.specs.Areas.{HasNoneFrom}
-use Rattle.zone_sizes.specs.declared.config.Config.{Config}
+use Rattle.zone_blocks.specs.declared.config.Config.{Config}
 use Rattle.step_rules.specs.After.{Run}
 use Rattle.mem_machine.specs.Machines.{is_killed}
 use Rattle.mem_machine.specs.Local.{VisitState}

@@ -4,8 +4,8 @@ use Rattle.group_tree.specs.Room.{has_room}
 use Rattle.group_charge.specs.Charges.{AreCharges, Ledger, current_of, with_oom_noted}
 use Rattle.stock_word.specs.Stock.{KnownStockTable}
 use Rattle.step_rules.specs.After.{Run}
-use Rattle.kill_notes.specs.declared.note.Note.TheVariants.{Oom}
-use Rattle.kill_notes.specs.Notes.{noted}
+use Rattle.group_charge.specs.declared.note.Note.TheVariants.{Oom}
+use Rattle.group_charge.specs.Notes.{noted}
 use Rattle.mem_machine.specs.Machines.{IsConsistent, KnownMachine, is_killed, with_watch}
 use Rattle.mem_machine.specs.Local.{MakesForAny}
 use Rattle.mem_machine.specs.Steps.{note_oom_steps}

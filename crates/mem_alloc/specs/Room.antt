@@ -3,8 +3,8 @@ use Rattle.std.specs.Prelude.{◌≡◌, ℕ, ◌<◌, ◌≤◌, true, false, O
 use Rattle.std.specs.Prelude.{List, [], ◌∷◌, ◌++◌}
 use Rattle.group_tree.specs.Groups.{limit_of}
 use Rattle.group_charge.specs.Charges.{Ledger, current_of, with_max_noted}
-use Rattle.kill_notes.specs.declared.note.Note.TheVariants.{Limit}
-use Rattle.kill_notes.specs.Notes.{KnownNotes, noted}
+use Rattle.group_charge.specs.declared.note.Note.TheVariants.{Limit}
+use Rattle.group_charge.specs.Notes.{KnownNotes, noted}
 use Rattle.step_rules.specs.After.{Run}
 use Rattle.mem_machine.specs.Machines.{KnownMachine, LacksRoom, is_killed, with_watch}
 use Rattle.mem_machine.specs.Local.{MakesForAny, VisitState, visit_state}

@@ -1,7 +1,7 @@
 -- Rounds of reclaim from the units of all groups, each followed by one more try.
 use Rattle.std.specs.Prelude.{◌≡◌, ℕ, zero, suc, ◌-◌, ◌<◌, ◌≤◌, ◌⊎◌, ◌++◌}
 use Rattle.step_rules.specs.After.{Run}
-use Rattle.kill_notes.specs.declared.note.Note.TheVariants.{Zone}
+use Rattle.group_charge.specs.declared.note.Note.TheVariants.{Zone}
 use Rattle.mem_machine.specs.Machines.{KnownMachine, with_note}
 use Rattle.mem_machine.specs.Local.{VisitState, visit_state}
 use Rattle.mem_reclaim.specs.Wanted.{progress}

@@ -16,7 +16,7 @@ use crate::room::make_room;
 use cpu_part::{BootName, Cpu, Tables};
 use frame_word::Frame;
 use group_tree::group::GroupId;
-use kill_notes::note::Note;
+use group_charge::note::Note;
 use mem_machine::{Machine, TakeFault};
 use mem_reclaim::MAX_ROUNDS;
 use zone_blocks::order::Order;

@@ -1,7 +1,7 @@
 //! Charging pages for single frames, through the CPU's stock.
 
 ghost use Rattle.std.specs.Prelude.{◌≡◌, ◌↔◌, [], IsTrue, false, OnOk};
-ghost use Rattle.zone_sizes.specs.Config.{IsValidConfig};
+ghost use Rattle.zone_blocks.specs.Config.{IsValidConfig};
 ghost use Rattle.group_tree.specs.Groups.{has_group};
 ghost use Rattle.mem_machine.specs.Machines.{Visits, is_killed};
 ghost use Rattle.mem_machine.specs.Paying.{HoldsPage, IsOfSize, MayCharge};
@@ -16,7 +16,7 @@ use cpu_part::{BootName, Cpu, Tables};
 use group_tree::group::GroupId;
 use mem_machine::Machine;
 use stock_word::Stock;
-use zone_sizes::config::Config;
+use zone_blocks::config::Config;
 
 // Whether the CPU's stock has a page of the group, as one look shows.
 fn holds_page<N: BootName>(

@@ -2,7 +2,7 @@
 
 ghost use Rattle.std.specs.Prelude.{◌≡◌, ◌+◌, ◌<◌, ◌≤◌, [], ◌∷◌, length};
 ghost use Rattle.std.specs.Prelude.{IsTrue, false, MatchResult, OnOk, IfOk, OnErr};
-ghost use Rattle.zone_sizes.specs.Config.{IsValidConfig};
+ghost use Rattle.zone_blocks.specs.Config.{IsValidConfig};
 ghost use Rattle.group_tree.specs.Groups.{has_group};
 ghost use Rattle.mem_machine.specs.Machines.{KeepsVisit, Visits};
 ghost use Rattle.mem_machine.specs.Paying.{HoldsPage, IsOfSize};
@@ -17,10 +17,10 @@ use crate::reclaims::reclaim_anywhere;
 use cpu_part::{BootName, Cpu, Tables};
 use frame_word::Frame;
 use group_tree::group::GroupId;
-use kill_notes::note::Note;
+use group_charge::note::Note;
 use mem_machine::Machine;
 use mem_reclaim::MAX_ROUNDS;
-use zone_sizes::config::Config;
+use zone_blocks::config::Config;
 
 // Reclaims one page from all groups, in rounds, and lends free frames to the CPU's list after each. A round that
 // reclaims nothing is the last. Returns whether frames were added to the list.

@@ -9,7 +9,7 @@ ghost use Rattle.mem_alloc.specs.Stepping.{ByStepsOfAny};
 use cpu_part::{BootName, Tables};
 use group_charge::charges::Charges;
 use group_tree::group::GroupId;
-use kill_notes::note::Note;
+use group_charge::note::Note;
 use mem_machine::Machine;
 use mem_reclaim::kill;
 

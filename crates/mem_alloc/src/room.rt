@@ -10,7 +10,7 @@ use crate::faults::AllocFault;
 use crate::kills::{has_room_at, kill_for_few_pages};
 use cpu_part::{BootName, Tables};
 use group_tree::group::GroupId;
-use kill_notes::note::Note;
+use group_charge::note::Note;
 use mem_machine::Machine;
 use mem_reclaim::reclaim_to_limit;
 

@@ -6,3 +6,14 @@ pub mod AccountLemmas
 pub mod Accounting
 pub mod Keeping
 pub mod Checking
+pub mod Looking
+pub mod Changing
+pub mod Adding
+pub mod Bounding
+pub mod Starting
+pub mod Tallying
+pub mod Pinning
+pub mod Referring
+pub mod Serving
+pub mod Ranges
+pub mod FreeBlocks

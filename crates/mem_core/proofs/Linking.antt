@@ -4,13 +4,13 @@ use Rattle.std.specs.List.{slice_get}
 use Rattle.std.proofs.lemmas.Option.{slice_get_past}
 use Rattle.zone_blocks.specs.declared.block.Block.{Block}
 use Rattle.step_rules.proofs.Sound.{IsSound}
-use Rattle.core_rows.specs.declared.seat.SeatRow.{SeatRow}
-use Rattle.core_rows.specs.declared.rows.Rows.{Rows}
-use Rattle.core_rows.specs.Shown.{part_of, reference_of}
-use Rattle.core_rows.specs.Shown as rows
-use Rattle.core_rows.specs.Rooms.{FitsZone, IsBelowBounds}
-use Rattle.core_rows.proofs.Looking.{past_default}
-use Rattle.core_rows.proofs.Bounding.{IsBounded, few_from}
+use Rattle.mem_core.specs.declared.seat.SeatRow.{SeatRow}
+use Rattle.mem_core.specs.declared.rows.Rows.{Rows}
+use Rattle.mem_core.specs.Rows.{part_of, reference_of}
+use Rattle.mem_core.specs.Rows as rows
+use Rattle.mem_core.specs.Rooms.{FitsZone, IsBelowBounds}
+use Rattle.mem_core.proofs.Looking.{past_default}
+use Rattle.mem_core.proofs.Bounding.{IsBounded, few_from}
 use Rattle.mem_core.specs.declared.reading_core.Core.TheInside.{Inside}
 use Rattle.mem_core.specs.Shown.{reference_at, part_at, state_shown}
 use Rattle.mem_core.specs.Accounts.{Account}

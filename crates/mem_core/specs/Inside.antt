@@ -6,11 +6,11 @@ use Rattle.zone_blocks.specs.Areas.{AreMaximalBlocks}
 use Rattle.step_rules.specs.State.{free_in}
 use Rattle.step_rules.proofs.Sound.{IsSound}
 use Rattle.step_rules.proofs.Homes.{IsHomed}
-use Rattle.core_rows.specs.declared.seat.SeatRow.{SeatRow}
-use Rattle.core_rows.specs.declared.rows.Rows.{Rows}
-use Rattle.core_rows.specs.Shown.{state_in, part_in}
-use Rattle.core_rows.specs.Rooms.{FitsZone}
-use Rattle.core_rows.proofs.Bounding.{IsBounded}
+use Rattle.mem_core.specs.declared.seat.SeatRow.{SeatRow}
+use Rattle.mem_core.specs.declared.rows.Rows.{Rows}
+use Rattle.mem_core.specs.Rows.{state_in, part_in}
+use Rattle.mem_core.specs.Rooms.{FitsZone}
+use Rattle.mem_core.proofs.Bounding.{IsBounded}
 use Rattle.mem_core.specs.declared.reading_core.Core.TheInside.{Inside}
 use Rattle.mem_core.specs.Accounts.{Account, HaveSmallPeaks}
 use Rattle.mem_core.specs.Shown.{SeatState, CoreState}

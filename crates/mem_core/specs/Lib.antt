@@ -4,3 +4,7 @@ pub mod Inside
 pub mod Promise
 pub mod Ready
 pub mod Shown
+pub mod Rows
+pub mod Rooms
+pub mod Counted
+pub mod Tables

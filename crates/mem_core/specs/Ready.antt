@@ -2,9 +2,9 @@
 use Rattle.std.specs.Prelude.{◌≡◌, ◌*◌, ◌^◌, ◌<◌, ◌≤◌, [], vec_capacity}
 use Rattle.step_rules.proofs.Sound.{IsSound}
 use Rattle.step_rules.proofs.Homes.{IsHomed}
-use Rattle.core_rows.specs.Shown.{state_in}
-use Rattle.core_rows.specs.Rooms.{FitsZone}
-use Rattle.core_rows.proofs.Bounding.{IsBounded}
+use Rattle.mem_core.specs.Rows.{state_in}
+use Rattle.mem_core.specs.Rooms.{FitsZone}
+use Rattle.mem_core.proofs.Bounding.{IsBounded}
 use Rattle.mem_core.specs.declared.checker.Checker.TheInside.{Inside}
 use Rattle.mem_core.specs.Shown.{CoreState}
 use Rattle.mem_core.specs.Inside.{rows_shown}

@@ -14,7 +14,7 @@ use Rattle.step_rules.specs.State.{Zone, Part, State, no_part, free_in}
 use Rattle.step_rules.specs.After.{Run, state_of, IsLegalRun}
 use Rattle.step_rules.specs.Peaks.{IsPeak}
 use Rattle.step_rules.specs.Events.{events_of, events_local_of}
-use Rattle.zone_sizes.specs.declared.config.Config.{Config}
+use Rattle.zone_blocks.specs.declared.config.Config.{Config}
 use Rattle.mem_core.specs.Accounts.{Account, account_of}
 
 -- the frames and the CPUs of a zone that boots with these sizes

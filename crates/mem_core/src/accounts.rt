@@ -3,15 +3,15 @@
 ghost use Rattle.std.specs.Prelude.{◌≡◌, ◌^◌, ◌<◌, ◌==◌, IfOk, vec_len, replicate};
 ghost use Rattle.step_rules.specs.Peaks.{peak_follows};
 ghost use Rattle.step_rules.specs.Events.{makes_group, note_of};
-ghost use Rattle.core_rows.specs.Shown.{state_in};
-ghost use Rattle.core_rows.specs.Rooms.{FitsZone, IsBelowBounds};
+ghost use Rattle.mem_core.specs.Rows.{state_in};
+ghost use Rattle.mem_core.specs.Rooms.{FitsZone, IsBelowBounds};
 ghost use Rattle.mem_core.specs.Accounts.{new_account, account_after, events_after, AccountsFollow, HaveSmallPeaks};
 ghost use Rattle.mem_core.specs.Accounts.{granted_to};
 ghost use Rattle.group_tree.specs.Bounds.{most_groups};
 ghost use Rattle.group_tree.specs.Groups.{in_subtree};
 
 use crate::account::Account;
-use core_rows::rows::Rows;
+use crate::rows::Rows;
 use group_tree::event::{EventCounts, EventKey};
 use group_tree::group::{GroupId, MAX_GROUPS};
 use std::alloc::{AllocError, Global};

@@ -6,13 +6,13 @@ ghost use Rattle.mem_core.specs.Shown.{zone_of};
 ghost use Rattle.mem_core.specs.Promise.{AlwaysKeepsPromise};
 ghost use Rattle.mem_core.specs.Checked.{IsVerdict};
 ghost use Rattle.mem_core.specs.declared.verdict.Verdict.TheVariants.{Legal};
-ghost use Rattle.zone_sizes.specs.Config.{IsValidConfig};
+ghost use Rattle.zone_blocks.specs.Config.{IsValidConfig};
 
 use crate::checker::Checker;
 use crate::verdict::Verdict;
 use std::alloc::{AllocError, Global};
 use step_rules::step::{Answer, Step};
-use zone_sizes::config::Config;
+use zone_blocks::config::Config;
 
 /// Says whether a log is a legal run of a zone of these sizes. The log is the steps of any memory controller with
 /// their answers; who wrote it doesn't matter. A legal log keeps the promise after each of its beginnings that leaves

@@ -6,23 +6,23 @@ ghost use Rattle.step_rules.specs.Legal.{Allows};
 ghost use Rattle.step_rules.specs.Answers.{IsPlacing};
 ghost use Rattle.step_rules.specs.declared.step.Answer.TheVariants.{Placed};
 ghost use Rattle.group_tree.specs.Groups.{AreGroups};
-ghost use Rattle.core_rows.specs.Shown.{state_in};
-ghost use Rattle.core_rows.specs.Rooms.{AreasFor, FitsZone, IsBelowBounds};
+ghost use Rattle.mem_core.specs.Rows.{state_in};
+ghost use Rattle.mem_core.specs.Rooms.{AreasFor, FitsZone, IsBelowBounds};
 ghost use Rattle.mem_core.specs.Shown.{state_shown, zone_of};
 ghost use Rattle.mem_core.specs.Checked.{Leads};
-ghost use Rattle.zone_sizes.specs.Config.{IsValidConfig};
+ghost use Rattle.zone_blocks.specs.Config.{IsValidConfig};
 
 use crate::free_areas::set_areas;
-use core_rows::rows::Rows;
-use core_steps::claims::place_at;
-use core_steps::due::due_answer;
-use core_steps::serve::{pages_asked, serve};
+use crate::rows::Rows;
+use crate::claims::place_at;
+use crate::due::due_answer;
+use crate::serve::{pages_asked, serve};
 use std::alloc::{AllocError, Global};
 use std::marker::Model;
 use step_rules::step::{Action, Answer, Step};
 use zone_blocks::areas::FreeAreas;
 use zone_blocks::block::Block;
-use zone_sizes::config::Config;
+use zone_blocks::config::Config;
 
 /// The checker. It tracks the state as `Core` does, but keeps no accounts. It computes the free areas only for a
 /// placing whose answer in the log isn't a block that may be placed. A contract sees it as a `CoreState` without

@@ -3,9 +3,9 @@
 ghost use Rattle.std.specs.Prelude.{◌≡◌, ◌≤◌, vec_capacity};
 ghost use Rattle.zone_blocks.specs.Areas.{AreMaximalBlocks};
 ghost use Rattle.step_rules.specs.State.{free_in};
-ghost use Rattle.core_rows.specs.Shown.{state_in};
+ghost use Rattle.mem_core.specs.Rows.{state_in};
 
-use core_rows::rows::Rows;
+use crate::rows::Rows;
 use zone_blocks::areas::FreeAreas;
 
 /// Sets the areas to the maximal blocks of the frames that are free by the rows. `free` is scratch space.

@@ -5,12 +5,31 @@
 
 pub mod account;
 mod accounts;
+pub mod blocks;
+pub mod boot;
 pub mod check;
 pub mod checker;
+pub mod claims;
+pub mod due;
 mod free_areas;
+pub mod groups;
+pub mod hand_over;
+pub mod holds;
+pub mod legal;
+pub mod lock;
+pub mod phase_table;
+pub mod phases;
 pub mod reading_core;
+pub mod reference_counts;
+pub mod references;
+pub mod rows;
 pub mod run;
+pub mod seat;
+pub mod serve;
+pub mod stocks;
+pub mod sums;
+pub mod tally;
 pub mod verdict;
 
 pub use step_rules::step::{Action, Answer, Step};
-pub use zone_sizes::config::Config;
+pub use zone_blocks::config::Config;

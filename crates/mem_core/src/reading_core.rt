@@ -8,20 +8,20 @@ ghost use Rattle.step_rules.specs.Peaks.{UsageMoves};
 ghost use Rattle.step_rules.specs.After.{Run, after};
 ghost use Rattle.mem_core.specs.Shown.{CoreState, Shows, state_shown, zone_of, HasMaximalAreas};
 ghost use Rattle.mem_core.specs.Promise.{PlacesFrontIn, KeepsPromise};
-ghost use Rattle.zone_sizes.specs.Config.{IsValidConfig};
+ghost use Rattle.zone_blocks.specs.Config.{IsValidConfig};
 
 mod readers;
 
 use crate::account::Account;
 use crate::accounts::{new_accounts, update_accounts};
 use crate::free_areas::set_areas;
-use core_rows::rows::Rows;
-use core_steps::serve::{pages_asked, serve};
+use crate::rows::Rows;
+use crate::serve::{pages_asked, serve};
 use std::alloc::{AllocError, Global};
 use std::marker::Model;
 use step_rules::step::{Answer, Step};
 use zone_blocks::areas::FreeAreas;
-use zone_sizes::config::Config;
+use zone_blocks::config::Config;
 
 /// The core. A contract sees it as a `CoreState`.
 #[derive(Drop)]

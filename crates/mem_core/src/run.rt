@@ -5,12 +5,12 @@ ghost use Rattle.std.specs.List.{zip};
 ghost use Rattle.step_rules.specs.After.{IsLegalRun};
 ghost use Rattle.mem_core.specs.Shown.{Shows, zone_of, HasMaximalAreas};
 ghost use Rattle.mem_core.specs.Promise.{KeepsPromise, AlwaysKeepsPromise, AlwaysPlacesFirst};
-ghost use Rattle.zone_sizes.specs.Config.{IsValidConfig};
+ghost use Rattle.zone_blocks.specs.Config.{IsValidConfig};
 
 use crate::reading_core::Core;
 use std::alloc::{AllocError, Global};
 use step_rules::step::{Answer, Step};
-use zone_sizes::config::Config;
+use zone_blocks::config::Config;
 
 /// The core after a list of steps, and their answers.
 #[derive(Drop)]

@@ -17,8 +17,8 @@ use Rattle.group_tree.specs.declared.group.Group.{Group}
 use Rattle.group_tree.specs.Groups.{has_group, in_subtree}
 use Rattle.group_tree.proofs.CallerLemmas.{in_subtree-below}
 use Rattle.cpu_part.specs.Cpus.{KnownCpu}
-use Rattle.kill_notes.specs.declared.note.Note.TheVariants.{Stock}
-use Rattle.kill_notes.specs.Notes.{KnownNotes, noted as added}
+use Rattle.group_charge.specs.declared.note.Note.TheVariants.{Stock}
+use Rattle.group_charge.specs.Notes.{KnownNotes, noted as added}
 use Rattle.mem_machine.specs.Machines.{KnownMachine}
 use Rattle.step_rules.specs.State.{Part}
 use Rattle.step_rules.specs.After.{Run}

@@ -31,7 +31,7 @@ use Rattle.mem_machine.specs.Counts.{with_freeze, with_miss}
 use Rattle.mem_machine.specs.Counting.{one_more_freeze}
 use Rattle.mem_machine.specs.Lists.{LeavesList}
 use Rattle.mem_machine.specs.Evicting.{MissesUnit, EvictsUnit, evict_steps}
-use Rattle.kill_notes.specs.Notes.{KnownNotes, unit_noted}
+use Rattle.group_charge.specs.Notes.{KnownNotes, unit_noted}
 use Rattle.mem_machine.proofs.Balances.{balanced_freeze}
 use Rattle.mem_machine.proofs.Reaching.{zone_step}
 use Rattle.mem_machine.proofs.Holds.{zone_may_act}

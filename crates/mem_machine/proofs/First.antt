@@ -9,7 +9,7 @@ use Rattle.frame_word.specs.Views.{note_of, blank}
 use Rattle.frame_word.specs.Seats.{KnownTable, KnownSeat, number_of, first_zone_view}
 use Rattle.stock_word.specs.Stock.{KnownStockTable, KnownStockSeat, account_of, first_zone_stock_view}
 use Rattle.group_charge.specs.Charges.{Ledger, initial_ledger, pages_of, account_at}
-use Rattle.kill_notes.specs.Notes.{no_notes}
+use Rattle.group_charge.specs.Notes.{no_notes}
 use Rattle.lru_lists.specs.declared.record.Link.{Link}
 use Rattle.lru_lists.specs.declared.record.Home.{Home}
 use Rattle.lru_lists.specs.declared.lru.Lru.{Lru}

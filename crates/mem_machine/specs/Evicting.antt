@@ -3,7 +3,7 @@ use Rattle.std.specs.Prelude.{◌≡◌, ◌≢◌, ℕ, ◌^◌, Option, Some, 
 use Rattle.zone_blocks.specs.Areas.{AreMaximalBlocks}
 use Rattle.frame_word.specs.Views.{frozen, missed}
 use Rattle.frame_word.specs.Seats.{seat_with}
-use Rattle.kill_notes.specs.Notes.{unit_noted}
+use Rattle.group_charge.specs.Notes.{unit_noted}
 use Rattle.group_charge.specs.Charges.{UsageRises, with_uncharge}
 use Rattle.step_rules.specs.declared.phase.ChargedUnit.{ChargedUnit}
 use Rattle.step_rules.specs.declared.step.Action.TheVariants.{Freeze, Return}

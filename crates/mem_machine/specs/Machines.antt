@@ -29,8 +29,8 @@ use Rattle.mem_machine.specs.declared.frame_state.FrameState.{FrameState}
 use Rattle.mem_machine.specs.declared.frame_state.FrameState.TheVariants.{Free}
 use Rattle.mem_machine.specs.declared.counts.Counts.{Counts}
 use Rattle.step_watch.specs.Watched.{KnownWatch}
-use Rattle.kill_notes.specs.declared.note.Note.{Note}
-use Rattle.kill_notes.specs.Notes.{KnownNotes, forgotten, no_notes, noted}
+use Rattle.group_charge.specs.declared.note.Note.{Note}
+use Rattle.group_charge.specs.Notes.{KnownNotes, forgotten, no_notes, noted}
 -- the units freed are the last puts, the freezes and the killed fresh frames together, or the greatest count if that
 -- is less
 pub use Rattle.mem_machine.specs.Counts.{BalancesCounts}

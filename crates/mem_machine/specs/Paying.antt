@@ -5,7 +5,7 @@ use Rattle.stock_word.specs.declared.view.Stock.{Stock}
 use Rattle.stock_word.specs.Stock.{account_of, pages_of, group_of, is_held}
 use Rattle.cpu_part.specs.Calls.{TakesFront}
 use Rattle.group_tree.specs.Groups.{has_group}
-use Rattle.zone_sizes.specs.Config.{most_cpus, most_frames}
+use Rattle.zone_blocks.specs.Config.{most_cpus, most_frames}
 use Rattle.group_charge.specs.Charges.{current_of}
 use Rattle.mem_machine.specs.Machines.{KnownMachine, VisitState, is_killed}
 use Rattle.mem_machine.specs.Stocks.{stock_group}

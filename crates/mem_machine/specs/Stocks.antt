@@ -9,8 +9,8 @@ use Rattle.group_tree.specs.Room.{PathHasRoom}
 use Rattle.group_charge.specs.declared.charges.Over.{Over}
 use Rattle.group_charge.specs.Charges.{Ledger, current_of, with_charge, with_uncharge}
 use Rattle.group_tree.specs.declared.group.Group.{Group}
-use Rattle.kill_notes.specs.declared.note.Note.TheVariants.{Stock}
-use Rattle.kill_notes.specs.Notes.{noted}
+use Rattle.group_charge.specs.declared.note.Note.TheVariants.{Stock}
+use Rattle.group_charge.specs.Notes.{noted}
 use Rattle.step_rules.specs.Usage.{is_in_subtree}
 use Rattle.step_rules.specs.Legal.{is_of_group}
 use Rattle.step_rules.specs.After.{Run}

@@ -13,7 +13,7 @@ use crate::start::{frame_parts, group_parts};
 use cpu_part::{BootName, Tables};
 use frame_word::FrameSeat;
 use group_charge::charges::Charges;
-use kill_notes::notes::Notes;
+use group_charge::notes::Notes;
 use lru_lists::links::Links;
 use lru_lists::lru::Lru;
 use std::alloc::{AllocError, Global};

@@ -5,7 +5,7 @@ ghost use Rattle.mem_machine.specs.Machines.{with_note, with_unit_notes, without
 
 use crate::machine::Machine;
 use cpu_part::BootName;
-use kill_notes::note::Note;
+use group_charge::note::Note;
 
 impl<N: BootName> Machine<N> {
     /// The notes since the last `forget_notes`, the oldest first: limits without room, what was tried there, which

@@ -16,7 +16,7 @@ use cpu_part::{BootName, Cpu, Tables};
 use group_charge::charges::Over;
 use group_tree::group::GroupId;
 use group_tree::tree::Tree;
-use kill_notes::note::Note;
+use group_charge::note::Note;
 
 // Whether `other` is `group` or a descendant of it. Another group that is no deeper is neither, and most stocks are of
 // such a group: the depths spare the walk up from it.

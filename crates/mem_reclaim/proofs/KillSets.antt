@@ -16,7 +16,7 @@ use Rattle.step_rules.specs.declared.step.Answer.{Answer}
 use Rattle.step_rules.specs.declared.step.Step.{Step}
 use Rattle.step_rules.specs.After.{Run}
 use Rattle.step_rules.specs.Legal.{is_of_group}
-use Rattle.kill_notes.specs.declared.note.Note.{Note}
+use Rattle.group_charge.specs.declared.note.Note.{Note}
 use Rattle.mem_machine.specs.Machines.{KnownMachine, is_killed, visit_state, with_note}
 use Rattle.mem_machine.specs.Local.{MakesForAny}
 use Rattle.mem_machine.specs.Steps.{kill_steps, note_group_kill_steps}

@@ -2,7 +2,7 @@
 use Rattle.std.proofs.Common.{◌≡◌, ℕ, ◌-◌, ◌<◌, Bool, Some, None, refl, sym, ap, ◌∙◌, subst, inl, inr, arith}
 use Rattle.group_tree.specs.Room.{max_count}
 use Rattle.group_charge.specs.Charges.{current_of}
-use Rattle.kill_notes.specs.declared.note.Note.TheVariants as note
+use Rattle.group_charge.specs.declared.note.Note.TheVariants as note
 use Rattle.mem_machine.specs.Machines.{KnownMachine, with_note}
 use Rattle.mem_reclaim.specs.Killing.{KillsRootOrVictim, KillsGroupNoted, kept_units}
 use Rattle.mem_reclaim.specs.Laws.{LoneKillsAreNotedAsMade, MissedUnitsWereTried, RoundsAreNotedAsMade, TheVictimIsOne}

@@ -6,8 +6,8 @@ use Rattle.std.proofs.lemmas.List.{append_assoc, append-nil}
 use Rattle.frame_word.specs.Seats.{KnownTable}
 use Rattle.group_charge.specs.Charges.{current_of}
 use Rattle.step_rules.specs.After.{Run}
-use Rattle.kill_notes.specs.declared.note.Note.{Note}
-use Rattle.kill_notes.specs.declared.note.Note.TheVariants.{Asked}
+use Rattle.group_charge.specs.declared.note.Note.{Note}
+use Rattle.group_charge.specs.declared.note.Note.TheVariants.{Asked}
 use Rattle.mem_machine.specs.Machines.{KnownMachine, with_note}
 use Rattle.mem_reclaim.specs.Wanted.{AfterNote, FreesNothing, Reclaiming, progress}
 use Rattle.mem_reclaim.specs.Moves.{FreesPages, FreesBySteps}

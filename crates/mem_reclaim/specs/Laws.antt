@@ -8,7 +8,7 @@ use Rattle.group_charge.specs.Charges.{current_of}
 use Rattle.lru_lists.specs.declared.record.Home.{Home}
 use Rattle.lru_lists.specs.Queue.{link_at}
 use Rattle.step_rules.specs.After.{Run}
-use Rattle.kill_notes.specs.declared.note.Note.TheVariants as note
+use Rattle.group_charge.specs.declared.note.Note.TheVariants as note
 use Rattle.mem_machine.specs.Machines.{KnownMachine, home_of, with_note}
 use Rattle.mem_reclaim.specs.declared.sets.Killed.{Killed}
 use Rattle.mem_reclaim.specs.Killing.{IsKilledBy, kept_units}

@@ -1,8 +1,8 @@
 -- Rounds of reclaim while pages are missing.
 use Rattle.std.specs.Prelude.{◌≡◌, ℕ, zero, suc, ◌+◌, ◌-◌, ◌≤◌, ◌⊎◌}
 use Rattle.group_charge.specs.Charges.{Ledger, current_of}
-use Rattle.kill_notes.specs.declared.note.Note.{Note}
-use Rattle.kill_notes.specs.declared.note.Note.TheVariants.{Asked, Round}
+use Rattle.group_charge.specs.declared.note.Note.{Note}
+use Rattle.group_charge.specs.declared.note.Note.TheVariants.{Asked, Round}
 use Rattle.mem_machine.specs.Machines.{KnownMachine, with_note}
 use Rattle.mem_reclaim.specs.Moves.{Rises, all_missed_in, returned_in}
 use Rattle.mem_reclaim.specs.Wanted.{AfterNote, BothFree, FreesNothing, Progress, Reclaiming, progress}

@@ -5,8 +5,8 @@ use Rattle.std.specs.List.{range_with_len}
 use Rattle.group_tree.specs.Bounds.{most_groups}
 use Rattle.group_tree.specs.declared.group.Group.{Group}
 use Rattle.group_tree.specs.Groups.{in_subtree, is_oom_group}
-use Rattle.kill_notes.specs.declared.note.Note.{Note}
-use Rattle.kill_notes.specs.declared.note.Note.TheVariants as note
+use Rattle.group_charge.specs.declared.note.Note.{Note}
+use Rattle.group_charge.specs.declared.note.Note.TheVariants as note
 use Rattle.mem_machine.specs.Machines.{KnownMachine}
 use Rattle.mem_reclaim.specs.declared.sets.Killed.{Killed}
 use Rattle.mem_reclaim.specs.Victim.{may_be_killed}

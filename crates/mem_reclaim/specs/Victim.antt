@@ -3,9 +3,9 @@ use Rattle.std.specs.Prelude.{◌≡◌, ℕ, ◌≤◌, ◌==◌, ◌&&◌, ◌
 use Rattle.group_tree.specs.Bounds.{most_groups}
 use Rattle.group_tree.specs.Groups.{in_subtree}
 use Rattle.step_rules.specs.State.{one_if, sum_to}
-use Rattle.kill_notes.specs.declared.note.Candidate.{Candidate}
-use Rattle.kill_notes.specs.declared.note.Note.{Note}
-use Rattle.kill_notes.specs.declared.note.Note.TheVariants.{Victim}
+use Rattle.group_charge.specs.declared.note.Candidate.{Candidate}
+use Rattle.group_charge.specs.declared.note.Note.{Note}
+use Rattle.group_charge.specs.declared.note.Note.TheVariants.{Victim}
 use Rattle.mem_machine.specs.Machines.{KnownMachine, is_killed, frames_charged}
 
 -- the other group is the group or a descendant of it, and isn't killed

@@ -1,7 +1,7 @@
 -- Actions made one after the other while pages are still wanted.
 use Rattle.std.specs.Prelude.{◌≡◌, ℕ, ◌+◌, ◌-◌, ◌≤◌, ◌⊎◌, List, [], ◌∷◌, ◌++◌}
 use Rattle.step_rules.specs.After.{Run}
-use Rattle.kill_notes.specs.declared.note.Note.{Note}
+use Rattle.group_charge.specs.declared.note.Note.{Note}
 use Rattle.mem_machine.specs.Machines.{KnownMachine, with_note}
 
 -- What a reclaim or a part of it did: how many pages it freed, the machine before, the steps, and the machine after.

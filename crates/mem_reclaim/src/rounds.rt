@@ -11,7 +11,7 @@ use crate::reclaiming::{Reclaimed, reclaim};
 use cpu_part::{BootName, Tables};
 use group_charge::charges::Charges;
 use group_tree::group::GroupId;
-use kill_notes::note::Note;
+use group_charge::note::Note;
 use mem_machine::Machine;
 
 /// The greatest number of rounds of reclaim before a limit. Linux makes as many (`MAX_RECLAIM_RETRIES`), but counts

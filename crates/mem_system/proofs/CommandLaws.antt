@@ -5,8 +5,8 @@ use Rattle.std.proofs.lemmas.Bool.{cases_eq, cases_lt}
 use Rattle.std.proofs.lemmas.List.{append-nil, length-take-le, nil_from_length}
 use Rattle.group_tree.specs.declared.fault.Fault.{Fault}
 use Rattle.group_tree.specs.declared.fault.Fault.TheVariants as fault
-use Rattle.zone_sizes.specs.declared.config.Config.{Config}
-use Rattle.zone_sizes.specs.Config.{IsValidConfig}
+use Rattle.zone_blocks.specs.declared.config.Config.{Config}
+use Rattle.zone_blocks.specs.Config.{IsValidConfig}
 use Rattle.control_files.specs.declared.file.File.{File}
 use Rattle.control_files.specs.declared.file.File.TheVariants.{Reclaim}
 use Rattle.control_files.specs.Files.{name_of}

@@ -10,7 +10,7 @@ use Rattle.group_tree.specs.Groups.{has_group, in_subtree, limit_of, number_at, 
 use Rattle.group_tree.specs.Room.{fits_limit}
 use Rattle.group_tree.proofs.CallerLemmas.{limit_of-limited}
 use Rattle.group_charge.specs.Charges.{current_of}
-use Rattle.zone_sizes.specs.declared.config.Config.{Config}
+use Rattle.zone_blocks.specs.declared.config.Config.{Config}
 use Rattle.control_files.specs.declared.file.File.{File}
 use Rattle.control_files.specs.declared.file.File.TheVariants.{Max, OomGroup, Reclaim}
 use Rattle.cpu_part.specs.Cpus.{KnownCpu}

@@ -8,7 +8,7 @@ use Rattle.group_tree.specs.declared.fault.Fault.TheVariants as fault
 use Rattle.group_charge.specs.Charges.{current_of}
 use Rattle.control_files.specs.declared.file.File.{File}
 use Rattle.control_files.specs.declared.file.File.TheVariants.{Max, OomGroup, Reclaim}
-use Rattle.zone_sizes.specs.declared.config.Config.{Config}
+use Rattle.zone_blocks.specs.declared.config.Config.{Config}
 use Rattle.mem_machine.specs.declared.releasing.Released.TheVariants as released
 use Rattle.mem_machine.specs.Machines.{KnownMachine, with_watch}
 use Rattle.mem_machine.specs.Local.{VisitState, visit_state}

@@ -4,8 +4,8 @@ use Rattle.frame_word.specs.Seats.{KnownTable, KnownSeat, first_zone_view, first
 use Rattle.stock_word.specs.Stock.{KnownStockTable, KnownStockSeat, first_zone_stock_view, first_cpu_stock_view}
 use Rattle.stock_word.specs.Stock.{first_seats}
 use Rattle.cpu_part.specs.Cpus.{KnownCpu, first_cpu}
-use Rattle.zone_sizes.specs.declared.config.Config.{Config}
-use Rattle.zone_sizes.specs.Config.{IsValidConfig}
+use Rattle.zone_blocks.specs.declared.config.Config.{Config}
+use Rattle.zone_blocks.specs.Config.{IsValidConfig}
 
 -- a boot: its sizes and its two tables
 pub record KnownBoot : Type 0 where

@@ -17,7 +17,7 @@ use group_tree::group::GroupId;
 use mem_alloc::{AllocFault, alloc_block, alloc_frame};
 use mem_machine::Machine;
 use zone_blocks::order::Order;
-use zone_sizes::config::Config;
+use zone_blocks::config::Config;
 
 // The outcome of an allocation.
 pub(crate) fn outcome_of(answer: &Result<Frame, AllocFault>) -> Outcome

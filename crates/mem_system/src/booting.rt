@@ -4,13 +4,13 @@
 ghost use Rattle.std.specs.Prelude.{◌≡◌, ◌↔◌, IfOk};
 ghost use Rattle.mem_system.specs.Boots.{IsSizedAs};
 ghost use Rattle.mem_system.specs.declared.boots.BootFault.TheVariants.{BadConfig};
-ghost use Rattle.zone_sizes.specs.Config.{IsValidConfig};
+ghost use Rattle.zone_blocks.specs.Config.{IsValidConfig};
 
 use crate::boots::{Boot, BootFault};
 use frame_word::FrameWords;
 use std::alloc::Global;
 use stock_word::StockWords;
-use zone_sizes::config::Config;
+use zone_blocks::config::Config;
 
 /// Boots a zone of these sizes: makes its two tables, with all their seats. `BadConfig` is returned exactly if a size
 /// is out of its range, else `NoMemory` if memory runs out.

@@ -17,7 +17,7 @@ use mem_machine::Machine;
 use std::alloc::{AllocError, Global};
 use std::marker::Model;
 use stock_word::{StockSeat, StockWords};
-use zone_sizes::config::Config;
+use zone_blocks::config::Config;
 
 /// Why there is no boot.
 #[derive(Clone, Copy, Debug, PartialEq, Eq)]

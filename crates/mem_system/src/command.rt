@@ -18,7 +18,7 @@ use group_tree::fault::Fault;
 use group_tree::group::GroupId;
 use group_tree::path::PathText;
 use mem_machine::Machine;
-use zone_sizes::config::Config;
+use zone_blocks::config::Config;
 
 /// A command of a CPU. Paths and file names may be any bytes.
 #[derive(Clone, Copy, PartialEq, Eq)]

@@ -44,4 +44,4 @@ pub use system::System;
 pub use system_end::Held;
 pub use texts::{blocks_text, show_text};
 pub use visits::{serve, serve_frame_outcome, serve_outcome, settle};
-pub use zone_sizes::config::Config;
+pub use zone_blocks::config::Config;

@@ -17,7 +17,7 @@ use std::marker::Model;
 use step_rules::step::{Action, Answer};
 use step_watch::Watch;
 use stock_word::StockSeat;
-use zone_sizes::config::Config;
+use zone_blocks::config::Config;
 
 /// What lies behind the zone's lock: the machine, the sizes of the boot, and room for the CPUs' seats at the end.
 #[derive(Drop)]

@@ -1,7 +1,7 @@
 //! Releasing kept units.
 
 ghost use Rattle.std.specs.Prelude.{◌≡◌, ◌↔◌, ◌<◌, ◌≤◌, IsTrue, [], length};
-ghost use Rattle.zone_sizes.specs.Config.{IsValidConfig};
+ghost use Rattle.zone_blocks.specs.Config.{IsValidConfig};
 ghost use Rattle.step_rules.specs.declared.phase.ChargedUnit.{ChargedUnit};
 ghost use Rattle.mem_machine.specs.declared.frame_state.FrameState.TheVariants.{Free, Head};
 ghost use Rattle.mem_machine.specs.FrameStates.{frame_state_at};
@@ -17,7 +17,7 @@ use cpu_part::{BootName, Cpu, Tables};
 use frame_word::Frame;
 use group_tree::fault::Fault;
 use mem_machine::{Machine, Released};
-use zone_sizes::config::Config;
+use zone_blocks::config::Config;
 
 // Whether the unit that the frame heads is a single frame.
 fn is_single<N: BootName>(machine: &Machine<N>, frame: Frame) -> bool

@@ -1,6 +1,6 @@
 -- What a text says, once it is cut at its first space.
 use Rattle.std.proofs.Common.{◌≡◌, ◌≢◌, ℕ, List, ◌∷◌, ◌++◌, Option, None, Some, MatchOption, subst, sym, ap, ◌∙◌, codes, refl, Bool, true, false, inl, inr}
-use Rattle.zone_sizes.specs.declared.config.Config.{Config}
+use Rattle.zone_blocks.specs.declared.config.Config.{Config}
 use Rattle.script_lines.specs.Script.{BeginsWithName, HasArguments, IsAllocText, IsCommandText, IsCut, IsPathText}
 use Rattle.script_lines.specs.Script.{IsLineText, IsReadText, IsRequestText, IsWriteText, WritesNumber, is_go}
 use Rattle.script_lines.specs.declared.line.Line.{Line}

@@ -17,7 +17,7 @@ use crate::place::{place_by_one, place_of};
 use crate::verb::{Names, Verb, command_names, first_verb};
 use group_tree::group::MAX_GROUPS;
 use std::alloc::Global;
-use zone_sizes::config::Config;
+use zone_blocks::config::Config;
 
 /// The most bytes that a script has.
 pub const MAX_INPUT: usize = 1_048_576;

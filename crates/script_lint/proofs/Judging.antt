@@ -4,7 +4,7 @@ use Rattle.std.specs.Str.{bytes_eq}
 use Rattle.std.proofs.lemmas.Slice.Eq.{bytes_eq-Decides}
 use Rattle.control_files.specs.Files.{name_of}
 use Rattle.control_files.specs.declared.file.File.{File}
-use Rattle.zone_sizes.specs.declared.config.Config.{Config}
+use Rattle.zone_blocks.specs.declared.config.Config.{Config}
 use Rattle.script_lines.specs.Script.{IsLineText}
 use Rattle.script_lines.specs.declared.line.Command.TheVariants.{Read, Write}
 use Rattle.script_lines.specs.declared.line.Line.{Line}

@@ -2,7 +2,7 @@
 use Rattle.std.proofs.Common.{◌≡◌, ◌∙◌, ◌++◌, ◌<◌, ℕ, List, [], Bool, true, false, Result, Ok, Err, IfOk, ap, append_assoc, arith, eqb, nat_lt, refl}
 use Rattle.std.specs.Prelude.{if◌then◌else◌, is_ok}
 use Rattle.std.proofs.lemmas.Bool.{eqb-false, ltb-false}
-use Rattle.zone_sizes.specs.declared.config.Config.{Config}
+use Rattle.zone_blocks.specs.declared.config.Config.{Config}
 use Rattle.script_lint.specs.Texts.{default_text, given_text, sizes_text}
 
 -- a piece that is written, or not

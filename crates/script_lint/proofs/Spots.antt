@@ -3,7 +3,7 @@ use Rattle.std.proofs.Common.{◌≡◌, ℕ, ◌<◌, List, length, Bool, true,
 use Rattle.std.specs.Prelude.{if◌then◌else◌, ⊤}
 use Rattle.std.proofs.lemmas.Bool.{ltb-false, ltb-true}
 use Rattle.std.proofs.lemmas.List.{length-take-le}
-use Rattle.zone_sizes.specs.declared.config.Config.{Config}
+use Rattle.zone_blocks.specs.declared.config.Config.{Config}
 use Rattle.script_lint.specs.Causes.{byte_at, cause_at, is_between_words, is_double_space, is_printable}
 use Rattle.script_lint.specs.Causes.{is_number_out_of_range, is_unknown_command}
 use Rattle.script_lint.specs.Causes.{is_no_cpu, later_cause_at, is_frame_out_of_zone, is_group_out_of_range}

@@ -2,7 +2,7 @@
 use Rattle.std.specs.Prelude.{◌≡◌, ◌⊎◌, ℕ, ◌+◌, ◌-◌, ◌<◌, ◌≤◌, false, List, [], ◌∷◌, All, length, slice_get, take}
 use Rattle.std.specs.Prelude.{Option, None, Some, ⊤}
 use Rattle.std.specs.List.{AllPairs}
-use Rattle.zone_sizes.specs.declared.config.Config.{Config}
+use Rattle.zone_blocks.specs.declared.config.Config.{Config}
 use Rattle.script_lines.specs.Script.{IsGoodLine, ended_lines, has_go, longest_script, texts_of}
 use Rattle.script_lint.specs.Lines.{IsGoodHere, IsSpot}
 use Rattle.script_lint.specs.declared.finding.Finding.{Finding}

@@ -1,7 +1,7 @@
 -- Where a line goes wrong, and why.
 use Rattle.std.specs.Prelude.{◌≡◌, ℕ, ◌+◌, ◌<◌, ◌≤◌, Bool, List, Option, None, Some, if◌then◌else◌, length, nat_lt}
 use Rattle.std.specs.Prelude.{take}
-use Rattle.zone_sizes.specs.declared.config.Config.{Config}
+use Rattle.zone_blocks.specs.declared.config.Config.{Config}
 use Rattle.script_lines.specs.Script.{longest_line}
 use Rattle.script_lint.specs.Causes.{cause_at}
 use Rattle.script_lint.specs.Continuation.{GoesOn, IsStuck}

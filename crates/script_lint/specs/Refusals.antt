@@ -3,7 +3,7 @@ use Rattle.std.specs.Prelude.{◌≡◌, ◌≢◌, ◌⊎◌, ℕ, ◌<◌, ◌
 use Rattle.std.specs.Prelude.{nat_eq}
 use Rattle.std.specs.List.{starts_with}
 use Rattle.std.specs.Str.{bytes_eq}
-use Rattle.zone_sizes.specs.declared.config.Config.{Config}
+use Rattle.zone_blocks.specs.declared.config.Config.{Config}
 use Rattle.control_files.specs.Files.{is_readable, is_writable, name_of}
 use Rattle.control_files.specs.Flag.{IsNoFlagText}
 use Rattle.control_files.specs.Limit.{IsNoAmountText, IsNoLimitText, IsTooGreat}

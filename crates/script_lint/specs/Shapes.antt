@@ -1,8 +1,8 @@
 -- What the words of a line have to be.
 use Rattle.std.specs.Prelude.{◌≡◌, ◌⊎◌, ℕ, ◌-◌, ◌<◌, ◌≤◌, ◌^◌, List, All, length, ◌≢◌, ◌+◌, ⊤, Option, None, Some, Bool}
 use Rattle.std.specs.Prelude.{true, false}
-use Rattle.zone_sizes.specs.declared.config.Config.{Config}
-use Rattle.zone_sizes.specs.Config.{most_cpus, most_frames}
+use Rattle.zone_blocks.specs.declared.config.Config.{Config}
+use Rattle.zone_blocks.specs.Config.{most_cpus, most_frames}
 use Rattle.script_lines.specs.Script.{IsCommandText, IsCut, IsPathText, IsRequestText, WritesNumber, is_go, is_skipped}
 use Rattle.script_lines.specs.declared.line.Command.{Command}
 use Rattle.script_lines.specs.declared.verb.Verb.{Verb}

@@ -4,7 +4,7 @@ use Rattle.std.specs.Prelude.{length, nat_lt}
 use Rattle.std.specs.Char.{encode_utf8}
 use Rattle.std.specs.Fmt.{decimal}
 use Rattle.std.specs.List.{flat_map}
-use Rattle.zone_sizes.specs.declared.config.Config.{Config}
+use Rattle.zone_blocks.specs.declared.config.Config.{Config}
 use Rattle.script_lines.specs.Verb.{name_of}
 use Rattle.script_lines.specs.declared.verb.Verb.{Verb}
 use Rattle.script_lint.specs.Causes.{byte_at, is_printable, word_at}

@@ -1,7 +1,7 @@
 //! How far a text is that of a command.
 
 ghost use Rattle.std.specs.Prelude.{◌+◌, ◌<◌, ◌^◌, ◌≡◌, ◌≢◌, ◌≤◌, IfSome, MatchOption, length};
-ghost use Rattle.zone_sizes.specs.declared.config.Config.{Config};
+ghost use Rattle.zone_blocks.specs.declared.config.Config.{Config};
 ghost use Rattle.script_lines.specs.Script.{BeginsWithName, IsCut, IsNamed};
 ghost use Rattle.script_lines.specs.declared.verb.Verb.{Verb};
 ghost use Rattle.script_lines.specs.Verb.{IsNames, name_of};
@@ -15,7 +15,7 @@ use crate::shape::{Kind, Shape, shape_of};
 use crate::start::{Start, start_of, word_place};
 use script_lines::script::first_word;
 use script_lines::verb::{Names, Verb, first_verb};
-use zone_sizes::config::Config;
+use zone_blocks::config::Config;
 
 // All commands.
 pub(crate) const VERBS: [Verb; 18] = [

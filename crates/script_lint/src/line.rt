@@ -1,7 +1,7 @@
 //! How far the text of a line is good, and why not further.
 
 ghost use Rattle.std.specs.Prelude.{◌≡◌, ◌≤◌, ◌∷◌, List, MatchOption, length, true, ℕ};
-ghost use Rattle.zone_sizes.specs.declared.config.Config.{Config};
+ghost use Rattle.zone_blocks.specs.declared.config.Config.{Config};
 ghost use Rattle.script_lines.specs.Verb.{IsNames};
 ghost use Rattle.script_lint.specs.Continuation.{IsStuck};
 ghost use Rattle.script_lint.specs.Lines.{IsGoodHere, IsSpot, stuck_spot, whole_spot};
@@ -13,7 +13,7 @@ use crate::finding::{Cause, Spot};
 use crate::request::request_place;
 use script_lines::script::{MAX_LINE, is_go};
 use script_lines::verb::Names;
-use zone_sizes::config::Config;
+use zone_blocks::config::Config;
 
 // The first place from which on the text doesn't go on to a good line, and why. None if it is good. A `go` has gone
 // before, or not; the line is within the bytes that a script may have, or not.

@@ -12,7 +12,7 @@ use script_lines::line::Line;
 use script_lines::script::{MAX_LINE, first_line, first_line_past_limit, is_within, parse_line};
 use script_lines::verb::{Names, command_names};
 use std::alloc::{AllocError, Global};
-use zone_sizes::config::Config;
+use zone_blocks::config::Config;
 
 /// A good line that is refused.
 #[derive(Clone, Copy, PartialEq, Eq)]

@@ -9,7 +9,7 @@ use crate::command::command_stuck_at;
 use crate::shape::Kind;
 use crate::start::{Start, start_of};
 use script_lines::verb::Names;
-use zone_sizes::config::Config;
+use zone_blocks::config::Config;
 
 // The place from which on the text doesn't go on to `P COMMAND`. None if it is that.
 pub(crate) fn request_place(names: &Names, text: &[u8], sizes: &Config) -> Option<usize>

@@ -13,7 +13,7 @@ use crate::near::near_verb;
 use script_lines::script::{first_line, first_line_past_limit, is_go, is_within};
 use script_lines::verb::{Names, Verb, command_names};
 use std::alloc::{AllocError, Global};
-use zone_sizes::config::Config;
+use zone_blocks::config::Config;
 
 /// Every bad line of the script, in order: from which byte on no good line goes on, and why. If the script is too long,
 /// the lines behind the one with the byte after the first 1,048,576 aren't read. It fails only if memory runs out.

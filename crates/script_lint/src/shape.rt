@@ -5,7 +5,7 @@ ghost use Rattle.script_lint.specs.Shapes.{shape_of, up_to};
 
 use group_tree::group::MAX_GROUPS;
 use script_lines::verb::Verb;
-use zone_sizes::config::Config;
+use zone_blocks::config::Config;
 
 /// What a word has to be.
 #[derive(Clone, Copy, PartialEq, Eq)]

@@ -3,7 +3,7 @@
 ghost use Rattle.std.specs.Prelude.{◌≡◌, ◌++◌, All, IfOk, None, Some};
 ghost use Rattle.std.specs.List.{flat_map};
 ghost use Rattle.std.specs.String.{string_bytes};
-ghost use Rattle.zone_sizes.specs.declared.config.Config.{Config};
+ghost use Rattle.zone_blocks.specs.declared.config.Config.{Config};
 ghost use Rattle.script_lint.specs.Texts.{IsInside, cause_text, cpus_text, default_text, finding_text, frames_text};
 ghost use Rattle.script_lint.specs.Texts.{given_text, near_text, shown, sizes_text, word_text};
 ghost use Rattle.script_lint.specs.declared.finding.Cause.TheVariants.{CarriageReturn, FrameOutOfZone, GroupOutOfRange};
@@ -17,7 +17,7 @@ use crate::finding::{Cause, Finding};
 use crate::form::form_of;
 use script_lines::verb::Verb;
 use std::alloc::AllocError;
-use zone_sizes::config::Config;
+use zone_blocks::config::Config;
 
 // The `--high` that is taken if none is given.
 const DEFAULT_HIGH: u32 = 8;

@@ -11,3 +11,6 @@ pub mod Seeing
 pub mod UnderLock
 pub mod Visiting
 pub mod Looking
+pub mod Owning
+pub mod Threads
+pub mod Running

@@ -22,7 +22,7 @@ use Rattle.step_rules.specs.declared.step.Action.TheVariants as step
 use Rattle.step_rules.specs.declared.step.Answer.TheVariants as step_answer
 use Rattle.step_rules.specs.After.{Run}
 use Rattle.step_watch.specs.Watched.{KnownWatch, Watches}
-use Rattle.kill_texts.specs.Explanation.{explanation_text}
+use Rattle.machine_texts.specs.Explanation.{explanation_text}
 use Rattle.machine_texts.specs.Blocks.{blocks_text}
 use Rattle.machine_texts.specs.Show.{show_text}
 use Rattle.machine_texts.specs.Stock.{stock_line_text}

@@ -8,3 +8,6 @@ pub mod Terms
 pub mod ValueAnswers
 pub mod Visits
 pub mod Works
+pub mod Each
+pub mod Own
+pub mod Runs

@@ -2,7 +2,7 @@
 use Rattle.std.specs.Prelude.{ℕ, Bool, true, false, List, [], ◌++◌, Option, Some, None}
 use Rattle.group_tree.specs.declared.fault.Fault.{Fault}
 use Rattle.group_tree.specs.declared.fault.Fault.TheVariants as fault
-use Rattle.kill_texts.specs.Refused.{refused_text}
+use Rattle.machine_texts.specs.Refused.{refused_text}
 use Rattle.mem_machine.specs.FrameStates.{frame_state_at, place_of}
 use Rattle.mem_machine.specs.Machines.{KnownMachine}
 use Rattle.mem_machine.specs.declared.frame_state.Place.{Place}

@@ -22,7 +22,7 @@ use crate::work::{Work, work_of};
 use cpu_part::{BootName, Cpu, Fast, Tables};
 use group_tree::fault::Fault;
 use group_tree::group::GroupId;
-use kill_texts::write_explanation;
+use machine_texts::write_explanation;
 use machine_texts::{write_blocks, write_show};
 use mem_system::{Cmd, Locked, write_own_stock, write_units_at};
 use reply_texts::{write_fast, write_listed, write_settled};

@@ -8,8 +8,11 @@
 
 mod answer_value;
 mod command_answers;
+mod each;
 mod form;
+mod go;
 mod locked_calls;
+mod own_lines;
 mod owned_replay;
 mod reasons;
 mod unlocked_calls;
@@ -19,6 +22,7 @@ mod visit_answers;
 mod visit_replay;
 mod watched_steps;
 mod work;
+mod workers;
 
 pub use answer_value::AnswerValue;
 pub use form::Form;
@@ -27,3 +31,5 @@ pub use value_calls::{alloc_value, serve_value};
 pub use visit_answers::{Visitor, visit_line, visit_numbered_line};
 pub use visit_replay::replay_by_visits;
 pub use work::Work;
+pub use each::run_each;
+pub use go::{before_go, run_lines};

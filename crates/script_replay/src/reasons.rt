@@ -11,7 +11,7 @@ use control_files::file::file_text;
 use cpu_part::{BootName, Tables};
 use group_charge::charges::Charges;
 use group_tree::fault::Fault;
-use kill_texts::write_refused;
+use machine_texts::write_refused;
 use mem_machine::{Machine, Place};
 use mem_system::{Cmd, Locked, Outcome};
 use reply_texts::{write_outcome, write_refusal};

@@ -3,21 +3,21 @@
 ghost use Rattle.std.specs.Prelude.{◌≡◌, ◌∷◌, [], ◌+◌, ◌++◌, IfOk, IsTrue};
 ghost use Rattle.step_rules.specs.declared.step.Action.TheVariants.{Make};
 ghost use Rattle.step_rules.specs.declared.step.Answer.TheVariants.{Number};
-ghost use Rattle.log_lines.specs.Line.{entry_text};
+ghost use Rattle.log_check.specs.Line.{entry_text};
 ghost use Rattle.mem_core.specs.Shown.{state_shown, zone_of};
 ghost use Rattle.mem_core.specs.Checked.{Leads};
 ghost use Rattle.step_watch.specs.Watched.{Accepts, Adds, IsNewLog, IsNewWatch, Watches, has_failed, has_legal_steps};
 ghost use Rattle.step_watch.specs.Watched.{has_whole_log, known_log, log_text, steps_seen, watch_off, zone_makes};
-ghost use Rattle.zone_sizes.specs.Config.{IsValidConfig};
+ghost use Rattle.zone_blocks.specs.Config.{IsValidConfig};
 
 use group_tree::group::GroupId;
 use group_tree::path::PathText;
-use log_lines::write_entry;
+use log_check::write_entry;
 use mem_core::checker::Checker;
 use std::alloc::{AllocError, Global};
 use std::marker::Model;
 use step_rules::step::{Action, Answer, Step};
-use zone_sizes::config::Config;
+use zone_blocks::config::Config;
 
 /// Takes steps where they are made, if it is on. It stops at the first step that the rules don't allow, or for whose
 /// line of the log memory runs out.

@@ -13,7 +13,7 @@ use reply_texts::{write_fast, write_get, write_put, write_reply};
 use std::alloc::Global;
 use std::marker::Brand;
 use std::sync::Wait;
-use zone_sizes::config::Config;
+use zone_blocks::config::Config;
 
 const SIZES: Config = Config {
     frames: 16,

@@ -5,9 +5,9 @@ use Rattle.std.specs.Prelude.{IsSome, IsSomeAnd, Option}
 use Rattle.frame_word.specs.Seats.{KnownTable}
 use Rattle.stock_word.specs.Stock.{KnownStockTable}
 use Rattle.control_files.specs.declared.file.File.{File}
-use Rattle.handles.specs.Calls.{HasFile}
-use Rattle.handles.specs.Known.{KnownLive}
-use Rattle.handles.specs.Serving.{OnRaw}
+use Rattle.tempolemon_c.specs.HandleCalls.{HasFile}
+use Rattle.tempolemon_c.specs.Known.{KnownLive}
+use Rattle.tempolemon_c.specs.Serving.{OnRaw}
 use Rattle.tempolemon_c.specs.Calls.{HasFileBehind}
 use Rattle.tempolemon_c.specs.Handles.{OnBoot, boot_of}
 

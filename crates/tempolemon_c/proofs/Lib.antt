@@ -2,3 +2,5 @@ pub mod Crossing
 pub mod Numbers
 pub mod Refusing
 pub mod Showing
+pub mod Finding
+pub mod Moves

@@ -3,10 +3,10 @@ use Rattle.std.proofs.Common.{◌≡◌, ◌∙◌, ℕ, Some, None, List, ap, a
 use Rattle.std.specs.Prelude.{Option}
 use Rattle.std.proofs.lemmas.Option.{none-some}
 use Rattle.std.specs.Global.{Global}
-use Rattle.handles.specs.declared.calls.Call.{Call}
-use Rattle.handles.specs.Calls.{IsCpu, NamesMissingFrame, RefusesCall}
-use Rattle.handles.specs.Commands.{with_unread_answer}
-use Rattle.handles.specs.Known.{KnownLive}
+use Rattle.tempolemon_c.specs.declared.calls.Call.{Call}
+use Rattle.tempolemon_c.specs.HandleCalls.{IsCpu, NamesMissingFrame, RefusesCall}
+use Rattle.tempolemon_c.specs.Commands.{with_unread_answer}
+use Rattle.tempolemon_c.specs.Known.{KnownLive}
 use Rattle.tempolemon_c.specs.Calls.{CallsInto, RefusesBehind}
 use Rattle.tempolemon_c.specs.Handles.{LiveBoot, OnBoot, live_boot}
 use Rattle.tempolemon_c.specs.Statuses.{bad_cpu, bad_frame, not_live}

@@ -11,11 +11,11 @@ use Rattle.reply_texts.specs.LineAnswer as answer
 use Rattle.script_replay.specs.ValueAnswers.{answer_of}
 use Rattle.script_replay.specs.declared.answer_value.AnswerValue.{AnswerValue}
 use Rattle.script_replay.specs.declared.answer_value.AnswerValue.TheVariants.{Served}
-use Rattle.handles.specs.declared.calls.Call.{Call}
-use Rattle.handles.specs.declared.calls.CallAnswer.TheVariants as call
-use Rattle.handles.specs.declared.calls.FileText.{FileText}
-use Rattle.handles.specs.Calls.{Calls, ShowsFile, file_reply}
-use Rattle.handles.specs.Known.{KnownLive}
+use Rattle.tempolemon_c.specs.declared.calls.Call.{Call}
+use Rattle.tempolemon_c.specs.declared.calls.CallAnswer.TheVariants as call
+use Rattle.tempolemon_c.specs.declared.calls.FileText.{FileText}
+use Rattle.tempolemon_c.specs.HandleCalls.{Calls, ShowsFile, file_reply}
+use Rattle.tempolemon_c.specs.Known.{KnownLive}
 use Rattle.tempolemon_c.specs.declared.typed_result.TypedResult.{TypedResult}
 use Rattle.tempolemon_c.specs.Calls.{CallsInto, HasGroupsBehind, PutsAnswer, ReturnsAnswer, ReturnsValue}
 use Rattle.tempolemon_c.specs.Handles.{LiveBoot, OnBoot, live_boot}

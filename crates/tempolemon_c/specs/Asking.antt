@@ -1,9 +1,9 @@
 -- What a request does to the boot behind a handle, if it neither starts nor ends one.
 use Rattle.std.specs.Prelude.{Option, Some}
-use Rattle.handles.specs.declared.requests.Request.{Request}
-use Rattle.handles.specs.declared.requests.Request.TheVariants.{Start, Lines, StoreUnread, TakeUnread, End}
-use Rattle.handles.specs.declared.requests.RequestAnswer.{RequestAnswer}
-use Rattle.handles.specs.Serving.{Serves}
+use Rattle.tempolemon_c.specs.declared.requests.Request.{Request}
+use Rattle.tempolemon_c.specs.declared.requests.Request.TheVariants.{Start, Lines, StoreUnread, TakeUnread, End}
+use Rattle.tempolemon_c.specs.declared.requests.RequestAnswer.{RequestAnswer}
+use Rattle.tempolemon_c.specs.Serving.{Serves}
 use Rattle.tempolemon_c.specs.Handles.{LiveBoot, OnBoot}
 
 -- the request neither starts nor ends a boot

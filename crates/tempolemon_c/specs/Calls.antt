@@ -10,11 +10,11 @@ use Rattle.reply_texts.specs.LineAnswer.{LineAnswer}
 use Rattle.reply_texts.specs.LineAnswer as answer
 use Rattle.control_files.specs.Text.{longest_text}
 use Rattle.script_lines.specs.declared.line.Command.{Command}
-use Rattle.handles.specs.declared.calls.Call.{Call}
-use Rattle.handles.specs.declared.calls.Call.TheVariants as call
+use Rattle.tempolemon_c.specs.declared.calls.Call.{Call}
+use Rattle.tempolemon_c.specs.declared.calls.Call.TheVariants as call
 use Rattle.control_files.specs.declared.file.File.{File}
-use Rattle.handles.specs.Calls.{HasFile, IsCpu, Means, NamesMissingFrame, NamesMissingGroup, RefusesCall, ServesCommand}
-use Rattle.handles.specs.Known.{KnownLive}
+use Rattle.tempolemon_c.specs.HandleCalls.{HasFile, IsCpu, Means, NamesMissingFrame, NamesMissingGroup, RefusesCall, ServesCommand}
+use Rattle.tempolemon_c.specs.Known.{KnownLive}
 use Rattle.script_replay.specs.ValueAnswers.{NamesItsGroups, answer_of}
 use Rattle.script_replay.specs.declared.answer_value.AnswerValue.{AnswerValue}
 use Rattle.script_replay.specs.declared.answer_value.AnswerValue.TheVariants as value

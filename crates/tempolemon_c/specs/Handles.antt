@@ -2,13 +2,13 @@
 use Rattle.std.specs.Prelude.{◌≡◌, ℕ, Bool, List, Option, None, Some}
 use Rattle.frame_word.specs.Seats.{KnownTable}
 use Rattle.stock_word.specs.Stock.{KnownStockTable}
-use Rattle.zone_sizes.specs.declared.config.Config.{Config}
-use Rattle.zone_sizes.specs.Config.{IsValidConfig}
+use Rattle.zone_blocks.specs.declared.config.Config.{Config}
+use Rattle.zone_blocks.specs.Config.{IsValidConfig}
 use Rattle.load_run.specs.Answers.{IsNewBootState}
 use Rattle.load_run.specs.Ending.{EndsHeld}
 use Rattle.load_run.specs.declared.boot_end.BootEnd.{BootEnd}
-use Rattle.handles.specs.Known.{KnownLive}
-use Rattle.handles.specs.Commands.{AnswersScript, RefusesScript, RunsOut, TakesUnreadAnswer, with_unread_answer}
+use Rattle.tempolemon_c.specs.Known.{KnownLive}
+use Rattle.tempolemon_c.specs.Commands.{AnswersScript, RefusesScript, RunsOut, TakesUnreadAnswer, with_unread_answer}
 use Rattle.tempolemon_c.specs.declared.report.Report.{Report}
 
 -- a boot behind a handle: its tables, and what stands between the calls

@@ -6,3 +6,8 @@ pub mod Handles
 pub mod Kinds
 pub mod Replays
 pub mod Statuses
+pub mod HandleCalls
+pub mod Commands
+pub mod Known
+pub mod Owned
+pub mod Serving

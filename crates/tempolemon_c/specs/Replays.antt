@@ -1,7 +1,7 @@
 -- What a replay for a host answers, and why it fails.
 use Rattle.std.specs.Prelude.{ℕ, Bool, false, List}
-use Rattle.zone_sizes.specs.declared.config.Config.{Config}
-use Rattle.zone_sizes.specs.Config.{IsValidConfig}
+use Rattle.zone_blocks.specs.declared.config.Config.{Config}
+use Rattle.zone_blocks.specs.Config.{IsValidConfig}
 use Rattle.script_lines.specs.declared.line.Line.{Line}
 use Rattle.script_lines.specs.Script.{IsFirstBadLine, IsScript}
 use Rattle.load_run.specs.Answers.{AreReplayAnswers}

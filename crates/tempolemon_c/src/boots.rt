@@ -1,7 +1,7 @@
 //! The calls that start a boot, give it lines of a script, and end it.
 
 ghost use Rattle.std.specs.Prelude.{◌≡◌, ◌≢◌, ◌↔◌, None};
-ghost use Rattle.zone_sizes.specs.Config.{IsValidConfig};
+ghost use Rattle.zone_blocks.specs.Config.{IsValidConfig};
 ghost use Rattle.tempolemon_c.specs.Behind.{behind};
 ghost use Rattle.tempolemon_c.specs.Buffers.{ExceedsBuffer, FillsBuffer};
 ghost use Rattle.tempolemon_c.specs.Handles.{AnswersAndStoresUnread, AnswersLines, BootsNew, EndsBoot, HasUnread};
@@ -15,7 +15,7 @@ use crate::handle::Handle;
 use crate::report::Report;
 use crate::sizes::Sizes;
 use crate::status::{BAD_CONFIG, BAD_LINE, DONE, IS_LIVE, NO_MEMORY, NOT_LIVE, SMALL_BUFFER};
-use handles::requests::{Request, RequestAnswer};
+use crate::requests::{Request, RequestAnswer};
 use mem_system::{BootFault, boot};
 use std::alloc::Global;
 

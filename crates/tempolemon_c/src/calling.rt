@@ -13,7 +13,7 @@ use crate::status::{BAD_CPU, BAD_FRAME, BAD_GROUP, DONE, NOT_LIVE};
 use crate::typed_result::{TypedResult, typed_answer_of};
 use control_files::file::File;
 use group_tree::group::GroupId;
-use handles::calls::{Call, CallAnswer, FileText};
+use crate::calls::{Call, CallAnswer, FileText};
 use mem_system::Outcome;
 use script_replay::AnswerValue;
 use std::alloc::Global;

@@ -1,14 +1,14 @@
 //! The calls that allocate, release, pin and note frames. None of them takes memory.
 
-ghost use Rattle.handles.specs.declared.calls.Call.TheVariants.{Alloc, AtFrame, Settle};
-ghost use Rattle.handles.specs.declared.calls.FrameCall.TheVariants as at;
+ghost use Rattle.tempolemon_c.specs.declared.calls.Call.TheVariants.{Alloc, AtFrame, Settle};
+ghost use Rattle.tempolemon_c.specs.declared.calls.FrameCall.TheVariants as at;
 ghost use Rattle.tempolemon_c.specs.Behind.{behind};
 ghost use Rattle.tempolemon_c.specs.Calls.{CallsBehind};
 
 use crate::calling::serve_call;
 use crate::handle::Handle;
 use crate::typed_result::TypedResult;
-use handles::calls::{Call, FrameCall};
+use crate::calls::{Call, FrameCall};
 use std::alloc::Global;
 
 /// Takes a block of 2^order frames, charged to the group of this number.

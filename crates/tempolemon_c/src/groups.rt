@@ -9,7 +9,7 @@ use crate::kinds::NOTHING;
 use crate::status::SMALL_BUFFER;
 use crate::typed_result::TypedResult;
 use control_files::text::MAX_TEXT;
-use handles::calls::Call;
+use crate::calls::Call;
 use std::alloc::Global;
 
 /// Makes the group of this path.

@@ -2,7 +2,7 @@
 
 ghost use Rattle.std.specs.Prelude.{◌↔◌, IsSome, IsTrue};
 
-use handles::raw::RawBoot;
+use crate::raw::RawBoot;
 
 /// A boot that lives between the calls of a host, or none. A host begins with all bytes 0, which is none. If it is
 /// dropped, its boot stays in memory.

@@ -1,8 +1,8 @@
 //! What is done with the boot behind a handle.
 
 ghost use Rattle.std.specs.Prelude.{◌≡◌, ◌↔◌, IsSome, IsSomeAnd, IsTrue, MatchBool, None, Some};
-ghost use Rattle.zone_sizes.specs.Config.{IsValidConfig};
-ghost use Rattle.handles.specs.Calls.{Calls, ShowsFile};
+ghost use Rattle.zone_blocks.specs.Config.{IsValidConfig};
+ghost use Rattle.tempolemon_c.specs.HandleCalls.{Calls, ShowsFile};
 ghost use Rattle.tempolemon_c.specs.Behind.{behind};
 ghost use Rattle.tempolemon_c.specs.Asking.{AsksBehind, IsBetween};
 ghost use Rattle.tempolemon_c.specs.Calls.{HasFileBehind};
@@ -12,12 +12,12 @@ use crate::handle::Handle;
 use crate::report::Report;
 use control_files::file::File;
 use group_tree::group::GroupId;
-use handles::calls::{Call, CallAnswer, FileText};
-use handles::raw::{RawBoot, call_raw, serve_raw, show_raw};
-use handles::requests::{Request, RequestAnswer};
+use crate::calls::{Call, CallAnswer, FileText};
+use crate::raw::{RawBoot, call_raw, serve_raw, show_raw};
+use crate::requests::{Request, RequestAnswer};
 use mem_system::Boot;
 use std::alloc::Global;
-use zone_sizes::config::Config;
+use zone_blocks::config::Config;
 
 impl Handle {
     /// Whether there is a boot behind it.

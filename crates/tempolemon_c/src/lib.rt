@@ -5,23 +5,31 @@
 #![tactic(auto)]
 
 ghost use Rattle.std.specs.Prelude.{◌≡◌, ◌≢◌, ◌↔◌};
-ghost use Rattle.zone_sizes.specs.Config.{IsValidConfig};
+ghost use Rattle.zone_blocks.specs.Config.{IsValidConfig};
 ghost use Rattle.script_lines.specs.Script.{IsFirstBadLine};
 ghost use Rattle.tempolemon_c.specs.Buffers.{FillsBuffer, ExceedsBuffer};
 ghost use Rattle.tempolemon_c.specs.Replays.{IsAnswered, config_of};
 ghost use Rattle.tempolemon_c.specs.Statuses.{IsReplayStatus, bad_config, bad_line, done, small_buffer};
 
 mod boots;
+pub mod box_parts;
 mod buffers;
 mod calling;
+pub mod calls;
+pub mod crossing;
 mod fault;
 mod frames;
 mod groups;
 mod handle;
 mod handle_calls;
 mod kinds;
+pub mod live;
+pub mod live_pointer;
+pub mod raw;
 mod replaying;
 mod report;
+pub mod requests;
+pub mod serving;
 mod sizes;
 mod status;
 mod typed_result;

@@ -1,7 +1,7 @@
 //! What a new boot answers to a script.
 
 ghost use Rattle.std.specs.Prelude.{◌≡◌, IfErr, IfOk};
-ghost use Rattle.zone_sizes.specs.Config.{IsValidConfig};
+ghost use Rattle.zone_blocks.specs.Config.{IsValidConfig};
 ghost use Rattle.tempolemon_c.specs.Replays.{HasCause, IsAnswered};
 
 use crate::fault::ReplayFault;
@@ -12,7 +12,7 @@ use script_lines::fault::ScriptFault;
 use script_lines::script::parse_script;
 use std::alloc::Global;
 use std::marker::Brand;
-use zone_sizes::config::Config;
+use zone_blocks::config::Config;
 
 /// The answers of a new boot of these sizes to the script, with explanations and the report of the end if these are
 /// asked for. The sizes are judged before the script. The boot has ended when the call returns.

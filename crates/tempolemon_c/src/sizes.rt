@@ -2,7 +2,7 @@
 
 ghost use Rattle.std.specs.Prelude.{◌≡◌};
 
-use zone_sizes::config::Config;
+use zone_blocks::config::Config;
 
 /// The sizes that a host asks for, each in the order and of the width that the header gives. A value may be out of
 /// range.

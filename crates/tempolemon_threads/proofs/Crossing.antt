@@ -9,10 +9,10 @@ use Rattle.stock_word.specs.Stock.{KnownStockTable}
 use Rattle.zone_threads.specs.Homes.{HasCpu, HasNoCpu, KnownHome}
 use Rattle.zone_threads.specs.declared.home.NotLeft.{NotLeft}
 use Rattle.zone_threads.specs.declared.home.NotLeft.TheVariants as not_left
-use Rattle.cpu_handles.specs.Serving.{DropsHome, OnRaw, Serves}
-use Rattle.cpu_handles.specs.declared.requests.Request.TheVariants.{Leave}
-use Rattle.cpu_handles.specs.declared.requests.RequestAnswer.{RequestAnswer}
-use Rattle.cpu_handles.specs.declared.requests.RequestAnswer.TheVariants as answer
+use Rattle.tempolemon_threads.specs.Serving.{DropsHome, OnRaw, Serves}
+use Rattle.tempolemon_threads.specs.declared.requests.Request.TheVariants.{Leave}
+use Rattle.tempolemon_threads.specs.declared.requests.RequestAnswer.{RequestAnswer}
+use Rattle.tempolemon_threads.specs.declared.requests.RequestAnswer.TheVariants as answer
 use Rattle.tempolemon_threads.specs.Zones.{IsCpuHandle, IsZoneHandle, OnPart, led_of}
 
 -- what was done to the home that the pointer leads to was done behind the handle

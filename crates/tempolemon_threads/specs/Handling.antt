@@ -5,10 +5,10 @@ use Rattle.stock_word.specs.Stock.{KnownStockTable}
 use Rattle.zone_threads.specs.Homes.{EndsZone, HasNoCpu, IsCpu, KnownHome}
 use Rattle.zone_threads.specs.declared.home.NotEntered.{NotEntered}
 use Rattle.zone_threads.specs.declared.home.NotEntered.TheVariants as not_entered
-use Rattle.cpu_handles.specs.declared.requests.Forked.{Forked}
-use Rattle.cpu_handles.specs.declared.requests.Forked.TheVariants as forked
-use Rattle.cpu_handles.specs.declared.requests.RequestAnswer.{RequestAnswer}
-use Rattle.cpu_handles.specs.declared.requests.RequestAnswer.TheVariants as returned
+use Rattle.tempolemon_threads.specs.declared.requests.Forked.{Forked}
+use Rattle.tempolemon_threads.specs.declared.requests.Forked.TheVariants as forked
+use Rattle.tempolemon_threads.specs.declared.requests.RequestAnswer.{RequestAnswer}
+use Rattle.tempolemon_threads.specs.declared.requests.RequestAnswer.TheVariants as returned
 use Rattle.tempolemon_threads.specs.Zones.{Led, led}
 
 -- a second pointer leads to the same zone, without a CPU

@@ -5,3 +5,5 @@ pub mod Handling
 pub mod Kinds
 pub mod Statuses
 pub mod Zones
+pub mod Owned
+pub mod Serving

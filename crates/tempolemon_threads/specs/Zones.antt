@@ -2,7 +2,7 @@
 use Rattle.std.specs.Prelude.{◌≡◌, ◌↔◌, ℕ, Bool, Option, None, Some, IsSome, IsTrue}
 use Rattle.frame_word.specs.Seats.{KnownTable}
 use Rattle.stock_word.specs.Stock.{KnownStockTable}
-use Rattle.zone_sizes.specs.declared.config.Config.{Config}
+use Rattle.zone_blocks.specs.declared.config.Config.{Config}
 use Rattle.cpu_part.specs.Cpus.{KnownCpu}
 use Rattle.mem_system.specs.Boots.{IsSizedAs}
 use Rattle.zone_threads.specs.Homes.{EndsZone, HasCpu, HasNoCpu, IsCpu, KnownHome}

@@ -9,9 +9,9 @@ ghost use Rattle.tempolemon_threads.specs.Behind.{part_behind, zone_behind};
 ghost use Rattle.tempolemon_threads.specs.Handling.{EndsAs, EntersNone, ForksAs};
 ghost use Rattle.tempolemon_threads.specs.Zones.{BootsZone, CpuIn, OnPart, ReturnsPart};
 
-use crate::handles::{CpuPart, Zone};
-use cpu_handles::raw::{RawHome, call_raw, fork_raw, read_raw, serve_raw};
-use cpu_handles::requests::{Forked, Request, RequestAnswer};
+use crate::tempolemon_c::{CpuPart, Zone};
+use crate::raw::{RawHome, call_raw, fork_raw, read_raw, serve_raw};
+use crate::requests::{Forked, Request, RequestAnswer};
 use mem_system::Boot;
 use std::alloc::Global;
 use zone_threads::calls::{Call, CallAnswer, ReadAnswer, ReadCall};

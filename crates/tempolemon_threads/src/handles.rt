@@ -2,7 +2,7 @@
 
 ghost use Rattle.tempolemon_threads.specs.Zones.{IsCpuHandle, IsZoneHandle};
 
-use cpu_handles::raw::RawHome;
+use crate::raw::RawHome;
 
 /// A zone, or none. A host begins with all bytes 0, which is none. If it is dropped, the zone stays in memory.
 #[repr(C)]

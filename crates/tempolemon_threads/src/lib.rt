@@ -6,14 +6,20 @@
 //! has a status of its own. No call waits.
 #![tactic(auto)]
 
+pub mod box_parts;
 mod buffers;
 mod calling;
+pub mod crossing;
 mod frames;
 mod groups;
 mod handle_calls;
 mod handles;
+pub mod home_pointer;
 mod kinds;
+pub mod raw;
 mod report;
+pub mod requests;
+pub mod serving;
 mod sizes;
 mod status;
 mod texts;

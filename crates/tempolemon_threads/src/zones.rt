@@ -1,19 +1,19 @@
 //! The calls that boot and end a zone, and take and return its CPUs.
 
 ghost use Rattle.std.specs.Prelude.{◌≡◌, ◌≢◌, ◌↔◌, IsSome, None};
-ghost use Rattle.zone_sizes.specs.Config.{IsValidConfig};
+ghost use Rattle.zone_blocks.specs.Config.{IsValidConfig};
 ghost use Rattle.tempolemon_threads.specs.Behind.{part_behind, zone_behind};
 ghost use Rattle.tempolemon_threads.specs.Statuses.{IsBootStatus, IsEndStatus, IsReturnStatus, IsTakeStatus};
 ghost use Rattle.tempolemon_threads.specs.Statuses.{bad_config, bad_cpu, cpus_out, done, is_live, not_live};
 ghost use Rattle.tempolemon_threads.specs.Zones.{BootsZone, EndsWith, HasNoSuchCpu, ReturnsPart, TakesPart, config_of};
 
-use crate::handles::{CpuPart, Zone};
+use crate::tempolemon_c::{CpuPart, Zone};
 use crate::report::Report;
 use crate::sizes::Sizes;
 use crate::status::{
     BAD_CONFIG, BAD_CPU, BUSY, CPU_OUT, CPUS_OUT, DONE, IS_LIVE, LOST, NO_MEMORY, NOT_LIVE,
 };
-use cpu_handles::requests::{Forked, RequestAnswer};
+use crate::requests::{Forked, RequestAnswer};
 use mem_system::{BootFault, boot};
 use std::alloc::Global;
 use zone_threads::home::NotEntered;

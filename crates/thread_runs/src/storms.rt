@@ -8,11 +8,11 @@ use rand_core::{Rng, SeedableRng};
 use rand_pcg::Pcg32;
 use script_lines::line::{Command, Line};
 use script_lines::script::parse_script;
-use script_threads::before_go;
+use script_replay::before_go;
 use std::process::Abort;
 use std::slice::Iter;
 use std::str;
-use zone_sizes::config::Config;
+use zone_blocks::config::Config;
 
 // How many lines each CPU has in a storm. A run by hand may use 20,000.
 const STORM_LINES: u32 = 500;

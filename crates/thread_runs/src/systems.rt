@@ -13,7 +13,7 @@ use std::marker::Brand;
 use std::process::Abort;
 use std::sync::Wait;
 use std::thread::Threads;
-use zone_sizes::config::Config;
+use zone_blocks::config::Config;
 
 /// 16 frames and two CPUs.
 pub const TWO_CPUS: Config = Config {

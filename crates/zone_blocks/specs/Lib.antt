@@ -4,3 +4,4 @@ pub mod Laws
 pub mod Links
 pub mod OrderLists
 pub mod PairBits
+pub mod Config

@@ -4,6 +4,7 @@
 
 pub mod areas;
 pub mod block;
+pub mod config;
 pub mod laws;
 mod links;
 mod maximal;

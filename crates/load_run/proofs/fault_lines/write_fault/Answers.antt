@@ -2,7 +2,7 @@ use Rattle.std.proofs.Common.{◌∙◌, List, ℕ, ap, subst, sym}
 use Rattle.std.specs.Prelude.{OnOk}
 use Rattle.std.specs.Io.KnownBytes.{Appends}
 use Rattle.load_run.specs.Fault.{fault_text}
-use Rattle.line_streams.specs.Writing.{AppendsBeginning}
+use Rattle.line_server.specs.Writing.{AppendsBeginning}
 use Rattle.load_run.proofs.fault_lines.write_fault.Goals as goal
 
 pub returns-in-IllegalEnd-clause-beginning : goal.returns-in-IllegalEnd-clause-beginning

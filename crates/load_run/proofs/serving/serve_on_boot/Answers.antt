@@ -3,7 +3,7 @@ use Rattle.std.proofs.Common.{◌≡◌, ◌∙◌, List, OnOk, subst, ℕ}
 use Rattle.std.specs.Io.KnownBytes.{Appends}
 use Rattle.script_replay.specs.Lines.{SystemState, system_state}
 use Rattle.line_server.specs.Sessions.{FailsSession, ServesSession}
-use Rattle.line_streams.specs.Writing.{AppendsBeginning}
+use Rattle.line_server.specs.Writing.{AppendsBeginning}
 use Rattle.load_run.specs.Sessions.{EndsInForm}
 use Rattle.load_run.proofs.SessionEnds.{as_made, ending_begun, ending_missed, ending_unwritten, ending_written, session_ends, session_fails}
 use Rattle.load_run.proofs.serving.serve_on_boot.Goals as goal

@@ -6,8 +6,8 @@ use Rattle.mem_system.proofs.Closing.{written_back}
 use Rattle.script_replay.specs.History.{Replays}
 use Rattle.script_replay.specs.Lines.{SystemState, system_state}
 use Rattle.script_replay.specs.Terms.{boot_tables, numbered_terms}
-use Rattle.script_threads.specs.Each.{AreAllAnswers, workers_from}
-use Rattle.script_threads.proofs.Going.{go_least}
+use Rattle.script_replay.specs.Each.{AreAllAnswers, workers_from}
+use Rattle.script_replay.proofs.Running.{go_least}
 use Rattle.load_run.specs.Ending.{boot_end_text}
 use Rattle.load_run.proofs.Answering.{at_ok, first_long, weakened}
 use Rattle.load_run.proofs.Starting.{boot_shown, parts_tied}

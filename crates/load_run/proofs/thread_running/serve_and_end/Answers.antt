@@ -6,7 +6,7 @@ use Rattle.mem_system.proofs.Closing.{written_back}
 use Rattle.script_replay.specs.Lines.{system_state}
 use Rattle.script_replay.specs.Ranges.{LineInRange}
 use Rattle.script_replay.specs.Terms.{boot_tables}
-use Rattle.script_threads.specs.Each.{AreAllAnswers, workers_from}
+use Rattle.script_replay.specs.Each.{AreAllAnswers, workers_from}
 use Rattle.load_run.specs.Ending.{EndsHeld}
 use Rattle.load_run.proofs.thread_running.serve_and_end.Goals as goal
 

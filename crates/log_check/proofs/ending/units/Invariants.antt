@@ -1,7 +1,7 @@
 -- Serves the loop of `units`: so many of the frames before this one head a unit without references.
 use Rattle.std.proofs.Common.{◌≡◌, ◌≤◌}
 use Rattle.step_rules.specs.State.{one_if, sum_to}
-use Rattle.core_rows.specs.Shown.{state_in}
+use Rattle.mem_core.specs.Rows.{state_in}
 use Rattle.log_check.specs.Ends.{is_unreferenced}
 use Rattle.log_check.proofs.ending.units.Given as goal
 

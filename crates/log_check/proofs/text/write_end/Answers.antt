@@ -1,5 +1,5 @@
 -- Serves the contract of `write_end`: the holder follows what is left.
-use Rattle.step_reasons.proofs.Pieces.{behind}
+use Rattle.log_check.proofs.Pieces.{behind}
 use Rattle.log_check.specs.Texts.{holder_text, left_text}
 use Rattle.log_check.proofs.text.write_end.Goals as goal
 

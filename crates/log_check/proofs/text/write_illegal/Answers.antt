@@ -1,7 +1,7 @@
 -- Serves the contract of `write_illegal`: one text follows the other.
 use Rattle.std.proofs.Common.{◌++◌, codes}
-use Rattle.step_reasons.specs.Texts.{reason_text}
-use Rattle.step_reasons.proofs.Pieces.{behind}
+use Rattle.log_check.specs.ReasonTexts.{reason_text}
+use Rattle.log_check.proofs.Pieces.{behind}
 use Rattle.log_check.specs.Texts.{due_text, place_text}
 use Rattle.log_check.proofs.text.write_illegal.Goals as goal
 

@@ -1,7 +1,7 @@
 -- Serves the contract of `write_left`: the pages follow the units.
 use Rattle.std.proofs.Common.{◌≡◌, ◌++◌, ℕ, IfOk, List, codes, decimal, subst}
-use Rattle.step_reasons.specs.Texts.{said}
-use Rattle.step_reasons.proofs.Pieces.{behind}
+use Rattle.log_check.specs.ReasonTexts.{said}
+use Rattle.log_check.proofs.Pieces.{behind}
 use Rattle.log_check.proofs.text.write_left.Goals as goal
 
 -- so many units

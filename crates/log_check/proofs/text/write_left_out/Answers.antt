@@ -1,6 +1,6 @@
 -- Serves the contract of `write_left_out`: the number of steps follows their lines.
 use Rattle.std.specs.List.{flat_map}
-use Rattle.step_reasons.proofs.Pieces.{behind}
+use Rattle.log_check.proofs.Pieces.{behind}
 use Rattle.log_check.specs.Texts.{count_text, illegal_text}
 use Rattle.log_check.proofs.text.write_left_out.Goals as goal
 

@@ -1,6 +1,6 @@
 -- Serves the contract of `write_legal`: one line follows the other.
 use Rattle.std.proofs.Common.{◌++◌}
-use Rattle.step_reasons.proofs.Pieces.{behind}
+use Rattle.log_check.proofs.Pieces.{behind}
 use Rattle.log_check.specs.Texts.{end_text, free_text, steps_text}
 use Rattle.log_check.proofs.text.write_legal.Goals as goal
 

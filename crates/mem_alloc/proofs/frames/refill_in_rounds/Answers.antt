@@ -1,5 +1,5 @@
 use Rattle.std.proofs.Common.{sym, subst}
-use Rattle.kill_notes.specs.declared.note.Note.TheVariants.{Zone}
+use Rattle.group_charge.specs.declared.note.Note.TheVariants.{Zone}
 use Rattle.mem_machine.specs.Machines.{KnownMachine, Visits}
 use Rattle.mem_machine.specs.Local.{visit_state}
 use Rattle.mem_alloc.specs.Frames.{MakesRefillRounds}

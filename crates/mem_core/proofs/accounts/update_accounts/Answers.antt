@@ -4,7 +4,7 @@ use Rattle.std.proofs.lemmas.List.{take_all}
 use Rattle.std.proofs.lemmas.List.Elements.{All-set}
 use Rattle.group_tree.specs.declared.group.Group.{Group}
 use Rattle.group_tree.specs.Groups.{AreGroups}
-use Rattle.core_rows.specs.Shown.{state_in}
+use Rattle.mem_core.specs.Rows.{state_in}
 use Rattle.mem_core.specs.Accounts.{Account, account_after}
 use Rattle.mem_core.proofs.AccountLemmas.{AreChanged, AreChanged-none, AreChanged-step, AreChanged-there}
 use Rattle.mem_core.proofs.accounts.update_accounts.Goals as goal

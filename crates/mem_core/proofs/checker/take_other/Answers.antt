@@ -1,7 +1,7 @@
 -- A step has one answer, but that any free block may be placed.
 use Rattle.std.proofs.Common.{◌≡◌, ◌∙◌, ap, inl, inr, subst, sym}
 use Rattle.std.proofs.lemmas.Bool.{true≢false}
-use Rattle.core_rows.specs.Shown.{state_in}
+use Rattle.mem_core.specs.Rows.{state_in}
 use Rattle.step_rules.specs.declared.step.Answer.{Answer}
 use Rattle.step_rules.specs.Answers.{IsPlacing}
 use Rattle.step_rules.specs.Legal.{Allows}

@@ -1,8 +1,8 @@
 -- There are as many flags as frames, and they say which are free.
 use Rattle.std.proofs.Common.{Bool, List, length, sym, ◌∙◌, ap, subst}
 use Rattle.zone_blocks.specs.Areas.{AreMaximalBlocks}
-use Rattle.core_rows.specs.Shown.{state_in}
-use Rattle.core_steps.proofs.Ranges.{length_free}
+use Rattle.mem_core.specs.Rows.{state_in}
+use Rattle.mem_core.proofs.Ranges.{length_free}
 use Rattle.mem_core.proofs.free_areas.set_areas.Goals as goal
 
 pub set_from-requires : goal.set_from-requires

@@ -2,10 +2,10 @@
 use Rattle.std.proofs.Common.{◌≡◌, ℕ, ◌+◌, ◌*◌, ◌^◌, ◌<◌, ◌≤◌, [], sym, ◌∙◌, ap, subst, arith}
 use Rattle.step_rules.specs.State.{Zone, State}
 use Rattle.step_rules.specs.Legal.{Allows}
-use Rattle.core_rows.specs.declared.rows.Rows.{Rows}
-use Rattle.core_rows.specs.Shown as rows
-use Rattle.core_rows.specs.Rooms.{pages_asked}
-use Rattle.core_rows.proofs.Bounding.{IsBounded}
+use Rattle.mem_core.specs.declared.rows.Rows.{Rows}
+use Rattle.mem_core.specs.Rows as rows
+use Rattle.mem_core.specs.Rooms.{pages_asked}
+use Rattle.mem_core.proofs.Bounding.{IsBounded}
 use Rattle.mem_core.specs.Shown.{CoreState, state_shown}
 use Rattle.mem_core.specs.Checked.{Leads}
 use Rattle.mem_core.specs.Inside.{rows_shown}

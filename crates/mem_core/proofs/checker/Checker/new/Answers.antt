@@ -5,8 +5,8 @@ use Rattle.step_rules.proofs.Sound.{IsSound}
 use Rattle.step_rules.proofs.Runs.{sound_boot}
 use Rattle.step_rules.proofs.Homes.{IsHomed}
 use Rattle.step_rules.proofs.Keeping.{homed_run}
-use Rattle.core_rows.specs.Shown as rows
-use Rattle.core_rows.proofs.Bounding.{IsBounded}
+use Rattle.mem_core.specs.Rows as rows
+use Rattle.mem_core.proofs.Bounding.{IsBounded}
 use Rattle.mem_core.specs.Shown.{zone_of}
 use Rattle.mem_core.proofs.Linking.{rows_are}
 use Rattle.mem_core.proofs.Advancing.{bounded_boot}

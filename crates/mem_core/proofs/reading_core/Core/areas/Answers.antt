@@ -2,7 +2,7 @@
 use Rattle.std.proofs.Common.{◌≡◌, sym, ◌∙◌, ap, subst}
 use Rattle.zone_blocks.specs.Areas.{AreMaximalBlocks}
 use Rattle.step_rules.specs.State.{State, free_in}
-use Rattle.core_rows.specs.Shown as rows
+use Rattle.mem_core.specs.Rows as rows
 use Rattle.mem_core.specs.Shown.{state_shown}
 use Rattle.mem_core.proofs.Linking.{shown_is}
 use Rattle.mem_core.proofs.reading_core.Core.areas.Goals as goal

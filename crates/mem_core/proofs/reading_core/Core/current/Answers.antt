@@ -2,7 +2,7 @@
 use Rattle.std.proofs.Common.{◌≡◌, ◌*◌, ◌^◌, sym, ◌∙◌, ap, arith}
 use Rattle.step_rules.specs.State.{State}
 use Rattle.step_rules.specs.Usage.{usage_of}
-use Rattle.core_rows.specs.Shown as rows
+use Rattle.mem_core.specs.Rows as rows
 use Rattle.mem_core.specs.Shown.{state_shown}
 use Rattle.mem_core.proofs.Linking.{shown_is, ready}
 use Rattle.mem_core.proofs.reading_core.Core.current.Goals as goal

@@ -1,7 +1,7 @@
 -- What the rows show holds of each run that the core shows.
 use Rattle.std.proofs.Common.{◌≡◌, length, sym, ◌∙◌, ap}
 use Rattle.step_rules.specs.State.{State}
-use Rattle.core_rows.specs.Shown as rows
+use Rattle.mem_core.specs.Rows as rows
 use Rattle.mem_core.specs.Shown.{state_shown}
 use Rattle.mem_core.proofs.Linking.{shown_is}
 use Rattle.mem_core.proofs.reading_core.Core.list_len.Goals as goal

@@ -5,14 +5,14 @@ use Rattle.step_rules.proofs.Sound.{IsSound}
 use Rattle.step_rules.proofs.Runs.{sound_boot}
 use Rattle.step_rules.proofs.Homes.{IsHomed}
 use Rattle.step_rules.proofs.Keeping.{homed_run}
-use Rattle.core_rows.specs.Shown as rows
-use Rattle.core_rows.proofs.Bounding.{IsBounded}
+use Rattle.mem_core.specs.Rows as rows
+use Rattle.mem_core.proofs.Bounding.{IsBounded}
 use Rattle.mem_core.specs.declared.reading_core.Core.TheInside.{Inside}
 use Rattle.mem_core.proofs.Linking.{shown_is}
 use Rattle.mem_core.proofs.Advancing.{bounded_boot}
 use Rattle.std.proofs.Common.{replicate}
 use Rattle.std.proofs.lemmas.List.{get_or-replicate, length-replicate}
-use Rattle.core_rows.proofs.Starting.{replicate_all}
+use Rattle.mem_core.proofs.Starting.{replicate_all}
 use Rattle.mem_core.specs.Shown.{zone_of}
 use Rattle.mem_core.specs.Accounts.{Account, new_account, account_of, HaveSmallPeaks}
 use Rattle.mem_core.proofs.Accounting.{tell_start}

@@ -9,10 +9,10 @@ use Rattle.step_rules.specs.Peaks.{UsageMoves}
 use Rattle.step_rules.proofs.Homes.{IsHomed}
 use Rattle.step_rules.proofs.Keeping.{homes_allowed}
 use Rattle.step_rules.proofs.Sound.{IsSound}
-use Rattle.core_rows.specs.declared.rows.Rows.{Rows}
-use Rattle.core_rows.specs.Rooms.{pages_asked}
-use Rattle.core_rows.specs.Shown as rows
-use Rattle.core_rows.proofs.Bounding.{IsBounded}
+use Rattle.mem_core.specs.declared.rows.Rows.{Rows}
+use Rattle.mem_core.specs.Rooms.{pages_asked}
+use Rattle.mem_core.specs.Rows as rows
+use Rattle.mem_core.proofs.Bounding.{IsBounded}
 use Rattle.mem_core.specs.declared.reading_core.Core.TheInside.{Inside}
 use Rattle.mem_core.specs.Shown.{CoreState, state_shown}
 use Rattle.mem_core.specs.Inside.{core_state, IsWhole}

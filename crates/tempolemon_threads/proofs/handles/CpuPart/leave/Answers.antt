@@ -1,6 +1,6 @@
 -- Serves the contract of `leave`: the handle has a CPU, so the pointer doesn't lead to a home without one.
 use Rattle.std.proofs.Common.{ap}
-use Rattle.cpu_handles.specs.declared.raw.RawHome.{RawHome}
+use Rattle.tempolemon_threads.specs.declared.raw.RawHome.{RawHome}
 use Rattle.tempolemon_threads.proofs.Crossing.{no_cpu_left}
 use Rattle.tempolemon_threads.proofs.handles.CpuPart.leave.Goals as goal
 

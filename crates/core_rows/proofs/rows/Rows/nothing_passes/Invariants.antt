@@ -1,8 +1,0 @@
--- What the loop of `nothing_passes` keeps.
-use Rattle.std.proofs.Common.{◌≡◌, ◌<◌, ℕ, true}
-use Rattle.step_rules.specs.Legal.{rests}
-use Rattle.core_rows.specs.Shown.{state_in}
-use Rattle.core_rows.proofs.rows.Rows.nothing_passes.Given as goal
-
-abbrev pub invariant-loop-frame : goal.invariant-loop-frame
-invariant-loop-frame l = (i : ℕ) → i < l.frame → rests (state_in l.self) l.cpu i ≡ true

@@ -1,4 +1,0 @@
-pub mod Shown
-pub mod Rooms
-pub mod Counted
-pub mod Tables

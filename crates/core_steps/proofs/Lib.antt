@@ -1,3 +1,0 @@
-pub mod Serving
-pub mod Ranges
-pub mod FreeBlocks

@@ -1,9 +1,0 @@
--- The goals of `freeze`.
-use Rattle.std.proofs.Common.{arith}
-use Rattle.core_steps.proofs.references.freeze.Goals as goal
-
-pub set_references-requires-clause-few : goal.set_references-requires-clause-few
-set_references-requires-clause-few c =
-    let most = c.requires.bounded.references 0 c.args.frame in
-    let count = c.references.ensures in
-    omega arith

@@ -1,0 +1,151 @@
+//! The notes of a visit.
+
+ghost use Rattle.std.specs.Prelude.{◌≡◌, IfOk};
+ghost use Rattle.group_charge.specs.Notes.{forgotten, joined, last_noted, no_notes, noted};
+ghost use Rattle.group_charge.specs.Notes.{unit_noted, with_new_span, with_span};
+
+use crate::note::Note;
+use crate::spans::{is_span, joined, last_frame};
+use group_tree::group::GroupId;
+use std::alloc::{AllocError, Global};
+use std::marker::Model;
+
+/// How many notes are kept at most. One command makes at most 909 that are no spans of freed units and no rounds of the
+/// zone. For each of 8 limits on a path these are the limit, a stock of each of 64 CPUs, 16 rounds and an `oom`. There
+/// is a `Kill` for each of 63 groups, and a victim and a `GroupKill` each time that the killer chooses, at most 63
+/// times. And the 64 stocks are drained as their groups die. Rounds of the zone are 16, with one note before them. So
+/// all of these fit beside `MAX_SPANS` spans.
+pub const MAX_NOTES: usize = 2_048;
+
+/// How many of the notes are spans of freed units at most.
+pub const MAX_SPANS: usize = 1_024;
+
+/// The notes of a visit, the oldest first; at most the first 2,048 of them, and at most the first 1,024 spans of freed
+/// units.
+#[derive(Drop)]
+pub struct Notes {
+    // Room for all of them is reserved.
+    notes: Vec<Note>,
+    // How many of them are spans.
+    spans: usize,
+    // How many freed frames no note tells of.
+    left_out: u64,
+    // Whether freed units are noted.
+    notes_units: bool,
+}
+
+impl Model for Notes {
+    ghost use Rattle.std.specs.Prelude.{◌≡◌, ◌≤◌, count_by, vec_capacity};
+    ghost use Rattle.group_charge.specs.Notes.{KnownNotes, is_span, most_notes};
+
+    ghost Value = { KnownNotes };
+
+    ghost view = { λ n. record { list = n.notes.items; left_out = n.left_out; notes_units = n.notes_units } };
+
+    ghost invariant = { λ n. (most_notes ≤ vec_capacity n.notes) × (n.spans ≡ count_by is_span n.notes.items) };
+}
+
+impl Notes {
+    /// No notes, and freed units aren't noted. The room for all is reserved here: no other call takes memory.
+    /// `AllocError` if memory runs out.
+    pub fn new(alloc: Global) -> Result<Notes, AllocError>
+        ensures { IfOk result (λ notes. notes ≡ no_notes) }
+    {
+        let notes = Vec::with_capacity(alloc, MAX_NOTES)?;
+        Ok(Notes {
+            notes,
+            spans: 0,
+            left_out: 0,
+            notes_units: false,
+        })
+    }
+
+    /// Notes freed units from now on, or no longer. The notes stay.
+    pub fn set_unit_notes(&mut self, is_on: bool)
+        ensures { self.new ≡ record self.old { notes_units = is_on } }
+    {
+        self.notes_units = is_on;
+    }
+
+    /// Adds a note, unless there are 2,048.
+    pub fn note(&mut self, note: Note)
+        ensures { self.new ≡ noted self.old note }
+    {
+        if self.notes.len() < MAX_NOTES {
+            self.spans += usize::from(is_span(&note));
+            self.notes.push_reserved(note);
+        }
+    }
+
+    /// Notes that a unit of this group was freed, whose frames are `frames` from `first` on, if freed units are noted.
+    /// The unit joins the last note if that is a span of units of the same group which it adjoins. Otherwise it is a
+    /// new span; if there are 1,024 spans or 2,048 notes, its frames are counted as left out instead. That count stays
+    /// at 2^64 - 1.
+    #[inline(always)]
+    pub fn note_unit(&mut self, group: GroupId, first: u32, frames: u32)
+        ensures { self.new ≡ unit_noted self.old group first frames }
+    {
+        if self.notes_units {
+            self.add_unit(group, first, frames);
+        }
+    }
+
+    // The last span with this unit's frames, if the unit may join it.
+    fn joined(&self, group: GroupId, first: u32, frames: u32) -> Option<Note>
+        ensures { result ≡ joined (last_noted self.now) group first frames }
+    {
+        if self.left_out > 0 {
+            return None;
+        }
+        joined(self.notes.last()?, group, first, frames)
+    }
+
+    // Notes a freed unit: it joins the last span, or is a new one.
+    fn add_unit(&mut self, group: GroupId, first: u32, frames: u32)
+        ensures { self.new ≡ with_span (joined (last_noted self.old) group first frames) self.old group first frames }
+    {
+        let Some(span) = self.joined(group, first, frames) else {
+            self.add_span(group, first, frames);
+            return;
+        };
+        let last = self.notes.len() - 1;
+        self.notes[last] = span;
+    }
+
+    // Notes a freed unit as a new span, or counts its frames as left out.
+    fn add_span(&mut self, group: GroupId, first: u32, frames: u32)
+        ensures { self.new ≡ with_new_span self.old group first frames }
+    {
+        if self.spans < MAX_SPANS && self.notes.len() < MAX_NOTES {
+            let (first, last) = (u64::from(first), last_frame(first, frames));
+            self.spans += 1;
+            self.notes
+                .push_reserved(Note::Reclaimed { group, first, last });
+        } else {
+            self.left_out = self.left_out.saturating_add(u64::from(frames));
+        }
+    }
+
+    /// Forgets all notes, and which frames were left out. Whether freed units are noted stays.
+    pub fn clear(&mut self)
+        ensures { self.new ≡ forgotten self.old }
+    {
+        self.notes.clear();
+        self.spans = 0;
+        self.left_out = 0;
+    }
+
+    /// The notes, the oldest first.
+    pub fn as_slice(&self) -> &[Note]
+        ensures { result.now ≡ self.now.list }
+    {
+        self.notes.as_slice()
+    }
+
+    /// How many frames were freed of which no note tells, since there was no room for one more span.
+    pub fn left_out(&self) -> u64
+        ensures { result ≡ self.now.left_out }
+    {
+        self.left_out
+    }
+}

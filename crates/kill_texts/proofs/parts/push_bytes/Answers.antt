@@ -1,7 +1,0 @@
-use Rattle.std.proofs.Common.{rules}
-use Rattle.kill_texts.specs.Lines.{bytes_text}
-use Rattle.kill_texts.proofs.parts.push_bytes.Goals as goal
-
-pub returns : goal.returns
-unfolding bytes_text
-returns c = search rules

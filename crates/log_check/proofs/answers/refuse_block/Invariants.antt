@@ -1,0 +1,8 @@
+-- Each frame of the block before this one is free.
+use Rattle.std.proofs.Common.{◌≡◌, ◌<◌, ◌≤◌, ℕ, true}
+use Rattle.step_rules.specs.Phases.{is_free}
+use Rattle.mem_core.specs.Rows.{state_in}
+use Rattle.log_check.proofs.answers.refuse_block.Given as goal
+
+abbrev pub invariant-loop-frame : goal.invariant-loop-frame
+invariant-loop-frame l = (i : ℕ) → l.block.at ≤ i → i < l.frame → is_free ((state_in l.rows).phases i) ≡ true

@@ -1,0 +1,85 @@
+-- The conditions of the table of rules, each as a test of a state.
+use Rattle.std.specs.Prelude.{◌≡◌, ℕ, ◌+◌, ◌==◌, ◌&&◌, ◌||◌, nat_le, nat_lt, not, Bool, true, List, [], ◌∷◌, Option, None, Some, is_none, length}
+use Rattle.group_tree.specs.Groups.{has_group, has_child, make_fault}
+use Rattle.step_rules.specs.State.{State, is_cpu, is_frame, is_unheld, is_held_by, visits, may_zone_act}
+use Rattle.step_rules.specs.State.{live_references, pins_of}
+use Rattle.step_rules.specs.Phases.{FreshFrame, has_as, is_free, is_head, is_head_in_hand, is_returnable, passes_back}
+use Rattle.step_rules.specs.Phases.{passes_out}
+use Rattle.step_rules.specs.Legal.{is_passable, no_frame_passes, no_page_pends, nothing_passes, takes_fill}
+use Rattle.step_rules.specs.Usage.{usage_of}
+use Rattle.log_check.specs.declared.reason.Quantity.{Quantity}
+use Rattle.log_check.specs.declared.reason.Quantity.TheVariants.{Own, References, Pins, Listed, Fresh, Unreported, Reported}
+use Rattle.log_check.specs.declared.reason.Quantity.TheVariants.{InStock, Pending, Usage}
+use Rattle.log_check.specs.declared.conditions.PlaceTest.{PlaceTest}
+use Rattle.log_check.specs.declared.conditions.PlaceTest.TheVariants.{Free, OutTo, Passable, BackFrom, FreshAt, InHand}
+use Rattle.log_check.specs.declared.conditions.PlaceTest.TheVariants.{Head, Returnable}
+use Rattle.log_check.specs.declared.conditions.Condition.{Condition}
+use Rattle.log_check.specs.declared.conditions.Condition.TheVariants.{Cpu, ZoneSeat, AnySeat, Locked, Unlocked, HeldBy}
+use Rattle.log_check.specs.declared.conditions.Condition.TheVariants.{Visited, Frame, Group, NonePending, NonePassing}
+use Rattle.log_check.specs.declared.conditions.Condition.TheVariants.{NonePassingAt, AtLeast, Below, IsZero, OneUp}
+use Rattle.log_check.specs.declared.conditions.Condition.TheVariants.{UpTo255, InPlace, TakesFill, NotKilled, NotRoot}
+use Rattle.log_check.specs.declared.conditions.Condition.TheVariants.{NoChild, Makeable}
+
+-- the number in a state
+abbrev pub quantity_in : State → Quantity → ℕ
+quantity_in s (Own seat f) = s.references seat f
+quantity_in s (References f) = live_references s f
+quantity_in s (Pins cpu) = pins_of s cpu + length (s.parts cpu).back
+quantity_in s (Listed cpu) = length (s.parts cpu).list
+quantity_in s (Fresh cpu) = length (s.parts cpu).fresh
+quantity_in s (Unreported cpu) = (s.parts cpu).unreported
+quantity_in s (Reported cpu) = (s.parts cpu).reported
+quantity_in s (InStock cpu) = (s.parts cpu).stock.pages
+quantity_in s (Pending g) = s.pending g
+quantity_in s (Usage g) = usage_of s g
+
+-- the frame is in this place
+abbrev pub is_in_place : State → ℕ → PlaceTest → Bool
+is_in_place s f Free = is_free (s.phases f)
+is_in_place s f (OutTo cpu) = passes_out cpu (s.phases f)
+is_in_place s f (Passable cpu) = is_passable s cpu f
+is_in_place s f (BackFrom cpu) = passes_back cpu (s.phases f)
+is_in_place s f (FreshAt cpu) = has_as FreshFrame cpu (s.phases f)
+is_in_place s f InHand = is_head_in_hand (s.phases f)
+is_in_place s f Head = is_head (s.phases f)
+is_in_place s f Returnable = is_returnable s.killed (s.phases f)
+
+-- the condition is met in a state
+abbrev pub is_met : State → Condition → Bool
+is_met s (Cpu seat) = is_cpu s.zone seat
+is_met s (ZoneSeat seat) = seat == 0
+is_met s (AnySeat seat) = is_cpu s.zone seat || may_zone_act s.hold seat
+is_met s Locked = not (is_unheld s.hold)
+is_met s Unlocked = is_unheld s.hold
+is_met s (HeldBy cpu) = is_held_by cpu s.hold
+is_met s (Visited cpu) = visits cpu s.hold
+is_met s (Frame f) = is_frame s.zone f
+is_met s (Group g) = has_group s.groups g
+is_met s NonePending = no_page_pends s
+is_met s NonePassing = no_frame_passes s
+is_met s (NonePassingAt cpu) = nothing_passes s cpu
+is_met s (AtLeast what n) = nat_le n (quantity_in s what)
+is_met s (Below what n) = nat_lt (quantity_in s what) n
+is_met s (IsZero what) = quantity_in s what == 0
+is_met s (OneUp n) = nat_le 1 n
+is_met s (UpTo255 n) = nat_le n 255
+is_met s (InPlace f test) = is_in_place s f test
+is_met s (TakesFill cpu g) = takes_fill (s.parts cpu) g
+is_met s (NotKilled g) = not (s.killed g)
+is_met s (NotRoot g) = not (g == 0)
+is_met s (NoChild g) = not (has_child s.groups g)
+is_met s (Makeable path) = is_none (make_fault s.groups path)
+
+-- the condition is met, if there is one
+abbrev pub is_met_if : State → Option Condition → Bool
+is_met_if s None = true
+is_met_if s (Some condition) = is_met s condition
+
+-- the first test holds, and each condition is met
+abbrev pub and_met : Bool → State → List (Option Condition) → Bool
+and_met so_far s [] = so_far
+and_met so_far s (condition ∷ rest) = and_met (so_far && is_met_if s condition) s rest
+
+-- each condition is met
+abbrev pub all_met : State → List (Option Condition) → Bool
+all_met s conditions = and_met true s conditions

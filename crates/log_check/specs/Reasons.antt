@@ -1,0 +1,116 @@
+-- What each reason means.
+use Rattle.std.specs.Prelude.{◌≡◌, ◌≢◌, ℕ, ◌≤◌, true, false, Some}
+use Rattle.zone_blocks.specs.declared.block.Block.{Block}
+use Rattle.zone_blocks.specs.Block.{Covers, IsBlock}
+use Rattle.zone_blocks.specs.Areas.{IsFreeBlock}
+use Rattle.group_tree.specs.Groups.{IsLeastFreeNumber, has_child, limit_of, make_fault, path_of}
+use Rattle.group_tree.specs.Room.{IsLowestOver, PathHasRoom}
+use Rattle.step_rules.specs.declared.phase.Phase.TheVariants.{Head}
+use Rattle.step_rules.specs.declared.phase.Stage.TheVariants.{Collected}
+use Rattle.step_rules.specs.declared.step.Action.{Action}
+use Rattle.step_rules.specs.declared.step.Action.TheVariants.{Absorb, Consume, Credit, DrainStock, Freeze, Get, Grant, Make}
+use Rattle.step_rules.specs.declared.step.Action.TheVariants.{PlaceBlock, Put}
+use Rattle.step_rules.specs.declared.step.Step.{Step}
+use Rattle.step_rules.specs.declared.step.Answer.{Answer}
+use Rattle.step_rules.specs.declared.step.Answer.TheVariants.{Illegal, Placed}
+use Rattle.step_rules.specs.Phases.{ListFrame, has_as, is_free, is_passing}
+use Rattle.step_rules.specs.State.{State, free_in, front_of, live_references}
+use Rattle.step_rules.specs.Usage.{usage_of}
+use Rattle.step_rules.specs.Legal.{is_legal, rests}
+use Rattle.log_check.specs.declared.reason.Quantity.{Quantity}
+use Rattle.log_check.specs.declared.reason.Quantity.TheVariants.{InStock, Pending, References, Reported}
+use Rattle.log_check.specs.declared.reason.Reason.{Reason}
+use Rattle.log_check.specs.declared.reason.Reason.TheVariants as why
+use Rattle.log_check.specs.declared.conditions.PlaceTest.TheVariants.{Passable, Returnable}
+use Rattle.log_check.specs.declared.conditions.Condition.{Condition}
+use Rattle.log_check.specs.declared.conditions.Condition.TheVariants.{Cpu, ZoneSeat, AnySeat, Locked, Unlocked, HeldBy}
+use Rattle.log_check.specs.declared.conditions.Condition.TheVariants.{Visited, Frame, Group, NonePending, NonePassing}
+use Rattle.log_check.specs.declared.conditions.Condition.TheVariants.{NonePassingAt, AtLeast, Below, IsZero, OneUp}
+use Rattle.log_check.specs.declared.conditions.Condition.TheVariants.{UpTo255, InPlace, TakesFill, NotKilled, NotRoot}
+use Rattle.log_check.specs.declared.conditions.Condition.TheVariants.{NoChild, Makeable}
+use Rattle.log_check.specs.Conditions.{is_met, quantity_in}
+
+-- the reason says of the state why this condition isn't met
+abbrev pub Shows : State → Condition → Reason → Type 0
+Shows s (Cpu seat) (why.NoCpu p) = p ≡ seat
+Shows s (ZoneSeat seat) (why.NoZoneSeat p) = p ≡ seat
+Shows s (AnySeat seat) (why.NoCpu p) = (p ≡ seat) × (seat ≢ 0)
+Shows s (AnySeat seat) (why.Lock hold) = (s.hold ≡ hold) × (seat ≡ 0)
+Shows s Locked (why.Lock hold) = s.hold ≡ hold
+Shows s Unlocked (why.Lock hold) = s.hold ≡ hold
+Shows s (HeldBy cpu) (why.Lock hold) = s.hold ≡ hold
+Shows s (Visited cpu) (why.Lock hold) = s.hold ≡ hold
+Shows s (Frame f) (why.NoFrame m) = m ≡ f
+Shows s (Group g) (why.NoGroup m) = m ≡ g
+Shows s NonePending (why.Number (Pending g) n) = (s.pending g ≡ n) × (1 ≤ n)
+Shows s NonePassing (why.Place f phase) = (s.phases f ≡ phase) × (is_passing phase ≡ true)
+Shows s (NonePassingAt cpu) (why.Place f phase) = (s.phases f ≡ phase) × (rests s cpu f ≡ false)
+Shows s (AtLeast what n) (why.Number q k) = (q ≡ what) × (quantity_in s what ≡ k)
+Shows s (Below what n) (why.Number q k) = (q ≡ what) × (quantity_in s what ≡ k)
+Shows s (IsZero what) (why.Number q k) = (q ≡ what) × (quantity_in s what ≡ k)
+Shows s (OneUp n) why.BadCount = Unit {0}
+Shows s (UpTo255 n) why.BadCount = Unit {0}
+Shows s (InPlace f test) (why.Place m phase) = (m ≡ f) × (s.phases f ≡ phase)
+Shows s (InPlace f (Passable cpu)) (why.NotFirst m p) = (m ≡ f) × (p ≡ cpu) × (has_as ListFrame cpu (s.phases f) ≡ true)
+    × (front_of (s.parts cpu).list ≢ f)
+Shows s (InPlace f Returnable) (why.Unkilled m g) = (m ≡ f) × ((k : ℕ)
+    × (s.phases f ≡ Head (record { group = g; order = k }) Collected)) × (s.killed g ≡ false)
+Shows s (TakesFill cpu g) (why.Number q n) = (q ≡ InStock cpu) × ((s.parts cpu).stock.pages ≡ n) × (1 ≤ n)
+Shows s (TakesFill cpu g) (why.Book p other) = (p ≡ cpu) × ((s.parts cpu).stock.group ≡ other)
+    × (1 ≤ (s.parts cpu).book) × (other ≢ Some g)
+Shows s (NotKilled g) (why.Killed m) = m ≡ g
+Shows s (NotRoot g) why.Root = g ≡ 0
+Shows s (NoChild g) (why.Child m) = m ≡ g
+Shows s (Makeable path) (why.Refused fault) = make_fault s.groups path ≡ Some fault
+Shows s condition reason = ⊥
+
+-- a condition that the step has to meet isn't met, and the reason says why
+pub record Fails (s : State) (seat : ℕ) (action : Action) (reason : Reason) : Type 0 where
+  pub condition : Condition
+  pub needed : (t : State) → is_legal t seat action ≡ true → is_met t condition ≡ true
+  pub unmet : is_met s condition ≡ false
+  pub shown : Shows s condition reason
+
+-- the answer is a placed block, of which this holds
+abbrev pub Claims : Answer → (Block → Type 0) → Type 0
+Claims (Placed b) P = P b
+Claims answer P = ⊥
+
+-- the reason says the path, the usage and the limit of the group, and the pages for which it has no room
+abbrev pub IsNoRoom : State → ℕ → ℕ → Reason → Type 0
+IsNoRoom s m n (why.NoRoom path usage pages limit) = (path_of s.groups m ≡ Some path) × (usage_of s m ≡ usage) × (pages ≡ n)
+    × (limit_of s.groups m ≡ Some limit)
+IsNoRoom s m n reason = ⊥
+
+-- the reason says what decides the answer to the step, if it may be made; of a claimed block, why it can't be placed
+abbrev pub Decides : State → ℕ → Action → Answer → Reason → Type 0
+Decides s seat (Get f) answer (why.Number q n) = (q ≡ References f) × (live_references s f ≡ n)
+Decides s seat (Put f) answer (why.Number q n) = (q ≡ References f) × (live_references s f ≡ n)
+Decides s seat (Freeze f k) answer (why.Number q n) = (q ≡ References f) × (live_references s f ≡ n)
+Decides s seat (Consume g) answer (why.Number q n) = (q ≡ InStock seat) × ((s.parts seat).stock.pages ≡ n)
+Decides s seat (Consume g) answer (why.Stock p of drained) = (p ≡ seat) × ((s.parts seat).stock.group ≡ of)
+    × ((s.parts seat).stock.is_drained ≡ drained)
+Decides s seat (Credit f) answer (why.Stock p of drained) = (p ≡ seat) × ((s.parts seat).stock.group ≡ of)
+    × ((s.parts seat).stock.is_drained ≡ drained)
+Decides s seat (Absorb p) answer (why.Number q n) = (q ≡ Reported p) × ((s.parts p).reported ≡ n)
+Decides s seat (DrainStock p) answer (why.Number q n) = (q ≡ InStock p) × ((s.parts p).stock.pages ≡ n)
+Decides s seat (Grant g n) answer (why.NoRoom path usage pages limit) =
+    (m : ℕ) × IsLowestOver s.groups (usage_of s) g n m × IsNoRoom s m n (why.NoRoom path usage pages limit)
+Decides s seat (Grant g n) answer (why.Room m pages) = (m ≡ g) × (pages ≡ n) × PathHasRoom s.groups (usage_of s) g n
+Decides s seat (PlaceBlock g k) answer (why.OtherOrder order) = (order ≡ k) × Claims answer (λ b. b.order ≢ k)
+Decides s seat (PlaceBlock g k) answer (why.NoBlock c) = Claims answer (λ b. (c ≡ b) × (¬ IsBlock s.zone.frames b))
+Decides s seat (PlaceBlock g k) answer (why.Place f phase) = (s.phases f ≡ phase) × (is_free phase ≡ false)
+    × Claims answer (λ b. Covers b f)
+Decides s seat (PlaceBlock g k) answer (why.FreeBlock c) = (c.order ≡ k) × IsFreeBlock (free_in s.zone s.phases) c
+Decides s seat (PlaceBlock g k) answer (why.NoFreeBlock order) = (order ≡ k)
+    × ((c : Block) → c.order ≡ k → ¬ IsFreeBlock (free_in s.zone s.phases) c)
+Decides s seat (Make path) answer (why.LeastNumber m) = IsLeastFreeNumber s.groups m
+Decides s seat action answer why.OnlyDone = Unit {0}
+Decides s seat action answer reason = ⊥
+
+-- Why the step isn't legal with this answer, if that one is due. It may be made, and was answered `illegal`; or a
+-- condition isn't met; or the reason says what decides the answer.
+pub record IsReason (s : State) (step : Step) (answer due : Answer) (reason : Reason) : Type 0 where
+  pub may : answer ≡ Illegal → (reason ≡ why.MayBeMade) × (is_legal s step.seat step.action ≡ true)
+  pub fails : answer ≢ Illegal → due ≡ Illegal → Fails s step.seat step.action reason
+  pub decides : answer ≢ Illegal → due ≢ Illegal → Decides s step.seat step.action answer reason

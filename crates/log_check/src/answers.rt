@@ -1,0 +1,177 @@
+//! Why a step that may be made isn't answered so.
+
+ghost use Rattle.std.specs.Prelude.{◌≡◌, ℕ, IsTrue, false, true};
+ghost use Rattle.zone_blocks.specs.Areas.{IsFreeBlock};
+ghost use Rattle.group_tree.specs.Groups.{has_group};
+ghost use Rattle.group_tree.specs.Room.{has_room};
+ghost use Rattle.step_rules.specs.State.{free_in};
+ghost use Rattle.step_rules.specs.Usage.{usage_of};
+ghost use Rattle.step_rules.specs.declared.step.Action.{Action};
+ghost use Rattle.step_rules.specs.declared.step.Answer.{Answer};
+ghost use Rattle.step_rules.specs.declared.step.Answer.TheVariants.{Placed};
+ghost use Rattle.step_rules.specs.Legal.{Allows, is_legal};
+ghost use Rattle.mem_core.specs.Rows.{state_in};
+ghost use Rattle.mem_core.specs.Rooms.{FitsZone, IsBelowBounds};
+ghost use Rattle.log_check.specs.Reasons.{Decides, IsNoRoom};
+ghost use Rattle.log_check.specs.declared.reason.Reason.{Reason};
+
+use crate::reason::{Quantity, Reason};
+use crate::showing::{number, place};
+use mem_core::phases::is_free;
+use mem_core::rows::Rows;
+use mem_core::sums::is_of_group;
+use group_tree::group::GroupId;
+use group_tree::path::PathText;
+use step_rules::step::{Action, Answer, Step};
+use zone_blocks::block::Block;
+use zone_blocks::order::Order;
+
+/// What decides the answer that is due to a step, which may be made and wasn't answered so.
+pub(crate) fn decide(rows: &Rows, step: &Step, answer: &Answer, due: &Answer) -> Reason
+    requires fits { FitsZone rows.now }
+    requires bounded { IsBelowBounds (state_in rows.now) }
+    requires legal { is_legal (state_in rows.now) step.now.seat step.now.action ≡ true }
+    requires due { Allows (state_in rows.now) step.now.seat step.now.action due.now }
+    requires denied { ¬ Allows (state_in rows.now) step.now.seat step.now.action answer.now }
+    ensures { Decides (state_in rows.now) step.now.seat step.now.action answer.now result }
+{
+    let seat = step.seat;
+    match step.action {
+        Action::Get { frame } => number(rows, &Quantity::References(frame)),
+        Action::Put { frame } => number(rows, &Quantity::References(frame)),
+        Action::Freeze { frame, .. } => number(rows, &Quantity::References(frame)),
+        Action::Consume { group } => decide_consume(rows, seat, group, answer),
+        Action::Credit { .. } => stock(rows, seat),
+        Action::Absorb { cpu } => number(rows, &Quantity::Reported(cpu)),
+        Action::DrainStock { cpu } => number(rows, &Quantity::InStock(cpu)),
+        Action::Grant { group, pages } => decide_grant(rows, seat, group, pages),
+        Action::PlaceBlock { group, order } => decide_place(rows, seat, group, order, answer, due),
+        Action::Make { path } => decide_make(rows, seat, &path, due),
+        _ => Reason::OnlyDone,
+    }
+}
+
+// What the stock of a CPU is.
+fn stock(rows: &Rows, cpu: u32) -> Reason
+    ensures { result ≡ Reason.Stock cpu ((state_in rows.now).parts cpu).stock.group
+        ((state_in rows.now).parts cpu).stock.is_drained }
+{
+    Reason::Stock {
+        cpu,
+        group: rows.stock_group(cpu),
+        is_drained: rows.is_drained(cpu),
+    }
+}
+
+// The pages of a stock that would pay, or what stock it is.
+fn decide_consume(rows: &Rows, seat: u32, group: GroupId, answer: &Answer) -> Reason
+    requires fits { FitsZone rows.now }
+    requires bounded { IsBelowBounds (state_in rows.now) }
+    ensures { Decides (state_in rows.now) seat (Action.Consume group) answer.now result }
+{
+    let is_payer = is_of_group(rows.stock_group(seat), group) && !rows.is_drained(seat);
+    if is_payer && matches!(answer, Answer::Took | Answer::Empty) {
+        number(rows, &Quantity::InStock(seat))
+    } else {
+        stock(rows, seat)
+    }
+}
+
+// The lowest group whose limit has no room, or that each has room.
+fn decide_grant(rows: &Rows, seat: u32, group: GroupId, pages: u32) -> Reason
+    requires fits { FitsZone rows.now }
+    requires bounded { IsBelowBounds (state_in rows.now) }
+    requires there { IsTrue (has_group rows.now.tree group) }
+    ensures { (answer : Answer) → Decides (state_in rows.now) seat (Action.Grant group pages) answer result }
+{
+    match rows.lowest_over(group, pages) {
+        None => Reason::Room { group, pages },
+        Some(over) => no_room(rows, over, pages),
+    }
+}
+
+// The limit of a group, which has no room.
+fn no_room(rows: &Rows, over: GroupId, pages: u32) -> Reason
+    requires fits { FitsZone rows.now }
+    requires bounded { IsBelowBounds (state_in rows.now) }
+    requires there { IsTrue (has_group rows.now.tree over) }
+    requires over { has_room rows.now.tree (usage_of (state_in rows.now)) over pages ≡ false }
+    ensures { IsNoRoom (state_in rows.now) over pages result }
+{
+    match rows.tree.max(over) {
+        None => unreachable!(),
+        Some(limit) => Reason::NoRoom {
+            path: *rows.tree.path_of(over),
+            usage: rows.usage(over),
+            pages,
+            limit,
+        },
+    }
+}
+
+// Why a block can't be placed, or which can be.
+fn decide_place(
+    rows: &Rows,
+    seat: u32,
+    group: GroupId,
+    order: Order,
+    answer: &Answer,
+    due: &Answer,
+) -> Reason
+    requires fits { FitsZone rows.now }
+    requires legal { is_legal (state_in rows.now) seat (Action.PlaceBlock group order) ≡ true }
+    requires due { Allows (state_in rows.now) seat (Action.PlaceBlock group order) due.now }
+    requires denied { ¬ Allows (state_in rows.now) seat (Action.PlaceBlock group order) answer.now }
+    ensures { Decides (state_in rows.now) seat (Action.PlaceBlock group order) answer.now result }
+{
+    match answer {
+        Answer::Placed(block) => refuse_block(rows, order, block),
+        _ => free_block(rows, seat, group, order, due),
+    }
+}
+
+// Which block can be placed, or that none can.
+fn free_block(rows: &Rows, seat: u32, group: GroupId, order: Order, due: &Answer) -> Reason
+    requires legal { is_legal (state_in rows.now) seat (Action.PlaceBlock group order) ≡ true }
+    requires due { Allows (state_in rows.now) seat (Action.PlaceBlock group order) due.now }
+    ensures { (answer : Answer) → Decides (state_in rows.now) seat (Action.PlaceBlock group order) answer result }
+{
+    match due {
+        Answer::Placed(block) => Reason::FreeBlock(*block),
+        Answer::NoFreeBlock => Reason::NoFreeBlock(order),
+        _ => unreachable!(),
+    }
+}
+
+// Why a block can't be placed.
+fn refuse_block(rows: &Rows, order: Order, block: &Block) -> Reason
+    requires fits { FitsZone rows.now }
+    requires denied { block.now.order ≡ order → ¬ IsFreeBlock (free_in (state_in rows.now).zone
+        (state_in rows.now).phases) block.now }
+    ensures { (seat g : ℕ) → Decides (state_in rows.now) seat (Action.PlaceBlock g order) (Placed block.now) result }
+{
+    if block.order.exponent() != order.exponent() {
+        return Reason::OtherOrder(order);
+    }
+    if !block.is_block_of(rows.frames) {
+        return Reason::NoBlock(*block);
+    }
+    for frame in block.at..block.at + block.order.frames() {
+        if !is_free(rows.phase(frame)) {
+            return place(rows, frame);
+        }
+    }
+    unreachable!()
+}
+
+// The least number that no group has.
+fn decide_make(rows: &Rows, seat: u32, path: &PathText, due: &Answer) -> Reason
+    requires legal { is_legal (state_in rows.now) seat (Action.Make path.now) ≡ true }
+    requires due { Allows (state_in rows.now) seat (Action.Make path.now) due.now }
+    ensures { (answer : Answer) → Decides (state_in rows.now) seat (Action.Make path.now) answer result }
+{
+    match due {
+        Answer::Number(group) => Reason::LeastNumber(*group),
+        _ => unreachable!(),
+    }
+}

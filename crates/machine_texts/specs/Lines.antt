@@ -1,0 +1,109 @@
+-- The line of each note. Sizes are in bytes. `gone` is the path of the group that the command removed, if it removed
+-- one.
+use Rattle.std.specs.Prelude.{ℕ, Option, Some, None, unwrap_or, List, [], ◌++◌, codes, ◌+◌, ◌-◌, ◌*◌, ◌==◌, nat_lt}
+use Rattle.std.specs.Prelude.{if◌then◌else◌}
+use Rattle.std.specs.Fmt.{decimal}
+use Rattle.group_tree.specs.declared.group.Group.{Group}
+use Rattle.group_tree.specs.Groups.{path_of}
+use Rattle.group_charge.specs.declared.note.Candidate.{Candidate}
+use Rattle.group_charge.specs.declared.note.Note.{Note}
+use Rattle.group_charge.specs.declared.note.Note.TheVariants.{Limit, Zone, Asked, Stock, Reclaimed, Round, Oom}
+use Rattle.group_charge.specs.declared.note.Note.TheVariants.{Victim, GroupKill, Kill}
+use Rattle.control_files.specs.Limit.{page_bytes}
+use Rattle.machine_texts.specs.Characters.{characters}
+
+-- the bytes of this many pages
+unfoldable pub bytes_text : ℕ → List ℕ
+bytes_text pages = decimal (pages * page_bytes)
+
+-- the path of a group; if the group doesn't exist any more, `gone`
+unfoldable pub group_text : List Group → (gone : List ℕ) → ℕ → List ℕ
+group_text groups gone g = characters (unwrap_or (path_of groups g) gone)
+
+-- a group that may be killed, and its frames
+unfoldable pub candidate_text : List Group → (gone : List ℕ) → Candidate → List ℕ
+candidate_text groups gone c = group_text groups gone c.group ++ codes " frames " ++ decimal c.frames
+
+-- the end of a line: the bytes of this many pages, and the usage under the limit then
+unfoldable pub ending_text : ℕ → ℕ → List ℕ
+ending_text pages usage = codes " bytes " ++ bytes_text pages ++ codes " usage " ++ bytes_text usage ++ codes "\n"
+
+-- a limit without room, the usage under it, and what was asked for
+abbrev pub limit_text : List Group → (gone : List ℕ) → ℕ → ℕ → ℕ → ℕ → List ℕ
+limit_text groups gone g max usage need = codes "# limit " ++ group_text groups gone g ++ codes " " ++ bytes_text max
+    ++ codes " usage " ++ bytes_text usage ++ codes " need " ++ bytes_text need ++ codes "\n"
+
+-- no block of this order was free, and rounds follow
+abbrev pub zone_text : (order : ℕ) → List ℕ
+zone_text order = codes "# zone order " ++ decimal order ++ codes "\n"
+
+-- this many pages were asked for, and rounds follow
+abbrev pub asked_text : List Group → (gone : List ℕ) → ℕ → ℕ → List ℕ
+asked_text groups gone g pages =
+    codes "# asked " ++ group_text groups gone g ++ codes " " ++ bytes_text pages ++ codes "\n"
+
+-- the frames from the first to the last, or the one frame
+unfoldable pub span_text : (first last : ℕ) → List ℕ
+span_text first last = if first == last then decimal first else (decimal first ++ codes "-" ++ decimal last)
+
+-- a span of reclaimed units
+abbrev pub reclaimed_text : List Group → (gone : List ℕ) → ℕ → ℕ → ℕ → List ℕ
+reclaimed_text groups gone g first last =
+    codes "# reclaimed " ++ group_text groups gone g ++ codes " " ++ span_text first last ++ codes "\n"
+
+-- A stock that was drained under a limit, and the usage under the limit afterwards, by the usage before. Nothing is
+-- written for a stock that was drained for another reason.
+abbrev pub stock_text : Option ℕ → ℕ → ℕ → List ℕ
+stock_text (Some usage) cpu pages = codes "# stock " ++ decimal cpu ++ ending_text pages (usage - pages)
+stock_text None cpu pages = []
+
+-- a round of reclaim: the units that were tried were either freed (`returned`) or missed
+abbrev pub round_text : ℕ → ℕ → ℕ → ℕ → ℕ → List ℕ
+round_text number returned missed pages usage = codes "# round " ++ decimal number ++ codes " tried "
+    ++ decimal (returned + missed)
+    ++ codes " missed " ++ decimal missed ++ codes " returned " ++ decimal returned ++ ending_text pages usage
+
+-- a limit that couldn't be kept
+abbrev pub oom_text : List Group → (gone : List ℕ) → ℕ → List ℕ
+oom_text groups gone g = codes "# oom " ++ group_text groups gone g ++ codes "\n"
+
+-- the next candidate, if there is more than one
+unfoldable pub next_text : List Group → (gone : List ℕ) → ℕ → Candidate → List ℕ
+next_text groups gone candidates next =
+    if nat_lt 1 candidates then codes ", next " ++ candidate_text groups gone next else []
+
+-- how many candidates there are, and the next of them
+unfoldable pub others_text : List Group → (gone : List ℕ) → ℕ → Candidate → List ℕ
+others_text groups gone candidates next =
+    codes " of " ++ decimal candidates ++ codes " candidates" ++ next_text groups gone candidates next
+
+-- the group that is killed, the number of candidates, and the next of them
+abbrev pub victim_text : List Group → (gone : List ℕ) → Candidate → ℕ → Candidate → List ℕ
+victim_text groups gone victim candidates next =
+    codes "# victim " ++ candidate_text groups gone victim ++ others_text groups gone candidates next ++ codes "\n"
+
+-- the group that is killed as a whole, and how many groups of its subtree die
+abbrev pub group_kill_text : List Group → (gone : List ℕ) → ℕ → ℕ → List ℕ
+group_kill_text groups gone g number =
+    codes "# group " ++ group_text groups gone g ++ codes " groups " ++ decimal number ++ codes "\n"
+
+-- a group that was killed: what was freed (`returned`), how many of its units are pinned, what stays charged to the
+-- group itself, and the usage under the limit
+abbrev pub killed_text : List Group → (gone : List ℕ) → ℕ → ℕ → ℕ → ℕ → ℕ → ℕ → List ℕ
+killed_text groups gone g returned pages pinned left usage =
+    codes "# killed " ++ group_text groups gone g ++ codes " returned " ++ decimal returned
+    ++ codes " bytes " ++ bytes_text pages ++ codes " pinned " ++ decimal pinned ++ ending_text left usage
+
+-- the line of a note; `usage` is that under the limit whose stocks are drained, if any
+abbrev pub line_text : List Group → (gone : List ℕ) → Option ℕ → Note → List ℕ
+line_text groups gone _ (Limit g max usage need) = limit_text groups gone g max usage need
+line_text groups gone _ (Zone order) = zone_text order
+line_text groups gone _ (Asked g pages) = asked_text groups gone g pages
+line_text groups gone usage (Stock cpu pages) = stock_text usage cpu pages
+line_text groups gone _ (Reclaimed g first last) = reclaimed_text groups gone g first last
+line_text groups gone _ (Round number returned missed pages usage) = round_text number returned missed pages usage
+line_text groups gone _ (Oom g) = oom_text groups gone g
+line_text groups gone _ (Victim victim candidates next) = victim_text groups gone victim candidates next
+line_text groups gone _ (GroupKill g number) = group_kill_text groups gone g number
+line_text groups gone _ (Kill g returned pages pinned left usage) =
+    killed_text groups gone g returned pages pinned left usage

@@ -1,3 +1,0 @@
-pub mod Owning
-pub mod Telling
-pub mod Going

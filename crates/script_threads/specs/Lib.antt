@@ -1,3 +1,0 @@
-pub mod Each
-pub mod Own
-pub mod Runs

@@ -1,3 +1,0 @@
-pub mod AllMet
-pub mod Childless
-pub mod Pieces

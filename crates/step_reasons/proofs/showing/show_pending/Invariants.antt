@@ -1,7 +1,0 @@
--- No page is pending for a lesser group.
-use Rattle.std.proofs.Common.{◌≡◌, ◌<◌, ◌==◌, ℕ, true}
-use Rattle.core_rows.specs.Shown.{state_in}
-use Rattle.step_reasons.proofs.showing.show_pending.Given as goal
-
-abbrev pub invariant-loop-index : goal.invariant-loop-index
-invariant-loop-index l = (i : ℕ) → i < l.index → ((state_in l.rows).pending i == 0) ≡ true

@@ -1,3 +1,0 @@
-pub mod Conditions
-pub mod Reasons
-pub mod Texts

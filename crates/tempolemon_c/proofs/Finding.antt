@@ -1,0 +1,46 @@
+-- A group is found by its path, and so a frame that is taken for the group is taken for its path. Serves `take_frame`.
+use Rattle.std.proofs.Common.{◌≡◌, ℕ, Some, List, refl, subst}
+use Rattle.std.specs.Borrow.{Bor}
+use Rattle.frame_word.specs.Seats.{KnownTable}
+use Rattle.stock_word.specs.Stock.{KnownStockTable}
+use Rattle.group_tree.specs.declared.group.Group.{Group}
+use Rattle.group_tree.specs.Groups.{AreGroups, number_at, path_of}
+use Rattle.group_tree.proofs.GroupLemmas.{group_at-contains, number_at-there, path_of-is}
+use Rattle.group_charge.specs.Charges.{AreCharges, Ledger}
+use Rattle.script_lines.specs.declared.line.Command.TheVariants as cmd
+use Rattle.script_replay.specs.declared.answer_value.AnswerValue.{AnswerValue}
+use Rattle.script_replay.specs.Terms.{boot_tables}
+use Rattle.script_replay.specs.ValueAnswers.{NamesItsGroups, SaysCommand, answer_of}
+use Rattle.tempolemon_c.specs.HandleCalls.{Calls, IsCpu}
+use Rattle.tempolemon_c.specs.Commands.{SameButState}
+use Rattle.tempolemon_c.specs.Known.{KnownLive}
+use Rattle.tempolemon_c.specs.declared.calls.Call.TheVariants as call
+use Rattle.tempolemon_c.specs.declared.calls.CallAnswer.TheVariants as returned
+
+found_by_path : (groups : List Group) (n : ℕ) (path : List ℕ) → AreGroups groups → path_of groups n ≡ Some path → number_at groups path ≡ Some n
+found_by_path groups n path are is =
+    let at = path_of-is groups n path is in
+    let there = group_at-contains groups n at.0 at.1 in
+    let by_its_number = number_at-there groups at.0 are.paths_distinct there.0 in
+    subst (λ (p : List ℕ). number_at groups p ≡ Some n) at.2 (subst (λ (m : ℕ). number_at groups at.0.path ≡ Some m) there.1 by_its_number)
+
+module _ (frames : KnownTable) (stock_table : KnownStockTable) (cpu group : ℕ) (from to : KnownLive) (value : AnswerValue) where
+  abbrev groups : List Group
+  groups = from.state.locked.machine.ledger.groups
+
+  abbrev after : Ledger
+  after = to.state.locked.machine.ledger
+
+  pub frame_taken : (path : Bor (List ℕ)) → IsCpu from.sizes.cpus cpu → AreCharges from.state.locked.machine.ledger → path_of groups group ≡ Some path.now
+      → ((named : Bor (List ℕ)) → number_at groups named.now ≡ Some group
+      → SaysCommand (boot_tables frames stock_table) cpu (cmd.Alloc named 0) from.state to.state (answer_of after value))
+      → NamesItsGroups after value → SameButState from to → Calls frames stock_table cpu (call.Alloc group 0) from to (returned.Served value)
+  frame_taken path exists legal is says there rest = record {
+    command = cmd.Alloc path 0;
+    means = (is, refl);
+    tells = record {
+      answer = answer_of after value;
+      serves = record { there = record { low = exists.low; high = exists.high; names = tt }; says = says path (found_by_path groups group path.now legal.groups is); rest = rest };
+      is_answer = (there, refl);
+    };
+  }

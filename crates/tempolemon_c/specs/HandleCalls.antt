@@ -1,0 +1,129 @@
+-- What a call means, and what it does to a live boot.
+use Rattle.std.specs.Prelude.{◌≡◌, ◌⊎◌, ℕ, ◌<◌, ◌≤◌, List, Some, false}
+use Rattle.frame_word.specs.Seats.{KnownTable}
+use Rattle.stock_word.specs.Stock.{KnownStockTable}
+use Rattle.group_tree.specs.Bounds.{most_groups}
+use Rattle.group_tree.specs.declared.group.Group.{Group}
+use Rattle.group_tree.specs.Groups.{has_group, path_of}
+use Rattle.group_charge.specs.Charges.{Ledger}
+use Rattle.control_files.specs.declared.file.File.{File}
+use Rattle.mem_system.specs.declared.command.Reply.{Reply}
+use Rattle.mem_system.specs.declared.command.Reply.TheVariants as reply
+use Rattle.mem_system.specs.declared.outcome.Outcome.TheVariants as outcome
+use Rattle.mem_system.specs.Outcomes.{HasItsGroups, reply_of}
+use Rattle.reply_texts.specs.LineAnswer.{LineAnswer}
+use Rattle.script_lines.specs.declared.line.Command.{Command}
+use Rattle.script_lines.specs.declared.line.Command.TheVariants as cmd
+use Rattle.script_replay.specs.Ranges.{CpuCommandInRange}
+use Rattle.script_replay.specs.Terms.{boot_tables}
+use Rattle.script_replay.specs.ValueAnswers.{NamesItsGroups, SaysCommand, answer_of}
+use Rattle.tempolemon_c.specs.Known.{KnownLive}
+use Rattle.tempolemon_c.specs.Commands.{SameButState}
+use Rattle.tempolemon_c.specs.declared.calls.FrameCall.{FrameCall}
+use Rattle.tempolemon_c.specs.declared.calls.FrameCall.TheVariants as at
+use Rattle.tempolemon_c.specs.declared.calls.Call.{Call}
+use Rattle.tempolemon_c.specs.declared.calls.Call.TheVariants as call
+use Rattle.tempolemon_c.specs.declared.calls.CallAnswer.{CallAnswer}
+use Rattle.tempolemon_c.specs.declared.calls.CallAnswer.TheVariants as returned
+use Rattle.tempolemon_c.specs.declared.calls.FileText.{FileText}
+use Rattle.tempolemon_c.specs.declared.calls.FileText.TheVariants as file_text
+
+-- the script's command that does this at a frame
+abbrev pub frame_command : FrameCall → ℕ → Command
+frame_command at.Release frame = cmd.Release frame
+frame_command at.Get frame = cmd.Get frame
+frame_command at.Put frame = cmd.Put frame
+frame_command at.Touch frame = cmd.Touch frame
+frame_command at.Dirty frame = cmd.Dirty frame
+frame_command at.Clean frame = cmd.Clean frame
+frame_command at.Owner frame = cmd.Owner frame
+
+-- The call means this command of a script, if these are the groups. A group that a call names by its number is named by
+-- its path in a script
+abbrev pub Means : List Group → Call → Command → Type 0
+Means groups (call.Mkdir path) (cmd.Mkdir named) = named.now ≡ path.now
+Means groups (call.Rmdir path) (cmd.Rmdir named) = named.now ≡ path.now
+Means groups (call.Write path file value) (cmd.Write named in_file text) =
+    (named.now ≡ path.now) × ((in_file.now ≡ file.now) × (text.now ≡ value.now))
+Means groups (call.Read path file) (cmd.Read named in_file) = (named.now ≡ path.now) × (in_file.now ≡ file.now)
+Means groups (call.Alloc group order) (cmd.Alloc named as_order) =
+    (path_of groups group ≡ Some named.now) × (as_order ≡ order)
+Means groups (call.AtFrame frame what) command = command ≡ frame_command what frame
+Means groups call.Settle cmd.Settle = Unit {0}
+Means groups other command = ⊥
+
+-- there is a CPU of this number
+pub record IsCpu (cpus cpu : ℕ) : Type 0 where
+  pub low : 1 ≤ cpu
+  pub high : cpu ≤ cpus
+
+-- the frame that the call names isn't in the zone
+abbrev pub NamesMissingFrame : (frames : ℕ) → Call → Type 0
+NamesMissingFrame frames (call.AtFrame frame what) = ¬ (frame < frames)
+NamesMissingFrame frames other = ⊥
+
+-- no group has this number; those of groups are below 64
+abbrev pub HasNoGroup : List Group → ℕ → Type 0
+HasNoGroup groups number = (most_groups ≤ number) ⊎ (has_group groups number ≡ false)
+
+-- no group has the number that the call names
+abbrev pub NamesMissingGroup : List Group → Call → Type 0
+NamesMissingGroup groups (call.Alloc group order) = HasNoGroup groups group
+NamesMissingGroup groups other = ⊥
+
+-- what a call returned is this answer, with the texts that the ledger after the command gives it
+abbrev pub IsAnswer : Ledger → LineAnswer → CallAnswer → Type 0
+IsAnswer ledger answer (returned.Served value) = NamesItsGroups ledger value × (answer ≡ answer_of ledger value)
+IsAnswer ledger answer other = ⊥
+
+-- the CPU and what the command names exist, it was served with this answer, and nothing else changed
+pub record ServesCommand (frames : KnownTable) (stock_table : KnownStockTable) (cpu : ℕ) (command : Command)
+    (from to : KnownLive) (answer : LineAnswer) : Type 0 where
+  pub there : CpuCommandInRange from.sizes.frames from.sizes.cpus cpu command
+  pub says : SaysCommand (boot_tables frames stock_table) cpu command from.state to.state answer
+  pub rest : SameButState from to
+
+-- the command was served, and this is returned of its answer
+pub record ReturnsCommandAnswer (frames : KnownTable) (stock_table : KnownStockTable) (cpu : ℕ) (command : Command)
+    (from to : KnownLive) (returned : CallAnswer) : Type 0 where
+  pub answer : LineAnswer
+  pub serves : ServesCommand frames stock_table cpu command from to answer
+  pub is_answer : IsAnswer to.state.locked.machine.ledger answer returned
+
+-- the call was served as the command of a script that it means, and this is returned of the answer
+pub record ServesCall (frames : KnownTable) (stock_table : KnownStockTable) (cpu : ℕ) (asked : Call)
+    (from to : KnownLive)
+    (returned : CallAnswer) : Type 0 where
+  pub command : Command
+  pub means : Means from.state.locked.machine.ledger.groups asked command
+  pub tells : ReturnsCommandAnswer frames stock_table cpu command from to returned
+
+-- the call names what isn't there, and nothing is done
+pub record RefusesCall (is_missing : Type 0) (from to : KnownLive) : Type 0 where
+  pub missing : is_missing
+  pub stays : to ≡ from
+
+-- What a call of a CPU does, and what it returns. The CPU is looked for first: a missing frame or group is named only of
+-- a CPU that exists
+abbrev pub Calls : KnownTable → KnownStockTable → (cpu : ℕ) → Call → (from to : KnownLive) → CallAnswer → Type 0
+Calls frames stock_table cpu asked from to (returned.Served value) =
+    ServesCall frames stock_table cpu asked from to (returned.Served value)
+Calls frames stock_table cpu asked from to returned.NoCpu = RefusesCall (¬ IsCpu from.sizes.cpus cpu) from to
+Calls frames stock_table cpu asked from to returned.NoFrame =
+    RefusesCall (IsCpu from.sizes.cpus cpu × NamesMissingFrame from.sizes.frames asked) from to
+Calls frames stock_table cpu asked from to returned.NoGroup =
+    RefusesCall (IsCpu from.sizes.cpus cpu × NamesMissingGroup from.state.locked.machine.ledger.groups asked) from to
+
+-- the group exists, and isn't the root, which has no files
+abbrev pub HasFile : (group : ℕ) → File → KnownLive → Type 0
+HasFile group file live = HasItsGroups live.state.locked.machine.ledger (outcome.Text group file)
+
+-- what a file shows, as the reply to a read of it
+abbrev pub file_reply : FileText → Reply
+file_reply (file_text.Text text) = reply.Text text
+file_reply (file_text.Refused fault) = reply.Refused fault
+
+-- this is the reply to a read of the file, and nothing is done
+pub record ShowsFile (group : ℕ) (file : File) (from to : KnownLive) (shown : FileText) : Type 0 where
+  pub reply_is : file_reply shown ≡ reply_of from.state.locked.machine.ledger (outcome.Text group file)
+  pub stays : to ≡ from

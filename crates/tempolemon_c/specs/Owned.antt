@@ -1,0 +1,51 @@
+-- What a pointer to the parts of a boot owns.
+use Rattle.std.specs.Prelude.{Option, None, Some}
+use base.Fml.{Fml, ftrue}
+use base.Stored.{Coded}
+use denote.Exit.{no}
+use denote.Param.{arg, layout, param}
+use denote.RattleType.{RattleType}
+use denote.RawPtr.{Ptr}
+use mir.Raw.{raw}
+use Rattle.std.specs.Box.Ownership.{box_owns}
+use Rattle.std.specs.Coded.{coded_option}
+use Rattle.std.specs.Global.{Global}
+use Rattle.core.specs.contracts.marker.Brand as Brand
+use Rattle.std_heap.specs.contracts.GlobalAllocator.TheImpl.{ghosts}
+use Rattle.frame_word.specs.Seats.{KnownTable}
+use Rattle.frame_word.specs.contracts.words.FrameWords as FrameWords
+use Rattle.stock_word.specs.Stock.{KnownStockTable}
+use Rattle.stock_word.specs.contracts.kinds.StockWords as StockWords
+use Rattle.tempolemon_c.specs.Known.{KnownLive}
+use Rattle.tempolemon_c.specs.contracts.live.Live as Live
+use Rattle.tempolemon_c.specs.declared.live.Live as Known
+
+-- how a table of the frames' words is stored
+abbrev pub frames_coded : Coded KnownTable
+frames_coded = FrameWords.the_row.coded
+
+-- how a table of the stocks' words is stored
+abbrev pub stocks_coded : Coded KnownStockTable
+stocks_coded = StockWords.the_row.coded
+
+-- the type that a call passes for a name
+abbrev pub brand : RattleType
+brand = arg (raw (layout Brand.the_row)) no Brand.the_row
+
+-- the same, as the called function sees it
+abbrev pub marker : RattleType
+marker = param 0 brand
+
+-- the parts of a boot of these tables, under a name
+abbrev pub live_row : RattleType → KnownTable → KnownStockTable → RattleType
+live_row name frames stock_table = Live.the_row name (record { frames = frames; stocks = stock_table })
+
+-- how the parts of a boot are stored, if there are any
+abbrev pub known_coded : Coded (Option KnownLive)
+known_coded = coded_option (Known.the_code Brand.the_row.Denot Brand.the_row.coded)
+
+-- a pointer to the parts of a boot owns them as a box does; a pointer to nothing owns nothing
+abbrev pub live_owns : RattleType → KnownTable → KnownStockTable → Global → Ptr → Option KnownLive → Fml
+live_owns name frames stock_table alloc ptr None = ftrue
+live_owns name frames stock_table alloc ptr (Some live) =
+    box_owns (ghosts.dealloc_token alloc) (live_row name frames stock_table) ptr live

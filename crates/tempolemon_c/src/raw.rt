@@ -1,0 +1,127 @@
+//! A pointer to the parts of a boot, or to nothing, without a name.
+
+ghost use Rattle.std.specs.Prelude.{◌≡◌, IsSome, IsSomeAnd, None, Option};
+ghost use Rattle.frame_word.specs.Seats.{KnownTable};
+ghost use Rattle.stock_word.specs.Stock.{KnownStockTable};
+ghost use Rattle.tempolemon_c.specs.HandleCalls.{Calls, HasFile, ShowsFile};
+ghost use Rattle.tempolemon_c.specs.Known.{KnownLive};
+ghost use Rattle.tempolemon_c.specs.Owned.{frames_coded, known_coded, live_owns, marker, stocks_coded};
+ghost use Rattle.tempolemon_c.specs.Serving.{IsFit, OnRaw, ServesRaw};
+
+use crate::calls::{Call, CallAnswer, FileText};
+use crate::live::Live;
+use crate::live_pointer::LivePointer;
+use crate::requests::{Request, RequestAnswer};
+use crate::serving::{serve, serve_call, show_file};
+use control_files::file::File;
+use group_tree::group::GroupId;
+use std::alloc::Global;
+use std::marker::{Brand, Model};
+
+/// A pointer to the parts of a boot, or to nothing, and the tables that the parts are of. If it is dropped, what it
+/// points to stays in memory. It may go to another thread.
+#[repr(C)]
+#[derive(Drop)]
+pub struct RawBoot {
+    ptr: *mut u8,
+    alloc: Global,
+    pub ghost frames: { KnownTable } by { frames_coded },
+    pub ghost stocks: { KnownStockTable } by { stocks_coded },
+    pub ghost live: { Option KnownLive } by { known_coded },
+}
+
+impl Model for RawBoot {
+    ghost also_owns = { λ r. live_owns marker r.frames r.stocks r.alloc r.ptr r.live };
+}
+
+unsafe impl Send for RawBoot {}
+
+impl RawBoot {
+    /// A pointer to nothing.
+    pub fn none(alloc: Global) -> RawBoot
+        ensures { result.live ≡ None }
+    {
+        RawBoot {
+            ptr: std::ptr::null_mut(),
+            alloc,
+        }
+    }
+}
+
+/// Serves a request, as `serve` does, under a name that it picks for the tables.
+pub fn serve_raw(raw: RawBoot, request: Request) -> (RawBoot, RequestAnswer)
+    requires fit { IsFit raw.live request }
+    ensures serves { ServesRaw raw.frames raw.stocks raw.live request
+        result.0.frames result.0.stocks result.0.live result.1 }
+{
+    let RawBoot { ptr, alloc } = raw;
+    let (pointer, answer) = serve::<Brand>(
+        LivePointer {
+            ptr: ptr as *mut Live<Brand>,
+            alloc,
+        },
+        request,
+    );
+    let LivePointer { ptr, alloc } = pointer;
+    (
+        RawBoot {
+            ptr: ptr as *mut u8,
+            alloc,
+        },
+        answer,
+    )
+}
+
+/// Serves a call of the CPU of this number, as `serve_call` does, under the name that it picks for the tables. Only a
+/// pointer to the call crosses, and no memory is taken.
+///
+/// It is inlined, so that a caller that names the call has its steps alone: see `serve_value`.
+#[inline(always)]
+pub fn call_raw(raw: RawBoot, cpu: u32, call: &Call<'_>) -> (RawBoot, CallAnswer)
+    requires some { IsSome raw.live }
+    ensures serves { OnRaw (λ from to. Calls raw.frames raw.stocks cpu call.now from to result.1)
+        raw.frames raw.stocks raw.live result.0.frames result.0.stocks result.0.live }
+{
+    let RawBoot { ptr, alloc } = raw;
+    let (pointer, answer) = serve_call::<Brand>(
+        LivePointer {
+            ptr: ptr as *mut Live<Brand>,
+            alloc,
+        },
+        cpu,
+        call,
+    );
+    let LivePointer { ptr, alloc } = pointer;
+    (
+        RawBoot {
+            ptr: ptr as *mut u8,
+            alloc,
+        },
+        answer,
+    )
+}
+
+/// Returns what a file of a group shows, as `show_file` does, under the name that it picks for the tables.
+pub fn show_raw(raw: RawBoot, group: GroupId, file: File) -> (RawBoot, FileText)
+    requires there { IsSomeAnd raw.live (HasFile group file) }
+    ensures shows { OnRaw (λ from to. ShowsFile group file from to result.1)
+        raw.frames raw.stocks raw.live result.0.frames result.0.stocks result.0.live }
+{
+    let RawBoot { ptr, alloc } = raw;
+    let (pointer, shown) = show_file::<Brand>(
+        LivePointer {
+            ptr: ptr as *mut Live<Brand>,
+            alloc,
+        },
+        group,
+        file,
+    );
+    let LivePointer { ptr, alloc } = pointer;
+    (
+        RawBoot {
+            ptr: ptr as *mut u8,
+            alloc,
+        },
+        shown,
+    )
+}

@@ -1,0 +1,146 @@
+//! Serving requests under the name of a boot's tables.
+
+ghost use Rattle.std.specs.Prelude.{◌≡◌, IsSome, IsSomeAnd, None};
+ghost use Rattle.tempolemon_c.specs.HandleCalls.{Calls, HasFile, ShowsFile};
+ghost use Rattle.tempolemon_c.specs.Serving.{MayBeAsked, OnLive, Serves};
+ghost use Rattle.tempolemon_c.specs.declared.requests.Request.TheVariants.{End, Lines, Start, StoreUnread, TakeUnread};
+
+use crate::box_parts::BoxParts;
+use crate::calls::{Call, CallAnswer, FileText};
+use crate::live::Live;
+use crate::live_pointer::LivePointer;
+use crate::requests::{Request, RequestAnswer};
+use control_files::file::File;
+use cpu_part::BootName;
+use group_tree::group::GroupId;
+use mem_system::Boot;
+use script_lines::fault::ScriptFault;
+use std::alloc::Global;
+use zone_blocks::config::Config;
+
+/// Serves a request. A start needs a pointer to nothing, and all else one to the parts of a boot.
+pub fn serve<N: BootName>(
+    pointer: LivePointer<N>,
+    request: Request,
+) -> (LivePointer<N>, RequestAnswer)
+    requires asked { MayBeAsked N.frames N.stocks pointer.live request }
+    ensures serves { Serves N.frames N.stocks pointer.live request result.0.live result.1 }
+{
+    match request {
+        Request::Start { alloc, boot, sizes } => start(pointer, alloc, boot, sizes),
+        Request::Lines {
+            alloc,
+            text,
+            is_explained,
+        } => answer_lines(pointer, alloc, text, is_explained),
+        Request::StoreUnread { text } => store_unread(pointer, text),
+        Request::TakeUnread { alloc } => take_unread(pointer, alloc),
+        Request::End { alloc } => finish(pointer, alloc),
+    }
+}
+
+/// Serves a call of the CPU of this number, on the parts of a boot.
+#[inline(always)]
+pub fn serve_call<N: BootName>(
+    pointer: LivePointer<N>,
+    cpu: u32,
+    call: &Call<'_>,
+) -> (LivePointer<N>, CallAnswer)
+    requires some { IsSome pointer.live }
+    ensures serves { OnLive (λ from to. Calls N.frames N.stocks cpu call.now from to result.1)
+        pointer.live result.0.live }
+{
+    let mut live = pointer.into_box_parts().into_box();
+    let answer = live.call(cpu, call);
+    (LivePointer::of(BoxParts::of(live)), answer)
+}
+
+/// Returns what a file of a group shows, on the parts of a boot that has the group. The root has no files.
+pub fn show_file<N: BootName>(
+    pointer: LivePointer<N>,
+    group: GroupId,
+    file: File,
+) -> (LivePointer<N>, FileText)
+    requires there { IsSomeAnd pointer.live (HasFile group file) }
+    ensures shows { OnLive (λ from to. ShowsFile group file from to result.1) pointer.live result.0.live }
+{
+    let live = pointer.into_box_parts().into_box();
+    let shown = live.show(group, file);
+    (LivePointer::of(BoxParts::of(live)), shown)
+}
+
+fn start<N: BootName>(
+    pointer: LivePointer<N>,
+    alloc: Global,
+    boot: Boot,
+    sizes: Config,
+) -> (LivePointer<N>, RequestAnswer)
+    requires none { pointer.live ≡ None }
+    requires frames { boot.frames ≡ N.frames }
+    requires stocks { boot.stocks ≡ N.stocks }
+    requires sizes { boot.sizes ≡ sizes }
+    ensures serves { Serves N.frames N.stocks pointer.live (Start alloc boot sizes) result.0.live result.1 }
+{
+    let Ok(live) = Live::<N>::start(alloc, boot, sizes) else {
+        return (pointer, RequestAnswer::NoMemory);
+    };
+    match Box::new(alloc, live) {
+        Ok(live) => (LivePointer::of(BoxParts::of(live)), RequestAnswer::Done),
+        Err(_) => (pointer, RequestAnswer::NoMemory),
+    }
+}
+
+fn answer_lines<N: BootName>(
+    pointer: LivePointer<N>,
+    alloc: Global,
+    text: Vec<u8>,
+    is_explained: bool,
+) -> (LivePointer<N>, RequestAnswer)
+    requires some { IsSome pointer.live }
+    ensures serves { Serves N.frames N.stocks pointer.live (Lines alloc text is_explained) result.0.live result.1 }
+{
+    let mut live = pointer.into_box_parts().into_box();
+    let answered = live.answer_lines(alloc, &text, is_explained);
+    let pointer = LivePointer::of(BoxParts::of(live));
+    match answered {
+        Ok(answers) => (pointer, RequestAnswer::Text(answers)),
+        Err(ScriptFault::BadLine(number)) => (pointer, RequestAnswer::BadLine(number)),
+        Err(ScriptFault::NoMemory) => (pointer, RequestAnswer::NoMemory),
+    }
+}
+
+fn store_unread<N: BootName>(
+    pointer: LivePointer<N>,
+    text: Vec<u8>,
+) -> (LivePointer<N>, RequestAnswer)
+    requires some { IsSome pointer.live }
+    ensures serves { Serves N.frames N.stocks pointer.live (StoreUnread text) result.0.live result.1 }
+{
+    let mut live = pointer.into_box_parts().into_box();
+    live.store_unread(text);
+    (LivePointer::of(BoxParts::of(live)), RequestAnswer::Done)
+}
+
+fn take_unread<N: BootName>(
+    pointer: LivePointer<N>,
+    alloc: Global,
+) -> (LivePointer<N>, RequestAnswer)
+    requires some { IsSome pointer.live }
+    ensures serves { Serves N.frames N.stocks pointer.live (TakeUnread alloc) result.0.live result.1 }
+{
+    let mut live = pointer.into_box_parts().into_box();
+    let text = live.take_unread(alloc);
+    (
+        LivePointer::of(BoxParts::of(live)),
+        RequestAnswer::Text(text),
+    )
+}
+
+fn finish<N: BootName>(pointer: LivePointer<N>, alloc: Global) -> (LivePointer<N>, RequestAnswer)
+    requires some { IsSome pointer.live }
+    ensures serves { Serves N.frames N.stocks pointer.live (End alloc) result.0.live result.1 }
+{
+    let live = Box::into_inner(pointer.into_box_parts().into_box());
+    let ended = live.finish();
+    (LivePointer::none(alloc), RequestAnswer::Ended(ended))
+}
