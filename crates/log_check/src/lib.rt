@@ -1,5 +1,5 @@
-//! The check of a log: whether its text is that of a legal run. The text is read piece by piece, and each line is
-//! checked as soon as it ends.
+//! Logs: the lines of steps and answers, read and written; the check whether a text is that of a legal run; and the
+//! reason why a step isn't legal. A check reads the text piece by piece, and judges each line as soon as it ends.
 #![tactic(auto)]
 
 mod answers;

@@ -1,5 +1,5 @@
--- Lines that were served one after the other, so far. Serves `replay`, `replay_by_visits`, `serve_own` of `script_threads`, and
--- `serve` of `line_server`.
+-- Lines that were served one after the other, so far. Serves `replay`, `replay_by_visits`, `serve_own`, and `serve` of
+-- `line_server`.
 use Rattle.std.proofs.Common.{◌≡◌, ℕ, ◌+◌, ◌<◌, ◌≤◌, List, [], ◌∷◌, ◌++◌, length, take, get_or, append_assoc, append-nil, ap, refl, sym, ◌∙◌, subst}
 use Rattle.std.proofs.lemmas.List.{take_more, take_all}
 use Rattle.script_lines.specs.declared.line.Line.{Line}

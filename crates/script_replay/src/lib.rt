@@ -1,6 +1,7 @@
 //! Serves the lines of a script one after the other: by value of what lies behind the zone's lock, or through that
 //! lock. Each line is served once, for the CPU that it names, and its answer is written as text. If memory runs out for
-//! that text, no later line is served.
+//! that text, no later line is served. Or one thread for each CPU serves that CPU's lines in order, concurrently with the
+//! others.
 //!
 //! A line that ends in 'Called for its contract' calls a reader and changes nothing. A proof knows the invariant of a
 //! type only from the contract of such a call.

@@ -1,5 +1,10 @@
 //! The controller for hosts in C, and in languages that call C. `include/tempolemon.h` declares each call.
 //!
+//! A boot lives behind a handle. Its parts carry the name of its tables (`BootName`), and a struct that crosses to C
+//! can't have such a name. So `RawBoot` is a pointer to the parts in a box, and remembers which tables they are of. Only
+//! `serve_raw`, `call_raw` and `show_raw` reach through it: each picks a name for those tables and calls plain code over
+//! the box.
+//!
 //! A call gets memory through pointers that the host promises to be good: never null, to as many bytes as it says, and
 //! no two of them to the same bytes. Everything else is tested, and each refusal has a status of its own.
 #![tactic(auto)]

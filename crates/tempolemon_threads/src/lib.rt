@@ -4,6 +4,10 @@
 //! A call gets memory through pointers that the host promises to be good: never null, to as many bytes as it says, and
 //! no two of them to the same bytes. A handle is used by one call at a time. Everything else is tested, and each refusal
 //! has a status of its own. No call waits.
+//!
+//! A handle has a home of `zone_threads`, which carries the name of its boot's tables (`BootName`). A struct that crosses
+//! to C can't have such a name. So `RawHome` is a pointer to a home in a box, and remembers which tables it is of. Only
+//! `serve_raw`, `call_raw`, `read_raw` and `fork_raw` reach through it: each picks a name and calls plain code.
 #![tactic(auto)]
 
 pub mod box_parts;

@@ -1,5 +1,5 @@
-//! Blocks of a zone of page frames, and its free areas: for each order the free blocks that are inside no larger free
-//! block. Knuth's buddy system keeps them so (The Art of Computer Programming, 2.5).
+//! The sizes of a zone of page frames, its blocks, and its free areas: for each order the free blocks that are inside no
+//! larger free block. Knuth's buddy system keeps them so (The Art of Computer Programming, 2.5).
 #![tactic(auto)]
 
 pub mod areas;
