@@ -41,7 +41,7 @@ pub fn bad_line_is_no_log()
 {}
 
 // The line that has this text.
-#[tactic(auto, unfolding(crate::specs::Reading::line_of))]
+#[tactic(auto, unfolding(crate::specs::Parsing::line_of))]
 fn line_of(text: &[u8]) -> Option<LogLine>
     ensures { result ≡ line_of text.now }
 {
@@ -69,7 +69,7 @@ fn is_skipped(text: &[u8]) -> bool
     }
 }
 
-#[tactic(auto, unfolding(crate::specs::Reading::zone_of))]
+#[tactic(auto, unfolding(crate::specs::Parsing::zone_of))]
 fn parse_zone(mut words: Words<'_>) -> Option<(u32, u32)>
     ensures { result ≡ zone_of words.entry }
 {
@@ -85,7 +85,7 @@ fn parse_zone(mut words: Words<'_>) -> Option<(u32, u32)>
     }
 }
 
-#[tactic(auto, unfolding(crate::specs::Reading::entry_of))]
+#[tactic(auto, unfolding(crate::specs::Parsing::entry_of))]
 fn parse_entry(mut words: Words<'_>) -> Option<(Step, Answer)>
     ensures { result ≡ entry_of words.entry }
 {
@@ -101,7 +101,7 @@ fn parse_entry(mut words: Words<'_>) -> Option<(Step, Answer)>
     Some((Step { seat, action }, answer))
 }
 
-#[tactic(auto, unfolding(crate::specs::Reading::action_at))]
+#[tactic(auto, unfolding(crate::specs::Parsing::action_at))]
 fn next_action(words: &mut Words<'_>) -> Option<Action>
     ensures { Gives (λ action. (action, words.new)) result (action_at words.old) }
 {
@@ -110,7 +110,7 @@ fn next_action(words: &mut Words<'_>) -> Option<Action>
 }
 
 // The action of this name, with its arguments.
-#[tactic(auto, unfolding(crate::specs::Reading::arguments_at))]
+#[tactic(auto, unfolding(crate::specs::Parsing::arguments_at))]
 fn next_arguments(name: ActionName, words: &mut Words<'_>) -> Option<Action>
     ensures { Gives (λ action. (action, words.new)) result (arguments_at name words.old) }
 {
@@ -154,7 +154,7 @@ fn next_arguments(name: ActionName, words: &mut Words<'_>) -> Option<Action>
     }
 }
 
-#[tactic(auto, unfolding(crate::specs::Reading::answer_at))]
+#[tactic(auto, unfolding(crate::specs::Parsing::answer_at))]
 fn next_answer(words: &mut Words<'_>) -> Option<Answer>
     ensures { Gives (λ answer. (answer, words.new)) result (answer_at words.old) }
 {
@@ -163,7 +163,7 @@ fn next_answer(words: &mut Words<'_>) -> Option<Answer>
 }
 
 // The answer of this name, with its arguments.
-#[tactic(auto, unfolding(crate::specs::Reading::results_at))]
+#[tactic(auto, unfolding(crate::specs::Parsing::results_at))]
 fn next_results(name: AnswerName, words: &mut Words<'_>) -> Option<Answer>
     ensures { Gives (λ answer. (answer, words.new)) result (results_at name words.old) }
 {

@@ -62,7 +62,7 @@ impl<'a> Words<'a> {
     }
 
     /// A number below 2^64.
-    #[tactic(auto, unfolding(crate::specs::Reading::wide_at))]
+    #[tactic(auto, unfolding(crate::specs::Parsing::wide_at))]
     pub(crate) fn wide(&mut self) -> Option<u64>
         ensures { Gives (λ n. (n, self.new)) result (wide_at self.old) }
     {
@@ -70,7 +70,7 @@ impl<'a> Words<'a> {
     }
 
     /// A number of 32 bits.
-    #[tactic(auto, unfolding(crate::specs::Reading::number_at))]
+    #[tactic(auto, unfolding(crate::specs::Parsing::number_at))]
     pub(crate) fn number(&mut self) -> Option<u32>
         ensures { Gives (λ n. (n, self.new)) result (number_at self.old) }
     {
@@ -78,7 +78,7 @@ impl<'a> Words<'a> {
     }
 
     /// The number of a group.
-    #[tactic(auto, unfolding(crate::specs::Reading::group_at))]
+    #[tactic(auto, unfolding(crate::specs::Parsing::group_at))]
     pub(crate) fn group(&mut self) -> Option<GroupId>
         ensures { Gives (λ g. (g, self.new)) result (group_at self.old) }
     {
@@ -86,7 +86,7 @@ impl<'a> Words<'a> {
     }
 
     /// The order of a block.
-    #[tactic(auto, unfolding(crate::specs::Reading::order_at))]
+    #[tactic(auto, unfolding(crate::specs::Parsing::order_at))]
     pub(crate) fn order(&mut self) -> Option<Order>
         ensures { Gives (λ k. (k, self.new)) result (order_at self.old) }
     {
@@ -94,7 +94,7 @@ impl<'a> Words<'a> {
     }
 
     /// A limit in pages, or `max`.
-    #[tactic(auto, unfolding(crate::specs::Reading::limit_at))]
+    #[tactic(auto, unfolding(crate::specs::Parsing::limit_at))]
     pub(crate) fn limit(&mut self) -> Option<Option<u32>>
         ensures { Gives (λ n. (n, self.new)) result (limit_at self.old) }
     {
@@ -102,7 +102,7 @@ impl<'a> Words<'a> {
     }
 
     /// A flag.
-    #[tactic(auto, unfolding(crate::specs::Reading::flag_at))]
+    #[tactic(auto, unfolding(crate::specs::Parsing::flag_at))]
     pub(crate) fn flag(&mut self) -> Option<bool>
         ensures { Gives (λ f. (f, self.new)) result (flag_at self.old) }
     {
@@ -110,7 +110,7 @@ impl<'a> Words<'a> {
     }
 
     /// A path.
-    #[tactic(auto, unfolding(crate::specs::Reading::path_at))]
+    #[tactic(auto, unfolding(crate::specs::Parsing::path_at))]
     pub(crate) fn path(&mut self) -> Option<PathText>
         ensures { Gives (λ p. (p, self.new)) result (path_at self.old) }
     {
