@@ -11,6 +11,7 @@ pub mod line;
 pub mod line_fault;
 mod meeting;
 mod name;
+mod number;
 mod parse;
 mod progress;
 mod reader;

@@ -16,8 +16,8 @@ pub fn write_zone(frames: u32, cpus: u32, text: &mut Vec<u8>) -> Result<(), Allo
     ensures { IfOk result (λ _. text.new.items ≡ text.old.items ++ zone_text frames cpus) }
 {
     text.extend_from_slice(b"zone")?;
-    push_number(frames, text)?;
-    push_number(cpus, text)
+    push_spaced(frames, text)?;
+    push_spaced(cpus, text)
 }
 
 /// Appends a step and its answer, without a line feed. It fails only if memory runs out.
@@ -69,7 +69,7 @@ fn push_word(word: &[u8], text: &mut Vec<u8>) -> Result<(), AllocError>
     text.extend_from_slice(word)
 }
 
-fn push_number(number: u32, text: &mut Vec<u8>) -> Result<(), AllocError>
+fn push_spaced(number: u32, text: &mut Vec<u8>) -> Result<(), AllocError>
     ensures { IfOk result (λ _. text.new.items ≡ text.old.items ++ 32 ∷ decimal number) }
 {
     let mut buffer = Buffer::new();
@@ -81,7 +81,7 @@ fn push_of_number(name: &[u8], number: u32, text: &mut Vec<u8>) -> Result<(), Al
     ensures { IfOk result (λ _. text.new.items ≡ text.old.items ++ spaced (Fixed name.now ∷ words.number number ∷ [])) }
 {
     push_word(name, text)?;
-    push_number(number, text)
+    push_spaced(number, text)
 }
 
 // Appends a name and two numbers.
@@ -95,7 +95,7 @@ fn push_of_numbers(
         ≡ text.old.items ++ spaced (Fixed name.now ∷ words.number first ∷ words.number second ∷ [])) }
 {
     push_of_number(name, first, text)?;
-    push_number(second, text)
+    push_spaced(second, text)
 }
 
 // Appends a name and a group.
@@ -160,7 +160,7 @@ fn push_action(action: &Action, text: &mut Vec<u8>) -> Result<(), AllocError>
         Action::Kill { group } => push_of_group(b"kill", group, text),
         Action::Fill { cpu, group, pages } => {
             push_of_numbers(b"fill", cpu, group.number(), text)?;
-            push_number(pages, text)
+            push_spaced(pages, text)
         }
         Action::Grant { group, pages } => push_of_both(b"grant", group, pages, text),
         Action::Ungrant { group, pages } => push_of_both(b"ungrant", group, pages, text),
