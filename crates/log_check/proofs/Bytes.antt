@@ -11,12 +11,12 @@ use Rattle.step_rules.specs.State.{State}
 use Rattle.step_rules.specs.After.{IsLegalRun, Run, state_of}
 use Rattle.mem_core.specs.Shown.{CoreState, state_shown}
 use Rattle.mem_core.proofs.Keeping.{always_keeps}
-use Rattle.log_check.specs.declared.line.LogLine.{LogLine}
-use Rattle.log_check.specs.Line.{IsLineText}
-use Rattle.log_check.specs.Log.{EndsBadly, MayBegin}
-use Rattle.log_check.proofs.BadLines.{same_first}
-use Rattle.log_check.proofs.Lines.{same_line}
-use Rattle.log_check.proofs.Logs.{ended}
+use Rattle.log_lines.specs.declared.line.LogLine.{LogLine}
+use Rattle.log_lines.specs.Line.{IsLineText}
+use Rattle.log_lines.specs.Log.{EndsBadly, MayBegin}
+use Rattle.log_lines.proofs.BadLines.{same_first}
+use Rattle.log_lines.proofs.Lines.{same_line}
+use Rattle.log_lines.proofs.Logs.{ended}
 use Rattle.log_check.specs.declared.reader.LogReader.{LogReader}
 use Rattle.log_check.specs.declared.verdict.LogVerdict.{LogVerdict}
 use Rattle.log_check.specs.declared.verdict.LogVerdict.TheVariants as kinds

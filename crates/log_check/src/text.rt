@@ -8,7 +8,7 @@ ghost use Rattle.log_check.specs.Texts.{place_text, steps_text, verdict_text};
 
 use crate::number::push_number;
 use crate::verdict::{IllegalStep, LogEnd, LogVerdict};
-use crate::write_answer;
+use log_lines::write_answer;
 use std::alloc::AllocError;
 use crate::reason::Reason;
 use crate::write_reason;
