@@ -7,7 +7,6 @@ use crate::walks::{order_of, walks_blocks};
 use std::process::Abort;
 use zone_blocks::areas::FreeAreas;
 use zone_blocks::block::Block;
-use zone_blocks::laws;
 use zone_blocks::order::Order;
 
 // The calls that the README shows.
@@ -138,11 +137,4 @@ fn a_block_is_put_in_and_taken_out(rt: HostRuntime) {
         AreaRow::NoBlockFrom(1),
     ];
     play_rows(&rt, &mut areas, &rows);
-}
-
-#[test]
-fn the_laws_can_be_called() {
-    laws::every_free_frame_is_in_one_block();
-    laws::every_frame_in_a_block_is_free();
-    laws::maximal_blocks_are_unique();
 }

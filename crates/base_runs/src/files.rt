@@ -1,7 +1,7 @@
 //! The lines that the README of `control_files` shows, and what no script can ask.
 
 use crate::calls::{charge_pages, expect_group, expect_true};
-use control_files::file::{File, file_named, file_text};
+use control_files::file::{File, file_text};
 use control_files::flag::{read_flag, write_flag};
 use control_files::limit::{read_limit, write_limit};
 use group_charge::charges::Charges;
@@ -40,18 +40,4 @@ fn limits_and_flags_may_end_with_a_line_feed(rt: HostRuntime) {
     expect_true(&rt, read_flag(b" 1\t\n") == Ok(true));
     expect_true(&rt, read_flag(b" \n") == Err(Fault::BadLimit));
     expect_true(&rt, write_flag(true).as_bytes() == b"1\n".as_slice());
-}
-
-#[test]
-fn files_are_found_by_name(rt: HostRuntime) {
-    expect_true(&rt, file_named(b"memory.oom.group") == Some(File::OomGroup));
-    expect_true(&rt, File::EventsLocal.name() == "memory.events.local");
-    expect_true(
-        &rt,
-        File::OomGroup.is_writable() && File::OomGroup.is_readable(),
-    );
-    expect_true(
-        &rt,
-        !File::Peak.is_writable() && !File::Reclaim.is_readable(),
-    );
 }

@@ -4,7 +4,6 @@ ghost use Rattle.std.specs.Prelude.{◌≡◌, ◌<◌, length};
 ghost use Rattle.lru_lists.specs.Lists.{AreLinked};
 
 use crate::calls::expect_true;
-use lru_lists::laws;
 use lru_lists::links::Links;
 use lru_lists::lru::{Lru, Touched};
 use lru_lists::record::LruList;
@@ -30,10 +29,4 @@ fn touches_unit_3(rt: &impl Abort, lru: &mut Lru, links: &mut Links, answer: Tou
 {
     assert!(rt; lru.list_of(links, 3).is_some());
     expect_true(rt, lru.touch(links, 3) == answer);
-}
-
-#[test]
-fn the_laws_can_be_called() {
-    laws::others_stay_linked();
-    laws::one_of_all_changes();
 }

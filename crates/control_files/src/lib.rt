@@ -4,5 +4,6 @@
 pub mod file;
 pub mod flag;
 pub mod limit;
+pub mod number;
 pub mod text;
 mod word;

@@ -28,11 +28,12 @@ impl Model for ArrayText {
 
     ghost view = { λ t. take t.len t.bytes };
 
-    ghost use Rattle.control_files.specs.Text.{IsPadded, padded, padded-view};
+    ghost use Rattle.group_tree.specs.Text.{IsPadded, padded};
+    ghost use Rattle.control_files.specs.Text.{longest_text, padded-view};
 
-    ghost invariant = { λ t. IsPadded t.bytes t.len };
+    ghost invariant = { λ t. IsPadded longest_text t.bytes t.len };
 
-    ghost inverse = { λ text. record { bytes = padded text; len = length text } };
+    ghost inverse = { λ text. record { bytes = padded longest_text text; len = length text } };
 
     ghost inverse_ok = { λ t h. padded-view t.bytes t.len h };
 }

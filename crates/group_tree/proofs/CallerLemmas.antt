@@ -299,10 +299,6 @@ pub has_group-limited : (groups : List Group) (n k : ℕ) (limit : Option ℕ) �
 unfolding with_limit
 has_group-limited groups n k limit = has_group-changed (limited n limit) (limited-keeps n limit) groups k
 
-pub path_of-limited : (groups : List Group) (n k : ℕ) (limit : Option ℕ) → path_of (with_limit groups n limit) k ≡ path_of groups k
-unfolding with_limit
-path_of-limited groups n k limit = path_of-changed (limited n limit) (limited-keeps n limit) groups k
-
 pub in_subtree-limited : (groups : List Group) (n g h : ℕ) (limit : Option ℕ) → in_subtree (with_limit groups n limit) g h ≡ in_subtree groups g h
 unfolding with_limit
 in_subtree-limited groups n g h limit = in_subtree-changed (limited n limit) (limited-keeps n limit) groups g h
@@ -324,10 +320,6 @@ limit_of-limited groups n limit there =
 pub has_group-flagged : (groups : List Group) (n k : ℕ) (flag : Bool) → has_group (with_oom_group groups n flag) k ≡ has_group groups k
 unfolding with_oom_group
 has_group-flagged groups n k flag = has_group-changed (flagged n flag) (flagged-keeps n flag) groups k
-
-pub path_of-flagged : (groups : List Group) (n k : ℕ) (flag : Bool) → path_of (with_oom_group groups n flag) k ≡ path_of groups k
-unfolding with_oom_group
-path_of-flagged groups n k flag = path_of-changed (flagged n flag) (flagged-keeps n flag) groups k
 
 pub in_subtree-flagged : (groups : List Group) (n g h : ℕ) (flag : Bool) → in_subtree (with_oom_group groups n flag) g h ≡ in_subtree groups g h
 unfolding with_oom_group
@@ -362,16 +354,6 @@ is_oom_group-none groups n none = no_flag (group_at groups n) none
 
 pub is_oom_group-with_new : (groups : List Group) (n : ℕ) (path : List ℕ) → has_group groups n ≡ false → is_oom_group (with_group groups n path) n ≡ false
 is_oom_group-with_new groups n path free = is_oom_group-with groups n n path ∙ is_oom_group-none groups n free
-
--- a group whose flag is on exists and isn't the root
-pub is_oom_group-there : (groups : List Group) (n : ℕ) → is_oom_group groups n ≡ true → IsTrue (has_group groups n)
-is_oom_group-there groups n on =
-    ⊎_elim (λ there. there)
-    (λ none. absurd (both_ways (is_oom_group groups n) (is_oom_group-none groups n none) on))
-    (cases_Bool (has_group groups n))
-
-pub is_oom_group-below_root : (groups : List Group) (n : ℕ) → AreGroups groups → is_oom_group groups n ≡ true → n ≢ 0
-is_oom_group-below_root groups n facts on = λ root. both_ways (is_oom_group groups 0) facts.root_flag (ap (is_oom_group groups) (sym root) ∙ on)
 
 -- ---- the parent, and the place of a new group
 above_last : (a b more front : List (List ℕ)) (name : List ℕ) → b ≡ a ++ more → b ≡ front ++ name ∷ [] →

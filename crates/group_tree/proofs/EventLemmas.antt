@@ -1,8 +1,7 @@
 -- Counts of events by key. Serves `EventCounts`, and crates above.
-use Rattle.std.proofs.Common.{◌≡◌, ℕ, true, refl, if◌then◌else◌, ap, sym, ◌∙◌, get_or, set, List, [], ◌∷◌, length, arith}
-use Rattle.std.proofs.lemmas.Bool.{eq-eqb, eqb-true}
+use Rattle.std.proofs.Common.{◌≡◌, ℕ, refl, if◌then◌else◌, ap, ◌∙◌, get_or, set, List, [], ◌∷◌, length, arith}
 use Rattle.group_tree.specs.declared.event.EventKey.TheVariants.{Max, Oom, OomKill, OomGroupKill}
-use Rattle.group_tree.specs.Events.{EventKey, EventCounts, all_keys, key_index, is_same_key, no_events, count_of, with_one_more}
+use Rattle.group_tree.specs.Events.{EventKey, EventCounts, key_index, is_same_key, no_events, count_of, with_one_more}
 use Rattle.group_tree.specs.Room.{one_more}
 
 -- one more event of a kind: its count is one more, and each other count stays
@@ -42,14 +41,3 @@ set_count kind (a ∷ b ∷ x ∷ y ∷ []) index d more size at e =
 set_count kind (a ∷ b ∷ x ∷ y ∷ z ∷ rest) index d more size at e = absurd (omega arith)
 
 -- ---- the test of keys
-key_at : (key : EventKey) → get_or all_keys (key_index key) Max ≡ key
-key_at Max = refl
-key_at Oom = refl
-key_at OomKill = refl
-key_at OomGroupKill = refl
-
-pub is_same_key-refl : (key : EventKey) → is_same_key key key ≡ true
-is_same_key-refl key = eq-eqb (key_index key) (key_index key) refl
-
-pub same_key : (j k : EventKey) → is_same_key j k ≡ true → j ≡ k
-same_key j k e = sym (key_at j) ∙ ap (λ n. get_or all_keys n Max) (eqb-true (key_index j) (key_index k) e) ∙ key_at k

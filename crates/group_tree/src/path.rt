@@ -28,11 +28,12 @@ impl Model for PathText {
 
     ghost view = { λ p. take p.len p.bytes };
 
+    ghost use Rattle.group_tree.specs.Bounds.{longest_path};
     ghost use Rattle.group_tree.specs.Text.{IsPadded, padded, padded-view};
 
-    ghost invariant = { λ p. IsPadded p.bytes p.len };
+    ghost invariant = { λ p. IsPadded longest_path p.bytes p.len };
 
-    ghost inverse = { λ text. record { bytes = padded text; len = length text } };
+    ghost inverse = { λ text. record { bytes = padded longest_path text; len = length text } };
 
     ghost inverse_ok = { λ p h. padded-view p.bytes p.len h };
 }

@@ -3,7 +3,7 @@ use Rattle.std.specs.Prelude.{◌≡◌, ℕ, ◌-◌, ◌==◌, ◌&&◌, nat_l
 use Rattle.std.specs.Prelude.{Result, IfOk, codes, decimal, flat_map, length, map, take}
 use Rattle.step_rules.specs.After.{Run}
 use Rattle.step_watch.specs.Watched.{IsNewLog, KnownWatch, steps_text}
-use Rattle.log_check.specs.Line.{longest_line}
+use Rattle.log_lines.specs.Line.{longest_line}
 use Rattle.script_lines.specs.declared.line.Line.{Line}
 use Rattle.script_lines.specs.declared.line.Line.TheVariants.{Go, At}
 use Rattle.script_lines.specs.Script.{texts_of}

@@ -1,8 +1,7 @@
 -- From what clap promises of a parse to the options that the words ask for.
 use Rattle.std.proofs.Common.{◌≡◌, ◌∙◌, ◌<◌, ◌≤◌, ◌^◌, ℕ, Bool, true, false, cond, List, [], ◌∷◌, Option, Some, None, Result, Ok, Err, IfOk}
 use Rattle.std.proofs.Common.{MatchResult, arith, refl, ap, ap₂, sym, subst}
-use Rattle.std.specs.Prelude.{IsSome, OnOk, codes, nat_lt, option_and_then, pos, unwrap_or, ◌||◌}
-use Rattle.std.specs.Int.{int_max, int_min}
+use Rattle.std.specs.Prelude.{IsSome, OnOk, codes, nat_lt, option_and_then, unwrap_or, ◌||◌}
 use Rattle.std.specs.Option.{option_map_or}
 use Rattle.std.specs.Result.{IsErrAnd}
 use Rattle.std.specs.Str.{bytes_eq}
@@ -10,13 +9,13 @@ use Rattle.std.specs.Str.Parse.{ParsesBool, ParsesUnsigned, digits_value, withou
 use Rattle.std.proofs.lemmas.Bool.{ltb-false, ltb-true}
 use Rattle.std.proofs.lemmas.Slice.Eq.{bytes_eq-Decides}
 use Rattle.clap.specs.Kinds.{IsAmong, Kinds}
-use Rattle.clap.specs.Words.{AddsArg, App, ReadsOne, Row, Rule, app_of, fault_of, one_text, rows_of, rule_of, signed_between, subcommand_of, with_rule}
+use Rattle.clap.specs.Words.{AddsArg, App, ReadsOne, Row, Rule, app_of, fault_of, one_text, rows_of, rule_of, subcommand_of, with_rule}
 use Rattle.clap.specs.declared.builder.arg.Arg.{Arg}
 use Rattle.clap.specs.declared.builder.command.Command.{Command}
 use Rattle.clap.specs.declared.builder.command.Command.TheViews.{out-Command as fields_of}
 use Rattle.clap.specs.Values.{IsUnsignedIn}
 use Rattle.clap.specs.ValueTests.{is_unsigned_in}
-use Rattle.clap.specs.declared.builder.value_parser.ValueParser.TheVariants.{Signed, Unsigned}
+use Rattle.clap.specs.declared.builder.value_parser.ValueParser.TheVariants.{Unsigned}
 use Rattle.clap.specs.declared.error.kind.ErrorKind.{ErrorKind}
 use Rattle.clap.specs.declared.parser.matches.Found.{Found}
 use Rattle.clap.proofs.WalkLemmas.{one_text-rows}
@@ -30,18 +29,6 @@ use Rattle.load_options.specs.Words.{GivesOptions, if_none, number_in, number_ke
 use Rattle.load_options.specs.Words.{options_of, options_under, parsed_options, program, size_in}
 
 -- ---- options
-
--- clap's parser of numbers of 32 bits, narrowed to the range of an option
-pub narrowed : (most : ℕ) → most < 2 ^ 32 → signed_between (int_max (pos 0) (pos 1)) (int_min (pos 4294967295) (pos most)) ≡ Signed (pos 1) (pos most)
-narrowed most fits = go (nat_lt most 4294967295) refl
-  where
-    go : (b : Bool) → nat_lt most 4294967295 ≡ b
-        → signed_between (int_max (pos 0) (pos 1)) (cond b (pos most) (pos 4294967295)) ≡ Signed (pos 1) (pos most)
-    go true e = refl
-    go false e =
-        let past = ltb-false most 4294967295 e in
-        let is : 4294967295 ≡ most = omega arith in
-        ap (λ (n : ℕ). Signed (pos 1) (pos n)) is
 
 -- clap reads the command so, and none of its options is global
 abbrev pub IsRead : App → Command → Type 0
@@ -150,11 +137,6 @@ answers_fault asked (NoMemory e) none = tt
 pub answers_memory : (asked : Option Options) (fault : WordsFault) → IsNoMemory fault → GivesOptions asked (Err fault)
 answers_memory asked (BadWords text) memory = absurd memory
 answers_memory asked (NoMemory e) memory = tt
-
--- options that are answered are those that were asked for
-pub asked_ok : (asked : Option Options) (r : Result Options WordsFault) → GivesOptions asked r → IfOk r (λ o. asked ≡ Some o)
-asked_ok asked (Ok o) is = is
-asked_ok asked (Err fault) is = tt
 
 -- there are such options, whatever comes after
 pub asked_some : {T E : Type 0} (asked : Option Options) (o : Options) (r : Result T E) → asked ≡ Some o → OnOk r (IsSome asked)

@@ -15,7 +15,7 @@ ghost use Rattle.load_run.specs.Logs.{sizes_comment, text_at, text_of};
 use crate::boot_end::{BootEnd, empty_cpus, write_boot_end};
 use cpu_part::{BootName, Cpu, Tables};
 use line_server::{add_answer, add_steps, log_line};
-use log_check::write_zone;
+use log_lines::write_zone;
 use mem_system::{Boot, Locked};
 use script_lines::line::Line;
 use script_lines::script::first_line;

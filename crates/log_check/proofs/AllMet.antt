@@ -1,6 +1,6 @@
 -- Lists of conditions that are all met, or of which one isn't. Serves `unmet`.
-use Rattle.std.proofs.Common.{◌≡◌, ℕ, zero, suc, ◌+◌, ◌<◌, ◌&&◌, Bool, true, false, List, [], ◌∷◌, Option, Some, None, length, get_or, refl, arith}
-use Rattle.std.proofs.lemmas.Bool.{and_parts, false≢true}
+use Rattle.std.proofs.Common.{◌≡◌, ℕ, zero, suc, ◌<◌, ◌&&◌, Bool, true, List, [], ◌∷◌, Option, None, length, get_or, refl, arith}
+use Rattle.std.proofs.lemmas.Bool.{and_parts}
 use Rattle.step_rules.specs.State.{State}
 use Rattle.log_check.specs.declared.conditions.Condition.{Condition}
 use Rattle.log_check.specs.Conditions.{all_met, and_met, is_met_if}

@@ -11,12 +11,12 @@ use Rattle.step_rules.specs.State.{State}
 use Rattle.step_rules.specs.After.{IsLegalRun, Run, state_of}
 use Rattle.mem_core.specs.Shown.{CoreState, state_shown}
 use Rattle.mem_core.proofs.Keeping.{always_keeps}
-use Rattle.log_check.specs.declared.line.LogLine.{LogLine}
-use Rattle.log_check.specs.Line.{IsLineText}
-use Rattle.log_check.specs.Log.{EndsBadly, MayBegin}
-use Rattle.log_check.proofs.BadLines.{same_first}
-use Rattle.log_check.proofs.Lines.{same_line}
-use Rattle.log_check.proofs.Logs.{ended}
+use Rattle.log_lines.specs.declared.line.LogLine.{LogLine}
+use Rattle.log_lines.specs.Line.{IsLineText}
+use Rattle.log_lines.specs.Log.{EndsBadly, MayBegin}
+use Rattle.log_lines.proofs.BadLines.{same_first}
+use Rattle.log_lines.proofs.Lines.{same_line}
+use Rattle.log_lines.proofs.Logs.{ended}
 use Rattle.log_check.specs.declared.reader.LogReader.{LogReader}
 use Rattle.log_check.specs.declared.verdict.LogVerdict.{LogVerdict}
 use Rattle.log_check.specs.declared.verdict.LogVerdict.TheVariants as kinds
@@ -71,50 +71,12 @@ whole_more before r l m h is one =
 
 -- ---- what is read
 
--- nothing is read at first
-pub read_none : (r : LogReader) → r.line.items ≡ [] → r.lines ≡ 0 → r.progress.checker ≡ None → r.progress.steps ≡ 0 → r.progress.free ≡ 0
-    → AreLeftOut [] r.left_out → HasRead [] r
-read_none r empty none checker steps free left = record {
-  front = [];
-  parts = sym empty;
-  no_feed = subst NoFeed (sym empty) (λ k d h. absurd (omega (arith, h)));
-  left = [];
-  taken = record {
-    lines = [];
-    are = record { texts = []; cut = record { parts = refl; no_feeds = tt }; says = tt; count_is = none };
-    checked = subst (λ c. Checked c r.lines [] r.progress.steps r.progress.free []) (sym checker)
-        (subst (λ n. Checked None n [] r.progress.steps r.progress.free []) (sym none) (record {
-          empty = refl;
-          no_steps = steps;
-          none_free = free;
-          none_left = refl;
-          leaves = λ s. (refl, refl);
-        }));
-  };
-  left_is = left;
-  none = λ stops. refl;
-}
-
 feed_less : (xs : List ℕ) (b : ℕ) → NoFeed xs → b ≢ 10 → NoFeed (xs ++ b ∷ [])
 feed_less xs b all one = All-append (λ (x : ℕ). x ≢ 10) xs (b ∷ []) all (only b one)
   where
     only : (b : ℕ) → b ≢ 10 → NoFeed (b ∷ [])
     only b one zero d h = one
     only b one (suc k) d h = absurd (omega (arith, h))
-
--- one byte more of the line
-pub read_byte : (before : List ℕ) (r s : LogReader) (b : ℕ) → HasRead before r → b ≢ 10 → s.line.items ≡ r.line.items ++ b ∷ []
-    → s.lines ≡ r.lines → s.progress ≡ r.progress → s.is_all ≡ r.is_all → s.left_out ≡ r.left_out → HasRead (before ++ b ∷ []) s
-read_byte before r s b h other line lines progress all out = record {
-  front = h.front;
-  parts = ap (λ (x : List ℕ). x ++ b ∷ []) h.parts ∙ append_assoc h.front r.line.items (b ∷ []) ∙ ap (λ (x : List ℕ). h.front ++ x) (sym line);
-  no_feed = subst NoFeed (sym line) (feed_less r.line.items b h.no_feed other);
-  left = h.left;
-  taken = subst (λ (p : Progress). HasTaken h.front s.lines p h.left) (sym progress)
-      (subst (λ n. HasTaken h.front n r.progress h.left) (sym lines) h.taken);
-  left_is = subst (AreLeftOut h.left) (sym out) h.left_is;
-  none = λ stops. h.none (sym all ∙ stops);
-}
 
 -- the line ended, and the log goes on
 read_line : (before : List ℕ) (r s : LogReader) (l : LogLine) (left : List IllegalStep) (h : HasRead before r) → IsLineText r.line.items l

@@ -9,11 +9,11 @@ use Rattle.step_rules.specs.After.{IsLegalRun}
 use Rattle.step_rules.proofs.Runs.{legal_from}
 use Rattle.mem_core.specs.declared.verdict.Verdict.TheVariants as verdict
 use Rattle.mem_core.proofs.Checking.{illegal_only}
-use Rattle.log_check.specs.declared.line.LogLine.{LogLine}
-use Rattle.log_check.specs.declared.line.LogLine.TheVariants as kinds
-use Rattle.log_check.specs.Log.{IsLog, WholeLog, says_something}
-use Rattle.log_check.proofs.BadLines.{bad_line_is_no_log, continues, filter_append, says_both}
-use Rattle.log_check.proofs.Logs.{ended, line_of_entry, same_entry, same_log}
+use Rattle.log_lines.specs.declared.line.LogLine.{LogLine}
+use Rattle.log_lines.specs.declared.line.LogLine.TheVariants as kinds
+use Rattle.log_lines.specs.Log.{IsLog, WholeLog, says_something}
+use Rattle.log_lines.proofs.BadLines.{bad_line_is_no_log, continues, filter_append, says_both}
+use Rattle.log_lines.proofs.Logs.{ended, line_of_entry, same_entry, same_log}
 use Rattle.log_check.specs.declared.verdict.LogVerdict.{LogVerdict}
 use Rattle.log_check.specs.declared.verdict.LogVerdict.TheVariants.{Legal, NotLegal, LeftOut, BadLine}
 use Rattle.log_check.specs.declared.verdict.IllegalStep.{IllegalStep}

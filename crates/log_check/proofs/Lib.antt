@@ -2,14 +2,6 @@ pub mod Bytes
 pub mod Exact
 pub mod Parts
 pub mod Steps
-pub mod BadLines
-pub mod Codecs
-pub mod Lines
-pub mod Logs
-pub mod Numbers
-pub mod Rows
-pub mod Searches
-pub mod Texts
 pub mod AllMet
 pub mod Childless
 pub mod Pieces

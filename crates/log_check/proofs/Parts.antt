@@ -1,6 +1,6 @@
 -- What was read of an input so far, piece by piece. Serves `check_log`.
 use Rattle.std.proofs.Common.{◌≡◌, ◌∙◌, ℕ, ◌<◌, ◌≤◌, List, [], ◌++◌, Option, None, Some, IfSome, ap, append_assoc, append-nil, arith, Bool, length, subst, sym}
-use Rattle.std.proofs.KnownBytes.{Consumes-kept, Consumes-nil, Consumes-trans}
+use Rattle.std.proofs.KnownBytes.{Consumes-kept, Consumes-trans}
 use Rattle.std.specs.Io.KnownBytes.{Consumes, IsAtEnd, Keeps}
 use Rattle.log_check.specs.declared.verdict.LogVerdict.{LogVerdict}
 use Rattle.log_check.specs.declared.reader.LogReader.{LogReader}
@@ -14,9 +14,6 @@ pub record IsReadTo (input left : Option (List ℕ)) (log : LogReader) : Type 0 
   pub bytes : List ℕ
   pub read : Consumes input left bytes
   pub known : HasRead bytes log
-
-pub nothing : (input : Option (List ℕ)) (log : LogReader) → HasRead [] log → IsReadTo input input log
-nothing input log known = record { bytes = []; read = Consumes-nil input; known = known }
 
 -- a piece more was read, and the log goes on
 pub more : (input left after : Option (List ℕ)) (log new : LogReader) (piece : List ℕ) → IsReadTo input left log → Consumes left after piece

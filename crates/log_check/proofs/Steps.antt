@@ -14,11 +14,11 @@ use Rattle.step_rules.specs.After.{IsLegalRun, after, state_of}
 use Rattle.step_rules.proofs.Runs.{legal_more, one_more, state_more}
 use Rattle.mem_core.specs.Shown.{CoreState, state_shown}
 use Rattle.mem_core.specs.Checked.{Leads}
-use Rattle.log_check.specs.declared.line.LogLine.{LogLine}
-use Rattle.log_check.specs.declared.line.LogLine.TheVariants as kinds
-use Rattle.log_check.specs.Log.{MayBegin, SayInOrder, WholeLog, says_something}
-use Rattle.log_check.proofs.BadLines.{filter_append}
-use Rattle.log_check.proofs.Logs.{line_of_entry}
+use Rattle.log_lines.specs.declared.line.LogLine.{LogLine}
+use Rattle.log_lines.specs.declared.line.LogLine.TheVariants as kinds
+use Rattle.log_lines.specs.Log.{MayBegin, SayInOrder, WholeLog, says_something}
+use Rattle.log_lines.proofs.BadLines.{filter_append}
+use Rattle.log_lines.proofs.Logs.{line_of_entry}
 use Rattle.log_check.specs.declared.line_fault.LineFault.TheVariants.{SizesAgain, StepFirst}
 use Rattle.log_check.specs.declared.verdict.IllegalStep.{IllegalStep}
 use Rattle.log_check.specs.Verdicts.{IsIllegalAt, IsMisplaced, LeavesOut, Reached, at_start, line_on, step_on, zone_in}

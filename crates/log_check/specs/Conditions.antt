@@ -1,5 +1,5 @@
 -- The conditions of the table of rules, each as a test of a state.
-use Rattle.std.specs.Prelude.{◌≡◌, ℕ, ◌+◌, ◌==◌, ◌&&◌, ◌||◌, nat_le, nat_lt, not, Bool, true, List, [], ◌∷◌, Option, None, Some, is_none, length}
+use Rattle.std.specs.Prelude.{ℕ, ◌+◌, ◌==◌, ◌&&◌, ◌||◌, nat_le, nat_lt, not, Bool, true, List, [], ◌∷◌, Option, None, Some, is_none, length}
 use Rattle.group_tree.specs.Groups.{has_group, has_child, make_fault}
 use Rattle.step_rules.specs.State.{State, is_cpu, is_frame, is_unheld, is_held_by, visits, may_zone_act}
 use Rattle.step_rules.specs.State.{live_references, pins_of}

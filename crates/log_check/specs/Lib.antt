@@ -3,11 +3,6 @@ pub mod Reading
 pub mod Taking
 pub mod Texts
 pub mod Verdicts
-pub mod Line
-pub mod Log
-pub mod Names
-pub mod Parsing
-pub mod Words
 pub mod Conditions
 pub mod Reasons
 pub mod ReasonTexts

@@ -1,8 +1,8 @@
 -- How far a check reads a log.
 use Rattle.std.specs.Prelude.{◌≡◌, ◌≢◌, ℕ, ◌<◌, ◌≤◌, List, ◌++◌, Option, All, length, ⊤}
 use Rattle.std.specs.Io.KnownBytes.{Consumes, IsAtEnd}
-use Rattle.log_check.specs.Line.{longest_line}
-use Rattle.log_check.specs.Log.{AreLinesOf}
+use Rattle.log_lines.specs.Line.{longest_line}
+use Rattle.log_lines.specs.Log.{AreLinesOf}
 use Rattle.log_check.specs.declared.verdict.LogVerdict.{LogVerdict}
 use Rattle.log_check.specs.declared.verdict.LogVerdict.TheVariants.{Legal, NotLegal, LeftOut, BadLine}
 

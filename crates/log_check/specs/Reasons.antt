@@ -3,7 +3,7 @@ use Rattle.std.specs.Prelude.{◌≡◌, ◌≢◌, ℕ, ◌≤◌, true, false,
 use Rattle.zone_blocks.specs.declared.block.Block.{Block}
 use Rattle.zone_blocks.specs.Block.{Covers, IsBlock}
 use Rattle.zone_blocks.specs.Areas.{IsFreeBlock}
-use Rattle.group_tree.specs.Groups.{IsLeastFreeNumber, has_child, limit_of, make_fault, path_of}
+use Rattle.group_tree.specs.Groups.{IsLeastFreeNumber, limit_of, make_fault, path_of}
 use Rattle.group_tree.specs.Room.{IsLowestOver, PathHasRoom}
 use Rattle.step_rules.specs.declared.phase.Phase.TheVariants.{Head}
 use Rattle.step_rules.specs.declared.phase.Stage.TheVariants.{Collected}
@@ -17,7 +17,6 @@ use Rattle.step_rules.specs.Phases.{ListFrame, has_as, is_free, is_passing}
 use Rattle.step_rules.specs.State.{State, free_in, front_of, live_references}
 use Rattle.step_rules.specs.Usage.{usage_of}
 use Rattle.step_rules.specs.Legal.{is_legal, rests}
-use Rattle.log_check.specs.declared.reason.Quantity.{Quantity}
 use Rattle.log_check.specs.declared.reason.Quantity.TheVariants.{InStock, Pending, References, Reported}
 use Rattle.log_check.specs.declared.reason.Reason.{Reason}
 use Rattle.log_check.specs.declared.reason.Reason.TheVariants as why

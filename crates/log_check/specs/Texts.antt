@@ -1,7 +1,7 @@
 -- The result of a check as text.
 use Rattle.std.specs.Prelude.{ℕ, List, ◌++◌, Option, None, Some, codes, decimal, flat_map}
 use Rattle.step_rules.specs.declared.step.Answer.{Answer}
-use Rattle.log_check.specs.Words.{answer_words, spaced}
+use Rattle.log_lines.specs.Words.{answer_words, spaced}
 use Rattle.log_check.specs.ReasonTexts.{reason_text, said}
 use Rattle.log_check.specs.declared.verdict.LogEnd.{LogEnd}
 use Rattle.log_check.specs.declared.verdict.LogVerdict.{LogVerdict}

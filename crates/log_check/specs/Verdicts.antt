@@ -8,10 +8,10 @@ use Rattle.step_rules.specs.After.{IsLegalRun, after, state_of}
 use Rattle.log_check.specs.Reasons.{IsReason}
 use Rattle.mem_core.specs.Checked.{IsFirstIllegal}
 use Rattle.mem_core.specs.Promise.{AlwaysKeepsPromise}
-use Rattle.log_check.specs.declared.line.LogLine.{LogLine}
-use Rattle.log_check.specs.declared.line.LogLine.TheVariants as kinds
-use Rattle.log_check.specs.Line.{IsLineText, longest_line}
-use Rattle.log_check.specs.Log.{IsFirstBadLine, IsLog, WholeLog, says_something}
+use Rattle.log_lines.specs.declared.line.LogLine.{LogLine}
+use Rattle.log_lines.specs.declared.line.LogLine.TheVariants as kinds
+use Rattle.log_lines.specs.Line.{IsLineText, longest_line}
+use Rattle.log_lines.specs.Log.{IsFirstBadLine, IsLog, WholeLog, says_something}
 use Rattle.log_check.specs.declared.line_fault.LineFault.{LineFault}
 use Rattle.log_check.specs.declared.line_fault.LineFault.TheVariants.{NoSizes, NoLineFeed, TooLong, NoLine, SizesAgain, StepFirst}
 use Rattle.log_check.specs.declared.verdict.IllegalStep.{IllegalStep}

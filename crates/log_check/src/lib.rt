@@ -1,5 +1,5 @@
-//! Logs: the lines of steps and answers, read and written; the check whether a text is that of a legal run; and the
-//! reason why a step isn't legal. A check reads the text piece by piece, and judges each line as soon as it ends.
+//! The check of a log: whether its text is that of a legal run, and why a step isn't legal. The text is read piece by
+//! piece, and each line is checked as soon as it ends.
 #![tactic(auto)]
 
 mod answers;
@@ -7,11 +7,9 @@ mod conditions;
 mod ending;
 mod finding;
 mod left_out;
-pub mod line;
 pub mod line_fault;
 mod meeting;
-mod name;
-mod parse;
+mod number;
 mod progress;
 mod reader;
 mod reading;
@@ -20,12 +18,8 @@ mod reason_text;
 mod showing;
 mod text;
 pub mod verdict;
-mod word;
-mod write;
 
 pub use reading::{check, check_log};
 pub use text::write_verdict;
-pub use parse::{bad_line_is_no_log, one_line, one_run, parse_line};
-pub use write::{write_answer, write_entry, write_zone};
 pub use finding::reason_of;
 pub use reason_text::write_reason;

@@ -2,15 +2,15 @@
 
 ghost use Rattle.std.specs.Prelude.{◌≡◌, ◌+◌, ◌^◌, ◌<◌, ◌≤◌, IfErr, IfOk};
 ghost use Rattle.step_rules.specs.State.{is_unheld, one_if};
-ghost use Rattle.log_check.specs.declared.line.LogLine.TheVariants as kinds;
-ghost use Rattle.log_check.specs.Line.{IsZone};
+ghost use Rattle.log_lines.specs.declared.line.LogLine.TheVariants as kinds;
+ghost use Rattle.log_lines.specs.Line.{IsZone};
 ghost use Rattle.log_check.specs.Taking.{CountsSteps, IsInRange, TakesAfter};
 ghost use Rattle.log_check.specs.declared.verdict.LogFault.TheVariants.{NoMemory};
 
 use crate::line_fault::LineFault;
 use crate::verdict::LogFault;
 use mem_core::holds::is_unheld;
-use crate::line::LogLine;
+use log_lines::line::LogLine;
 use mem_core::checker::Checker;
 use std::alloc::Global;
 use crate::reason::Reason;

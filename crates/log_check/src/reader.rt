@@ -11,7 +11,7 @@ use crate::left_out::LeftOut;
 use crate::line_fault::LineFault;
 use crate::progress::{Progress, Taken};
 use crate::verdict::{IllegalStep, LogFault, LogVerdict};
-use crate::parse_line;
+use log_lines::parse_line;
 use std::alloc::Global;
 
 // The most bytes of a line, without its line feed.

@@ -6,11 +6,11 @@ ghost use Rattle.log_check.specs.ReasonTexts.{head_text, limit_text, refusal_tex
 ghost use Rattle.step_rules.specs.declared.phase.Phase.{Phase};
 ghost use Rattle.log_check.specs.declared.reason.Reason.TheVariants as kinds;
 
+use crate::number::push_number;
 use crate::reason::{Quantity, Reason};
 use group_tree::fault::Fault;
 use group_tree::group::GroupId;
 use group_tree::path::PathText;
-use itoa::Buffer;
 use std::alloc::AllocError;
 use step_rules::phase::{Hold, Phase, Stage, Way};
 use zone_blocks::block::Block;
@@ -65,19 +65,12 @@ pub fn write_reason(reason: &Reason, text: &mut Vec<u8>) -> Result<(), AllocErro
     }
 }
 
-fn push_number(number: u128, text: &mut Vec<u8>) -> Result<(), AllocError>
-    ensures { IfOk result (λ _. text.new.items ≡ text.old.items ++ decimal number) }
-{
-    let mut buffer = Buffer::new();
-    text.extend_from_slice(buffer.format(number).as_bytes())
-}
-
 // Appends a number between two texts.
 fn say(before: &[u8], number: u32, after: &[u8], text: &mut Vec<u8>) -> Result<(), AllocError>
     ensures { IfOk result (λ _. text.new.items ≡ text.old.items ++ said before.now number after.now) }
 {
     text.extend_from_slice(before)?;
-    push_number(u128::from(number), text)?;
+    push_number(number, text)?;
     text.extend_from_slice(after)
 }
 
@@ -94,7 +87,7 @@ fn say_two(
         ≡ text.old.items ++ said_two before.now first between.now second after.now) }
 {
     text.extend_from_slice(before)?;
-    push_number(u128::from(first), text)?;
+    push_number(first, text)?;
     say(between, second, after, text)
 }
 

@@ -6,9 +6,9 @@ ghost use Rattle.log_check.specs.declared.verdict.LogVerdict.TheVariants.{Legal}
 ghost use Rattle.log_check.specs.Texts.{count_text, due_text, end_text, free_text, holder_text, illegal_text, left_text};
 ghost use Rattle.log_check.specs.Texts.{place_text, steps_text, verdict_text};
 
+use crate::number::push_number;
 use crate::verdict::{IllegalStep, LogEnd, LogVerdict};
-use itoa::Buffer;
-use crate::write_answer;
+use log_lines::write_answer;
 use std::alloc::AllocError;
 use crate::reason::Reason;
 use crate::write_reason;
@@ -30,13 +30,6 @@ pub fn write_verdict(verdict: &LogVerdict, text: &mut Vec<u8>) -> Result<(), All
             say(b"bad line ", *line, fault.ending().as_bytes(), text)
         }
     }
-}
-
-fn push_number(number: u64, text: &mut Vec<u8>) -> Result<(), AllocError>
-    ensures { IfOk result (λ _. text.new.items ≡ text.old.items ++ decimal number) }
-{
-    let mut buffer = Buffer::new();
-    text.extend_from_slice(buffer.format(number).as_bytes())
 }
 
 // Appends the lines for a legal log.
@@ -94,8 +87,7 @@ fn say(before: &[u8], number: u64, after: &[u8], text: &mut Vec<u8>) -> Result<(
 fn say_pages(pages: u128, after: &[u8], text: &mut Vec<u8>) -> Result<(), AllocError>
     ensures { IfOk result (λ _. text.new.items ≡ text.old.items ++ (decimal pages ++ after.now)) }
 {
-    let mut buffer = Buffer::new();
-    text.extend_from_slice(buffer.format(pages).as_bytes())?;
+    push_number(pages, text)?;
     text.extend_from_slice(after)
 }
 

@@ -1,5 +1,5 @@
 -- Codes that are all ASCII. Serves `push_characters`.
-use Rattle.std.proofs.Common.{◌≡◌, ◌∙◌, ℕ, List, [], ◌∷◌, ◌++◌, Bool, true, Result, Ok, Err, IfOk, refl, ap, sym}
+use Rattle.std.proofs.Common.{◌≡◌, ◌∙◌, ℕ, List, [], ◌∷◌, ◌++◌, true, Result, Ok, Err, IfOk, refl, ap, sym}
 use Rattle.std.specs.Prelude.{if◌then◌else◌, is_ok}
 use Rattle.std.proofs.lemmas.Bool.{and_parts, ltb-true}
 use Rattle.std.proofs.lemmas.Str.{encode_ascii}

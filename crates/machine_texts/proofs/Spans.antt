@@ -1,6 +1,6 @@
 -- Spans of frames with equal place, one after the other. Serves `span_length` and `write_places`.
 use Rattle.std.proofs.Common.{◌≡◌, ℕ, zero, suc, ◌+◌, ◌-◌, ◌<◌, ◌≤◌, List, [], ◌∷◌, ◌++◌, Bool, true, false, cond, All, length, take, drop, get_or}
-use Rattle.std.proofs.Common.{Option, Some, None, MatchOption, arith, ap, sym, subst, ◌∙◌, refl}
+use Rattle.std.proofs.Common.{Option, Some, None, MatchOption, arith, ap, sym, ◌∙◌, refl}
 use Rattle.std.proofs.lemmas.Bool.{eq-eqb}
 use Rattle.std.proofs.lemmas.List.{append-nil, drop-drop, length-drop}
 use Rattle.std.proofs.lemmas.List.Sums.{prefix_len-le-length}
@@ -13,7 +13,7 @@ use Rattle.mem_machine.specs.declared.frame_state.FrameState.TheVariants as fram
 use Rattle.mem_machine.specs.declared.frame_state.Place.{Place}
 use Rattle.mem_machine.specs.declared.frame_state.Place.TheVariants.{Free, Lent, Charged}
 use Rattle.mem_machine.specs.FrameStates.{place_of}
-use Rattle.machine_texts.specs.Places.{IsAt, IsFirstElsewhere, is_same_place, span_length, span_text, spans_text, places_text}
+use Rattle.machine_texts.specs.Places.{IsAt, IsFirstElsewhere, is_same_place, span_length, span_text, spans_text}
 
 -- ---- how long a span is
 
@@ -61,10 +61,6 @@ same_self (Charged n) = eq-eqb n n refl
 abbrev pub rest_text : List Group → ℕ → List FrameState → List ℕ
 rest_text groups first [] = []
 rest_text groups first (s ∷ ss) = spans_text groups first (first + 1) (place_of s) ss
-
-pub whole_text : (groups : List Group) (frame_states : List FrameState) → rest_text groups 0 frame_states ≡ places_text groups frame_states
-whole_text groups [] = refl
-whole_text groups (s ∷ ss) = refl
 
 -- the line of a span, and those of the frames behind it
 abbrev split_text : List Group → (first next : ℕ) → Place → (more : ℕ) → List FrameState → List ℕ

@@ -1,8 +1,8 @@
 -- The lines of kept units, one after the other, and the looks at their words. Serves `write_list` and `write_units`.
-use Rattle.std.proofs.Common.{◌≡◌, ℕ, zero, suc, ◌+◌, ◌<◌, ◌≤◌, Option, Some, None, List, [], ◌∷◌, ◌++◌, All, length, map, refl, sym, ap, ◌∙◌, subst, arith}
+use Rattle.std.proofs.Common.{◌≡◌, ℕ, zero, suc, ◌+◌, ◌<◌, Option, Some, None, List, [], ◌∷◌, ◌++◌, All, length, map, refl, sym, ap, ◌∙◌, subst, arith}
 use Rattle.std.proofs.Common.{Result, Ok, Err, IfOk, IsOk}
 use Rattle.std.proofs.lemmas.List.Elements.{All-append}
-use Rattle.std.proofs.lemmas.List.{append-nil, append_assoc, length-append, length-map, map-append}
+use Rattle.std.proofs.lemmas.List.{append-nil, append_assoc, length-append, map-append}
 use Rattle.frame_word.specs.ReferenceRule.{most_references}
 use Rattle.frame_word.specs.Seats.{KnownTable, KnownSeat}
 use Rattle.stock_word.specs.Stock.{KnownStockTable}
@@ -107,13 +107,6 @@ ahead_is next (e ∷ es) u is some = (es, let s : Some e ≡ Some u = sym is ∙
 
 module _ (t : KnownTable) (w : KnownStockTable) (g : ℕ) (fits : g < 64) (list : LruList) (before : KnownMachine) (i : ℕ) (next : Option Entry) (now : KnownMachine)
     (tells : List ℕ → Type 0) (ok : IsConsistent t w now) (s : MetSoFar g list before i next now tells) where
-  -- there is one, as long as not all were met
-  pub some_next : (units : ℕ) → units ≡ length (entries_in before g list) → i < units → next ≡ None → ⊥
-  some_next units counted left none = go s.todo s.next_is (ap (λ (l : List Entry). length l) s.are ∙ length-append s.met s.todo)
-    where
-      go : (todo : List Entry) → next ≡ first_entry todo → length (entries_in before g list) ≡ length s.met + length todo → ⊥
-      go [] is all = let c = s.count in omega (arith, all, counted, left, c)
-      go (e ∷ es) is all = let k : Some e ≡ None = sym is ∙ none in cc
 
   same_entries : entries_in now g list ≡ entries_in before g list
   same_entries = ap (λ (x : KnownMachine). entries_in x g list) s.looks.machine
@@ -159,19 +152,6 @@ module _ (t : KnownTable) (w : KnownStockTable) (g : ℕ) (fits : g < 64) (list 
             (subst more lines (line (lines_text before units s.pins) s.told));
       }
 
--- all were met
-pub all_met : (g : ℕ) (list : LruList) (before : KnownMachine) (i : ℕ) (next : Option Entry) (now : KnownMachine) (tells : List ℕ → Type 0)
-    → (s : MetSoFar g list before i next now tells) → (units : ℕ) → units ≡ length (entries_in before g list) → units ≤ i → s.met ≡ entries_in before g list
-all_met g list before i next now tells s units counted all =
-    go s.todo s.are (ap (λ (l : List Entry). length l) s.are ∙ length-append s.met s.todo)
-  where
-    go : (todo : List Entry) → entries_in before g list ≡ s.met ++ todo → length (entries_in before g list) ≡ length s.met + length todo → s.met ≡ entries_in before g list
-    go [] are sum = sym (are ∙ append-nil s.met)
-    go (e ∷ es) are sum =
-        let c = s.count in
-        let l : length (entries_in before g list) ≡ length s.met + length (e ∷ es) = sum in
-        absurd (omega (arith, c, l, counted, all))
-
 -- ---- the text so far, and one more line
 
 -- both were added
@@ -212,14 +192,6 @@ both_lists g m between n first second all some inactive active together =
       told = subst all (sym (lines_append m one other inactive.pins active.pins inactive.looks.count)
           ∙ sym (has_lines m (one ++ other) (inactive.pins ++ active.pins) some)) (together _ _ inactive.told told);
     }
-
--- how many units a group keeps
-pub units_count : (m : KnownMachine) (g : ℕ) → length (units_in m g) ≡ length (entries_in m g Inactive) + length (entries_in m g Active)
-units_count m g =
-    let l = length-append (map (listed Inactive) (entries_in m g Inactive)) (map (listed Active) (entries_in m g Active)) in
-    let a = length-map (entries_in m g Inactive) (listed Inactive) in
-    let b = length-map (entries_in m g Active) (listed Active) in
-    omega (arith, l, a, b)
 
 -- two texts, one behind the other
 pub both_added : {T E : Type 0} (r w l : Result T E) (start now new : List ℕ) → IfOk r (λ _. IsOk w) → IfOk r (λ _. IsOk l)

@@ -6,6 +6,7 @@ ghost use Rattle.std.specs.String.{string_bytes};
 ghost use Rattle.machine_texts.specs.Lines.{bytes_text, candidate_text, ending_text, group_text, next_text, others_text};
 ghost use Rattle.machine_texts.specs.Lines.{span_text};
 
+use control_files::number::push_number;
 use control_files::text::PAGE_BYTES;
 use group_tree::group::GroupId;
 use group_tree::tree::Tree;
@@ -18,7 +19,7 @@ pub(crate) fn push_count(word: &str, count: u128, text: &mut String) -> Result<(
     ensures { IfOk result (λ _. string_bytes text.new ≡ string_bytes text.old ++ (word.now ++ decimal count)) }
 {
     text.push_str(word)?;
-    write!(text, "{count}")
+    push_number(count, text)
 }
 
 // Adds a word and the bytes of this many pages.

@@ -1,5 +1,5 @@
 -- What a legal step finds: room on a list, pages in a book (for the actions in hand_over, references and stocks).
-use Rattle.std.proofs.Common.{◌≡◌, ℕ, ◌+◌, ◌-◌, ◌^◌, ◌<◌, ◌≤◌, ◌||◌, ◌==◌, true, false, length, sym, ◌∙◌, ap, arith, inl, inr, cond, eq-eqb}
+use Rattle.std.proofs.Common.{◌≡◌, ℕ, ◌+◌, ◌-◌, ◌^◌, ◌<◌, ◌≤◌, ◌||◌, ◌==◌, true, false, length, sym, ◌∙◌, ap, arith, inl, inr, cond}
 use Rattle.std.specs.Prelude.{nat_le}
 use Rattle.std.proofs.lemmas.Bool.{cases_lt, false≢true, leb-true, ltb-true, or_cases, and_parts, eqb-true, ne_eqb}
 use Rattle.step_rules.specs.declared.phase.Phase.{Phase}
@@ -80,17 +80,6 @@ after_last_cpu s p f ne =
       references = with_at s.references p (with_at (s.references p) f (s.references p f - 1));
       phases = with_at s.phases f (at_stage (cond (sym other i) AwaitsReturn (BackAt p)) (s.phases f));
       parts = cond (sym other i) s.parts (with_at s.parts p (with_back (s.parts p) f));
-    }
-
--- the zone's last put: the frame is in its hand
-pub after_last_zone : (s : State) (p f : ℕ) → p ≡ 0 →
-    with_phase (with_references s p f (s.references p f - 1)) f (at_stage AwaitsReturn (s.phases f)) ≡ after_last s p f
-after_last_zone s p f e =
-    let zone : (p == 0) ≡ true = eq-eqb p 0 e in
-    λ i. record s {
-      references = with_at s.references p (with_at (s.references p) f (s.references p f - 1));
-      phases = with_at s.phases f (at_stage (cond (sym zone i) AwaitsReturn (BackAt p)) (s.phases f));
-      parts = cond (sym zone i) s.parts (with_at s.parts p (with_back (s.parts p) f));
     }
 
 -- a CPU that pays has room for one more fresh frame

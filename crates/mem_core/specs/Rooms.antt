@@ -61,11 +61,6 @@ pub record Makes (old : Rows) (seat : ℕ) (action : Action) (answer : Answer) (
   pub state : state_in new ≡ after (state_in old) seat action answer
   pub fits : FitsZone new
 
--- a step leaves these rows; its answer is the same in every state
-pub record Leaves (old : Rows) (seat : ℕ) (action : Action) (answer : Answer) (new : Rows) : Type 0 where
-  pub state : state_in new ≡ after (state_in old) seat action answer
-  pub fits : FitsZone new
-
 -- a seat keeps its references and its room
 pub record KeepsRoom (old new : SeatRow) : Type 0 where
   pub references : new.references ≡ old.references

@@ -89,10 +89,6 @@ lent_fresh : (b : Bool) (v u : ChargedUnit) (r q : ℕ) → cond b (phase.Head v
 lent_fresh true v u r q e = cc
 lent_fresh false v u r q e = cc
 
-head_fresh : (b : Bool) (v u : ChargedUnit) (r q : ℕ) → cond b (phase.Head v (BackAt r)) (phase.Head v Live) ≡ phase.Head u (FreshAt q) → u ≡ v
-head_fresh true v u r q e = cc
-head_fresh false v u r q e = cc
-
 -- a frame that the machine shows as fresh is a unit of the group that its CPU knows
 pub fresh_unit_is : (c : KnownCpu) (f : ℕ) (x : FrameState) (u : ChargedUnit) (q : ℕ) → phase_of c f x ≡ phase.Head u (FreshAt q) → u ≡ fresh_unit c
 fresh_unit_is c f Free u q e = cc

@@ -2,7 +2,7 @@
 -- `legal_fast_steps_are_decided`.
 use Rattle.std.proofs.Common.{◌≡◌, ℕ, true, false, List, [], ◌∷◌, ◌++◌, ◌⊎◌, take, Some, refl, sym, ◌∙◌, ap, subst, inl, inr, zero, suc}
 use Rattle.std.specs.Prelude.{IfSome}
-use Rattle.std.specs.List.{fold, slice_get}
+use Rattle.std.specs.List.{slice_get}
 use Rattle.std.proofs.lemmas.Bool.{false≢true}
 use Rattle.std.proofs.lemmas.List.{append_assoc}
 use Rattle.cpu_part.specs.Cpus.{KnownCpu}
@@ -11,10 +11,10 @@ use Rattle.step_rules.specs.declared.phase.Hold.TheVariants.{HeldBy}
 use Rattle.step_rules.specs.declared.step.Action.{Action}
 use Rattle.step_rules.specs.declared.step.Action.TheVariants.{Lock, Unlock}
 use Rattle.step_rules.specs.declared.step.Answer.{Answer}
-use Rattle.step_rules.specs.declared.step.Answer.TheVariants.{Done, Illegal}
+use Rattle.step_rules.specs.declared.step.Answer.TheVariants.{Done}
 use Rattle.step_rules.specs.declared.step.Step.{Step}
 use Rattle.step_rules.specs.State.{Zone, State, is_cpu}
-use Rattle.step_rules.specs.Legal.{is_legal, IsAnswer, IsCounted, IsMade, Allows}
+use Rattle.step_rules.specs.Legal.{is_legal, IsMade, Allows}
 use Rattle.step_rules.specs.After.{Run, after, state_of, IsLegalRun}
 use Rattle.step_rules.specs.Views.{seen_by}
 use Rattle.step_rules.specs.Laws.{ShowsLocal, pushed}
@@ -29,7 +29,7 @@ use Rattle.mem_machine.specs.Interleaving.{zone_of}
 use Rattle.mem_machine.specs.Steps.{cpu_makes}
 use Rattle.mem_history.specs.Whole.{ShowsAll, IsDecided, seen_together, under_lock, is_fast}
 use Rattle.mem_history.specs.Decided.{LegalLinesAreDecided, LegalFastStepsAreDecided}
-use Rattle.mem_history.proofs.Staying.{Stays, stays_on, stays_made, stays_still, Along}
+use Rattle.mem_history.proofs.Staying.{Stays, stays_on, stays_made, Along}
 use Rattle.mem_history.proofs.Together.{decides}
 use Rattle.mem_history.proofs.Wholes.{others_have, locked, locked_is, takes, is_one}
 use Rattle.mem_history.proofs.Fast.{fast_legal, fast_answer, fast_counted}

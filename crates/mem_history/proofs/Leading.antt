@@ -16,7 +16,7 @@ use Rattle.stock_word.specs.Stock as stocks
 use Rattle.stock_word.specs.Calls.{with_view}
 use Rattle.cpu_part.specs.Calls.{UnpinAnswers}
 use Rattle.cpu_part.specs.Cpus as parts
-use Rattle.cpu_part.specs.Cpus.{KnownCpu, IsTied}
+use Rattle.cpu_part.specs.Cpus.{KnownCpu}
 use Rattle.step_rules.specs.declared.phase.ChargedUnit.{ChargedUnit}
 use Rattle.step_rules.specs.declared.phase.Way.TheVariants.{OnList}
 use Rattle.step_rules.specs.declared.phase.Stage.TheVariants.{FreshAt, BackAt, AwaitsReturn, Live}
@@ -84,9 +84,6 @@ removed_once f (x ∷ xs) (suc i) inside at once =
 module _ (t : KnownTable) (m : KnownMachine) (c d : KnownCpu) (named : d.number ≡ c.number) (not_zero : c.number ≡ 0 → ⊥) where
   abbrev p : ℕ
   p = c.number
-
-  abbrev local : State
-  local = local_of t m c
 
   -- one note of the part changed
   references_changed : (f : ℕ) (change : FrameNote → FrameNote) (n : ℕ) → d.frame_seat ≡ seat_with c.frame_seat f change →

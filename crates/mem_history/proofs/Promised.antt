@@ -17,7 +17,7 @@ use Rattle.step_rules.specs.declared.phase.Way.{Way}
 use Rattle.step_rules.specs.declared.phase.Stage.TheVariants.{FreshAt, BackAt, Live}
 use Rattle.step_rules.specs.declared.phase.Phase.{Phase}
 use Rattle.step_rules.specs.declared.phase.Phase.TheVariants as phase
-use Rattle.step_rules.specs.Phases.{Kind, ListFrame, FreshFrame, has_as, keeper_of}
+use Rattle.step_rules.specs.Phases.{ListFrame, FreshFrame, has_as, keeper_of}
 use Rattle.step_rules.specs.Phases as phases
 use Rattle.step_rules.specs.State.{Zone, State, Part, Stock, one_if, is_cpu, free_in}
 use Rattle.step_rules.specs.After.{Run, state_of}

@@ -38,9 +38,6 @@ pub record Stays (p : ℕ) (s t : State) : Type 0 where
   pub references : (q : ℕ) → (q ≡ 0 → ⊥) → (q ≡ p → ⊥) → (f : ℕ) → t.references q f ≡ s.references q f
   pub parts : (q : ℕ) → (q ≡ 0 → ⊥) → (q ≡ p → ⊥) → owned_of (t.parts q) ≡ owned_of (s.parts q)
 
-pub stays_still : (p : ℕ) (s : State) → Stays p s s
-stays_still p s = record { references = λ q ne other f. refl; parts = λ q ne other. refl }
-
 pub stays_on : (p : ℕ) (r s t : State) → Stays p r s → Stays p s t → Stays p r t
 stays_on p r s t one two = record {
   references = λ q ne other f. two.references q ne other f ∙ one.references q ne other f;

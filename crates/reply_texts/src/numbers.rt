@@ -4,16 +4,8 @@ ghost use Rattle.std.specs.Prelude.{◌≡◌, ◌++◌, IfOk, codes};
 ghost use Rattle.std.specs.Fmt.{decimal};
 ghost use Rattle.std.specs.String.{string_bytes};
 
-use itoa::Buffer;
+use control_files::number::push_number;
 use std::alloc::AllocError;
-
-// Adds a number in decimal.
-pub(crate) fn push_number(number: u64, text: &mut String) -> Result<(), AllocError>
-    ensures { IfOk result (λ _. string_bytes text.new ≡ string_bytes text.old ++ decimal number) }
-{
-    let mut buffer = Buffer::new();
-    text.push_str(buffer.format(number))
-}
 
 // Adds a line of a word, which ends with a space, and a number.
 pub(crate) fn write_number(word: &str, number: u64, text: &mut String) -> Result<(), AllocError>

@@ -4,7 +4,7 @@ ghost use Rattle.std.specs.Prelude.{◌≡◌, ◌++◌, IfOk};
 ghost use Rattle.std.specs.String.{string_bytes};
 ghost use Rattle.reply_texts.specs.Replies.{over_limit_text, refusal_words, refusal_text};
 
-use crate::numbers::push_number;
+use control_files::number::push_number;
 use group_tree::fault::Fault;
 use group_tree::group::GroupId;
 use group_tree::path::PathText;

@@ -1,5 +1,5 @@
 -- What a text says, once it is cut at its first space.
-use Rattle.std.proofs.Common.{◌≡◌, ◌≢◌, ℕ, List, ◌∷◌, ◌++◌, Option, None, Some, MatchOption, subst, sym, ap, ◌∙◌, codes, refl, Bool, true, false, inl, inr}
+use Rattle.std.proofs.Common.{◌≡◌, ℕ, List, ◌∷◌, ◌++◌, Option, None, Some, MatchOption, subst, sym, ap, ◌∙◌, codes, Bool, true, false, inl, inr}
 use Rattle.zone_blocks.specs.declared.config.Config.{Config}
 use Rattle.script_lines.specs.Script.{BeginsWithName, HasArguments, IsAllocText, IsCommandText, IsCut, IsPathText}
 use Rattle.script_lines.specs.Script.{IsLineText, IsReadText, IsRequestText, IsWriteText, WritesNumber, is_go}
@@ -148,11 +148,3 @@ pub from_arguments : (sizes : Config) (text r : List ℕ) (v : Verb) (found : Op
     → MatchOption found ((command : Command) → ¬ IsCommandText sizes command text) (λ command. IsCommandText sizes command text)
 from_arguments sizes text r v None cut is = no_command sizes text r v cut is
 from_arguments sizes text r v (Some command) cut is = is_command sizes text r v cut command is.0 is.1
-
--- a name that is none of four
-pub is_other : (v : Verb) → v ≢ verb.Settle → v ≢ verb.Blocks → v ≢ verb.Show → v ≢ verb.Stock → stands_alone v ≡ false
-is_other verb.Settle a b d e = absurd (a refl)
-is_other verb.Blocks a b d e = absurd (b refl)
-is_other verb.Show a b d e = absurd (d refl)
-is_other verb.Stock a b d e = absurd (e refl)
-is_other v a b d e = refl

@@ -1,7 +1,5 @@
 -- How many bytes two texts begin with alike.
-use Rattle.std.proofs.Common.{◌≡◌, ◌≢◌, inl, inr, ℕ, ◌+◌, ◌<◌, ◌≤◌, List, [], ◌∷◌, ◌++◌, All, length, get_or, arith, refl, sym, ap, ap₂, subst, ◌∙◌}
-use Rattle.std.proofs.lemmas.Bool.{cases_lt}
-use Rattle.std.proofs.lemmas.List.{get_or-take, take_more}
+use Rattle.std.proofs.Common.{◌≡◌, ℕ, ◌+◌, ◌<◌, ◌≤◌, List, [], ◌∷◌, ◌++◌, All, get_or, arith, refl, subst}
 use Rattle.std.proofs.lemmas.List.Elements.{All-push}
 use Rattle.script_lines.specs.Verb.{name_of}
 use Rattle.script_lines.specs.declared.verb.Verb.{Verb}
@@ -12,30 +10,6 @@ use Rattle.script_lint.specs.Names.{BeginAlike, IsCommon, IsLongest}
 
 pub none_alike : (one other : List ℕ) → BeginAlike one other 0
 none_alike one other = record { inside_one = omega arith; inside_other = omega arith; same = refl }
-
-pub one_more : (one other : List ℕ) (count : ℕ) → BeginAlike one other count → count < length one → count < length other
-    → get_or one count 0 ≡ get_or other count 0 → BeginAlike one other (count + 1)
-one_more one other count alike in_one in_other same = record {
-  inside_one = omega arith;
-  inside_other = omega arith;
-  same = take_more one count 0 in_one ∙ ap₂ (λ (xs : List ℕ) (x : ℕ). xs ++ x ∷ []) alike.same same ∙ sym (take_more other count 0 in_other);
-}
-
-pub at_end_of_one : (one other : List ℕ) (count : ℕ) → BeginAlike one other count → length one ≤ count → IsCommon one other count
-at_end_of_one one other count alike whole = record { alike = alike; most = λ more is. let inside = is.inside_one in omega arith }
-
-pub at_end_of_other : (one other : List ℕ) (count : ℕ) → BeginAlike one other count → length other ≤ count → IsCommon one other count
-at_end_of_other one other count alike whole = record { alike = alike; most = λ more is. let inside = is.inside_other in omega arith }
-
-pub at_other_byte : (one other : List ℕ) (count : ℕ) → BeginAlike one other count → get_or one count 0 ≢ get_or other count 0 → IsCommon one other count
-at_other_byte one other count alike differ = record {
-  alike = alike;
-  most = λ more is. elim (cases_lt count more) [
-    | inl past ↦
-        absurd (differ (sym (get_or-take more one count 0 past) ∙ ap (λ (t : List ℕ). get_or t count 0) is.same ∙ get_or-take more other count 0 past))
-    | inr within ↦ within
-  ];
-}
 
 -- no more bytes begin the name
 abbrev pub IsMost : List ℕ → ℕ → Verb → Type 0

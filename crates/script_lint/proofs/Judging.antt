@@ -1,5 +1,5 @@
 -- Why files can't be read or written, from what is known of the file.
-use Rattle.std.proofs.Common.{◌≡◌, inl, inr, ℕ, List, true, false, Option, None, Some, Bor, codes, refl, subst}
+use Rattle.std.proofs.Common.{◌≡◌, inl, inr, ℕ, List, false, Option, None, Some, Bor, codes, refl, subst}
 use Rattle.std.specs.Str.{bytes_eq}
 use Rattle.std.proofs.lemmas.Slice.Eq.{bytes_eq-Decides}
 use Rattle.control_files.specs.Files.{name_of}
@@ -57,6 +57,3 @@ none_lacks path name file named other NoFile lacks = lacks.0 file named
 none_lacks path name file named other FileOfRoot lacks =
     let root = (bytes_eq-Decides path (codes "/")).1 lacks in cc
 none_lacks path name file named other why lacks = lacks
-
-pub is_root : (path : List ℕ) → bytes_eq path (codes "/") ≡ true → path ≡ codes "/"
-is_root path is = (bytes_eq-Decides path (codes "/")).0 is

@@ -53,11 +53,6 @@ no_path text none = record {
   bad = λ is. let some = is.some in omega arith;
 }
 
--- the digits of a beginning
-front_digits : (front rest : List ℕ) → AllDigits 10 (front ++ rest) → AllDigits 10 front
-front_digits [] rest all = tt
-front_digits (d ∷ ds) rest all = (all.0, front_digits ds rest all.1)
-
 digit_in : (ds : List ℕ) (i : ℕ) → i < length ds → AllDigits 10 ds → digit_value (get_or ds i 0) < 10
 digit_in [] i h a = absurd (omega arith)
 digit_in (d ∷ ds) zero h a = a.0

@@ -67,13 +67,6 @@ begins_with_digit sizes b bs is = first is.2.digits is.2.writes.digits.0 is.2.wr
     first [] some all e = absurd (omega arith)
     first (d ∷ ds) some all e = let same : d ≡ b = cc in subst (λ (c : ℕ). digit_value c < 10) same all.0
 
-not_empty : (sizes : Config) → ¬ IsRequest sizes []
-not_empty sizes is = none is.2.digits is.2.parts
-  where
-    none : (ds : List ℕ) → ¬ ([] ≡ ds ++ 32 ∷ is.2.rest)
-    none [] e = cc
-    none (d ∷ ds) e = cc
-
 -- a text that begins with another byte isn't `go`
 other_byte : (b : ℕ) (bs : List ℕ) → b ≢ 103 → is_go (b ∷ bs) ≡ false
 other_byte b bs other = rw (ne_eqb b 103 other) refl
@@ -194,8 +187,3 @@ pub line_found : (sizes : Config) (had_go : Bool) (text : List ℕ) (found : Opt
 line_found sizes had_go [] found some not_comment not_g is = absurd (omega arith)
 line_found sizes had_go (b ∷ bs) None some not_comment not_g is = good_request sizes had_go (b ∷ bs) is
 line_found sizes had_go (b ∷ bs) (Some place) some not_comment not_g is = stuck_line sizes had_go b bs place not_comment not_g is
-
--- a text that begins with `g`
-pub begins_with_g : (text : List ℕ) → 0 < length text → get_or text 0 0 ≡ 103 → (bs : List ℕ) × (text ≡ 103 ∷ bs)
-begins_with_g [] some is = absurd (omega arith)
-begins_with_g (b ∷ bs) some is = (bs, ap (λ (c : ℕ). c ∷ bs) is)

@@ -160,17 +160,6 @@ names_last : (fs : List Finding) (f : Finding) → Names (fs ++ f ∷ []) f.line
 names_last [] f = inl refl
 names_last (g ∷ fs) f = inr (names_last fs f)
 
--- nothing was linted yet
-pub none_linted : (sizes : Config) (script : List ℕ) → IsLintedTo sizes script 0 false []
-none_linted sizes script = record {
-  are = record {
-    sound = λ k d h. absurd (omega arith);
-    in_order = λ i j d h k. absurd (omega arith);
-    complete = λ n low high. absurd (omega arith);
-  };
-  went_is = refl;
-}
-
 -- whether there is a `go` up to and with the next line
 go_more : (script : List ℕ) (count index : ℕ) (text : List ℕ) (had_go : Bool) → IsNext script count index text
     → had_go ≡ has_go (take count (texts_of script)) → (had_go || is_go text) ≡ has_go (take (count + 1) (texts_of script))

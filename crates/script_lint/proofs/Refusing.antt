@@ -1,6 +1,6 @@
 -- How far the refused lines of a script were found.
 use Rattle.std.proofs.Common.{◌≡◌, ◌∙◌, ℕ, ◌+◌, ◌≤◌, List, [], ◌∷◌, ◌++◌, length, take, Bool, true, false, Option, None, Some}
-use Rattle.std.proofs.Common.{refl, sym, ap, subst, arith, inl, inr}
+use Rattle.std.proofs.Common.{sym, ap, subst, arith, inl, inr}
 use Rattle.std.specs.List.{AllZip}
 use Rattle.std.proofs.lemmas.Bool.{cases_lt}
 use Rattle.std.proofs.lemmas.List.{length_push, take_more}
@@ -22,15 +22,6 @@ pub record IsFoundTo (sizes : Config) (script : List ℕ) (count : ℕ) (refused
   pub judges : AllZip (IsJudgedText sizes) (take count (texts_of script)) judged
   pub within : (n : ℕ) → 1 ≤ n → n ≤ count → IsWithin script n
   pub are : refused ≡ numbered 1 judged
-
-pub none_found : (sizes : Config) (script : List ℕ) → IsFoundTo sizes script 0 []
-none_found sizes script = record {
-  judged = [];
-  long = refl;
-  judges = tt;
-  within = λ n low high. absurd (omega arith);
-  are = refl;
-}
 
 zip_push : {A B : Type 0} (R : A → B → Type 0) (xs : List A) (ys : List B) (x : A) (y : B) → AllZip R xs ys → R x y → AllZip R (xs ++ x ∷ []) (ys ++ y ∷ [])
 zip_push R [] [] x y all r = (r, tt)

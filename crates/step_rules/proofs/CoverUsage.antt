@@ -28,9 +28,6 @@ covered_not groups g p stocks q x e = none (q == p) (is_in_subtree groups g (sto
     none false true n e = e
     none false false n e = refl
 
-kept_as : List Group → ℕ → Phase → ℕ
-kept_as groups g x = one_if (is_in_subtree groups g (keeper_of x))
-
 -- a fresh frame counts at the cover or under it
 fresh_counts : (groups : List Group) (g p cpus : ℕ) (stocks : ℕ → Option ℕ) (u : ChargedUnit) (r : ℕ) → IsPaid cpus stocks u r →
     one_if (is_in_subtree groups g (Some u.group)) ≡ one_if (is_in_subtree groups g (keeper_of (phase_seen_by p (Head u (FreshAt r)))))

@@ -39,15 +39,6 @@ use Rattle.step_rules.proofs.Placing.{within_cases}
 use Rattle.step_rules.proofs.Homes.{there_or_none, some_there, Homes, IsHomed, number_low, cpu_low, making, same_keeper, sent_keeper, got_keeper}
 
 -- ---- sums
--- one value changes: the sum changes by no more
-pub sum_moves : (n : ℕ) (h : ℕ → ℕ) (k x : ℕ) → h k ≤ x → (sum_to n h ≤ sum_to n (with_at h k x)) × (sum_to n (with_at h k x) + h k ≤ sum_to n h + x)
-sum_moves n h k x up =
-    elim (cases_lt k n) [
-      | inl below ↦ let a = sum_change n h k x below in (omega arith, omega arith)
-      | inr past ↦
-          let a : sum_to n (with_at h k x) ≡ sum_to n h = sum_same n (with_at h k x) h (λ i b. at_other h k x i (λ e. absurd (omega arith))) in
-          (omega arith, omega arith)
-    ]
 
 -- a sum of lesser values is less
 pub sum_less : (n : ℕ) (g h : ℕ → ℕ) → ((i : ℕ) → i < n → g i ≤ h i) → sum_to n g ≤ sum_to n h
@@ -65,9 +56,6 @@ sum_at n H h k x below =
     (λ i here. at_each h k x (λ m y. H y ≡ with_at (λ j. H (h j)) k (H x) m) (sym (at_same (λ j. H (h j)) k (H x)))
     (λ m ne. sym (at_other (λ j. H (h j)) k (H x) m ne)) i) in
     omega arith
-
-pub sum_beyond : {X : Type 0} (n : ℕ) (H : X → ℕ) (h : ℕ → X) (k : ℕ) (x : X) → n ≤ k → sum_to n (λ i. H (with_at h k x i)) ≡ sum_to n (λ i. H (h i))
-sum_beyond n H h k x past = sum_same n (λ i. H (with_at h k x i)) (λ i. H (h i)) (λ i below. ap H (at_other h k x i (λ e. absurd (omega arith))))
 
 -- ---- the three parts of usage
 module _ (groups : List Group) (m : ℕ) where

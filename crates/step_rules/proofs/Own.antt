@@ -20,7 +20,7 @@ use Rattle.step_rules.specs.declared.step.Action.TheVariants.{SetMax, SetFlag, M
 use Rattle.step_rules.specs.declared.step.Answer.{Answer}
 use Rattle.step_rules.specs.declared.step.Answer.TheVariants.{Done, Held, Left, Last, Took, Empty, Drained, OtherGroup, Stocked, Pages}
 use Rattle.step_rules.specs.declared.step.Answer.TheVariants.{Granted, Over, Placed, NoFreeBlock, Number}
-use Rattle.step_rules.specs.Phases.{Kind, ListFrame, FreshFrame, has_as, passes_out, passes_back, is_free, is_head, is_live, is_head_in_hand}
+use Rattle.step_rules.specs.Phases.{Kind, ListFrame, FreshFrame, has_as, passes_back, is_head, is_head_in_hand}
 use Rattle.step_rules.specs.Phases.{is_returnable, passed_back, collected, at_stage, stage_after_last}
 use Rattle.step_rules.specs.Phases as kinds
 use Rattle.step_rules.specs.State.{Zone, Part, State, with_at, sum_to, is_cpu, is_frame, visits, may_zone_act, front_of, pins_of, with_last}
@@ -179,9 +179,6 @@ own_legal s p seat (Kill g) sound own inside holds = refl
 -- all usage at once
 usages_seen : (s : State) (p : ℕ) → IsSound s → usage_of (seen_by p s) ≡ usage_of s
 usages_seen s p sound = λ i. λ g. usage_seen s p sound g i
-
-cpu_seat : (s : State) (p seat : ℕ) (rest : Bool) → IsOwn p seat → (is_cpu s.zone seat && rest) ≡ true → seat ≡ p
-cpu_seat s p seat rest own legal = cpu_own s.zone p seat own (and_parts (is_cpu s.zone seat) rest legal).0
 
 -- an answer under the cover is one of the whole state
 pub own_answer : (s : State) (p seat : ℕ) (action : Action) (answer : Answer) → IsSound s → IsOwn p seat → is_legal s seat action ≡ true →

@@ -279,14 +279,6 @@ one_same false false e = refl
 one_same true false e = absurd (omega arith)
 one_same false true e = absurd (omega arith)
 
-one_is : (a : Bool) → one_if a ≡ 1 → a ≡ true
-one_is true e = refl
-one_is false e = absurd (omega arith)
-
-none_is : (a : Bool) → one_if a ≡ 0 → a ≡ false
-none_is true e = absurd (omega arith)
-none_is false e = refl
-
 -- no frame has an open end and is also a killed group's fresh frame
 apart_stage : (b : Bool) (stage : Stage) → one_if (phase_awaits_return (Head (record { group = 0; order = 0 }) stage)) + one_if (is_killed_return_stage b stage) ≤ 1
 apart_stage true Collected = omega arith

@@ -9,7 +9,7 @@ use Rattle.step_rules.specs.declared.step.Action.TheVariants.{TakeIn, PassBack, 
 use Rattle.step_rules.specs.declared.step.Action.TheVariants.{Grant, Ungrant, PlaceBlock, Return, SetMax, SetFlag, Make, Remove, Kill}
 use Rattle.step_rules.specs.declared.step.Answer.{Answer}
 use Rattle.step_rules.specs.declared.step.Answer.TheVariants.{Done, Held, Left, Last, Took, Stocked, Pages, Granted, Placed, Number}
-use Rattle.step_rules.specs.Phases.{Kind, ListFrame, FreshFrame, has_as, passes_out, passes_back, is_free, is_head_in_hand, is_returnable}
+use Rattle.step_rules.specs.Phases.{ListFrame, FreshFrame, has_as, passes_out, passes_back, is_free, is_head_in_hand, is_returnable}
 use Rattle.step_rules.specs.Phases as kinds
 use Rattle.step_rules.specs.State.{Zone, State, is_cpu, is_frame, is_unheld, is_held_by, visits, front_of}
 use Rattle.step_rules.specs.Legal.{is_legal, IsAnswer, IsCounted, nothing_passes, is_passable, takes_fill}
@@ -33,10 +33,6 @@ cpu_range zone p e = let both = and_parts (nat_le 1 p) (nat_le p zone.cpus) e in
 returned : (s : State) (f : ℕ) → IsSound s → Returns s.killed (s.phases f) → Sound s.zone s.hold (without_unit s.phases f) s.references s.parts
 returned s f sound (AsEnded u was) = sound_returned s f u _ sound was refl
 returned s f sound (AsKilled u was killed) = sound_returned s f u _ sound was refl
-
--- each clause of a legal step
-abbrev IsLegalStep : State → ℕ → Action → Type 0
-IsLegalStep s seat action = is_legal s seat action ≡ true
 
 pub sound_step : (s : State) (seat : ℕ) (action : Action) (answer : Answer) → IsSound s → is_legal s seat action ≡ true →
     IsAnswer s seat action answer → IsCounted s action answer → IsSound (after s seat action answer)

@@ -16,7 +16,7 @@ use Rattle.step_rules.specs.declared.step.Answer.{Answer}
 use Rattle.step_rules.specs.declared.step.Answer.TheVariants.{Illegal, Done, Held, Zero, Full, Left, Last, Missed, Took}
 use Rattle.step_rules.specs.declared.step.Answer.TheVariants.{Empty, OtherGroup, Drained, Stocked, Pages, Granted, Over}
 use Rattle.step_rules.specs.declared.step.Answer.TheVariants.{Placed, NoFreeBlock, Number}
-use Rattle.step_rules.specs.Phases.{Kind, ListFrame, FreshFrame, is_free, is_head, has_as, passes_out, passes_back}
+use Rattle.step_rules.specs.Phases.{ListFrame, FreshFrame, is_free, is_head, has_as, passes_out, passes_back}
 use Rattle.step_rules.specs.Phases.{is_passing, is_head_in_hand, is_returnable}
 use Rattle.step_rules.specs.Phases as kinds
 use Rattle.step_rules.specs.State.{State, Part, all_to, front_of, is_cpu, is_frame, is_unheld, is_held_by, visits}

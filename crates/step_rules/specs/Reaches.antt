@@ -14,11 +14,6 @@ IsLocalRun cpu a [] b = a ≡ b
 IsLocalRun cpu a (e ∷ steps) b = IsLocalStep a cpu e.0.seat e.0.action e.1
     × IsLocalRun cpu (after a e.0.seat e.0.action e.1) steps b
 
--- some list of local steps leads the CPU from a to b
-pub record Reaches (cpu : ℕ) (a b : State) : Type 0 where
-  pub steps : Run
-  pub leads : IsLocalRun cpu a steps b
-
 -- the seat is the zone's own or the CPU's
 abbrev pub is_own : ℕ → ℕ → Bool
 is_own cpu seat = seat == 0 || seat == cpu

@@ -1,5 +1,5 @@
 -- What follows from the steps that a watch took (for `Watch`, the laws, and the crates whose steps are watched).
-use Rattle.std.proofs.Common.{◌≡◌, ℕ, ◌++◌, true, false, Option, Some, None, is_some, List, [], ◌∷◌, length-append, refl, sym, ◌∙◌, ap, subst, arith}
+use Rattle.std.proofs.Common.{◌≡◌, ℕ, ◌++◌, true, false, List, [], ◌∷◌, length-append, refl, sym, ◌∙◌, ap, subst, arith}
 use Rattle.std.proofs.lemmas.Bool.{and_parts, false≢true}
 use Rattle.std.proofs.lemmas.Grind.{flat_map-append}
 use Rattle.std.proofs.lemmas.List.{append_assoc, append-nil}
@@ -8,10 +8,9 @@ use Rattle.step_rules.specs.declared.step.Answer.{Answer}
 use Rattle.step_rules.specs.State.{Zone, State}
 use Rattle.step_rules.specs.After.{Run, after, state_of, IsLegalRun}
 use Rattle.step_rules.proofs.Runs.{one_more, state_more, legal_more}
-use Rattle.mem_core.specs.Shown.{CoreState}
 use Rattle.mem_core.proofs.Keeping.{always_keeps}
-use Rattle.log_check.specs.Line.{entry_text}
-use Rattle.step_watch.specs.Watched.{KnownWatch, Accepts, Adds, AreAllowedFrom, IsNewWatch, Saw, SawRun, Watches, Wrote}
+use Rattle.log_lines.specs.Line.{entry_text}
+use Rattle.step_watch.specs.Watched.{KnownWatch, AreAllowedFrom, IsNewWatch, SawRun, Watches}
 use Rattle.step_watch.specs.Watched.{has_legal_steps, log_text, state_seen, steps_text}
 
 -- a watch that takes no steps says nothing
@@ -19,36 +18,6 @@ pub watches_off : (before : KnownWatch) (steps : Run) (later : KnownWatch) → l
 watches_off before steps later off = record {
   saw = λ on. absurd (false≢true (sym off ∙ (and_parts _ _ on).0));
   wrote = λ on. absurd (false≢true (sym off ∙ (and_parts _ _ on).0));
-}
-
-saw_step : (old new : Option CoreState) (a b : Option (List ℕ)) (step : Step) (answer : Answer) → Accepts old step answer new → is_some new ≡ true →
-    Saw (record { core = old; log = a; is_on = true }) ((step, answer) ∷ []) (record { core = new; log = b; is_on = true })
-saw_step None None a b step answer accepts on = absurd (false≢true on)
-saw_step None (Some new) a b step answer accepts on = absurd accepts
-saw_step (Some old) None a b step answer accepts on = absurd accepts
-saw_step (Some old) (Some new) a b step answer accepts on = record {
-  was_legal = refl;
-  allowed = (accepts.0.allowed, sym accepts.0.state);
-  count = accepts.1;
-}
-
-wrote_step : (old new : Option CoreState) (a b : Option (List ℕ)) (step : Step) (answer : Answer) → Adds a step answer b → is_some b ≡ true →
-    Wrote (record { core = old; log = a; is_on = true }) ((step, answer) ∷ []) (record { core = new; log = b; is_on = true })
-wrote_step old new None None step answer adds on = absurd (false≢true on)
-wrote_step old new None (Some b) step answer adds on = absurd adds
-wrote_step old new (Some a) None step answer adds on = absurd adds
-wrote_step old new (Some a) (Some b) step answer adds on = record {
-  was_whole = refl;
-  added = adds ∙ ap (λ (line : List ℕ). a ++ line) (sym (append-nil (entry_text step answer ++ 10 ∷ [])));
-}
-
--- a watch took one more step
-pub watches_step : (old new : Option CoreState) (a b : Option (List ℕ)) (step : Step) (answer : Answer) →
-    Accepts old step answer new → Adds a step answer b →
-    Watches (record { core = old; log = a; is_on = true }) ((step, answer) ∷ []) (record { core = new; log = b; is_on = true })
-watches_step old new a b step answer accepts adds = record {
-  saw = λ on. saw_step old new a b step answer accepts on;
-  wrote = λ on. wrote_step old new a b step answer adds on;
 }
 
 pub watches_none : (watch : KnownWatch) → Watches watch [] watch

@@ -10,7 +10,7 @@ use Rattle.step_rules.specs.After.{Run, after, state_of, IsLegalRun}
 use Rattle.mem_core.specs.Shown.{CoreState, state_shown}
 use Rattle.mem_core.specs.Checked.{Leads}
 use Rattle.mem_core.specs.Promise.{AlwaysKeepsPromise}
-use Rattle.log_check.specs.Line.{entry_text}
+use Rattle.log_lines.specs.Line.{entry_text}
 
 -- What a watch is: the state of its checker, or None if it checks no step; the log that it wrote, or None if it writes
 -- none; and whether it takes steps: it was made to, and has not stopped.

@@ -3,7 +3,7 @@
 ghost use Rattle.std.specs.Prelude.{◌≡◌, ◌∷◌, [], ◌+◌, ◌++◌, IfOk, IsTrue};
 ghost use Rattle.step_rules.specs.declared.step.Action.TheVariants.{Make};
 ghost use Rattle.step_rules.specs.declared.step.Answer.TheVariants.{Number};
-ghost use Rattle.log_check.specs.Line.{entry_text};
+ghost use Rattle.log_lines.specs.Line.{entry_text};
 ghost use Rattle.mem_core.specs.Shown.{state_shown, zone_of};
 ghost use Rattle.mem_core.specs.Checked.{Leads};
 ghost use Rattle.step_watch.specs.Watched.{Accepts, Adds, IsNewLog, IsNewWatch, Watches, has_failed, has_legal_steps};
@@ -12,7 +12,7 @@ ghost use Rattle.zone_blocks.specs.Config.{IsValidConfig};
 
 use group_tree::group::GroupId;
 use group_tree::path::PathText;
-use log_check::write_entry;
+use log_lines::write_entry;
 use mem_core::checker::Checker;
 use std::alloc::{AllocError, Global};
 use std::marker::Model;

@@ -3,7 +3,7 @@
 ghost use Rattle.tempolemon_threads.specs.Behind.{part_behind};
 ghost use Rattle.tempolemon_threads.specs.Calls.{CallsPart};
 
-use crate::tempolemon_c::CpuPart;
+use crate::handles::CpuPart;
 use crate::kinds::NOTHING;
 use crate::status::NOT_LIVE;
 use crate::typed_result::{TypedResult, typed_answer_of};

@@ -6,7 +6,7 @@ ghost use Rattle.tempolemon_threads.specs.Behind.{part_behind};
 ghost use Rattle.tempolemon_threads.specs.Calls.{AllocsPart, CallsPart};
 
 use crate::calling::serve_call;
-use crate::tempolemon_c::CpuPart;
+use crate::handles::CpuPart;
 use crate::typed_result::TypedResult;
 use mem_system::Cmd;
 use std::alloc::Global;

@@ -6,7 +6,7 @@ ghost use Rattle.tempolemon_threads.specs.Calls.{IsMkdir, IsRmdir, IsWrite, Read
 
 use crate::buffers::copy_answers;
 use crate::calling::serve_call;
-use crate::tempolemon_c::CpuPart;
+use crate::handles::CpuPart;
 use crate::kinds::{NOTHING, REFUSED, TEXT};
 use crate::status::{BUSY, DONE, NOT_LIVE, SMALL_BUFFER};
 use crate::typed_result::TypedResult;

@@ -9,7 +9,7 @@ ghost use Rattle.tempolemon_threads.specs.Behind.{part_behind, zone_behind};
 ghost use Rattle.tempolemon_threads.specs.Handling.{EndsAs, EntersNone, ForksAs};
 ghost use Rattle.tempolemon_threads.specs.Zones.{BootsZone, CpuIn, OnPart, ReturnsPart};
 
-use crate::tempolemon_c::{CpuPart, Zone};
+use crate::handles::{CpuPart, Zone};
 use crate::raw::{RawHome, call_raw, fork_raw, read_raw, serve_raw};
 use crate::requests::{Forked, Request, RequestAnswer};
 use mem_system::Boot;

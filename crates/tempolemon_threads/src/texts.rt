@@ -5,7 +5,7 @@ ghost use Rattle.tempolemon_threads.specs.Behind.{part_behind};
 ghost use Rattle.tempolemon_threads.specs.Calls.{ShowsInto, ShowsUnits};
 
 use crate::buffers::copy_answers;
-use crate::tempolemon_c::CpuPart;
+use crate::handles::CpuPart;
 use crate::status::{BUSY, DONE, NO_MEMORY, NOT_LIVE, SMALL_BUFFER};
 use group_tree::fault::Fault;
 use std::alloc::Global;

@@ -7,7 +7,7 @@ ghost use Rattle.tempolemon_threads.specs.Statuses.{IsBootStatus, IsEndStatus, I
 ghost use Rattle.tempolemon_threads.specs.Statuses.{bad_config, bad_cpu, cpus_out, done, is_live, not_live};
 ghost use Rattle.tempolemon_threads.specs.Zones.{BootsZone, EndsWith, HasNoSuchCpu, ReturnsPart, TakesPart, config_of};
 
-use crate::tempolemon_c::{CpuPart, Zone};
+use crate::handles::{CpuPart, Zone};
 use crate::report::Report;
 use crate::sizes::Sizes;
 use crate::status::{

@@ -9,12 +9,6 @@ use Rattle.zone_blocks.specs.Block.{Covers}
 use Rattle.zone_blocks.specs.Areas.{IsMaximalBlock, Precedes}
 use Rattle.zone_blocks.specs.Links.{next_of, prev_of}
 
--- the list has exactly the maximal free blocks of one order, by address
-pub record AreMaximalOfOrder (free : List Bool) (order : ℕ) (list : List Block) : Type 0 where
-  pub each : (b : Block) → Contains list b → (b.order ≡ order) × IsMaximalBlock free b
-  pub all : (b : Block) → b.order ≡ order → IsMaximalBlock free b → Contains list b
-  pub ordered : AllPairs Precedes list
-
 -- ---- the set of blocks: for each order a bit for each block that the zone can have
 
 -- the bit of the block: whether it is in the areas

@@ -80,28 +80,12 @@ impl Core {
         place_in(self.phase(frame))
     }
 
-    /// Who holds the lock, and whether the holder's visit is open.
-    pub fn hold(&self) -> Hold
-        ensures now { result ≡ (state_shown self.now).hold }
-        ensures run { (run : Run) → Shows self.now run → result ≡ (state_of self.now.zone run).hold }
-    {
-        self.rows.hold
-    }
-
     /// Whether a group of this number is killed.
     pub fn is_killed(&self, group: GroupId) -> bool
         ensures now { result ≡ (state_shown self.now).killed group }
         ensures run { (run : Run) → Shows self.now run → result ≡ (state_of self.now.zone run).killed group }
     {
         self.rows.is_killed(group)
-    }
-
-    /// The pages that are pending for a group of this number.
-    pub fn pending(&self, group: GroupId) -> u128
-        ensures now { result ≡ (state_shown self.now).pending group }
-        ensures run { (run : Run) → Shows self.now run → result ≡ (state_of self.now.zone run).pending group }
-    {
-        self.rows.pending(group)
     }
 
     /// The phase of a frame.
@@ -134,46 +118,6 @@ impl Core {
         ensures run { (run : Run) → Shows self.now run → result ≡ length (part_after self.now.zone run cpu).list }
     {
         self.rows.list_len(cpu)
-    }
-
-    /// The group of the last fill of a CPU's stock.
-    pub fn stock_group(&self, cpu: u32) -> Option<GroupId>
-        ensures now { result ≡ ((state_shown self.now).parts cpu).stock.group }
-        ensures run { (run : Run) → Shows self.now run → result ≡ (part_after self.now.zone run cpu).stock.group }
-    {
-        self.rows.stock_group(cpu)
-    }
-
-    /// The pages in a CPU's stock.
-    pub fn stock_pages(&self, cpu: u32) -> u128
-        ensures now { result ≡ ((state_shown self.now).parts cpu).stock.pages }
-        ensures run { (run : Run) → Shows self.now run → result ≡ (part_after self.now.zone run cpu).stock.pages }
-    {
-        self.rows.stock_pages(cpu)
-    }
-
-    /// Whether a CPU's stock was drained since its last fill.
-    pub fn is_drained(&self, cpu: u32) -> bool
-        ensures now { result ≡ ((state_shown self.now).parts cpu).stock.is_drained }
-        ensures run { (run : Run) → Shows self.now run → result ≡ (part_after self.now.zone run cpu).stock.is_drained }
-    {
-        self.rows.is_drained(cpu)
-    }
-
-    /// A CPU's book: the pages that were filled into its stock, less those drained or absorbed.
-    pub fn book(&self, cpu: u32) -> u128
-        ensures now { result ≡ ((state_shown self.now).parts cpu).book }
-        ensures run { (run : Run) → Shows self.now run → result ≡ (part_after self.now.zone run cpu).book }
-    {
-        self.rows.book(cpu)
-    }
-
-    /// The pages of fresh frames that a CPU passed back and hasn't reported.
-    pub fn unreported(&self, cpu: u32) -> u128
-        ensures now { result ≡ ((state_shown self.now).parts cpu).unreported }
-        ensures run { (run : Run) → Shows self.now run → result ≡ (part_after self.now.zone run cpu).unreported }
-    {
-        self.rows.unreported(cpu)
     }
 
     /// The pages that a CPU reported and that aren't absorbed yet.

@@ -1,5 +1,5 @@
 -- The first condition that isn't met is one that the step has to meet.
-use Rattle.std.proofs.Common.{◌≡◌, ◌∙◌, ◌<◌, ◌≤◌, List, None, Option, Some, ap, arith, get_or, length, sym, true, false}
+use Rattle.std.proofs.Common.{◌≡◌, ◌∙◌, ◌<◌, List, None, Option, Some, ap, arith, get_or, length, sym, true, false}
 use Rattle.std.proofs.lemmas.Bool.{false≢true}
 use Rattle.std.proofs.lemmas.List.{get_or_default}
 use Rattle.mem_core.specs.Rows.{state_in}

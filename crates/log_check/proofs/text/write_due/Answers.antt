@@ -1,7 +1,7 @@
 -- Serves the contract of `write_due`: one text follows the other.
 use Rattle.std.proofs.Common.{◌≡◌, ◌∙◌, ◌++◌, ℕ, List, Result, Ok, Err, IfOk, ap, append_assoc, codes}
 use Rattle.std.specs.Prelude.{if◌then◌else◌, is_ok}
-use Rattle.log_check.specs.Words.{answer_words, spaced}
+use Rattle.log_lines.specs.Words.{answer_words, spaced}
 use Rattle.log_check.proofs.text.write_due.Goals as goal
 
 follow : {T E : Type 0} (r : Result T E) (old a b z s t u : List ℕ) → s ≡ old ++ a → t ≡ s ++ b → u ≡ (if is_ok r then t ++ z else t)

@@ -1,4 +1,4 @@
-use Rattle.std.proofs.Common.{◌≤◌, ℕ, length}
+use Rattle.std.proofs.Common.{◌≤◌, length}
 use Rattle.script_lines.specs.Script.{texts_left, texts_of}
 use Rattle.script_lines.proofs.Progress.{IsLeft, IsReadTo}
 use Rattle.script_lines.proofs.script.parse_lines.Given as goal

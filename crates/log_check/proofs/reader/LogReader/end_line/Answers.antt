@@ -1,7 +1,7 @@
 -- Serves the contract of `end_line`: the log goes on with the line, or it is known what it is.
 use Rattle.std.proofs.Common.{◌≡◌, ◌+◌, ap, inl, inr, subst, sym, List, ℕ}
 use Rattle.std.proofs.lemmas.Result.{IfOk-weaker}
-use Rattle.log_check.specs.Line.{IsLineText}
+use Rattle.log_lines.specs.Line.{IsLineText}
 use Rattle.log_check.specs.declared.reader.LogReader.{LogReader}
 use Rattle.log_check.specs.declared.progress.Taken.{Taken}
 use Rattle.log_check.proofs.Bytes.{Judged, line_ended}

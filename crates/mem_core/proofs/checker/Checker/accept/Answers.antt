@@ -1,5 +1,5 @@
 -- An accepted step was made with its answer. A refused one left the rows as they were.
-use Rattle.std.proofs.Common.{◌≡◌, ℕ, ◌+◌, ◌*◌, ◌^◌, ◌<◌, ◌≤◌, [], sym, ◌∙◌, ap, subst, arith}
+use Rattle.std.proofs.Common.{◌≡◌, ℕ, ◌+◌, ◌*◌, ◌^◌, ◌<◌, [], sym, ◌∙◌, ap, subst, arith}
 use Rattle.step_rules.specs.State.{Zone, State}
 use Rattle.step_rules.specs.Legal.{Allows}
 use Rattle.mem_core.specs.declared.rows.Rows.{Rows}

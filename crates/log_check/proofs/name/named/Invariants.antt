@@ -1,6 +1,0 @@
-use Rattle.std.proofs.Common.{◌≡◌}
-use Rattle.log_check.proofs.Searches.{found_from}
-use Rattle.log_check.proofs.name.named.Given as goal
-
-abbrev pub invariant-loop-row : goal.invariant-loop-row
-invariant-loop-row g l = found_from l.word l.names l.row-index ≡ found_from l.word l.names 0

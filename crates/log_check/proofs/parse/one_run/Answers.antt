@@ -1,5 +1,0 @@
-use Rattle.log_check.proofs.Logs.{same_log}
-use Rattle.log_check.proofs.parse.one_run.Goals as goal
-
-pub returns : goal.returns
-returns c = same_log

@@ -1,5 +1,0 @@
-use Rattle.log_check.proofs.Lines.{line_exact}
-use Rattle.log_check.proofs.parse.parse_line.Goals as goal
-
-pub returns : goal.returns
-returns c = line_exact c.args.text.now c.line_of.result c.line_of.ensures

@@ -1,0 +1,216 @@
+-- A line is read exactly from its text.
+use Rattle.std.proofs.Common.{◌≡◌, ◌≢◌, ℕ, ◌^◌, ◌<◌, ◌≤◌, true, false, cond, ◌&&◌, ltb, leb, List, [], ◌∷◌, ◌++◌, inl, inr, Option, Some, None, MatchOption}
+use Rattle.std.proofs.Common.{arith, refl, sym, ap, subst, ◌∙◌, append-nil, bytes_eq, codes, decimal, length, leb-true, le-leb, ltb-false, le-ltb, ne_eqb}
+use Rattle.std.specs.Str.Parse.{AllDigits, IsNumeral}
+use Rattle.std.proofs.lemmas.Bool.{and_parts}
+use Rattle.std.proofs.lemmas.Fmt.{decimal_is_IsNumeral}
+use Rattle.std.proofs.lemmas.Slice.Eq.{bytes_eq-Decides}
+use Rattle.std.proofs.lemmas.Str.Parse.{digit_from_value}
+use Rattle.step_rules.specs.declared.step.Step.{Step}
+use Rattle.step_rules.specs.declared.step.Answer.{Answer}
+use Rattle.log_lines.specs.declared.line.LogLine.{LogLine}
+use Rattle.log_lines.specs.declared.line.LogLine.TheVariants.{Skipped, Zone}
+use Rattle.log_lines.specs.declared.line.LogLine.TheVariants as kinds
+use Rattle.log_lines.specs.Words.{Word, Fixed, number, action_words, answer_words, spaced}
+use Rattle.log_lines.specs.Line.{IsEntry, IsLineText, IsTextOf, IsZone, entry_text, is_skipped, longest_line, step_words, zone_text}
+use Rattle.log_lines.specs.Reading.{◌>>=◌, first_of, only_if, number_at, action_at, after_arrow, answer_at, is_end, entry_of, zone_of, line_of, words_of}
+use Rattle.log_lines.proofs.Numbers.{only_if_is}
+use Rattle.log_lines.proofs.Codecs.{Takes, bind_is, chosen, first_is, fit_parts, number_codec, other_text, some_is, takes_both, texts, texts_append}
+use Rattle.log_lines.proofs.Rows.{action_codec, answer_codec}
+use Rattle.log_lines.proofs.Texts.{text_is, words_are}
+
+-- ---- a step and its answer
+
+no_more : (words : List (List ℕ)) → is_end words ≡ true → words ≡ []
+no_more [] e = refl
+no_more (word ∷ words) e = absurd cc
+
+arrow_is : (words rest : List (List ℕ)) → after_arrow words ≡ Some rest → words ≡ codes ">" ∷ rest
+arrow_is words rest e =
+    let w = bind_is (first_of words) (λ word. only_if (bytes_eq word.0 (codes ">")) word.1) rest e in
+    let passed = only_if_is (bytes_eq w.0.0 (codes ">")) w.0.1 rest w.2 in
+    let name : w.0.0 ≡ codes ">" = (bytes_eq-Decides w.0.0 (codes ">")).0 passed.0 in
+    first_is words w.0 w.1 ∙ ap (λ (t : List ℕ). t ∷ w.0.1) name ∙ ap (λ (ts : List (List ℕ)). codes ">" ∷ ts) passed.1
+
+-- what is read is the words of the step and the answer
+pub record IsEntryOf (from : List (List ℕ)) (step : Step) (answer : Answer) : Type 0 where
+  pub parts : from ≡ texts (number step.seat ∷ step_words step answer)
+  pub fits : IsEntry step answer
+
+takes_all : (from : List (List ℕ)) (seat : ℕ) (a : List Word) (b : List Word) (r1 r2 r3 r4 : List (List ℕ)) → Takes from (number seat ∷ []) r1 → Takes r1 a r2
+    → r2 ≡ codes ">" ∷ r3 → Takes r3 b r4 → r4 ≡ [] → Takes from (number seat ∷ (a ++ Fixed (codes ">") ∷ b)) []
+takes_all from seat a b r1 r2 r3 r4 one two arrow three end =
+    let last : Takes r3 b [] = subst (λ (r : List (List ℕ)). Takes r3 b r) end three in
+    let behind : Takes r2 (Fixed (codes ">") ∷ b) []
+    = record { parts = arrow ∙ ap (λ (ts : List (List ℕ)). codes ">" ∷ ts) last.parts; fit = (refl, last.fit) } in
+    takes_both from (number seat ∷ []) r1 (a ++ Fixed (codes ">") ∷ b) [] one (takes_both r1 a r2 (Fixed (codes ">") ∷ b) [] two behind)
+
+pub entry_is : (from : List (List ℕ)) (e : Step × Answer) → entry_of from ≡ Some e → IsEntryOf from e.0 e.1
+unfolding entry_of
+entry_is from e is =
+    let seat = bind_is (number_at from) _ e is in
+    let act = bind_is (action_at seat.0.1) _ e seat.2 in
+    let rest = bind_is (after_arrow act.0.1) _ e act.2 in
+    let got = bind_is (answer_at rest.0) _ e rest.2 in
+    let last = bind_is (only_if (is_end got.0.1) got.0.0) _ e got.2 in
+    let passed = only_if_is (is_end got.0.1) got.0.0 last.0 last.1 in
+    let value = some_is _ e last.2 in
+    let whole = takes_all from seat.0.0 (action_words act.0.0) (answer_words got.0.0) seat.0.1 act.0.1 rest.0 got.0.1
+    (number_codec.takes from seat.0.0 seat.0.1 seat.1) (action_codec.takes seat.0.1 act.0.0 act.0.1 act.1) (arrow_is act.0.1 rest.0 rest.1)
+    (answer_codec.takes rest.0 got.0.0 got.0.1 got.1) (no_more got.0.1 passed.0) in
+    rw (← value, ← passed.1) (record { parts = whole.parts ∙ append-nil _; fits = whole.fit })
+
+pub entry_again : (step : Step) (answer : Answer) → IsEntry step answer → entry_of (texts (number step.seat ∷ step_words step answer)) ≡ Some (step, answer)
+unfolding entry_of
+entry_again step answer fits =
+    let parts = fit_parts (action_words step.action) (Fixed (codes ">") ∷ answer_words answer) fits.1 in
+    let cut : texts (step_words step answer) ≡ texts (action_words step.action) ++ codes ">" ∷ texts (answer_words answer)
+    = texts_append (action_words step.action) (Fixed (codes ">") ∷ answer_words answer) in
+    let seat = number_codec.again step.seat (texts (step_words step answer)) (fits.0, tt) in
+    let act = action_codec.again step.action (codes ">" ∷ texts (answer_words answer)) parts.0 in
+    let reached : answer_at (texts (answer_words answer)) ≡ Some (answer, [])
+    = rw (append-nil (texts (answer_words answer))) at (answer_codec.again answer [] parts.1.1) in
+    rw (seat, cut, act, reached) refl
+
+-- ---- the sizes of the zone
+
+pub zone_is : (from : List (List ℕ)) (z : ℕ × ℕ) → zone_of from ≡ Some z → (from ≡ texts (number z.0 ∷ number z.1 ∷ [])) × IsZone z.0 z.1
+unfolding zone_of
+zone_is from z is =
+    let frames = bind_is (number_at from) _ z is in
+    let cpus = bind_is (number_at frames.0.1) _ z frames.2 in
+    let last = bind_is (only_if (is_end cpus.0.1) cpus.0.0) _ z cpus.2 in
+    let end = only_if_is (is_end cpus.0.1) cpus.0.0 last.0 last.1 in
+    let passed = only_if_is (leb 1 frames.0.0 && leb frames.0.0 1048576 && leb 1 last.0 && leb last.0 64) (frames.0.0, last.0) z last.2 in
+    let one = and_parts (leb 1 frames.0.0 && leb frames.0.0 1048576 && leb 1 last.0) (leb last.0 64) passed.0 in
+    let two = and_parts (leb 1 frames.0.0 && leb frames.0.0 1048576) (leb 1 last.0) one.0 in
+    let three = and_parts (leb 1 frames.0.0) (leb frames.0.0 1048576) two.0 in
+    let first = number_codec.takes from frames.0.0 frames.0.1 frames.1 in
+    let second = number_codec.takes frames.0.1 cpus.0.0 cpus.0.1 cpus.1 in
+    let nothing : cpus.0.1 ≡ [] = no_more cpus.0.1 end.0 in
+    let both = takes_both from (number frames.0.0 ∷ []) frames.0.1 (number cpus.0.0 ∷ []) cpus.0.1 first second in
+    let parts : from ≡ texts (number frames.0.0 ∷ number cpus.0.0 ∷ [])
+    = both.parts ∙ ap (λ (r : List (List ℕ)). texts (number frames.0.0 ∷ number cpus.0.0 ∷ []) ++ r) nothing in
+    rw (← passed.1) (
+      rw (← end.1) parts,
+      record {
+        some_frames = leb-true 1 frames.0.0 three.0;
+        most_frames = leb-true frames.0.0 1048576 three.1;
+        some_cpus = leb-true 1 last.0 two.1;
+        most_cpus = leb-true last.0 64 one.1;
+      },
+    )
+
+pub zone_again : (frames cpus : ℕ) → IsZone frames cpus → zone_of (texts (number frames ∷ number cpus ∷ [])) ≡ Some (frames, cpus)
+unfolding zone_of
+zone_again frames cpus is =
+    let first = number_codec.again frames (texts (number cpus ∷ [])) (omega (arith, is.most_frames), tt) in
+    let second = number_codec.again cpus [] (omega (arith, is.most_cpus), tt) in
+    rw (first, second, le-leb 1 frames is.some_frames, le-leb frames 1048576 is.most_frames, le-leb 1 cpus is.some_cpus, le-leb cpus 64 is.most_cpus) refl
+
+-- ---- a line
+
+narrow : (frames : ℕ) → frames ≤ 1048576 → frames < 2 ^ 32
+narrow frames le = omega arith
+
+narrow_cpus : (cpus : ℕ) → cpus ≤ 64 → cpus < 2 ^ 32
+narrow_cpus cpus le = omega arith
+
+-- what begins with a digit is not skipped
+not_short : ¬ (0 < 0)
+not_short h = omega arith
+
+not_hash : (d : ℕ) → 48 ≤ d → d ≢ 35
+not_hash d h e = omega arith
+
+begins : (ds rest : List ℕ) → IsNumeral 10 ds → is_skipped (ds ++ rest) ≡ false
+begins [] rest is = absurd (not_short is.0)
+begins (d ∷ ds) rest is = let range = digit_from_value d is.1.0 in ne_eqb d 35 (not_hash d (omega arith))
+
+no_zone_digits : ¬ AllDigits 10 (codes "zone")
+no_zone_digits a = let bad = digit_from_value 122 a.0 in omega arith
+
+-- no number is written `zone`
+zone_is_no_number : (n : ℕ) → n < 2 ^ 64 → bytes_eq (decimal n) (codes "zone") ≡ false
+zone_is_no_number n lt = other_text (decimal n) (codes "zone") (λ same. let digits = (decimal_is_IsNumeral n lt).0.1 in no_zone_digits (rw same at digits))
+
+-- the reading of a line that is neither too long nor skipped, from its words
+abbrev said_by : List (List ℕ) → Option LogLine
+said_by words = first_of words >>= λ word.
+    cond (bytes_eq word.0 (codes "zone")) (zone_of word.1 >>= λ z. Some (Zone z.0 z.1)) (entry_of words >>= λ e. Some (kinds.Step e.0 e.1))
+
+abbrev said : List ℕ → Option LogLine
+said text = said_by (words_of text)
+
+zone_line : (text : List ℕ) (word : List ℕ × List (List ℕ)) (z : ℕ × ℕ) → words_of text ≡ word.0 ∷ word.1 → bytes_eq word.0 (codes "zone") ≡ true
+    → zone_of word.1 ≡ Some z → IsTextOf text (Zone z.0 z.1)
+zone_line text word z cut name e =
+    let is = zone_is word.1 z e in
+    let same : word.0 ≡ codes "zone" = (bytes_eq-Decides word.0 (codes "zone")).0 name in
+    let words : words_of text ≡ texts (Fixed (codes "zone") ∷ number z.0 ∷ number z.1 ∷ [])
+    = cut ∙ ap (λ (t : List ℕ). t ∷ word.1) same ∙ ap (λ (ts : List (List ℕ)). codes "zone" ∷ ts) is.0 in
+    (is.1, text_is text (Fixed (codes "zone")) (number z.0 ∷ number z.1 ∷ []) words)
+
+said_is : (text : List ℕ) (line : LogLine) → said text ≡ Some line → IsTextOf text line
+said_is text line e =
+    let w = bind_is (first_of (words_of text)) _ line e in
+    let cut = first_is (words_of text) w.0 w.1 in
+    let zone = zone_of w.0.1 >>= λ z. Some (Zone z.0 z.1) in
+    let entry = entry_of (words_of text) >>= λ e. Some (kinds.Step e.0 e.1) in
+    elim (chosen (bytes_eq w.0.0 (codes "zone")) zone entry (Some line) w.2) [
+      | inl h ↦ let z = bind_is (zone_of w.0.1) (λ z. Some (Zone z.0 z.1)) line h.1 in
+          subst (IsTextOf text) (some_is (Zone z.0.0 z.0.1) line z.2) (zone_line text w.0 z.0 cut h.0 z.1)
+      | inr h ↦ let m = bind_is (entry_of (words_of text)) (λ e. Some (kinds.Step e.0 e.1)) line h.1 in
+          let is = entry_is (words_of text) m.0 m.1 in
+          subst (IsTextOf text) (some_is (kinds.Step m.0.0 m.0.1) line m.2) (is.fits, text_is text (number m.0.0.seat) (step_words m.0.0 m.0.1) is.parts)
+    ]
+
+-- what is read from a text is a line that has it
+pub line_is : (text : List ℕ) (line : LogLine) → line_of text ≡ Some line → IsLineText text line
+unfolding line_of
+line_is text line e =
+    elim (chosen (ltb longest_line (length text)) None (cond (is_skipped text) (Some Skipped) (said text)) (Some line) e) [
+      | inl h ↦ let bad : None ≡ Some line = h.1 in cc
+      | inr long ↦ elim (chosen (is_skipped text) (Some Skipped) (said text) (Some line) long.1) [
+        | inl h ↦ record { short = ltb-false longest_line (length text) long.0; says = subst (IsTextOf text) (some_is Skipped line h.1) h.0 }
+        | inr h ↦ record { short = ltb-false longest_line (length text) long.0; says = said_is text line h.1 }
+      ]
+    ]
+
+read_at : (text : List ℕ) (line : LogLine) → length text ≤ longest_line → is_skipped text ≡ false → said text ≡ Some line → line_of text ≡ Some line
+unfolding line_of
+read_at text line short asks e = rw (le-ltb longest_line (length text) short, asks) e
+
+skipped_at : (text : List ℕ) → length text ≤ longest_line → is_skipped text ≡ true → line_of text ≡ Some Skipped
+unfolding line_of
+skipped_at text short is = rw (le-ltb longest_line (length text) short, is) refl
+
+-- a line is read from each text that it has
+pub line_again : (text : List ℕ) (line : LogLine) → IsLineText text line → line_of text ≡ Some line
+line_again text Skipped is = skipped_at text is.short is.says
+line_again text (Zone frames cpus) is =
+    let words : words_of (zone_text frames cpus) ≡ texts (Fixed (codes "zone") ∷ number frames ∷ number cpus ∷ [])
+    = words_are (Fixed (codes "zone")) (number frames ∷ number cpus ∷ [])
+    (refl, (narrow frames is.says.0.most_frames, (narrow_cpus cpus is.says.0.most_cpus, tt))) in
+    let reads : said_by (texts (Fixed (codes "zone") ∷ number frames ∷ number cpus ∷ [])) ≡ Some (Zone frames cpus)
+    = rw (zone_again frames cpus is.says.0) refl in
+    read_at text (Zone frames cpus) is.short (ap is_skipped is.says.1) (ap said is.says.1 ∙ ap said_by words ∙ reads)
+line_again text (kinds.Step step answer) is =
+    let fits = is.says.0 in
+    let small : step.seat < 2 ^ 64 = omega (arith, fits.0) in
+    let words : words_of (entry_text step answer) ≡ texts (number step.seat ∷ step_words step answer)
+    = words_are (number step.seat) (step_words step answer) fits in
+    let reads : said_by (texts (number step.seat ∷ step_words step answer)) ≡ Some (kinds.Step step answer)
+    = rw (zone_is_no_number step.seat small, entry_again step answer fits) refl in
+    let asks = begins (decimal step.seat) (spaced (step_words step answer)) (decimal_is_IsNumeral step.seat small).0 in
+    read_at text (kinds.Step step answer) is.short (ap is_skipped is.says.1 ∙ asks) (ap said is.says.1 ∙ ap said_by words ∙ reads)
+
+-- reading says which line has the text
+pub line_exact : (text : List ℕ) (found : Option LogLine) → found ≡ line_of text
+    → MatchOption found ((line : LogLine) → ¬ IsLineText text line) (λ line. IsLineText text line)
+line_exact text None e = λ line is. let bad : None ≡ Some line = e ∙ line_again text line is in cc
+line_exact text (Some line) e = line_is text line (sym e)
+
+-- a text is that of one line at most
+pub same_line : (text : List ℕ) (one other : LogLine) → IsLineText text one → IsLineText text other → one ≡ other
+same_line text one other is_one is_other = some_is one other (sym (line_again text one is_one) ∙ line_again text other is_other)

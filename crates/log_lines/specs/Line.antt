@@ -1,0 +1,52 @@
+-- The lines of a log: the zone's sizes, then one line for each step and its answer.
+use Rattle.std.specs.Prelude.{◌≡◌, ℕ, ◌≤◌, ◌==◌, Bool, true, IsTrue, List, [], ◌∷◌, ◌++◌, codes, decimal, length}
+use Rattle.std.specs.List.{AllByRecursion}
+use Rattle.step_rules.specs.declared.step.Step.{Step}
+use Rattle.step_rules.specs.declared.step.Answer.{Answer}
+use Rattle.zone_blocks.specs.Config.{most_cpus, most_frames}
+use Rattle.log_lines.specs.declared.line.LogLine.{LogLine}
+use Rattle.log_lines.specs.declared.line.LogLine.TheVariants as kinds
+use Rattle.log_lines.specs.Words.{Word, Fixed, Fits, number, action_words, answer_words, spaced}
+
+-- the most bytes of a line, without its line feed
+abbrev pub longest_line : ℕ
+longest_line = 1024
+
+-- the words after the seat: an action, `>`, and the answer
+abbrev pub step_words : Step → Answer → List Word
+step_words step answer = action_words step.action ++ Fixed (codes ">") ∷ answer_words answer
+
+-- `SEAT ACTION > ANSWER`
+abbrev pub entry_text : Step → Answer → List ℕ
+entry_text step answer = decimal step.seat ++ spaced (step_words step answer)
+
+-- `zone FRAMES CPUS`
+abbrev pub zone_text : ℕ → ℕ → List ℕ
+zone_text frames cpus = codes "zone" ++ spaced (number frames ∷ number cpus ∷ [])
+
+-- the numbers of a step and its answer are in their ranges, and a line can contain its path
+abbrev pub IsEntry : Step → Answer → Type 0
+IsEntry step answer = AllByRecursion Fits (number step.seat ∷ step_words step answer)
+
+-- the sizes of a zone are in their ranges
+pub record IsZone (frames cpus : ℕ) : Type 0 where
+  pub some_frames : 1 ≤ frames
+  pub most_frames : frames ≤ most_frames
+  pub some_cpus : 1 ≤ cpus
+  pub most_cpus : cpus ≤ most_cpus
+
+-- an empty text, or a comment
+abbrev pub is_skipped : List ℕ → Bool
+is_skipped [] = true
+is_skipped (b ∷ bs) = b == 35
+
+-- the text is that of the line
+abbrev pub IsTextOf : List ℕ → LogLine → Type 0
+IsTextOf text kinds.Skipped = IsTrue (is_skipped text)
+IsTextOf text (kinds.Zone frames cpus) = IsZone frames cpus × (text ≡ zone_text frames cpus)
+IsTextOf text (kinds.Step step answer) = IsEntry step answer × (text ≡ entry_text step answer)
+
+-- the text is that of the line, and not too long
+pub record IsLineText (text : List ℕ) (line : LogLine) : Type 0 where
+  pub short : length text ≤ longest_line
+  pub says : IsTextOf text line
