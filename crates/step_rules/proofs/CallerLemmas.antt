@@ -8,9 +8,7 @@ use Rattle.step_rules.specs.declared.step.Action.{Action}
 use Rattle.step_rules.specs.declared.step.Answer.{Answer}
 use Rattle.step_rules.specs.Usage.{is_in_subtree}
 use Rattle.step_rules.specs.Legal.{is_of_group}
-use Rattle.step_rules.specs.After.{after}
 use Rattle.step_rules.specs.Events.{note_of, group_noted, noted_at, is_noted_in_subtree, is_noted_at}
-use Rattle.step_rules.specs.Reaches.{Reaches}
 
 -- ---- what a step notes, by any key, from the one note that it makes or doesn't make
 pub noted_so : (kind key : EventKey) (g : ℕ) (action : Action) (answer : Answer) → note_of action answer ≡ Some (kind, g) →
