@@ -20,7 +20,8 @@ use Rattle.step_rules.proofs.Few.{pins_boot}
 use Rattle.step_rules.proofs.SoundSteps.{sound_step}
 use Rattle.step_rules.proofs.Runs.{after_illegal, allowed, state_more, legal_more}
 use Rattle.mem_core.specs.Rooms.{PlacesFront, pages_asked}
-use Rattle.mem_core.proofs.Bounding.{IsBounded, bounded_step}
+use Rattle.mem_core.specs.Bounded.{IsBounded}
+use Rattle.mem_core.proofs.Bounding.{bounded_step}
 use Rattle.mem_core.specs.Shown.{CoreState, Shows, AccountsMatchRun, state_shown}
 use Rattle.mem_core.specs.Accounts.{Account, account_after, account_of, AccountsFollow}
 use Rattle.mem_core.proofs.Accounting.{tell_more}

@@ -23,6 +23,7 @@ use Rattle.step_rules.proofs.PhaseLemmas.{free_is, in_hand, WasCollected, WasBar
 use Rattle.step_rules.proofs.Sound.{IsSound}
 use Rattle.step_rules.proofs.Few.{HaveFewPins, pins_made}
 use Rattle.step_rules.proofs.Placed.{zone_kept}
+use Rattle.mem_core.specs.Bounded.{IsBounded, pages_out, HolderIsThere}
 use Rattle.mem_core.specs.Rooms.{IsBelowBounds, pages_asked}
 
 hand_not_live : (x : Phase) → is_head_in_hand x ≡ true → is_live x ≡ false
@@ -31,23 +32,6 @@ hand_not_live x e = elim (in_hand x e) [
   | WasBare u is ↦ ap is_live is
   | WasEnded u is ↦ ap is_live is
 ]
-
--- only a CPU holds the lock
-abbrev pub HolderIsThere : ℕ → Hold → Type 0
-HolderIsThere cpus Unheld = Unit {0}
-HolderIsThere cpus (HeldBy p) = p ≤ cpus
-HolderIsThere cpus (Visiting p) = p ≤ cpus
-
--- all pages that are pending or stand in a book
-abbrev pub pages_out : State → ℕ
-pages_out s = sum_to 64 s.pending + sum_to (s.zone.cpus + 1) (λ p. (s.parts p).book)
-
--- the numbers are bounded by so many pages
-pub record IsBounded (n : ℕ) (s : State) : Type 0 where
-  pub references : (seat f : ℕ) → s.references seat f ≤ 255
-  pub pages : pages_out s ≤ n
-  pub holder : HolderIsThere s.zone.cpus s.hold
-  pub pins : HaveFewPins s.zone s.references s.parts
 
 -- but for the pins
 record AreSmall (n : ℕ) (s : State) : Type 0 where

@@ -16,7 +16,7 @@ use Rattle.step_rules.proofs.Keeping.{homes_allowed}
 use Rattle.step_rules.proofs.Placed.{zone_kept}
 use Rattle.step_rules.proofs.Runs.{one_more, state_more, legal_more}
 use Rattle.mem_core.specs.Rooms.{pages_asked}
-use Rattle.mem_core.proofs.Bounding.{IsBounded}
+use Rattle.mem_core.specs.Bounded.{IsBounded}
 use Rattle.mem_core.specs.declared.verdict.Verdict.{Verdict}
 use Rattle.mem_core.specs.declared.verdict.Verdict.TheVariants.{Legal, IllegalAt}
 use Rattle.mem_core.specs.Shown.{CoreState, state_shown}

@@ -10,7 +10,8 @@ use Rattle.mem_core.specs.Rows.{part_of, reference_of}
 use Rattle.mem_core.specs.Rows as rows
 use Rattle.mem_core.specs.Rooms.{FitsZone, IsBelowBounds}
 use Rattle.mem_core.proofs.Looking.{past_default}
-use Rattle.mem_core.proofs.Bounding.{IsBounded, few_from}
+use Rattle.mem_core.specs.Bounded.{IsBounded}
+use Rattle.mem_core.proofs.Bounding.{few_from}
 use Rattle.mem_core.specs.declared.reading_core.Core.TheInside.{Inside}
 use Rattle.mem_core.specs.Shown.{reference_at, part_at, state_shown}
 use Rattle.mem_core.specs.Accounts.{Account}

@@ -10,7 +10,7 @@ use Rattle.mem_core.specs.declared.seat.SeatRow.{SeatRow}
 use Rattle.mem_core.specs.declared.rows.Rows.{Rows}
 use Rattle.mem_core.specs.Rows.{state_in, part_in}
 use Rattle.mem_core.specs.Rooms.{FitsZone}
-use Rattle.mem_core.proofs.Bounding.{IsBounded}
+use Rattle.mem_core.specs.Bounded.{IsBounded}
 use Rattle.mem_core.specs.declared.reading_core.Core.TheInside.{Inside}
 use Rattle.mem_core.specs.Accounts.{Account, HaveSmallPeaks}
 use Rattle.mem_core.specs.Shown.{SeatState, CoreState}

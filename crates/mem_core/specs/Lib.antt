@@ -8,3 +8,4 @@ pub mod Rows
 pub mod Rooms
 pub mod Counted
 pub mod Tables
+pub mod Bounded

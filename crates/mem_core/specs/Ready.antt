@@ -4,7 +4,7 @@ use Rattle.step_rules.proofs.Sound.{IsSound}
 use Rattle.step_rules.proofs.Homes.{IsHomed}
 use Rattle.mem_core.specs.Rows.{state_in}
 use Rattle.mem_core.specs.Rooms.{FitsZone}
-use Rattle.mem_core.proofs.Bounding.{IsBounded}
+use Rattle.mem_core.specs.Bounded.{IsBounded}
 use Rattle.mem_core.specs.declared.checker.Checker.TheInside.{Inside}
 use Rattle.mem_core.specs.Shown.{CoreState}
 use Rattle.mem_core.specs.Inside.{rows_shown}

@@ -12,7 +12,7 @@ use Rattle.step_rules.proofs.Sound.{IsSound}
 use Rattle.mem_core.specs.declared.rows.Rows.{Rows}
 use Rattle.mem_core.specs.Rooms.{pages_asked}
 use Rattle.mem_core.specs.Rows as rows
-use Rattle.mem_core.proofs.Bounding.{IsBounded}
+use Rattle.mem_core.specs.Bounded.{IsBounded}
 use Rattle.mem_core.specs.declared.reading_core.Core.TheInside.{Inside}
 use Rattle.mem_core.specs.Shown.{CoreState, state_shown}
 use Rattle.mem_core.specs.Inside.{core_state, IsWhole}

@@ -1,0 +1,23 @@
+-- How large the numbers of a state may be.
+use Rattle.std.specs.Prelude.{◌≡◌, ℕ, ◌+◌, ◌≤◌}
+use Rattle.step_rules.specs.declared.phase.Hold.{Hold}
+use Rattle.step_rules.specs.declared.phase.Hold.TheVariants.{Unheld, HeldBy, Visiting}
+use Rattle.step_rules.specs.State.{State, sum_to}
+use Rattle.step_rules.proofs.Few.{HaveFewPins}
+
+-- only a CPU holds the lock
+abbrev pub HolderIsThere : ℕ → Hold → Type 0
+HolderIsThere cpus Unheld = Unit {0}
+HolderIsThere cpus (HeldBy p) = p ≤ cpus
+HolderIsThere cpus (Visiting p) = p ≤ cpus
+
+-- all pages that are pending or stand in a book
+abbrev pub pages_out : State → ℕ
+pages_out s = sum_to 64 s.pending + sum_to (s.zone.cpus + 1) (λ p. (s.parts p).book)
+
+-- the numbers are bounded by so many pages
+pub record IsBounded (n : ℕ) (s : State) : Type 0 where
+  pub references : (seat f : ℕ) → s.references seat f ≤ 255
+  pub pages : pages_out s ≤ n
+  pub holder : HolderIsThere s.zone.cpus s.hold
+  pub pins : HaveFewPins s.zone s.references s.parts
