@@ -1,6 +1,6 @@
 //! The seats of one CPU, and the CPU part that is made of them.
 ghost use Rattle.std.specs.Prelude.{◌≡◌};
-ghost use Rattle.frame_word.specs.Seats.{first_cpu_view, number_of, IsCpuSeat};
+ghost use Rattle.frame_word.specs.Seats.{first_cpu_view, seat_number, IsCpuSeat};
 ghost use Rattle.stock_word.specs.Stock.{IsCpuView};
 
 use cpu_part::{BootName, Cpu};
@@ -18,10 +18,10 @@ pub struct CpuSeats {
 
 /// The CPU part with these seats.
 pub fn new_cpu<N: BootName>(rt: &impl Abort, alloc: Global, seats: CpuSeats) -> Cpu<N>
-    requires seat { IsCpuSeat N.frames seats.frames × (seats.frames.view ≡ first_cpu_view (number_of seats.frames)) }
+    requires seat { IsCpuSeat N.frames seats.frames × (seats.frames.view ≡ first_cpu_view (seat_number seats.frames)) }
     requires stock { (seats.stock.table ≡ N.stocks.table) × IsCpuView N.stocks seats.stock.view
         × (seats.stock.view.fresh ≡ 0) }
-    requires same { seats.stock.view.number ≡ number_of seats.frames }
+    requires same { seats.stock.view.number ≡ seat_number seats.frames }
 {
     Cpu::<N>::new(alloc, seats.frames, seats.stock).expect(rt, "memory")
 }

@@ -7,7 +7,7 @@ use Rattle.atomic_table.specs.Table.{Act, Me, State as Board, Allows, Valid, car
 use Rattle.stock_word.specs.declared.view.Stock.{Stock}
 use Rattle.stock_word.specs.declared.view.Stock.TheVariants.{NoGroup, HeldBy, DrainedOf}
 use Rattle.stock_word.specs.declared.view.StockView.{StockView}
-use Rattle.stock_word.specs.Stock.{HasWord, pages_of, word_of}
+use Rattle.stock_word.specs.Stock.{HasWord, stock_pages_of, word_of}
 use Rattle.stock_word.specs.StockRule.{StockRule, report_index, stock_index}
 use Rattle.stock_word.specs.Kinds.{Alone, Joined, absorbing_step, draining_step, filling_step}
 use Rattle.stock_word.proofs.Steps.{absorbing_allowed, draining_allowed, filling_allowed}
@@ -18,7 +18,7 @@ use Rattle.step_rules.specs.State.{Zone, State}
 use Rattle.step_rules.specs.Legal.{is_legal}
 use Rattle.step_rules.specs.Laws.{is_of_lock}
 use Rattle.run_words.specs.Steps.{ChangesWords, OfGroup}
-use Rattle.boot_words.specs.Rule.{Past, BootView, OfStocks, boot_rule, frames_in, stock_base, stocks_in, words_in}
+use Rattle.boot_words.specs.Rule.{SeatPast, BootView, OfStocks, boot_rule, frames_in, stock_base, stocks_in, words_in}
 use Rattle.boot_words.specs.Held.{HoldsLock, MadeUnderLock, joined}
 use Rattle.boot_words.specs.StockHeld.{pages_said, AbsorbIsAllowed, DrainIsAllowed, FillIsAllowed}
 use Rattle.boot_words.proofs.StockSteps.{stock_is_at, stock_step, with_stocks_at}
@@ -30,7 +30,7 @@ abbrev pub stock_rule : {S : Type 0} → Zone → Board S (List StockView) → T
 stock_rule zone t = StockRule zone.cpus t.words t.views
 
 -- a step under the lock on word i of the stocks, in this state of the table
-pub stock_under_lock_at : {S : Type 0} (zone : Zone) (slots id i : ℕ) (F : ℕ → ℕ) (z c : Past) (local : State) (views : List StockView) (made_step : Step) (answer : Answer)
+pub stock_under_lock_at : {S : Type 0} (zone : Zone) (slots id i : ℕ) (F : ℕ → ℕ) (z c : SeatPast) (local : State) (views : List StockView) (made_step : Step) (answer : Answer)
     (kind : ℕ → Me S (List StockView) → Type 0) → HoldsLock zone z c local → (made_step.seat ≡ 0) ⊎ (made_step.seat ≡ c.number)
     → is_of_lock made_step.action ≡ false → is_legal local made_step.seat made_step.action ≡ true
     → ((found : ℕ) (m : Me S (List StockView)) → kind found m → m.1 ≡ []) → Allows {S = S} (stock_rule zone) slots id (views, []) i F kind
@@ -48,7 +48,7 @@ stock_under_lock_at {S} zone slots id i F z c local views made_step answer kind 
     slots id F z c local views made_step answer kind holds own unlocked legal empty allows
 
 -- the same in any state
-pub stock_under_lock : {S : Type 0} (zone : Zone) (slots id i : ℕ) (F : ℕ → ℕ) (z c : Past) (local : State) (views : List StockView) (made_step : Step)
+pub stock_under_lock : {S : Type 0} (zone : Zone) (slots id i : ℕ) (F : ℕ → ℕ) (z c : SeatPast) (local : State) (views : List StockView) (made_step : Step)
     (answer : ℕ → Answer) (kind : ℕ → Me S (List StockView) → Type 0) → HoldsLock zone z c local → (made_step.seat ≡ 0) ⊎ (made_step.seat ≡ c.number)
     → is_of_lock made_step.action ≡ false → is_legal local made_step.seat made_step.action ≡ true
     → ((s : Board S (List BootView)) → boot_rule zone s → get_elem? s.views id ≡ some (joined OfStocks z c views) → slice_index s.words (stock_base zone + i) < 18446744073709551616
@@ -77,7 +77,7 @@ absorb_is_allowed {S} zone slots id cpu z c local m holds legal zone_is low high
     (λ s k at small x told. (sym ((stock_is_at zone (report_index cpu)).reads s.words), refl)) (λ found x told. ap (λ (y : Me S (List StockView)). y.1) told.1)
     (absorbing_allowed zone.cpus slots id ((m ∷ []), []) cpu refl zone_is low high (report_index cpu) refl)
 
-said_pages : (stock : Stock) → HasWord stock → word_of stock % 65536 ≡ pages_of stock
+said_pages : (stock : Stock) → HasWord stock → word_of stock % 65536 ≡ stock_pages_of stock
 said_pages NoGroup h = refl
 said_pages (HeldBy g n) h = let few = h.1 in (let a : ((g + 1) * 65536 + n) % 65536 ≡ n = omega arith in a)
 said_pages (DrainedOf g) h = (let a : (4294967296 + (g + 1) * 65536) % 65536 ≡ 0 = omega arith in a)

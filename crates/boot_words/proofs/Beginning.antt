@@ -17,7 +17,7 @@ use Rattle.stock_word.specs.StockRule.{StockRule}
 use Rattle.stock_word.proofs.Opens.{opens_at}
 use Rattle.step_rules.specs.State.{Zone}
 use Rattle.run_words.proofs.Booting.{a_boot_has_words}
-use Rattle.boot_words.specs.Rule.{Past, BootView, OfFrames, OfStocks, OfRun, AllOf, Fits, frame_count, frames_in, past_of, stock_base, stocks_in, words_in}
+use Rattle.boot_words.specs.Rule.{SeatPast, BootView, OfFrames, OfStocks, OfRun, AllOf, FitsRun, frame_count, frames_in, past_of, stock_base, stocks_in, words_in}
 use Rattle.boot_words.specs.Seating.{RuleOpens, first_pasts, no_past, word_count}
 use Rattle.boot_words.proofs.Parts.{base_high}
 use Rattle.boot_words.proofs.Sharing.{all_append}
@@ -37,7 +37,7 @@ stock_zeros zone = drop-replicate (stock_base zone) (word_count zone) 0
     ∙ ap (λ n. replicate n 0) (let e : stock_base zone + 16 * (zone.cpus + 1) - stock_base zone ≡ 16 * (zone.cpus + 1) = omega arith in e)
 
 -- ---- the views
-behind_pasts : (pasts : List Past) (views : List BootView) → (frames_in (map OfRun pasts ++ views) ≡ frames_in views)
+behind_pasts : (pasts : List SeatPast) (views : List BootView) → (frames_in (map OfRun pasts ++ views) ≡ frames_in views)
     × (stocks_in (map OfRun pasts ++ views) ≡ stocks_in views)
 behind_pasts [] views = (refl, refl)
 behind_pasts (p ∷ ps) views = behind_pasts ps views
@@ -47,11 +47,11 @@ behind_frames : (fs : List FrameView) (views : List BootView) → (frames_in (ma
 behind_frames [] views = (refl, refl)
 behind_frames (v ∷ vs) views = (ap (λ l. v ∷ l) (behind_frames vs views).0, (behind_frames vs views).1)
 
-all_frames : (pasts : List Past) (fs : List FrameView) (ss : List StockView) → frames_in (map OfRun pasts ++ (map OfFrames fs ++ map OfStocks ss)) ≡ fs
+all_frames : (pasts : List SeatPast) (fs : List FrameView) (ss : List StockView) → frames_in (map OfRun pasts ++ (map OfFrames fs ++ map OfStocks ss)) ≡ fs
 all_frames pasts fs ss = (behind_pasts pasts (map OfFrames fs ++ map OfStocks ss)).0 ∙ (behind_frames fs (map OfStocks ss)).0
     ∙ ap (λ l. fs ++ l) (of_stocks.skips ss) ∙ append-nil fs
 
-all_stocks : (pasts : List Past) (fs : List FrameView) (ss : List StockView) → stocks_in (map OfRun pasts ++ (map OfFrames fs ++ map OfStocks ss)) ≡ ss
+all_stocks : (pasts : List SeatPast) (fs : List FrameView) (ss : List StockView) → stocks_in (map OfRun pasts ++ (map OfFrames fs ++ map OfStocks ss)) ≡ ss
 all_stocks pasts fs ss = (behind_pasts pasts (map OfFrames fs ++ map OfStocks ss)).1 ∙ (behind_frames fs (map OfStocks ss)).1
     ∙ in_wrap OfStocks stocks_in frames_in of_stocks ss
 
@@ -80,7 +80,7 @@ one_each q p n fs ss =
     let d = no_pasts OfStocks stocks_in frames_in of_stocks q ss in
     let e = at_most_one q p n in omega (arith, a, b, c, d, e)
 
-pasts_fit : (p n : ℕ) → AllOf (Fits []) (map OfRun (first_pasts p n))
+pasts_fit : (p n : ℕ) → AllOf (FitsRun []) (map OfRun (first_pasts p n))
 pasts_fit p zero = tt
 pasts_fit p (suc n) = (record { goes = record { rest = []; is = refl; others = tt }; leaves_lock = λ z. tt }, pasts_fit (p + 1) n)
 
@@ -103,8 +103,8 @@ rule_opens zone =
           (λ i. (sym (stock_zeros zone) i, sym (all_stocks pasts fs ss) i ∷ [])) (opens_at zone.cpus);
       one_past = λ number. one_each number 0 (zone.cpus + 1) fs ss;
       fits = (
-        all_append (Fits []) (map OfRun pasts) (map OfFrames fs ++ map OfStocks ss) (pasts_fit 0 (zone.cpus + 1))
-            (all_append (Fits []) (map OfFrames fs) (map OfStocks ss) (all_fit OfFrames frames_in stocks_in of_frames [] fs)
+        all_append (FitsRun []) (map OfRun pasts) (map OfFrames fs ++ map OfStocks ss) (pasts_fit 0 (zone.cpus + 1))
+            (all_append (FitsRun []) (map OfFrames fs) (map OfStocks ss) (all_fit OfFrames frames_in stocks_in of_frames [] fs)
             (all_fit OfStocks stocks_in frames_in of_stocks [] ss)),
         tt,
       );

@@ -14,7 +14,8 @@ use Rattle.step_rules.specs.declared.step.Answer.{Answer}
 use Rattle.step_rules.specs.State.{Zone}
 use Rattle.step_rules.specs.Laws.{is_of_lock}
 use Rattle.run_words.specs.Words.{Words, IsRunOf, with_frame_word}
-use Rattle.boot_words.specs.Rule.{BootView, AllOf, BootRule, Fits, frame_count, frames_in, past_of, stocks_in, words_in}
+use Rattle.boot_words.specs.Rule.{BootView, AllOf, BootRule, FitsRun, frame_count, frames_in, past_of, stocks_in}
+use Rattle.boot_words.specs.Rule.{words_in}
 use Rattle.boot_words.proofs.Growing.{all_fit_later}
 use Rattle.boot_words.proofs.Parts.{stocks_stay, words_set}
 use Rattle.boot_words.proofs.Seats.{all_set, counts_same}
@@ -23,7 +24,7 @@ use Rattle.boot_words.proofs.Seats.{all_set, counts_same}
 -- longer run.
 pub frame_step : (zone : Zone) (words : List ℕ) (seats : List (List BootView)) (k : BootRule zone words seats) (id f x : ℕ) (old new : List BootView) (e : Step × Answer)
     → f < frame_count zone → get_elem? seats id ≡ some old → stocks_in new ≡ stocks_in old → ((q : ℕ) → sum_over (past_of q) new ≡ sum_over (past_of q) old)
-    → 1 ≤ sum_over (past_of e.0.seat) old → is_of_lock e.0.action ≡ false → AllOf (Fits (k.run ++ e ∷ [])) new
+    → 1 ≤ sum_over (past_of e.0.seat) old → is_of_lock e.0.action ≡ false → AllOf (FitsRun (k.run ++ e ∷ [])) new
     → ReferenceRule zone.frames zone.cpus (take (frame_count zone) (set words f x)) (map frames_in (set seats id new))
     → IsRunOf zone (with_frame_word (words_in zone words) f x) (k.run ++ e ∷ []) → BootRule zone (set words f x) (set seats id new)
 frame_step zone words seats k id f x old new e inside at stocks counts own unlocked fits rule now = record {
@@ -39,7 +40,7 @@ frame_step zone words seats k id f x old new e inside at stocks counts own unloc
 -- A seat's step on the word of frame f that is no step of the run: the word stays, and the seat keeps its pasts.
 pub frame_kept : (zone : Zone) (words : List ℕ) (seats : List (List BootView)) (k : BootRule zone words seats) (id f x : ℕ) (old new : List BootView)
     → get_elem? seats id ≡ some old → stocks_in new ≡ stocks_in old → ((q : ℕ) → sum_over (past_of q) new ≡ sum_over (past_of q) old)
-    → AllOf (Fits k.run) new → ReferenceRule zone.frames zone.cpus (take (frame_count zone) (set words f x)) (map frames_in (set seats id new))
+    → AllOf (FitsRun k.run) new → ReferenceRule zone.frames zone.cpus (take (frame_count zone) (set words f x)) (map frames_in (set seats id new))
     → x ≡ slice_index words f → BootRule zone (set words f x) (set seats id new)
 frame_kept zone words seats k id f x old new at stocks counts fits rule same =
     let words_same : set words f x ≡ words = ap (set words f) same ∙ set-get_or words f 0 in record {
@@ -49,5 +50,5 @@ frame_kept zone words seats k id f x old new at stocks counts fits rule same =
       stocks = subst (λ (w : List ℕ × List (List StockView)). StockRule zone.cpus w.0 w.1)
           (λ i. (sym (ap (λ (l : List ℕ). (words_in zone l).stocks) words_same) i, sym (stocks_stay seats id old new at stocks) i)) k.stocks;
       one_past = λ number. counts_same seats id old new at counts number (k.one_past number);
-      fits = all_set (AllOf (Fits k.run)) seats id new fits k.fits;
+      fits = all_set (AllOf (FitsRun k.run)) seats id new fits k.fits;
     }

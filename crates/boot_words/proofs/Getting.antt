@@ -17,10 +17,10 @@ use Rattle.step_rules.specs.Legal.{is_legal, get_answer}
 use Rattle.step_rules.specs.After.{state_of}
 use Rattle.run_words.specs.Runs.{OthersFollow}
 use Rattle.run_words.specs.Words.{Words, IsRunOf, with_frame_word}
-use Rattle.run_words.specs.Steps.{ChangesWords, word_at}
+use Rattle.run_words.specs.Steps.{ChangesWords, frame_word_at}
 use Rattle.run_words.proofs.Lasting.{fast_legality_lasts}
 use Rattle.run_words.proofs.Stepping.{words_follow}
-use Rattle.boot_words.specs.Rule.{BootView, OfFrames, OfRun, AllOf, BootRule, Fits, frame_count, frames_in, words_in}
+use Rattle.boot_words.specs.Rule.{BootView, OfFrames, OfRun, AllOf, BootRule, FitsRun, frame_count, frames_in, words_in}
 use Rattle.boot_words.specs.Allowed.{AddIsAllowed, LookIsAllowed, AddsByOne, LooksByOne}
 use Rattle.boot_words.proofs.Growing.{grown, grown_fits}
 use Rattle.boot_words.proofs.FrameSteps.{frame_kept, frame_step}
@@ -60,11 +60,11 @@ look_is_allowed {S} zone slots id f v p ne inside legal s k homes at small =
     let lifted = lift (rule_of {S = S} zone.frames zone.cpus) (take (frame_count zone)) frames_in slots id f f old (λ m. m)
     (by_one looks (step slots f 0 0 none) (v ∷ [], [])) (looks_at zone.frames zone.cpus slots id v f inside) (frame_is_at zone f (count_low zone f inside)) s k.frames homes at small in
     let made = lifted.4 in
-    let known = (all_at (AllOf (Fits k.run)) s.views id old at k.fits).0 in
+    let known = (all_at (AllOf (FitsRun k.run)) s.views id old at k.fits).0 in
     let fits : OthersFollow q p.seen k.run = known.goes in
     let legal_now : is_legal (state_of zone k.run) q (Get f) ≡ true = fast_legality_lasts zone p.seen k.run q (Get f) ne k.is.legal fits tt ∙ legal in
     let words = words_in zone s.words in
-    let is : word_at words f ≡ n = frame_reads zone f (count_low zone f inside) s.words in
+    let is : frame_word_at words f ≡ n = frame_reads zone f (count_low zone f inside) s.words in
     let made_step : Step = record { seat = q; action = Get f } in
     let same : with_frame_word words f n ≡ words = frame_same zone f (count_low zone f inside) s.words in
     let refused : (answer : Answer) → get_answer n ≡ answer → (answer ≡ Held → ⊥) → ChangesWords zone words q (Get f) answer words
@@ -119,11 +119,11 @@ add_is_allowed {S} zone slots id f seen v p ne inside low high saw legal s k hom
     let lifted = lift (rule_of {S = S} zone.frames zone.cpus) (take (frame_count zone)) frames_in slots id f f old (λ m. either (eqb m seen) (seen + 1) m)
     (by_one adds (step slots f seen (seen + 1) none) (v ∷ [], [])) (adds_at zone.frames zone.cpus slots id v f inside seen low high saw) (frame_is_at zone f (count_low zone f inside)) s k.frames homes at small in
     let made = lifted.4 in
-    let known = (all_at (AllOf (Fits k.run)) s.views id old at k.fits).0 in
+    let known = (all_at (AllOf (FitsRun k.run)) s.views id old at k.fits).0 in
     let fits : OthersFollow q p.seen k.run = known.goes in
     let legal_now : is_legal (state_of zone k.run) q (Get f) ≡ true = fast_legality_lasts zone p.seen k.run q (Get f) ne k.is.legal fits tt ∙ legal in
     let words = words_in zone s.words in
-    let is : word_at words f ≡ n = frame_reads zone f (count_low zone f inside) s.words in
+    let is : frame_word_at words f ≡ n = frame_reads zone f (count_low zone f inside) s.words in
     let made_step : Step = record { seat = q; action = Get f } in
     let e : Step × Answer = (made_step, Held) in
     let past = grown p fits.rest e in
@@ -133,8 +133,8 @@ add_is_allowed {S} zone slots id f seen v p ne inside low high saw legal s k hom
     × AddsByOne S v p f seen n (w, carried_after [] a) in
     exchanged n seen (seen + 1) F
     (λ hit word.
-    let found : word_at words f ≡ seen = is ∙ hit in
-    let now = words_follow zone words (with_frame_word words f (word_at words f + 1)) k.run made_step Held k.is legal_now
+    let found : frame_word_at words f ≡ seen = is ∙ hit in
+    let now = words_follow zone words (with_frame_word words f (frame_word_at words f + 1)) k.run made_step Held k.is legal_now
     (record { some = subst (λ m. 1 ≤ m) (sym found) low; room = subst (λ m. m < most_references) (sym found) high; later_is = refl }) in (
       grew,
       lifted.1,

@@ -10,7 +10,8 @@ use Rattle.step_rules.specs.After.{Run}
 use Rattle.step_rules.specs.Laws.{is_of_lock}
 use Rattle.run_words.specs.Runs.{HasNoStepOf, OthersFollow}
 use Rattle.run_words.proofs.Holding.{append_none}
-use Rattle.boot_words.specs.Rule.{Past, BootView, OfFrames, OfStocks, OfRun, AllOf, AllViews, Fits, LeavesLock, past_of}
+use Rattle.boot_words.specs.Rule.{SeatPast, BootView, OfFrames, OfStocks, OfRun, AllOf, AllViews, FitsRun, LeavesLock}
+use Rattle.boot_words.specs.Rule.{past_of}
 use Rattle.boot_words.proofs.Seats.{seats_set}
 
 none_more : (seat : ℕ) (rest : Run) (e : Step × Answer) → HasNoStepOf seat rest → e.0.seat ≢ seat → HasNoStepOf seat (rest ++ e ∷ [])
@@ -28,7 +29,7 @@ none_locks (x ∷ xs) e all free = (all.0, none_locks xs e all.1 free)
 abbrev pub notes : Bool → ℕ → BootView → ℕ
 notes locks seat u = past_of seat u + cond locks (past_of 0 u) 0
 
-not_of : (seat : ℕ) (p : Past) → past_of seat (OfRun p) ≡ 0 → seat ≢ p.number
+not_of : (seat : ℕ) (p : SeatPast) → past_of seat (OfRun p) ≡ 0 → seat ≢ p.number
 not_of seat p away same = one_not_none (sym (ap (λ b. cond b 1 0) (eq-eqb p.number seat (sym same))) ∙ away)
 
 left_none : (a b : ℕ) → a + b ≡ 0 → a ≡ 0
@@ -37,12 +38,12 @@ left_none a b e = omega arith
 right_none : (a b : ℕ) → a + b ≡ 0 → b ≡ 0
 right_none a b e = omega arith
 
-free_by : (b : Bool) (p : Past) → cond b (past_of 0 (OfRun p)) 0 ≡ 0 → p.number ≡ 0 → b ≡ false
+free_by : (b : Bool) (p : SeatPast) → cond b (past_of 0 (OfRun p)) 0 ≡ 0 → p.number ≡ 0 → b ≡ false
 free_by true p away zone = absurd (not_of 0 p away (sym zone))
 free_by false p away zone = refl
 
 -- a past that need not note the step still fits
-pub other_fits : (run : Run) (e : Step × Answer) (u : BootView) → notes (is_of_lock e.0.action) e.0.seat u ≡ 0 → Fits run u → Fits (run ++ e ∷ []) u
+pub other_fits : (run : Run) (e : Step × Answer) (u : BootView) → notes (is_of_lock e.0.action) e.0.seat u ≡ 0 → FitsRun run u → FitsRun (run ++ e ∷ []) u
 other_fits run e (OfRun p) away g =
     let seat = e.0.seat in
     let locks = is_of_lock e.0.action in
@@ -58,10 +59,10 @@ other_fits run e (OfFrames v) away g = tt
 other_fits run e (OfStocks v) away g = tt
 
 -- the past that has noted the step
-abbrev pub grown : Past → Run → Step × Answer → Past
+abbrev pub grown : SeatPast → Run → Step × Answer → SeatPast
 grown p between e = record { number = p.number; seen = (p.seen ++ between) ++ e ∷ [] }
 
-pub grown_fits : (run : Run) (p : Past) (e : Step × Answer) (fits : OthersFollow p.number p.seen run) → Fits (run ++ e ∷ []) (OfRun (grown p fits.rest e))
+pub grown_fits : (run : Run) (p : SeatPast) (e : Step × Answer) (fits : OthersFollow p.number p.seen run) → FitsRun (run ++ e ∷ []) (OfRun (grown p fits.rest e))
 grown_fits run p e fits = record {
   goes = record {
     rest = [];
@@ -89,7 +90,7 @@ enough seats old seat false one own zone =
 -- new views fit the longer run, and so do all others.
 pub all_fit_later : (run : Run) (seats : List (List BootView)) (id : ℕ) (old new : List BootView) (e : Step × Answer) → get_elem? seats id ≡ some old
     → ((number : ℕ) → total_over (past_of number) seats ≤ 1) → 1 ≤ sum_over (past_of e.0.seat) old → (is_of_lock e.0.action ≡ true → 1 ≤ sum_over (past_of 0) old)
-    → AllViews (Fits run) seats → AllOf (Fits (run ++ e ∷ [])) new → AllViews (Fits (run ++ e ∷ [])) (set seats id new)
+    → AllViews (FitsRun run) seats → AllOf (FitsRun (run ++ e ∷ [])) new → AllViews (FitsRun (run ++ e ∷ [])) (set seats id new)
 all_fit_later run seats id old new e at one own zone fits now =
-    seats_set (Fits run) (Fits (run ++ e ∷ [])) (notes (is_of_lock e.0.action) e.0.seat) (other_fits run e) seats id old new at
+    seats_set (FitsRun run) (FitsRun (run ++ e ∷ [])) (notes (is_of_lock e.0.action) e.0.seat) (other_fits run e) seats id old new at
     (enough seats old e.0.seat (is_of_lock e.0.action) one own zone) fits now

@@ -22,7 +22,7 @@ use Rattle.run_words.specs.Runs.{OthersFollow}
 use Rattle.run_words.specs.Hidden.{hide, hide_phase, zone_references}
 use Rattle.run_words.specs.Sight.{HasSameLists}
 use Rattle.run_words.proofs.Owning.{lists_are_own}
-use Rattle.boot_words.specs.Rule.{OfFrames, AllOf, Fits}
+use Rattle.boot_words.specs.Rule.{OfFrames, AllOf, FitsRun}
 use Rattle.boot_words.specs.Held.{joined}
 use Rattle.boot_words.specs.Locks.{LockIsAllowed, UnlockIsAllowed}
 use Rattle.boot_words.proofs.Growing.{grown}
@@ -37,7 +37,7 @@ not_none zone cpu is none = let range = cpu_range zone cpu is in let low = range
 pub lock_is_allowed : {S : Type 0} → LockIsAllowed S
 lock_is_allowed {S} zone slots id z c zone_is cpu free s k homes at small =
     let q = c.number in
-    let all = all_at (AllOf (Fits k.run)) s.views id (joined OfFrames z c []) at k.fits in
+    let all = all_at (AllOf (FitsRun k.run)) s.views id (joined OfFrames z c []) at k.fits in
     let zone_fits : OthersFollow z.number z.seen k.run = all.0.goes in
     let fits : OthersFollow q c.seen k.run = all.1.0.goes in
     let made_step : Step = record { seat = q; action = Lock } in
@@ -109,7 +109,7 @@ unlock_seen p s i = is_cpu s.zone p && is_held_by p s.hold && no_page_pends s
 pub unlock_is_allowed : {S : Type 0} → UnlockIsAllowed S
 unlock_is_allowed {S} zone slots id z c local holds legal s k homes at small =
     let q = c.number in
-    let all = all_at (AllOf (Fits k.run)) s.views id (joined OfFrames z c []) at k.fits in
+    let all = all_at (AllOf (FitsRun k.run)) s.views id (joined OfFrames z c []) at k.fits in
     let zone_fits : OthersFollow z.number z.seen k.run = all.0.goes in
     let fits : OthersFollow q c.seen k.run = all.1.0.goes in
     let made_step : Step = record { seat = q; action = Unlock } in

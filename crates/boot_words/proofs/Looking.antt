@@ -18,7 +18,7 @@ use Rattle.step_rules.specs.declared.step.Action.TheVariants.{DrainStock}
 use Rattle.step_rules.specs.declared.step.Answer.TheVariants.{Pages}
 use Rattle.step_rules.specs.State.{Zone}
 use Rattle.run_words.specs.Steps.{OfNone}
-use Rattle.boot_words.specs.Rule.{Past, BootView, OfFrames, OfStocks, OfRun, AllOf, BootRule, Fits, boot_rule, frame_count, frames_in, past_of, stock_base, stocks_in, words_in}
+use Rattle.boot_words.specs.Rule.{SeatPast, BootView, OfFrames, OfStocks, OfRun, AllOf, BootRule, FitsRun, boot_rule, frame_count, frames_in, past_of, stock_base, stocks_in, words_in}
 use Rattle.boot_words.specs.Looks.{FrameLookIsAllowed, JoinedLookIsAllowed, LookToDrainIsAllowed, Looks, StockLookIsAllowed}
 use Rattle.boot_words.proofs.Banking.{stock_rule, stock_under_lock_at}
 use Rattle.boot_words.proofs.FrameSteps.{frame_kept}
@@ -34,9 +34,9 @@ module _ {S V W : Type 0} (zone : Zone) (wrap : V → BootView) (mine : List Boo
     (has : (s : Board S (List BootView)) → boot_rule zone s → holds (record { words = front s.words; homes = s.homes; views = map mine s.views }))
     (kept : (s : Board S (List BootView)) (k : boot_rule zone s) (homes : List (Option S)) (id : ℕ) (old new : List BootView)
     → get_elem? s.views id ≡ some old → other new ≡ other old → ((q : ℕ) → sum_over (past_of q) new ≡ sum_over (past_of q) old)
-    → AllOf (Fits k.run) new → holds (record { words = front (set s.words j (slice_index s.words j)); homes = homes; views = map mine (set s.views id new) })
+    → AllOf (FitsRun k.run) new → holds (record { words = front (set s.words j (slice_index s.words j)); homes = homes; views = map mine (set s.views id new) })
     → BootRule zone (set s.words j (slice_index s.words j)) (set s.views id new)) where
-  pub look : (slots id : ℕ) (pasts : List Past) (views : List V) (kind : ℕ → Me S (List V) → Type 0)
+  pub look : (slots id : ℕ) (pasts : List SeatPast) (views : List V) (kind : ℕ → Me S (List V) → Type 0)
       → ((found : ℕ) (m : Me S (List V)) → kind found m → m.1 ≡ []) → Allows holds slots id (views, []) i (λ n. n) kind
       → Allows {S = S} (boot_rule zone) slots id (map OfRun pasts ++ map wrap views, []) j (λ n. n) (λ found later. Looks wrap S pasts (kind found) later)
   look slots id pasts views kind empty allows s k homes at small =
@@ -45,7 +45,7 @@ module _ {S V W : Type 0} (zone : Zone) (wrap : V → BootView) (mine : List Boo
       let own_allows : Allows holds slots id (mine old, []) i (λ n. n) kind =
       subst (λ (l : List V). Allows holds slots id (l, []) i (λ n. n) kind) (sym (picked wrap mine other kind_is pasts views)) allows in
       let lifted = lift holds front mine slots id i j old (λ n. n) kind own_allows is_at s (has s k) homes at small in
-      let all = all_at (AllOf (Fits k.run)) s.views id old at k.fits in
+      let all = all_at (AllOf (FitsRun k.run)) s.views id old at k.fits in
       let new = map OfRun pasts ++ map wrap lifted.0 in
       let carried : carried_after [] lifted.1 ≡ [] = empty found (lifted.0, carried_after [] lifted.1) lifted.4 in (
         new,
@@ -61,7 +61,7 @@ module _ {S V W : Type 0} (zone : Zone) (wrap : V → BootView) (mine : List Boo
         },
       )
 
-stock_look : {S : Type 0} (zone : Zone) (slots id i : ℕ) (pasts : List Past) (views : List StockView) (kind : ℕ → Me S (List StockView) → Type 0)
+stock_look : {S : Type 0} (zone : Zone) (slots id i : ℕ) (pasts : List SeatPast) (views : List StockView) (kind : ℕ → Me S (List StockView) → Type 0)
     → ((found : ℕ) (m : Me S (List StockView)) → kind found m → m.1 ≡ []) → Allows {S = S} (stock_rule zone) slots id (views, []) i (λ n. n) kind
     → Allows {S = S} (boot_rule zone) slots id (map OfRun pasts ++ map OfStocks views, []) (stock_base zone + i) (λ n. n)
     (λ found later. Looks OfStocks S pasts (kind found) later)

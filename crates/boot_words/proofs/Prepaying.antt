@@ -24,7 +24,7 @@ use Rattle.run_words.specs.Words.{Words, IsRunOf}
 use Rattle.run_words.specs.Steps.{stock_word_at}
 use Rattle.run_words.proofs.Lasting.{fast_legality_lasts}
 use Rattle.run_words.proofs.Stepping.{words_follow}
-use Rattle.boot_words.specs.Rule.{BootView, OfStocks, OfRun, AllOf, BootRule, Fits, stock_base, stocks_in, words_in}
+use Rattle.boot_words.specs.Rule.{BootView, OfStocks, OfRun, AllOf, BootRule, FitsRun, stock_base, stocks_in, words_in}
 use Rattle.boot_words.specs.Allowed.{BacksByOne, ConsumeIsAllowed, CreditIsAllowed, GrewBy, TakesByOne}
 use Rattle.boot_words.proofs.Growing.{grown, grown_fits}
 use Rattle.boot_words.proofs.Lifting.{lift}
@@ -62,7 +62,7 @@ consume_is_allowed {S} zone slots id g n v p ne same high last legal s k homes a
     (stock_is_at zone i) s k.stocks homes at small in
     let made = lifted.4 in
     let words = words_in zone s.words in
-    let fits : OthersFollow q p.seen k.run = (all_at (AllOf (Fits k.run)) s.views id old at k.fits).0.goes in
+    let fits : OthersFollow q p.seen k.run = (all_at (AllOf (FitsRun k.run)) s.views id old at k.fits).0.goes in
     let legal_now : is_legal (state_of zone k.run) q (Consume g) ≡ true = fast_legality_lasts zone p.seen k.run q (Consume g) ne k.is.legal fits tt ∙ legal in
     let stock = cpu_stock zone.cpus words.stocks (map stocks_in s.views) k.stocks words.stocks id v (at_map stocks_in s.views id old at) low most in
     let fit : HasWord (HeldBy g (n + 1)) = subst HasWord last stock.last_word in
@@ -126,7 +126,7 @@ credit_is_allowed {S} zone slots id f g n v p ne same high last fresh legal s k 
     (stock_is_at zone i) s k.stocks homes at small in
     let made = lifted.4 in
     let words = words_in zone s.words in
-    let fits : OthersFollow q p.seen k.run = (all_at (AllOf (Fits k.run)) s.views id old at k.fits).0.goes in
+    let fits : OthersFollow q p.seen k.run = (all_at (AllOf (FitsRun k.run)) s.views id old at k.fits).0.goes in
     let legal_now : is_legal (state_of zone k.run) q (Credit f) ≡ true = fast_legality_lasts zone p.seen k.run q (Credit f) ne k.is.legal fits tt ∙ legal in
     let stock = cpu_stock zone.cpus words.stocks (map stocks_in s.views) k.stocks words.stocks id v (at_map stocks_in s.views id old at) low most in
     let fit : HasWord (HeldBy g n) = subst HasWord last stock.last_word in

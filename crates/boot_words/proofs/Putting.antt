@@ -18,11 +18,11 @@ use Rattle.step_rules.specs.Legal.{is_legal}
 use Rattle.step_rules.specs.After.{state_of}
 use Rattle.run_words.specs.Runs.{OthersFollow}
 use Rattle.run_words.specs.Words.{Words, IsRunOf, with_frame_word}
-use Rattle.run_words.specs.Steps.{ChangesWords, word_at}
+use Rattle.run_words.specs.Steps.{ChangesWords, frame_word_at}
 use Rattle.run_words.proofs.Lasting.{fast_legality_lasts}
 use Rattle.run_words.proofs.Stepping.{words_follow}
-use Rattle.boot_words.specs.Rule.{Past, BootView, OfFrames, OfRun, AllOf, Fits, frame_count, frames_in, past_of, words_in}
-use Rattle.boot_words.specs.Allowed.{PutIsAllowed, put_answer}
+use Rattle.boot_words.specs.Rule.{SeatPast, BootView, OfFrames, OfRun, AllOf, FitsRun, frame_count, frames_in, past_of, words_in}
+use Rattle.boot_words.specs.Allowed.{PutIsAllowed, put_answer_at}
 use Rattle.boot_words.proofs.Growing.{grown, grown_fits}
 use Rattle.boot_words.proofs.FrameSteps.{frame_step}
 use Rattle.boot_words.proofs.Lifting.{lift}
@@ -42,14 +42,14 @@ above_one n low ne = omega (arith, low, ne)
 and_one : (n : ℕ) → 1 ≤ n → n ≡ (n - 1) + 1
 and_one n low = omega arith
 
-pub put_changes : (zone : Zone) (words : Words) (seat f n : ℕ) → word_at words f ≡ n → 1 ≤ n
-    → ChangesWords zone words seat (Put f) (put_answer n) (with_frame_word words f (n - 1))
+pub put_changes : (zone : Zone) (words : Words) (seat f n : ℕ) → frame_word_at words f ≡ n → 1 ≤ n
+    → ChangesWords zone words seat (Put f) (put_answer_at n) (with_frame_word words f (n - 1))
 put_changes zone words seat f n is some = elim (cases_eq n 1) [
   | inl one ↦
-      let answer : put_answer n ≡ Last = cond-true (n == 1) Last (Left (n - 1)) (eq-eqb n 1 one) in
+      let answer : put_answer_at n ≡ Last = cond-true (n == 1) Last (Left (n - 1)) (eq-eqb n 1 one) in
       subst (λ a. ChangesWords zone words seat (Put f) a (with_frame_word words f (n - 1))) (sym answer) (is ∙ one, ap (with_frame_word words f) (minus_one n one))
   | inr many ↦
-      let answer : put_answer n ≡ Left (n - 1) = cond-false (n == 1) Last (Left (n - 1)) (ne_eqb n 1 many) in
+      let answer : put_answer_at n ≡ Left (n - 1) = cond-false (n == 1) Last (Left (n - 1)) (ne_eqb n 1 many) in
       subst (λ a. ChangesWords zone words seat (Put f) a (with_frame_word words f (n - 1))) (sym answer)
       (record { some = above_one n some many; found = is ∙ and_one n some; later_is = refl })
 ]
@@ -61,7 +61,7 @@ own_sum : (a b : ℕ) → a ≡ 1 → 1 ≤ a + (b + 0)
 own_sum a b e = omega arith
 
 -- a seat has its own past
-pub own_past : (p : Past) (u : BootView) → 1 ≤ sum_over (past_of p.number) (OfRun p ∷ u ∷ [])
+pub own_past : (p : SeatPast) (u : BootView) → 1 ≤ sum_over (past_of p.number) (OfRun p ∷ u ∷ [])
 own_past p u = own_sum (past_of p.number (OfRun p)) (past_of p.number u) (ap (λ b. cond b 1 0) (eq-eqb p.number p.number refl))
 
 pub put_is_allowed : {S : Type 0} → PutIsAllowed S
@@ -73,13 +73,13 @@ put_is_allowed {S} zone slots id f v p ne inside some legal s k homes at small =
     (by_one puts (step slots f 1 0 none) (v ∷ [], [])) (puts_at zone.frames zone.cpus slots id v f inside some) (frame_is_at zone f (count_low zone f inside)) s k.frames homes at small in
     let made = lifted.4 in
     let positive : 1 ≤ n = at_least_one (note_of v f).references n some made.2.0 in
-    let fits : OthersFollow q p.seen k.run = (all_at (AllOf (Fits k.run)) s.views id old at k.fits).0.goes in
+    let fits : OthersFollow q p.seen k.run = (all_at (AllOf (FitsRun k.run)) s.views id old at k.fits).0.goes in
     let legal_now : is_legal (state_of zone k.run) q (Put f) ≡ true = fast_legality_lasts zone p.seen k.run q (Put f) ne k.is.legal fits tt ∙ legal in
     let words = words_in zone s.words in
     let made_step : Step = record { seat = q; action = Put f } in
-    let e : Step × Answer = (made_step, put_answer n) in
+    let e : Step × Answer = (made_step, put_answer_at n) in
     let x = (n + (2 ^ 64 - 1)) % 2 ^ 64 in
-    let now = words_follow zone words (with_frame_word words f (n - 1)) k.run made_step (put_answer n) k.is legal_now
+    let now = words_follow zone words (with_frame_word words f (n - 1)) k.run made_step (put_answer_at n) k.is legal_now
     (put_changes zone words q f n (frame_reads zone f (count_low zone f inside) s.words) positive) in
     let past = grown p fits.rest e in
     let new : List BootView = OfRun past ∷ OfFrames made.0 ∷ [] in (

@@ -23,7 +23,8 @@ use Rattle.step_rules.proofs.Runs.{sound_run}
 use Rattle.run_words.specs.Runs.{OthersFollow}
 use Rattle.run_words.specs.Steps.{IsPlain}
 use Rattle.run_words.proofs.Plain.{plain_steps_keep_words}
-use Rattle.boot_words.specs.Rule.{Past, BootView, OfFrames, AllOf, BootRule, Fits, boot_rule, stock_base, words_in}
+use Rattle.boot_words.specs.Rule.{SeatPast, BootView, OfFrames, AllOf, BootRule, FitsRun, boot_rule, stock_base}
+use Rattle.boot_words.specs.Rule.{words_in}
 use Rattle.boot_words.specs.Held.{PlainIsAllowed, joined}
 use Rattle.boot_words.proofs.Growing.{all_fit_later, grown, grown_fits}
 use Rattle.boot_words.proofs.Parts.{stocks_stay}
@@ -50,7 +51,7 @@ plain_counted s (Kill g) answer plain = tt
 plain_counted s action answer plain = absurd plain
 
 -- A seat with both pasts makes an allowed plain step behind the run, and both pasts note it.
-pub plain_step : {S : Type 0} (zone : Zone) (s : Board S (List BootView)) (k : boot_rule zone s) (id : ℕ) (z c : Past) (made_step : Step) (answer : Answer)
+pub plain_step : {S : Type 0} (zone : Zone) (s : Board S (List BootView)) (k : boot_rule zone s) (id : ℕ) (z c : SeatPast) (made_step : Step) (answer : Answer)
     → z.number ≡ 0 → (made_step.seat ≡ 0) ⊎ (made_step.seat ≡ c.number) → get_elem? s.views id ≡ some (joined OfFrames z c [])
     → (zone_fits : OthersFollow z.number z.seen k.run) → (fits : OthersFollow c.number c.seen k.run)
     → IsPlain made_step.action → Allows (state_of zone k.run) made_step.seat made_step.action answer
@@ -74,7 +75,7 @@ plain_step zone s k id z c made_step answer zone_is own at zone_fits fits plain 
 
 pub plain_is_allowed : {S : Type 0} → PlainIsAllowed S
 plain_is_allowed {S} zone slots id z c local made_step answer holds plain is_step s k homes at small =
-    let all = all_at (AllOf (Fits k.run)) s.views id (joined OfFrames z c []) at k.fits in
+    let all = all_at (AllOf (FitsRun k.run)) s.views id (joined OfFrames z c []) at k.fits in
     let zone_fits : OthersFollow z.number z.seen k.run = all.0.goes in
     let fits : OthersFollow c.number c.seen k.run = all.1.0.goes in
     let state = state_of zone k.run in

@@ -7,21 +7,21 @@ use Rattle.atomic_table.specs.Table.{Me, State as Board, step}
 use Rattle.atomic_table.proofs.Lists.{at_map}
 use Rattle.stock_word.specs.declared.view.Stock.TheVariants.{HeldBy}
 use Rattle.stock_word.specs.declared.view.StockView.{StockView}
-use Rattle.stock_word.specs.Stock.{HasWord, account_of, pages_of, word_of}
+use Rattle.stock_word.specs.Stock.{HasWord, account_of, stock_pages_of, word_of}
 use Rattle.stock_word.specs.StockRule.{IsStock, report_index, stock_index}
 use Rattle.stock_word.specs.Kinds.{Joined, consuming_held_step, reporting_step}
 use Rattle.stock_word.proofs.Keeps.{joined_stock}
 use Rattle.stock_word.proofs.Steps.{consuming_held_allowed, reporting_allowed}
 use Rattle.step_rules.specs.declared.step.Answer.TheVariants.{Done, Took}
 use Rattle.step_rules.specs.State.{Zone}
-use Rattle.boot_words.specs.Rule.{Past, BootView, OfStocks, boot_rule, stock_base, stocks_in, words_in}
+use Rattle.boot_words.specs.Rule.{SeatPast, BootView, OfStocks, boot_rule, stock_base, stocks_in, words_in}
 use Rattle.boot_words.specs.Held.{AreViewsOf, joined}
 use Rattle.boot_words.specs.StockHeld.{HeldConsumeIsAllowed, ReportIsAllowed}
 use Rattle.boot_words.proofs.Banking.{stock_under_lock}
 use Rattle.boot_words.proofs.StockSteps.{stock_is_at, with_stocks_at}
 
 -- the stock rule's facts of the CPU whose view is joined with the zone's
-stock_of : {S : Type 0} (zone : Zone) (id : ℕ) (z c : Past) (m v : StockView) → AreViewsOf zone c m.number v.number
+stock_of : {S : Type 0} (zone : Zone) (id : ℕ) (z c : SeatPast) (m v : StockView) → AreViewsOf zone c m.number v.number
     → (s : Board S (List BootView)) (k : boot_rule zone s) → get_elem? s.views id ≡ some (joined OfStocks z c (m ∷ v ∷ []))
     → IsStock (slice_index (words_in zone s.words).stocks (stock_index v.number)) (slice_index (words_in zone s.words).stocks (report_index v.number)) (account_of m v.number) v
 stock_of zone id z c m v are s k at =
@@ -42,8 +42,8 @@ report_is_allowed {S} zone slots id n z c local m v holds legal are few =
     let is : slice_index words.stocks i ≡ found = (stock_is_at zone i).reads s.words in
     let stock = stock_of zone id z c m v are s k at in
     let report : slice_index words.stocks (report_index v.number) ≡ found = ap (λ q. slice_index words.stocks (report_index q)) are.cpu_is ∙ is in
-    let balanced : (account_of m v.number).book ≡ pages_of stock.stock + v.fresh + found = stock.balanced ∙ ap (λ r. pages_of stock.stock + v.fresh + r) report in
-    ap (with_stocks_at words i) (small_sum found n v.fresh (pages_of stock.stock) (account_of m v.number).book balanced stock.bounded few ∙ ap (λ r. r + n) (sym is)))
+    let balanced : (account_of m v.number).book ≡ stock_pages_of stock.stock + v.fresh + found = stock.balanced ∙ ap (λ r. stock_pages_of stock.stock + v.fresh + r) report in
+    ap (with_stocks_at words i) (small_sum found n v.fresh (stock_pages_of stock.stock) (account_of m v.number).book balanced stock.bounded few ∙ ap (λ r. r + n) (sym is)))
     (λ found x told. ap (λ (y : Me S (List StockView)). y.1) told.2)
     (reporting_allowed zone.cpus slots id ((m ∷ v ∷ []), []) m v n refl are.zone_is are.low are.high few i (ap report_index (sym are.cpu_is)))
 

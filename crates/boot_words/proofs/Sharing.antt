@@ -9,7 +9,7 @@ use Rattle.frame_word.proofs.Swap.{rule_carries}
 use Rattle.stock_word.specs.declared.view.StockView.{StockView}
 use Rattle.stock_word.proofs.Keeps.{same_keeps}
 use Rattle.step_rules.specs.State.{Zone}
-use Rattle.boot_words.specs.Rule.{BootView, OfFrames, OfStocks, OfRun, AllOf, AllViews, BootRule, Fits, frames_in, past_of, stocks_in, words_in}
+use Rattle.boot_words.specs.Rule.{BootView, OfFrames, OfStocks, OfRun, AllOf, AllViews, BootRule, FitsRun, frames_in, past_of, stocks_in, words_in}
 use Rattle.boot_words.specs.Seating.{Deals, EndHasRun, JoinIsAllowed, SplitIsAllowed}
 use Rattle.boot_words.proofs.Seats.{all_at, all_set}
 
@@ -49,7 +49,7 @@ stock_total f (views ∷ seats) = (λ i. stock_sum f views i + stock_total f sea
 
 -- the rule reads totals alone, and whether each past fits
 moved : (zone : Zone) (words : List ℕ) (seats later : List (List BootView)) → SameTotals seats later → (k : BootRule zone words seats)
-    → AllViews (Fits k.run) later → BootRule zone words later
+    → AllViews (FitsRun k.run) later → BootRule zone words later
 moved zone words seats later same k fits = record {
   run = k.run;
   is = k.is;
@@ -82,7 +82,7 @@ all_append P (x ∷ xs) ys a b = (a.0, all_append P xs ys a.1 b)
 
 pub split_is_allowed : {S : Type 0} → SplitIsAllowed S
 split_is_allowed {S} zone id views left right deals s k at =
-    let dealt = deals_all (Fits k.run) views left right deals (all_at (AllOf (Fits k.run)) s.views id views at k.fits) in
+    let dealt = deals_all (FitsRun k.run) views left right deals (all_at (AllOf (FitsRun k.run)) s.views id views at k.fits) in
     let same : SameTotals s.views (split_of s.views id left right) = λ f. omega (
       arith,
       total_more f (set s.views id left) right,
@@ -90,7 +90,7 @@ split_is_allowed {S} zone id views left right deals s k at =
       deals_sum f views left right deals,
     ) in
     moved zone s.words s.views (split_of s.views id left right) same k
-    (all_append (AllOf (Fits k.run)) (set s.views id left) (right ∷ []) (all_set (AllOf (Fits k.run)) s.views id left dealt.0 k.fits) (dealt.1, tt))
+    (all_append (AllOf (FitsRun k.run)) (set s.views id left) (right ∷ []) (all_set (AllOf (FitsRun k.run)) s.views id left dealt.0 k.fits) (dealt.1, tt))
 
 -- ---- joins
 at_other : {A : Type 0} (xs : List A) (i j : ℕ) (y : A) → ¬ (j ≡ i) → get_elem? (set xs i y) j ≡ get_elem? xs j
@@ -102,11 +102,11 @@ at_other (x ∷ xs) (suc i) (suc j) y ne = at_other xs i j y (λ e. ne (ap suc e
 
 pub join_is_allowed : {S : Type 0} → JoinIsAllowed S
 join_is_allowed {S} zone id other views taken s k at apart there =
-    let P : List BootView → Type 0 = AllOf (Fits k.run) in
+    let P : List BootView → Type 0 = AllOf (FitsRun k.run) in
     let own = all_at P s.views id views at k.fits in
     let others = all_at P s.views other taken (sym (at_other s.views id other (views ++ taken) apart) ∙ there) k.fits in
     moved zone s.words s.views (join_of s.views id views other taken) (join_totals s.views id other views taken at there) k
-    (all_set P (set s.views id (views ++ taken)) other [] tt (all_set P s.views id (views ++ taken) (all_append (Fits k.run) views taken own others) k.fits))
+    (all_set P (set s.views id (views ++ taken)) other [] tt (all_set P s.views id (views ++ taken) (all_append (FitsRun k.run) views taken own others) k.fits))
 
 -- ---- the end
 pub end_has_run : {S : Type 0} → EndHasRun S
@@ -116,7 +116,7 @@ end_has_run {S} zone id views words slots final =
     let at = final.1.1 in record {
       run = k.run;
       is = k.is;
-      pasts = all_at (AllOf (Fits k.run)) s.views id views at k.fits;
+      pasts = all_at (AllOf (FitsRun k.run)) s.views id views at k.fits;
       frames = (
         record { words = (words_in zone words).frames; homes = s.homes; views = map frames_in s.views },
         (k.frames, at_map frames_in s.views id views at),

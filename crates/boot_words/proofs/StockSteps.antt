@@ -15,7 +15,7 @@ use Rattle.step_rules.specs.declared.step.Answer.{Answer}
 use Rattle.step_rules.specs.State.{Zone}
 use Rattle.step_rules.specs.Laws.{is_of_lock}
 use Rattle.run_words.specs.Words.{Words, IsRunOf}
-use Rattle.boot_words.specs.Rule.{BootView, AllOf, BootRule, Fits, frame_count, frames_in, past_of, stock_base, stocks_in, words_in}
+use Rattle.boot_words.specs.Rule.{BootView, AllOf, BootRule, FitsRun, frame_count, frames_in, past_of, stock_base, stocks_in, words_in}
 use Rattle.boot_words.proofs.Growing.{all_fit_later}
 use Rattle.boot_words.proofs.Lifting.{IsAt}
 use Rattle.boot_words.proofs.Parts.{base_high}
@@ -55,7 +55,7 @@ frames_stay seats id old new at same =
 -- longer run.
 pub stock_step : (zone : Zone) (words : List ℕ) (seats : List (List BootView)) (k : BootRule zone words seats) (id i x : ℕ) (old new : List BootView) (e : Step × Answer)
     → get_elem? seats id ≡ some old → frames_in new ≡ frames_in old → ((q : ℕ) → sum_over (past_of q) new ≡ sum_over (past_of q) old)
-    → 1 ≤ sum_over (past_of e.0.seat) old → is_of_lock e.0.action ≡ false → AllOf (Fits (k.run ++ e ∷ [])) new
+    → 1 ≤ sum_over (past_of e.0.seat) old → is_of_lock e.0.action ≡ false → AllOf (FitsRun (k.run ++ e ∷ [])) new
     → StockRule zone.cpus (drop (stock_base zone) (set words (stock_base zone + i) x)) (map stocks_in (set seats id new))
     → IsRunOf zone (with_stocks_at (words_in zone words) i x) (k.run ++ e ∷ []) → BootRule zone (set words (stock_base zone + i) x) (set seats id new)
 stock_step zone words seats k id i x old new e at frames counts own unlocked fits rule now = record {
@@ -71,7 +71,7 @@ stock_step zone words seats k id i x old new e at frames counts own unlocked fit
 -- A seat's step on word i of the stocks that is no step of the run: the word stays, and the seat keeps its pasts.
 pub stock_kept : (zone : Zone) (words : List ℕ) (seats : List (List BootView)) (k : BootRule zone words seats) (id i x : ℕ) (old new : List BootView)
     → get_elem? seats id ≡ some old → frames_in new ≡ frames_in old → ((q : ℕ) → sum_over (past_of q) new ≡ sum_over (past_of q) old)
-    → AllOf (Fits k.run) new → StockRule zone.cpus (drop (stock_base zone) (set words (stock_base zone + i) x)) (map stocks_in (set seats id new))
+    → AllOf (FitsRun k.run) new → StockRule zone.cpus (drop (stock_base zone) (set words (stock_base zone + i) x)) (map stocks_in (set seats id new))
     → x ≡ slice_index words (stock_base zone + i) → BootRule zone (set words (stock_base zone + i) x) (set seats id new)
 stock_kept zone words seats k id i x old new at frames counts fits rule same =
     let j = stock_base zone + i in
@@ -82,5 +82,5 @@ stock_kept zone words seats k id i x old new at frames counts fits rule same =
           (λ n. (sym (ap (λ (l : List ℕ). (words_in zone l).frames) words_same) n, sym (frames_stay seats id old new at frames) n)) k.frames;
       stocks = rule;
       one_past = λ number. counts_same seats id old new at counts number (k.one_past number);
-      fits = all_set (AllOf (Fits k.run)) seats id new fits k.fits;
+      fits = all_set (AllOf (FitsRun k.run)) seats id new fits k.fits;
     }

@@ -17,7 +17,7 @@ use Rattle.step_rules.specs.Legal.{is_legal}
 use Rattle.step_rules.specs.Laws.{is_of_lock}
 use Rattle.run_words.specs.Words.{Words, with_frame_word, with_visit_word}
 use Rattle.run_words.specs.Steps.{ChangesWords}
-use Rattle.boot_words.specs.Rule.{Past, BootView, OfFrames, boot_rule, frame_count, frames_in, stocks_in, words_in}
+use Rattle.boot_words.specs.Rule.{SeatPast, BootView, OfFrames, boot_rule, frame_count, frames_in, stocks_in, words_in}
 use Rattle.boot_words.specs.Held.{HoldsLock, MadeUnderLock, StoresUnderLock, joined, UnfreezeIsAllowed, PassOutIsAllowed}
 use Rattle.boot_words.specs.Held.{TakeInIsAllowed, PassBackIsAllowed, CollectIsAllowed, OpenVisitIsAllowed, ShutVisitIsAllowed}
 use Rattle.boot_words.proofs.FrameSteps.{frame_step}
@@ -26,7 +26,7 @@ use Rattle.boot_words.proofs.UnderLock.{under_lock}
 use Rattle.boot_words.proofs.Wraps.{of_frames}
 
 -- a step under the lock on frame f's word or on a visit word
-pub frame_under_lock : {S : Type 0} (zone : Zone) (slots id f : ℕ) (F : ℕ → ℕ) (z c : Past) (local : State) (views : List FrameView) (made_step : Step) (answer : ℕ → Answer)
+pub frame_under_lock : {S : Type 0} (zone : Zone) (slots id f : ℕ) (F : ℕ → ℕ) (z c : SeatPast) (local : State) (views : List FrameView) (made_step : Step) (answer : ℕ → Answer)
     (kind : ℕ → Me S (List FrameView) → Type 0) → HoldsLock zone z c local → (made_step.seat ≡ 0) ⊎ (made_step.seat ≡ c.number)
     → is_of_lock made_step.action ≡ false → is_legal local made_step.seat made_step.action ≡ true → f < frame_count zone
     → ((s : Board S (List BootView)) → boot_rule zone s → get_elem? s.views id ≡ some (joined OfFrames z c views) → slice_index s.words f < 18446744073709551616
@@ -40,7 +40,7 @@ frame_under_lock {S} zone slots id f F z c local views made_step answer kind hol
     (λ s k homes id x old new e at others counts own free fits rule now. frame_step zone s.words s.views k id f x old new e inside at others counts own free fits rule now)
     slots id F z c local views made_step answer kind holds own unlocked legal changes empty allows
 
-store_allowed : {S : Type 0} (zone : Zone) (slots id f word : ℕ) (z c : Past) (local : State) (views : List FrameView) (made_step : Step)
+store_allowed : {S : Type 0} (zone : Zone) (slots id f word : ℕ) (z c : SeatPast) (local : State) (views : List FrameView) (made_step : Step)
     (kind : Me S (List FrameView) → Type 0) → HoldsLock zone z c local → (made_step.seat ≡ 0) ⊎ (made_step.seat ≡ c.number)
     → is_of_lock made_step.action ≡ false → is_legal local made_step.seat made_step.action ≡ true → f < frame_count zone
     → ((words : Words) → ChangesWords zone words made_step.seat made_step.action Done (with_frame_word words f word))

@@ -19,7 +19,7 @@ use Rattle.run_words.specs.Words.{Words, IsRunOf}
 use Rattle.run_words.specs.Steps.{ChangesWords}
 use Rattle.run_words.proofs.Holding.{still_shows}
 use Rattle.run_words.proofs.Stepping.{words_follow}
-use Rattle.boot_words.specs.Rule.{Past, BootView, OfRun, AllOf, BootRule, Fits, boot_rule, past_of, words_in}
+use Rattle.boot_words.specs.Rule.{SeatPast, BootView, OfRun, AllOf, BootRule, FitsRun, boot_rule, past_of, words_in}
 use Rattle.boot_words.specs.Held.{HoldsLock, MadeUnderLock, joined}
 use Rattle.boot_words.proofs.Growing.{grown, grown_fits}
 use Rattle.boot_words.proofs.Lifting.{IsAt, lift}
@@ -27,7 +27,7 @@ use Rattle.boot_words.proofs.Seats.{all_at}
 use Rattle.boot_words.proofs.Wraps.{IsKind, all_fit, picked, same_pasts, skipped}
 
 -- ---- what the holder sees at the end of the run
-pub shows_now : (zone : Zone) (z c : Past) (local : State) (run : Run) → HoldsLock zone z c local → OthersFollow z.number z.seen run → OthersFollow c.number c.seen run
+pub shows_now : (zone : Zone) (z c : SeatPast) (local : State) (run : Run) → HoldsLock zone z c local → OthersFollow z.number z.seen run → OthersFollow c.number c.seen run
     → IsLegalRun zone run → ShowsLocal zone run c.number local
 shows_now zone z c local run holds zone_fits fits legal =
     let other : run ≡ c.seen ++ zone_fits.rest = zone_fits.is ∙ ap (λ s. s ++ zone_fits.rest) holds.same in
@@ -49,13 +49,13 @@ first_sum a b n e = omega arith
 second_sum : (a b n : ℕ) → b ≡ 1 → 1 ≤ a + (b + n)
 second_sum a b n e = omega arith
 
-pub has_past : (z c : Past) (seat : ℕ) (views : List BootView) → z.number ≡ 0 → (seat ≡ 0) ⊎ (seat ≡ c.number) → 1 ≤ sum_over (past_of seat) (OfRun z ∷ OfRun c ∷ views)
+pub has_past : (z c : SeatPast) (seat : ℕ) (views : List BootView) → z.number ≡ 0 → (seat ≡ 0) ⊎ (seat ≡ c.number) → 1 ≤ sum_over (past_of seat) (OfRun z ∷ OfRun c ∷ views)
 has_past z c seat views zone_is own = elim own [
   | inl e ↦ first_sum (past_of seat (OfRun z)) (past_of seat (OfRun c)) (sum_over (past_of seat) views) (ap (λ b. cond b 1 0) (eq-eqb z.number seat (zone_is ∙ sym e)))
   | inr e ↦ second_sum (past_of seat (OfRun z)) (past_of seat (OfRun c)) (sum_over (past_of seat) views) (ap (λ b. cond b 1 0) (eq-eqb c.number seat (sym e)))
 ]
 
-pub same_seen : (z c : Past) (run : Run) (e : Step × Answer) (zone_fits : OthersFollow z.number z.seen run)
+pub same_seen : (z c : SeatPast) (run : Run) (e : Step × Answer) (zone_fits : OthersFollow z.number z.seen run)
     → (fits : OthersFollow c.number c.seen run) → (grown z zone_fits.rest e).seen ≡ (grown c fits.rest e).seen
 same_seen z c run e zone_fits fits = ap (λ r. r ++ e ∷ []) (sym zone_fits.is ∙ fits.is)
 
@@ -66,11 +66,11 @@ module _ {S V W : Type 0} (zone : Zone) (wrap : V → BootView) (mine : List Boo
     (change : Words → ℕ → Words)
     (stored : (s : Board S (List BootView)) (k : boot_rule zone s) (homes : List (Option S)) (id x : ℕ) (old new : List BootView) (e : Step × Answer)
     → get_elem? s.views id ≡ some old → other new ≡ other old → ((q : ℕ) → sum_over (past_of q) new ≡ sum_over (past_of q) old)
-    → 1 ≤ sum_over (past_of e.0.seat) old → is_of_lock e.0.action ≡ false → AllOf (Fits (k.run ++ e ∷ [])) new
+    → 1 ≤ sum_over (past_of e.0.seat) old → is_of_lock e.0.action ≡ false → AllOf (FitsRun (k.run ++ e ∷ [])) new
     → holds (record { words = front (set s.words j x); homes = homes; views = map mine (set s.views id new) })
     → IsRunOf zone (change (words_in zone s.words) x) (k.run ++ e ∷ []) → BootRule zone (set s.words j x) (set s.views id new)) where
   -- in this state of the table
-  pub under_lock_at : (slots id : ℕ) (F : ℕ → ℕ) (z c : Past) (local : State) (views : List V) (made_step : Step) (answer : Answer)
+  pub under_lock_at : (slots id : ℕ) (F : ℕ → ℕ) (z c : SeatPast) (local : State) (views : List V) (made_step : Step) (answer : Answer)
       (kind : ℕ → Me S (List V) → Type 0) → HoldsLock zone z c local → (made_step.seat ≡ 0) ⊎ (made_step.seat ≡ c.number)
       → is_of_lock made_step.action ≡ false → is_legal local made_step.seat made_step.action ≡ true
       → ((found : ℕ) (m : Me S (List V)) → kind found m → m.1 ≡ []) → Allows holds slots id (views, []) i F kind
@@ -86,7 +86,7 @@ module _ {S V W : Type 0} (zone : Zone) (wrap : V → BootView) (mine : List Boo
       let own_allows : Allows holds slots id (mine old, []) i F kind =
       subst (λ (l : List V). Allows holds slots id (l, []) i F kind) (sym (picked wrap mine other kind_is (z ∷ c ∷ []) views)) allows in
       let lifted = lift holds front mine slots id i j old F kind own_allows is_at s (has s k) homes at small in
-      let all = all_at (AllOf (Fits k.run)) s.views id old at k.fits in
+      let all = all_at (AllOf (FitsRun k.run)) s.views id old at k.fits in
       let zone_fits : OthersFollow z.number z.seen k.run = all.0.goes in
       let fits : OthersFollow c.number c.seen k.run = all.1.0.goes in
       let words = words_in zone s.words in
@@ -117,7 +117,7 @@ module _ {S V W : Type 0} (zone : Zone) (wrap : V → BootView) (mine : List Boo
         },
       )
 
-  pub under_lock : (slots id : ℕ) (F : ℕ → ℕ) (z c : Past) (local : State) (views : List V) (made_step : Step) (answer : ℕ → Answer)
+  pub under_lock : (slots id : ℕ) (F : ℕ → ℕ) (z c : SeatPast) (local : State) (views : List V) (made_step : Step) (answer : ℕ → Answer)
       (kind : ℕ → Me S (List V) → Type 0) → HoldsLock zone z c local → (made_step.seat ≡ 0) ⊎ (made_step.seat ≡ c.number)
       → is_of_lock made_step.action ≡ false → is_legal local made_step.seat made_step.action ≡ true
       → ((s : Board S (List BootView)) → boot_rule zone s → get_elem? s.views id ≡ some (joined wrap z c views) → slice_index s.words j < 18446744073709551616

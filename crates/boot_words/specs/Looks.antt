@@ -11,11 +11,11 @@ use Rattle.step_rules.specs.declared.step.Action.TheVariants.{DrainStock}
 use Rattle.step_rules.specs.declared.step.Answer.TheVariants.{Pages}
 use Rattle.step_rules.specs.State.{Zone, State}
 use Rattle.step_rules.specs.Legal.{is_legal}
-use Rattle.boot_words.specs.Rule.{Past, BootView, OfFrames, OfStocks, OfRun, boot_rule, stock_base}
+use Rattle.boot_words.specs.Rule.{SeatPast, BootView, OfFrames, OfStocks, OfRun, boot_rule, stock_base}
 use Rattle.boot_words.specs.Held.{HoldsLock, MadeUnderLock, joined}
 
 -- A seat's views are as the kind of its load says, and the pasts that are joined with them are the same.
-pub record Looks {V : Type 0} (wrap : V → BootView) (S : Type 0) (pasts : List Past) (kind : Me S (List V) → Type 0)
+pub record Looks {V : Type 0} (wrap : V → BootView) (S : Type 0) (pasts : List SeatPast) (kind : Me S (List V) → Type 0)
     (later : Me S (List BootView)) : Type 0 where
   pub views : List V
   pub later_is : later ≡ (map OfRun pasts ++ map wrap views, [])
@@ -42,14 +42,14 @@ JoinedLookIsAllowed S = (zone : Zone) (slots id : ℕ) (m v : StockView) → m.n
 
 -- The look of a drain: a stock that was never filled is drained by it, of no page. Else it is no step, and the swap of the
 -- drain follows.
-pub record LooksToDrain (S : Type 0) (z c : Past) (cpu found : ℕ) (kind : Me S (List StockView) → Type 0)
+pub record LooksToDrain (S : Type 0) (z c : SeatPast) (cpu found : ℕ) (kind : Me S (List StockView) → Type 0)
     (later : Me S (List BootView)) : Type 0 where
   pub drained : found ≡ 0 → MadeUnderLock OfStocks S z c (record { seat = 0; action = DrainStock cpu }) (Pages 0) kind later
   pub looked : found ≢ 0 → Looks OfStocks S (z ∷ c ∷ []) kind later
 
 -- the look of a drain that is legal in what the lock's holder sees
 abbrev pub LookToDrainIsAllowed : Type 0 → Type 0
-LookToDrainIsAllowed S = (zone : Zone) (slots id cpu : ℕ) (z c : Past) (local : State) (m : StockView) → HoldsLock zone z c local
+LookToDrainIsAllowed S = (zone : Zone) (slots id cpu : ℕ) (z c : SeatPast) (local : State) (m : StockView) → HoldsLock zone z c local
     → is_legal local 0 (DrainStock cpu) ≡ true → m.number ≡ 0 → 1 ≤ cpu → cpu ≤ zone.cpus
     → Allows {S = S} (boot_rule zone) slots id (joined OfStocks z c (m ∷ []), []) (stock_base zone + stock_index cpu) (λ n. n)
     (λ found later. LooksToDrain S z c cpu found

@@ -13,7 +13,7 @@ use Rattle.run_words.specs.Runs.{OthersFollow}
 use Rattle.run_words.specs.Words.{Words, IsRunOf}
 
 -- what a seat knows of the run: the run up to the last step that it noted
-pub record Past : Type 0 where
+pub record SeatPast : Type 0 where
   pub number : ℕ
   pub seen : Run
 
@@ -22,7 +22,7 @@ pub record Past : Type 0 where
 pub data BootView : Type 0 where
   OfFrames : FrameView → BootView
   OfStocks : StockView → BootView
-  OfRun : Past → BootView
+  OfRun : SeatPast → BootView
 
 -- the words of frames and visits come first
 abbrev pub frame_count : Zone → ℕ
@@ -64,15 +64,15 @@ LeavesLock (e ∷ run) = (is_of_lock e.0.action ≡ false) × LeavesLock run
 
 -- A past is a beginning of the run, behind which no step of its number follows. Behind the zone's past nobody takes or
 -- releases the lock, so that the zone's past ends with each of these steps.
-pub record IsPastOf (run : Run) (p : Past) : Type 0 where
+pub record IsPastOf (run : Run) (p : SeatPast) : Type 0 where
   pub goes : OthersFollow p.number p.seen run
   pub leaves_lock : p.number ≡ 0 → LeavesLock goes.rest
 
 -- a past fits the run if it is one of it
-abbrev pub Fits : Run → BootView → Type 0
-Fits run (OfRun p) = IsPastOf run p
-Fits run (OfFrames v) = Unit {0}
-Fits run (OfStocks v) = Unit {0}
+abbrev pub FitsRun : Run → BootView → Type 0
+FitsRun run (OfRun p) = IsPastOf run p
+FitsRun run (OfFrames v) = Unit {0}
+FitsRun run (OfStocks v) = Unit {0}
 
 -- P holds of each
 abbrev pub AllOf : {A : Type 0} → (A → Type 0) → List A → Type 0
@@ -91,7 +91,7 @@ pub record BootRule (zone : Zone) (words : List ℕ) (seats : List (List BootVie
   pub frames : ReferenceRule zone.frames zone.cpus (words_in zone words).frames (map frames_in seats)
   pub stocks : StockRule zone.cpus (words_in zone words).stocks (map stocks_in seats)
   pub one_past : (number : ℕ) → total_over (past_of number) seats ≤ 1
-  pub fits : AllViews (Fits run) seats
+  pub fits : AllViews (FitsRun run) seats
 
 -- the rule of a table's state
 abbrev pub boot_rule : {S : Type 0} → Zone → State S (List BootView) → Type 0

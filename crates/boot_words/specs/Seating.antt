@@ -1,20 +1,20 @@
 -- How the table begins and ends, and how seats are parted and joined.
 use Rattle.std.specs.Prelude.{◌≡◌, ◌⊎◌, ℕ, zero, suc, ◌+◌, ◌*◌, List, [], ◌∷◌, ◌++◌, map, replicate}
 use Rattle.atomic_table.specs.Table.{Final, Joins, Seen, Splits}
-use Rattle.frame_word.specs.Kinds.{EndsWith, first_views}
+use Rattle.frame_word.specs.Kinds.{AreFinalFrameWords, first_views}
 use Rattle.stock_word.specs.Stock.{first_cpu_stock_views, first_zone_stock_view}
-use Rattle.stock_word.specs.Kinds.{Ends}
+use Rattle.stock_word.specs.Kinds.{AreFinalStockWords}
 use Rattle.step_rules.specs.State.{Zone}
 use Rattle.step_rules.specs.After.{Run}
 use Rattle.run_words.specs.Words.{IsRunOf}
-use Rattle.boot_words.specs.Rule.{Past, BootView, OfFrames, OfStocks, OfRun, AllOf, BootRule, Fits, boot_rule, frames_in, stock_base, stocks_in, words_in}
+use Rattle.boot_words.specs.Rule.{SeatPast, BootView, OfFrames, OfStocks, OfRun, AllOf, BootRule, FitsRun, boot_rule, frames_in, stock_base, stocks_in, words_in}
 
 -- the past of a seat that has noted no step
-abbrev pub no_past : ℕ → Past
+abbrev pub no_past : ℕ → SeatPast
 no_past number = record { number = number; seen = [] }
 
 -- n of these, from this number on
-abbrev pub first_pasts : ℕ → ℕ → List Past
+abbrev pub first_pasts : ℕ → ℕ → List SeatPast
 first_pasts number zero = []
 first_pasts number (suc n) = no_past number ∷ first_pasts (number + 1) n
 
@@ -49,14 +49,14 @@ JoinIsAllowed S = (zone : Zone) (id other : ℕ) (views taken : List BootView)
 
 -- The end of the table, at which one seat has these views: there is one legal run whose last state has just these words,
 -- and each past of the seat is a beginning of it. The two rules hold as they do at the ends of today's tables.
-pub record IsEnd (S : Type 0) (zone : Zone) (id : ℕ) (words : List ℕ) (slots : List S) (views : List BootView) : Type 0 where
+pub record IsFinalTable (S : Type 0) (zone : Zone) (id : ℕ) (words : List ℕ) (slots : List S) (views : List BootView) : Type 0 where
   pub run : Run
   pub is : IsRunOf zone (words_in zone words) run
-  pub pasts : AllOf (Fits run) views
-  pub frames : EndsWith zone.frames zone.cpus id (frames_in views) (words_in zone words).frames slots
-  pub stocks : Ends zone.cpus (words_in zone words).stocks (stocks_in views)
+  pub pasts : AllOf (FitsRun run) views
+  pub frames : AreFinalFrameWords zone.frames zone.cpus id (frames_in views) (words_in zone words).frames slots
+  pub stocks : AreFinalStockWords zone.cpus (words_in zone words).stocks (stocks_in views)
 
 -- what closing the table gives
 abbrev pub EndHasRun : Type 0 → Type 0
 EndHasRun S = (zone : Zone) (id : ℕ) (views : List BootView) (words : List ℕ) (slots : List S)
-    → Final {S = S} (Seen (boot_rule zone) id views) words slots → IsEnd S zone id words slots views
+    → Final {S = S} (Seen (boot_rule zone) id views) words slots → IsFinalTable S zone id words slots views

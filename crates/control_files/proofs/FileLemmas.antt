@@ -6,7 +6,7 @@ use Rattle.std.specs.Str.{bytes_eq}
 use Rattle.std.proofs.lemmas.Slice.Eq.{bytes_eq-Decides}
 use Rattle.control_files.specs.declared.file.File.{File}
 use Rattle.control_files.specs.declared.file.File.TheVariants.{Current, Max, Peak, Events, EventsLocal, OomGroup, Reclaim}
-use Rattle.control_files.specs.Files.{name_of}
+use Rattle.control_files.specs.Files.{name_of_file}
 
 abbrev all_files : List File
 all_files = Current ∷ Max ∷ Peak ∷ Events ∷ EventsLocal ∷ OomGroup ∷ Reclaim ∷ []
@@ -22,7 +22,7 @@ found_passes p [] y found = cc
 found_passes p (x ∷ xs) y found = passes_by p x xs y (p x) refl (found_passes p xs y) found
 
 -- each file is found by its name
-found_by_name : (file : File) → find (λ f. bytes_eq (name_of f) (name_of file)) all_files ≡ Some file
+found_by_name : (file : File) → find (λ f. bytes_eq (name_of_file f) (name_of_file file)) all_files ≡ Some file
 found_by_name Current = refl
 found_by_name Max = refl
 found_by_name Peak = refl
@@ -31,8 +31,8 @@ found_by_name EventsLocal = refl
 found_by_name OomGroup = refl
 found_by_name Reclaim = refl
 
-pub found-name_of : (name : List ℕ) (file : File) → (find (λ f. bytes_eq (name_of f) name) all_files ≡ Some file) ↔ (name ≡ name_of file)
+pub found-name_of : (name : List ℕ) (file : File) → (find (λ f. bytes_eq (name_of_file f) name) all_files ≡ Some file) ↔ (name ≡ name_of_file file)
 found-name_of name file = (
-  λ found. sym ((bytes_eq-Decides (name_of file) name).0 (found_passes (λ f. bytes_eq (name_of f) name) all_files file found)),
+  λ found. sym ((bytes_eq-Decides (name_of_file file) name).0 (found_passes (λ f. bytes_eq (name_of_file f) name) all_files file found)),
   λ same. rw same (found_by_name file),
 )

@@ -5,7 +5,8 @@ use Rattle.std.specs.Borrow.{Bor}
 use Rattle.group_tree.specs.declared.fault.Fault.{Fault}
 use Rattle.group_tree.specs.declared.fault.Fault.TheVariants.{BadLimit, BadNumber}
 use Rattle.control_files.proofs.GrammarLemmas.{has_only_word, same_only_word, same_value}
-use Rattle.control_files.specs.Limit.{IsAmount, IsLimitWord, IsLimitText, pages_of, ReadsAs, IsTooGreat, IsNoLimitText}
+use Rattle.control_files.specs.Limit.{IsAmount, IsLimitWord, IsLimitText, pages_covering, ReadsAs, IsTooGreat}
+use Rattle.control_files.specs.Limit.{IsNoLimitText}
 use Rattle.control_files.specs.Reading.{HasOnlyWord, IsOnlyWord, IsAmountReading, IsReading}
 
 pub limit_text : (text word : List ℕ) (value : Option ℕ) → HasOnlyWord text word → IsLimitWord word value → IsLimitText text value
@@ -37,7 +38,7 @@ word_refused text (Some word) fault missing is = cc
 pub max_reading : (text word : List ℕ) → HasOnlyWord text word → word ≡ codes "max" → IsReading text (Ok None)
 max_reading text word h is_max = record { value = None; grammar = limit_text text word None h is_max; in_range = tt; pages = refl }
 
-pub amount_reading : (text word : List ℕ) (amount : ℕ) → HasOnlyWord text word → IsAmountReading word (Ok amount) → IsReading text (Ok (pages_of (Some amount)))
+pub amount_reading : (text word : List ℕ) (amount : ℕ) → HasOnlyWord text word → IsAmountReading word (Ok amount) → IsReading text (Ok (pages_covering (Some amount)))
 amount_reading text word amount h a = record { value = Some amount; grammar = limit_text text word (Some amount) h a.0; in_range = a.1; pages = refl }
 
 no_value : (text word : List ℕ) → HasOnlyWord text word → word ≢ codes "max" → ((amount : ℕ) → ¬ IsAmount word amount) → (value : Option ℕ) →
@@ -53,7 +54,7 @@ refused_reading text word _ h other_word refused = absurd refused
 
 -- a text is read in one way
 reads_one : (text : List ℕ) (l m : Option ℕ) → ReadsAs text l → ReadsAs text m → l ≡ m
-reads_one text l m h k = h.pages ∙ (ap pages_of (same_value text h.value k.value h.grammar k.grammar) ∙ sym k.pages)
+reads_one text l m h k = h.pages ∙ (ap pages_covering (same_value text h.value k.value h.grammar k.grammar) ∙ sym k.pages)
 
 reads_small : (text : List ℕ) (l : Option ℕ) → ReadsAs text l → IsTooGreat text → ⊥
 reads_small text l h great =

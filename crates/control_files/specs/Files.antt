@@ -30,8 +30,8 @@ row_of OomGroup = record { name = codes "memory.oom.group"; is_readable = true; 
 row_of Reclaim = record { name = codes "memory.reclaim"; is_readable = false; is_writable = true }
 
 -- the bytes of a file's name
-abbrev pub name_of : File → List ℕ
-name_of file = (row_of file).name
+abbrev pub name_of_file : File → List ℕ
+name_of_file file = (row_of file).name
 
 -- the file can be read
 abbrev pub is_readable : File → Bool

@@ -65,9 +65,9 @@ pub record IsLimitText (text : List ℕ) (value : Option ℕ) : Type 0 where
   pub word_is : IsLimitWord word value
 
 -- whole pages, rounded up; 2^32 pages and more are no limit
-abbrev pub pages_of : Option ℕ → Option ℕ
-pages_of None = None
-pages_of (Some amount) =
+abbrev pub pages_covering : Option ℕ → Option ℕ
+pages_covering None = None
+pages_covering (Some amount) =
     if nat_lt (div_ceil amount page_bytes) (2 ^ 32) then Some (div_ceil amount page_bytes) else None
 
 -- no limit, or an amount of at most 2^64 - 1 bytes
@@ -80,7 +80,7 @@ pub record ReadsAs (text : List ℕ) (limit : Option ℕ) : Type 0 where
   pub value : Option ℕ
   pub grammar : IsLimitText text value
   pub in_range : IsInRange value
-  pub pages : limit ≡ pages_of value
+  pub pages : limit ≡ pages_covering value
 
 -- the text is in the grammar, and its amount is above 2^64 - 1 bytes
 abbrev pub IsTooGreat : List ℕ → Type 0

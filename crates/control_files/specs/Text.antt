@@ -8,10 +8,10 @@ abbrev pub longest_text : ℕ
 longest_text = 160
 
 -- the fields can be found from the text
-pub padded-view : (bytes : List ℕ) (len : ℕ) → IsPadded longest_text bytes len
+pub text-view : (bytes : List ℕ) (len : ℕ) → IsPadded longest_text bytes len
     → ◌≡◌ {A = Inside} (record { bytes = padded longest_text (take len bytes); len = length (take len bytes) })
     (record { bytes = bytes; len = len })
-padded-view bytes len h =
+text-view bytes len h =
     let size : length (take len bytes) ≡ len = (padded-text longest_text bytes len h).0 in
     let same : padded longest_text (take len bytes) ≡ bytes = (padded-text longest_text bytes len h).1 in
     cc

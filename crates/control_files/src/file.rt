@@ -5,7 +5,7 @@ ghost use Rattle.std.specs.List.{find};
 ghost use Rattle.std.specs.Str.{bytes_eq};
 ghost use Rattle.control_files.specs.declared.file.File.{File};
 ghost use Rattle.control_files.specs.Text.{longest_text};
-ghost use Rattle.control_files.specs.Files.{count_line, events_text, file_text, is_readable, is_writable, name_of};
+ghost use Rattle.control_files.specs.Files.{count_line, events_text, file_text, is_readable, is_writable, name_of_file};
 ghost use Rattle.group_tree.specs.Groups.{has_group};
 
 use crate::flag::write_flag;
@@ -49,7 +49,7 @@ const FILES: [File; 7] = [
 impl File {
     // The table of files: the name of each, whether it can be read, and whether it can be written.
     fn row(self) -> (&'static str, bool, bool)
-        ensures name { result.0.now ≡ name_of self }
+        ensures name { result.0.now ≡ name_of_file self }
         ensures readable { result.1 ≡ is_readable self }
         ensures writable { result.2 ≡ is_writable self }
     {
@@ -66,7 +66,7 @@ impl File {
 
     /// The name of the file in a group's folder.
     pub fn name(self) -> &'static str
-        ensures { result.now ≡ name_of self }
+        ensures { result.now ≡ name_of_file self }
     {
         self.row().0
     }
@@ -133,14 +133,14 @@ fn push_count(text: &mut ArrayText, key: &[u8], count: u64)
 
 /// The file of this name, or None if no file has it.
 pub fn file_named(name: &[u8]) -> Option<File>
-    ensures { (file : File) → (result ≡ Some file) ↔ (name.now ≡ name_of file) }
+    ensures { (file : File) → (result ≡ Some file) ↔ (name.now ≡ name_of_file file) }
 {
     first_named(&FILES, name)
 }
 
 // The first of the files that has this name.
 fn first_named(files: &[File], name: &[u8]) -> Option<File>
-    ensures { result ≡ find (λ file. bytes_eq (name_of file) name.now) files.now }
+    ensures { result ≡ find (λ file. bytes_eq (name_of_file file) name.now) files.now }
 {
     files
         .iter()

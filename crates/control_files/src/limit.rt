@@ -5,7 +5,7 @@ ghost use Rattle.std.specs.Char.{is_ascii_digit, to_ascii_uppercase};
 ghost use Rattle.std.specs.List.{position};
 ghost use Rattle.std.specs.Str.Parse.{AllDigits, digits_value};
 ghost use Rattle.control_files.specs.Files.{limit_text};
-ghost use Rattle.control_files.specs.Limit.{factor_of, IsSuffix, pages_of, IsLimitText, ReadsAmount, ReadsAs};
+ghost use Rattle.control_files.specs.Limit.{factor_of, IsSuffix, pages_covering, IsLimitText, ReadsAmount, ReadsAs};
 ghost use Rattle.control_files.specs.Limit.{IsTooGreat, IsNoAmountText, IsNoLimitText};
 ghost use Rattle.control_files.specs.Reading.{IsAmountReading, SplitsDigits};
 
@@ -65,7 +65,7 @@ pub fn one_value()
 
 // The limit of this many bytes.
 fn limit_of(amount: u64) -> Limit
-    ensures { result ≡ pages_of (Some amount) }
+    ensures { result ≡ pages_covering (Some amount) }
 {
     u32::try_from(amount.div_ceil(PAGE_BYTES)).ok()
 }

@@ -29,13 +29,13 @@ impl Model for ArrayText {
     ghost view = { λ t. take t.len t.bytes };
 
     ghost use Rattle.group_tree.specs.Text.{IsPadded, padded};
-    ghost use Rattle.control_files.specs.Text.{longest_text, padded-view};
+    ghost use Rattle.control_files.specs.Text.{longest_text, text-view};
 
     ghost invariant = { λ t. IsPadded longest_text t.bytes t.len };
 
     ghost inverse = { λ text. record { bytes = padded longest_text text; len = length text } };
 
-    ghost inverse_ok = { λ t h. padded-view t.bytes t.len h };
+    ghost inverse_ok = { λ t h. text-view t.bytes t.len h };
 }
 
 impl ArrayText {

@@ -2,11 +2,11 @@
 use Rattle.std.proofs.Common.{◌≡◌, ℕ, ◌+◌, ◌<◌, get_or, sym, ap, ◌∙◌, subst, inl, inr, arith}
 use Rattle.std.proofs.lemmas.Bool.Decides.{eqb_tells}
 use Rattle.frame_word.specs.declared.view.FrameNote.{FrameNote}
-use Rattle.frame_word.specs.Views.{note_of, changed, begun, ended, passed_out_to, took_in, passed_back_by_cpu, collected_from}
-use Rattle.frame_word.specs.Seats.{KnownTable, KnownSeat, number_of, Passes, NothingPasses, seat_with}
+use Rattle.frame_word.specs.Views.{note_of, changed, hand_overs_begun, hand_overs_ended, passed_out_to, took_in, passed_back_by_cpu, collected_from}
+use Rattle.frame_word.specs.Seats.{KnownTable, KnownSeat, seat_number, Passes, NothingPasses, seat_with}
 use Rattle.frame_word.proofs.Notes.{put_here, note_here, note_else}
 
-module _ (t : KnownTable) (zone cpu : KnownSeat) (p : ℕ) (named : number_of cpu ≡ p) (f : ℕ) (still : NothingPasses t zone cpu) where
+module _ (t : KnownTable) (zone cpu : KnownSeat) (p : ℕ) (named : seat_number cpu ≡ p) (f : ℕ) (still : NothingPasses t zone cpu) where
   -- a frame that the CPU handed passes for it
   pub handed_passes : (after : KnownSeat) → after ≡ seat_with cpu f passed_back_by_cpu → f < t.frames → Passes zone after f
   handed_passes after is inside = subst (λ (s : KnownSeat). Passes zone s f) (sym is)
@@ -16,7 +16,7 @@ module _ (t : KnownTable) (zone cpu : KnownSeat) (p : ℕ) (named : number_of cp
   -- a frame that the zone passed out to the CPU passes for it
   pub passed_out_passes : (after : KnownSeat) → after ≡ seat_with zone f (passed_out_to p) → f < t.frames → Passes after cpu f
   passed_out_passes after is inside = subst (λ (s : KnownSeat). Passes s cpu f) (sym (is ∙ ap (λ (q : ℕ). seat_with zone f (passed_out_to q)) (sym named)))
-      (let q = number_of cpu in let z = note_of zone.view f in let k = note_here zone.view f (passed_out_to q) in
+      (let q = seat_number cpu in let z = note_of zone.view f in let k = note_here zone.view f (passed_out_to q) in
       let a = ap (λ (n : FrameNote). get_or n.passed_out q 0) k ∙ put_here 0 z.passed_out q (get_or z.passed_out q 0 + 1) in
       let b = ap (λ (n : FrameNote). get_or n.collected q 0) k in let e = still f inside in omega (arith, a, b, e))
 
@@ -26,16 +26,16 @@ module _ (t : KnownTable) (zone cpu : KnownSeat) (p : ℕ) (named : number_of cp
   collected_is_still handed collected is_handed is_collected = subst (λ (s : KnownSeat
       × KnownSeat). NothingPasses t s.0 s.1) (λ i. (sym (is_collected ∙ ap (λ (q : ℕ). seat_with zone f (collected_from q)) (sym named)) i, sym is_handed i))
       (λ g inside. elim (eqb_tells f g) [
-        | inl same ↦ subst (λ (h : ℕ). begun (changed zone.view f (collected_from (number_of cpu))) (changed cpu.view f passed_back_by_cpu) h ≡ ended
-            (changed zone.view f (collected_from (number_of cpu))) (changed cpu.view f passed_back_by_cpu) h) same.1
-            (let q = number_of cpu in let z = note_of zone.view f in let k = note_here zone.view f (collected_from q) in
+        | inl same ↦ subst (λ (h : ℕ). hand_overs_begun (changed zone.view f (collected_from (seat_number cpu))) (changed cpu.view f passed_back_by_cpu) h ≡ hand_overs_ended
+            (changed zone.view f (collected_from (seat_number cpu))) (changed cpu.view f passed_back_by_cpu) h) same.1
+            (let q = seat_number cpu in let z = note_of zone.view f in let k = note_here zone.view f (collected_from q) in
             let j = note_here cpu.view f passed_back_by_cpu in
             let a = ap (λ (n : FrameNote). get_or n.collected q 0) k ∙ put_here 0 z.collected q (get_or z.collected q 0 + 1) in
             let b = ap (λ (n : FrameNote). get_or n.passed_out q 0) k in
             let c = ap (λ (n : FrameNote). n.passed_back) j in let d = ap (λ (n : FrameNote). n.taken_in) j in
             let e = still f (subst (λ (h : ℕ). h < t.frames) (sym same.1) inside) in omega (arith, a, b, c, d, e))
         | inr not ↦
-            (let q = number_of cpu in let k = note_else zone.view f g (collected_from q) (λ q. not.1 (sym q)) in
+            (let q = seat_number cpu in let k = note_else zone.view f g (collected_from q) (λ q. not.1 (sym q)) in
             let j = note_else cpu.view f g passed_back_by_cpu (λ q. not.1 (sym q)) in
             let a = ap (λ (n : FrameNote). get_or n.collected q 0) k in let b = ap (λ (n : FrameNote). get_or n.passed_out q 0) k in
             let c = ap (λ (n : FrameNote). n.passed_back) j in let d = ap (λ (n : FrameNote). n.taken_in) j in
@@ -48,15 +48,15 @@ module _ (t : KnownTable) (zone cpu : KnownSeat) (p : ℕ) (named : number_of cp
   accepted_is_still passed taken is_passed is_taken = subst (λ (s : KnownSeat
       × KnownSeat). NothingPasses t s.0 s.1) (λ i. (sym (is_passed ∙ ap (λ (q : ℕ). seat_with zone f (passed_out_to q)) (sym named)) i, sym is_taken i))
       (λ g inside. elim (eqb_tells f g) [
-        | inl same ↦ subst (λ (h : ℕ). begun (changed zone.view f (passed_out_to (number_of cpu))) (changed cpu.view f took_in) h ≡ ended
-            (changed zone.view f (passed_out_to (number_of cpu))) (changed cpu.view f took_in) h) same.1
-            (let q = number_of cpu in let z = note_of zone.view f in let k = note_here zone.view f (passed_out_to q) in let j = note_here cpu.view f took_in in
+        | inl same ↦ subst (λ (h : ℕ). hand_overs_begun (changed zone.view f (passed_out_to (seat_number cpu))) (changed cpu.view f took_in) h ≡ hand_overs_ended
+            (changed zone.view f (passed_out_to (seat_number cpu))) (changed cpu.view f took_in) h) same.1
+            (let q = seat_number cpu in let z = note_of zone.view f in let k = note_here zone.view f (passed_out_to q) in let j = note_here cpu.view f took_in in
             let a = ap (λ (n : FrameNote). get_or n.passed_out q 0) k ∙ put_here 0 z.passed_out q (get_or z.passed_out q 0 + 1) in
             let b = ap (λ (n : FrameNote). get_or n.collected q 0) k in
             let c = ap (λ (n : FrameNote). n.passed_back) j in let d = ap (λ (n : FrameNote). n.taken_in) j in
             let e = still f (subst (λ (h : ℕ). h < t.frames) (sym same.1) inside) in omega (arith, a, b, c, d, e))
         | inr not ↦
-            (let q = number_of cpu in let k = note_else zone.view f g (passed_out_to q) (λ q. not.1 (sym q)) in
+            (let q = seat_number cpu in let k = note_else zone.view f g (passed_out_to q) (λ q. not.1 (sym q)) in
             let j = note_else cpu.view f g took_in (λ q. not.1 (sym q)) in
             let a = ap (λ (n : FrameNote). get_or n.collected q 0) k in let b = ap (λ (n : FrameNote). get_or n.passed_out q 0) k in
             let c = ap (λ (n : FrameNote). n.passed_back) j in let d = ap (λ (n : FrameNote). n.taken_in) j in

@@ -4,7 +4,7 @@ use Rattle.atomic_table.specs.Seated.{TableId}
 use Rattle.frame_word.specs.declared.view.FrameNote.{FrameNote}
 use Rattle.frame_word.specs.declared.view.FrameView.{FrameView}
 use Rattle.frame_word.specs.Views.{note_of}
-use Rattle.frame_word.specs.Seats.{KnownTable, KnownSeat, number_of}
+use Rattle.frame_word.specs.Seats.{KnownTable, KnownSeat, seat_number}
 use Rattle.stock_word.specs.Stock.{KnownStockTable, KnownStockSeat}
 
 -- the table of no boot: it has no frame and no CPU
@@ -45,7 +45,7 @@ AreNoted frames list fresh back pins view = (f : ℕ)
 pub record AreItsSeats (t : KnownTable) (w : KnownStockTable) (cpu : ℕ) (seat : KnownSeat)
     (stock : KnownStockSeat) : Type 0 where
   pub frame_table : seat.table ≡ t.table
-  pub frame_number : number_of seat ≡ cpu
+  pub frame_number : seat_number seat ≡ cpu
   pub stock_table : stock.table ≡ w.table
   pub stock_number : stock.view.number ≡ cpu
   pub some_number : 1 ≤ cpu
@@ -87,7 +87,7 @@ pub record HasRoom (list fresh back pins : ℕ) : Type 0 where
 -- the part of a CPU that did nothing yet
 abbrev pub first_cpu : KnownSeat → KnownStockSeat → KnownCpu
 first_cpu seat stock = record {
-  number = number_of seat;
+  number = seat_number seat;
   list = [];
   fresh = [];
   back = [];

@@ -66,7 +66,7 @@ impl<N: BootName> Model for Cpu<N> {
 }
 
 impl<N: BootName> Cpu<N> {
-    ghost use Rattle.frame_word.specs.Seats.{number_of, first_cpu_view, IsCpuSeat};
+    ghost use Rattle.frame_word.specs.Seats.{seat_number, first_cpu_view, IsCpuSeat};
     ghost use Rattle.stock_word.specs.Stock.{IsCpuView};
     ghost use Rattle.cpu_part.specs.Cpus.{first_cpu, IsIdle};
 
@@ -78,10 +78,10 @@ impl<N: BootName> Cpu<N> {
         stock_seat: StockSeat,
     ) -> Result<Cpu<N>, AllocError>
         requires frame_seat { IsCpuSeat N.frames frame_seat
-            × (frame_seat.view ≡ first_cpu_view (number_of frame_seat)) }
+            × (frame_seat.view ≡ first_cpu_view (seat_number frame_seat)) }
         requires stock_seat { (stock_seat.table ≡ N.stocks.table) × IsCpuView N.stocks stock_seat.view
             × (stock_seat.view.fresh ≡ 0) }
-        requires same { stock_seat.view.number ≡ number_of frame_seat }
+        requires same { stock_seat.view.number ≡ seat_number frame_seat }
         ensures { IfOk result (λ c. c ≡ first_cpu frame_seat stock_seat) }
     {
         let list = VecDeque::with_capacity(alloc, MAX_LISTED)?;

@@ -1,6 +1,7 @@
 //! What a CPU prepays and pays inside a visit, together with the zone's seat at the stocks.
 ghost use Rattle.std.specs.Prelude.{◌≡◌, ◌+◌, ◌-◌, ◌<◌, ◌≤◌, ◌⊎◌, [], Some, false, length};
-ghost use Rattle.stock_word.specs.Stock.{IsZoneView, account_of, stocked, pages_of, group_of, is_held, drained_of};
+ghost use Rattle.stock_word.specs.Stock.{IsZoneView, account_of, stocked, stock_pages_of, group_of, is_held};
+ghost use Rattle.stock_word.specs.Stock.{drained_of};
 ghost use Rattle.stock_word.specs.Kinds.{zone_after_fill, after_fill, with_steps};
 ghost use Rattle.stock_word.specs.Calls.{with_view};
 ghost use Rattle.cpu_part.specs.Calls.{TakesFront};
@@ -39,7 +40,7 @@ impl<N: BootName> Cpu<N> {
     pub fn look(&mut self, tables: &Tables<N>, zone_stock: &mut StockSeat) -> Stock
         requires zone_stock { (zone_stock.old.table ≡ N.stocks.table) × IsZoneView zone_stock.old.view }
         ensures balanced { (account_of zone_stock.old.view self.old.number).book
-            ≡ pages_of result + self.old.stock_seat.view.fresh
+            ≡ stock_pages_of result + self.old.stock_seat.view.fresh
             + (account_of zone_stock.old.view self.old.number).unabsorbed }
         ensures bounded { (account_of zone_stock.old.view self.old.number).book < 65536 }
         ensures group { group_of result ≡ (account_of zone_stock.old.view self.old.number).group }

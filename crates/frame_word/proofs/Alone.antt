@@ -7,17 +7,17 @@ use Rattle.atomic_table.specs.Seated.{TableId}
 use Rattle.atomic_table.specs.declared.shared.Seat.{Seat}
 use Rattle.frame_word.specs.declared.view.FrameView.{FrameView}
 use Rattle.frame_word.specs.Views.{note_of}
-use Rattle.frame_word.specs.Kinds.{rule_of, first_of, by_one, looks, adds, puts, freezes, unfreezes}
+use Rattle.frame_word.specs.Kinds.{rule_of, first_frame_view, by_one, looks, adds, puts, freezes, unfreezes}
 use Rattle.frame_word.specs.Seats.{KnownSeat}
 use Rattle.frame_word.specs.Sitting.{SitsAlone}
 use Rattle.frame_word.proofs.ShortSteps.{looks_at, adds_at, puts_at, freezes_at, unfreezes_at}
 
 abbrev pub known : TableId → List FrameView → KnownSeat
-known id views = record { table = id; view = first_of views }
+known id views = record { table = id; view = first_frame_view views }
 
 -- a seat with one view sits alone
 pub sits : {S : Type 0} (place : Seat S (List FrameView)) (v : FrameView) (number : ℕ) → place.me ≡ (v ∷ [], []) → v.number ≡ number → SitsAlone place number
-sits place v number is numbered = record { alone = is ∙ (λ i. (first_of (sym is i).0 ∷ [], [])); numbered = ap (λ m. (first_of m.0).number) is ∙ numbered }
+sits place v number is numbered = record { alone = is ∙ (λ i. (first_frame_view (sym is i).0 ∷ [], [])); numbered = ap (λ m. (first_frame_view m.0).number) is ∙ numbered }
 
 module _ {S : Type 0} (me : Me S (List FrameView)) (v : FrameView) (alone : me ≡ (v ∷ [], [])) where
   module _ (frames cpus slots id f : ℕ) (inside : f < frames) where

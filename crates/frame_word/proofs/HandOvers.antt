@@ -10,7 +10,7 @@ use Rattle.seat_sums.specs.Totals.{total_over}
 use Rattle.seat_sums.proofs.Totals.{total_swap, total_view, total_below, total_plus}
 use Rattle.frame_word.specs.declared.view.FrameNote.{FrameNote}
 use Rattle.frame_word.specs.declared.view.FrameView.{FrameView}
-use Rattle.frame_word.specs.Views.{note_of, changed, with_visit, in_hands, lent_count, HasNone, IsHandedOverAt, begun, ended, passed_out_to, took_in}
+use Rattle.frame_word.specs.Views.{note_of, changed, with_visit, in_hands, lent_count, HasNone, IsHandedOverAt, hand_overs_begun, hand_overs_ended, passed_out_to, took_in}
 use Rattle.frame_word.specs.Views.{passed_back_by_cpu, collected_from}
 use Rattle.frame_word.specs.ReferenceRule.{mark, only, visit_index, references_in, hands_in, begun_in, ended_in, lent_in, lent_number, borrowed_in}
 use Rattle.frame_word.specs.ReferenceRule.{opened_in, HandOverRule, FrameRule, VisitRule, ReferenceRule}
@@ -158,11 +158,11 @@ module _ (frames cpus : ℕ) (seats : List (List FrameView)) (id : ℕ) (z v : F
   of_cpu : (g : FrameView → ℕ) → total_over (λ u. only q u (g u)) seats ≡ g v
   of_cpu g = alone seats id pair 1 v at refl q (rule.one_view q high) refl (λ u. only q u (g u)) (λ u n. only_else q u (g u) n) ∙ only_here q v (g v) refl
 
-  begun_here : (f : ℕ) → total_over (begun_in f q) seats ≡ begun z v f
+  begun_here : (f : ℕ) → total_over (begun_in f q) seats ≡ hand_overs_begun z v f
   begun_here f = total_plus (λ u. only 0 u (get_or (note_of u f).passed_out q 0)) (λ u. only q u (note_of u f).passed_back) seats
       ∙ (λ i. of_zone (λ u. get_or (note_of u f).passed_out q 0) i + of_cpu (λ u. (note_of u f).passed_back) i)
 
-  ended_here : (f : ℕ) → total_over (ended_in f q) seats ≡ ended z v f
+  ended_here : (f : ℕ) → total_over (ended_in f q) seats ≡ hand_overs_ended z v f
   ended_here f = total_plus (λ u. only 0 u (get_or (note_of u f).collected q 0)) (λ u. only q u (note_of u f).taken_in) seats
       ∙ (λ i. of_zone (λ u. get_or (note_of u f).collected q 0) i + of_cpu (λ u. (note_of u f).taken_in) i)
 
@@ -204,12 +204,12 @@ module _ (frames cpus : ℕ) (seats : List (List FrameView)) (id : ℕ) (z v : F
     now = (rule.each_frame f inside).one_case
 
     -- a frame that passes for the CPU has its mark
-    passing_mark : begun z v f ≡ ended z v f + 1 → word_now ≡ mark q
+    passing_mark : hand_overs_begun z v f ≡ hand_overs_ended z v f + 1 → word_now ≡ mark q
     passing_mark passes = let o = ((rule.each_frame f inside).each_cpu q low high).passing in let b = begun_here f in let e = ended_here f in
         dite (ℕ_discrete word_now (mark q)) (λ is. is) (λ not. let m = marked_else q word_now not in absurd (omega arith))
 
     -- take_in: the frame passes for the CPU and is lent to it
-    pub took_in_rule : begun z v f ≡ ended z v f + 1 → (note_of z f).lent ≡ q
+    pub took_in_rule : hand_overs_begun z v f ≡ hand_overs_ended z v f + 1 → (note_of z f).lent ≡ q
         → ReferenceRule frames cpus (set words f 0) (swapped seats id pair 1 v at refl (changed v f took_in))
     took_in_rule passes is_lent =
         let was = passing_mark passes in
@@ -284,7 +284,7 @@ module _ (frames cpus : ℕ) (seats : List (List FrameView)) (id : ℕ) (z v : F
         let most = (rule.each_frame f inside).lent_to_one in omega arith)
 
     -- collect: into the zone's hand
-    pub collected_rule : begun z v f ≡ ended z v f + 1 → ReferenceRule frames cpus (set words f 0) (swapped seats id pair 0 z at refl (changed z f
+    pub collected_rule : hand_overs_begun z v f ≡ hand_overs_ended z v f + 1 → ReferenceRule frames cpus (set words f 0) (swapped seats id pair 0 z at refl (changed z f
         (collected_from q)))
     collected_rule passes =
         let was = passing_mark passes in
@@ -330,13 +330,13 @@ module _ (frames cpus : ℕ) (seats : List (List FrameView)) (id : ℕ) (z v : F
     cpu_refs = total_view (references_in f) seats id pair 1 v at refl
 
     -- where the frame passes for the CPU, neither seat has anything of it
-    pub both_have_none : begun z v f ≡ ended z v f + 1 → HasNone z f × HasNone v f
+    pub both_have_none : hand_overs_begun z v f ≡ hand_overs_ended z v f + 1 → HasNone z f × HasNone v f
     both_have_none passes = let was = passing_mark passes in let a = zone_refs in let b = cpu_refs in let both = hands_both f in
         let c = case_passing cpus word_now refs_now hands_now (omega arith) now in let c2 = c.2 in let c3 = c.3 in
         ((omega arith, omega arith), (omega arith, omega arith))
 
     -- and it is lent to no one, or to the CPU
-    pub lent_near : begun z v f ≡ ended z v f + 1 → ((note_of z f).lent ≡ 0) ⊎ ((note_of z f).lent ≡ q)
+    pub lent_near : hand_overs_begun z v f ≡ hand_overs_ended z v f + 1 → ((note_of z f).lent ≡ 0) ⊎ ((note_of z f).lent ≡ q)
     lent_near passes = let was = passing_mark passes in let l : ℕ = (note_of z f).lent in
         let c = case_passing cpus word_now refs_now hands_now (omega arith) now in let c3 = c.3 in
         let most = (rule.each_frame f inside).lent_to_one in let all = number_here f in
@@ -376,7 +376,7 @@ module _ (frames cpus : ℕ) (seats : List (List FrameView)) (id : ℕ) (z v : F
               (λ other. own_not_lent frames cpus words seats rule f inside z z of_first of_first zone (omega arith));
         }
 
-  pub no_mark_where : (f : ℕ) → f < frames → begun z v f ≡ ended z v f → get_or words f 0 ≢ mark q
+  pub no_mark_where : (f : ℕ) → f < frames → hand_overs_begun z v f ≡ hand_overs_ended z v f → get_or words f 0 ≢ mark q
   no_mark_where f inside same is = let o = ((rule.each_frame f inside).each_cpu q low high).passing in let m = marked_here q (get_or words f 0) is in
       let b = begun_here f in let e = ended_here f in absurd (omega arith)
 

@@ -5,7 +5,7 @@ use lib.ListN.{get_elem?}
 use Rattle.frame_word.specs.declared.view.FrameNote.{FrameNote}
 use Rattle.frame_word.specs.declared.view.FrameView.{FrameView}
 use Rattle.frame_word.specs.Views.{put_at, blank, note_of, changed, lent_count}
-use Rattle.frame_word.specs.ReferenceRule.{mark, only, marked}
+use Rattle.frame_word.specs.ReferenceRule.{mark, only, mark_count}
 
 module _ {A : Type 0} (d : A) where
   pub put_here : (xs : List A) (i : ℕ) (x : A) → get_or (put_at d xs i x) i d ≡ x
@@ -47,10 +47,10 @@ only_here k v n is = subst (λ b. cond b n 0 ≡ n) (sym (eq-eqb v.number k is))
 pub only_else : (k : ℕ) (v : FrameView) (n : ℕ) → v.number ≢ k → only k v n ≡ 0
 only_else k v n not = subst (λ b. cond b n 0 ≡ 0) (sym (ne_eqb v.number k not)) refl
 
-pub marked_here : (p word : ℕ) → word ≡ mark p → marked p word ≡ 1
+pub marked_here : (p word : ℕ) → word ≡ mark p → mark_count p word ≡ 1
 marked_here p word is = subst (λ b. ◌≡◌ {A = ℕ} (cond b 1 0) 1) (sym (eq-eqb word (mark p) is)) refl
 
-pub marked_else : (p word : ℕ) → word ≢ mark p → marked p word ≡ 0
+pub marked_else : (p word : ℕ) → word ≢ mark p → mark_count p word ≡ 0
 marked_else p word not = subst (λ b. ◌≡◌ {A = ℕ} (cond b 1 0) 0) (sym (ne_eqb word (mark p) not)) refl
 
 pub lent_yes : (k : FrameNote) (p : ℕ) → k.lent ≡ p → lent_count k p ≡ 1

@@ -12,7 +12,7 @@ use Rattle.seat_sums.proofs.Totals.{total_swap, total_view}
 use Rattle.frame_word.specs.declared.view.FrameNote.{FrameNote}
 use Rattle.frame_word.specs.declared.view.FrameView.{FrameView}
 use Rattle.frame_word.specs.Views.{note_of, changed, in_hands, lent_count, looked, held, raced, put_left, put_last, frozen, missed, unfrozen}
-use Rattle.frame_word.specs.ReferenceRule.{most_references, mark, marked, only, visit_index, references_in, hands_in, begun_in, ended_in, lent_in}
+use Rattle.frame_word.specs.ReferenceRule.{most_references, mark, mark_count, only, visit_index, references_in, hands_in, begun_in, ended_in, lent_in}
 use Rattle.frame_word.specs.ReferenceRule.{lent_number, borrowed_in, ReferenceRule}
 use Rattle.frame_word.specs.Kinds.{rule_of, by_one, looks, adds, puts, freezes, unfreezes}
 use Rattle.frame_word.proofs.Notes.{note_here, marked_else}
@@ -54,7 +54,7 @@ module _ (frames cpus : ℕ) (seats : List (List FrameView)) (id : ℕ) (v : Fra
       dite (ℕ_discrete (get_or words (visit_index frames p) 0) 0) (λ z. absurd (h.shut z f inside is)) (λ n. omega arith)
 
   pub short_step : (change : FrameNote → FrameNote) (word : ℕ) → hand_overs (change note) ≡ hand_overs note
-      → ((p : ℕ) → 1 ≤ p → marked p word ≡ marked p found)
+      → ((p : ℕ) → 1 ≤ p → mark_count p word ≡ mark_count p found)
       → ((p : ℕ) → 1 ≤ p → p ≤ cpus → word ≡ mark p → get_or words (visit_index frames p) 0 ≡ 1)
       → ((r h : ℕ) → r + note.references ≡ refs + (change note).references → h + in_hands note ≡ hands + in_hands (change note) → OneCase cpus word r h)
       → ReferenceRule frames cpus (set words f word) (swapped seats id (v ∷ []) 0 v at refl (changed v f change))
@@ -82,7 +82,7 @@ module _ (frames cpus : ℕ) (seats : List (List FrameView)) (id : ℕ) (v : Fra
       }
 
   -- two words that are no marks
-  pub no_marks : (word : ℕ) → word ≤ 255 → found ≤ 255 → (p : ℕ) → 1 ≤ p → marked p word ≡ marked p found
+  pub no_marks : (word : ℕ) → word ≤ 255 → found ≤ 255 → (p : ℕ) → 1 ≤ p → mark_count p word ≡ mark_count p found
   no_marks word a b p low = marked_else p word (λ e. omega arith) ∙ sym (marked_else p found (λ e. omega arith))
 
   pub no_opens : (word : ℕ) → word ≤ 255 → (p : ℕ) → 1 ≤ p → p ≤ cpus → word ≡ mark p → get_or words (visit_index frames p) 0 ≡ 1

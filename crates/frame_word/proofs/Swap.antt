@@ -10,7 +10,7 @@ use Rattle.seat_sums.proofs.Totals.{total_swap, total_absent}
 use Rattle.frame_word.specs.declared.view.FrameNote.{FrameNote}
 use Rattle.frame_word.specs.declared.view.FrameView.{FrameView}
 use Rattle.frame_word.specs.Views.{changed, in_hands, lent_count}
-use Rattle.frame_word.specs.ReferenceRule.{mark, marked, only, visit_index, references_in, hands_in, begun_in, ended_in, lent_in, lent_number}
+use Rattle.frame_word.specs.ReferenceRule.{mark, mark_count, only, visit_index, references_in, hands_in, begun_in, ended_in, lent_in, lent_number}
 use Rattle.frame_word.specs.ReferenceRule.{borrowed_in, opened_in, IsReferenced, IsInOneHand, IsPassing, FrameRule, ReferenceRule}
 use Rattle.frame_word.proofs.Notes.{note_else, only_here, only_else}
 
@@ -28,7 +28,7 @@ module _ (cpus : ℕ) (a b : List (List FrameView)) (f word : ℕ) where
     one_case = subst (λ (r : ℕ). OneCase cpus word r (total_over (hands_in f) b)) (sym refs) (subst
         (λ (h : ℕ). OneCase cpus word (total_over (references_in f) a) h) (sym hands) rule.one_case);
     each_cpu = λ p low high. let o = others p in let h = rule.each_cpu p low high in record {
-      passing = o.0 ∙ h.passing ∙ ap (λ (n : ℕ). n + marked p word) (sym o.1);
+      passing = o.0 ∙ h.passing ∙ ap (λ (n : ℕ). n + mark_count p word) (sym o.1);
       borrowed_is_lent = (let o2 = o.2 in let o3 = o.3 in let h1 = h.borrowed_is_lent in omega arith);
       lent_is_near = (let o2 = o.2 in let o3 = o.3 in let h2 = h.lent_is_near in omega arith);
     };

@@ -26,13 +26,13 @@ but_first [] = []
 but_first (v ∷ vs) = vs
 
 -- the first of a seat's views; if it has none, a view of number 0 without notes
-abbrev pub first_of : List FrameView → FrameView
-first_of [] = first_cpu_view 0
-first_of (v ∷ vs) = v
+abbrev pub first_frame_view : List FrameView → FrameView
+first_frame_view [] = first_cpu_view 0
+first_frame_view (v ∷ vs) = v
 
 -- the second of a joined seat's views
-abbrev pub second_of : List FrameView → FrameView
-second_of views = first_of (but_first views)
+abbrev pub second_frame_view : List FrameView → FrameView
+second_frame_view views = first_frame_view (but_first views)
 
 -- ---- the kinds of a seat that isn't joined: of its view before, the frame, the number asked for or stored, the word
 -- ---- found, and its view after
@@ -70,8 +70,8 @@ unfreezes v f n stored w = (w ≡ changed v f (unfrozen n)) × ((note_of v f).re
 
 -- A pass by the zone's seat: the frame leaves its hand and is lent to the CPU whose mark is stored. It was lent to no
 -- CPU before, and the seat had no reference on it.
-abbrev pub passes_out : FrameView → ℕ → ℕ → ℕ → FrameView → Type 0
-passes_out v f mark stored w = (w ≡ changed v f (passed_out_to (mark - mark_base))) × ((note_of v f).references ≡ 0)
+abbrev pub stores_pass_out : FrameView → ℕ → ℕ → ℕ → FrameView → Type 0
+stores_pass_out v f mark stored w = (w ≡ changed v f (passed_out_to (mark - mark_base))) × ((note_of v f).references ≡ 0)
     × (in_hands (note_of v f) ≡ 1)
     × ((note_of v f).lent ≡ 0)
 
@@ -83,8 +83,8 @@ takes_in z v f stored z' v' = (z' ≡ z) × (v' ≡ changed v f took_in) × HasN
 
 -- A pass by a CPU: the frame leaves its hand. The zone's seat had nothing of the frame. It had lent the frame to no
 -- CPU, if the CPU owned it, or to this CPU, if the CPU had borrowed it.
-abbrev pub passes_back : FrameView → FrameView → ℕ → ℕ → FrameView → FrameView → Type 0
-passes_back z v f stored z' v' =
+abbrev pub stores_pass_back : FrameView → FrameView → ℕ → ℕ → FrameView → FrameView → Type 0
+stores_pass_back z v f stored z' v' =
     (z' ≡ z) × (v' ≡ changed v f passed_back_by_cpu) × HasNone z f × ((note_of v f).references ≡ 0)
     × ((note_of v f).own ≡ 1 → (note_of z f).lent ≡ 0) × ((note_of v f).borrowed ≡ 1 → (note_of z f).lent ≡ v.number)
 
@@ -96,8 +96,8 @@ collects z v f stored z' v' = (z' ≡ changed z f (collected_from v.number)) × 
 
 -- open_visit stores 1 and shut_visit 0, and the zone's seat notes it. At either, the CPU is settled with the zone at
 -- each frame. The CPU's visit word is the one at `word`, after those of the frames.
-abbrev pub visits : FrameView → FrameView → ℕ → ℕ → FrameView → FrameView → Type 0
-visits z v word state z' v' = (z' ≡ with_visit z v.number state) × (v' ≡ v)
+abbrev pub stores_visit : FrameView → FrameView → ℕ → ℕ → FrameView → FrameView → Type 0
+stores_visit z v word state z' v' = (z' ≡ with_visit z v.number state) × (v' ≡ v)
     × ((f : ℕ) → f + (v.number - 1) < word → IsHandedOverAt z v f)
 
 module _ {S : Type 0} where
@@ -106,16 +106,16 @@ module _ {S : Type 0} where
   rule_of frames cpus s = ReferenceRule frames cpus s.words s.views
 
   -- the final words (and slots) of a table under the rule, at which the seat `id` has these views
-  abbrev pub EndsWith : ℕ → ℕ → ℕ → List FrameView → List ℕ → List S → Type 0
-  EndsWith frames cpus id views words slots = Final (Seen (rule_of frames cpus) id views) words slots
+  abbrev pub AreFinalFrameWords : ℕ → ℕ → ℕ → List FrameView → List ℕ → List S → Type 0
+  AreFinalFrameWords frames cpus id views words slots = Final (Seen (rule_of frames cpus) id views) words slots
 
   -- a step of this kind by a seat that has only its own view
   abbrev pub by_one : (FrameView → ℕ → ℕ → ℕ → FrameView → Type 0) → Step S → Me S (List FrameView) → ℕ
       → Me S (List FrameView) → Type 0
-  by_one kind st m found m' = (w : FrameView) × (m' ≡ (w ∷ [], [])) × kind (first_of m.0) st.word st.first found w
+  by_one kind st m found m' = (w : FrameView) × (m' ≡ (w ∷ [], [])) × kind (first_frame_view m.0) st.word st.first found w
 
   -- a step of this kind by the zone's seat joined with a CPU's
   abbrev pub by_two : (FrameView → FrameView → ℕ → ℕ → FrameView → FrameView → Type 0) → Step S → Me S (List FrameView)
       → ℕ → Me S (List FrameView) → Type 0
   by_two kind st m found m' = (z : FrameView) × (v : FrameView) × (m' ≡ (z ∷ v ∷ [], []))
-      × kind (first_of m.0) (second_of m.0) st.word st.first z v
+      × kind (first_frame_view m.0) (second_frame_view m.0) st.word st.first z v

@@ -27,8 +27,8 @@ abbrev pub only : ℕ → FrameView → ℕ → ℕ
 only k v n = cond (v.number == k) n 0
 
 -- 1 if the word is the mark of the CPU, else 0
-abbrev pub marked : ℕ → ℕ → ℕ
-marked cpu word = cond (word == mark cpu) 1 0
+abbrev pub mark_count : ℕ → ℕ → ℕ
+mark_count cpu word = cond (word == mark cpu) 1 0
 
 -- what one view counts of the frame f, and of its hand-overs between the zone and the CPU
 module _ (f : ℕ) where
@@ -80,9 +80,9 @@ IsPassing cpus word references hands = (mark 1 ≤ word) × (word ≤ mark cpus)
 -- A frame and a CPU: a hand-over has begun and not ended exactly if the word is the CPU's mark. What the CPU has
 -- borrowed is lent to it. What else is lent to it has the CPU's mark.
 pub record HandOverRule (seats : List (List FrameView)) (f word cpu : ℕ) : Type 0 where
-  pub passing : total_over (begun_in f cpu) seats ≡ total_over (ended_in f cpu) seats + marked cpu word
+  pub passing : total_over (begun_in f cpu) seats ≡ total_over (ended_in f cpu) seats + mark_count cpu word
   pub borrowed_is_lent : total_over (borrowed_in f cpu) seats ≤ total_over (lent_in f cpu) seats
-  pub lent_is_near : total_over (lent_in f cpu) seats ≤ total_over (borrowed_in f cpu) seats + marked cpu word
+  pub lent_is_near : total_over (lent_in f cpu) seats ≤ total_over (borrowed_in f cpu) seats + mark_count cpu word
 
 -- a frame has references, is in one hand or is in transit, and its hand-overs with each CPU keep their rule
 pub record FrameRule (cpus : ℕ) (seats : List (List FrameView)) (f word : ℕ) : Type 0 where

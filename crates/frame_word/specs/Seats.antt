@@ -8,7 +8,8 @@ use Rattle.frame_word.specs.declared.answers.Get.{Get}
 use Rattle.frame_word.specs.declared.answers.Get.TheVariants.{Held, Zero, Raced, Full}
 use Rattle.frame_word.specs.declared.answers.Put.{Put}
 use Rattle.frame_word.specs.declared.answers.Put.TheVariants.{Left, Last}
-use Rattle.frame_word.specs.Views.{blank, note_of, changed, with_visit, in_hands, begun, ended, looked, held, raced}
+use Rattle.frame_word.specs.Views.{blank, note_of, changed, with_visit, in_hands, hand_overs_begun, hand_overs_ended}
+use Rattle.frame_word.specs.Views.{looked, held, raced}
 use Rattle.frame_word.specs.Views.{put_left, put_last, frozen, missed, HasNone}
 use Rattle.frame_word.specs.ReferenceRule.{most_references, mark_base}
 
@@ -30,8 +31,8 @@ pub record KnownWords : Type 0 where
   pub cpus : ℕ
 
 -- the seat's number: 0 for the zone's, else the CPU's
-abbrev pub number_of : KnownSeat → ℕ
-number_of s = s.view.number
+abbrev pub seat_number : KnownSeat → ℕ
+seat_number s = s.view.number
 
 -- the references that the seat has on the frame
 abbrev pub seat_references : KnownSeat → ℕ → ℕ
@@ -79,16 +80,16 @@ IsShut zone cpu = slice_index zone.view.opened cpu ≡ 0
 
 -- the frame is in transit to or from the CPU: one hand-over has begun and not ended
 abbrev pub Passes : KnownSeat → KnownSeat → ℕ → Type 0
-Passes zone cpu f = begun zone.view cpu.view f ≡ ended zone.view cpu.view f + 1
+Passes zone cpu f = hand_overs_begun zone.view cpu.view f ≡ hand_overs_ended zone.view cpu.view f + 1
 
 -- no frame is in transit to or from the CPU: each hand-over that began has ended
 abbrev pub NothingPasses : KnownTable → KnownSeat → KnownSeat → Type 0
-NothingPasses t zone cpu = (f : ℕ) → f < t.frames → begun zone.view cpu.view f ≡ ended zone.view cpu.view f
+NothingPasses t zone cpu = (f : ℕ) → f < t.frames → hand_overs_begun zone.view cpu.view f ≡ hand_overs_ended zone.view cpu.view f
 
 -- a frame is lent to the CPU exactly if the CPU has borrowed it
 abbrev pub LentIsBorrowed : KnownTable → KnownSeat → KnownSeat → Type 0
 LentIsBorrowed t zone cpu = (f : ℕ) → f < t.frames
-    → (IsLent zone f (number_of cpu) → IsBorrowed cpu f) × (IsBorrowed cpu f → IsLent zone f (number_of cpu))
+    → (IsLent zone f (seat_number cpu) → IsBorrowed cpu f) × (IsBorrowed cpu f → IsLent zone f (seat_number cpu))
 
 -- Each frame is in the hand of at most one of the two seats. On such a frame neither has a reference, and if one of
 -- them owns it, it is lent to no CPU.
@@ -100,11 +101,11 @@ HandsAreApart t zone cpu = (f : ℕ) → f < t.frames → (in_hands (note_of zon
 
 -- the seat is the zone's, at this table
 abbrev pub IsZoneSeat : KnownTable → KnownSeat → Type 0
-IsZoneSeat t s = (s.table ≡ t.table) × (number_of s ≡ 0)
+IsZoneSeat t s = (s.table ≡ t.table) × (seat_number s ≡ 0)
 
 -- the seat is that of one of this table's CPUs
 abbrev pub IsCpuSeat : KnownTable → KnownSeat → Type 0
-IsCpuSeat t s = (s.table ≡ t.table) × (1 ≤ number_of s) × (number_of s ≤ t.cpus)
+IsCpuSeat t s = (s.table ≡ t.table) × (1 ≤ seat_number s) × (seat_number s ≤ t.cpus)
 
 -- the seat with its note of the frame changed
 abbrev pub seat_with : KnownSeat → ℕ → (FrameNote → FrameNote) → KnownSeat
@@ -164,7 +165,7 @@ first_cpu_seats id cpu (suc n) = record { table = id; view = first_cpu_view cpu 
 -- these are seats at the table, with the numbers from this one on
 abbrev pub AreCpuSeats : KnownTable → ℕ → List KnownSeat → Type 0
 AreCpuSeats t cpu [] = Unit {0}
-AreCpuSeats t cpu (s ∷ rest) = (s.table ≡ t.table) × (number_of s ≡ cpu) × AreCpuSeats t (cpu + 1) rest
+AreCpuSeats t cpu (s ∷ rest) = (s.table ≡ t.table) × (seat_number s ≡ cpu) × AreCpuSeats t (cpu + 1) rest
 
 -- these are seats at the table
 abbrev pub AreSeatsAt : TableId → List KnownSeat → Type 0

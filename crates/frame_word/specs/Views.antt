@@ -48,12 +48,12 @@ abbrev pub in_hands : FrameNote → ℕ
 in_hands k = k.own + k.borrowed
 
 -- the hand-overs of the frame between the zone and this CPU that one of the two seats began
-abbrev pub begun : FrameView → FrameView → ℕ → ℕ
-begun zone cpu f = slice_index (note_of zone f).passed_out cpu.number + (note_of cpu f).passed_back
+abbrev pub hand_overs_begun : FrameView → FrameView → ℕ → ℕ
+hand_overs_begun zone cpu f = slice_index (note_of zone f).passed_out cpu.number + (note_of cpu f).passed_back
 
 -- the hand-overs of the frame between the zone and this CPU that one of the two seats ended
-abbrev pub ended : FrameView → FrameView → ℕ → ℕ
-ended zone cpu f = slice_index (note_of zone f).collected cpu.number + (note_of cpu f).taken_in
+abbrev pub hand_overs_ended : FrameView → FrameView → ℕ → ℕ
+hand_overs_ended zone cpu f = slice_index (note_of zone f).collected cpu.number + (note_of cpu f).taken_in
 
 -- the view has no reference on the frame and has it in no hand
 abbrev pub HasNone : FrameView → ℕ → Type 0
@@ -63,7 +63,7 @@ HasNone v f = ((note_of v f).references ≡ 0) × (in_hands (note_of v f) ≡ 0)
 -- if the CPU has borrowed it. If one of the two has it in a hand, the other hasn't, and neither has a reference on it.
 -- If one of the two owns it, it is lent to no CPU.
 pub record IsHandedOverAt (zone cpu : FrameView) (f : ℕ) : Type 0 where
-  pub still : begun zone cpu f ≡ ended zone cpu f
+  pub still : hand_overs_begun zone cpu f ≡ hand_overs_ended zone cpu f
   pub lent_is_borrowed : (note_of zone f).lent ≡ cpu.number → (note_of cpu f).borrowed ≡ 1
   pub borrowed_is_lent : (note_of cpu f).borrowed ≡ 1 → (note_of zone f).lent ≡ cpu.number
   pub one_hand : in_hands (note_of zone f) + in_hands (note_of cpu f) ≤ 1

@@ -10,10 +10,12 @@ ghost use Rattle.std.specs.Prelude.{◌≡◌, ◌⊎◌, ◌<◌, ◌≤◌, �
 ghost use Rattle.std.specs.Mem.Slots.{slots_items, slots_len, IsFull};
 ghost use Rattle.frame_word.specs.ReferenceRule.{most_references, visit_index, ReferenceRule};
 ghost use Rattle.frame_word.specs.Views.{note_of, unfrozen, passed_out_to, took_in, passed_back_by_cpu, collected_from};
-ghost use Rattle.frame_word.specs.Kinds.{first_views, first_alone, but_first, rule_of, EndsWith, by_one, by_two, looks};
-ghost use Rattle.frame_word.specs.Kinds.{adds, puts, freezes, unfreezes, passes_out, takes_in, passes_back, collects};
-ghost use Rattle.frame_word.specs.Kinds.{visits};
-ghost use Rattle.frame_word.specs.Seats.{number_of, seat_references, IsInOwnHand, IsInHand, IsBorrowed, HasNothingOf};
+ghost use Rattle.frame_word.specs.Kinds.{first_views, first_alone, but_first, rule_of, AreFinalFrameWords, by_one};
+ghost use Rattle.frame_word.specs.Kinds.{by_two, looks};
+ghost use Rattle.frame_word.specs.Kinds.{adds, puts, freezes, unfreezes, stores_pass_out, takes_in, stores_pass_back};
+ghost use Rattle.frame_word.specs.Kinds.{collects};
+ghost use Rattle.frame_word.specs.Kinds.{stores_visit};
+ghost use Rattle.frame_word.specs.Seats.{seat_number, seat_references, IsInOwnHand, IsInHand, IsBorrowed, HasNothingOf};
 ghost use Rattle.frame_word.specs.Seats.{IsLent};
 ghost use Rattle.frame_word.specs.Seats.{IsLentToNone, IsOpen, IsShut, Passes, NothingPasses, LentIsBorrowed};
 ghost use Rattle.frame_word.specs.Seats.{HandsAreApart, IsZoneSeat, IsCpuSeat, seat_with, seat_with_visit};
@@ -93,7 +95,7 @@ impl Play<(), [FrameView; 0]> for Unfreeze {
 pub(crate) struct PassOut;
 
 impl Play<(), [FrameView; 0]> for PassOut {
-    ghost then = { by_one passes_out };
+    ghost then = { by_one stores_pass_out };
 }
 
 pub(crate) struct TakeIn;
@@ -105,7 +107,7 @@ impl Play<(), [FrameView; 0]> for TakeIn {
 pub(crate) struct PassBack;
 
 impl Play<(), [FrameView; 0]> for PassBack {
-    ghost then = { by_two passes_back };
+    ghost then = { by_two stores_pass_back };
 }
 
 pub(crate) struct Collect;
@@ -117,7 +119,7 @@ impl Play<(), [FrameView; 0]> for Collect {
 pub(crate) struct Visit;
 
 impl Play<(), [FrameView; 0]> for Visit {
-    ghost then = { by_two visits };
+    ghost then = { by_two stores_visit };
 }
 
 /// Splits off all of a seat's views except the first.
@@ -190,7 +192,7 @@ impl Board {
             × (slots_len result.slots ≡ self.table.shared.table_id.slots) }
         ensures full { IsFull result.words }
         ensures rule { let key = self.table.shared.key in
-            EndsWith key.frames key.cpus raw.seat.id raw.seat.me.0 (slots_items result.words)
+            AreFinalFrameWords key.frames key.cpus raw.seat.id raw.seat.me.0 (slots_items result.words)
             (slots_items result.slots) }
     {
         let Board { table } = self;
@@ -261,7 +263,7 @@ impl FrameWords {
         ensures seat { seat.new ≡ seat_with seat.old frame (unfrozen count) }
         ensures no_reference { seat_references seat.old frame ≡ 0 }
         ensures one_hand { IsInHand seat.old frame }
-        ensures not_lent { number_of seat.old ≡ 0 → IsLentToNone seat.old frame }
+        ensures not_lent { seat_number seat.old ≡ 0 → IsLentToNone seat.old frame }
     {
         let shared = &self.board.table.shared;
         shared.store::<Unfreeze>(&mut seat.raw.seat, frame.word_index(), count);
@@ -295,7 +297,7 @@ impl FrameWords {
         requires cpu { IsCpuSeat self.now cpu.old }
         requires frame { frame < self.now.frames }
         requires passes { Passes zone.old cpu.old frame }
-        requires lent { IsLent zone.old frame (number_of cpu.old) }
+        requires lent { IsLent zone.old frame (seat_number cpu.old) }
         ensures cpu { cpu.new ≡ seat_with cpu.old frame took_in }
         ensures zone { zone.new ≡ zone.old }
         ensures nothing { HasNothingOf zone.old frame × HasNothingOf cpu.old frame }
@@ -314,14 +316,14 @@ impl FrameWords {
         requires zone { IsZoneSeat self.now zone.old }
         requires cpu { IsCpuSeat self.now cpu.old }
         requires frame { frame < self.now.frames }
-        requires open { IsOpen zone.old (number_of cpu.old) }
+        requires open { IsOpen zone.old (seat_number cpu.old) }
         requires hand { IsInHand cpu.old frame }
         ensures cpu { cpu.new ≡ seat_with cpu.old frame passed_back_by_cpu }
         ensures zone { zone.new ≡ zone.old }
         ensures nothing { HasNothingOf zone.old frame }
         ensures no_reference { seat_references cpu.old frame ≡ 0 }
         ensures own { IsInOwnHand cpu.old frame → IsLentToNone zone.old frame }
-        ensures borrowed { IsBorrowed cpu.old frame → IsLent zone.old frame (number_of cpu.old) }
+        ensures borrowed { IsBorrowed cpu.old frame → IsLent zone.old frame (seat_number cpu.old) }
     {
         let shared = &self.board.table.shared;
         let word = frame.word_index();
@@ -338,10 +340,10 @@ impl FrameWords {
         requires cpu { IsCpuSeat self.now cpu.old }
         requires frame { frame < self.now.frames }
         requires passes { Passes zone.old cpu.old frame }
-        ensures zone { zone.new ≡ seat_with zone.old frame (collected_from (number_of cpu.old)) }
+        ensures zone { zone.new ≡ seat_with zone.old frame (collected_from (seat_number cpu.old)) }
         ensures cpu { cpu.new ≡ cpu.old }
         ensures nothing { HasNothingOf zone.old frame × HasNothingOf cpu.old frame }
-        ensures lent { IsLentToNone zone.old frame ⊎ IsLent zone.old frame (number_of cpu.old) }
+        ensures lent { IsLentToNone zone.old frame ⊎ IsLent zone.old frame (seat_number cpu.old) }
     {
         let shared = &self.board.table.shared;
         let word = frame.word_index();
@@ -366,8 +368,8 @@ impl FrameWords {
     pub fn open_visit(&self, zone: &mut FrameSeat, cpu: &mut FrameSeat)
         requires zone { IsZoneSeat self.now zone.old }
         requires cpu { IsCpuSeat self.now cpu.old }
-        requires shut { IsShut zone.old (number_of cpu.old) }
-        ensures zone { zone.new ≡ seat_with_visit zone.old (number_of cpu.old) 1 }
+        requires shut { IsShut zone.old (seat_number cpu.old) }
+        ensures zone { zone.new ≡ seat_with_visit zone.old (seat_number cpu.old) 1 }
         ensures cpu { cpu.new ≡ cpu.old }
         ensures nothing_passes { NothingPasses self.now zone.new cpu.new }
         ensures lent_is_borrowed { LentIsBorrowed self.now zone.new cpu.new }
@@ -385,9 +387,9 @@ impl FrameWords {
     pub fn shut_visit(&self, zone: &mut FrameSeat, cpu: &mut FrameSeat)
         requires zone { IsZoneSeat self.now zone.old }
         requires cpu { IsCpuSeat self.now cpu.old }
-        requires open { IsOpen zone.old (number_of cpu.old) }
+        requires open { IsOpen zone.old (seat_number cpu.old) }
         requires nothing_passes { NothingPasses self.now zone.old cpu.old }
-        ensures zone { zone.new ≡ seat_with_visit zone.old (number_of cpu.old) 0 }
+        ensures zone { zone.new ≡ seat_with_visit zone.old (seat_number cpu.old) 0 }
         ensures cpu { cpu.new ≡ cpu.old }
         ensures nothing_passes { NothingPasses self.now zone.new cpu.new }
         ensures lent_is_borrowed { LentIsBorrowed self.now zone.new cpu.new }

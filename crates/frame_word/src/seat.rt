@@ -15,21 +15,21 @@ impl Model for FrameSeat {
 
     ghost Value = { KnownSeat };
 
-    ghost use Rattle.frame_word.specs.Kinds.{first_of};
+    ghost use Rattle.frame_word.specs.Kinds.{first_frame_view};
     ghost use Rattle.frame_word.specs.Sitting.{SitsAlone};
 
-    ghost view = { λ s. record { table = s.raw.seat.table_id; view = first_of s.raw.seat.me.0 } };
+    ghost view = { λ s. record { table = s.raw.seat.table_id; view = first_frame_view s.raw.seat.me.0 } };
 
     ghost invariant = { λ s. SitsAlone s.raw.seat s.number };
 }
 
 impl FrameSeat {
     ghost use Rattle.std.specs.Prelude.{◌≡◌};
-    ghost use Rattle.frame_word.specs.Seats.{number_of};
+    ghost use Rattle.frame_word.specs.Seats.{seat_number};
 
     /// The seat's number: 0 for the zone's, else the CPU's.
     pub fn number(&self) -> u32
-        ensures { result ≡ number_of self.now }
+        ensures { result ≡ seat_number self.now }
     {
         self.number
     }

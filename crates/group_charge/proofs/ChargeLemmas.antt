@@ -17,7 +17,7 @@ use Rattle.group_tree.specs.Groups.{the_root, new_row, IsLeastFreeNumber, has_gr
 use Rattle.group_tree.proofs.GroupLemmas.{CanMake, has_group-any, has_group-contains, length-full, AreGroups-initial, AreGroups-with}
 use Rattle.group_tree.proofs.GroupLemmas.{AreGroups-without, AreGroups-limited, AreGroups-flagged, limited-number, flagged-number}
 use Rattle.group_tree.proofs.CallerLemmas.{in_subtree-flagged, in_subtree-limited, in_subtree-root}
-use Rattle.group_charge.specs.Charges.{Account, Ledger, AreCharges, UsageRises, account_at, pages_of, current_of, usage_of, total_pages, added, taken}
+use Rattle.group_charge.specs.Charges.{Account, Ledger, AreCharges, UsageRises, account_at, pages_of, current_of, usage_charged, total_pages, added, taken}
 use Rattle.group_charge.specs.Charges.{peaked, with_event_at, charged, empty_account, initial_ledger, with_charge, with_uncharge, with_new_group}
 use Rattle.group_charge.specs.Charges.{with_group_removed, with_group_limit, with_oom_flag}
 use Rattle.group_charge.proofs.SumLemmas.{AreDistinct, share, total-added, total-taken, usage-le-total, added-group, taken-group, peaked-group}
@@ -81,7 +81,7 @@ pages-there l g n facts h = λ k d lt same.
 
 -- ---- the root's usage is all that is charged
 pub root_usage : (l : Ledger) → AreCharges l → current_of l 0 ≡ total_pages l.accounts
-unfolding usage_of
+unfolding usage_charged
 root_usage l facts =
     sum-same (share l.groups 0) (λ a. a.pages) l.accounts
     (λ k d lt. let a = get_or l.accounts k d in
@@ -133,9 +133,9 @@ total-filter p (x ∷ xs) =
 -- peaks cover usage at first
 initial_peaks : PeaksCover (the_root ∷ []) (empty_account 0 ∷ [])
 initial_peaks =
-    All-cons (λ (a : Account). usage_of (the_root ∷ []) (empty_account 0 ∷ []) a.group ≤ a.peak) (empty_account 0) []
+    All-cons (λ (a : Account). usage_charged (the_root ∷ []) (empty_account 0 ∷ []) a.group ≤ a.peak) (empty_account 0) []
     (usage-le-total (the_root ∷ []) (empty_account 0 ∷ []) 0)
-    (All-nil (λ (a : Account). usage_of (the_root ∷ []) (empty_account 0 ∷ []) a.group ≤ a.peak))
+    (All-nil (λ (a : Account). usage_charged (the_root ∷ []) (empty_account 0 ∷ []) a.group ≤ a.peak))
 
 -- the facts hold at first
 pub AreCharges-initial : AreCharges initial_ledger
@@ -233,4 +233,4 @@ charge_rises l g n facts there = λ m.
 pub uncharge_falls : (l : Ledger) (g n : ℕ) → AreCharges l → IsTrue (has_group l.groups g) → n ≤ pages_of l g → UsageRises (with_uncharge l g n) l g n
 uncharge_falls l g n facts there enough = λ m.
     sym (usage-taken l.groups l.accounts g n m (all_distinct l facts) (has_account l g facts ∙ there) (pages-there l g n facts enough))
-    ∙ part-is l.groups m g n (usage_of l.groups (map (taken g n) l.accounts) m)
+    ∙ part-is l.groups m g n (usage_charged l.groups (map (taken g n) l.accounts) m)

@@ -5,7 +5,7 @@ use Rattle.std.proofs.lemmas.List.Sums.{sum_by-set}
 use Rattle.std.proofs.lemmas.Option.{slice_get_within, get_or_from_slice_get, none-some}
 use Rattle.group_charge.specs.declared.note.Note.{Note}
 use Rattle.group_charge.specs.declared.note.Note.TheVariants.{Reclaimed}
-use Rattle.group_charge.specs.Notes.{KnownNotes, is_span, joined, last_noted, last_frame}
+use Rattle.group_charge.specs.Notes.{KnownNotes, is_span, joined_span, last_noted, last_frame}
 
 same_note : (a b : Note) → Some a ≡ Some b → a ≡ b
 same_note a b e = cc
@@ -24,7 +24,7 @@ record Spans (note : Option Note) (span : Note) : Type 0 where
   was_span : is_span old ≡ true
   is_span_still : is_span span ≡ true
 
-joined_spans : (note : Option Note) (g f k : ℕ) (span : Note) → joined note g f k ≡ Some span → Spans note span
+joined_spans : (note : Option Note) (g f k : ℕ) (span : Note) → joined_span note g f k ≡ Some span → Spans note span
 joined_spans (Some (Reclaimed owner low high)) g f k span e = record {
   old = Reclaimed owner low high;
   is = refl;
@@ -42,7 +42,7 @@ last_there false list x e = absurd (none-some x e)
 abbrev counted : Bool → ℕ
 counted b = cond b 1 0
 
-pub spans_kept : (notes : KnownNotes) (g f k : ℕ) (span : Note) → joined (last_noted notes) g f k ≡ Some span
+pub spans_kept : (notes : KnownNotes) (g f k : ℕ) (span : Note) → joined_span (last_noted notes) g f k ≡ Some span
     → count_by is_span (slice_set notes.list (length notes.list - 1) span) ≡ count_by is_span notes.list
 spans_kept notes g f k span e =
     let spans = joined_spans (last_noted notes) g f k span e in

@@ -12,7 +12,7 @@ use Rattle.group_tree.specs.Events.{with_one_more}
 use Rattle.group_tree.specs.Groups.{AreGroups, has_group, in_subtree, new_row, with_group, with_limit, with_oom_group, without_group, limited, flagged}
 use Rattle.group_tree.specs.Room.{on_path}
 use Rattle.group_tree.proofs.GroupLemmas.{has_group-contains, has_group-is, group_at-contains, limited-number, flagged-number}
-use Rattle.group_charge.specs.Charges.{Account, AreCharges, account_at, added, charged, empty_account, pages_of, peaked, taken, usage_of}
+use Rattle.group_charge.specs.Charges.{Account, AreCharges, account_at, added, charged, empty_account, pages_of, peaked, taken, usage_charged}
 use Rattle.group_charge.specs.Charges.{with_charge, with_event_at}
 use Rattle.group_charge.specs.Kept.{AccountsOnPath, AreUsages, account_by, accounts_of, ledger_of, usage_by, with_event, with_local_event, with_usage_peak}
 use Rattle.group_charge.proofs.ChargeLemmas.{account_at-there, same_groups}
@@ -83,14 +83,14 @@ kept_taken groups kept g n bear within = kept_at groups kept g (λ a. record a {
 
 -- peaks follow their usage along the path
 pub kept_peaked : (groups : List Group) (old new : List Account) (usages : List ℕ) (g : ℕ) → BearNumbers groups old →
-    AccountsOnPath groups g (with_usage_peak usages) old new → ((k : ℕ) → usage_by usages k ≡ usage_of groups (accounts_of groups old) k) →
+    AccountsOnPath groups g (with_usage_peak usages) old new → ((k : ℕ) → usage_by usages k ≡ usage_charged groups (accounts_of groups old) k) →
     accounts_of groups new ≡ map (peaked groups (accounts_of groups old) g) (accounts_of groups old)
 kept_peaked groups old new usages g bear walked sums =
     kept_mapped groups old new (peaked groups (accounts_of groups old) g)
     (λ k there.
     let a = account_by old k in
     let own = own_number groups old k bear there in
-    let usage_is : usage_by usages k ≡ usage_of groups (accounts_of groups old) a.group = sums k ∙ ap (usage_of groups (accounts_of groups old)) (sym own) in
+    let usage_is : usage_by usages k ≡ usage_charged groups (accounts_of groups old) a.group = sums k ∙ ap (usage_charged groups (accounts_of groups old)) (sym own) in
     let side : in_subtree groups k g ≡ in_subtree groups a.group g = ap (λ j. in_subtree groups j g) (sym own) in
     walked k ∙
     ⊎_elim
@@ -98,11 +98,11 @@ kept_peaked groups old new usages g bear walked sums =
     cond-true (in_subtree groups k g) (with_usage_peak usages k a) a t
     ∙ ap (λ u. record a { peak = max a.peak u }) usage_is
     ∙ ap (λ p. record a { peak = p }) (sym (cond-true (in_subtree groups a.group g)
-    (max a.peak (usage_of groups (accounts_of groups old) a.group)) a.peak (sym side ∙ t))))
+    (max a.peak (usage_charged groups (accounts_of groups old) a.group)) a.peak (sym side ∙ t))))
     (λ f.
     cond-false (in_subtree groups k g) (with_usage_peak usages k a) a f
     ∙ ap (λ p. record a { peak = p }) (sym (cond-false (in_subtree groups a.group g)
-    (max a.peak (usage_of groups (accounts_of groups old) a.group)) a.peak (sym side ∙ f))))
+    (max a.peak (usage_charged groups (accounts_of groups old) a.group)) a.peak (sym side ∙ f))))
     (cases_Bool (in_subtree groups k g)))
 
 -- one more event along the path and at the group itself
@@ -250,6 +250,6 @@ kept_charged groups kept mid new usages g n facts within mid_is are walked =
     let xs = accounts_of groups kept in
     let more : accounts_of groups mid ≡ map (added g n) xs = ap (accounts_of groups) mid_is ∙ kept_added groups kept g n facts.numbers within in
     let bear : BearNumbers groups mid = ap (map (λ (a : Account). a.group)) more ∙ same_groups (added g n) (added-group g n) xs ∙ facts.numbers in
-    let sums : (k : ℕ) → usage_by usages k ≡ usage_of groups (accounts_of groups mid) k =
-    λ k. are.sums k ∙ usage-peaked groups (map (added g n) xs) (map (added g n) xs) g k ∙ ap (λ ys. usage_of groups ys k) (sym more) in
+    let sums : (k : ℕ) → usage_by usages k ≡ usage_charged groups (accounts_of groups mid) k =
+    λ k. are.sums k ∙ usage-peaked groups (map (added g n) xs) (map (added g n) xs) g k ∙ ap (λ ys. usage_charged groups ys k) (sym more) in
     kept_peaked groups mid new usages g bear walked sums ∙ ap (λ ys. map (peaked groups ys g) ys) more

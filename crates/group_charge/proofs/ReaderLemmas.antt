@@ -16,7 +16,7 @@ use Rattle.group_tree.specs.Room.{at_group, on_path, peak_after}
 use Rattle.group_tree.proofs.GroupLemmas.{find-filter, find-map, found_in, found_passes, is_some-find}
 use Rattle.group_tree.proofs.CallerLemmas.{in_subtree-above, in_subtree-refl}
 use Rattle.group_charge.specs.Charges.{Account, Ledger, AreCharges, CountsEvent, PagesRise, PeaksRise, SameEvents, SamePages, SamePeaks, account_at}
-use Rattle.group_charge.specs.Charges.{pages_of, peak_of, events_of, events_local_of, current_of, usage_of, added, taken, peaked, with_event_at, charged}
+use Rattle.group_charge.specs.Charges.{pages_of, peak_of, events_of, events_local_of, current_of, usage_charged, added, taken, peaked, with_event_at, charged}
 use Rattle.group_charge.specs.Charges.{empty_account, with_charge, with_uncharge, with_noted, with_new_group}
 use Rattle.group_charge.specs.Charges.{with_group_limit, with_group_removed, with_oom_flag}
 use Rattle.group_charge.proofs.SumLemmas.{share, added-group, taken-group}
@@ -117,10 +117,10 @@ pub charge_peaks : (l : Ledger) (g n : ℕ) → AreCharges l → PeaksRise l (wi
 unfolding peak_of charged
 charge_peaks l g n facts = λ m.
     let more = map (added g n) l.accounts in
-    read_mapped (λ (a : Account). a.peak) 0 (with_pages l g n) (peaked l.groups more g) (peak_after l.groups (usage_of l.groups more) g m) m (λ a. refl)
-    (λ a own. ap (λ k. peak_after l.groups (usage_of l.groups more) g k a.peak) own)
+    read_mapped (λ (a : Account). a.peak) 0 (with_pages l g n) (peaked l.groups more g) (peak_after l.groups (usage_charged l.groups more) g m) m (λ a. refl)
+    (λ a own. ap (λ k. peak_after l.groups (usage_charged l.groups more) g k a.peak) own)
     (λ e. sym (cond-false (in_subtree l.groups m g) _ 0 (not_on_path l m g (no_account l m facts (no_account_added l g n m e)))))
-    ∙ ap (peak_after l.groups (usage_of l.groups more) g m)
+    ∙ ap (peak_after l.groups (usage_charged l.groups more) g m)
     (read_mapped (λ (a : Account). a.peak) 0 l (added g n) (λ x. x) m (added-group g n)
     (λ a own. added_keeps (λ (x : Account). x.peak) (λ a n. refl) g n a) (λ e. refl))
     ∙ ap (λ u. cond (in_subtree l.groups m g) (max (peak_of l m) u) (peak_of l m)) (sym (usage-peaked l.groups more more g m))
@@ -227,7 +227,7 @@ new_pages l n path = λ m.
 -- a group's own pages are part of its usage
 pages_from : (l : Ledger) (g : ℕ) (o : Option Account) → IsTrue (has_group l.groups g) → account_at l g ≡ o →
     option_map_or (λ (a : Account). a.pages) o 0 ≤ current_of l g
-unfolding account_at usage_of
+unfolding account_at usage_charged
 pages_from l g None there e = omega arith
 pages_from l g (Some a) there e =
     let h = found_in (λ (x : Account). x.group == g) l.accounts a e in

@@ -9,7 +9,7 @@ use Rattle.std.proofs.lemmas.List.{get_or_default}
 use Rattle.std.proofs.lemmas.List.Sums.{sum_by-le-sum_by, sum_by-cons}
 use Rattle.group_tree.specs.declared.group.Group.{Group}
 use Rattle.group_tree.specs.Groups.{in_subtree}
-use Rattle.group_charge.specs.Charges.{Account, usage_of, total_pages, added, taken, peaked}
+use Rattle.group_charge.specs.Charges.{Account, usage_charged, total_pages, added, taken, peaked}
 
 -- ---- the usage of a group, summed one account after another
 -- what an account adds to the usage of g
@@ -21,8 +21,8 @@ share-le : (groups : List Group) (g : ℕ) (a : Account) → share groups g a �
 share-le groups g a = cond_both (in_subtree groups g a.group) a.pages 0 (λ x. x ≤ a.pages) (λ _. omega arith) (λ _. omega arith)
 
 -- no usage is above all that is charged
-pub usage-le-total : (groups : List Group) (xs : List Account) (g : ℕ) → usage_of groups xs g ≤ total_pages xs
-unfolding usage_of
+pub usage-le-total : (groups : List Group) (xs : List Account) (g : ℕ) → usage_charged groups xs g ≤ total_pages xs
+unfolding usage_charged
 usage-le-total groups xs g = sum_by-le-sum_by (share groups g) (λ a. a.pages) xs (share-le groups g)
 
 -- ---- a list that is changed in place, up to i

@@ -11,7 +11,8 @@ use Rattle.group_tree.specs.declared.event.EventKey.{EventKey}
 use Rattle.group_tree.specs.Groups.{AreGroups, has_group, in_subtree, with_group, with_limit, with_oom_group, without_group}
 use Rattle.group_tree.proofs.GroupLemmas.{CanMake}
 use Rattle.group_tree.proofs.CallerLemmas.{in_subtree-above, in_subtree-flagged, in_subtree-limited, in_subtree-with, in_subtree-with_new, in_subtree-without}
-use Rattle.group_charge.specs.Charges.{Account, usage_of, added, taken, peaked, with_event_at, charged, empty_account}
+use Rattle.group_charge.specs.Charges.{Account, usage_charged, added, taken, peaked, with_event_at, charged}
+use Rattle.group_charge.specs.Charges.{empty_account}
 use Rattle.group_charge.proofs.SumLemmas.{share, extra, extra_once, AreDistinct, sum-plus, sum-map_same, peaked-group, peaked-share, added-group, taken-group}
 
 -- the same items make the same sum
@@ -99,27 +100,27 @@ share-taken groups m g n a enough =
 
 -- so n pages of g raise the usage of m where g lies in its subtree
 pub usage-added : (groups : List Group) (xs : List Account) (g n m : ℕ) → AreDistinct xs → list_any (λ a. a.group == g) xs ≡ true →
-    usage_of groups (map (added g n) xs) m ≡ usage_of groups xs m + part groups m g n
-unfolding usage_of
+    usage_charged groups (map (added g n) xs) m ≡ usage_charged groups xs m + part groups m g n
+unfolding usage_charged
 usage-added groups xs g n m distinct there =
     sum-plus (share groups m) (share groups m) (extra g (part groups m g n)) (added g n) xs (share-added groups m g n)
     ∙ ap (λ k. sum_by (share groups m) xs + k) (extra_once g (part groups m g n) xs distinct there)
 
 -- raised peaks change no usage
-pub usage-peaked : (groups : List Group) (all xs : List Account) (g m : ℕ) → usage_of groups (map (peaked groups all g) xs) m ≡ usage_of groups xs m
-unfolding usage_of
+pub usage-peaked : (groups : List Group) (all xs : List Account) (g m : ℕ) → usage_charged groups (map (peaked groups all g) xs) m ≡ usage_charged groups xs m
+unfolding usage_charged
 usage-peaked groups all xs g m = sum-map_same (share groups m) (peaked groups all g) (peaked-share groups all g m) xs
 
 -- a charge raises the usage of the group and of all above it
 pub usage-charged : (groups : List Group) (xs : List Account) (g n m : ℕ) → AreDistinct xs → list_any (λ a. a.group == g) xs ≡ true →
-    usage_of groups (charged groups xs g n) m ≡ usage_of groups xs m + part groups m g n
+    usage_charged groups (charged groups xs g n) m ≡ usage_charged groups xs m + part groups m g n
 unfolding charged
 usage-charged groups xs g n m distinct there = usage-peaked groups (map (added g n) xs) (map (added g n) xs) g m ∙ usage-added groups xs g n m distinct there
 
 -- and what is taken back lowers it
 pub usage-taken : (groups : List Group) (xs : List Account) (g n m : ℕ) → AreDistinct xs → list_any (λ a. a.group == g) xs ≡ true →
-    All (λ a. a.group ≡ g → n ≤ a.pages) xs → usage_of groups (map (taken g n) xs) m + part groups m g n ≡ usage_of groups xs m
-unfolding usage_of
+    All (λ a. a.group ≡ g → n ≤ a.pages) xs → usage_charged groups (map (taken g n) xs) m + part groups m g n ≡ usage_charged groups xs m
+unfolding usage_charged
 usage-taken groups xs g n m distinct there enough =
     ap (λ k. sum_by (share groups m) (map (taken g n) xs) + k) (sym (extra_once g (part groups m g n) xs distinct there))
     ∙ sum-minus (share groups m) (share groups m) (extra g (part groups m g n)) (taken g n) xs
@@ -135,7 +136,7 @@ part-is groups m g n u =
 
 -- ---- peaks cover usage
 abbrev pub PeaksCover : List Group → List Account → Type 0
-PeaksCover groups xs = All (λ a. usage_of groups xs a.group ≤ a.peak) xs
+PeaksCover groups xs = All (λ a. usage_charged groups xs a.group ≤ a.peak) xs
 
 -- added pages leave the peak
 added-peak : (g n : ℕ) (a : Account) → (added g n a).peak ≡ a.peak
@@ -152,25 +153,25 @@ unfolding charged
 cover_charged groups xs g n distinct there cover =
     let more = map (added g n) xs in
     let new = map (peaked groups more g) more in
-    All-map (λ x. usage_of groups new x.group ≤ x.peak) (peaked groups more g) more
-    (All-map (λ y. usage_of groups new (peaked groups more g y).group ≤ (peaked groups more g y).peak) (added g n) xs
+    All-map (λ x. usage_charged groups new x.group ≤ x.peak) (peaked groups more g) more
+    (All-map (λ y. usage_charged groups new (peaked groups more g y).group ≤ (peaked groups more g y).peak) (added g n) xs
     (λ k d lt.
     let a = get_or xs k d in
     let y = added g n a in
     let own : (peaked groups more g y).group ≡ a.group = peaked-group groups more g y ∙ added-group g n a in
-    let usage : usage_of groups new (peaked groups more g y).group ≡ usage_of groups more a.group = ap (usage_of groups new) own
+    let usage : usage_charged groups new (peaked groups more g y).group ≡ usage_charged groups more a.group = ap (usage_charged groups new) own
     ∙ usage-peaked groups more more g a.group in
-    let also : usage_of groups more y.group ≡ usage_of groups more a.group = ap (usage_of groups more) (added-group g n a) in
+    let also : usage_charged groups more y.group ≡ usage_charged groups more a.group = ap (usage_charged groups more) (added-group g n a) in
     let peak : y.peak ≡ a.peak = added-peak g n a in
-    let old : usage_of groups xs a.group ≤ a.peak = cover k d lt in
-    let rise : usage_of groups more a.group ≡ usage_of groups xs a.group + part groups a.group g n = usage-added groups xs g n a.group distinct there in
+    let old : usage_charged groups xs a.group ≤ a.peak = cover k d lt in
+    let rise : usage_charged groups more a.group ≡ usage_charged groups xs a.group + part groups a.group g n = usage-added groups xs g n a.group distinct there in
     ⊎_elim
     (λ t.
-    let top : (peaked groups more g y).peak ≡ max y.peak (usage_of groups more y.group) =
-    cond-true (in_subtree groups y.group g) (max y.peak (usage_of groups more y.group)) y.peak t in
+    let top : (peaked groups more g y).peak ≡ max y.peak (usage_charged groups more y.group) =
+    cond-true (in_subtree groups y.group g) (max y.peak (usage_charged groups more y.group)) y.peak t in
     omega arith)
     (λ f.
-    let top : (peaked groups more g y).peak ≡ y.peak = cond-false (in_subtree groups y.group g) (max y.peak (usage_of groups more y.group)) y.peak f in
+    let top : (peaked groups more g y).peak ≡ y.peak = cond-false (in_subtree groups y.group g) (max y.peak (usage_charged groups more y.group)) y.peak f in
     let none : part groups a.group g n ≡ 0 = cond-false (in_subtree groups a.group g) n 0 (ap (λ h. in_subtree groups h g) (sym (added-group g n a)) ∙ f) in
     omega arith)
     (cases_Bool (in_subtree groups y.group g))))
@@ -188,8 +189,8 @@ share-taken_le groups m g n a =
     (λ _. omega arith)
 
 -- nor any usage
-usage-taken_le : (groups : List Group) (xs : List Account) (g n m : ℕ) → usage_of groups (map (taken g n) xs) m ≤ usage_of groups xs m
-unfolding usage_of
+usage-taken_le : (groups : List Group) (xs : List Account) (g n m : ℕ) → usage_charged groups (map (taken g n) xs) m ≤ usage_charged groups xs m
+unfolding usage_charged
 usage-taken_le groups [] g n m = omega arith
 usage-taken_le groups (x ∷ xs) g n m =
     omega (
@@ -203,26 +204,26 @@ usage-taken_le groups (x ∷ xs) g n m =
 
 -- peaks cover usage after pages were taken
 pub cover_taken : (groups : List Group) (xs : List Account) (g n : ℕ) → PeaksCover groups xs → PeaksCover groups (map (taken g n) xs)
-unfolding usage_of
+unfolding usage_charged
 cover_taken groups xs g n cover =
-    All-map (λ x. usage_of groups (map (taken g n) xs) x.group ≤ x.peak) (taken g n) xs
+    All-map (λ x. usage_charged groups (map (taken g n) xs) x.group ≤ x.peak) (taken g n) xs
     (λ k d lt.
     let a = get_or xs k d in
-    let less : usage_of groups (map (taken g n) xs) a.group ≤ usage_of groups xs a.group = usage-taken_le groups xs g n a.group in
-    let own : usage_of groups (map (taken g n) xs) (taken g n a).group ≡ usage_of groups (map (taken g n) xs) a.group =
-    ap (usage_of groups (map (taken g n) xs)) (taken-group g n a) in
+    let less : usage_charged groups (map (taken g n) xs) a.group ≤ usage_charged groups xs a.group = usage-taken_le groups xs g n a.group in
+    let own : usage_charged groups (map (taken g n) xs) (taken g n a).group ≡ usage_charged groups (map (taken g n) xs) a.group =
+    ap (usage_charged groups (map (taken g n) xs)) (taken-group g n a) in
     omega (arith, less, own, cover k d lt, taken-peak g n a))
 
 -- ---- other trees
 -- if the same accounts are in the subtree, the usage is the same
 usage_groups : (groups others : List Group) (xs : List Account) (m : ℕ) → All (λ a. in_subtree groups m a.group ≡ in_subtree others m a.group) xs →
-    usage_of groups xs m ≡ usage_of others xs m
-unfolding usage_of
+    usage_charged groups xs m ≡ usage_charged others xs m
+unfolding usage_charged
 usage_groups groups others xs m h = sum-same (share groups m) (share others m) xs (λ k d lt. ap (λ b. cond b (get_or xs k d).pages 0) (h k d lt))
 
 -- if each group lies in the same subtrees of both trees, usage is the same, and peaks cover it
 pub usage-as : (groups others : List Group) (xs : List Account) (m : ℕ) → ((g h : ℕ) → in_subtree groups g h ≡ in_subtree others g h) →
-    usage_of groups xs m ≡ usage_of others xs m
+    usage_charged groups xs m ≡ usage_charged others xs m
 usage-as groups others xs m same = usage_groups groups others xs m (λ j e h. same m (get_or xs j e).group)
 
 pub cover_as : (groups others : List Group) (xs : List Account) → ((g h : ℕ) → in_subtree groups g h ≡ in_subtree others g h) → PeaksCover others xs →
@@ -232,23 +233,23 @@ cover_as groups others xs same cover = λ k d lt.
     omega (arith, cover k d lt, usage-as groups others xs a.group same)
 
 -- another limit changes no usage
-pub usage-limited : (groups : List Group) (xs : List Account) (g m : ℕ) (limit : Option ℕ) → usage_of (with_limit groups g limit) xs m ≡ usage_of groups xs m
+pub usage-limited : (groups : List Group) (xs : List Account) (g m : ℕ) (limit : Option ℕ) → usage_charged (with_limit groups g limit) xs m ≡ usage_charged groups xs m
 usage-limited groups xs g m limit = usage-as (with_limit groups g limit) groups xs m (λ k h. in_subtree-limited groups g k h limit)
 
 -- nor does a flag
-pub usage-flagged : (groups : List Group) (xs : List Account) (g m : ℕ) (flag : Bool) → usage_of (with_oom_group groups g flag) xs m ≡ usage_of groups xs m
+pub usage-flagged : (groups : List Group) (xs : List Account) (g m : ℕ) (flag : Bool) → usage_charged (with_oom_group groups g flag) xs m ≡ usage_charged groups xs m
 usage-flagged groups xs g m flag = usage-as (with_oom_group groups g flag) groups xs m (λ k h. in_subtree-flagged groups g k h flag)
 
 -- nor does a note
-pub usage-noted : (key : EventKey) (groups : List Group) (xs : List Account) (g m : ℕ) → usage_of groups (map (with_event_at key groups g) xs) m ≡ usage_of groups xs m
-unfolding usage_of
+pub usage-noted : (key : EventKey) (groups : List Group) (xs : List Account) (g m : ℕ) → usage_charged groups (map (with_event_at key groups g) xs) m ≡ usage_charged groups xs m
+unfolding usage_charged
 usage-noted key groups xs g m = sum-map_same (share groups m) (with_event_at key groups g) (λ x. refl) xs
 
 -- peaks cover usage after a note
 pub cover_noted : (key : EventKey) (groups : List Group) (xs : List Account) (g : ℕ) → PeaksCover groups xs → PeaksCover groups (map (with_event_at key groups g) xs)
-unfolding usage_of
+unfolding usage_charged
 cover_noted key groups xs g cover =
-    All-map (λ x. usage_of groups (map (with_event_at key groups g) xs) x.group ≤ x.peak) (with_event_at key groups g) xs
+    All-map (λ x. usage_charged groups (map (with_event_at key groups g) xs) x.group ≤ x.peak) (with_event_at key groups g) xs
     (λ k d lt. let a = get_or xs k d in omega (arith, cover k d lt, sum-map_same (share groups a.group) (with_event_at key groups g) (λ x. refl) xs))
 
 -- what is left of a list sums to no more
@@ -268,10 +269,10 @@ sum-filter_le F G p (x ∷ xs) h =
 -- peaks cover usage after a group went
 pub cover_removed : (groups : List Group) (xs : List Account) (g : ℕ) → PeaksCover groups xs →
     PeaksCover (without_group groups g) (filter (λ a. not (a.group == g)) xs)
-unfolding usage_of
+unfolding usage_charged
 cover_removed groups xs g cover =
     let test : Account → Bool = λ a. not (a.group == g) in
-    let kept : All (λ a. usage_of groups xs a.group ≤ a.peak) (filter test xs) = All-filter test (λ a. usage_of groups xs a.group ≤ a.peak) xs cover in
+    let kept : All (λ a. usage_charged groups xs a.group ≤ a.peak) (filter test xs) = All-filter test (λ a. usage_charged groups xs a.group ≤ a.peak) xs cover in
     let others : All (λ a. test a ≡ true) (filter test xs) = filter_passes test xs in
     λ k d lt.
     let a = get_or (filter test xs) k d in
@@ -292,8 +293,8 @@ sum-zero [] = refl
 sum-zero (x ∷ xs) = omega (arith, sum-zero xs, sum_by-cons (λ (_ : Account). 0) x xs)
 
 -- a number of no group has no usage
-pub usage-absent : (groups : List Group) (xs : List Account) (m : ℕ) → has_group groups m ≡ false → usage_of groups xs m ≡ 0
-unfolding usage_of
+pub usage-absent : (groups : List Group) (xs : List Account) (m : ℕ) → has_group groups m ≡ false → usage_charged groups xs m ≡ 0
+unfolding usage_charged
 usage-absent groups xs m absent =
     sum-same (share groups m) (λ _. 0) xs
     (λ k d lt.
@@ -321,8 +322,8 @@ sum-filter_same F G p (x ∷ xs) same none =
 
 -- a group without pages of its own that goes changes no usage of the others
 pub usage-removed_other : (groups : List Group) (xs : List Account) (g m : ℕ) → m ≢ g → All (λ a. a.group ≡ g → a.pages ≡ 0) xs →
-    usage_of (without_group groups g) (filter (λ a. not (a.group == g)) xs) m ≡ usage_of groups xs m
-unfolding usage_of
+    usage_charged (without_group groups g) (filter (λ a. not (a.group == g)) xs) m ≡ usage_charged groups xs m
+unfolding usage_charged
 usage-removed_other groups xs g m other none =
     sum-filter_same (share (without_group groups g) m) (share groups m) (λ a. not (a.group == g)) xs
     (λ k d lt t.
@@ -334,16 +335,16 @@ usage-removed_other groups xs g m other none =
     ap (λ n. cond (in_subtree groups m a.group) n 0) zero ∙ cond_both (in_subtree groups m a.group) 0 0 (λ n. n ≡ 0) (λ _. refl) (λ _. refl))
 
 -- an empty account adds to no usage
-usage-push_empty : (groups : List Group) (xs : List Account) (n m : ℕ) → usage_of groups (xs ++ empty_account n ∷ []) m ≡ usage_of groups xs m
-unfolding usage_of
+usage-push_empty : (groups : List Group) (xs : List Account) (n m : ℕ) → usage_charged groups (xs ++ empty_account n ∷ []) m ≡ usage_charged groups xs m
+unfolding usage_charged
 usage-push_empty groups xs n m =
     let none : share groups m (empty_account n) ≡ 0 = cond_both (in_subtree groups m n) 0 0 (λ x. x ≡ 0) (λ _. refl) (λ _. refl) in
     omega (arith, sum_by_push (share groups m) xs (empty_account n))
 
 -- the usage of a new group is 0, and that of the others is as before
 pub usage-new : (groups : List Group) (xs : List Account) (n : ℕ) (path : List ℕ) → AreGroups groups → CanMake groups path →
-    has_group groups n ≡ false → All (λ a. IsTrue (has_group groups a.group)) xs → usage_of (with_group groups n path) (xs ++ empty_account n ∷ []) n ≡ 0
-unfolding usage_of
+    has_group groups n ≡ false → All (λ a. IsTrue (has_group groups a.group)) xs → usage_charged (with_group groups n path) (xs ++ empty_account n ∷ []) n ≡ 0
+unfolding usage_charged
 usage-new groups xs n path facts can free known =
     usage-push_empty (with_group groups n path) xs n n
     ∙ sum-same (share (with_group groups n path) n) (λ _. 0) xs
@@ -357,7 +358,7 @@ usage-new groups xs n path facts can free known =
 
 -- a new group changes no usage of the others
 pub usage-new_other : (groups : List Group) (xs : List Account) (n m : ℕ) (path : List ℕ) → has_group groups n ≡ false →
-    All (λ a. IsTrue (has_group groups a.group)) xs → m ≢ n → usage_of (with_group groups n path) (xs ++ empty_account n ∷ []) m ≡ usage_of groups xs m
+    All (λ a. IsTrue (has_group groups a.group)) xs → m ≢ n → usage_charged (with_group groups n path) (xs ++ empty_account n ∷ []) m ≡ usage_charged groups xs m
 usage-new_other groups xs n m path free known other =
     usage-push_empty (with_group groups n path) xs n m
     ∙ usage_groups (with_group groups n path) groups xs m
@@ -369,7 +370,7 @@ pub cover_new : (groups : List Group) (xs : List Account) (n : ℕ) (path : List
     has_group groups n ≡ false → All (λ a. IsTrue (has_group groups a.group)) xs → PeaksCover groups xs →
     PeaksCover (with_group groups n path) (xs ++ empty_account n ∷ [])
 cover_new groups xs n path facts can free known cover =
-    All-push (λ a. usage_of (with_group groups n path) (xs ++ empty_account n ∷ []) a.group ≤ a.peak) xs (empty_account n)
+    All-push (λ a. usage_charged (with_group groups n path) (xs ++ empty_account n ∷ []) a.group ≤ a.peak) xs (empty_account n)
     (λ k d lt.
     let a = get_or xs k d in
     let other : a.group ≢ n = λ same. both_ways (has_group groups n) free (ap (has_group groups) (sym same) ∙ known k d lt) in

@@ -51,12 +51,12 @@ abbrev pub total_pages : List Account → ℕ
 total_pages accounts = sum_by (λ a. a.pages) accounts
 
 -- the pages charged to a group and to all groups below it
-unfoldable pub usage_of : List Group → List Account → ℕ → ℕ
-usage_of groups accounts g = sum_by (λ a. if in_subtree groups g a.group then a.pages else 0) accounts
+unfoldable pub usage_charged : List Group → List Account → ℕ → ℕ
+usage_charged groups accounts g = sum_by (λ a. if in_subtree groups g a.group then a.pages else 0) accounts
 
 -- memory.current: the usage of the group and its descendants, in pages
 abbrev pub current_of : Ledger → ℕ → ℕ
-current_of l g = usage_of l.groups l.accounts g
+current_of l g = usage_charged l.groups l.accounts g
 
 -- the account with n more pages, if it is the group's
 abbrev pub added : ℕ → ℕ → Account → Account
@@ -68,7 +68,7 @@ taken g n a = if a.group == g then record a { pages = a.pages - n } else a
 
 -- the account with its peak raised to its usage, if it is the account of g or of an ancestor
 abbrev pub peaked : List Group → List Account → ℕ → Account → Account
-peaked groups accounts g a = record a { peak = peak_after groups (usage_of groups accounts) g a.group a.peak }
+peaked groups accounts g a = record a { peak = peak_after groups (usage_charged groups accounts) g a.group a.peak }
 
 -- the account after an event of this key at g: one more in the local counts of g, and in the counts of g and each
 -- ancestor
@@ -79,8 +79,8 @@ with_event_at key groups g a = record a {
 }
 
 -- the account after a `max` event at g: one more in the local counts of g, and in the counts of g and each ancestor
-abbrev pub noted : List Group → ℕ → Account → Account
-noted groups g a = with_event_at Max groups g a
+abbrev pub max_noted : List Group → ℕ → Account → Account
+max_noted groups g a = with_event_at Max groups g a
 
 -- the accounts after n more pages for the group, with the peaks of the group and of its ancestors raised to their
 -- usage

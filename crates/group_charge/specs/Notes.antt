@@ -25,12 +25,12 @@ abbrev pub no_notes : KnownNotes
 no_notes = record { list = []; left_out = 0; notes_units = false }
 
 -- the list with one more note at the end, as long as there are fewer than `most_notes`
-abbrev pub added : List Note → Note → List Note
-added list note = if nat_lt (length list) most_notes then list ++ note ∷ [] else list
+abbrev pub note_added : List Note → Note → List Note
+note_added list note = if nat_lt (length list) most_notes then list ++ note ∷ [] else list
 
 -- the notes with this one at the end, as long as there are fewer than `most_notes`
 abbrev pub noted : KnownNotes → Note → KnownNotes
-noted notes note = record notes { list = added notes.list note }
+noted notes note = record notes { list = note_added notes.list note }
 
 -- nothing is noted any more; whether freed units are noted stays
 abbrev pub forgotten : KnownNotes → KnownNotes
@@ -51,11 +51,11 @@ last_frame first frames = first + frames - 1
 
 -- The span with the unit's frames, if the note is a span of units of the unit's group and the unit adjoins it: it
 -- begins right behind the span, or it ends right before it.
-abbrev pub joined : Option Note → (group first frames : ℕ) → Option Note
-joined (Some (Reclaimed owner low high)) group first frames =
+abbrev pub joined_span : Option Note → (group first frames : ℕ) → Option Note
+joined_span (Some (Reclaimed owner low high)) group first frames =
     if owner == group && (first == high + 1) then Some (Reclaimed group low (last_frame first frames))
     else (if owner == group && (first + frames == low) then Some (Reclaimed group first high) else None)
-joined _ group first frames = None
+joined_span _ group first frames = None
 
 -- the note that the next freed unit may join: the last one, if each freed unit was noted so far
 abbrev pub last_noted : KnownNotes → Option Note
@@ -78,5 +78,5 @@ with_span None notes group first frames = with_new_span notes group first frames
 -- the unit joins the last span if it can, and is a new span otherwise.
 abbrev pub unit_noted : KnownNotes → (group first frames : ℕ) → KnownNotes
 unit_noted notes group first frames =
-    if notes.notes_units then with_span (joined (last_noted notes) group first frames) notes group first frames
+    if notes.notes_units then with_span (joined_span (last_noted notes) group first frames) notes group first frames
     else notes

@@ -1,7 +1,7 @@
 //! The notes of a visit.
 
 ghost use Rattle.std.specs.Prelude.{◌≡◌, IfOk};
-ghost use Rattle.group_charge.specs.Notes.{forgotten, joined, last_noted, no_notes, noted};
+ghost use Rattle.group_charge.specs.Notes.{forgotten, joined_span, last_noted, no_notes, noted};
 ghost use Rattle.group_charge.specs.Notes.{unit_noted, with_new_span, with_span};
 
 use crate::note::Note;
@@ -92,7 +92,7 @@ impl Notes {
 
     // The last span with this unit's frames, if the unit may join it.
     fn joined(&self, group: GroupId, first: u32, frames: u32) -> Option<Note>
-        ensures { result ≡ joined (last_noted self.now) group first frames }
+        ensures { result ≡ joined_span (last_noted self.now) group first frames }
     {
         if self.left_out > 0 {
             return None;
@@ -102,7 +102,7 @@ impl Notes {
 
     // Notes a freed unit: it joins the last span, or is a new one.
     fn add_unit(&mut self, group: GroupId, first: u32, frames: u32)
-        ensures { self.new ≡ with_span (joined (last_noted self.old) group first frames) self.old group first frames }
+        ensures { self.new ≡ with_span (joined_span (last_noted self.old) group first frames) self.old group first frames }
     {
         let Some(span) = self.joined(group, first, frames) else {
             self.add_span(group, first, frames);

@@ -1,7 +1,7 @@
 //! Spans of freed units.
 
 ghost use Rattle.std.specs.Prelude.{◌≡◌, Some};
-ghost use Rattle.group_charge.specs.Notes.{is_span, joined, last_frame};
+ghost use Rattle.group_charge.specs.Notes.{is_span, joined_span, last_frame};
 
 use crate::note::Note;
 use group_tree::group::GroupId;
@@ -22,7 +22,7 @@ pub(crate) fn last_frame(first: u32, frames: u32) -> u64
 
 // The span with this unit's frames, if the note is a span that the unit adjoins.
 pub(crate) fn joined(note: &Note, group: GroupId, first: u32, frames: u32) -> Option<Note>
-    ensures { result ≡ joined (Some note.now) group first frames }
+    ensures { result ≡ joined_span (Some note.now) group first frames }
 {
     let Note::Reclaimed {
         group: owner,

@@ -13,7 +13,7 @@ use Rattle.script_lint.specs.Texts.{cause_text}
 use Rattle.script_lint.specs.declared.finding.Finding.{Finding}
 use Rattle.script_replay.specs.Lines.{SystemState}
 use Rattle.line_server.specs.declared.form.SessionForm.{SessionForm}
-use Rattle.line_server.specs.Forms.{SessionTerms, bad_line, session_terms}
+use Rattle.line_server.specs.Forms.{SessionTerms, bad_line_answer, session_terms}
 use Rattle.line_server.specs.Lines.{RefusesText}
 use Rattle.line_server.specs.Turns.{AnswersServed, GivesAnswer, HasAnswer, ServesAtMost, ServesInForm, WritesTurn}
 
@@ -27,8 +27,8 @@ says_line sizes number text good asks = elim (good.says asks) [
 
 -- why the line is bad was given
 pub refused : {Z E : Type 0} (r : Result (Vec ℕ Z) E) (form : SessionForm) (sizes : Config) (text why : List ℕ) (found : Finding) → IsFoundInText sizes text found
-    → why ≡ cause_text sizes found found.spot.cause → IfOk r (λ line. line.items ≡ bad_line form why) → IfOk r (λ answer. RefusesText form sizes text answer.items)
-refused (Ok x) form sizes text why found is said line = record { found = found; is_found = is; answer_is = line ∙ ap (bad_line form) said }
+    → why ≡ cause_text sizes found found.spot.cause → IfOk r (λ line. line.items ≡ bad_line_answer form why) → IfOk r (λ answer. RefusesText form sizes text answer.items)
+refused (Ok x) form sizes text why found is said line = record { found = found; is_found = is; answer_is = line ∙ ap (bad_line_answer form) said }
 refused (Err e) form sizes text why found is said line = tt
 
 -- a line that was served in this form was answered so
@@ -81,7 +81,7 @@ turn_written on sizes number text before after plain answer has is = record {
 
 -- a line is too long
 pub too_long : {Z E : Type 0} (on : SessionTerms) (sizes : Config) (number : ℕ) (r : Result (Vec ℕ Z) E) (state : SystemState)
-    → IfOk r (λ line. line.items ≡ bad_line on.form (codes "line too long"))
+    → IfOk r (λ line. line.items ≡ bad_line_answer on.form (codes "line too long"))
     → IfOk r (λ answer. HasAnswer on sizes number None state state answer.items)
 too_long on sizes number (Ok x) state is = record { served = None; answered = (refl, refl, is) }
 too_long on sizes number (Err e) state is = tt

@@ -28,7 +28,7 @@ use Rattle.script_replay.proofs.InRange.{work_in_range}
 use Rattle.line_server.specs.declared.form.SessionForm.{SessionForm}
 use Rattle.line_server.specs.declared.form.SessionForm.TheVariants.{Answers, Steps}
 use Rattle.line_server.specs.Forms.{session_terms}
-use Rattle.line_server.specs.Histories.{HasLoggedHistory, HasLoggedTurn, ReplaysTurns, answer_of, answers_of, lines_of, with_line}
+use Rattle.line_server.specs.Histories.{HasLoggedHistory, HasLoggedTurn, ReplaysTurns, served_answer, answers_of, lines_of, with_line}
 use Rattle.line_server.specs.Logs.{LogsLine, RenewsWatch}
 use Rattle.line_server.specs.Sessions.{AnswersTurns}
 use Rattle.line_server.specs.Turns.{AnswersLine, Turn}
@@ -49,7 +49,7 @@ kept_one t w is_explained sizes number (Some text) (Some line) s m answer one = 
 
 -- a turn, and then lines that are served
 turn_and : (on : Terms) (line : Option Line) (answer : List ℕ) (lines : List Line) (s m e : SystemState) (rest : List ℕ) → KeptOne on line s m answer
-    → ServesAllAndKeeps on lines m e rest → ServesAllAndKeeps on (with_line line lines) s e (answer_of line answer ++ rest)
+    → ServesAllAndKeeps on lines m e rest → ServesAllAndKeeps on (with_line line lines) s e (served_answer line answer ++ rest)
 turn_and on None answer lines s m e rest one all = subst (λ x. ServesAllAndKeeps on lines x e rest) one all
 turn_and on (Some line) answer lines s m e rest one all =
     record { first = answer; rest = rest; between = m; serves_first = one; serves_rest = all; text_is = refl }

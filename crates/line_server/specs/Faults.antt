@@ -11,7 +11,7 @@ read_fault reading.Input = Input
 read_fault reading.NoMemory = NoMemory
 
 -- a fault of reading: the input failed, or memory ran out
-abbrev pub IsReadFault : ServeFault → Type 0
-IsReadFault Input = ⊤
-IsReadFault Output = ⊥
-IsReadFault NoMemory = ⊤
+abbrev pub IsServeReadFault : ServeFault → Type 0
+IsServeReadFault Input = ⊤
+IsServeReadFault Output = ⊥
+IsServeReadFault NoMemory = ⊤

@@ -17,6 +17,6 @@ abbrev pub session_terms : KnownTable → KnownStockTable → SessionForm → Se
 session_terms frames stocks form = record { frames = frames; stocks = stocks; form = form }
 
 -- the line that says why a line is bad: in a log it is a comment
-abbrev pub bad_line : SessionForm → (why : List ℕ) → List ℕ
-bad_line (Answers is_explained) why = codes "bad: " ++ (why ++ codes "\n")
-bad_line Steps why = comment (codes "# bad: " ++ why)
+abbrev pub bad_line_answer : SessionForm → (why : List ℕ) → List ℕ
+bad_line_answer (Answers is_explained) why = codes "bad: " ++ (why ++ codes "\n")
+bad_line_answer Steps why = comment (codes "# bad: " ++ why)

@@ -26,14 +26,14 @@ lines_of [] = []
 lines_of (turn ∷ turns) = with_line turn.served (lines_of turns)
 
 -- the answer, if a line was served
-abbrev pub answer_of : Option Line → List ℕ → List ℕ
-answer_of None answer = []
-answer_of (Some line) answer = answer
+abbrev pub served_answer : Option Line → List ℕ → List ℕ
+served_answer None answer = []
+served_answer (Some line) answer = answer
 
 -- and the answers of these lines
 abbrev pub answers_of : List Turn → List ℕ
 answers_of [] = []
-answers_of (turn ∷ turns) = answer_of turn.served turn.answer ++ answers_of turns
+answers_of (turn ∷ turns) = served_answer turn.served turn.answer ++ answers_of turns
 
 -- The part of a log of a line with this text. If the run so far with the line's steps is legal, the promise holds after
 -- it, and the ledger keeps the peaks and event counts of the run: to begin with a new watch changes no ledger. What

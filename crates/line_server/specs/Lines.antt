@@ -7,11 +7,12 @@ use Rattle.zone_blocks.specs.declared.config.Config.{Config}
 use Rattle.script_lint.specs.Findings.{IsFoundInText}
 use Rattle.script_lint.specs.Texts.{cause_text}
 use Rattle.script_lint.specs.declared.finding.Finding.{Finding}
-use Rattle.line_server.specs.Streams.{first_text, longest_line}
+use Rattle.line_server.specs.Streams.{first_text}
+use Rattle.script_lines.specs.Script.{longest_line}
 use Rattle.line_server.specs.declared.form.SessionForm.{SessionForm}
 use Rattle.line_server.specs.declared.input_line.InputLine.{InputLine}
 use Rattle.line_server.specs.declared.input_line.InputLine.TheVariants as input_line
-use Rattle.line_server.specs.Forms.{bad_line}
+use Rattle.line_server.specs.Forms.{bad_line_answer}
 
 -- ---- what is read
 -- whether a line ends the session
@@ -48,4 +49,4 @@ ReadsInputLine before after (Some line) = ReadsLine (text_of line) before after
 pub record RefusesText (form : SessionForm) (sizes : Config) (text answer : List ℕ) : Type 0 where
   pub found : Finding
   pub is_found : IsFoundInText sizes text found
-  pub answer_is : answer ≡ bad_line form (cause_text sizes found found.spot.cause)
+  pub answer_is : answer ≡ bad_line_answer form (cause_text sizes found found.spot.cause)

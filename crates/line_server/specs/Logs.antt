@@ -3,7 +3,7 @@ use Rattle.std.specs.Prelude.{◌≡◌, ℕ, ◌-◌, ◌==◌, ◌&&◌, nat_l
 use Rattle.std.specs.Prelude.{Result, IfOk, codes, decimal, flat_map, length, map, take}
 use Rattle.step_rules.specs.After.{Run}
 use Rattle.step_watch.specs.Watched.{IsNewLog, KnownWatch, steps_text}
-use Rattle.log_lines.specs.Line.{longest_line}
+use Rattle.log_lines.specs.Line.{longest_log_line}
 use Rattle.script_lines.specs.declared.line.Line.{Line}
 use Rattle.script_lines.specs.declared.line.Line.TheVariants.{Go, At}
 use Rattle.script_lines.specs.Script.{texts_of}
@@ -20,7 +20,7 @@ printed byte = if nat_le 32 byte && nat_le byte 126 then byte else 63
 
 -- a comment of this text, which is cut to the most bytes of a line
 abbrev pub comment : List ℕ → List ℕ
-comment text = take longest_line (map printed text) ++ 10 ∷ []
+comment text = take longest_log_line (map printed text) ++ 10 ∷ []
 
 -- `# line N: `
 abbrev pub line_front : ℕ → List ℕ

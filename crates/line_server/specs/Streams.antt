@@ -4,10 +4,7 @@ use Rattle.std.specs.Io.BufRead.{DropsThrough}
 use Rattle.std.specs.Io.KnownBytes.{Consumes, IsAtEnd}
 use Rattle.line_server.specs.declared.reading.Found.{Found}
 use Rattle.line_server.specs.declared.reading.Found.TheVariants.{Line, TooLong, End}
-
--- how many bytes a line may have, its line feed not counted
-abbrev pub longest_line : ℕ
-longest_line = 1024
+use Rattle.script_lines.specs.Script.{longest_line}
 
 -- the bytes before the first line feed, or all of them
 abbrev pub first_text : List ℕ → List ℕ

@@ -11,7 +11,7 @@ use Rattle.script_replay.specs.Lines.{SystemState}
 use Rattle.script_replay.specs.Terms.{terms}
 use Rattle.line_server.specs.declared.form.SessionForm.{SessionForm}
 use Rattle.line_server.specs.declared.form.SessionForm.TheVariants.{Answers, Steps}
-use Rattle.line_server.specs.Forms.{SessionTerms, bad_line}
+use Rattle.line_server.specs.Forms.{SessionTerms, bad_line_answer}
 use Rattle.line_server.specs.Lines.{RefusesText}
 use Rattle.line_server.specs.Logs.{LogsLine}
 
@@ -54,7 +54,7 @@ AnswersText on sizes number text (Some line) before after answer =
 abbrev pub AnswersLine : SessionTerms → Config → (number : ℕ) (text : Option (List ℕ)) → (served : Option Line)
     → (before after : SystemState) → (answer : List ℕ) → Type 0
 AnswersLine on sizes number None served before after answer =
-    (served ≡ None) × (after ≡ before) × (answer ≡ bad_line on.form (codes "line too long"))
+    (served ≡ None) × (after ≡ before) × (answer ≡ bad_line_answer on.form (codes "line too long"))
 AnswersLine on sizes number (Some text) served before after answer =
     AnswersText on sizes number text served before after answer
 

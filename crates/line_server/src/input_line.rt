@@ -1,7 +1,7 @@
 //! The lines of a session.
 
 ghost use Rattle.std.specs.Prelude.{◌≡◌, IfErr, IfOk};
-ghost use Rattle.line_server.specs.Faults.{IsReadFault};
+ghost use Rattle.line_server.specs.Faults.{IsServeReadFault};
 ghost use Rattle.line_server.specs.Lines.{ReadsInputLine, is_quit};
 
 use crate::fault::ServeFault;
@@ -24,7 +24,7 @@ pub fn read_input_line<I: Read>(
     input: &mut I,
 ) -> Result<Option<InputLine>, ServeFault>
     ensures read { IfOk result (ReadsInputLine (I.remaining input.old) (I.remaining input.new)) }
-    ensures fault { IfErr result IsReadFault }
+    ensures fault { IfErr result IsServeReadFault }
 {
     let mut line = Vec::new(alloc);
     match read_line(input, &mut line)? {

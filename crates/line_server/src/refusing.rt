@@ -5,7 +5,7 @@ ghost use Rattle.script_lines.specs.Script.{IsLineText, is_skipped};
 ghost use Rattle.script_lines.specs.Verb.{IsNames};
 ghost use Rattle.script_lines.specs.declared.line.Line.{Line};
 ghost use Rattle.script_lint.specs.Shapes.{HasValidCounts};
-ghost use Rattle.line_server.specs.Forms.{bad_line};
+ghost use Rattle.line_server.specs.Forms.{bad_line_answer};
 ghost use Rattle.line_server.specs.Lines.{RefusesText};
 
 use crate::comments::add_comment;
@@ -41,7 +41,7 @@ pub fn refuse_text(
 
 /// The line that says why a line is bad. It fails only if memory runs out.
 pub fn bad_line(alloc: Global, form: SessionForm, why: &[u8]) -> Result<Vec<u8>, AllocError>
-    ensures { IfOk result (λ line. line.items ≡ bad_line form why.now) }
+    ensures { IfOk result (λ line. line.items ≡ bad_line_answer form why.now) }
 {
     let mut line = Vec::new(alloc);
     match form {

@@ -11,7 +11,7 @@ use Rattle.load_run.specs.declared.fault.ProgramFault.{ProgramFault}
 use Rattle.load_run.specs.declared.fault.ProgramFault.TheVariants.{Words, Script, BadLogLine, BadConfig, IllegalLine, IllegalEnd, Input, Output, NoMemory}
 use Rattle.load_run.specs.Answers.{IsAnswered, bytes_read}
 use Rattle.load_run.specs.Causes.{FailsAtWork, HasCause, IsMisused, LeavesAnswers, written}
-use Rattle.load_run.specs.Fault.{IsBootFault, IsFailedTask, IsReadFault, IsScriptFault, IsWordsFault, fault_text, status_of}
+use Rattle.load_run.specs.Fault.{IsBootFault, IsFailedTask, IsReadFault, IsScriptFault, IsWordsFault, fault_text, fault_status_of}
 use Rattle.load_options.specs.Sizes.{HasSizesInRange}
 use Rattle.line_server.specs.Writing.{AppendsBeginning}
 
@@ -109,7 +109,7 @@ failed_boot options lines Output valid is = (is, valid)
 failed_boot options lines (NoMemory e) valid is = (is, valid)
 
 -- misuse that has a cause, and was told
-pub misused : (asked : Option Options) (input before after : Option (List ℕ)) (fault : ProgramFault) → status_of fault ≡ 2
+pub misused : (asked : Option Options) (input before after : Option (List ℕ)) (fault : ProgramFault) → fault_status_of fault ≡ 2
     → IfSome input (HasCause asked fault) → AppendsBeginning before after (fault_text fault)
     → IfSome input (IsMisused asked before after)
 misused asked None before after fault is cause told = tt
@@ -129,7 +129,7 @@ nothing_left asked input Output output cause = record { text = cause.text; answe
 nothing_left asked input (NoMemory e) output cause = Keeps-refl output
 
 -- failure that has a cause, before an answer was written
-pub failed : (asked : Option Options) (input output before after : Option (List ℕ)) (fault : ProgramFault) → status_of fault ≡ 1
+pub failed : (asked : Option Options) (input output before after : Option (List ℕ)) (fault : ProgramFault) → fault_status_of fault ≡ 1
     → IfSome input (HasCause asked fault) → AppendsBeginning before after (fault_text fault)
     → IfSome input (FailsAtWork asked (written output before) (written output after))
 failed asked None output before after fault is cause told = tt

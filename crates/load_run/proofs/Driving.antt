@@ -11,14 +11,14 @@ use Rattle.load_run.specs.declared.fault.ProgramFault.TheVariants.{Words, Script
 use Rattle.load_run.specs.Answers.{IsAnswered, IsWritten}
 use Rattle.load_run.specs.Causes.{HasCause, written}
 use Rattle.load_run.specs.Driving.{DrivesScript, IsAnsweredStatus}
-use Rattle.load_run.specs.Fault.{fault_text, status_of}
+use Rattle.load_run.specs.Fault.{fault_text, fault_status_of}
 use Rattle.load_run.specs.Refusals.{answered_status, has_refusal}
 use Rattle.line_server.specs.Writing.{AppendsBeginning}
 use Rattle.load_run.proofs.Answering.{answers_written}
 use Rattle.load_run.proofs.Causing.{cut_short, failed, misused}
 
 -- a fault's status is 1 or 2
-pub status_low : (fault : ProgramFault) → 1 ≤ status_of fault
+pub status_low : (fault : ProgramFault) → 1 ≤ fault_status_of fault
 status_low (Words (words.BadWords text)) = omega arith
 status_low (Words (words.NoMemory error)) = omega arith
 status_low (Script (script.BadLine number)) = omega arith
@@ -31,7 +31,7 @@ status_low Input = omega arith
 status_low Output = omega arith
 status_low (NoMemory error) = omega arith
 
-pub status_high : (fault : ProgramFault) → status_of fault ≤ 2
+pub status_high : (fault : ProgramFault) → fault_status_of fault ≤ 2
 status_high (Words (words.BadWords text)) = omega arith
 status_high (Words (words.NoMemory error)) = omega arith
 status_high (Script (script.BadLine number)) = omega arith
@@ -90,10 +90,10 @@ drives_well options input output output_after faults text given status answered 
 -- the output failed, and took a beginning of them
 pub drives_short : (asked : Option Options) (input output output_after faults faults_after : Option (List ℕ)) (text given : List ℕ)
     (fault : ProgramFault) (status : ℕ) → IfSome input (IsAnswered asked text) → given ≡ text → AppendsBeginning output output_after given
-    → fault ≡ Output → status ≡ status_of fault → AppendsBeginning faults faults_after (fault_text fault)
+    → fault ≡ Output → status ≡ fault_status_of fault → AppendsBeginning faults faults_after (fault_text fault)
     → DrivesScript asked input (written output faults) (written output_after faults_after) status
 drives_short asked input output output_after faults faults_after text given fault status answered same begun is status_is told =
-    let ended : status ≡ 1 = status_is ∙ ap status_of is in
+    let ended : status ≡ 1 = status_is ∙ ap fault_status_of is in
     record {
       status_at_most = omega (arith, ended);
       is_asked = λ well. absurd (not_answered status ended well);
@@ -106,11 +106,11 @@ drives_short asked input output output_after faults faults_after text given faul
 
 -- a fault came before there were answers
 pub drives_badly : (asked : Option Options) (input output faults faults_after : Option (List ℕ)) (fault : ProgramFault) (status : ℕ)
-    → IfSome input (HasCause asked fault) → status ≡ status_of fault → AppendsBeginning faults faults_after (fault_text fault)
+    → IfSome input (HasCause asked fault) → status ≡ fault_status_of fault → AppendsBeginning faults faults_after (fault_text fault)
     → DrivesScript asked input (written output faults) (written output faults_after) status
 drives_badly asked input output faults faults_after fault status cause status_is told =
-    let low : 1 ≤ status_of fault = status_low fault in
-    let high : status_of fault ≤ 2 = status_high fault in
+    let low : 1 ≤ fault_status_of fault = status_low fault in
+    let high : fault_status_of fault ≤ 2 = status_high fault in
     let not_well : IsAnsweredStatus status → ⊥ = λ well. elim well [
       | inl zero ↦ omega (arith, status_is, low, zero)
       | inr three ↦ omega (arith, status_is, high, three)

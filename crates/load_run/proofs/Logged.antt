@@ -14,7 +14,7 @@ use Rattle.line_server.specs.Logs.{AddsPart, LogsLine, RenewsWatch, answer_comme
 use Rattle.line_server.proofs.Logged.{wrote_alone}
 use Rattle.load_run.specs.declared.boot_end.BootEnd.{BootEnd}
 use Rattle.load_run.specs.Ending.{EndsHeld, boot_end_text}
-use Rattle.load_run.specs.Logs.{GrowsBy, LogsAll, LogsAllAndEnd, LogsEnd, LogsNext, text_of}
+use Rattle.load_run.specs.Logs.{GrowsBy, LogsAll, LogsAllAndEnd, LogsEnd, LogsNext, text_of_line}
 
 -- ---- the lines so far
 
@@ -34,7 +34,7 @@ logs_more on texts lines i default s m e old mid new part inside so_far one adde
 
 -- the text of the line, as it was looked up
 pub logs_text : (on : Terms) (texts : List (List ℕ)) (m e : SystemState) {line : Line} {part : List ℕ} (l : List ℕ)
-    → l ≡ text_of texts line → LogsLine on l line m e part → LogsNext on texts line m e part
+    → l ≡ text_of_line texts line → LogsLine on l line m e part → LogsNext on texts line m e part
 logs_text on texts m e {line} {part} l is one = subst (λ (x : List ℕ). LogsLine on x line m e part) is one
 
 -- ---- the end

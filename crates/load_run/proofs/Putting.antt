@@ -13,10 +13,10 @@ use Rattle.step_watch.specs.Watched.{Watches, cpu_makes}
 use Rattle.step_watch.proofs.Watching.{watches_both, watches_none}
 use Rattle.mem_machine.specs.Machines.{KnownMachine, VisitState, visit_state}
 use Rattle.mem_history.specs.Leading.{put_answer}
-use Rattle.mem_system.specs.Ends.{ForEachCpu, KnownEmptiedBoot, MakesLastVisits, pins_of}
+use Rattle.mem_system.specs.Ends.{ForEachCpu, KnownEmptiedBoot, MakesLastVisits, pins_of_all}
 use Rattle.mem_system.specs.Locked.{KnownLocked}
 use Rattle.script_replay.specs.Lines.{SystemState, system_state}
-use Rattle.load_run.specs.Ending.{LeavesNothing, PutsAllPins, PutsEach, PutsPin, steps_of_all_puts, steps_of_puts}
+use Rattle.load_run.specs.Ending.{LeavesNothing, PutsAllPins, PutsEach, PutsHeldPin, steps_of_all_puts, steps_of_puts}
 
 -- the pins of these frames were put so far
 pub record PutSoFar (before now : VisitState) : Type 0 where
@@ -26,16 +26,16 @@ pub record PutSoFar (before now : VisitState) : Type 0 where
 pub put_start : (before : VisitState) → PutSoFar before before
 put_start before = record { frames = []; puts = refl }
 
-puts_more : (frames : List ℕ) (f : ℕ) (before mid after : VisitState) → PutsEach frames before mid → PutsPin f mid after → PutsEach (frames ++ f ∷ []) before after
+puts_more : (frames : List ℕ) (f : ℕ) (before mid after : VisitState) → PutsEach frames before mid → PutsHeldPin f mid after → PutsEach (frames ++ f ∷ []) before after
 puts_more [] f before mid after puts one =
-    record { between = after; first = subst (λ (x : VisitState). PutsPin f x after) puts one; rest = refl }
+    record { between = after; first = subst (λ (x : VisitState). PutsHeldPin f x after) puts one; rest = refl }
 puts_more (e ∷ frames) f before mid after puts one = record {
   between = puts.between;
   first = puts.first;
   rest = puts_more frames f puts.between mid after puts.rest one;
 }
 
-pub put_more : (f : ℕ) (before mid after : VisitState) → PutSoFar before mid → PutsPin f mid after → PutSoFar before after
+pub put_more : (f : ℕ) (before mid after : VisitState) → PutSoFar before mid → PutsHeldPin f mid after → PutSoFar before after
 put_more f before mid after so_far one = record {
   frames = so_far.frames ++ f ∷ [];
   puts = puts_more so_far.frames f before mid after so_far.puts one;
@@ -46,14 +46,14 @@ fewer_left : (f : ℕ) (answer : Put) (c d : KnownCpu) → UnpinAnswers f answer
 fewer_left f (Left n) c d one = let parted = length_parted f c.pins d.pins one.0 in omega arith
 fewer_left f Last c d one = let parted = length_parted f c.pins d.pins one.0 in omega arith
 
-pub fewer_pins : (f : ℕ) (before after : VisitState) → PutsPin f before after → length after.cpu.pins < length before.cpu.pins
+pub fewer_pins : (f : ℕ) (before after : VisitState) → PutsHeldPin f before after → length after.cpu.pins < length before.cpu.pins
 fewer_pins f before after one = fewer_left f one.answer before.cpu after.cpu one.cpu
 
 pub lets_go : (before after : VisitState) → PutSoFar before after → after.cpu.pins ≡ [] → PutsAllPins before after
 lets_go before after so_far none = record { frames = so_far.frames; puts = so_far.puts; none_left = none }
 
 -- no pin is left then
-pub none_pinned : (m : KnownMachine) (cpus : List KnownCpu) (n : KnownMachine) (left : List KnownCpu) → ForEachCpu PutsAllPins m cpus n left → pins_of left ≡ 0
+pub none_pinned : (m : KnownMachine) (cpus : List KnownCpu) (n : KnownMachine) (left : List KnownCpu) → ForEachCpu PutsAllPins m cpus n left → pins_of_all left ≡ 0
 none_pinned m [] n [] puts = refl
 none_pinned m [] n (d ∷ left) puts = absurd puts
 none_pinned m (c ∷ cpus) n [] puts = absurd puts
@@ -68,7 +68,7 @@ nothing_held [] h = refl
 nothing_held (x ∷ xs) h = absurd (omega (arith, h))
 
 -- without a pin, none is put
-pub none_put : (m : KnownMachine) (cpus : List KnownCpu) → pins_of cpus ≡ 0 → ForEachCpu PutsAllPins m cpus m cpus
+pub none_put : (m : KnownMachine) (cpus : List KnownCpu) → pins_of_all cpus ≡ 0 → ForEachCpu PutsAllPins m cpus m cpus
 none_put m [] none = refl
 none_put m (c ∷ cpus) none =
     let parts = sum_by-append (λ (x : KnownCpu). length x.pins) (c ∷ []) cpus in
@@ -102,7 +102,7 @@ puts_watched m (c ∷ cpus) n (d ∷ left) puts =
 
 pub leaves_nothing : (t : KnownTable) (w : KnownStockTable) (before : SystemState) (held : ℕ) (emptied : KnownEmptiedBoot) (locked : KnownLocked)
     (cpus : List KnownCpu)
-    → held ≡ pins_of before.cpus → ForEachCpu PutsAllPins before.locked.machine before.cpus locked.machine cpus → locked.sizes ≡ before.locked.sizes
+    → held ≡ pins_of_all before.cpus → ForEachCpu PutsAllPins before.locked.machine before.cpus locked.machine cpus → locked.sizes ≡ before.locked.sizes
     → (held ≡ 0 → system_state locked cpus ≡ before) → MakesLastVisits t w locked cpus emptied → LeavesNothing t w before held emptied
 leaves_nothing t w before held emptied locked cpus held_are puts sizes free visits =
     let putting = steps_of_all_puts before.locked.machine before.cpus locked.machine cpus puts in

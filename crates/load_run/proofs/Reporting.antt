@@ -8,7 +8,7 @@ use Rattle.load_run.specs.declared.fault.ProgramFault.{ProgramFault}
 use Rattle.load_run.specs.declared.fault.ProgramFault.TheVariants.{BadConfig, BadLogLine, IllegalEnd, IllegalLine, Input, NoMemory, Output, Script, Words}
 use Rattle.load_run.specs.Answers.{bytes_read}
 use Rattle.load_run.specs.Causes.{written}
-use Rattle.load_run.specs.Fault.{fault_text, status_of}
+use Rattle.load_run.specs.Fault.{fault_text, fault_status_of}
 use Rattle.load_run.specs.Lints.{FailsToLint, IsEarlyFault, IsLintText, LeavesFindings, Lints, ReportsFindings, ReportsNothing, lint_status}
 use Rattle.line_server.specs.Writing.{AppendsBeginning}
 
@@ -75,11 +75,11 @@ lints_failed sizes input before after faults faults_after fault status left ende
 -- the output failed
 pub lints_short : (sizes : Config) (input before after faults faults_after : Option (List ℕ)) (text given : List ℕ) (is_clean : Bool)
     (fault : ProgramFault) (status : ℕ) → Reports sizes input text is_clean → given ≡ text → AppendsBeginning before after given
-    → fault ≡ Output → status ≡ status_of fault → AppendsBeginning faults faults_after (fault_text fault)
+    → fault ≡ Output → status ≡ fault_status_of fault → AppendsBeginning faults faults_after (fault_text fault)
     → Lints sizes input (written before faults) (written after faults_after) status
 lints_short sizes input before after faults faults_after text given is_clean fault status lint same begun is status_is told =
     lints_failed sizes input before after faults faults_after fault status
-    (subst (λ (f : ProgramFault). IfSome input (LeavesFindings sizes f before after)) (sym is) (go input lint)) (status_is ∙ ap status_of is) told
+    (subst (λ (f : ProgramFault). IfSome input (LeavesFindings sizes f before after)) (sym is) (go input lint)) (status_is ∙ ap fault_status_of is) told
   where
     go : (bytes : Option (List ℕ)) → Reports sizes bytes text is_clean → IfSome bytes (LeavesFindings sizes Output before after)
     go None lint = tt
@@ -91,7 +91,7 @@ everywhere (Some text) P all = all text
 
 -- a fault came before there was anything to write
 pub lints_early : (sizes : Config) (input output faults faults_after : Option (List ℕ)) (fault : ProgramFault) (status : ℕ)
-    → IsEarlyFault fault → status ≡ status_of fault → AppendsBeginning faults faults_after (fault_text fault)
+    → IsEarlyFault fault → status ≡ fault_status_of fault → AppendsBeginning faults faults_after (fault_text fault)
     → Lints sizes input (written output faults) (written output faults_after) status
 lints_early sizes input output faults faults_after Input status early ended told =
     lints_failed sizes input output output faults faults_after Input status

@@ -34,15 +34,15 @@ use Rattle.load_run.specs.declared.boot_end.BootEnd.{BootEnd}
 use Rattle.load_run.specs.Starting.{IsNewBootState}
 use Rattle.load_run.specs.Causes.{written}
 use Rattle.load_run.specs.Ending.{EndsHeld, boot_end_text}
-use Rattle.load_run.specs.Fault.{fault_text, status_of}
-use Rattle.load_run.specs.Logs.{LogsEnd, head_text}
+use Rattle.load_run.specs.Fault.{fault_text, fault_status_of}
+use Rattle.load_run.specs.Logs.{LogsEnd, log_head_text}
 use Rattle.load_run.specs.Sessions.{BeginsHead, DrivesSession, EndsInForm, EndsSession, IsOfValid, IsSameFault, IsWorkFault, LeavesEnding, LeavesSession}
 use Rattle.load_run.specs.Sessions.{LeavesWithHead, ServesInput, ServesWithHead, StopsSession, WritesHead}
 use Rattle.line_server.specs.Writing.{AppendsBeginning}
 use Rattle.load_run.proofs.Starting.{boot_shown, parts_tied}
 
 -- a fault at work has status 1
-work_status : (fault : ProgramFault) → IsWorkFault fault → status_of fault ≡ 1
+work_status : (fault : ProgramFault) → IsWorkFault fault → fault_status_of fault ≡ 1
 work_status kinds.Input is = refl
 work_status kinds.Output is = refl
 work_status (kinds.NoMemory error) is = refl
@@ -128,7 +128,7 @@ drives_served options form input before after faults serves = record {
 
 -- it failed at its work
 pub drives_failed : (options : Options) (form : SessionForm) (input before after faults faults_after : Option (List ℕ)) (fault : ProgramFault)
-    (status : ℕ) → LeavesWithHead options form input before after fault → status ≡ status_of fault
+    (status : ℕ) → LeavesWithHead options form input before after fault → status ≡ fault_status_of fault
     → AppendsBeginning faults faults_after (fault_text fault)
     → DrivesSession options form input (written before faults) (written after faults_after) status
 drives_failed options form input before after faults faults_after fault status left ended told =
@@ -157,7 +157,7 @@ drives_refused options form input before after faults faults_after status stops 
 
 -- it stopped, for any fault
 pub drives_stopped : (options : Options) (form : SessionForm) (input before after faults faults_after : Option (List ℕ)) (fault : ProgramFault)
-    (status : ℕ) → StopsSession options form input before after fault → status ≡ status_of fault
+    (status : ℕ) → StopsSession options form input before after fault → status ≡ fault_status_of fault
     → AppendsBeginning faults faults_after (fault_text fault)
     → DrivesSession options form input (written before faults) (written after faults_after) status
 drives_stopped options form input before after faults faults_after kinds.BadConfig status stops ended told =
@@ -190,12 +190,12 @@ no_head form is_explained sizes before is = subst (λ (f : SessionForm). WritesH
 
 -- the head of a log was written, or not whole, or not at all
 pub head_written : {T : Type 0} (r : Result T ProgramFault) (form : SessionForm) (sizes : Config) (before after : Option (List ℕ)) (bytes : List ℕ) → form ≡ Steps
-    → bytes ≡ head_text sizes → OnOk r (Appends before after bytes) → OnOk r (WritesHead form sizes before after)
+    → bytes ≡ log_head_text sizes → OnOk r (Appends before after bytes) → OnOk r (WritesHead form sizes before after)
 head_written r form sizes before after bytes is same written =
     subst (λ (f : SessionForm). OnOk r (WritesHead f sizes before after)) (sym is) (subst (λ (l : List ℕ). OnOk r (Appends before after l)) same written)
 
 pub head_begun : {T : Type 0} (r : Result T ProgramFault) (form : SessionForm) (sizes : Config) (before after : Option (List ℕ)) (bytes : List ℕ) → form ≡ Steps
-    → bytes ≡ head_text sizes → IfErr r (λ fault. fault ≡ kinds.Output) → AppendsBeginning before after bytes
+    → bytes ≡ log_head_text sizes → IfErr r (λ fault. fault ≡ kinds.Output) → AppendsBeginning before after bytes
     → IfErr r (λ fault. IsWorkFault fault × BeginsHead form sizes before after)
 head_begun (Ok x) form sizes before after bytes is same failed begun = tt
 head_begun (Err fault) form sizes before after bytes is same failed begun = (

@@ -80,7 +80,7 @@ watched_first t w m watch first = record {
 
 -- a new watch of a boot's sizes is one of its tables
 pub new_watch : (booted sizes : Config) (t : KnownTable) (w : KnownStockTable) → IsSizedAs booted t w → booted ≡ sizes → (watch : KnownWatch)
-    → IsNewWatch (core.zone_of sizes) watch → IsNewWatch (zone_of t) watch
+    → IsNewWatch (core.zone_of_config sizes) watch → IsNewWatch (zone_of t) watch
 new_watch booted sizes t w sized same watch new =
     let frames : sizes.frames ≡ t.frames = ap (λ (s : Config). s.frames) (sym same) ∙ sym sized.frames in
     let cpus : sizes.cpus ≡ t.cpus = ap (λ (s : Config). s.cpus) (sym same) ∙ sym sized.cpus in

@@ -28,7 +28,7 @@ use Rattle.load_run.proofs.Starting.{new_watch, watched_first}
 -- a new boot that was given a new watch
 pub new_watched : (booted sizes : Config) (t : KnownTable) (w : KnownStockTable) (locked : KnownLocked) (cpus : List KnownCpu) (watch : KnownWatch)
     (after : KnownLocked) → IsSizedAs booted t w → booted ≡ sizes → IsFirst t w locked.machine → locked.sizes ≡ booted
-    → cpus ≡ first_cpus t w 1 booted.cpus → IsNewWatch (core.zone_of sizes) watch → after ≡ record locked { machine = with_watch locked.machine watch }
+    → cpus ≡ first_cpus t w 1 booted.cpus → IsNewWatch (core.zone_of_config sizes) watch → after ≡ record locked { machine = with_watch locked.machine watch }
     → IsNewWatchedState booted t w (system_state after cpus)
 new_watched booted sizes t w locked cpus watch after sized same first sizes_are are new is = record {
   first = record {

@@ -6,7 +6,7 @@ use Rattle.load_run.specs.declared.fault.ProgramFault.{ProgramFault}
 use Rattle.load_run.specs.declared.fault.ProgramFault.TheVariants.{Words, Script, BadLogLine, BadConfig, IllegalEnd, IllegalLine, Input, Output, NoMemory}
 use Rattle.load_run.specs.Causes.{written}
 use Rattle.load_run.specs.Checks.{LeavesLine}
-use Rattle.load_run.specs.Fault.{fault_text, status_of}
+use Rattle.load_run.specs.Fault.{fault_text, fault_status_of}
 use Rattle.load_run.specs.Versions.{WritesVersion, version_text}
 use Rattle.line_server.specs.Writing.{AppendsBeginning}
 
@@ -21,8 +21,8 @@ version_written before after faults whole = record {
 }
 
 -- that failed with this fault
-pub version_failed : (before after faults faults_after : Option (List ℕ)) (fault : ProgramFault) (status : ℕ) → status_of fault ≡ 1
-    → AppendsBeginning before after version_text → status ≡ status_of fault → AppendsBeginning faults faults_after (fault_text fault)
+pub version_failed : (before after faults faults_after : Option (List ℕ)) (fault : ProgramFault) (status : ℕ) → fault_status_of fault ≡ 1
+    → AppendsBeginning before after version_text → status ≡ fault_status_of fault → AppendsBeginning faults faults_after (fault_text fault)
     → WritesVersion (written before faults) (written after faults_after) status
 version_failed before after faults faults_after fault status failure begun is told =
     let ended : status ≡ 1 = is ∙ failure in record {
@@ -34,7 +34,7 @@ version_failed before after faults faults_after fault status failure begun is to
 
 -- it wasn't written, or not whole
 pub version_unwritten : (before after faults faults_after : Option (List ℕ)) (fault : ProgramFault) (status : ℕ)
-    → LeavesLine version_text before after fault → status ≡ status_of fault → AppendsBeginning faults faults_after (fault_text fault)
+    → LeavesLine version_text before after fault → status ≡ fault_status_of fault → AppendsBeginning faults faults_after (fault_text fault)
     → WritesVersion (written before faults) (written after faults_after) status
 version_unwritten before after faults faults_after Output status left is told =
     version_failed before after faults faults_after Output status refl left is told

@@ -26,7 +26,7 @@ use Rattle.load_run.specs.Driving.{Drives, DrivesScript, DrivesTask, LintsAsked}
 use Rattle.load_run.specs.Lints.{Lints}
 use Rattle.load_run.specs.Sessions.{DrivesSession, SessionAsked}
 use Rattle.load_run.specs.Versions.{WritesVersion}
-use Rattle.load_run.specs.Fault.{IsWordsFault, fault_text, status_of}
+use Rattle.load_run.specs.Fault.{IsWordsFault, fault_text, fault_status_of}
 use Rattle.line_server.specs.Writing.{AppendsBeginning}
 use Rattle.load_run.proofs.Causing.{words_cause}
 use Rattle.load_run.proofs.Driving.{drives_badly}
@@ -147,7 +147,7 @@ IsEarly fault = ⊥
 
 -- so with each of these
 pub checks_fault : (all : Bool) (input output faults faults_after : Option (List ℕ)) (fault : ProgramFault) (status : ℕ) → IsEarly fault
-    → status ≡ status_of fault → AppendsBeginning faults faults_after (fault_text fault)
+    → status ≡ fault_status_of fault → AppendsBeginning faults faults_after (fault_text fault)
     → Checks all input (written output faults) (written output faults_after) status
 checks_fault all input output faults faults_after Input status is ended told =
     checks_early all input output faults faults_after Input status (λ text. refl) ended told
@@ -163,7 +163,7 @@ checks_fault all input output faults faults_after Output status is ended told = 
 
 -- what was to be written wasn't, or not whole
 pub checks_unwritten : (all : Bool) (input before after faults faults_after : Option (List ℕ)) (end : LogVerdict) (fault : ProgramFault) (status : ℕ) → IsLogVerdictOf all input end
-    → LeavesLine (verdict_text end) before after fault → status ≡ status_of fault → AppendsBeginning faults faults_after (fault_text fault)
+    → LeavesLine (verdict_text end) before after fault → status ≡ fault_status_of fault → AppendsBeginning faults faults_after (fault_text fault)
     → Checks all input (written before faults) (written after faults_after) status
 checks_unwritten all input before after faults faults_after end fault status is left ended told = go fault left ended told
   where
@@ -171,7 +171,7 @@ checks_unwritten all input before after faults faults_after end fault status is 
     begun None is begins = tt
     begun (Some text) is begins = record { verdict = end; is = is.0; begun = begins }
 
-    go : (f : ProgramFault) → LeavesLine (verdict_text end) before after f → status ≡ status_of f → AppendsBeginning faults faults_after (fault_text f)
+    go : (f : ProgramFault) → LeavesLine (verdict_text end) before after f → status ≡ fault_status_of f → AppendsBeginning faults faults_after (fault_text f)
         → Checks all input (written before faults) (written after faults_after) status
     go Output left ended told = checks_failed all input before after faults faults_after Output status (begun input is left) ended told
     go (NoMemory e) left ended told =
@@ -188,13 +188,13 @@ checks_unwritten all input before after faults faults_after end fault status is 
 
 -- the words ask for nothing, or memory ran out for them
 pub drives_words : (asked : Option Options) (input output faults faults_after : Option (List ℕ)) (fault : ProgramFault) (status : ℕ)
-    → IsWordsFault asked fault → status ≡ status_of fault → AppendsBeginning faults faults_after (fault_text fault)
+    → IsWordsFault asked fault → status ≡ fault_status_of fault → AppendsBeginning faults faults_after (fault_text fault)
     → Drives asked input (written output faults) (written output faults_after) status
 drives_words None input output faults faults_after fault status is ended told =
     drives_badly None input output faults faults_after fault status (words_cause None input fault is) ended told
 drives_words (Some options) input output faults faults_after fault status is ended told = by_task options.task
   where
-    for_check : (all : Bool) (f : ProgramFault) → IsWordsFault (Some options) f → status ≡ status_of f
+    for_check : (all : Bool) (f : ProgramFault) → IsWordsFault (Some options) f → status ≡ fault_status_of f
         → AppendsBeginning faults faults_after (fault_text f) → Checks all input (written output faults) (written output faults_after) status
     for_check all (Words (words.NoMemory e)) is ended told =
         checks_early all input output faults faults_after (Words (words.NoMemory e)) status (λ text. refl) ended told
@@ -208,7 +208,7 @@ drives_words (Some options) input output faults faults_after fault status is end
     for_check all Output is ended told = absurd is
     for_check all (NoMemory e) is ended told = absurd is
 
-    for_lint : (f : ProgramFault) → IsWordsFault (Some options) f → status ≡ status_of f → AppendsBeginning faults faults_after (fault_text f)
+    for_lint : (f : ProgramFault) → IsWordsFault (Some options) f → status ≡ fault_status_of f → AppendsBeginning faults faults_after (fault_text f)
         → Lints options.sizes input (written output faults) (written output faults_after) status
     for_lint (Words (words.NoMemory e)) is ended told =
         lints_early options.sizes input output faults faults_after (Words (words.NoMemory e)) status tt ended told
@@ -222,7 +222,7 @@ drives_words (Some options) input output faults faults_after fault status is end
     for_lint Output is ended told = absurd is
     for_lint (NoMemory e) is ended told = absurd is
 
-    for_version : (f : ProgramFault) → IsWordsFault (Some options) f → status ≡ status_of f → AppendsBeginning faults faults_after (fault_text f)
+    for_version : (f : ProgramFault) → IsWordsFault (Some options) f → status ≡ fault_status_of f → AppendsBeginning faults faults_after (fault_text f)
         → WritesVersion (written output faults) (written output faults_after) status
     for_version (Words (words.NoMemory e)) is ended told =
         version_failed output output faults faults_after (Words (words.NoMemory e)) status refl (0, Appends-nil output) ended told
@@ -236,7 +236,7 @@ drives_words (Some options) input output faults faults_after fault status is end
     for_version Output is ended told = absurd is
     for_version (NoMemory e) is ended told = absurd is
 
-    for_serve : (form : SessionForm) (f : ProgramFault) → IsWordsFault (Some options) f → status ≡ status_of f
+    for_serve : (form : SessionForm) (f : ProgramFault) → IsWordsFault (Some options) f → status ≡ fault_status_of f
         → AppendsBeginning faults faults_after (fault_text f)
         → DrivesSession options form input (written output faults) (written output faults_after) status
     for_serve form (Words (words.NoMemory e)) is ended told =

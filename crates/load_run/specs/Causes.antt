@@ -14,7 +14,7 @@ use Rattle.load_run.specs.declared.fault.ProgramFault.{ProgramFault}
 use Rattle.load_run.specs.declared.fault.ProgramFault.TheVariants.{Words, Script, BadLogLine, BadConfig}
 use Rattle.load_run.specs.declared.fault.ProgramFault.TheVariants.{IllegalLine, IllegalEnd, Input, Output, NoMemory}
 use Rattle.load_run.specs.Answers.{IsAnswered, bytes_read}
-use Rattle.load_run.specs.Fault.{fault_text, status_of}
+use Rattle.load_run.specs.Fault.{fault_text, fault_status_of}
 use Rattle.load_run.specs.Stopping.{OfCheckedForm, StopsAtIllegalEnd, StopsAtIllegalLine}
 use Rattle.line_server.specs.Writing.{AppendsBeginning}
 
@@ -26,7 +26,7 @@ pub record IsBadAt (asked : Option Options) (number : ℕ) (input : List ℕ) : 
   pub first : IsFirstBadLine options.sizes (bytes_read input) number
 
 -- the input is a script for the sizes that are asked for, and a boot refuses these
-pub record IsRefused (asked : Option Options) (input : List ℕ) : Type 0 where
+pub record HasRefusedSizes (asked : Option Options) (input : List ℕ) : Type 0 where
   pub options : Options
   pub is_asked : asked ≡ Some options
   pub lines : List Line
@@ -56,7 +56,7 @@ HasCause asked (Words fault) input = GivesOptions asked (Err fault)
 HasCause asked (Script (script.BadLine number)) input = IsBadAt asked number input
 HasCause asked (Script script.NoMemory) input = IsSome asked
 HasCause asked (BadLogLine number reason) input = ⊥
-HasCause asked BadConfig input = IsRefused asked input
+HasCause asked BadConfig input = HasRefusedSizes asked input
 HasCause asked (IllegalLine number) input =
     IsStopped asked input (λ sizes form lines. StopsAtIllegalLine sizes form lines number)
 HasCause asked IllegalEnd input = IsStopped asked input StopsAtIllegalEnd
@@ -88,7 +88,7 @@ LeavesAnswers asked fault before after input = Keeps before after
 -- A writer that held the bytes `before`, if they are known, got the text of the fault, as far as it took it.
 pub record IsMisused (asked : Option Options) (before after : Option (List ℕ)) (input : List ℕ) : Type 0 where
   pub fault : ProgramFault
-  pub is_misuse : status_of fault ≡ 2
+  pub is_misuse : fault_status_of fault ≡ 2
   pub cause : HasCause asked fault input
   pub told : AppendsBeginning before after (fault_text fault)
 
@@ -96,7 +96,7 @@ pub record IsMisused (asked : Option Options) (before after : Option (List ℕ))
 -- text of the fault, as far as the writer took it.
 pub record FailsAtWork (asked : Option Options) (before after : Written) (input : List ℕ) : Type 0 where
   pub fault : ProgramFault
-  pub is_failure : status_of fault ≡ 1
+  pub is_failure : fault_status_of fault ≡ 1
   pub cause : HasCause asked fault input
   pub left : LeavesAnswers asked fault before.output after.output input
   pub told : AppendsBeginning before.faults after.faults (fault_text fault)

@@ -5,7 +5,7 @@ use Rattle.log_check.specs.declared.line_fault.LineFault.{LineFault}
 use Rattle.log_check.specs.declared.verdict.LogEnd.{LogEnd}
 use Rattle.log_check.specs.declared.verdict.LogVerdict.{LogVerdict}
 use Rattle.log_check.specs.declared.verdict.LogVerdict.TheVariants.{BadLine, Legal, LeftOut, NotLegal}
-use Rattle.log_check.specs.Verdicts.{IsBadLine, IsLegalLog, IsLogVerdict, KeepsPromise, says_legal}
+use Rattle.log_check.specs.Verdicts.{IsBadLine, IsLegalLog, IsLogVerdict, IsPromisedLog, says_legal}
 use Rattle.log_check.specs.Texts.{verdict_text}
 use Rattle.load_options.specs.declared.fault.WordsFault.TheVariants as words
 use Rattle.load_run.specs.declared.fault.ProgramFault.{ProgramFault}
@@ -27,7 +27,7 @@ pub record ReportsLegal (before after : Option (List ℕ)) (text : List ℕ) : T
   pub steps : ℕ
   pub free : ℕ
   pub end : LogEnd
-  pub keeps : KeepsPromise text steps free end
+  pub keeps : IsPromisedLog text steps free end
   pub written : Appends before after (verdict_text (Legal steps free end))
 
 -- The text is that of no legal run. The verdict names the first step that isn't legal, or, with `all`, each of them;

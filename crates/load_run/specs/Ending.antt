@@ -12,14 +12,14 @@ use Rattle.step_watch.specs.Watched.{Watches, cpu_makes, has_legal_steps, steps_
 use Rattle.mem_machine.specs.Machines.{KnownMachine, VisitState, visit_state, with_watch}
 use Rattle.mem_history.specs.Leading.{put_answer}
 use Rattle.mem_system.specs.declared.audit.Audit.{Audit}
-use Rattle.mem_system.specs.Ends.{Closes, ForEachCpu, KnownEmptiedBoot, MakesLastVisits, pins_of}
+use Rattle.mem_system.specs.Ends.{Closes, ForEachCpu, KnownEmptiedBoot, MakesLastVisits, pins_of_all}
 use Rattle.mem_system.specs.Locked.{KnownLocked}
 use Rattle.script_replay.specs.Lines.{SystemState, system_state}
 use Rattle.load_run.specs.declared.boot_end.BootEnd.{BootEnd}
 use Rattle.load_run.specs.declared.boot_end.CheckedSteps.{CheckedSteps}
 
 -- a pin of this frame is put, and the machine's watch takes the step
-pub record PutsPin (frame : ℕ) (before after : VisitState) : Type 0 where
+pub record PutsHeldPin (frame : ℕ) (before after : VisitState) : Type 0 where
   pub answer : Put
   pub cpu : UnpinAnswers frame answer before.cpu after.cpu
   pub machine : after.machine ≡ with_watch before.machine after.machine.watch
@@ -30,7 +30,7 @@ pub record PutsPin (frame : ℕ) (before after : VisitState) : Type 0 where
 pub record PutsFirstAndRest (frame : ℕ) (puts_rest : (before after : VisitState) → Type 0)
     (before after : VisitState) : Type 0 where
   pub between : VisitState
-  pub first : PutsPin frame before between
+  pub first : PutsHeldPin frame before between
   pub rest : puts_rest between after
 
 -- a pin of each of these frames is put, one after the other
@@ -64,7 +64,7 @@ steps_of_all_puts before (cpu ∷ cpus) after (cpu_left ∷ left) puts =
 -- last visits are made. These are all steps, in order, and the machine's watch took them.
 pub record LeavesNothing (table : KnownTable) (stock_table : KnownStockTable) (before : SystemState) (held : ℕ)
     (emptied : KnownEmptiedBoot) : Type 0 where
-  pub held_are : held ≡ pins_of before.cpus
+  pub held_are : held ≡ pins_of_all before.cpus
   pub locked : KnownLocked
   pub cpus : List KnownCpu
   pub puts : ForEachCpu PutsAllPins before.locked.machine before.cpus locked.machine cpus

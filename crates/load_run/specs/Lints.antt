@@ -4,7 +4,7 @@ use Rattle.std.specs.Io.KnownBytes.{Appends}
 use Rattle.std.specs.List.{flat_map}
 use Rattle.zone_blocks.specs.declared.config.Config.{Config}
 use Rattle.script_lint.specs.Findings.{IsLinted}
-use Rattle.script_lint.specs.Refused.{AreRefused, refused_text}
+use Rattle.script_lint.specs.Refused.{AreRefused, refused_line_text}
 use Rattle.script_lint.specs.Texts.{finding_text, sizes_text}
 use Rattle.script_lint.specs.declared.finding.Finding.{Finding}
 use Rattle.script_lint.specs.declared.refused.RefusedLine.{RefusedLine}
@@ -29,7 +29,7 @@ pub record IsLintText (sizes : Config) (script text : List ℕ) (is_clean : Bool
   pub refused : List RefusedLine
   pub are_refused : AreRefused sizes script refused
   pub text_is : text ≡ (flat_map (finding_text (codes "-") sizes) findings
-      ++ flat_map (refused_text (codes "-")) refused) ++ sizes_text sizes
+      ++ flat_map (refused_line_text (codes "-")) refused) ++ sizes_text sizes
   pub clean : is_clean ≡ true → IsClean sizes findings
   pub found : is_clean ≡ false → ¬ IsClean sizes findings
 

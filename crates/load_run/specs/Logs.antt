@@ -22,17 +22,17 @@ sizes_comment sizes =
     ++ (decimal sizes.stock ++ codes "\n")))))
 
 -- what a log of a boot with these sizes begins with: the zone's line, and the comment with the other sizes
-abbrev pub head_text : Config → List ℕ
-head_text sizes = (zone_text sizes.frames sizes.cpus ++ 10 ∷ []) ++ sizes_comment sizes
+abbrev pub log_head_text : Config → List ℕ
+log_head_text sizes = (zone_text sizes.frames sizes.cpus ++ 10 ∷ []) ++ sizes_comment sizes
 
 -- the text of the line of this number, from 1, among all texts of the script; nothing if there is none
 abbrev pub text_at : List (List ℕ) → ℕ → List ℕ
 text_at texts number = if number == 0 then [] else get_or texts (number - 1) []
 
 -- the text of the line among all texts of its script; nothing for `go`
-abbrev pub text_of : List (List ℕ) → Line → List ℕ
-text_of texts Go = []
-text_of texts (At number cpu command) = text_at texts number
+abbrev pub text_of_line : List (List ℕ) → Line → List ℕ
+text_of_line texts Go = []
+text_of_line texts (At number cpu command) = text_at texts number
 
 -- bytes that have grown by a text of which `is_added` holds
 pub record GrowsBy (is_added : List ℕ → Type 0) (before after : List ℕ) : Type 0 where
@@ -42,7 +42,7 @@ pub record GrowsBy (is_added : List ℕ → Type 0) (before after : List ℕ) : 
 
 -- the log of a line whose text is among these
 abbrev pub LogsNext : Terms → List (List ℕ) → Line → (before after : SystemState) (log : List ℕ) → Type 0
-LogsNext terms texts line before after log = LogsLine terms (text_of texts line) line before after log
+LogsNext terms texts line before after log = LogsLine terms (text_of_line texts line) line before after log
 
 -- the log of lines that are served one after the other
 abbrev pub LogsAll : Terms → List (List ℕ) → List Line → (before after : SystemState) (log : List ℕ) → Type 0
@@ -80,4 +80,4 @@ pub record AreLoggedSteps (sizes : Config) (script : List ℕ) (lines : List Lin
   pub first : IsNewBootState sizes frames stocks start
   pub log : List ℕ
   pub logs : LogsAllAndEnd frames stocks (texts_of script) lines start log
-  pub text_is : text ≡ head_text sizes ++ log
+  pub text_is : text ≡ log_head_text sizes ++ log

@@ -23,7 +23,7 @@ use Rattle.load_run.specs.Starting.{IsNewBootState}
 use Rattle.load_run.specs.Causes.{Written}
 use Rattle.load_run.specs.Ending.{WritesEnd}
 use Rattle.load_run.specs.Fault.{fault_text}
-use Rattle.load_run.specs.Logs.{LogsEnd, head_text}
+use Rattle.load_run.specs.Logs.{LogsEnd, log_head_text}
 use Rattle.line_server.specs.Writing.{AppendsBeginning}
 
 -- a boot ended from this state after a session of this form, and this is what is written about that
@@ -111,12 +111,12 @@ pub record LeavesSession (options : Options) (form : SessionForm) (input before 
 -- the head was written: of a session that writes a log, the sizes
 abbrev pub WritesHead : SessionForm → Config → (before after : Option (List ℕ)) → Type 0
 WritesHead (Answers is_explained) sizes before after = after ≡ before
-WritesHead Steps sizes before after = Appends before after (head_text sizes)
+WritesHead Steps sizes before after = Appends before after (log_head_text sizes)
 
 -- or a beginning of it
 abbrev pub BeginsHead : SessionForm → Config → (before after : Option (List ℕ)) → Type 0
 BeginsHead (Answers is_explained) sizes before after = after ≡ before
-BeginsHead Steps sizes before after = AppendsBeginning before after (head_text sizes)
+BeginsHead Steps sizes before after = AppendsBeginning before after (log_head_text sizes)
 
 -- the head was written, and what holds then
 pub record WithHead (options : Options) (form : SessionForm) (before : Option (List ℕ))

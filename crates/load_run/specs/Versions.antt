@@ -3,7 +3,7 @@ use Rattle.std.specs.Prelude.{◌≡◌, ℕ, ◌≤◌, List, codes}
 use Rattle.std.specs.Io.KnownBytes.{Appends}
 use Rattle.load_run.specs.declared.fault.ProgramFault.{ProgramFault}
 use Rattle.load_run.specs.Causes.{Written}
-use Rattle.load_run.specs.Fault.{fault_text, status_of}
+use Rattle.load_run.specs.Fault.{fault_text, fault_status_of}
 use Rattle.line_server.specs.Writing.{AppendsBeginning}
 
 -- the line with the program's name and version
@@ -13,7 +13,7 @@ version_text = codes "memcg 0.2.0\n"
 -- the version wasn't written, or not whole; the fault writer got why, as far as it took it
 pub record FailsToWriteVersion (before after : Written) : Type 0 where
   pub fault : ProgramFault
-  pub is_failure : status_of fault ≡ 1
+  pub is_failure : fault_status_of fault ≡ 1
   pub begun : AppendsBeginning before.output after.output version_text
   pub told : AppendsBeginning before.faults after.faults (fault_text fault)
 

@@ -6,7 +6,7 @@ ghost use Rattle.cpu_part.specs.Cpus.{times};
 ghost use Rattle.mem_machine.specs.Machines.{visit_state};
 ghost use Rattle.mem_system.specs.Ends.{ForEachCpu};
 ghost use Rattle.script_replay.specs.Lines.{system_state};
-ghost use Rattle.load_run.specs.Ending.{EndsChecked, EndsHeld, LeavesNothing, PutsAllPins, PutsPin};
+ghost use Rattle.load_run.specs.Ending.{EndsChecked, EndsHeld, LeavesNothing, PutsAllPins, PutsHeldPin};
 ghost use Rattle.load_run.specs.Ending.{audit_counts_text, audit_places_text, audit_text, held_text};
 
 use cpu_part::{BootName, Cpu, Tables};
@@ -36,7 +36,7 @@ pub struct CheckedSteps {
 // Puts a pin of the frame. The machine's watch takes the step.
 fn put_pin<N: BootName>(locked: &mut Locked<N>, tables: &Tables<N>, cpu: &mut Cpu<N>, frame: Frame)
     requires pinned { 1 ≤ times frame cpu.old.pins }
-    ensures puts { PutsPin frame (visit_state locked.old.machine cpu.old) (visit_state locked.new.machine cpu.new) }
+    ensures puts { PutsHeldPin frame (visit_state locked.old.machine cpu.old) (visit_state locked.new.machine cpu.new) }
     ensures sizes { locked.new.sizes ≡ locked.old.sizes }
 {
     let cpu_number = cpu.number();

@@ -41,11 +41,11 @@ pub enum ProgramFault {
 }
 
 impl ProgramFault {
-    ghost use Rattle.load_run.specs.Fault.{status_of};
+    ghost use Rattle.load_run.specs.Fault.{fault_status_of};
 
     /// The status that the program ends with: 2 if it was used wrongly, 1 if it failed at its work.
     pub fn status(&self) -> u8
-        ensures status { result ≡ status_of self.now }
+        ensures status { result ≡ fault_status_of self.now }
     {
         match self {
             ProgramFault::Words(WordsFault::BadWords(_))

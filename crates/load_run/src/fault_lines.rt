@@ -2,7 +2,7 @@
 
 ghost use Rattle.std.specs.Prelude.{◌≡◌, ◌++◌, OnOk, decimal};
 ghost use Rattle.std.specs.Io.KnownBytes.{Appends};
-ghost use Rattle.load_run.specs.Fault.{fault_text, status_of};
+ghost use Rattle.load_run.specs.Fault.{fault_text, fault_status_of};
 ghost use Rattle.line_server.specs.Writing.{AppendsBeginning};
 
 use crate::fault::ProgramFault;
@@ -15,7 +15,7 @@ use std::io::Write;
 
 /// Reports a fault in its words, as far as the writer takes them, and returns the status to end with.
 pub fn report_fault<F: Write>(fault: &ProgramFault, faults: &mut F) -> u8
-    ensures status { result ≡ status_of fault.now }
+    ensures status { result ≡ fault_status_of fault.now }
     ensures told { AppendsBeginning (F.contents faults.old) (F.contents faults.new) (fault_text fault.now) }
 {
     let _ = write_fault(fault, faults);

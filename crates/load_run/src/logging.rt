@@ -9,8 +9,8 @@ ghost use Rattle.script_replay.specs.Terms.{terms};
 ghost use Rattle.step_watch.specs.Watched.{has_whole_log, log_text};
 ghost use Rattle.line_server.specs.Logs.{AddsPart, answer_comments};
 ghost use Rattle.load_run.specs.Ending.{boot_end_text};
-ghost use Rattle.load_run.specs.Logs.{AreLoggedSteps, GrowsBy, LogsAll, LogsAllAndEnd, LogsEnd, head_text};
-ghost use Rattle.load_run.specs.Logs.{sizes_comment, text_at, text_of};
+ghost use Rattle.load_run.specs.Logs.{AreLoggedSteps, GrowsBy, LogsAll, LogsAllAndEnd, LogsEnd, log_head_text};
+ghost use Rattle.load_run.specs.Logs.{sizes_comment, text_at, text_of_line};
 
 use crate::boot_end::{BootEnd, empty_cpus, write_boot_end};
 use cpu_part::{BootName, Cpu, Tables};
@@ -50,7 +50,7 @@ fn text_at<'a>(texts: &[&'a [u8]], number: usize) -> &'a [u8]
 
 // The text of the line; nothing for `go`.
 fn text_of<'a>(texts: &[&'a [u8]], line: &Line<'_>) -> &'a [u8]
-    ensures { result.now ≡ text_of (map (λ text. text.now) texts.now) line.now }
+    ensures { result.now ≡ text_of_line (map (λ text. text.now) texts.now) line.now }
 {
     match line {
         Line::Go => &[],
@@ -153,7 +153,7 @@ pub(crate) fn texts_of<'a>(alloc: Global, script: &'a [u8]) -> Result<Vec<&'a [u
 
 /// What a log begins with: the sizes.
 pub(crate) fn log_head(alloc: Global, sizes: &Config) -> Result<Vec<u8>, AllocError>
-    ensures { IfOk result (λ log. log.items ≡ head_text sizes.now) }
+    ensures { IfOk result (λ log. log.items ≡ log_head_text sizes.now) }
 {
     let mut log = Vec::new(alloc);
     write_zone(sizes.frames, sizes.cpus, &mut log)?;

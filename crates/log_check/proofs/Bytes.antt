@@ -12,7 +12,7 @@ use Rattle.step_rules.specs.After.{IsLegalRun, Run, state_of}
 use Rattle.mem_core.specs.Shown.{CoreState, state_shown}
 use Rattle.mem_core.proofs.Keeping.{always_keeps}
 use Rattle.log_lines.specs.declared.line.LogLine.{LogLine}
-use Rattle.log_lines.specs.Line.{IsLineText}
+use Rattle.log_lines.specs.Line.{IsLogLineText}
 use Rattle.log_lines.specs.Log.{EndsBadly, MayBegin}
 use Rattle.log_lines.proofs.BadLines.{same_first}
 use Rattle.log_lines.proofs.Lines.{same_line}
@@ -26,10 +26,10 @@ use Rattle.log_check.specs.declared.progress.Taken.TheVariants.{GoesOn, NotLegal
 use Rattle.log_check.specs.declared.line_fault.LineFault.{LineFault}
 use Rattle.log_check.specs.declared.line_fault.LineFault.TheVariants.{NoLine, NoLineFeed, NoSizes, SizesAgain, StepFirst, TooLong}
 use Rattle.log_check.specs.declared.verdict.IllegalStep.{IllegalStep}
-use Rattle.log_check.specs.Verdicts.{BreaksRules, IsBadLine, IsLogVerdict, IsMisplaced, IsWhy, KeepsPromise, NamesLeftOut, zone_in}
+use Rattle.log_check.specs.Verdicts.{BreaksRules, IsBadLine, IsLogVerdict, IsMisplaced, IsWhy, IsPromisedLog, NamesLeftOut, zone_in}
 use Rattle.log_check.specs.declared.verdict.LogEnd.{LogEnd}
 use Rattle.log_check.specs.Ends.{IsEnd, free_count}
-use Rattle.log_check.specs.Taking.{AreLeftOut, AreWholeLines, Checked, Concludes, EndsIllegally, HasChecked, HasRead, HasTaken, LeadsTo, Reads, TakesAfter}
+use Rattle.log_check.specs.Taking.{AreLeftOut, AreWholeLines, Checked, Concludes, EndsIllegally, HasChecked, HasRead, HasTakenLines, LeadsTo, ReadsOrJudges, TakesAfter}
 use Rattle.log_check.specs.Taking.{illegal_in}
 
 abbrev NoFeed : List ℕ → Type 0
@@ -41,14 +41,14 @@ all_more : (texts : List (List ℕ)) (t : List ℕ) → AllByRecursion NoFeed te
 all_more [] t all one = (one, tt)
 all_more (x ∷ texts) t all one = (all.0, all_more texts t all.1 one)
 
-zip_more : (texts : List (List ℕ)) (lines : List LogLine) (t : List ℕ) (l : LogLine) → AllZip IsLineText texts lines → IsLineText t l
-    → AllZip IsLineText (texts ++ t ∷ []) (lines ++ l ∷ [])
+zip_more : (texts : List (List ℕ)) (lines : List LogLine) (t : List ℕ) (l : LogLine) → AllZip IsLogLineText texts lines → IsLogLineText t l
+    → AllZip IsLogLineText (texts ++ t ∷ []) (lines ++ l ∷ [])
 zip_more [] [] t l all one = (one, tt)
 zip_more [] (y ∷ lines) t l all one = absurd all
 zip_more (x ∷ texts) [] t l all one = absurd all
 zip_more (x ∷ texts) (y ∷ lines) t l all one = (all.0, zip_more texts lines t l all.1 one)
 
-line_more : (front t : List ℕ) (n m : ℕ) (lines : List LogLine) (l : LogLine) → AreWholeLines front n lines → NoFeed t → IsLineText t l → m ≡ n + 1
+line_more : (front t : List ℕ) (n m : ℕ) (lines : List LogLine) (l : LogLine) → AreWholeLines front n lines → NoFeed t → IsLogLineText t l → m ≡ n + 1
     → AreWholeLines ((front ++ t) ++ 10 ∷ []) m (lines ++ l ∷ [])
 line_more front t n m lines l are no_feed is one =
     let last : flat_map ended (t ∷ []) ≡ t ++ 10 ∷ [] = append-nil (ended t) in
@@ -63,7 +63,7 @@ line_more front t n m lines l are no_feed is one =
     }
 
 -- the text before the line feed is the lines before, and the line
-pub whole_more : (before : List ℕ) (r : LogReader) (l : LogLine) (m : ℕ) (h : HasRead before r) → IsLineText r.line.items l → m ≡ r.lines + 1
+pub whole_more : (before : List ℕ) (r : LogReader) (l : LogLine) (m : ℕ) (h : HasRead before r) → IsLogLineText r.line.items l → m ≡ r.lines + 1
     → AreWholeLines (before ++ 10 ∷ []) m (h.taken.lines ++ l ∷ [])
 whole_more before r l m h is one =
     subst (λ (x : List ℕ). AreWholeLines (x ++ 10 ∷ []) m (h.taken.lines ++ l ∷ [])) (sym h.parts)
@@ -79,7 +79,7 @@ feed_less xs b all one = All-append (λ (x : ℕ). x ≢ 10) xs (b ∷ []) all (
     only b one (suc k) d h = absurd (omega (arith, h))
 
 -- the line ended, and the log goes on
-read_line : (before : List ℕ) (r s : LogReader) (l : LogLine) (left : List IllegalStep) (h : HasRead before r) → IsLineText r.line.items l
+read_line : (before : List ℕ) (r s : LogReader) (l : LogLine) (left : List IllegalStep) (h : HasRead before r) → IsLogLineText r.line.items l
     → HasChecked s.progress (r.lines + 1) (h.taken.lines ++ l ∷ []) left → AreLeftOut left s.left_out → (s.is_all ≡ false → left ≡ [])
     → s.line.items ≡ [] → s.lines ≡ r.lines + 1 → HasRead (before ++ 10 ∷ []) s
 read_line before r s l left h is checked are none empty one = record {
@@ -100,7 +100,7 @@ read_line before r s l left h is checked are none empty one = record {
 
 -- a step was not allowed
 line_illegal : (before rest : List ℕ) (r : LogReader) (l : LogLine) (illegal : IllegalStep) (h : HasRead before r)
-    → IsLineText r.line.items l → EndsIllegally (h.taken.lines ++ l ∷ []) illegal.step illegal.expected illegal.reason
+    → IsLogLineText r.line.items l → EndsIllegally (h.taken.lines ++ l ∷ []) illegal.step illegal.expected illegal.reason
     → illegal.line ≡ r.lines + 1 → BreaksRules ((before ++ 10 ∷ []) ++ rest) illegal
 line_illegal before rest r l illegal h is ends one =
     let are = whole_more before r l illegal.line h is one in
@@ -151,7 +151,7 @@ line_parts before rest r h =
 
 -- the line ended, and no log goes on with it
 line_bad : (before rest : List ℕ) (r : LogReader) (line : ℕ) (fault : LineFault) (h : HasRead before r)
-    → ((l : LogLine) → IsLineText r.line.items l → ¬ MayBegin (h.taken.lines ++ l ∷ [])) → IsWhy fault h.taken.lines (r.line.items ++ 10 ∷ rest)
+    → ((l : LogLine) → IsLogLineText r.line.items l → ¬ MayBegin (h.taken.lines ++ l ∷ [])) → IsWhy fault h.taken.lines (r.line.items ++ 10 ∷ rest)
     → line ≡ r.lines + 1 → IsBadLine ((before ++ 10 ∷ []) ++ rest) line fault
 line_bad before rest r line fault h none why one =
     let t = r.line.items in
@@ -159,12 +159,12 @@ line_bad before rest r line fault h none why one =
       no_sizes = λ e. absurd (some_text t 10 rest e);
       no_line = λ next more l no_feed e is.
           let same : t ≡ next = (same_first t next rest more h.no_feed no_feed e).0 in
-          none l (subst (λ (x : List ℕ). IsLineText x l) (sym same) is);
+          none l (subst (λ (x : List ℕ). IsLogLineText x l) (sym same) is);
     } in
     first_bad ((before ++ 10 ∷ []) ++ rest) before (t ++ 10 ∷ rest) r line fault h (line_parts before rest r h) bad why one
 
 -- a line that may not come here
-why_misplaced : (fault : LineFault) (lines : List LogLine) (l : LogLine) (t rest : List ℕ) → NoFeed t → IsLineText t l → IsMisplaced fault lines l
+why_misplaced : (fault : LineFault) (lines : List LogLine) (l : LogLine) (t rest : List ℕ) → NoFeed t → IsLogLineText t l → IsMisplaced fault lines l
     → IsWhy fault lines (t ++ 10 ∷ rest)
 why_misplaced SizesAgain lines l t rest no_feed is misplaced = (t, l, record { more = rest; no_feed = no_feed; parts = refl }, is, misplaced)
 why_misplaced StepFirst lines l t rest no_feed is misplaced = (t, l, record { more = rest; no_feed = no_feed; parts = refl }, is, misplaced)
@@ -174,7 +174,7 @@ why_misplaced TooLong lines l t rest no_feed is misplaced = absurd misplaced
 why_misplaced NoLine lines l t rest no_feed is misplaced = absurd misplaced
 
 -- the line has a text of its own, and may not come here
-line_misplaced : (before rest : List ℕ) (r : LogReader) (line : ℕ) (fault : LineFault) (l : LogLine) (h : HasRead before r) → IsLineText r.line.items l
+line_misplaced : (before rest : List ℕ) (r : LogReader) (line : ℕ) (fault : LineFault) (l : LogLine) (h : HasRead before r) → IsLogLineText r.line.items l
     → ¬ MayBegin (h.taken.lines ++ l ∷ []) × IsMisplaced fault h.taken.lines l → line ≡ r.lines + 1
     → IsBadLine ((before ++ 10 ∷ []) ++ rest) line fault
 line_misplaced before rest r line fault l h is bad one =
@@ -254,14 +254,14 @@ leads : (before : List ℕ) (r : LogReader) (s : CoreState) (h : HasRead before 
 leads before r s h some = subst (λ c. Checked c r.lines h.taken.lines r.progress.steps r.progress.free h.left) some h.taken.checked
 
 pub ends_well : (before : List ℕ) (r : LogReader) (s : CoreState) (end : LogEnd) → HasRead before r → r.line.items ≡ []
-    → r.progress.checker ≡ Some s → r.left_out.count ≡ 0 → IsEnd (state_shown s) end → KeepsPromise before r.progress.steps r.progress.free end
+    → r.progress.checker ≡ Some s → r.left_out.count ≡ 0 → IsEnd (state_shown s) end → IsPromisedLog before r.progress.steps r.progress.free end
 ends_well before r s end h empty some none left =
     let to = leads before r s h some in
     let zone = zone_in to.log in
     let all : to.made ≡ to.log.run = to.whole (nil_from_length h.left (sym h.left_is.count ∙ none)) in
     let legal = subst (IsLegalRun zone) all to.legal in
     let t = h.taken in
-    subst (λ (x : List ℕ). KeepsPromise x r.progress.steps r.progress.free end) (whole before r h empty) (record {
+    subst (λ (x : List ℕ). IsPromisedLog x r.progress.steps r.progress.free end) (whole before r h empty) (record {
       log = to.log;
       is = record { texts = t.are.texts; lines = t.lines; cut = t.are.cut; says = t.are.says; in_order = to.order };
       count = to.steps_are;
@@ -293,7 +293,7 @@ ends_left_out before r s h empty some more = (
     to : LeadsTo r.lines h.taken.lines s r.progress.steps r.progress.free h.left
     to = leads before r s h some
 
-    t : HasTaken h.front r.lines r.progress h.left
+    t : HasTakenLines h.front r.lines r.progress h.left
     t = h.taken
 
     counted : h.left ≡ [] → ⊥
@@ -307,20 +307,20 @@ ends_left_out before r s h empty some more = (
 
 -- the line that ended was taken so, or there is no line that has its text
 abbrev pub Judged : LogReader → Progress → Taken → Type 0
-Judged r now taken = ((l : LogLine) × IsLineText r.line.items l × TakesAfter r.progress l now taken)
-    ⊎ ((taken ≡ Bad NoLine) × ((l : LogLine) → ¬ IsLineText r.line.items l))
+Judged r now taken = ((l : LogLine) × IsLogLineText r.line.items l × TakesAfter r.progress l now taken)
+    ⊎ ((taken ≡ Bad NoLine) × ((l : LogLine) → ¬ IsLogLineText r.line.items l))
 
 -- it stays known if the reader is another by name
-read_as : (text : List ℕ) (m s : LogReader) (known known_now : Option LogVerdict) → known ≡ known_now → s ≡ m → Reads text m known_now → Reads text s known
+read_as : (text : List ℕ) (m s : LogReader) (known known_now : Option LogVerdict) → known ≡ known_now → s ≡ m → ReadsOrJudges text m known_now → ReadsOrJudges text s known
 read_as text m s known known_now is same reads =
-    subst (λ (x : LogReader). Reads text x known) (sym same) (subst (Reads text m) (sym is) reads)
+    subst (λ (x : LogReader). ReadsOrJudges text x known) (sym same) (subst (ReadsOrJudges text m) (sym is) reads)
 
 items : (r s : LogReader) → s.line ≡ r.line → s.line.items ≡ r.line.items
 items r s e = ap (λ l. l.items) e
 
 pub line_ended : (before : List ℕ) (r m s : LogReader) (taken : Taken) (known : Option LogVerdict) → HasRead before r → Judged r m.progress taken
     → m.line.items ≡ [] → m.lines ≡ r.lines + 1 → m.is_all ≡ r.is_all → m.left_out ≡ r.left_out → s.line ≡ m.line → Concludes taken m s known
-    → Reads (before ++ 10 ∷ []) s known
+    → ReadsOrJudges (before ++ 10 ∷ []) s known
 line_ended before r m s GoesOn known h (inl j) empty one all out line concluded =
     read_as (before ++ 10 ∷ []) m s known None concluded.0 concluded.1
     (read_line before r m j.0 h.left h j.1 (j.2 r.lines h.taken.lines h.left h.taken.checked) (subst (AreLeftOut h.left) (sym out) h.left_is)
@@ -341,7 +341,7 @@ line_ended before r m s (NotLegal expected reason) known h (inl j) empty one all
     (h.left ++ record { line = n; step = m.progress.steps; expected = expected; reason = reason } ∷ [])) (sym one) takes in
     let checked : HasChecked s.progress (r.lines + 1) (h.taken.lines ++ j.0 ∷ []) left =
     subst (λ (p : Progress). HasChecked p (r.lines + 1) (h.taken.lines ++ j.0 ∷ []) left) (sym noted.progress) named in
-    subst (Reads (before ++ 10 ∷ []) s) (sym goes.1)
+    subst (ReadsOrJudges (before ++ 10 ∷ []) s) (sym goes.1)
     (read_line before r s j.0 left h j.1 checked (noted.noted h.left (subst (AreLeftOut h.left) (sym out) h.left_is))
     (λ stops. absurd (false≢true (sym stops ∙ noted.is_all ∙ goes.0)))
     (items m s line ∙ empty) (noted.lines ∙ one))
@@ -359,7 +359,7 @@ line_ended before r m s (Bad fault) known h (inr none) empty one all out line co
 
 -- it is known before the bytes end
 pub stops : (before bytes : List ℕ) (i d : ℕ) (r : LogReader) (end : Option LogVerdict) → i < length bytes → is_some end ≡ true
-    → Reads ((before ++ take i bytes) ++ get_or bytes i d ∷ []) r end → Reads (before ++ bytes) r end
+    → ReadsOrJudges ((before ++ take i bytes) ++ get_or bytes i d ∷ []) r end → ReadsOrJudges (before ++ bytes) r end
 stops before bytes i d r None h some reads = absurd (false≢true some)
 stops before bytes i d r (Some end) h some reads = λ rest.
     let more : take (i + 1) bytes ≡ take i bytes ++ get_or bytes i d ∷ [] = take_more bytes i d h in

@@ -7,7 +7,7 @@ use Rattle.log_check.specs.declared.reader.LogReader.{LogReader}
 use Rattle.log_check.specs.declared.verdict.LogVerdict.TheVariants.{Legal, NotLegal, LeftOut, BadLine}
 use Rattle.log_check.specs.Reading.{EndsBefore, NamesLineAfter, ReadsAsFar, ReadsUpTo, StopsAfter}
 use Rattle.log_check.specs.Verdicts.{IsLogVerdict}
-use Rattle.log_check.specs.Taking.{Fits, HasRead, Reads}
+use Rattle.log_check.specs.Taking.{HasRoomForLine, HasRead, ReadsOrJudges}
 
 -- these bytes were read of the input, and are what the log is known to begin with
 pub record IsReadTo (input left : Option (List ℕ)) (log : LogReader) : Type 0 where
@@ -46,7 +46,7 @@ all_read mode (Some all) (Some rest) (Some last) log end same so_far read at_end
 
 -- a piece more was read, and it is known what the log is
 pub ended : (all : Bool) (input left after : Option (List ℕ)) (log new : LogReader) (piece : List ℕ) (end : LogVerdict) → new.is_all ≡ all
-    → IsReadTo input left log → Consumes left after piece → ((before : List ℕ) → HasRead before log → Reads (before ++ piece) new (Some end))
+    → IsReadTo input left log → Consumes left after piece → ((before : List ℕ) → HasRead before log → ReadsOrJudges (before ++ piece) new (Some end))
     → IfSome input (λ text. IsLogVerdict all text end)
 ended mode None left after log new piece end same so_far read is = tt
 ended mode (Some all) None after log new piece end same so_far read is = absurd so_far.read
@@ -60,7 +60,7 @@ ended mode (Some all) (Some rest) (Some last) log new piece end same so_far read
 -- ---- how far it was read
 
 -- the log as far as it was read ends before a line that comes after its lines
-early : (bytes : List ℕ) (log : LogReader) (line : ℕ) → HasRead bytes log → Fits log → log.lines < line → EndsBefore line bytes
+early : (bytes : List ℕ) (log : LogReader) (line : ℕ) → HasRead bytes log → HasRoomForLine log → log.lines < line → EndsBefore line bytes
 early bytes log line has fits few = record {
   front = has.front;
   rest = log.line.items;
@@ -72,7 +72,7 @@ early bytes log line has fits few = record {
   short = fits.short;
 }
 
-up_to : (input left after : Option (List ℕ)) (log : LogReader) (piece : List ℕ) (line : ℕ) → IsReadTo input left log → Fits log
+up_to : (input left after : Option (List ℕ)) (log : LogReader) (piece : List ℕ) (line : ℕ) → IsReadTo input left log → HasRoomForLine log
     → Consumes left after piece → length piece ≤ 4096 → log.lines < line → ReadsUpTo line input after
 up_to input left after log piece line so_far fits read short few = record {
   text = so_far.bytes;
@@ -83,7 +83,7 @@ up_to input left after log piece line so_far fits read short few = record {
 }
 
 -- a piece more was read, in which a line is named
-pub ended_far : (input left after : Option (List ℕ)) (log : LogReader) (piece : List ℕ) (end : LogVerdict) → IsReadTo input left log → Fits log
+pub ended_far : (input left after : Option (List ℕ)) (log : LogReader) (piece : List ℕ) (end : LogVerdict) → IsReadTo input left log → HasRoomForLine log
     → Consumes left after piece → length piece ≤ 4096 → NamesLineAfter log.lines end → ReadsAsFar end input after
 ended_far input left after log piece (Legal steps free left_end) so_far fits read short names = absurd names
 ended_far input left after log piece (LeftOut steps count first) so_far fits read short names = absurd names
@@ -91,7 +91,7 @@ ended_far input left after log piece (NotLegal illegal) so_far fits read short n
 ended_far input left after log piece (BadLine line fault) so_far fits read short names = up_to input left after log piece line so_far fits read short names
 
 -- all was read
-pub all_far : (input left after : Option (List ℕ)) (log : LogReader) (end : LogVerdict) → IsReadTo input left log → Fits log → Consumes left after []
+pub all_far : (input left after : Option (List ℕ)) (log : LogReader) (end : LogVerdict) → IsReadTo input left log → HasRoomForLine log → Consumes left after []
     → IsAtEnd after → StopsAfter log.lines end → ReadsAsFar end input after
 all_far input left after log (Legal steps free left_end) so_far fits read at_end stops = at_end
 all_far input left after log (LeftOut steps count first) so_far fits read at_end stops = at_end

@@ -17,13 +17,13 @@ abbrev pub is_unreferenced : State → ℕ → Bool
 is_unreferenced s f = is_head (s.phases f) && live_references s f == 0
 
 -- the CPU that holds the lock
-abbrev pub holder_of : Hold → Option ℕ
-holder_of Unheld = None
-holder_of (HeldBy cpu) = Some cpu
-holder_of (Visiting cpu) = Some cpu
+abbrev pub holder_in : Hold → Option ℕ
+holder_in Unheld = None
+holder_in (HeldBy cpu) = Some cpu
+holder_in (Visiting cpu) = Some cpu
 
 -- what is left in the state: the units without references, the pages pending for all groups, and the lock's holder
 pub record IsEnd (s : State) (end : LogEnd) : Type 0 where
   pub units : end.units ≡ sum_to s.zone.frames (λ f. one_if (is_unreferenced s f))
   pub pending : end.pending ≡ sum_to most_groups s.pending
-  pub holder : end.holder ≡ holder_of s.hold
+  pub holder : end.holder ≡ holder_in s.hold

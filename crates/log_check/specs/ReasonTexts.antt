@@ -56,19 +56,19 @@ head_text f (BackPassing cpu) = said_two (codes "the unit at frame ") f (codes "
 head_text f AwaitsReturn = said (codes "the unit at frame ") f (codes " is ended")
 
 -- what the frame is
-abbrev pub place_text : ℕ → Phase → List ℕ
-place_text f InZone = said (codes "frame ") f (codes " is free")
-place_text f (Lent cpu PassingOut) = said_two (codes "frame ") f (codes " is in transit to CPU ") cpu []
-place_text f (Lent cpu OnList) = said_two (codes "frame ") f (codes " is on CPU ") cpu (codes "'s list")
-place_text f (Lent cpu PassingBack) = said_two (codes "frame ") f (codes " is in transit back from CPU ") cpu []
-place_text f (Head unit stage) = head_text f stage
-place_text f (Tail g) = said_two (codes "frame ") f (codes " is in a unit of group ") g (codes ", behind its head")
+abbrev pub phase_text : ℕ → Phase → List ℕ
+phase_text f InZone = said (codes "frame ") f (codes " is free")
+phase_text f (Lent cpu PassingOut) = said_two (codes "frame ") f (codes " is in transit to CPU ") cpu []
+phase_text f (Lent cpu OnList) = said_two (codes "frame ") f (codes " is on CPU ") cpu (codes "'s list")
+phase_text f (Lent cpu PassingBack) = said_two (codes "frame ") f (codes " is in transit back from CPU ") cpu []
+phase_text f (Head unit stage) = head_text f stage
+phase_text f (Tail g) = said_two (codes "frame ") f (codes " is in a unit of group ") g (codes ", behind its head")
 
 -- what the stock is
-abbrev pub stock_text : ℕ → Option ℕ → Bool → List ℕ
-stock_text cpu None drained = said (codes "CPU ") cpu (codes "'s stock is of no group")
-stock_text cpu (Some g) true = said_two (codes "CPU ") cpu (codes "'s stock is of group ") g (codes " and was drained")
-stock_text cpu (Some g) false = said_two (codes "CPU ") cpu (codes "'s stock is of group ") g []
+abbrev pub stock_state_text : ℕ → Option ℕ → Bool → List ℕ
+stock_state_text cpu None drained = said (codes "CPU ") cpu (codes "'s stock is of no group")
+stock_state_text cpu (Some g) true = said_two (codes "CPU ") cpu (codes "'s stock is of group ") g (codes " and was drained")
+stock_state_text cpu (Some g) false = said_two (codes "CPU ") cpu (codes "'s stock is of group ") g []
 
 -- whose pages the book has
 abbrev pub book_text : ℕ → Option ℕ → List ℕ
@@ -76,12 +76,12 @@ book_text cpu None = said (codes "CPU ") cpu (codes "'s book has pages of no gro
 book_text cpu (Some g) = said_two (codes "CPU ") cpu (codes "'s book has pages of group ") g []
 
 -- why `mkdir` is refused
-abbrev pub refusal_text : Fault → List ℕ
-refusal_text fault = said (codes "mkdir is refused ") (number_of fault) (codes " ") ++ name_of fault
+abbrev pub mkdir_refusal_text : Fault → List ℕ
+mkdir_refusal_text fault = said (codes "mkdir is refused ") (number_of fault) (codes " ") ++ name_of fault
 
 -- that the limit of the group has no room
-abbrev pub limit_text : List ℕ → List ℕ
-limit_text path = codes "the limit of " ++ (path ++ codes " has no room: ")
+abbrev pub full_limit_text : List ℕ → List ℕ
+full_limit_text path = codes "the limit of " ++ (path ++ codes " has no room: ")
 
 -- how far a limit has no room
 abbrev pub sum_text : (usage pages limit : ℕ) → List ℕ
@@ -89,7 +89,7 @@ sum_text usage pages limit = decimal usage ++ said_two (codes " + ") pages (code
 
 -- that the limit of the group has no room, and how far
 abbrev pub room_text : (path : List ℕ) (usage pages limit : ℕ) → List ℕ
-room_text path usage pages limit = limit_text path ++ sum_text usage pages limit
+room_text path usage pages limit = full_limit_text path ++ sum_text usage pages limit
 
 -- the sentence of a reason
 abbrev pub reason_text : Reason → List ℕ
@@ -99,17 +99,17 @@ reason_text (why.Lock hold) = lock_text hold
 reason_text (why.NoFrame f) = said (codes "frame ") f (codes " isn't the zone's")
 reason_text (why.NoGroup g) = said (codes "group ") g (codes " doesn't exist")
 reason_text (why.Number what count) = quantity_text what ++ decimal count
-reason_text (why.Place f phase) = place_text f phase
+reason_text (why.Place f phase) = phase_text f phase
 reason_text (why.NotFirst f cpu) = said_two (codes "frame ") f (codes " isn't the first of CPU ") cpu (codes "'s list")
 reason_text (why.Unkilled f g) =
     said_two (codes "the unit at frame ") f (codes " is collected, and group ") g (codes " isn't killed")
 reason_text why.BadCount = codes "a frame has 1 to 255 references"
-reason_text (why.Stock cpu group drained) = stock_text cpu group drained
+reason_text (why.Stock cpu group drained) = stock_state_text cpu group drained
 reason_text (why.Book cpu group) = book_text cpu group
 reason_text (why.Killed g) = said (codes "group ") g (codes " is killed")
 reason_text why.Root = codes "group 0 is the root"
 reason_text (why.Child g) = said (codes "a group is below group ") g []
-reason_text (why.Refused fault) = refusal_text fault
+reason_text (why.Refused fault) = mkdir_refusal_text fault
 reason_text why.MayBeMade = codes "the step may be made"
 reason_text why.OnlyDone = codes "its only answer is done"
 reason_text (why.NoRoom path usage pages limit) = room_text path usage pages limit

@@ -30,45 +30,45 @@ use Rattle.log_check.specs.declared.conditions.Condition.TheVariants.{NoChild, M
 use Rattle.log_check.specs.Conditions.{is_met, quantity_in}
 
 -- the reason says of the state why this condition isn't met
-abbrev pub Shows : State → Condition → Reason → Type 0
-Shows s (Cpu seat) (why.NoCpu p) = p ≡ seat
-Shows s (ZoneSeat seat) (why.NoZoneSeat p) = p ≡ seat
-Shows s (AnySeat seat) (why.NoCpu p) = (p ≡ seat) × (seat ≢ 0)
-Shows s (AnySeat seat) (why.Lock hold) = (s.hold ≡ hold) × (seat ≡ 0)
-Shows s Locked (why.Lock hold) = s.hold ≡ hold
-Shows s Unlocked (why.Lock hold) = s.hold ≡ hold
-Shows s (HeldBy cpu) (why.Lock hold) = s.hold ≡ hold
-Shows s (Visited cpu) (why.Lock hold) = s.hold ≡ hold
-Shows s (Frame f) (why.NoFrame m) = m ≡ f
-Shows s (Group g) (why.NoGroup m) = m ≡ g
-Shows s NonePending (why.Number (Pending g) n) = (s.pending g ≡ n) × (1 ≤ n)
-Shows s NonePassing (why.Place f phase) = (s.phases f ≡ phase) × (is_passing phase ≡ true)
-Shows s (NonePassingAt cpu) (why.Place f phase) = (s.phases f ≡ phase) × (rests s cpu f ≡ false)
-Shows s (AtLeast what n) (why.Number q k) = (q ≡ what) × (quantity_in s what ≡ k)
-Shows s (Below what n) (why.Number q k) = (q ≡ what) × (quantity_in s what ≡ k)
-Shows s (IsZero what) (why.Number q k) = (q ≡ what) × (quantity_in s what ≡ k)
-Shows s (OneUp n) why.BadCount = Unit {0}
-Shows s (UpTo255 n) why.BadCount = Unit {0}
-Shows s (InPlace f test) (why.Place m phase) = (m ≡ f) × (s.phases f ≡ phase)
-Shows s (InPlace f (Passable cpu)) (why.NotFirst m p) = (m ≡ f) × (p ≡ cpu) × (has_as ListFrame cpu (s.phases f) ≡ true)
+abbrev pub ShowsUnmet : State → Condition → Reason → Type 0
+ShowsUnmet s (Cpu seat) (why.NoCpu p) = p ≡ seat
+ShowsUnmet s (ZoneSeat seat) (why.NoZoneSeat p) = p ≡ seat
+ShowsUnmet s (AnySeat seat) (why.NoCpu p) = (p ≡ seat) × (seat ≢ 0)
+ShowsUnmet s (AnySeat seat) (why.Lock hold) = (s.hold ≡ hold) × (seat ≡ 0)
+ShowsUnmet s Locked (why.Lock hold) = s.hold ≡ hold
+ShowsUnmet s Unlocked (why.Lock hold) = s.hold ≡ hold
+ShowsUnmet s (HeldBy cpu) (why.Lock hold) = s.hold ≡ hold
+ShowsUnmet s (Visited cpu) (why.Lock hold) = s.hold ≡ hold
+ShowsUnmet s (Frame f) (why.NoFrame m) = m ≡ f
+ShowsUnmet s (Group g) (why.NoGroup m) = m ≡ g
+ShowsUnmet s NonePending (why.Number (Pending g) n) = (s.pending g ≡ n) × (1 ≤ n)
+ShowsUnmet s NonePassing (why.Place f phase) = (s.phases f ≡ phase) × (is_passing phase ≡ true)
+ShowsUnmet s (NonePassingAt cpu) (why.Place f phase) = (s.phases f ≡ phase) × (rests s cpu f ≡ false)
+ShowsUnmet s (AtLeast what n) (why.Number q k) = (q ≡ what) × (quantity_in s what ≡ k)
+ShowsUnmet s (Below what n) (why.Number q k) = (q ≡ what) × (quantity_in s what ≡ k)
+ShowsUnmet s (IsZero what) (why.Number q k) = (q ≡ what) × (quantity_in s what ≡ k)
+ShowsUnmet s (OneUp n) why.BadCount = Unit {0}
+ShowsUnmet s (UpTo255 n) why.BadCount = Unit {0}
+ShowsUnmet s (InPlace f test) (why.Place m phase) = (m ≡ f) × (s.phases f ≡ phase)
+ShowsUnmet s (InPlace f (Passable cpu)) (why.NotFirst m p) = (m ≡ f) × (p ≡ cpu) × (has_as ListFrame cpu (s.phases f) ≡ true)
     × (front_of (s.parts cpu).list ≢ f)
-Shows s (InPlace f Returnable) (why.Unkilled m g) = (m ≡ f) × ((k : ℕ)
+ShowsUnmet s (InPlace f Returnable) (why.Unkilled m g) = (m ≡ f) × ((k : ℕ)
     × (s.phases f ≡ Head (record { group = g; order = k }) Collected)) × (s.killed g ≡ false)
-Shows s (TakesFill cpu g) (why.Number q n) = (q ≡ InStock cpu) × ((s.parts cpu).stock.pages ≡ n) × (1 ≤ n)
-Shows s (TakesFill cpu g) (why.Book p other) = (p ≡ cpu) × ((s.parts cpu).stock.group ≡ other)
+ShowsUnmet s (TakesFill cpu g) (why.Number q n) = (q ≡ InStock cpu) × ((s.parts cpu).stock.pages ≡ n) × (1 ≤ n)
+ShowsUnmet s (TakesFill cpu g) (why.Book p other) = (p ≡ cpu) × ((s.parts cpu).stock.group ≡ other)
     × (1 ≤ (s.parts cpu).book) × (other ≢ Some g)
-Shows s (NotKilled g) (why.Killed m) = m ≡ g
-Shows s (NotRoot g) why.Root = g ≡ 0
-Shows s (NoChild g) (why.Child m) = m ≡ g
-Shows s (Makeable path) (why.Refused fault) = make_fault s.groups path ≡ Some fault
-Shows s condition reason = ⊥
+ShowsUnmet s (NotKilled g) (why.Killed m) = m ≡ g
+ShowsUnmet s (NotRoot g) why.Root = g ≡ 0
+ShowsUnmet s (NoChild g) (why.Child m) = m ≡ g
+ShowsUnmet s (Makeable path) (why.Refused fault) = make_fault s.groups path ≡ Some fault
+ShowsUnmet s condition reason = ⊥
 
 -- a condition that the step has to meet isn't met, and the reason says why
 pub record Fails (s : State) (seat : ℕ) (action : Action) (reason : Reason) : Type 0 where
   pub condition : Condition
   pub needed : (t : State) → is_legal t seat action ≡ true → is_met t condition ≡ true
   pub unmet : is_met s condition ≡ false
-  pub shown : Shows s condition reason
+  pub shown : ShowsUnmet s condition reason
 
 -- the answer is a placed block, of which this holds
 abbrev pub Claims : Answer → (Block → Type 0) → Type 0

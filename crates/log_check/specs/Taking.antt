@@ -11,7 +11,7 @@ use Rattle.mem_core.specs.Shown.{CoreState, state_shown}
 use Rattle.mem_core.specs.Checked.{IsFirstIllegal}
 use Rattle.log_lines.specs.declared.line.LogLine.{LogLine}
 use Rattle.log_lines.specs.declared.line.LogLine.TheVariants as kinds
-use Rattle.log_lines.specs.Line.{IsLineText, IsZone, longest_line}
+use Rattle.log_lines.specs.Line.{IsLogLineText, IsZone, longest_log_line}
 use Rattle.log_lines.specs.Log.{AreLinesOf, MayBegin, SayInOrder, WholeLog, says_something}
 use Rattle.log_check.specs.declared.left_out.LeftOut.{LeftOut}
 use Rattle.log_check.specs.declared.verdict.IllegalStep.{IllegalStep}
@@ -25,10 +25,10 @@ use Rattle.log_check.specs.Ends.{free_count}
 use Rattle.log_check.specs.Verdicts.{IsLogVerdict, IsMisplaced, LeavesOut, at_start, most_named, zone_in}
 
 -- the sizes of a zone are in their ranges
-abbrev pub IsInRange : LogLine → Type 0
-IsInRange kinds.Skipped = ⊤
-IsInRange (kinds.Zone frames cpus) = IsZone frames cpus
-IsInRange (kinds.Step step answer) = ⊤
+abbrev pub HasZoneInRange : LogLine → Type 0
+HasZoneInRange kinds.Skipped = ⊤
+HasZoneInRange (kinds.Zone frames cpus) = IsZone frames cpus
+HasZoneInRange (kinds.Step step answer) = ⊤
 
 -- These lines, so many, are a log of so many steps. The checker took those that are legal, and shows the state that
 -- they lead to; they left the lock free so often. These are the others. If there are none, the checker took all steps;
@@ -85,18 +85,18 @@ pub record EndsIllegally (lines : List LogLine) (steps : ℕ) (expected : Answer
   pub why : IsReason (state_of (zone_in log) (take (steps - 1) log.run)) first.step first.answer expected reason
 
 -- what is said of the line that comes next is true
-abbrev pub Takes : (count : ℕ) → List LogLine → List IllegalStep → LogLine → Progress → Taken → Type 0
-Takes count lines left line now GoesOn = HasChecked now (count + 1) (lines ++ line ∷ []) left
-Takes count lines left line now (NotLegal expected reason) =
+abbrev pub TakesLine : (count : ℕ) → List LogLine → List IllegalStep → LogLine → Progress → Taken → Type 0
+TakesLine count lines left line now GoesOn = HasChecked now (count + 1) (lines ++ line ∷ []) left
+TakesLine count lines left line now (NotLegal expected reason) =
     (left ≡ [] → EndsIllegally (lines ++ line ∷ []) now.steps expected reason)
     × HasChecked now (count + 1) (lines ++ line ∷ [])
     (left ++ record { line = count + 1; step = now.steps; expected = expected; reason = reason } ∷ [])
-Takes count lines left line now (Bad fault) = ¬ MayBegin (lines ++ line ∷ []) × IsMisplaced fault lines line
+TakesLine count lines left line now (Bad fault) = ¬ MayBegin (lines ++ line ∷ []) × IsMisplaced fault lines line
 
 -- and so behind all lines that were checked so
 abbrev pub TakesAfter : Progress → LogLine → Progress → Taken → Type 0
 TakesAfter before line now taken = (count : ℕ) (lines : List LogLine) (left : List IllegalStep)
-    → HasChecked before count lines left → Takes count lines left line now taken
+    → HasChecked before count lines left → TakesLine count lines left line now taken
 
 -- so many steps aren't legal, and these are the first of them
 pub record AreLeftOut (left : List IllegalStep) (out : LeftOut) : Type 0 where
@@ -105,22 +105,22 @@ pub record AreLeftOut (left : List IllegalStep) (out : LeftOut) : Type 0 where
 
 -- the step count is at least that of the checker, and at most the number of lines, as is that of the steps that aren't
 -- legal; one more line can be counted, and the unfinished one isn't too long
-pub record Fits (r : LogReader) : Type 0 where
+pub record HasRoomForLine (r : LogReader) : Type 0 where
   pub counts : CountsSteps r.progress
   pub few : r.progress.steps ≤ r.lines
   pub few_left : r.left_out.count ≤ r.lines
   pub room : r.lines + 1 < 2 ^ 64
-  pub short : length r.line.items ≤ longest_line
+  pub short : length r.line.items ≤ longest_log_line
 
 -- the text is this many lines, with these contents
 pub record AreWholeLines (text : List ℕ) (count : ℕ) (lines : List LogLine) : Type 0 where
   pub texts : List (List ℕ)
   pub cut : AreLinesOf text texts
-  pub says : AllZip IsLineText texts lines
+  pub says : AllZip IsLogLineText texts lines
   pub count_is : count ≡ length texts
 
 -- the text is this many lines, and the checker has taken their steps, except for these that aren't legal
-pub record HasTaken (text : List ℕ) (count : ℕ) (p : Progress) (left : List IllegalStep) : Type 0 where
+pub record HasTakenLines (text : List ℕ) (count : ℕ) (p : Progress) (left : List IllegalStep) : Type 0 where
   pub lines : List LogLine
   pub are : AreWholeLines text count lines
   pub checked : HasChecked p count lines left
@@ -132,19 +132,19 @@ pub record HasRead (text : List ℕ) (r : LogReader) : Type 0 where
   pub parts : text ≡ front ++ r.line.items
   pub no_feed : All (λ b. b ≢ 10) r.line.items
   pub left : List IllegalStep
-  pub taken : HasTaken front r.lines r.progress left
+  pub taken : HasTakenLines front r.lines r.progress left
   pub left_is : AreLeftOut left r.left_out
   pub none : r.is_all ≡ false → left ≡ []
 
 -- the text was read; or the answer is known for every text that begins with it
-abbrev pub Reads : List ℕ → LogReader → Option LogVerdict → Type 0
-Reads text r None = HasRead text r
-Reads text r (Some verdict) = (rest : List ℕ) → IsLogVerdict r.is_all (text ++ rest) verdict
+abbrev pub ReadsOrJudges : List ℕ → LogReader → Option LogVerdict → Type 0
+ReadsOrJudges text r None = HasRead text r
+ReadsOrJudges text r (Some verdict) = (rest : List ℕ) → IsLogVerdict r.is_all (text ++ rest) verdict
 
 -- ---- what comes of a line
 
 -- the step is among those left out, and nothing else changed
-pub record IsNoted (r s : LogReader) (illegal : IllegalStep) : Type 0 where
+pub record NotesLeftOut (r s : LogReader) (illegal : IllegalStep) : Type 0 where
   pub line : s.line ≡ r.line
   pub lines : s.lines ≡ r.lines
   pub progress : s.progress ≡ r.progress
@@ -162,5 +162,5 @@ abbrev pub Concludes : Taken → (r s : LogReader) → Option LogVerdict → Typ
 Concludes GoesOn r s known = (known ≡ None) × (s ≡ r)
 Concludes (NotLegal expected reason) r s known =
     ((r.is_all ≡ false) × (known ≡ Some (verdict.NotLegal (illegal_in r expected reason))) × (s ≡ r))
-    ⊎ ((r.is_all ≡ true) × (known ≡ None) × IsNoted r s (illegal_in r expected reason))
+    ⊎ ((r.is_all ≡ true) × (known ≡ None) × NotesLeftOut r s (illegal_in r expected reason))
 Concludes (Bad fault) r s known = (known ≡ Some (verdict.BadLine r.lines fault)) × (s ≡ r)

@@ -11,8 +11,8 @@ use Rattle.log_check.specs.declared.line_fault.LineFault.{LineFault}
 use Rattle.log_check.specs.declared.line_fault.LineFault.TheVariants.{NoSizes, NoLineFeed, TooLong, NoLine, SizesAgain, StepFirst}
 
 -- the line and the number of a step
-abbrev pub place_text : (line step : ℕ) → List ℕ
-place_text line step = codes "line " ++ decimal line ++ codes ": step " ++ decimal step
+abbrev pub step_place_text : (line step : ℕ) → List ℕ
+step_place_text line step = codes "line " ++ decimal line ++ codes ": step " ++ decimal step
 
 -- the answer that is allowed there
 abbrev pub due_text : Answer → List ℕ
@@ -21,7 +21,7 @@ due_text expected = codes " is not legal:" ++ spaced (answer_words expected) ++ 
 -- the line for a step that isn't legal
 abbrev pub illegal_text : IllegalStep → List ℕ
 illegal_text illegal =
-    place_text illegal.line illegal.step
+    step_place_text illegal.line illegal.step
     ++ (due_text illegal.expected ++ (reason_text illegal.reason ++ codes "\n"))
 
 -- how many of the steps aren't legal
@@ -38,8 +38,8 @@ why_text SizesAgain = codes ": the sizes were given before\n"
 why_text StepFirst = codes ": the sizes come first\n"
 
 -- how many steps a legal log has
-abbrev pub steps_text : ℕ → List ℕ
-steps_text steps = said (codes "legal: ") steps (codes " steps, the promise holds\n")
+abbrev pub legal_text : ℕ → List ℕ
+legal_text steps = said (codes "legal: ") steps (codes " steps, the promise holds\n")
 
 -- after how many of them the lock was free
 abbrev pub free_text : ℕ → List ℕ
@@ -61,7 +61,7 @@ end_text end = left_text end ++ holder_text end.holder
 
 -- the lines that say what a log is
 abbrev pub verdict_text : LogVerdict → List ℕ
-verdict_text (Legal steps free end) = steps_text steps ++ (free_text free ++ end_text end)
+verdict_text (Legal steps free end) = legal_text steps ++ (free_text free ++ end_text end)
 verdict_text (NotLegal illegal) = illegal_text illegal
 verdict_text (LeftOut steps count first) = flat_map illegal_text first.items ++ count_text count steps
 verdict_text (BadLine line fault) = said (codes "bad line ") line (why_text fault)

@@ -10,8 +10,8 @@ use Rattle.mem_core.specs.Checked.{IsFirstIllegal}
 use Rattle.mem_core.specs.Promise.{AlwaysKeepsPromise}
 use Rattle.log_lines.specs.declared.line.LogLine.{LogLine}
 use Rattle.log_lines.specs.declared.line.LogLine.TheVariants as kinds
-use Rattle.log_lines.specs.Line.{IsLineText, longest_line}
-use Rattle.log_lines.specs.Log.{IsFirstBadLine, IsLog, WholeLog, says_something}
+use Rattle.log_lines.specs.Line.{IsLogLineText, longest_log_line}
+use Rattle.log_lines.specs.Log.{IsFirstBadLogLine, IsLog, WholeLog, says_something}
 use Rattle.log_check.specs.declared.line_fault.LineFault.{LineFault}
 use Rattle.log_check.specs.declared.line_fault.LineFault.TheVariants.{NoSizes, NoLineFeed, TooLong, NoLine, SizesAgain, StepFirst}
 use Rattle.log_check.specs.declared.verdict.IllegalStep.{IllegalStep}
@@ -32,7 +32,7 @@ pub record IsLegalLog (text : List ℕ) : Type 0 where
 
 -- The text is that of a legal run of this many steps, and each beginning of it that leaves the lock free keeps the
 -- promise. The lock is free after this many steps, and the run leaves this at its end.
-pub record KeepsPromise (text : List ℕ) (steps free : ℕ) (end : LogEnd) : Type 0 where
+pub record IsPromisedLog (text : List ℕ) (steps free : ℕ) (end : LogEnd) : Type 0 where
   pub log : WholeLog
   pub is : IsLog text log
   pub count : steps ≡ length log.run
@@ -130,21 +130,21 @@ abbrev pub IsWhy : LineFault → List LogLine → List ℕ → Type 0
 IsWhy NoSizes lines rest = (rest ≡ []) × (filter says_something lines ≡ [])
 IsWhy NoLineFeed lines rest = (rest ≢ []) × All (λ b. b ≢ 10) rest
 IsWhy TooLong lines rest = (line : List ℕ) × (more : List ℕ) × (rest ≡ line ++ more) × All (λ b. b ≢ 10) line
-    × (longest_line < length line)
-IsWhy NoLine lines rest = (line : List ℕ) × BeginsWith line rest × ((other : LogLine) → ¬ IsLineText line other)
-IsWhy fault lines rest = (line : List ℕ) × (other : LogLine) × BeginsWith line rest × IsLineText line other
+    × (longest_log_line < length line)
+IsWhy NoLine lines rest = (line : List ℕ) × BeginsWith line rest × ((other : LogLine) → ¬ IsLogLineText line other)
+IsWhy fault lines rest = (line : List ℕ) × (other : LogLine) × BeginsWith line rest × IsLogLineText line other
     × IsMisplaced fault lines other
 
 -- this line is the first that no log continues with, and why
 pub record IsBadLine (text : List ℕ) (line : ℕ) (fault : LineFault) : Type 0 where
-  pub first : IsFirstBadLine text line
+  pub first : IsFirstBadLogLine text line
   pub why : IsWhy fault first.lines first.rest
 
 -- ---- the verdict
 
 -- what a check says of the text is true; with `all` it names each step that isn't legal, and else the first
 abbrev pub IsLogVerdict : (all : Bool) → List ℕ → LogVerdict → Type 0
-IsLogVerdict all text (Legal steps free end) = KeepsPromise text steps free end
+IsLogVerdict all text (Legal steps free end) = IsPromisedLog text steps free end
 IsLogVerdict all text (NotLegal illegal) = (all ≡ false) × BreaksRules text illegal
 IsLogVerdict all text (LeftOut steps count first) = (all ≡ true) × NamesLeftOut text steps count first.items
 IsLogVerdict all text (BadLine line fault) = IsBadLine text line fault

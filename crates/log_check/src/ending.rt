@@ -5,7 +5,7 @@ ghost use Rattle.group_tree.specs.Bounds.{most_groups};
 ghost use Rattle.step_rules.specs.State.{sum_to, one_if};
 ghost use Rattle.mem_core.specs.Rows.{state_in};
 ghost use Rattle.mem_core.specs.Rooms.{FitsZone, IsBelowBounds};
-ghost use Rattle.log_check.specs.Ends.{IsEnd, holder_of, is_unreferenced};
+ghost use Rattle.log_check.specs.Ends.{IsEnd, holder_in, is_unreferenced};
 
 use crate::verdict::LogEnd;
 use mem_core::phases::is_head;
@@ -28,7 +28,7 @@ pub(crate) fn end_of(rows: &Rows) -> LogEnd
 
 // The CPU that holds the lock.
 fn holder(hold: Hold) -> Option<u32>
-    ensures { result ≡ holder_of hold }
+    ensures { result ≡ holder_in hold }
 {
     match hold {
         Hold::Unheld => None,

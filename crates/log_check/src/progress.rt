@@ -4,7 +4,7 @@ ghost use Rattle.std.specs.Prelude.{◌≡◌, ◌+◌, ◌^◌, ◌<◌, ◌≤
 ghost use Rattle.step_rules.specs.State.{is_unheld, one_if};
 ghost use Rattle.log_lines.specs.declared.line.LogLine.TheVariants as kinds;
 ghost use Rattle.log_lines.specs.Line.{IsZone};
-ghost use Rattle.log_check.specs.Taking.{CountsSteps, IsInRange, TakesAfter};
+ghost use Rattle.log_check.specs.Taking.{CountsSteps, HasZoneInRange, TakesAfter};
 ghost use Rattle.log_check.specs.declared.verdict.LogFault.TheVariants.{NoMemory};
 
 use crate::line_fault::LineFault;
@@ -42,7 +42,7 @@ pub(crate) enum Taken {
 impl Progress {
     /// Takes the next line of the log.
     pub(crate) fn take_line(&mut self, alloc: Global, line: &LogLine) -> Result<Taken, LogFault>
-        requires in_range { IsInRange line.now }
+        requires in_range { HasZoneInRange line.now }
         requires counts { CountsSteps self.old }
         requires few { self.old.steps + 1 < 2 ^ 64 }
         ensures taken { IfOk result (TakesAfter self.old line.now self.new) }

@@ -2,7 +2,7 @@
 
 ghost use Rattle.std.specs.Prelude.{◌≡◌, ℕ, ◌+◌, ◌^◌, ◌<◌, ◌≤◌, [], ◌∷◌, ◌++◌, Err, IfErr, IfOk, IfSome, List};
 ghost use Rattle.log_check.specs.Reading.{NamesLineAfter, StopsAfter};
-ghost use Rattle.log_check.specs.Taking.{Concludes, Fits, HasRead, Reads};
+ghost use Rattle.log_check.specs.Taking.{Concludes, HasRoomForLine, HasRead, ReadsOrJudges};
 ghost use Rattle.log_check.specs.Verdicts.{IsLogVerdict};
 ghost use Rattle.log_check.specs.declared.verdict.LogFault.TheVariants.{Input, NoMemory};
 
@@ -33,7 +33,7 @@ impl LogReader {
     /// A log of which nothing was read yet.
     pub(crate) fn new(alloc: Global, is_all: bool) -> LogReader
         ensures read { HasRead [] result }
-        ensures fits { Fits result }
+        ensures fits { HasRoomForLine result }
         ensures all { result.is_all ≡ is_all }
     {
         LogReader {
@@ -55,11 +55,11 @@ impl LogReader {
         alloc: Global,
         bytes: &[u8],
     ) -> Result<Option<LogVerdict>, LogFault>
-        requires fits { Fits self.old }
+        requires fits { HasRoomForLine self.old }
         ensures read { IfOk result (λ verdict.
-            (before : List ℕ) → HasRead before self.old → Reads (before ++ bytes.now) self.new verdict) }
+            (before : List ℕ) → HasRead before self.old → ReadsOrJudges (before ++ bytes.now) self.new verdict) }
         ensures line { IfOk result (λ verdict. IfSome verdict (NamesLineAfter self.old.lines)) }
-        ensures fits { Fits self.new }
+        ensures fits { HasRoomForLine self.new }
         ensures all { self.new.is_all ≡ self.old.is_all }
         ensures failed { result ≡ Err Input → 2 ^ 64 ≤ self.new.lines + 2 }
     {
@@ -74,7 +74,7 @@ impl LogReader {
 
     /// The answer for the log if no more bytes follow.
     pub(crate) fn end(self) -> LogVerdict
-        requires fits { Fits self }
+        requires fits { HasRoomForLine self }
         ensures verdict { (before : List ℕ) → HasRead before self → IsLogVerdict self.is_all before result }
         ensures line { StopsAfter self.lines result }
     {
@@ -109,11 +109,11 @@ impl LogReader {
     }
 
     fn take_byte(&mut self, alloc: Global, byte: u8) -> Result<Option<LogVerdict>, LogFault>
-        requires fits { Fits self.old }
+        requires fits { HasRoomForLine self.old }
         ensures read { IfOk result (λ verdict.
-            (before : List ℕ) → HasRead before self.old → Reads (before ++ byte ∷ []) self.new verdict) }
+            (before : List ℕ) → HasRead before self.old → ReadsOrJudges (before ++ byte ∷ []) self.new verdict) }
         ensures line { IfOk result (λ verdict. IfSome verdict (NamesLineAfter self.old.lines)) }
-        ensures fits { Fits self.new }
+        ensures fits { HasRoomForLine self.new }
         ensures all { self.new.is_all ≡ self.old.is_all }
         ensures lines { self.old.lines ≤ self.new.lines }
         ensures failed { result ≡ Err Input → 2 ^ 64 ≤ self.old.lines + 2 }
@@ -137,12 +137,12 @@ impl LogReader {
     }
 
     fn end_line(&mut self, alloc: Global) -> Result<Option<LogVerdict>, LogFault>
-        requires fits { Fits self.old }
+        requires fits { HasRoomForLine self.old }
         requires few { self.old.lines + 2 < 2 ^ 64 }
         ensures read { IfOk result (λ verdict.
-            (before : List ℕ) → HasRead before self.old → Reads (before ++ 10 ∷ []) self.new verdict) }
+            (before : List ℕ) → HasRead before self.old → ReadsOrJudges (before ++ 10 ∷ []) self.new verdict) }
         ensures line { IfOk result (λ verdict. IfSome verdict (NamesLineAfter self.old.lines)) }
-        ensures fits { Fits self.new }
+        ensures fits { HasRoomForLine self.new }
         ensures all { self.new.is_all ≡ self.old.is_all }
         ensures lines { self.old.lines ≤ self.new.lines }
         ensures fault { IfErr result (λ fault. fault ≡ NoMemory) }

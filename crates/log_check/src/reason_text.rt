@@ -1,8 +1,8 @@
 //! The sentence of a reason.
 
 ghost use Rattle.std.specs.Prelude.{◌≡◌, ◌++◌, IfOk, decimal};
-ghost use Rattle.log_check.specs.ReasonTexts.{book_text, lock_text, place_text, quantity_text, reason_text, room_text};
-ghost use Rattle.log_check.specs.ReasonTexts.{head_text, limit_text, refusal_text, said, said_two, stock_text, sum_text};
+ghost use Rattle.log_check.specs.ReasonTexts.{book_text, lock_text, phase_text, quantity_text, reason_text, room_text};
+ghost use Rattle.log_check.specs.ReasonTexts.{head_text, full_limit_text, mkdir_refusal_text, said, said_two, stock_state_text, sum_text};
 ghost use Rattle.step_rules.specs.declared.phase.Phase.{Phase};
 ghost use Rattle.log_check.specs.declared.reason.Reason.TheVariants as kinds;
 
@@ -200,7 +200,7 @@ fn write_no_block(block: &Block, text: &mut Vec<u8>) -> Result<(), AllocError>
 
 // Appends which group's unit a frame is in, that isn't its head.
 fn write_tail(frame: u32, group: GroupId, text: &mut Vec<u8>) -> Result<(), AllocError>
-    ensures { IfOk result (λ _. text.new.items ≡ text.old.items ++ place_text frame (Phase.Tail group)) }
+    ensures { IfOk result (λ _. text.new.items ≡ text.old.items ++ phase_text frame (Phase.Tail group)) }
 {
     say_two(
         b"frame ",
@@ -286,7 +286,7 @@ fn write_quantity(what: Quantity, text: &mut Vec<u8>) -> Result<(), AllocError>
 
 // Appends what a frame is.
 fn write_place(frame: u32, phase: Phase, text: &mut Vec<u8>) -> Result<(), AllocError>
-    ensures { IfOk result (λ _. text.new.items ≡ text.old.items ++ place_text frame phase) }
+    ensures { IfOk result (λ _. text.new.items ≡ text.old.items ++ phase_text frame phase) }
 {
     match phase {
         Phase::InZone => say(b"frame ", frame, b" is free", text),
@@ -352,7 +352,7 @@ fn write_stock(
     is_drained: bool,
     text: &mut Vec<u8>,
 ) -> Result<(), AllocError>
-    ensures { IfOk result (λ _. text.new.items ≡ text.old.items ++ stock_text cpu group is_drained) }
+    ensures { IfOk result (λ _. text.new.items ≡ text.old.items ++ stock_state_text cpu group is_drained) }
 {
     match group {
         None => say(b"CPU ", cpu, b"'s stock is of no group", text),
@@ -392,7 +392,7 @@ fn write_book(cpu: u32, group: Option<GroupId>, text: &mut Vec<u8>) -> Result<()
 }
 
 fn write_refusal(fault: &Fault, text: &mut Vec<u8>) -> Result<(), AllocError>
-    ensures { IfOk result (λ _. text.new.items ≡ text.old.items ++ refusal_text fault.now) }
+    ensures { IfOk result (λ _. text.new.items ≡ text.old.items ++ mkdir_refusal_text fault.now) }
 {
     say_named(
         b"mkdir is refused ",
@@ -418,7 +418,7 @@ fn write_no_room(
 
 // Appends that the limit of the group has no room.
 fn write_limit(path: &PathText, text: &mut Vec<u8>) -> Result<(), AllocError>
-    ensures { IfOk result (λ _. text.new.items ≡ text.old.items ++ limit_text path.now) }
+    ensures { IfOk result (λ _. text.new.items ≡ text.old.items ++ full_limit_text path.now) }
 {
     say_words(b"the limit of ", path.as_bytes(), b" has no room: ", text)
 }

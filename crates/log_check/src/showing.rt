@@ -6,7 +6,7 @@ ghost use Rattle.step_rules.specs.Legal.{is_passable, no_frame_passes, no_page_p
 ghost use Rattle.mem_core.specs.Rows.{state_in};
 ghost use Rattle.mem_core.specs.Rooms.{FitsZone, IsBelowBounds};
 ghost use Rattle.log_check.specs.Conditions.{is_met, quantity_in};
-ghost use Rattle.log_check.specs.Reasons.{Shows};
+ghost use Rattle.log_check.specs.Reasons.{ShowsUnmet};
 ghost use Rattle.log_check.specs.declared.conditions.Condition.TheVariants as kinds;
 ghost use Rattle.log_check.specs.declared.conditions.PlaceTest.TheVariants.{Passable, Returnable};
 ghost use Rattle.log_check.specs.declared.reason.Reason.{Reason};
@@ -25,7 +25,7 @@ pub(crate) fn show(rows: &Rows, condition: &Condition) -> Reason
     requires fits { FitsZone rows.now }
     requires bounded { IsBelowBounds (state_in rows.now) }
     requires unmet { is_met (state_in rows.now) condition.now ≡ false }
-    ensures { Shows (state_in rows.now) condition.now result }
+    ensures { ShowsUnmet (state_in rows.now) condition.now result }
 {
     match *condition {
         Condition::Cpu(seat) => Reason::NoCpu(seat),
@@ -75,7 +75,7 @@ pub(crate) fn place(rows: &Rows, frame: u32) -> Reason
 }
 
 fn show_seat(rows: &Rows, seat: u32) -> Reason
-    ensures { Shows (state_in rows.now) (kinds.AnySeat seat) result }
+    ensures { ShowsUnmet (state_in rows.now) (kinds.AnySeat seat) result }
 {
     if seat == 0 {
         Reason::Lock(rows.hold)
@@ -89,7 +89,7 @@ fn show_seat(rows: &Rows, seat: u32) -> Reason
 fn show_pending(rows: &Rows) -> Reason
     requires fits { FitsZone rows.now }
     requires unmet { no_page_pends (state_in rows.now) ≡ false }
-    ensures { Shows (state_in rows.now) kinds.NonePending result }
+    ensures { ShowsUnmet (state_in rows.now) kinds.NonePending result }
 {
     for index in 0..64 {
         let group = GroupId::of(index).unwrap();
@@ -108,7 +108,7 @@ fn show_pending(rows: &Rows) -> Reason
 #[tactic(auto, using(mem_core::proofs::Adding::all_is, mem_core::proofs::Adding::all_not))]
 fn show_passing(rows: &Rows) -> Reason
     requires unmet { no_frame_passes (state_in rows.now) ≡ false }
-    ensures { Shows (state_in rows.now) kinds.NonePassing result }
+    ensures { ShowsUnmet (state_in rows.now) kinds.NonePassing result }
 {
     for frame in 0..rows.frames {
         if is_passing(rows.phase(frame)) {
@@ -122,7 +122,7 @@ fn show_passing(rows: &Rows) -> Reason
 #[tactic(auto, using(mem_core::proofs::Adding::all_is, mem_core::proofs::Adding::all_not))]
 fn show_passing_at(rows: &Rows, cpu: u32) -> Reason
     requires unmet { nothing_passes (state_in rows.now) cpu ≡ false }
-    ensures { Shows (state_in rows.now) (kinds.NonePassingAt cpu) result }
+    ensures { ShowsUnmet (state_in rows.now) (kinds.NonePassingAt cpu) result }
 {
     for frame in 0..rows.frames {
         if passes_out(rows.phase(frame), cpu) || passes_back(rows.phase(frame), cpu) {
@@ -135,7 +135,7 @@ fn show_passing_at(rows: &Rows, cpu: u32) -> Reason
 // What a frame is that isn't in this place.
 fn show_place(rows: &Rows, frame: u32, test: PlaceTest) -> Reason
     requires unmet { is_met (state_in rows.now) (kinds.InPlace frame test) ≡ false }
-    ensures { Shows (state_in rows.now) (kinds.InPlace frame test) result }
+    ensures { ShowsUnmet (state_in rows.now) (kinds.InPlace frame test) result }
 {
     match test {
         PlaceTest::Passable(cpu) => show_passable(rows, frame, cpu),
@@ -147,7 +147,7 @@ fn show_place(rows: &Rows, frame: u32, test: PlaceTest) -> Reason
 // What a frame is that can't be passed back.
 fn show_passable(rows: &Rows, frame: u32, cpu: u32) -> Reason
     requires unmet { is_passable (state_in rows.now) cpu frame ≡ false }
-    ensures { Shows (state_in rows.now) (kinds.InPlace frame (Passable cpu)) result }
+    ensures { ShowsUnmet (state_in rows.now) (kinds.InPlace frame (Passable cpu)) result }
 {
     if is_listed_at(rows.phase(frame), cpu) {
         Reason::NotFirst { frame, cpu }
@@ -159,7 +159,7 @@ fn show_passable(rows: &Rows, frame: u32, cpu: u32) -> Reason
 // What a frame is that can't be returned.
 fn show_unit(rows: &Rows, frame: u32) -> Reason
     requires unmet { is_met (state_in rows.now) (kinds.InPlace frame Returnable) ≡ false }
-    ensures { Shows (state_in rows.now) (kinds.InPlace frame Returnable) result }
+    ensures { ShowsUnmet (state_in rows.now) (kinds.InPlace frame Returnable) result }
 {
     match rows.phase(frame) {
         Phase::Head {
@@ -176,7 +176,7 @@ fn show_unit(rows: &Rows, frame: u32) -> Reason
 // What a stock is that can't be filled.
 fn show_stock(rows: &Rows, cpu: u32, group: GroupId) -> Reason
     requires unmet { takes_fill ((state_in rows.now).parts cpu) group ≡ false }
-    ensures { Shows (state_in rows.now) (kinds.TakesFill cpu group) result }
+    ensures { ShowsUnmet (state_in rows.now) (kinds.TakesFill cpu group) result }
 {
     let count = rows.stock_pages(cpu);
     if count == 0 {
@@ -195,7 +195,7 @@ fn show_stock(rows: &Rows, cpu: u32, group: GroupId) -> Reason
 // Why the tree refuses to make a group of this path.
 fn show_refusal(rows: &Rows, path: &PathText) -> Reason
     requires unmet { is_none (make_fault (state_in rows.now).groups path.now) ≡ false }
-    ensures { Shows (state_in rows.now) (kinds.Makeable path.now) result }
+    ensures { ShowsUnmet (state_in rows.now) (kinds.Makeable path.now) result }
 {
     Reason::Refused(rows.tree.make_fault(path.as_bytes()).unwrap())
 }

@@ -4,7 +4,7 @@ ghost use Rattle.std.specs.Prelude.{◌≡◌, ◌++◌, IfOk, codes, decimal, f
 ghost use Rattle.log_check.specs.ReasonTexts.{reason_text, said};
 ghost use Rattle.log_check.specs.declared.verdict.LogVerdict.TheVariants.{Legal};
 ghost use Rattle.log_check.specs.Texts.{count_text, due_text, end_text, free_text, holder_text, illegal_text, left_text};
-ghost use Rattle.log_check.specs.Texts.{place_text, steps_text, verdict_text};
+ghost use Rattle.log_check.specs.Texts.{step_place_text, legal_text, verdict_text};
 
 use crate::number::push_number;
 use crate::verdict::{IllegalStep, LogEnd, LogVerdict};
@@ -42,7 +42,7 @@ fn write_legal(steps: u64, free: u64, end: &LogEnd, text: &mut Vec<u8>) -> Resul
 }
 
 fn write_steps(steps: u64, text: &mut Vec<u8>) -> Result<(), AllocError>
-    ensures { IfOk result (λ _. text.new.items ≡ text.old.items ++ steps_text steps) }
+    ensures { IfOk result (λ _. text.new.items ≡ text.old.items ++ legal_text steps) }
 {
     say(b"legal: ", steps, b" steps, the promise holds\n", text)
 }
@@ -152,7 +152,7 @@ fn write_why(reason: &Reason, text: &mut Vec<u8>) -> Result<(), AllocError>
 
 // Appends the line and the number of a step.
 fn write_place(line: u64, step: u64, text: &mut Vec<u8>) -> Result<(), AllocError>
-    ensures { IfOk result (λ _. text.new.items ≡ text.old.items ++ place_text line step) }
+    ensures { IfOk result (λ _. text.new.items ≡ text.old.items ++ step_place_text line step) }
 {
     text.extend_from_slice(b"line ")?;
     push_number(line, text)?;

@@ -7,8 +7,8 @@ use Rattle.step_rules.specs.declared.step.Step.{Step}
 use Rattle.step_rules.specs.declared.step.Answer.{Answer}
 use Rattle.log_lines.specs.declared.line.LogLine.{LogLine}
 use Rattle.log_lines.specs.declared.line.LogLine.TheVariants as kinds
-use Rattle.log_lines.specs.Line.{IsLineText}
-use Rattle.log_lines.specs.Log.{EndsBadly, IsFirstBadLine, IsLog, MayBegin, SayInOrder, WholeLog, says_something}
+use Rattle.log_lines.specs.Line.{IsLogLineText}
+use Rattle.log_lines.specs.Log.{EndsBadly, IsFirstBadLogLine, IsLog, MayBegin, SayInOrder, WholeLog, says_something}
 use Rattle.log_lines.proofs.Lines.{same_line}
 use Rattle.log_lines.proofs.Logs.{ended, line_of_entry}
 
@@ -66,9 +66,9 @@ continues (y ∷ all) (x ∷ front) rest no_all no_front e =
 pub record Says (back : List (List ℕ)) (front all : List LogLine) : Type 0 where
   pub lines : List LogLine
   pub parts : all ≡ front ++ lines
-  pub says : AllZip IsLineText back lines
+  pub says : AllZip IsLogLineText back lines
 
-pub says_both : (texts back : List (List ℕ)) (front all : List LogLine) → AllZip IsLineText texts front → AllZip IsLineText (texts ++ back) all → Says back front all
+pub says_both : (texts back : List (List ℕ)) (front all : List LogLine) → AllZip IsLogLineText texts front → AllZip IsLogLineText (texts ++ back) all → Says back front all
 says_both [] back [] all one two = record { lines = all; parts = refl; says = two }
 says_both [] back (x ∷ front) all one two = absurd one
 says_both (t ∷ texts) back [] all one two = absurd one
@@ -113,7 +113,7 @@ front_begins front back log e = begun (filter says_something front) (filter says
 
 -- what follows the front of a log isn't bad
 not_bad : (texts : List (List ℕ)) (said lines : List LogLine) (rest : List ℕ) (log : WholeLog) → EndsBadly lines rest → AllByRecursion NoFeed texts
-    → rest ≡ flat_map ended texts → AllZip IsLineText texts said → SayInOrder (lines ++ said) log → ⊥
+    → rest ≡ flat_map ended texts → AllZip IsLogLineText texts said → SayInOrder (lines ++ said) log → ⊥
 not_bad [] [] lines rest log bad no_feeds text says order =
     let nothing : filter says_something lines ≡ [] = bad.no_sizes text in
     let whole : filter says_something (lines ++ []) ≡ [] = ap (filter says_something) (append-nil lines) ∙ nothing in
@@ -125,7 +125,7 @@ not_bad (t ∷ texts) (x ∷ said) lines rest log bad no_feeds text says order =
     let front : SayInOrder ((lines ++ x ∷ []) ++ said) log = ap (filter says_something) (append_assoc lines (x ∷ []) said) ∙ order in
     bad.no_line t (flat_map ended texts) x no_feeds.0 (text ∙ append_assoc t (10 ∷ []) (flat_map ended texts)) says.0 (front_begins (lines ++ x ∷ []) said log front)
 
-pub bad_line_is_no_log : (text : List ℕ) (n : ℕ) (log : WholeLog) → IsFirstBadLine text n → ¬ IsLog text log
+pub bad_line_is_no_log : (text : List ℕ) (n : ℕ) (log : WholeLog) → IsFirstBadLogLine text n → ¬ IsLog text log
 bad_line_is_no_log text n log bad is =
     let parts : flat_map ended is.texts ≡ flat_map ended bad.texts ++ bad.rest
     = sym is.cut.parts ∙ bad.parts ∙ ap (λ (t : List ℕ). t ++ bad.rest) bad.cut.parts in

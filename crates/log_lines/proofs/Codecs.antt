@@ -8,7 +8,7 @@ use Rattle.std.specs.Str.Parse.{AllDigits}
 use Rattle.std.proofs.lemmas.Slice.Eq.{bytes_eq-Decides}
 use Rattle.log_lines.specs.Words.{Size, Wide, GroupAction, OrderAction, bound_of, Word, Numeral, Path, Fits, word_text}
 use Rattle.log_lines.specs.Words.{is_path, number, group, order, limit, flag}
-use Rattle.log_lines.specs.Reading.{◌>>=◌, Reads, first_of, only_if, number_of, u32_of, wide_at, number_at, group_at, order_at, limit_of, limit_at, flag_of, flag_at, path_at}
+use Rattle.log_lines.specs.Reading.{◌>>=◌, ParserOf, front_word, only_if, u64_of, u32_of, wide_at, u32_at, group_number_at, block_order_at, limit_in_word, limit_at, flag_of, flag_at, path_at}
 use Rattle.log_lines.proofs.Numbers.{number_again, number_is, only_if_is}
 
 -- the texts of words
@@ -25,7 +25,7 @@ pub record Takes (from : List (List ℕ)) (words : List Word) (rest : List (List
   pub fit : AllFit words
 
 -- what reading gives is written by these words, and they are read again
-pub record IsCodec {A : Type 0} (read : Reads A) (words : A → List Word) : Type 0 where
+pub record IsCodec {A : Type 0} (read : ParserOf A) (words : A → List Word) : Type 0 where
   pub takes : (from : List (List ℕ)) (x : A) (rest : List (List ℕ)) → read from ≡ Some (x, rest) → Takes from (words x) rest
   pub again : (x : A) (rest : List (List ℕ)) → AllFit (words x) → read (texts (words x) ++ rest) ≡ Some (x, rest)
 
@@ -42,7 +42,7 @@ pub some_is : {A : Type 0} (x y : A) → ◌≡◌ {A = Option A} (Some x) (Some
 some_is x y e = cc
 
 -- the first word and the others
-pub first_is : (from : List (List ℕ)) (w : List ℕ × List (List ℕ)) → first_of from ≡ Some w → from ≡ w.0 ∷ w.1
+pub first_is : (from : List (List ℕ)) (w : List ℕ × List (List ℕ)) → front_word from ≡ Some w → from ≡ w.0 ∷ w.1
 first_is [] w e = absurd cc
 first_is (word ∷ words) w e = let same : (word, words) ≡ w = some_is (word, words) w e in rw (← same) refl
 
@@ -73,7 +73,7 @@ takes_both from a middle b rest one two = record {
 abbrev pub gives : {A V : Type 0} → (A → V) → A × List (List ℕ) → Option (V × List (List ℕ))
 gives f a = Some (f a.0, a.1)
 
-module _ {A V : Type 0} {ra : Reads A} {wa : A → List Word} (ca : IsCodec ra wa) (f : A → V) where
+module _ {A V : Type 0} {ra : ParserOf A} {wa : A → List Word} (ca : IsCodec ra wa) (f : A → V) where
   pub one_takes : (from : List (List ℕ)) (v : V) (rest : List (List ℕ)) → (ra from >>= gives f) ≡ Some (v, rest)
       → (a : A) × (f a ≡ v) × Takes from (wa a) rest
   one_takes from v rest e =
@@ -84,7 +84,7 @@ module _ {A V : Type 0} {ra : Reads A} {wa : A → List Word} (ca : IsCodec ra w
   pub one_again : (a : A) (rest : List (List ℕ)) → AllFit (wa a) → (ra (texts (wa a) ++ rest) >>= gives f) ≡ Some (f a, rest)
   one_again a rest fit = rw (ca.again a rest fit) refl
 
-module _ {A B V : Type 0} {ra : Reads A} {rb : Reads B} {wa : A → List Word} {wb : B → List Word}
+module _ {A B V : Type 0} {ra : ParserOf A} {rb : ParserOf B} {wa : A → List Word} {wb : B → List Word}
     (ca : IsCodec ra wa) (cb : IsCodec rb wb) (f : A → B → V) where
   pub two_takes : (from : List (List ℕ)) (v : V) (rest : List (List ℕ)) → (ra from >>= λ a. rb a.1 >>= gives (f a.0)) ≡ Some (v, rest)
       → (a : A) × (b : B) × (f a b ≡ v) × Takes from (wa a ++ wb b) rest
@@ -107,7 +107,7 @@ number_is_below bound n r x e =
 
 u32_is : (word : List ℕ) (n : ℕ) → u32_of word ≡ Some n → (word ≡ decimal n) × (n < 2 ^ 32)
 u32_is word n e =
-    let below = number_is_below (2 ^ 32) n (number_of word) n e in
+    let below = number_is_below (2 ^ 32) n (u64_of word) n e in
     ((number_is word n below.0).0, below.1)
 
 u32_again : (n : ℕ) → n < 2 ^ 32 → u32_of (decimal n) ≡ Some n
@@ -121,10 +121,10 @@ keeps rest x = Some (x, rest)
 word_codec : {A : Type 0} (test : List ℕ → Option A) (word : A → Word)
     → ((text : List ℕ) (x : A) → test text ≡ Some x → (text ≡ word_text (word x)) × Fits (word x))
     → ((x : A) → Fits (word x) → test (word_text (word x)) ≡ Some x)
-    → IsCodec (λ from. first_of from >>= λ w. test w.0 >>= keeps w.1) (λ x. word x ∷ [])
+    → IsCodec (λ from. front_word from >>= λ w. test w.0 >>= keeps w.1) (λ x. word x ∷ [])
 word_codec {A} test word is back = record {
   takes = λ from x rest e.
-      let w = bind_is (first_of from) (λ w. test w.0 >>= keeps w.1) (x, rest) e in
+      let w = bind_is (front_word from) (λ w. test w.0 >>= keeps w.1) (x, rest) e in
       let y = bind_is (test w.0.0) (keeps w.0.1) (x, rest) w.2 in
       let same = some_is (y.0, w.0.1) (x, rest) y.2 in
       let value : y.0 ≡ x = ap (λ p. p.0) same in
@@ -136,10 +136,10 @@ word_codec {A} test word is back = record {
 
 pub wide_codec : IsCodec wide_at (λ n. Numeral Wide n ∷ [])
 unfolding wide_at
-wide_codec = word_codec number_of (λ n. Numeral Wide n) (λ text n e. number_is text n e) (λ n fit. number_again n fit)
+wide_codec = word_codec u64_of (λ n. Numeral Wide n) (λ text n e. number_is text n e) (λ n fit. number_again n fit)
 
-pub number_codec : IsCodec number_at (λ n. number n ∷ [])
-unfolding number_at
+pub number_codec : IsCodec u32_at (λ n. number n ∷ [])
+unfolding u32_at
 number_codec = word_codec u32_of number (λ text n e. u32_is text n e) (λ n fit. u32_again n fit)
 
 le_below : (x bound : ℕ) → x < bound → bound ≤ 2 ^ 32 → x < 2 ^ 32
@@ -147,10 +147,10 @@ le_below x bound lt le = omega arith
 
 -- a number below a smaller bound
 small_codec : (size : Size) → bound_of size ≤ 2 ^ 32
-    → IsCodec (λ from. number_at from >>= λ n. only_if (ltb n.0 (bound_of size)) n.0 >>= keeps n.1) (λ g. Numeral size g ∷ [])
+    → IsCodec (λ from. u32_at from >>= λ n. only_if (ltb n.0 (bound_of size)) n.0 >>= keeps n.1) (λ g. Numeral size g ∷ [])
 small_codec size le = record {
   takes = λ from x rest e.
-      let n = bind_is (number_at from) (λ n. only_if (ltb n.0 (bound_of size)) n.0 >>= keeps n.1) (x, rest) e in
+      let n = bind_is (u32_at from) (λ n. only_if (ltb n.0 (bound_of size)) n.0 >>= keeps n.1) (x, rest) e in
       let g = bind_is (only_if (ltb n.0.0 (bound_of size)) n.0.0) (keeps n.0.1) (x, rest) n.2 in
       let passed = only_if_is (ltb n.0.0 (bound_of size)) n.0.0 g.0 g.1 in
       let same = some_is (g.0, n.0.1) (x, rest) g.2 in
@@ -161,12 +161,12 @@ small_codec size le = record {
   again = λ x rest fit. rw (number_codec.again x rest (le_below x (bound_of size) fit.0 le, tt), lt-ltb x (bound_of size) fit.0) refl;
 }
 
-pub group_codec : IsCodec group_at (λ g. group g ∷ [])
-unfolding group_at
+pub group_codec : IsCodec group_number_at (λ g. group g ∷ [])
+unfolding group_number_at
 group_codec = small_codec GroupAction (omega arith)
 
-pub order_codec : IsCodec order_at (λ k. order k ∷ [])
-unfolding order_at
+pub order_codec : IsCodec block_order_at (λ k. order k ∷ [])
+unfolding block_order_at
 order_codec = small_codec OrderAction (omega arith)
 
 -- ---- words that are no numbers
@@ -183,7 +183,7 @@ pub chosen : {A : Type 0} (b : Bool) (x y z : A) → cond b x y ≡ z → ((b �
 chosen true x y z e = inl (refl, e)
 chosen false x y z e = inr (refl, e)
 
-limit_is : (word : List ℕ) (n : Option ℕ) → limit_of word ≡ Some n → (word ≡ word_text (limit n)) × Fits (limit n)
+limit_is : (word : List ℕ) (n : Option ℕ) → limit_in_word word ≡ Some n → (word ≡ word_text (limit n)) × Fits (limit n)
 limit_is word n e =
     elim (chosen (bytes_eq word (codes "max")) (Some None) (u32_of word >>= λ m. Some (Some m)) (Some n) e) [
       | inl h ↦ subst (λ (k : Option ℕ). (word ≡ word_text (limit k)) × Fits (limit k)) (some_is None n h.1) ((bytes_eq-Decides word (codes "max")).0 h.0, refl)
@@ -195,13 +195,13 @@ limit_is word n e =
 max_is_no_number : (n : ℕ) → n < 2 ^ 64 → bytes_eq (decimal n) (codes "max") ≡ false
 max_is_no_number n lt = other_text (decimal n) (codes "max") (λ same. let digits = (decimal_is_IsNumeral n lt).0.1 in no_digits (rw same at digits))
 
-limit_again : (n : Option ℕ) → Fits (limit n) → limit_of (word_text (limit n)) ≡ Some n
+limit_again : (n : Option ℕ) → Fits (limit n) → limit_in_word (word_text (limit n)) ≡ Some n
 limit_again None fit = refl
 limit_again (Some n) fit = rw (max_is_no_number n (omega arith), u32_again n fit) refl
 
 pub limit_codec : IsCodec limit_at (λ n. limit n ∷ [])
 unfolding limit_at
-limit_codec = word_codec limit_of limit limit_is limit_again
+limit_codec = word_codec limit_in_word limit limit_is limit_again
 
 flag_is : (word : List ℕ) (f : Bool) → flag_of word ≡ Some f → (word ≡ word_text (flag f)) × Fits (flag f)
 flag_is word f e =

@@ -12,8 +12,8 @@ use Rattle.log_lines.specs.declared.line.LogLine.{LogLine}
 use Rattle.log_lines.specs.declared.line.LogLine.TheVariants.{Skipped, Zone}
 use Rattle.log_lines.specs.declared.line.LogLine.TheVariants as kinds
 use Rattle.log_lines.specs.Words.{Word, Fixed, number, action_words, answer_words, spaced}
-use Rattle.log_lines.specs.Line.{IsEntry, IsLineText, IsTextOf, IsZone, entry_text, is_skipped, longest_line, step_words, zone_text}
-use Rattle.log_lines.specs.Reading.{◌>>=◌, first_of, only_if, number_at, action_at, after_arrow, answer_at, is_end, entry_of, zone_of, line_of, words_of}
+use Rattle.log_lines.specs.Line.{IsEntry, IsLogLineText, IsTextOfLogLine, IsZone, entry_text, is_log_comment, longest_log_line, step_words, zone_text}
+use Rattle.log_lines.specs.Reading.{◌>>=◌, front_word, only_if, u32_at, action_at, after_arrow, answer_at, is_end, parsed_entry, parsed_zone, line_of, words_of}
 use Rattle.log_lines.proofs.Numbers.{only_if_is}
 use Rattle.log_lines.proofs.Codecs.{Takes, bind_is, chosen, first_is, fit_parts, number_codec, other_text, some_is, takes_both, texts, texts_append}
 use Rattle.log_lines.proofs.Rows.{action_codec, answer_codec}
@@ -27,7 +27,7 @@ no_more (word ∷ words) e = absurd cc
 
 arrow_is : (words rest : List (List ℕ)) → after_arrow words ≡ Some rest → words ≡ codes ">" ∷ rest
 arrow_is words rest e =
-    let w = bind_is (first_of words) (λ word. only_if (bytes_eq word.0 (codes ">")) word.1) rest e in
+    let w = bind_is (front_word words) (λ word. only_if (bytes_eq word.0 (codes ">")) word.1) rest e in
     let passed = only_if_is (bytes_eq w.0.0 (codes ">")) w.0.1 rest w.2 in
     let name : w.0.0 ≡ codes ">" = (bytes_eq-Decides w.0.0 (codes ">")).0 passed.0 in
     first_is words w.0 w.1 ∙ ap (λ (t : List ℕ). t ∷ w.0.1) name ∙ ap (λ (ts : List (List ℕ)). codes ">" ∷ ts) passed.1
@@ -45,10 +45,10 @@ takes_all from seat a b r1 r2 r3 r4 one two arrow three end =
     = record { parts = arrow ∙ ap (λ (ts : List (List ℕ)). codes ">" ∷ ts) last.parts; fit = (refl, last.fit) } in
     takes_both from (number seat ∷ []) r1 (a ++ Fixed (codes ">") ∷ b) [] one (takes_both r1 a r2 (Fixed (codes ">") ∷ b) [] two behind)
 
-pub entry_is : (from : List (List ℕ)) (e : Step × Answer) → entry_of from ≡ Some e → IsEntryOf from e.0 e.1
-unfolding entry_of
+pub entry_is : (from : List (List ℕ)) (e : Step × Answer) → parsed_entry from ≡ Some e → IsEntryOf from e.0 e.1
+unfolding parsed_entry
 entry_is from e is =
-    let seat = bind_is (number_at from) _ e is in
+    let seat = bind_is (u32_at from) _ e is in
     let act = bind_is (action_at seat.0.1) _ e seat.2 in
     let rest = bind_is (after_arrow act.0.1) _ e act.2 in
     let got = bind_is (answer_at rest.0) _ e rest.2 in
@@ -60,8 +60,8 @@ entry_is from e is =
     (answer_codec.takes rest.0 got.0.0 got.0.1 got.1) (no_more got.0.1 passed.0) in
     rw (← value, ← passed.1) (record { parts = whole.parts ∙ append-nil _; fits = whole.fit })
 
-pub entry_again : (step : Step) (answer : Answer) → IsEntry step answer → entry_of (texts (number step.seat ∷ step_words step answer)) ≡ Some (step, answer)
-unfolding entry_of
+pub entry_again : (step : Step) (answer : Answer) → IsEntry step answer → parsed_entry (texts (number step.seat ∷ step_words step answer)) ≡ Some (step, answer)
+unfolding parsed_entry
 entry_again step answer fits =
     let parts = fit_parts (action_words step.action) (Fixed (codes ">") ∷ answer_words answer) fits.1 in
     let cut : texts (step_words step answer) ≡ texts (action_words step.action) ++ codes ">" ∷ texts (answer_words answer)
@@ -74,11 +74,11 @@ entry_again step answer fits =
 
 -- ---- the sizes of the zone
 
-pub zone_is : (from : List (List ℕ)) (z : ℕ × ℕ) → zone_of from ≡ Some z → (from ≡ texts (number z.0 ∷ number z.1 ∷ [])) × IsZone z.0 z.1
-unfolding zone_of
+pub zone_is : (from : List (List ℕ)) (z : ℕ × ℕ) → parsed_zone from ≡ Some z → (from ≡ texts (number z.0 ∷ number z.1 ∷ [])) × IsZone z.0 z.1
+unfolding parsed_zone
 zone_is from z is =
-    let frames = bind_is (number_at from) _ z is in
-    let cpus = bind_is (number_at frames.0.1) _ z frames.2 in
+    let frames = bind_is (u32_at from) _ z is in
+    let cpus = bind_is (u32_at frames.0.1) _ z frames.2 in
     let last = bind_is (only_if (is_end cpus.0.1) cpus.0.0) _ z cpus.2 in
     let end = only_if_is (is_end cpus.0.1) cpus.0.0 last.0 last.1 in
     let passed = only_if_is (leb 1 frames.0.0 && leb frames.0.0 1048576 && leb 1 last.0 && leb last.0 64) (frames.0.0, last.0) z last.2 in
@@ -101,8 +101,8 @@ zone_is from z is =
       },
     )
 
-pub zone_again : (frames cpus : ℕ) → IsZone frames cpus → zone_of (texts (number frames ∷ number cpus ∷ [])) ≡ Some (frames, cpus)
-unfolding zone_of
+pub zone_again : (frames cpus : ℕ) → IsZone frames cpus → parsed_zone (texts (number frames ∷ number cpus ∷ [])) ≡ Some (frames, cpus)
+unfolding parsed_zone
 zone_again frames cpus is =
     let first = number_codec.again frames (texts (number cpus ∷ [])) (omega (arith, is.most_frames), tt) in
     let second = number_codec.again cpus [] (omega (arith, is.most_cpus), tt) in
@@ -123,7 +123,7 @@ not_short h = omega arith
 not_hash : (d : ℕ) → 48 ≤ d → d ≢ 35
 not_hash d h e = omega arith
 
-begins : (ds rest : List ℕ) → IsNumeral 10 ds → is_skipped (ds ++ rest) ≡ false
+begins : (ds rest : List ℕ) → IsNumeral 10 ds → is_log_comment (ds ++ rest) ≡ false
 begins [] rest is = absurd (not_short is.0)
 begins (d ∷ ds) rest is = let range = digit_from_value d is.1.0 in ne_eqb d 35 (not_hash d (omega arith))
 
@@ -136,14 +136,14 @@ zone_is_no_number n lt = other_text (decimal n) (codes "zone") (λ same. let dig
 
 -- the reading of a line that is neither too long nor skipped, from its words
 abbrev said_by : List (List ℕ) → Option LogLine
-said_by words = first_of words >>= λ word.
-    cond (bytes_eq word.0 (codes "zone")) (zone_of word.1 >>= λ z. Some (Zone z.0 z.1)) (entry_of words >>= λ e. Some (kinds.Step e.0 e.1))
+said_by words = front_word words >>= λ word.
+    cond (bytes_eq word.0 (codes "zone")) (parsed_zone word.1 >>= λ z. Some (Zone z.0 z.1)) (parsed_entry words >>= λ e. Some (kinds.Step e.0 e.1))
 
 abbrev said : List ℕ → Option LogLine
 said text = said_by (words_of text)
 
 zone_line : (text : List ℕ) (word : List ℕ × List (List ℕ)) (z : ℕ × ℕ) → words_of text ≡ word.0 ∷ word.1 → bytes_eq word.0 (codes "zone") ≡ true
-    → zone_of word.1 ≡ Some z → IsTextOf text (Zone z.0 z.1)
+    → parsed_zone word.1 ≡ Some z → IsTextOfLogLine text (Zone z.0 z.1)
 zone_line text word z cut name e =
     let is = zone_is word.1 z e in
     let same : word.0 ≡ codes "zone" = (bytes_eq-Decides word.0 (codes "zone")).0 name in
@@ -151,42 +151,42 @@ zone_line text word z cut name e =
     = cut ∙ ap (λ (t : List ℕ). t ∷ word.1) same ∙ ap (λ (ts : List (List ℕ)). codes "zone" ∷ ts) is.0 in
     (is.1, text_is text (Fixed (codes "zone")) (number z.0 ∷ number z.1 ∷ []) words)
 
-said_is : (text : List ℕ) (line : LogLine) → said text ≡ Some line → IsTextOf text line
+said_is : (text : List ℕ) (line : LogLine) → said text ≡ Some line → IsTextOfLogLine text line
 said_is text line e =
-    let w = bind_is (first_of (words_of text)) _ line e in
+    let w = bind_is (front_word (words_of text)) _ line e in
     let cut = first_is (words_of text) w.0 w.1 in
-    let zone = zone_of w.0.1 >>= λ z. Some (Zone z.0 z.1) in
-    let entry = entry_of (words_of text) >>= λ e. Some (kinds.Step e.0 e.1) in
+    let zone = parsed_zone w.0.1 >>= λ z. Some (Zone z.0 z.1) in
+    let entry = parsed_entry (words_of text) >>= λ e. Some (kinds.Step e.0 e.1) in
     elim (chosen (bytes_eq w.0.0 (codes "zone")) zone entry (Some line) w.2) [
-      | inl h ↦ let z = bind_is (zone_of w.0.1) (λ z. Some (Zone z.0 z.1)) line h.1 in
-          subst (IsTextOf text) (some_is (Zone z.0.0 z.0.1) line z.2) (zone_line text w.0 z.0 cut h.0 z.1)
-      | inr h ↦ let m = bind_is (entry_of (words_of text)) (λ e. Some (kinds.Step e.0 e.1)) line h.1 in
+      | inl h ↦ let z = bind_is (parsed_zone w.0.1) (λ z. Some (Zone z.0 z.1)) line h.1 in
+          subst (IsTextOfLogLine text) (some_is (Zone z.0.0 z.0.1) line z.2) (zone_line text w.0 z.0 cut h.0 z.1)
+      | inr h ↦ let m = bind_is (parsed_entry (words_of text)) (λ e. Some (kinds.Step e.0 e.1)) line h.1 in
           let is = entry_is (words_of text) m.0 m.1 in
-          subst (IsTextOf text) (some_is (kinds.Step m.0.0 m.0.1) line m.2) (is.fits, text_is text (number m.0.0.seat) (step_words m.0.0 m.0.1) is.parts)
+          subst (IsTextOfLogLine text) (some_is (kinds.Step m.0.0 m.0.1) line m.2) (is.fits, text_is text (number m.0.0.seat) (step_words m.0.0 m.0.1) is.parts)
     ]
 
 -- what is read from a text is a line that has it
-pub line_is : (text : List ℕ) (line : LogLine) → line_of text ≡ Some line → IsLineText text line
+pub line_is : (text : List ℕ) (line : LogLine) → line_of text ≡ Some line → IsLogLineText text line
 unfolding line_of
 line_is text line e =
-    elim (chosen (ltb longest_line (length text)) None (cond (is_skipped text) (Some Skipped) (said text)) (Some line) e) [
+    elim (chosen (ltb longest_log_line (length text)) None (cond (is_log_comment text) (Some Skipped) (said text)) (Some line) e) [
       | inl h ↦ let bad : None ≡ Some line = h.1 in cc
-      | inr long ↦ elim (chosen (is_skipped text) (Some Skipped) (said text) (Some line) long.1) [
-        | inl h ↦ record { short = ltb-false longest_line (length text) long.0; says = subst (IsTextOf text) (some_is Skipped line h.1) h.0 }
-        | inr h ↦ record { short = ltb-false longest_line (length text) long.0; says = said_is text line h.1 }
+      | inr long ↦ elim (chosen (is_log_comment text) (Some Skipped) (said text) (Some line) long.1) [
+        | inl h ↦ record { short = ltb-false longest_log_line (length text) long.0; says = subst (IsTextOfLogLine text) (some_is Skipped line h.1) h.0 }
+        | inr h ↦ record { short = ltb-false longest_log_line (length text) long.0; says = said_is text line h.1 }
       ]
     ]
 
-read_at : (text : List ℕ) (line : LogLine) → length text ≤ longest_line → is_skipped text ≡ false → said text ≡ Some line → line_of text ≡ Some line
+read_at : (text : List ℕ) (line : LogLine) → length text ≤ longest_log_line → is_log_comment text ≡ false → said text ≡ Some line → line_of text ≡ Some line
 unfolding line_of
-read_at text line short asks e = rw (le-ltb longest_line (length text) short, asks) e
+read_at text line short asks e = rw (le-ltb longest_log_line (length text) short, asks) e
 
-skipped_at : (text : List ℕ) → length text ≤ longest_line → is_skipped text ≡ true → line_of text ≡ Some Skipped
+skipped_at : (text : List ℕ) → length text ≤ longest_log_line → is_log_comment text ≡ true → line_of text ≡ Some Skipped
 unfolding line_of
-skipped_at text short is = rw (le-ltb longest_line (length text) short, is) refl
+skipped_at text short is = rw (le-ltb longest_log_line (length text) short, is) refl
 
 -- a line is read from each text that it has
-pub line_again : (text : List ℕ) (line : LogLine) → IsLineText text line → line_of text ≡ Some line
+pub line_again : (text : List ℕ) (line : LogLine) → IsLogLineText text line → line_of text ≡ Some line
 line_again text Skipped is = skipped_at text is.short is.says
 line_again text (Zone frames cpus) is =
     let words : words_of (zone_text frames cpus) ≡ texts (Fixed (codes "zone") ∷ number frames ∷ number cpus ∷ [])
@@ -194,7 +194,7 @@ line_again text (Zone frames cpus) is =
     (refl, (narrow frames is.says.0.most_frames, (narrow_cpus cpus is.says.0.most_cpus, tt))) in
     let reads : said_by (texts (Fixed (codes "zone") ∷ number frames ∷ number cpus ∷ [])) ≡ Some (Zone frames cpus)
     = rw (zone_again frames cpus is.says.0) refl in
-    read_at text (Zone frames cpus) is.short (ap is_skipped is.says.1) (ap said is.says.1 ∙ ap said_by words ∙ reads)
+    read_at text (Zone frames cpus) is.short (ap is_log_comment is.says.1) (ap said is.says.1 ∙ ap said_by words ∙ reads)
 line_again text (kinds.Step step answer) is =
     let fits = is.says.0 in
     let small : step.seat < 2 ^ 64 = omega (arith, fits.0) in
@@ -203,14 +203,14 @@ line_again text (kinds.Step step answer) is =
     let reads : said_by (texts (number step.seat ∷ step_words step answer)) ≡ Some (kinds.Step step answer)
     = rw (zone_is_no_number step.seat small, entry_again step answer fits) refl in
     let asks = begins (decimal step.seat) (spaced (step_words step answer)) (decimal_is_IsNumeral step.seat small).0 in
-    read_at text (kinds.Step step answer) is.short (ap is_skipped is.says.1 ∙ asks) (ap said is.says.1 ∙ ap said_by words ∙ reads)
+    read_at text (kinds.Step step answer) is.short (ap is_log_comment is.says.1 ∙ asks) (ap said is.says.1 ∙ ap said_by words ∙ reads)
 
 -- reading says which line has the text
 pub line_exact : (text : List ℕ) (found : Option LogLine) → found ≡ line_of text
-    → MatchOption found ((line : LogLine) → ¬ IsLineText text line) (λ line. IsLineText text line)
+    → MatchOption found ((line : LogLine) → ¬ IsLogLineText text line) (λ line. IsLogLineText text line)
 line_exact text None e = λ line is. let bad : None ≡ Some line = e ∙ line_again text line is in cc
 line_exact text (Some line) e = line_is text line (sym e)
 
 -- a text is that of one line at most
-pub same_line : (text : List ℕ) (one other : LogLine) → IsLineText text one → IsLineText text other → one ≡ other
+pub same_line : (text : List ℕ) (one other : LogLine) → IsLogLineText text one → IsLogLineText text other → one ≡ other
 same_line text one other is_one is_other = some_is one other (sym (line_again text one is_one) ∙ line_again text other is_other)

@@ -7,7 +7,7 @@ use Rattle.step_rules.specs.declared.step.Step.{Step}
 use Rattle.step_rules.specs.declared.step.Answer.{Answer}
 use Rattle.log_lines.specs.declared.line.LogLine.{LogLine}
 use Rattle.log_lines.specs.declared.line.LogLine.TheVariants as kinds
-use Rattle.log_lines.specs.Line.{IsLineText}
+use Rattle.log_lines.specs.Line.{IsLogLineText}
 use Rattle.log_lines.specs.Log.{AreLinesOf, IsLog, WholeLog, says_something}
 use Rattle.log_lines.proofs.Lines.{same_line}
 
@@ -28,7 +28,7 @@ same_texts : (text : List ℕ) (one other : List (List ℕ)) → AreLinesOf text
 same_texts text one other is_one is_other = append_cancel_right one other ([] ∷ [])
     (sym (lines_split one is_one.no_feeds) ∙ ap (slice_split (λ b. b == 10)) (sym is_one.parts ∙ is_other.parts) ∙ lines_split other is_other.no_feeds)
 
-same_lines : (texts : List (List ℕ)) (one other : List LogLine) → AllZip IsLineText texts one → AllZip IsLineText texts other → one ≡ other
+same_lines : (texts : List (List ℕ)) (one other : List LogLine) → AllZip IsLogLineText texts one → AllZip IsLogLineText texts other → one ≡ other
 same_lines [] [] [] a b = refl
 same_lines [] (x ∷ xs) ys a b = absurd a
 same_lines [] [] (y ∷ ys) a b = absurd b

@@ -9,7 +9,7 @@ use Rattle.step_rules.specs.declared.step.Answer.{Answer}
 use Rattle.step_rules.specs.declared.step.Answer.TheVariants as answer
 use Rattle.log_lines.specs.Words.{Word, Fixed, is_no_space, number, group, action_words, answer_words}
 use Rattle.log_lines.specs.Names.{action_names, answer_names}
-use Rattle.log_lines.specs.Reading.{◌>>=◌, Reads, first_of, number_at, group_at, arguments_at, action_at, results_at, answer_at}
+use Rattle.log_lines.specs.Reading.{◌>>=◌, ParserOf, front_word, u32_at, group_number_at, arguments_at, action_at, results_at, answer_at}
 use Rattle.log_lines.proofs.Codecs.{AllFit, IsCodec, Takes, bind_is, first_is, gives, some_is, texts, one_takes, one_again, two_takes, two_again, takes_both, chosen}
 use Rattle.log_lines.proofs.Codecs.{wide_codec, number_codec, group_codec, order_codec, limit_codec, flag_codec, path_codec}
 
@@ -36,7 +36,7 @@ found {K} P (row ∷ rows) word k all e =
     ]
 
 -- reading what follows the name takes the words of the value
-abbrev TakesRow : {V : Type 0} → (V → List Word) → List ℕ → Reads V → Type 0
+abbrev TakesRow : {V : Type 0} → (V → List Word) → List ℕ → ParserOf V → Type 0
 TakesRow {V} words name read = (from : List (List ℕ)) (v : V) (rest : List (List ℕ)) → read from ≡ Some (v, rest) → Takes (name ∷ from) (words v) rest
 
 behind : {V : Type 0} (words : V → List Word) (name : List ℕ) (no_space : IsTrue (list_all is_no_space name)) (from : List (List ℕ)) (args : List Word)
@@ -53,13 +53,13 @@ row_alone words name no_space x same from v rest e =
     behind words name no_space from [] rest x v same (ap (λ p. p.0) is) (record { parts = ap (λ p. p.1) is; fit = tt })
 
 module _ {V A : Type 0} (words : V → List Word) (name : List ℕ) (no_space : IsTrue (list_all is_no_space name))
-    {ra : Reads A} {wa : A → List Word} (ca : IsCodec ra wa) where
+    {ra : ParserOf A} {wa : A → List Word} (ca : IsCodec ra wa) where
   row_one : (f : A → V) → ((a : A) → words (f a) ≡ Fixed name ∷ wa a) → TakesRow words name (λ from. ra from >>= gives f)
   row_one f same from v rest e =
       let a = one_takes ca f from v rest e in
       behind words name no_space from (wa a.0) rest (f a.0) v (same a.0) a.1 a.2
 
-  row_two : {B : Type 0} {rb : Reads B} {wb : B → List Word} (cb : IsCodec rb wb) (f : A → B → V)
+  row_two : {B : Type 0} {rb : ParserOf B} {wb : B → List Word} (cb : IsCodec rb wb) (f : A → B → V)
       → ((a : A) (b : B) → words (f a b) ≡ Fixed name ∷ (wa a ++ wb b))
       → TakesRow words name (λ from. ra from >>= λ a. rb a.1 >>= gives (f a.0))
   row_two {B} {rb} {wb} cb f same from v rest e =
@@ -67,9 +67,9 @@ module _ {V A : Type 0} (words : V → List Word) (name : List ℕ) (no_space : 
       behind words name no_space from (wa p.0 ++ wb p.1) rest (f p.0 p.1) v (same p.0 p.1) p.2 p.3
 
 -- `fill` has three numbers
-fill_row : TakesRow action_words (codes "fill") (λ from. number_at from >>= λ p. group_at p.1 >>= λ g. number_at g.1 >>= gives (action.Fill p.0 g.0))
+fill_row : TakesRow action_words (codes "fill") (λ from. u32_at from >>= λ p. group_number_at p.1 >>= λ g. u32_at g.1 >>= gives (action.Fill p.0 g.0))
 fill_row from v rest e =
-    let p = bind_is (number_at from) (λ p. group_at p.1 >>= λ g. number_at g.1 >>= gives (action.Fill p.0 g.0)) (v, rest) e in
+    let p = bind_is (u32_at from) (λ p. group_number_at p.1 >>= λ g. u32_at g.1 >>= gives (action.Fill p.0 g.0)) (v, rest) e in
     let q = two_takes group_codec number_codec (action.Fill p.0.0) p.0.1 v rest p.2 in
     behind action_words (codes "fill") refl from (number p.0.0 ∷ group q.0 ∷ number q.1 ∷ []) rest (action.Fill p.0.0 q.0 q.1) v refl q.2
     (takes_both from (number p.0.0 ∷ []) p.0.1 (group q.0 ∷ number q.1 ∷ []) rest (number_codec.takes from p.0.0 p.0.1 p.1) q.3)
@@ -138,11 +138,11 @@ answer_rows =
     & tt
 
 -- the words of an action or an answer, its name first
-named_takes : {K V : Type 0} (words : V → List Word) (names : List (List ℕ × K)) (args : K → Reads V) → AllRows (λ name k. TakesRow words name (args k)) names
+named_takes : {K V : Type 0} (words : V → List Word) (names : List (List ℕ × K)) (args : K → ParserOf V) → AllRows (λ name k. TakesRow words name (args k)) names
     → (from : List (List ℕ)) (v : V) (rest : List (List ℕ))
-    → (first_of from >>= λ word. lookup (λ name. bytes_eq name word.0) names >>= λ k. args k word.1) ≡ Some (v, rest) → Takes from (words v) rest
+    → (front_word from >>= λ word. lookup (λ name. bytes_eq name word.0) names >>= λ k. args k word.1) ≡ Some (v, rest) → Takes from (words v) rest
 named_takes words names args rows from v rest e =
-    let w = bind_is (first_of from) (λ word. lookup (λ name. bytes_eq name word.0) names >>= λ k. args k word.1) (v, rest) e in
+    let w = bind_is (front_word from) (λ word. lookup (λ name. bytes_eq name word.0) names >>= λ k. args k word.1) (v, rest) e in
     let k = bind_is (lookup (λ name. bytes_eq name w.0.0) names) (λ k. args k w.0.1) (v, rest) w.2 in
     let row = found (λ name k. TakesRow words name (args k)) names w.0.0 k.0 rows k.1 in
     subst (λ (ts : List (List ℕ)). Takes ts (words v) rest) (sym (first_is from w.0 w.1)) (row w.0.1 v rest k.2)

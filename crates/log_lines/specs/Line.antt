@@ -9,8 +9,8 @@ use Rattle.log_lines.specs.declared.line.LogLine.TheVariants as kinds
 use Rattle.log_lines.specs.Words.{Word, Fixed, Fits, number, action_words, answer_words, spaced}
 
 -- the most bytes of a line, without its line feed
-abbrev pub longest_line : ℕ
-longest_line = 1024
+abbrev pub longest_log_line : ℕ
+longest_log_line = 1024
 
 -- the words after the seat: an action, `>`, and the answer
 abbrev pub step_words : Step → Answer → List Word
@@ -36,17 +36,17 @@ pub record IsZone (frames cpus : ℕ) : Type 0 where
   pub most_cpus : cpus ≤ most_cpus
 
 -- an empty text, or a comment
-abbrev pub is_skipped : List ℕ → Bool
-is_skipped [] = true
-is_skipped (b ∷ bs) = b == 35
+abbrev pub is_log_comment : List ℕ → Bool
+is_log_comment [] = true
+is_log_comment (b ∷ bs) = b == 35
 
 -- the text is that of the line
-abbrev pub IsTextOf : List ℕ → LogLine → Type 0
-IsTextOf text kinds.Skipped = IsTrue (is_skipped text)
-IsTextOf text (kinds.Zone frames cpus) = IsZone frames cpus × (text ≡ zone_text frames cpus)
-IsTextOf text (kinds.Step step answer) = IsEntry step answer × (text ≡ entry_text step answer)
+abbrev pub IsTextOfLogLine : List ℕ → LogLine → Type 0
+IsTextOfLogLine text kinds.Skipped = IsTrue (is_log_comment text)
+IsTextOfLogLine text (kinds.Zone frames cpus) = IsZone frames cpus × (text ≡ zone_text frames cpus)
+IsTextOfLogLine text (kinds.Step step answer) = IsEntry step answer × (text ≡ entry_text step answer)
 
 -- the text is that of the line, and not too long
-pub record IsLineText (text : List ℕ) (line : LogLine) : Type 0 where
-  pub short : length text ≤ longest_line
-  pub says : IsTextOf text line
+pub record IsLogLineText (text : List ℕ) (line : LogLine) : Type 0 where
+  pub short : length text ≤ longest_log_line
+  pub says : IsTextOfLogLine text line

@@ -6,7 +6,7 @@ use Rattle.step_rules.specs.declared.step.Step.{Step}
 use Rattle.step_rules.specs.declared.step.Answer.{Answer}
 use Rattle.log_lines.specs.declared.line.LogLine.{LogLine}
 use Rattle.log_lines.specs.declared.line.LogLine.TheVariants as kinds
-use Rattle.log_lines.specs.Line.{IsLineText}
+use Rattle.log_lines.specs.Line.{IsLogLineText}
 
 -- the line is neither empty nor a comment
 abbrev pub says_something : LogLine → Bool
@@ -35,7 +35,7 @@ pub record IsLog (text : List ℕ) (log : WholeLog) : Type 0 where
   pub texts : List (List ℕ)
   pub lines : List LogLine
   pub cut : AreLinesOf text texts
-  pub says : AllZip IsLineText texts lines
+  pub says : AllZip IsLogLineText texts lines
   pub in_order : SayInOrder lines log
 
 -- a log may begin with these lines
@@ -47,18 +47,18 @@ MayBegin lines = (filter says_something lines ≡ []) ⊎ ((log : WholeLog) × S
 pub record EndsBadly (lines : List LogLine) (rest : List ℕ) : Type 0 where
   pub no_sizes : rest ≡ [] → filter says_something lines ≡ []
   pub no_line : (next more : List ℕ) (line : LogLine) → All (λ b. b ≢ 10) next → rest ≡ next ++ 10 ∷ more
-      → IsLineText next line
+      → IsLogLineText next line
       → ¬ MayBegin (lines ++ line ∷ [])
 
 -- a log may begin with the lines before the n-th, counted from 1, but not with the n-th added
-pub record IsFirstBadLine (text : List ℕ) (n : ℕ) : Type 0 where
+pub record IsFirstBadLogLine (text : List ℕ) (n : ℕ) : Type 0 where
   pub front : List ℕ
   pub rest : List ℕ
   pub parts : text ≡ front ++ rest
   pub texts : List (List ℕ)
   pub lines : List LogLine
   pub cut : AreLinesOf front texts
-  pub says : AllZip IsLineText texts lines
+  pub says : AllZip IsLogLineText texts lines
   pub begins : MayBegin lines
   pub place : n ≡ length texts + 1
   pub bad : EndsBadly lines rest

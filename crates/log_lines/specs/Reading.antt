@@ -22,7 +22,7 @@ use Rattle.log_lines.specs.Names.{action_named, action_of_group, action_of_numbe
 use Rattle.log_lines.specs.Names.{action_of_pages}
 use Rattle.log_lines.specs.Names.{answer_named}
 use Rattle.log_lines.specs.Words.{is_path}
-use Rattle.log_lines.specs.Line.{is_skipped, longest_line}
+use Rattle.log_lines.specs.Line.{is_log_comment, longest_log_line}
 
 infixl 10 ◌>>=◌
 -- continues with f if there is a value
@@ -31,9 +31,9 @@ None >>= f = None
 (Some x) >>= f = f x
 
 -- the result of a function, seen through view, is that of parsing
-abbrev pub Gives : {X Y : Type 0} → (X → Y) → Option X → Option Y → Type 0
-Gives view (Some x) read = read ≡ Some (view x)
-Gives view None read = read ≡ None
+abbrev pub ParsesTo : {X Y : Type 0} → (X → Y) → Option X → Option Y → Type 0
+ParsesTo view (Some x) read = read ≡ Some (view x)
+ParsesTo view None read = read ≡ None
 
 -- the words of a text: what its spaces separate
 abbrev pub words_of : List ℕ → List (List ℕ)
@@ -45,113 +45,113 @@ words_left None = []
 words_left (Some text) = words_of text.now
 
 -- a parser takes words from the front, and gives a value and the words after it
-abbrev pub Reads : Type 0 → Type 0
-Reads A = List (List ℕ) → Option (A × List (List ℕ))
+abbrev pub ParserOf : Type 0 → Type 0
+ParserOf A = List (List ℕ) → Option (A × List (List ℕ))
 
 -- the first word
-abbrev pub first_of : Reads (List ℕ)
-first_of [] = None
-first_of (word ∷ words) = Some (word, words)
+abbrev pub front_word : ParserOf (List ℕ)
+front_word [] = None
+front_word (word ∷ words) = Some (word, words)
 
 -- x if the test passes
 abbrev pub only_if : {A : Type 0} → Bool → A → Option A
 only_if test x = if test then Some x else None
 
 -- the number below 2 ^ 64 whose text the word is
-abbrev pub number_of : List ℕ → Option ℕ
-number_of word = only_if (bytes_eq (decimal (digits_value 10 word)) word && nat_lt (digits_value 10 word) (2 ^ 64))
+abbrev pub u64_of : List ℕ → Option ℕ
+u64_of word = only_if (bytes_eq (decimal (digits_value 10 word)) word && nat_lt (digits_value 10 word) (2 ^ 64))
     (digits_value 10 word)
 
 -- the number below 2 ^ 32 whose text the word is
 abbrev pub u32_of : List ℕ → Option ℕ
-u32_of word = number_of word >>= λ n. only_if (nat_lt n (2 ^ 32)) n
+u32_of word = u64_of word >>= λ n. only_if (nat_lt n (2 ^ 32)) n
 
 -- a number below 2 ^ 64
-unfoldable pub wide_at : Reads ℕ
-wide_at words = first_of words >>= λ word. number_of word.0 >>= λ n. Some (n, word.1)
+unfoldable pub wide_at : ParserOf ℕ
+wide_at words = front_word words >>= λ word. u64_of word.0 >>= λ n. Some (n, word.1)
 
 -- a number of 32 bits
-unfoldable pub number_at : Reads ℕ
-number_at words = first_of words >>= λ word. u32_of word.0 >>= λ n. Some (n, word.1)
+unfoldable pub u32_at : ParserOf ℕ
+u32_at words = front_word words >>= λ word. u32_of word.0 >>= λ n. Some (n, word.1)
 
 -- the number of a group
-unfoldable pub group_at : Reads ℕ
-group_at words = do
-  n ← number_at words
+unfoldable pub group_number_at : ParserOf ℕ
+group_number_at words = do
+  n ← u32_at words
   g ← only_if (nat_lt n.0 most_groups) n.0
   Some (g, n.1)
 
 -- the order of a block
-unfoldable pub order_at : Reads ℕ
-order_at words = do
-  n ← number_at words
+unfoldable pub block_order_at : ParserOf ℕ
+block_order_at words = do
+  n ← u32_at words
   k ← only_if (nat_lt n.0 11) n.0
   Some (k, n.1)
 
 -- a limit, or none for `max`
-abbrev pub limit_of : List ℕ → Option (Option ℕ)
-limit_of word = if bytes_eq word (codes "max") then Some None else (u32_of word >>= λ n. Some (Some n))
+abbrev pub limit_in_word : List ℕ → Option (Option ℕ)
+limit_in_word word = if bytes_eq word (codes "max") then Some None else (u32_of word >>= λ n. Some (Some n))
 
 -- a limit
-unfoldable pub limit_at : Reads (Option ℕ)
-limit_at words = first_of words >>= λ word. limit_of word.0 >>= λ n. Some (n, word.1)
+unfoldable pub limit_at : ParserOf (Option ℕ)
+limit_at words = front_word words >>= λ word. limit_in_word word.0 >>= λ n. Some (n, word.1)
 
 -- `0` or `1`
 abbrev pub flag_of : List ℕ → Option Bool
 flag_of word = if bytes_eq word (codes "0") then Some false else only_if (bytes_eq word (codes "1")) true
 
 -- a flag
-unfoldable pub flag_at : Reads Bool
-flag_at words = first_of words >>= λ word. flag_of word.0 >>= λ f. Some (f, word.1)
+unfoldable pub flag_at : ParserOf Bool
+flag_at words = front_word words >>= λ word. flag_of word.0 >>= λ f. Some (f, word.1)
 
 -- a path
-unfoldable pub path_at : Reads (List ℕ)
-path_at words = first_of words >>= λ word. only_if (is_path word.0) word.0 >>= λ path. Some (path, word.1)
+unfoldable pub path_at : ParserOf (List ℕ)
+path_at words = front_word words >>= λ word. only_if (is_path word.0) word.0 >>= λ path. Some (path, word.1)
 
 -- the action of this name, with the arguments that follow
-unfoldable pub arguments_at : ActionName → Reads Action
+unfoldable pub arguments_at : ActionName → ParserOf Action
 arguments_at Lock words = Some (action.Lock, words)
 arguments_at Unlock words = Some (action.Unlock, words)
-arguments_at (Number name) words = number_at words >>= λ n. Some (action_of_number name n.0, n.1)
-arguments_at (TwoNumbers name) words = number_at words >>= λ m. number_at m.1 >>= λ n.
+arguments_at (Number name) words = u32_at words >>= λ n. Some (action_of_number name n.0, n.1)
+arguments_at (TwoNumbers name) words = u32_at words >>= λ m. u32_at m.1 >>= λ n.
     Some (action_of_two_numbers name m.0 n.0, n.1)
-arguments_at (Group name) words = group_at words >>= λ g. Some (action_of_group name g.0, g.1)
-arguments_at (Pages name) words = group_at words >>= λ g. number_at g.1 >>= λ n.
+arguments_at (Group name) words = group_number_at words >>= λ g. Some (action_of_group name g.0, g.1)
+arguments_at (Pages name) words = group_number_at words >>= λ g. u32_at g.1 >>= λ n.
     Some (action_of_pages name g.0 n.0, n.1)
-arguments_at Fill words = number_at words >>= λ p. group_at p.1 >>= λ g. number_at g.1 >>= λ n.
+arguments_at Fill words = u32_at words >>= λ p. group_number_at p.1 >>= λ g. u32_at g.1 >>= λ n.
     Some (action.Fill p.0 g.0 n.0, n.1)
-arguments_at Place words = group_at words >>= λ g. order_at g.1 >>= λ k. Some (action.PlaceBlock g.0 k.0, k.1)
-arguments_at Limit words = group_at words >>= λ g. limit_at g.1 >>= λ n. Some (action.SetMax g.0 n.0, n.1)
-arguments_at Flag words = group_at words >>= λ g. flag_at g.1 >>= λ f. Some (action.SetFlag g.0 f.0, f.1)
+arguments_at Place words = group_number_at words >>= λ g. block_order_at g.1 >>= λ k. Some (action.PlaceBlock g.0 k.0, k.1)
+arguments_at Limit words = group_number_at words >>= λ g. limit_at g.1 >>= λ n. Some (action.SetMax g.0 n.0, n.1)
+arguments_at Flag words = group_number_at words >>= λ g. flag_at g.1 >>= λ f. Some (action.SetFlag g.0 f.0, f.1)
 arguments_at Make words = path_at words >>= λ p. Some (action.Make p.0, p.1)
 
 -- an action
-unfoldable pub action_at : Reads Action
+unfoldable pub action_at : ParserOf Action
 action_at words = do
-  word ← first_of words
+  word ← front_word words
   name ← action_named word.0
   arguments_at name word.1
 
 -- the answer of this name, with the arguments that follow
-unfoldable pub results_at : AnswerName → Reads Answer
+unfoldable pub results_at : AnswerName → ParserOf Answer
 results_at (reply.Alone reached) words = Some (reached, words)
-results_at reply.Left words = number_at words >>= λ n. Some (answer.Left n.0, n.1)
+results_at reply.Left words = u32_at words >>= λ n. Some (answer.Left n.0, n.1)
 results_at reply.Pages words = wide_at words >>= λ n. Some (answer.Pages n.0, n.1)
-results_at reply.Over words = group_at words >>= λ g. Some (answer.Over g.0, g.1)
-results_at reply.Placed words = number_at words >>= λ f. order_at f.1 >>= λ k.
+results_at reply.Over words = group_number_at words >>= λ g. Some (answer.Over g.0, g.1)
+results_at reply.Placed words = u32_at words >>= λ f. block_order_at f.1 >>= λ k.
     Some (answer.Placed (record { at = f.0; order = k.0 }), k.1)
-results_at reply.Number words = group_at words >>= λ g. Some (answer.Number g.0, g.1)
+results_at reply.Number words = group_number_at words >>= λ g. Some (answer.Number g.0, g.1)
 
 -- an answer
-unfoldable pub answer_at : Reads Answer
+unfoldable pub answer_at : ParserOf Answer
 answer_at words = do
-  word ← first_of words
+  word ← front_word words
   name ← answer_named word.0
   results_at name word.1
 
 -- the words after `>`
 abbrev pub after_arrow : List (List ℕ) → Option (List (List ℕ))
-after_arrow words = first_of words >>= λ word. only_if (bytes_eq word.0 (codes ">")) word.1
+after_arrow words = front_word words >>= λ word. only_if (bytes_eq word.0 (codes ">")) word.1
 
 -- whether no word is left
 abbrev pub is_end : List (List ℕ) → Bool
@@ -159,9 +159,9 @@ is_end [] = true
 is_end (word ∷ words) = false
 
 -- a step and its answer, from all of the words
-unfoldable pub entry_of : List (List ℕ) → Option (Step × Answer)
-entry_of words = do
-  seat ← number_at words
+unfoldable pub parsed_entry : List (List ℕ) → Option (Step × Answer)
+parsed_entry words = do
+  seat ← u32_at words
   act ← action_at seat.1
   rest ← after_arrow act.1
   got ← answer_at rest
@@ -169,18 +169,18 @@ entry_of words = do
   Some (record { seat = seat.0; action = act.0 }, reached)
 
 -- the sizes of a zone, from all of the words
-unfoldable pub zone_of : List (List ℕ) → Option (ℕ × ℕ)
-zone_of words = do
-  frames ← number_at words
-  cpus ← number_at frames.1
+unfoldable pub parsed_zone : List (List ℕ) → Option (ℕ × ℕ)
+parsed_zone words = do
+  frames ← u32_at words
+  cpus ← u32_at frames.1
   last ← only_if (is_end cpus.1) cpus.0
   only_if (nat_le 1 frames.0 && nat_le frames.0 most_frames && nat_le 1 last && nat_le last most_cpus) (frames.0, last)
 
 -- the line of a text
 unfoldable pub line_of : List ℕ → Option LogLine
 line_of text =
-    if nat_lt longest_line (length text) then None
-    else (if is_skipped text then Some kinds.Skipped
-    else (first_of (words_of text) >>= λ word.
-    if bytes_eq word.0 (codes "zone") then (zone_of word.1 >>= λ z. Some (kinds.Zone z.0 z.1))
-    else (entry_of (words_of text) >>= λ e. Some (kinds.Step e.0 e.1))))
+    if nat_lt longest_log_line (length text) then None
+    else (if is_log_comment text then Some kinds.Skipped
+    else (front_word (words_of text) >>= λ word.
+    if bytes_eq word.0 (codes "zone") then (parsed_zone word.1 >>= λ z. Some (kinds.Zone z.0 z.1))
+    else (parsed_entry (words_of text) >>= λ e. Some (kinds.Step e.0 e.1))))

@@ -2,10 +2,11 @@
 
 ghost use Rattle.std.specs.Prelude.{◌≡◌, ℕ, List, MatchOption};
 ghost use Rattle.log_lines.specs.declared.line.LogLine.{LogLine};
-ghost use Rattle.log_lines.specs.Line.{IsLineText, is_skipped};
-ghost use Rattle.log_lines.specs.Log.{IsFirstBadLine, IsLog, WholeLog};
-ghost use Rattle.log_lines.specs.Reading.{Gives, action_at, answer_at, arguments_at, entry_of, line_of, results_at};
-ghost use Rattle.log_lines.specs.Reading.{zone_of};
+ghost use Rattle.log_lines.specs.Line.{IsLogLineText, is_log_comment};
+ghost use Rattle.log_lines.specs.Log.{IsFirstBadLogLine, IsLog, WholeLog};
+ghost use Rattle.log_lines.specs.Reading.{ParsesTo, action_at, answer_at, arguments_at, parsed_entry, line_of};
+ghost use Rattle.log_lines.specs.Reading.{results_at};
+ghost use Rattle.log_lines.specs.Reading.{parsed_zone};
 
 use crate::line::LogLine;
 use crate::name::{ActionName, AnswerName, action_named, answer_named};
@@ -20,14 +21,14 @@ const MAX_LINE: usize = 1_024;
 /// The line that has this text, which has no line feed. None exactly if no line has it. That includes a text of more
 /// than 1,024 bytes, and a number with a sign, with a leading zero or out of its range.
 pub fn parse_line(text: &[u8]) -> Option<LogLine>
-    ensures { MatchOption result ((line : LogLine) → ¬ IsLineText text.now line) (λ line. IsLineText text.now line) }
+    ensures { MatchOption result ((line : LogLine) → ¬ IsLogLineText text.now line) (λ line. IsLogLineText text.now line) }
 {
     line_of(text)
 }
 
 /// A text is that of at most one line: no two steps and no two answers are written alike.
 pub fn one_line()
-    ensures { (text : List ℕ) (one other : LogLine) → IsLineText text one → IsLineText text other → one ≡ other }
+    ensures { (text : List ℕ) (one other : LogLine) → IsLogLineText text one → IsLogLineText text other → one ≡ other }
 {}
 
 /// A text is that of at most one zone and one run.
@@ -37,7 +38,7 @@ pub fn one_run()
 
 /// A text with a bad line is the text of no log.
 pub fn bad_line_is_no_log()
-    ensures { (text : List ℕ) (n : ℕ) (log : WholeLog) → IsFirstBadLine text n → ¬ IsLog text log }
+    ensures { (text : List ℕ) (n : ℕ) (log : WholeLog) → IsFirstBadLogLine text n → ¬ IsLog text log }
 {}
 
 // The line that has this text.
@@ -61,7 +62,7 @@ fn line_of(text: &[u8]) -> Option<LogLine>
 }
 
 fn is_skipped(text: &[u8]) -> bool
-    ensures { result ≡ is_skipped text.now }
+    ensures { result ≡ is_log_comment text.now }
 {
     match text.first() {
         None => true,
@@ -69,9 +70,9 @@ fn is_skipped(text: &[u8]) -> bool
     }
 }
 
-#[tactic(auto, unfolding(crate::specs::Reading::zone_of))]
+#[tactic(auto, unfolding(crate::specs::Reading::parsed_zone))]
 fn parse_zone(mut words: Words<'_>) -> Option<(u32, u32)>
-    ensures { result ≡ zone_of words.entry }
+    ensures { result ≡ parsed_zone words.entry }
 {
     let frames = words.number()?;
     let cpus = words.number()?;
@@ -85,9 +86,9 @@ fn parse_zone(mut words: Words<'_>) -> Option<(u32, u32)>
     }
 }
 
-#[tactic(auto, unfolding(crate::specs::Reading::entry_of))]
+#[tactic(auto, unfolding(crate::specs::Reading::parsed_entry))]
 fn parse_entry(mut words: Words<'_>) -> Option<(Step, Answer)>
-    ensures { result ≡ entry_of words.entry }
+    ensures { result ≡ parsed_entry words.entry }
 {
     let seat = words.number()?;
     let action = next_action(&mut words)?;
@@ -103,7 +104,7 @@ fn parse_entry(mut words: Words<'_>) -> Option<(Step, Answer)>
 
 #[tactic(auto, unfolding(crate::specs::Reading::action_at))]
 fn next_action(words: &mut Words<'_>) -> Option<Action>
-    ensures { Gives (λ action. (action, words.new)) result (action_at words.old) }
+    ensures { ParsesTo (λ action. (action, words.new)) result (action_at words.old) }
 {
     let name = action_named(words.word()?)?;
     next_arguments(name, words)
@@ -112,7 +113,7 @@ fn next_action(words: &mut Words<'_>) -> Option<Action>
 // The action of this name, with its arguments.
 #[tactic(auto, unfolding(crate::specs::Reading::arguments_at))]
 fn next_arguments(name: ActionName, words: &mut Words<'_>) -> Option<Action>
-    ensures { Gives (λ action. (action, words.new)) result (arguments_at name words.old) }
+    ensures { ParsesTo (λ action. (action, words.new)) result (arguments_at name words.old) }
 {
     match name {
         ActionName::Lock => Some(Action::Lock),
@@ -156,7 +157,7 @@ fn next_arguments(name: ActionName, words: &mut Words<'_>) -> Option<Action>
 
 #[tactic(auto, unfolding(crate::specs::Reading::answer_at))]
 fn next_answer(words: &mut Words<'_>) -> Option<Answer>
-    ensures { Gives (λ answer. (answer, words.new)) result (answer_at words.old) }
+    ensures { ParsesTo (λ answer. (answer, words.new)) result (answer_at words.old) }
 {
     let name = answer_named(words.word()?)?;
     next_results(name, words)
@@ -165,7 +166,7 @@ fn next_answer(words: &mut Words<'_>) -> Option<Answer>
 // The answer of this name, with its arguments.
 #[tactic(auto, unfolding(crate::specs::Reading::results_at))]
 fn next_results(name: AnswerName, words: &mut Words<'_>) -> Option<Answer>
-    ensures { Gives (λ answer. (answer, words.new)) result (results_at name words.old) }
+    ensures { ParsesTo (λ answer. (answer, words.new)) result (results_at name words.old) }
 {
     match name {
         AnswerName::Alone(answer) => Some(answer),

@@ -3,8 +3,9 @@
 ghost use Rattle.std.specs.Prelude.{◌≡◌, ◌==◌, ℕ, ◌^◌, ◌<◌, Some, decimal};
 ghost use Rattle.std.specs.List.{list_all, position};
 ghost use Rattle.log_lines.specs.Words.{is_graphic, is_path};
-ghost use Rattle.log_lines.specs.Reading.{Gives, first_of, flag_at, flag_of, group_at, is_end, limit_at, limit_of};
-ghost use Rattle.log_lines.specs.Reading.{number_at, number_of, order_at, path_at, u32_of, wide_at, words_of};
+ghost use Rattle.log_lines.specs.Reading.{ParsesTo, front_word, flag_at, flag_of, group_number_at, is_end, limit_at};
+ghost use Rattle.log_lines.specs.Reading.{limit_in_word};
+ghost use Rattle.log_lines.specs.Reading.{u32_at, u64_of, block_order_at, path_at, u32_of, wide_at, words_of};
 
 use group_tree::group::GroupId;
 use group_tree::path::{MAX_PATH, PathText};
@@ -46,7 +47,7 @@ impl<'a> Words<'a> {
 
     /// The next word.
     pub(crate) fn word(&mut self) -> Option<&'a [u8]>
-        ensures { Gives (λ word. (word.now, self.new)) result (first_of self.old) }
+        ensures { ParsesTo (λ word. (word.now, self.new)) result (front_word self.old) }
     {
         let text = self.rest?;
         match space_of(text) {
@@ -64,31 +65,31 @@ impl<'a> Words<'a> {
     /// A number below 2^64.
     #[tactic(auto, unfolding(crate::specs::Reading::wide_at))]
     pub(crate) fn wide(&mut self) -> Option<u64>
-        ensures { Gives (λ n. (n, self.new)) result (wide_at self.old) }
+        ensures { ParsesTo (λ n. (n, self.new)) result (wide_at self.old) }
     {
         number_of(self.word()?)
     }
 
     /// A number of 32 bits.
-    #[tactic(auto, unfolding(crate::specs::Reading::number_at))]
+    #[tactic(auto, unfolding(crate::specs::Reading::u32_at))]
     pub(crate) fn number(&mut self) -> Option<u32>
-        ensures { Gives (λ n. (n, self.new)) result (number_at self.old) }
+        ensures { ParsesTo (λ n. (n, self.new)) result (u32_at self.old) }
     {
         u32_of(self.word()?)
     }
 
     /// The number of a group.
-    #[tactic(auto, unfolding(crate::specs::Reading::group_at))]
+    #[tactic(auto, unfolding(crate::specs::Reading::group_number_at))]
     pub(crate) fn group(&mut self) -> Option<GroupId>
-        ensures { Gives (λ g. (g, self.new)) result (group_at self.old) }
+        ensures { ParsesTo (λ g. (g, self.new)) result (group_number_at self.old) }
     {
         GroupId::of(self.number()?)
     }
 
     /// The order of a block.
-    #[tactic(auto, unfolding(crate::specs::Reading::order_at))]
+    #[tactic(auto, unfolding(crate::specs::Reading::block_order_at))]
     pub(crate) fn order(&mut self) -> Option<Order>
-        ensures { Gives (λ k. (k, self.new)) result (order_at self.old) }
+        ensures { ParsesTo (λ k. (k, self.new)) result (block_order_at self.old) }
     {
         Order::of(self.number()?)
     }
@@ -96,7 +97,7 @@ impl<'a> Words<'a> {
     /// A limit in pages, or `max`.
     #[tactic(auto, unfolding(crate::specs::Reading::limit_at))]
     pub(crate) fn limit(&mut self) -> Option<Option<u32>>
-        ensures { Gives (λ n. (n, self.new)) result (limit_at self.old) }
+        ensures { ParsesTo (λ n. (n, self.new)) result (limit_at self.old) }
     {
         limit_of(self.word()?)
     }
@@ -104,7 +105,7 @@ impl<'a> Words<'a> {
     /// A flag.
     #[tactic(auto, unfolding(crate::specs::Reading::flag_at))]
     pub(crate) fn flag(&mut self) -> Option<bool>
-        ensures { Gives (λ f. (f, self.new)) result (flag_at self.old) }
+        ensures { ParsesTo (λ f. (f, self.new)) result (flag_at self.old) }
     {
         flag_of(self.word()?)
     }
@@ -112,7 +113,7 @@ impl<'a> Words<'a> {
     /// A path.
     #[tactic(auto, unfolding(crate::specs::Reading::path_at))]
     pub(crate) fn path(&mut self) -> Option<PathText>
-        ensures { Gives (λ p. (p, self.new)) result (path_at self.old) }
+        ensures { ParsesTo (λ p. (p, self.new)) result (path_at self.old) }
     {
         let word = self.word()?;
         if is_path(word) {
@@ -131,7 +132,7 @@ fn space_of(text: &[u8]) -> Option<usize>
 
 // The limit that has this text.
 fn limit_of(word: &[u8]) -> Option<Option<u32>>
-    ensures { result ≡ limit_of word.now }
+    ensures { result ≡ limit_in_word word.now }
 {
     if word == b"max".as_slice() {
         return Some(None);
@@ -176,7 +177,7 @@ fn u32_of(word: &[u8]) -> Option<u32>
 
 // The number that has this text: decimal digits without a sign or a leading zero.
 fn number_of(word: &[u8]) -> Option<u64>
-    ensures { result ≡ number_of word.now }
+    ensures { result ≡ u64_of word.now }
 {
     let number = value_of(word)?;
     let mut buffer = Buffer::new();

@@ -8,7 +8,7 @@ use Rattle.std.proofs.lemmas.Map.Steps.{length-le_from_distinct_below}
 use Rattle.lru_lists.specs.declared.record.Link.{Link}
 use Rattle.lru_lists.specs.declared.record.Home.{Home}
 use Rattle.lru_lists.specs.declared.queue.Queue.{Queue}
-use Rattle.lru_lists.specs.Queue.{link_at, nowhere, is_among, AreApart, oldest_of, newest_of, unit_after, before_from, unit_before, without, IsLinked}
+use Rattle.lru_lists.specs.Queue.{link_at, nowhere, is_among, HasNoRepeats, oldest_of, newest_of, unit_behind, before_from, unit_before, list_without, IsLinked}
 use Rattle.lru_lists.specs.Queue.{units_from, units_of, end_or, pushed_queue, queue_without}
 use Rattle.lru_lists.proofs.Lists.{among_without, gone_without, apart_without, length_without, before_none, before_among, oldest_gone, oldest_stays}
 use Rattle.lru_lists.proofs.Lists.{newest_gone, newest_stays, after_gone, after_stays, before_gone, before_stays, among_push, apart_push, oldest_push}
@@ -17,7 +17,7 @@ use Rattle.lru_lists.proofs.Lists.{before_push_last, other_than_first}
 
 -- ---- the list that is linked is the one that is walked
 
-pub walked : (links : List Link) (ys : List ℕ) → AreApart ys → ((f : ℕ) → is_among ys f ≡ true → (link_at links f).newer ≡ unit_after ys f)
+pub walked : (links : List Link) (ys : List ℕ) → HasNoRepeats ys → ((f : ℕ) → is_among ys f ≡ true → (link_at links f).newer ≡ unit_behind ys f)
     → units_from links (oldest_of ys) (length ys) ≡ ys
 walked links [] apart h = refl
 walked links (y ∷ ys) apart h =
@@ -26,7 +26,7 @@ walked links (y ∷ ys) apart h =
     rw e (ap (λ (zs : List ℕ). y ∷ zs) (walked links ys apart.1 (λ f i.
     let u : (y == f) ≡ false = ne_eqb y f (other_than_first y ys f apart.0 i) in
     let j : is_among (y ∷ ys) f ≡ true = rw u i in
-    let k : (link_at links f).newer ≡ unit_after (y ∷ ys) f = h f j in
+    let k : (link_at links f).newer ≡ unit_behind (y ∷ ys) f = h f j in
     k ∙ rw u refl)))
 
 pub units_are : (links : List Link) (home : Home) (queue : Queue) (units : List ℕ) → IsLinked links home queue units → units_of links queue ≡ units
@@ -58,7 +58,7 @@ others_differ x (y ∷ ys) out =
     let p = or_parts (y == x) (is_among ys x) out in
     (ne_eqb x y (λ e. both_ways (y == x) (p.0) (eq-eqb y x (sym e))), others_differ x ys (p.1))
 
-pub distinct : (xs : List ℕ) → AreApart xs → IsDistinct (λ x y. x == y) xs
+pub distinct : (xs : List ℕ) → HasNoRepeats xs → IsDistinct (λ x y. x == y) xs
 unfolding IsDistinct
 distinct [] apart = tt
 distinct (x ∷ xs) apart = (others_differ x xs apart.0, distinct xs apart.1)
@@ -66,7 +66,7 @@ distinct (x ∷ xs) apart = (others_differ x xs apart.0, distinct xs apart.1)
 pub few : (links : List Link) (home : Home) (queue : Queue) (units : List ℕ) (f : ℕ) → IsLinked links home queue units
     → is_among units f ≡ false → f < length links → length units < length links
 few links home queue units f linked out lt =
-    let apart : AreApart (f ∷ units) = (out, linked.apart) in
+    let apart : HasNoRepeats (f ∷ units) = (out, linked.apart) in
     let all : (q : ℕ) → list_any (λ x. q == x) (f ∷ units) ≡ true → q < length links = λ q h.
     elim (or_cases (f == q) (is_among units q) (sym (any_is_among (f ∷ units) q) ∙ h)) [
       | inl e ↦ subst (λ (v : ℕ). v < length links) (eqb-true f q e) lt
@@ -170,8 +170,8 @@ pub record Unlinked (before after : List Link) (home : Home) (q r : Queue) (unit
   pub newers : (g : ℕ) → g ≢ unit → older ≢ Some g → (link_at after g).newer ≡ (link_at before g).newer
   pub queue : r ≡ queue_without q older newer
 
-pub oldest_out : (xs : List ℕ) (unit : ℕ) (o : Option ℕ) → AreApart xs → is_among xs unit ≡ true → o ≡ unit_before xs unit
-    → end_or o (oldest_of xs) (unit_after xs unit) ≡ oldest_of (without unit xs)
+pub oldest_out : (xs : List ℕ) (unit : ℕ) (o : Option ℕ) → HasNoRepeats xs → is_among xs unit ≡ true → o ≡ unit_before xs unit
+    → end_or o (oldest_of xs) (unit_behind xs unit) ≡ oldest_of (list_without unit xs)
 oldest_out xs unit None apart i e = sym (oldest_gone xs unit apart i (sym e))
 oldest_out xs unit (Some p) apart i e = sym (oldest_stays xs unit p apart (sym e))
 
@@ -180,13 +180,13 @@ pub newest_out_first : (x : ℕ) (xs : List ℕ) (n : Option ℕ) → n ≡ olde
 newest_out_first x [] n e = rw e refl
 newest_out_first x (y ∷ ys) n e = rw e refl
 
-pub newest_out_later : (x : ℕ) (xs : List ℕ) (unit : ℕ) (n : Option ℕ) → AreApart (x ∷ xs) → is_among xs unit ≡ true → n ≡ unit_after xs unit
-    → end_or n (newest_of (x ∷ xs)) (before_from x xs unit) ≡ newest_of (x ∷ without unit xs)
+pub newest_out_later : (x : ℕ) (xs : List ℕ) (unit : ℕ) (n : Option ℕ) → HasNoRepeats (x ∷ xs) → is_among xs unit ≡ true → n ≡ unit_behind xs unit
+    → end_or n (newest_of (x ∷ xs)) (before_from x xs unit) ≡ newest_of (x ∷ list_without unit xs)
 newest_out_later x xs unit None apart i e = sym (newest_gone x xs unit apart i (sym e))
 newest_out_later x xs unit (Some t) apart i e = sym (newest_stays x xs unit t apart (sym e))
 
-pub newest_out : (xs : List ℕ) (unit : ℕ) (n : Option ℕ) → AreApart xs → is_among xs unit ≡ true → n ≡ unit_after xs unit
-    → end_or n (newest_of xs) (unit_before xs unit) ≡ newest_of (without unit xs)
+pub newest_out : (xs : List ℕ) (unit : ℕ) (n : Option ℕ) → HasNoRepeats xs → is_among xs unit ≡ true → n ≡ unit_behind xs unit
+    → end_or n (newest_of xs) (unit_before xs unit) ≡ newest_of (list_without unit xs)
 newest_out [] unit n apart i e = absurd (false≢true i)
 newest_out (x ∷ xs) unit n apart i e = elim (cases_eq x unit) [
   | inl q ↦
@@ -198,17 +198,17 @@ newest_out (x ∷ xs) unit n apart i e = elim (cases_eq x unit) [
   | inr d ↦
       let t : (x == unit) ≡ false = ne_eqb x unit d in
       let j : is_among xs unit ≡ true = rw t at i in
-      let k : n ≡ unit_after xs unit = e ∙ rw t refl in
+      let k : n ≡ unit_behind xs unit = e ∙ rw t refl in
       rw t (newest_out_later x xs unit n apart j k)
 ]
 
 -- who stays is another than who is out
-pub stays_other : (xs : List ℕ) (unit f : ℕ) → AreApart xs → is_among (without unit xs) f ≡ true → f ≢ unit
+pub stays_other : (xs : List ℕ) (unit f : ℕ) → HasNoRepeats xs → is_among (list_without unit xs) f ≡ true → f ≢ unit
 stays_other xs unit f apart h e =
-    both_ways (is_among (without unit xs) unit) (gone_without unit xs apart) (subst (λ (v : ℕ). is_among (without unit xs) v ≡ true) e h)
+    both_ways (is_among (list_without unit xs) unit) (gone_without unit xs apart) (subst (λ (v : ℕ). is_among (list_without unit xs) v ≡ true) e h)
 
 -- the oldest unit has none before it
-pub first_has_none : (xs : List ℕ) (n : ℕ) → AreApart xs → oldest_of xs ≡ Some n → unit_before xs n ≡ None
+pub first_has_none : (xs : List ℕ) (n : ℕ) → HasNoRepeats xs → oldest_of xs ≡ Some n → unit_before xs n ≡ None
 first_has_none [] n apart h = refl
 first_has_none (x ∷ xs) n apart h =
     let e : x ≡ n = cc in
@@ -222,14 +222,14 @@ without_first x (y ∷ ys) g na =
     rw u refl
 
 -- the neighbours of another unit once this one is out, for whole lists
-pub after_out_before : (xs : List ℕ) (unit p : ℕ) → AreApart xs → unit_before xs unit ≡ Some p → unit_after (without unit xs) p ≡ unit_after xs unit
+pub after_out_before : (xs : List ℕ) (unit p : ℕ) → HasNoRepeats xs → unit_before xs unit ≡ Some p → unit_behind (list_without unit xs) p ≡ unit_behind xs unit
 after_out_before [] unit p apart b = cc
 after_out_before (x ∷ xs) unit p apart b =
     let i = before_among x xs unit p b in
     let t : (x == unit) ≡ false = ne_eqb x unit (other_than_first x xs unit apart.0 (i.1)) in
     rw t (after_gone x xs unit p apart b)
 
-pub before_out_after : (xs : List ℕ) (unit n : ℕ) → AreApart xs → unit_after xs unit ≡ Some n → unit_before (without unit xs) n ≡ unit_before xs unit
+pub before_out_after : (xs : List ℕ) (unit n : ℕ) → HasNoRepeats xs → unit_behind xs unit ≡ Some n → unit_before (list_without unit xs) n ≡ unit_before xs unit
 before_out_after [] unit n apart a = cc
 before_out_after (x ∷ xs) unit n apart a = elim (cases_eq x unit) [
   | inl q ↦
@@ -240,11 +240,11 @@ before_out_after (x ∷ xs) unit n apart a = elim (cases_eq x unit) [
       rw (t, b) (first_has_none xs n apart.1 k)
   | inr d ↦
       let t : (x == unit) ≡ false = ne_eqb x unit d in
-      let k : unit_after xs unit ≡ Some n = rw t at a in
+      let k : unit_behind xs unit ≡ Some n = rw t at a in
       rw t (before_gone x xs unit n apart k)
 ]
 
-pub before_out_other : (xs : List ℕ) (unit g : ℕ) → AreApart xs → g ≢ unit → unit_after xs unit ≢ Some g → unit_before (without unit xs) g ≡ unit_before xs g
+pub before_out_other : (xs : List ℕ) (unit g : ℕ) → HasNoRepeats xs → g ≢ unit → unit_behind xs unit ≢ Some g → unit_before (list_without unit xs) g ≡ unit_before xs g
 before_out_other [] unit g apart ne na = refl
 before_out_other (x ∷ xs) unit g apart ne na = elim (cases_eq x unit) [
   | inl q ↦
@@ -256,8 +256,8 @@ before_out_other (x ∷ xs) unit g apart ne na = elim (cases_eq x unit) [
 ]
 
 pub links_unlinked : (old new : List Link) (home : Home) (q r : Queue) (unit : ℕ) (o n : Option ℕ) (xs : List ℕ) → IsLinked old home q xs
-    → is_among xs unit ≡ true → o ≡ unit_before xs unit → n ≡ unit_after xs unit → Unlinked old new home q r unit o n
-    → IsLinked new home r (without unit xs)
+    → is_among xs unit ≡ true → o ≡ unit_before xs unit → n ≡ unit_behind xs unit → Unlinked old new home q r unit o n
+    → IsLinked new home r (list_without unit xs)
 links_unlinked old new home q r unit o n xs l i eo en p = record {
   apart = apart_without unit xs l.apart;
   homes = λ f h. let ne = stays_other xs unit f l.apart h in p.homes f ne ∙ l.homes f (sym (among_without unit f xs ne) ∙ h);
@@ -268,7 +268,7 @@ links_unlinked old new home q r unit o n xs l i eo en p = record {
   oldest = rw (p.queue, l.oldest, en) (oldest_out xs unit o l.apart i eo);
   newest = rw (p.queue, l.newest, eo) (newest_out xs unit n l.apart i en);
   count =
-      let k : length (without unit xs) + 1 ≡ length xs = length_without unit xs i in
+      let k : length (list_without unit xs) + 1 ≡ length xs = length_without unit xs i in
       let e : q.length ≡ length xs = l.count in
       rw p.queue (omega arith);
   older = λ f h.

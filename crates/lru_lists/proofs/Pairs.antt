@@ -12,11 +12,11 @@ use Rattle.lru_lists.specs.declared.record.LruList.{LruList}
 use Rattle.lru_lists.specs.declared.record.LruList.TheVariants.{Inactive, Active}
 use Rattle.lru_lists.specs.declared.lru.Lru.{Lru}
 use Rattle.lru_lists.specs.declared.queue.Queue.{Queue}
-use Rattle.lru_lists.specs.Queue.{oldest_of, unit_after, link_at, nowhere, is_among, AreApart, without, IsLinked, units_of, StaysElsewhere, SameUse}
+use Rattle.lru_lists.specs.Queue.{oldest_of, unit_behind, link_at, nowhere, is_among, HasNoRepeats, list_without, IsLinked, units_of, StaysElsewhere, SameUse}
 use Rattle.lru_lists.specs.Queue.{newest_link, unlinked}
 use Rattle.lru_lists.specs.Lists.{active_of, inactive_of, is_marked_by_touch, first_entry, entry_after, KeepsUnits, OthersStayLinked}
-use Rattle.lru_lists.specs.Lists.{OneOfAllChanges, changed_at, home_of, queue_of, with_queue, AreLinked, MovesOnly, entries_of, marked, entry_of}
-use Rattle.lru_lists.specs.Lists.{entries_without, place_of, list_of, owner_of, ChangesOwn, IsOnNone, SameOwners}
+use Rattle.lru_lists.specs.Lists.{OneOfAllChanges, changed_at, home_in, queue_of, with_queue, AreLinked, MovesOnly, entries_of, marked, entry_of}
+use Rattle.lru_lists.specs.Lists.{entries_without, list_at, list_of, owner_of, ChangesOwn, IsOnNone, SameOwners}
 use Rattle.lru_lists.proofs.Lists.{other_than_first}
 use Rattle.lru_lists.proofs.Linking.{units_are}
 use Rattle.lru_lists.proofs.Records.{set_same, set_other, part_set}
@@ -53,9 +53,9 @@ entries_same before after (x ∷ xs) h =
     entries_same before after xs (λ f i. h f (elim (cases_Bool (x == f)) [ inl a ↦ rw a refl | inr a ↦ rw a i ])) in
     cc
 
-pub entries_out : (before after : List Link) (unit : ℕ) (xs : List ℕ) → AreApart xs
+pub entries_out : (before after : List Link) (unit : ℕ) (xs : List ℕ) → HasNoRepeats xs
     → ((f : ℕ) → f ≢ unit → entry_of after f ≡ entry_of before f)
-    → map (entry_of after) (without unit xs) ≡ entries_without unit (map (entry_of before) xs)
+    → map (entry_of after) (list_without unit xs) ≡ entries_without unit (map (entry_of before) xs)
 entries_out before after unit [] apart h = refl
 entries_out before after unit (x ∷ xs) apart h = elim (cases_eq x unit) [
   | inl e ↦
@@ -64,7 +64,7 @@ entries_out before after unit (x ∷ xs) apart h = elim (cases_eq x unit) [
   | inr n ↦
       let t : (x == unit) ≡ false = ne_eqb x unit n in
       let e : entry_of after x ≡ entry_of before x = h x n in
-      let r : map (entry_of after) (without unit xs) ≡ entries_without unit (map (entry_of before) xs) = entries_out before after unit xs apart.1 h in
+      let r : map (entry_of after) (list_without unit xs) ≡ entries_without unit (map (entry_of before) xs) = entries_out before after unit xs apart.1 h in
       rw t (cc)
 ]
 
@@ -90,12 +90,12 @@ elsewhere_linked before after home there q xs unit l stays used ne away out =
 
 -- ---- what a change of one unit does to the records
 
-pub place_here : (owner : ℕ) (list : LruList) → place_of (Some (record { owner = owner; list = list })) owner ≡ Some list
+pub place_here : (owner : ℕ) (list : LruList) → list_at (Some (record { owner = owner; list = list })) owner ≡ Some list
 place_here owner list = let t : (owner == owner) ≡ true = eq-eqb owner owner refl in rw t refl
 
-pub not_here : (home : Option Home) (owner : ℕ) (list : LruList) → place_of home owner ≡ None → home ≢ Some (record { owner = owner; list = list })
+pub not_here : (home : Option Home) (owner : ℕ) (list : LruList) → list_at home owner ≡ None → home ≢ Some (record { owner = owner; list = list })
 not_here home owner list h e =
-    let k : Some list ≡ None = sym (place_here owner list) ∙ sym (ap (λ (o : Option Home). place_of o owner) e) ∙ h in
+    let k : Some list ≡ None = sym (place_here owner list) ∙ sym (ap (λ (o : Option Home). list_at o owner) e) ∙ h in
     cc
 
 -- ---- a push and an unlink on one of an owner's lists
@@ -110,7 +110,7 @@ queue_other lru Inactive Active q ne = refl
 queue_other lru Active Inactive q ne = refl
 queue_other lru Active Active q ne = absurd (ne refl)
 
-pub home_same : (lru : Lru) (list m : LruList) (q : Queue) → home_of (with_queue lru list q) m ≡ home_of lru m
+pub home_same : (lru : Lru) (list m : LruList) (q : Queue) → home_in (with_queue lru list q) m ≡ home_in lru m
 home_same lru Inactive m q = refl
 home_same lru Active m q = refl
 
@@ -120,45 +120,45 @@ cases_list Inactive Active = inr (λ e. cc)
 cases_list Active Inactive = inr (λ e. cc)
 cases_list Active Active = inl refl
 
-pub homes_differ : (lru : Lru) (list m : LruList) → m ≢ list → home_of lru list ≢ home_of lru m
+pub homes_differ : (lru : Lru) (list m : LruList) → m ≢ list → home_in lru list ≢ home_in lru m
 homes_differ lru list m ne e = ne (sym (ap (λ (h : Home). h.list) e))
 
 -- the list that didn't change, after a push or an unlink on the other
 pub other_linked : (before after : List Link) (lru : Lru) (list m : LruList) (unit : ℕ) → AreLinked before lru → m ≢ list
-    → StaysElsewhere before after (home_of lru list) unit → SameUse before after unit
-    → (link_at before unit).home ≢ Some (home_of lru m) → (link_at after unit).home ≢ Some (home_of lru m)
-    → IsLinked after (home_of lru m) (queue_of lru m) (units_of before (queue_of lru m))
+    → StaysElsewhere before after (home_in lru list) unit → SameUse before after unit
+    → (link_at before unit).home ≢ Some (home_in lru m) → (link_at after unit).home ≢ Some (home_in lru m)
+    → IsLinked after (home_in lru m) (queue_of lru m) (units_of before (queue_of lru m))
 other_linked before after lru list m unit stands ne stays used b a =
-    elsewhere_linked before after (home_of lru list) (home_of lru m) (queue_of lru m) (units_of before (queue_of lru m)) unit (stands m) stays used
+    elsewhere_linked before after (home_in lru list) (home_in lru m) (queue_of lru m) (units_of before (queue_of lru m)) unit (stands m) stays used
     (homes_differ lru list m ne) b a
 
 pub other_entries : (before after : List Link) (lru : Lru) (list m : LruList) (unit : ℕ) → AreLinked before lru → m ≢ list
-    → StaysElsewhere before after (home_of lru list) unit → SameUse before after unit
-    → (link_at before unit).home ≢ Some (home_of lru m) → (link_at after unit).home ≢ Some (home_of lru m)
+    → StaysElsewhere before after (home_in lru list) unit → SameUse before after unit
+    → (link_at before unit).home ≢ Some (home_in lru m) → (link_at after unit).home ≢ Some (home_in lru m)
     → entries_of after lru m ≡ entries_of before lru m
 other_entries before after lru list m unit stands ne stays used b a =
     let xs : List ℕ = units_of before (queue_of lru m) in
-    let same = elsewhere_same before after (home_of lru list) (home_of lru m) (queue_of lru m) xs unit (stands m) stays (homes_differ lru list m ne) b in
+    let same = elsewhere_same before after (home_in lru list) (home_in lru m) (queue_of lru m) xs unit (stands m) stays (homes_differ lru list m ne) b in
     ap (λ (ys : List ℕ). map (entry_of after) ys)
-    (units_are after (home_of lru m) (queue_of lru m) xs (other_linked before after lru list m unit stands ne stays used b a))
+    (units_are after (home_in lru m) (queue_of lru m) xs (other_linked before after lru list m unit stands ne stays used b a))
     ∙ entries_same before after xs (λ f i. ap
     (λ (k : Link). let e : Entry = record { number = f; is_marked = k.is_marked; is_dirty = k.is_dirty } in e) (same f i))
 
 -- both lists stay linked after a change of one of them
 pub stands_after : (before after : List Link) (lru : Lru) (list : LruList) (q : Queue) (unit : ℕ) → AreLinked before lru
-    → IsLinked after (home_of lru list) q (units_of after q)
-    → StaysElsewhere before after (home_of lru list) unit → SameUse before after unit
-    → ((m : LruList) → m ≢ list → (link_at before unit).home ≢ Some (home_of lru m)) →
-    ((m : LruList) → m ≢ list → (link_at after unit).home ≢ Some (home_of lru m))
+    → IsLinked after (home_in lru list) q (units_of after q)
+    → StaysElsewhere before after (home_in lru list) unit → SameUse before after unit
+    → ((m : LruList) → m ≢ list → (link_at before unit).home ≢ Some (home_in lru m)) →
+    ((m : LruList) → m ≢ list → (link_at after unit).home ≢ Some (home_in lru m))
     → AreLinked after (with_queue lru list q)
 stands_after before after lru list q unit stands linked stays used b a m = elim (cases_list m list) [
   | inl e ↦ rw (e, home_same lru list list q, queue_same lru list q) linked
   | inr ne ↦
       let l = other_linked before after lru list m unit stands ne stays used (b m ne) (a m ne) in
-      rw (home_same lru list m q, queue_other lru list m q ne, units_are after (home_of lru m) (queue_of lru m) (units_of before (queue_of lru m)) l) l
+      rw (home_same lru list m q, queue_other lru list m q ne, units_are after (home_in lru m) (queue_of lru m) (units_of before (queue_of lru m)) l) l
 ]
 
-pub moves_only : (before after : List Link) (lru : Lru) (list : LruList) (unit : ℕ) → StaysElsewhere before after (home_of lru list) unit
+pub moves_only : (before after : List Link) (lru : Lru) (list : LruList) (unit : ℕ) → StaysElsewhere before after (home_in lru list) unit
     → SameUse before after unit → MovesOnly before after lru.owner unit
 moves_only before after lru list unit stays used = record {
   frames = used.frames;
@@ -177,20 +177,20 @@ among_other links home q xs unit f l away i e = away (subst (λ (v : ℕ). (link
 pub pushed_entries : (before after : List Link) (lru : Lru) (list : LruList) (q : Queue) (unit : ℕ) (older : Option ℕ) → AreLinked before lru
     → IsOnNone before unit
     → units_of after q ≡ units_of before (queue_of lru list) ++ unit ∷ []
-    → link_at after unit ≡ newest_link (home_of lru list) older (link_at before unit).is_dirty → SameUse before after unit
+    → link_at after unit ≡ newest_link (home_in lru list) older (link_at before unit).is_dirty → SameUse before after unit
     → entries_of after (with_queue lru list q) list ≡ entries_of before lru list ++ marked false (entry_of before unit) ∷ []
 pushed_entries before after lru list q unit older stands away units at used =
     let xs : List ℕ = units_of before (queue_of lru list) in
-    let out : (link_at before unit).home ≢ Some (home_of lru list) = λ e. let k : None ≡ Some (home_of lru list) = sym away ∙ e in cc in
+    let out : (link_at before unit).home ≢ Some (home_in lru list) = λ e. let k : None ≡ Some (home_in lru list) = sym away ∙ e in cc in
     let old : map (entry_of after) xs ≡ map (entry_of before) xs =
     entries_same before after xs (λ f i. entries_kept before after unit used f
-    (among_other before (home_of lru list) (queue_of lru list) xs unit f (stands list) out i)) in
+    (among_other before (home_in lru list) (queue_of lru list) xs unit f (stands list) out i)) in
     let new : entry_of after unit ≡ marked false (entry_of before unit) =
     ap (λ (k : Link). let e : Entry = record { number = unit; is_marked = k.is_marked; is_dirty = k.is_dirty } in e) at in
     rw (queue_same lru list q, units, map-append (entry_of after) xs (unit ∷ []), old, new) refl
 
 pub unlinked_entries : (before after : List Link) (lru : Lru) (list : LruList) (q : Queue) (unit : ℕ) → AreLinked before lru
-    → units_of after q ≡ without unit (units_of before (queue_of lru list)) → SameUse before after unit
+    → units_of after q ≡ list_without unit (units_of before (queue_of lru list)) → SameUse before after unit
     → entries_of after (with_queue lru list q) list ≡ entries_without unit (entries_of before lru list)
 unlinked_entries before after lru list q unit stands units used =
     rw (queue_same lru list q, units)
@@ -203,16 +203,16 @@ entries_of_other links lru list m q ne = rw (queue_other lru list m q ne) refl
 -- ---- a frame on no list whose record is reset
 
 pub forgotten_linked : (links : List Link) (lru : Lru) (unit : ℕ) → AreLinked links lru → IsOnNone links unit → unit < length links
-    → (m : LruList) → IsLinked (slice_set links unit nowhere) (home_of lru m) (queue_of lru m) (units_of links (queue_of lru m))
+    → (m : LruList) → IsLinked (slice_set links unit nowhere) (home_in lru m) (queue_of lru m) (units_of links (queue_of lru m))
 forgotten_linked links lru unit stands away lt m =
-    let out : (link_at links unit).home ≢ Some (home_of lru m) = λ e. let k : None ≡ Some (home_of lru m) = sym away ∙ e in cc in
+    let out : (link_at links unit).home ≢ Some (home_in lru m) = λ e. let k : None ≡ Some (home_in lru m) = sym away ∙ e in cc in
     let xs : List ℕ = units_of links (queue_of lru m) in
-    same_links links (slice_set links unit nowhere) (home_of lru m) (queue_of lru m) xs (stands m)
-    (λ f i. set_other links unit f nowhere (among_other links (home_of lru m) (queue_of lru m) xs unit f (stands m) out i))
+    same_links links (slice_set links unit nowhere) (home_in lru m) (queue_of lru m) xs (stands m)
+    (λ f i. set_other links unit f nowhere (among_other links (home_in lru m) (queue_of lru m) xs unit f (stands m) out i))
     (λ f h. elim (cases_eq f unit) [
       | inl e ↦
           let k : link_at (slice_set links unit nowhere) f ≡ nowhere = rw e (set_same links unit nowhere lt) in
-          let j : None ≡ Some (home_of lru m) = sym (ap (λ (v : Link). v.home) k) ∙ h in
+          let j : None ≡ Some (home_in lru m) = sym (ap (λ (v : Link). v.home) k) ∙ h in
           cc
       | inr n ↦ (stands m).at_home f (sym (ap (λ (v : Link). v.home) (set_other links unit f nowhere n)) ∙ h)
     ])
@@ -221,17 +221,17 @@ pub forgotten_stands : (links : List Link) (lru : Lru) (unit : ℕ) → AreLinke
     → AreLinked (slice_set links unit nowhere) lru
 forgotten_stands links lru unit stands away lt m =
     let l = forgotten_linked links lru unit stands away lt m in
-    rw (units_are (slice_set links unit nowhere) (home_of lru m) (queue_of lru m) (units_of links (queue_of lru m)) l) l
+    rw (units_are (slice_set links unit nowhere) (home_in lru m) (queue_of lru m) (units_of links (queue_of lru m)) l) l
 
 pub forgotten_entries : (links : List Link) (lru : Lru) (unit : ℕ) → AreLinked links lru → IsOnNone links unit → unit < length links
     → (m : LruList) → entries_of (slice_set links unit nowhere) lru m ≡ entries_of links lru m
 forgotten_entries links lru unit stands away lt m =
     let l = forgotten_linked links lru unit stands away lt m in
-    let out : (link_at links unit).home ≢ Some (home_of lru m) = λ e. let k : None ≡ Some (home_of lru m) = sym away ∙ e in cc in
+    let out : (link_at links unit).home ≢ Some (home_in lru m) = λ e. let k : None ≡ Some (home_in lru m) = sym away ∙ e in cc in
     let xs : List ℕ = units_of links (queue_of lru m) in
-    ap (λ (ys : List ℕ). map (entry_of (slice_set links unit nowhere)) ys) (units_are (slice_set links unit nowhere) (home_of lru m) (queue_of lru m) xs l)
+    ap (λ (ys : List ℕ). map (entry_of (slice_set links unit nowhere)) ys) (units_are (slice_set links unit nowhere) (home_in lru m) (queue_of lru m) xs l)
     ∙ entries_same links (slice_set links unit nowhere) xs (λ f i.
-    let e = set_other links unit f nowhere (among_other links (home_of lru m) (queue_of lru m) xs unit f (stands m) out i) in
+    let e = set_other links unit f nowhere (among_other links (home_in lru m) (queue_of lru m) xs unit f (stands m) out i) in
     ap (λ (k : Link). let e : Entry = record { number = f; is_marked = k.is_marked; is_dirty = k.is_dirty } in e) e)
 
 pub forgotten_moves : (links : List Link) (owner unit : ℕ) → MovesOnly links (slice_set links unit nowhere) owner unit
@@ -247,7 +247,7 @@ pub moves_both : (a b c : List Link) (owner unit : ℕ) → MovesOnly a b owner 
 moves_both a b c owner unit p q = record {
   frames = q.frames ∙ p.frames;
   home = λ g ne. q.home g ne ∙ p.home g ne;
-  kept = λ g ne n. q.kept g ne (ap (λ (h : Option Home). place_of h owner) (p.home g ne) ∙ n) ∙ p.kept g ne n;
+  kept = λ g ne n. q.kept g ne (ap (λ (h : Option Home). list_at h owner) (p.home g ne) ∙ n) ∙ p.kept g ne n;
 }
 
 -- the records after a change of one unit that is on a list of the owner before or after, or both
@@ -262,28 +262,28 @@ changed_own before after owner unit m own came gone = record {
   ];
   joined = λ f b a. elim (cases_eq f unit) [
     | inl e ↦ rw e (came (subst (λ (v : ℕ). list_of before owner v ≡ None) e b))
-    | inr n ↦ absurd (a (ap (λ (o : Option Home). place_of o owner) (m.home f n) ∙ b))
+    | inr n ↦ absurd (a (ap (λ (o : Option Home). list_at o owner) (m.home f n) ∙ b))
   ];
   left = λ f b a. elim (cases_eq f unit) [
     | inl e ↦ rw e (gone (subst (λ (v : ℕ). list_of after owner v ≡ None) e a))
-    | inr n ↦ absurd (b (ap (λ (o : Option Home). place_of o owner) (sym (m.home f n)) ∙ a))
+    | inr n ↦ absurd (b (ap (λ (o : Option Home). list_at o owner) (sym (m.home f n)) ∙ a))
   ];
 }
 
 -- a unit whose home is a list of the owner is on that list
-pub list_at_home : (links : List Link) (lru : Lru) (list : LruList) (f : ℕ) → (link_at links f).home ≡ Some (home_of lru list)
+pub list_at_home : (links : List Link) (lru : Lru) (list : LruList) (f : ℕ) → (link_at links f).home ≡ Some (home_in lru list)
     → list_of links lru.owner f ≡ Some list
-list_at_home links lru list f h = ap (λ (o : Option Home). place_of o lru.owner) h ∙ place_here lru.owner list
+list_at_home links lru list f h = ap (λ (o : Option Home). list_at o lru.owner) h ∙ place_here lru.owner list
 
 -- a unit on a list of the owner has that home
-pub home_of_list : (h : Option Home) (lru : Lru) (list : LruList) → place_of h lru.owner ≡ Some list → h ≡ Some (home_of lru list)
+pub home_of_list : (h : Option Home) (lru : Lru) (list : LruList) → list_at h lru.owner ≡ Some list → h ≡ Some (home_in lru list)
 home_of_list None lru list e = cc
 home_of_list (Some h) lru list e = elim (cases_eq h.owner lru.owner) [
   | inl q ↦
       let t : (h.owner == lru.owner) ≡ true = eq-eqb h.owner lru.owner q in
       let k : Some h.list ≡ Some list = rw t at e in
       let j : h.list ≡ list = cc in
-      let w : h ≡ home_of lru list = rw (← q, ← j) refl in
+      let w : h ≡ home_in lru list = rw (← q, ← j) refl in
       ap Some w
   | inr n ↦
       let t : (h.owner == lru.owner) ≡ false = ne_eqb h.owner lru.owner n in
@@ -293,7 +293,7 @@ home_of_list (Some h) lru list e = elim (cases_eq h.owner lru.owner) [
 
 -- a unit that comes onto a list of the owner from none
 pub own_after_push : (before after : List Link) (lru : Lru) (list : LruList) (unit : ℕ) → MovesOnly before after lru.owner unit
-    → IsOnNone before unit → (link_at after unit).home ≡ Some (home_of lru list) → ChangesOwn before after lru.owner
+    → IsOnNone before unit → (link_at after unit).home ≡ Some (home_in lru list) → ChangesOwn before after lru.owner
 own_after_push before after lru list unit m away h =
     let k : list_of after lru.owner unit ≡ Some list = list_at_home after lru list unit h in
     changed_own before after lru.owner unit m (λ b a. let j : Some list ≡ None = sym k ∙ a in cc) (λ b. away) (λ a. let j : Some list ≡ None = sym k ∙ a in cc)
@@ -309,22 +309,22 @@ pub record AfterPush (before after : List Link) (lru : Lru) (list : LruList) (q 
 
 pub after_push_is : (before after : List Link) (lru : Lru) (list : LruList) (q : Queue) (unit : ℕ) (home : Home) (old : Queue) (older : Option ℕ)
     → AreLinked before lru
-    → IsOnNone before unit → home ≡ home_of lru list → old ≡ queue_of lru list → units_of after q ≡ units_of before old ++ unit ∷ []
+    → IsOnNone before unit → home ≡ home_in lru list → old ≡ queue_of lru list → units_of after q ≡ units_of before old ++ unit ∷ []
     → IsLinked after home q (units_of after q) → link_at after unit ≡ newest_link home older (link_at before unit).is_dirty
     → StaysElsewhere before after home unit → SameUse before after unit → AfterPush before after lru list q unit
 after_push_is before after lru list q unit home old older stands away h o units0 linked at stays used =
     let units : units_of after q ≡ units_of before (queue_of lru list) ++ unit ∷ [] =
     subst (λ (v : Queue). units_of after q ≡ units_of before v ++ unit ∷ []) o units0 in
-    let linked' : IsLinked after (home_of lru list) q (units_of after q) = subst (λ (v : Home). IsLinked after v q (units_of after q)) h linked in
-    let at' : link_at after unit ≡ newest_link (home_of lru list) older (link_at before unit).is_dirty =
+    let linked' : IsLinked after (home_in lru list) q (units_of after q) = subst (λ (v : Home). IsLinked after v q (units_of after q)) h linked in
+    let at' : link_at after unit ≡ newest_link (home_in lru list) older (link_at before unit).is_dirty =
     subst (λ (v : Home). link_at after unit ≡ newest_link v older (link_at before unit).is_dirty) h at in
-    let stays' : StaysElsewhere before after (home_of lru list) unit = subst (λ (v : Home). StaysElsewhere before after v unit) h stays in
-    let there : (link_at after unit).home ≡ Some (home_of lru list) = ap (λ (k : Link). k.home) at' in
-    let b : (m : LruList) → m ≢ list → (link_at before unit).home ≢ Some (home_of lru m) =
-    λ m ne e. let k : None ≡ Some (home_of lru m) = sym away ∙ e in cc in
-    let a : (m : LruList) → m ≢ list → (link_at after unit).home ≢ Some (home_of lru m) =
-    λ m ne e. let k : Some (home_of lru list) ≡ Some (home_of lru m) = sym there ∙ e in
-    homes_differ lru list m ne (let w : home_of lru list ≡ home_of lru m = cc in w) in
+    let stays' : StaysElsewhere before after (home_in lru list) unit = subst (λ (v : Home). StaysElsewhere before after v unit) h stays in
+    let there : (link_at after unit).home ≡ Some (home_in lru list) = ap (λ (k : Link). k.home) at' in
+    let b : (m : LruList) → m ≢ list → (link_at before unit).home ≢ Some (home_in lru m) =
+    λ m ne e. let k : None ≡ Some (home_in lru m) = sym away ∙ e in cc in
+    let a : (m : LruList) → m ≢ list → (link_at after unit).home ≢ Some (home_in lru m) =
+    λ m ne e. let k : Some (home_in lru list) ≡ Some (home_in lru m) = sym there ∙ e in
+    homes_differ lru list m ne (let w : home_in lru list ≡ home_in lru m = cc in w) in
     record {
       stands = stands_after before after lru list q unit stands linked' stays' used b a;
       entries = pushed_entries before after lru list q unit older stands away units at' used;
@@ -340,20 +340,20 @@ pub record AfterUnlink (before after : List Link) (lru : Lru) (list : LruList) (
   pub moves : MovesOnly before after lru.owner unit
 
 pub after_unlink_is : (before after : List Link) (lru : Lru) (list : LruList) (q : Queue) (unit : ℕ) (home : Home) (old : Queue) → AreLinked before lru
-    → (link_at before unit).home ≡ Some (home_of lru list) → home ≡ home_of lru list → old ≡ queue_of lru list
-    → units_of after q ≡ without unit (units_of before old)
+    → (link_at before unit).home ≡ Some (home_in lru list) → home ≡ home_in lru list → old ≡ queue_of lru list
+    → units_of after q ≡ list_without unit (units_of before old)
     → IsLinked after home q (units_of after q) → link_at after unit ≡ unlinked (link_at before unit)
     → StaysElsewhere before after home unit → SameUse before after unit → AfterUnlink before after lru list q unit
 after_unlink_is before after lru list q unit home old stands there h o units0 linked at stays used =
-    let units : units_of after q ≡ without unit (units_of before (queue_of lru list)) =
-    subst (λ (v : Queue). units_of after q ≡ without unit (units_of before v)) o units0 in
-    let linked' : IsLinked after (home_of lru list) q (units_of after q) = subst (λ (v : Home). IsLinked after v q (units_of after q)) h linked in
-    let stays' : StaysElsewhere before after (home_of lru list) unit = subst (λ (v : Home). StaysElsewhere before after v unit) h stays in
-    let b : (m : LruList) → m ≢ list → (link_at before unit).home ≢ Some (home_of lru m) =
-    λ m ne e. let k : Some (home_of lru list) ≡ Some (home_of lru m) = sym there ∙ e in
-    homes_differ lru list m ne (let w : home_of lru list ≡ home_of lru m = cc in w) in
-    let a : (m : LruList) → m ≢ list → (link_at after unit).home ≢ Some (home_of lru m) =
-    λ m ne e. let k : None ≡ Some (home_of lru m) = sym (ap (λ (v : Link). v.home) at) ∙ e in cc in
+    let units : units_of after q ≡ list_without unit (units_of before (queue_of lru list)) =
+    subst (λ (v : Queue). units_of after q ≡ list_without unit (units_of before v)) o units0 in
+    let linked' : IsLinked after (home_in lru list) q (units_of after q) = subst (λ (v : Home). IsLinked after v q (units_of after q)) h linked in
+    let stays' : StaysElsewhere before after (home_in lru list) unit = subst (λ (v : Home). StaysElsewhere before after v unit) h stays in
+    let b : (m : LruList) → m ≢ list → (link_at before unit).home ≢ Some (home_in lru m) =
+    λ m ne e. let k : Some (home_in lru list) ≡ Some (home_in lru m) = sym there ∙ e in
+    homes_differ lru list m ne (let w : home_in lru list ≡ home_in lru m = cc in w) in
+    let a : (m : LruList) → m ≢ list → (link_at after unit).home ≢ Some (home_in lru m) =
+    λ m ne e. let k : None ≡ Some (home_in lru m) = sym (ap (λ (v : Link). v.home) at) ∙ e in cc in
     record {
       stands = stands_after before after lru list q unit stands linked' stays' used b a;
       entries = unlinked_entries before after lru list q unit stands units used;
@@ -372,7 +372,7 @@ entries_lack links unit (x ∷ xs) out =
     rw (p.0, r) refl
 
 -- a list of the owner that the unit isn't on
-pub other_lacks : (links : List Link) (lru : Lru) (m : LruList) (unit : ℕ) → AreLinked links lru → (link_at links unit).home ≢ Some (home_of lru m)
+pub other_lacks : (links : List Link) (lru : Lru) (m : LruList) (unit : ℕ) → AreLinked links lru → (link_at links unit).home ≢ Some (home_in lru m)
     → entries_without unit (entries_of links lru m) ≡ entries_of links lru m
 other_lacks links lru m unit stands away =
     let xs : List ℕ = units_of links (queue_of lru m) in
@@ -399,8 +399,8 @@ remarked_linked links home q xs unit k l same = record {
 pub remarked_stands : (links : List Link) (lru : Lru) (unit : ℕ) (k : Link) → AreLinked links lru → SameNeighbours k (link_at links unit)
     → AreLinked (slice_set links unit k) lru
 remarked_stands links lru unit k stands same m =
-    let l = remarked_linked links (home_of lru m) (queue_of lru m) (units_of links (queue_of lru m)) unit k (stands m) same in
-    rw (units_are (slice_set links unit k) (home_of lru m) (queue_of lru m) (units_of links (queue_of lru m)) l) l
+    let l = remarked_linked links (home_in lru m) (queue_of lru m) (units_of links (queue_of lru m)) unit k (stands m) same in
+    rw (units_are (slice_set links unit k) (home_in lru m) (queue_of lru m) (units_of links (queue_of lru m)) l) l
 
 pub remarked_map : (links : List Link) (unit : ℕ) (k : Link) (change : Entry → Entry) (xs : List ℕ) → unit < length links
     → (let e : Entry = record { number = unit; is_marked = k.is_marked; is_dirty = k.is_dirty } in e) ≡ change (entry_of links unit)
@@ -428,8 +428,8 @@ pub remarked_entries : (links : List Link) (lru : Lru) (unit : ℕ) (k : Link) (
     → (m : LruList) → entries_of (slice_set links unit k) lru m ≡ changed_at unit change (entries_of links lru m)
 remarked_entries links lru unit k change stands same lt e m =
     let xs : List ℕ = units_of links (queue_of lru m) in
-    let l = remarked_linked links (home_of lru m) (queue_of lru m) xs unit k (stands m) same in
-    ap (λ (ys : List ℕ). map (entry_of (slice_set links unit k)) ys) (units_are (slice_set links unit k) (home_of lru m) (queue_of lru m) xs l)
+    let l = remarked_linked links (home_in lru m) (queue_of lru m) xs unit k (stands m) same in
+    ap (λ (ys : List ℕ). map (entry_of (slice_set links unit k)) ys) (units_are (slice_set links unit k) (home_in lru m) (queue_of lru m) xs l)
     ∙ remarked_map links unit k change xs lt e
 
 -- no unit of this number is there to be changed
@@ -444,13 +444,13 @@ changed_lacks links unit change (x ∷ xs) out =
 pub keeps_both : (a b c : List Link) (owner : ℕ) → KeepsUnits a b owner → KeepsUnits b c owner → KeepsUnits a c owner
 keeps_both a b c owner p q = record {
   frames = q.frames ∙ p.frames;
-  others = λ f n. q.others f (ap (λ (v : Link). place_of v.home owner) (p.others f n) ∙ n) ∙ p.others f n;
+  others = λ f n. q.others f (ap (λ (v : Link). list_at v.home owner) (p.others f n) ∙ n) ∙ p.others f n;
   units = λ f n. q.units f (p.units f n);
 }
 
 -- ---- the lists of other owners
 
-pub other_homes : (other : Lru) (owner : ℕ) (m : LruList) → other.owner ≢ owner → place_of (Some (home_of other m)) owner ≡ None
+pub other_homes : (other : Lru) (owner : ℕ) (m : LruList) → other.owner ≢ owner → list_at (Some (home_in other m)) owner ≡ None
 other_homes other owner m ne = let t : (other.owner == owner) ≡ false = ne_eqb other.owner owner ne in rw t refl
 
 pub cases_none : (o : Option LruList) → (o ≡ None) ⊎ (o ≢ None)
@@ -458,38 +458,38 @@ cases_none None = inl refl
 cases_none (Some l) = inr (λ e. let k : Some l ≡ None = e in cc)
 
 pub others_same : (before after : List Link) (owner : ℕ) (other : Lru) (m : LruList) (f : ℕ) → ChangesOwn before after owner → other.owner ≢ owner
-    → (link_at before f).home ≡ Some (home_of other m) → link_at after f ≡ link_at before f
+    → (link_at before f).home ≡ Some (home_in other m) → link_at after f ≡ link_at before f
 others_same before after owner other m f c ne h =
-    let b : list_of before owner f ≡ None = ap (λ (o : Option Home). place_of o owner) h ∙ other_homes other owner m ne in
+    let b : list_of before owner f ≡ None = ap (λ (o : Option Home). list_at o owner) h ∙ other_homes other owner m ne in
     elim (cases_none (list_of after owner f)) [
       | inl a ↦ c.kept f b a
-      | inr a ↦ let k : Some (home_of other m) ≡ None = sym h ∙ c.joined f b a in cc
+      | inr a ↦ let k : Some (home_in other m) ≡ None = sym h ∙ c.joined f b a in cc
     ]
 
 pub others_home : (before after : List Link) (owner : ℕ) (other : Lru) (m : LruList) (f : ℕ) → ChangesOwn before after owner → other.owner ≢ owner
-    → (link_at after f).home ≡ Some (home_of other m) → (link_at before f).home ≡ Some (home_of other m)
+    → (link_at after f).home ≡ Some (home_in other m) → (link_at before f).home ≡ Some (home_in other m)
 others_home before after owner other m f c ne h =
-    let a : list_of after owner f ≡ None = ap (λ (o : Option Home). place_of o owner) h ∙ other_homes other owner m ne in
+    let a : list_of after owner f ≡ None = ap (λ (o : Option Home). list_at o owner) h ∙ other_homes other owner m ne in
     elim (cases_none (list_of before owner f)) [
       | inl b ↦ sym (ap (λ (v : Link). v.home) (c.kept f b a)) ∙ h
-      | inr b ↦ let k : Some (home_of other m) ≡ None = sym h ∙ c.left f b a in cc
+      | inr b ↦ let k : Some (home_in other m) ≡ None = sym h ∙ c.left f b a in cc
     ]
 
 pub others_linked : (before after : List Link) (owner : ℕ) (other : Lru) (m : LruList) → ChangesOwn before after owner → other.owner ≢ owner
     → AreLinked before other
-    → IsLinked after (home_of other m) (queue_of other m) (units_of before (queue_of other m))
+    → IsLinked after (home_in other m) (queue_of other m) (units_of before (queue_of other m))
 others_linked before after owner other m c ne stands =
-    same_links before after (home_of other m) (queue_of other m) (units_of before (queue_of other m)) (stands m)
+    same_links before after (home_in other m) (queue_of other m) (units_of before (queue_of other m)) (stands m)
     (λ f i. others_same before after owner other m f c ne ((stands m).homes f i))
     (λ f h. (stands m).at_home f (others_home before after owner other m f c ne h))
 
 pub others_stay_linked : OthersStayLinked
 others_stay_linked before after owner other c ne stands = (
   (λ m. let l = others_linked before after owner other m c ne stands in
-      rw (units_are after (home_of other m) (queue_of other m) (units_of before (queue_of other m)) l) l),
+      rw (units_are after (home_in other m) (queue_of other m) (units_of before (queue_of other m)) l) l),
   (λ m. let xs : List ℕ = units_of before (queue_of other m) in
       ap (λ (ys : List ℕ). map (entry_of after) ys)
-      (units_are after (home_of other m) (queue_of other m) xs (others_linked before after owner other m c ne stands))
+      (units_are after (home_in other m) (queue_of other m) xs (others_linked before after owner other m c ne stands))
       ∙ entries_same before after xs (λ f i.
       ap (λ (k : Link). let w : Entry = record { number = f; is_marked = k.is_marked; is_dirty = k.is_dirty } in w)
       (others_same before after owner other m f c ne ((stands m).homes f i)))),
@@ -511,16 +511,16 @@ one_of_all_changes before after lists new all lt stands c k any lk = elim (cases
 
 -- an unlink removes the unit from each list: of the other it changes nothing
 pub unlinked_each : (before after : List Link) (lru new : Lru) (list : LruList) (unit : ℕ) → AreLinked before lru
-    → (link_at before unit).home ≡ Some (home_of lru list)
+    → (link_at before unit).home ≡ Some (home_in lru list)
     → entries_of after new list ≡ entries_without unit (entries_of before lru list)
     → ((m : LruList) → m ≢ list → entries_of after new m ≡ entries_of before lru m)
     → (m : LruList) → entries_of after new m ≡ entries_without unit (entries_of before lru m)
 unlinked_each before after lru new list unit stands there own other m = elim (cases_list m list) [
   | inl e ↦ rw e own
   | inr ne ↦
-      let away : (link_at before unit).home ≢ Some (home_of lru m) =
-      λ h. let k : Some (home_of lru list) ≡ Some (home_of lru m) = sym there ∙ h in
-      homes_differ lru list m ne (let w : home_of lru list ≡ home_of lru m = cc in w) in
+      let away : (link_at before unit).home ≢ Some (home_in lru m) =
+      λ h. let k : Some (home_in lru list) ≡ Some (home_in lru m) = sym there ∙ h in
+      homes_differ lru list m ne (let w : home_in lru list ≡ home_in lru m = cc in w) in
       other m ne ∙ sym (other_lacks before lru m unit stands away)
 ]
 
@@ -531,12 +531,12 @@ entry_unlinked before after unit e = ap (λ (k : Link). let w : Entry = record {
 
 -- the list that a unit isn't on has nothing to change
 pub other_unchanged : (links : List Link) (lru : Lru) (list m : LruList) (unit : ℕ) (change : Entry → Entry) → AreLinked links lru
-    → (link_at links unit).home ≡ Some (home_of lru list) → m ≢ list → changed_at unit change (entries_of links lru m) ≡ entries_of links lru m
+    → (link_at links unit).home ≡ Some (home_in lru list) → m ≢ list → changed_at unit change (entries_of links lru m) ≡ entries_of links lru m
 other_unchanged links lru list m unit change stands there ne =
     let xs : List ℕ = units_of links (queue_of lru m) in
     changed_lacks links unit change xs (false_from_ne_true (is_among xs unit) (λ i.
-    let k : Some (home_of lru list) ≡ Some (home_of lru m) = sym there ∙ (stands m).homes unit i in
-    homes_differ lru list m ne (let w : home_of lru list ≡ home_of lru m = cc in w)))
+    let k : Some (home_in lru list) ≡ Some (home_in lru m) = sym there ∙ (stands m).homes unit i in
+    homes_differ lru list m ne (let w : home_in lru list ≡ home_in lru m = cc in w)))
 
 -- ---- ends and neighbours, read
 
@@ -544,7 +544,7 @@ pub oldest_read : (links : List Link) (xs : List ℕ) → option_map (entry_of l
 oldest_read links [] = refl
 oldest_read links (x ∷ xs) = refl
 
-pub after_read : (links : List Link) (unit : ℕ) (xs : List ℕ) → option_map (entry_of links) (unit_after xs unit) ≡ entry_after unit (map (entry_of links) xs)
+pub after_read : (links : List Link) (unit : ℕ) (xs : List ℕ) → option_map (entry_of links) (unit_behind xs unit) ≡ entry_after unit (map (entry_of links) xs)
 after_read links unit [] = refl
 after_read links unit (x ∷ xs) = elim (cases_Bool (x == unit)) [
   | inl t ↦ rw t (oldest_read links xs)
@@ -553,7 +553,7 @@ after_read links unit (x ∷ xs) = elim (cases_Bool (x == unit)) [
 
 -- ---- the oldest unit moves
 
-pub oldest_first : (xs : List ℕ) (unit : ℕ) → oldest_of xs ≡ Some unit → (take 1 xs ≡ unit ∷ []) × (without unit xs ≡ drop 1 xs) × (is_among xs unit ≡ true)
+pub oldest_first : (xs : List ℕ) (unit : ℕ) → oldest_of xs ≡ Some unit → (take 1 xs ≡ unit ∷ []) × (list_without unit xs ≡ drop 1 xs) × (is_among xs unit ≡ true)
 oldest_first [] unit e = cc
 oldest_first (x ∷ xs) unit e =
     let q : x ≡ unit = cc in

@@ -7,7 +7,7 @@ use Rattle.std.proofs.lemmas.List.{length-set, set_past}
 use Rattle.lru_lists.specs.declared.record.Link.{Link}
 use Rattle.lru_lists.specs.declared.record.Home.{Home}
 use Rattle.lru_lists.specs.declared.queue.Queue.{Queue}
-use Rattle.lru_lists.specs.Queue.{link_at, nowhere, is_among, unit_after, unit_before, without, IsLinked, units_of, newest_link, unlinked, with_newer}
+use Rattle.lru_lists.specs.Queue.{link_at, nowhere, is_among, unit_behind, unit_before, list_without, IsLinked, units_of, newest_link, unlinked, with_newer}
 use Rattle.lru_lists.specs.Queue.{with_older, pushed_queue, queue_without, StaysElsewhere, SameUse}
 use Rattle.lru_lists.proofs.Lists.{after_among, before_among, newest_among}
 use Rattle.lru_lists.proofs.Linking.{Pushed, Unlinked, within, units_are, links_pushed, links_unlinked, few}
@@ -134,14 +134,14 @@ older_within links home q (x ∷ xs) unit t l e =
     let i = (before_among x xs unit t e).0 in
     (i, within links home q (x ∷ xs) t l i)
 
-pub newer_within : (links : List Link) (home : Home) (q : Queue) (xs : List ℕ) (unit t : ℕ) → IsLinked links home q xs → unit_after xs unit ≡ Some t
+pub newer_within : (links : List Link) (home : Home) (q : Queue) (xs : List ℕ) (unit t : ℕ) → IsLinked links home q xs → unit_behind xs unit ≡ Some t
     → (is_among xs t ≡ true) × (t < length links)
 newer_within links home q xs unit t l e =
     let i : is_among xs t ≡ true = after_among xs unit t e in
     (i, within links home q xs t l i)
 
 pub unlinks : (links : List Link) (home : Home) (q : Queue) (xs : List ℕ) (unit : ℕ) (o n : Option ℕ) (k : Link) → IsLinked links home q xs
-    → unit < length links → o ≡ unit_before xs unit → n ≡ unit_after xs unit
+    → unit < length links → o ≡ unit_before xs unit → n ≡ unit_behind xs unit
     → Unlinked links (after_unlink links unit o n k) home q (queue_without q o n) unit o n
 unlinks links home q xs unit o n k l lt eo en =
     let one : List Link = with_newer links o n in
@@ -165,7 +165,7 @@ unlinks links home q xs unit o n k l lt eo en =
     }
 
 pub unlink_others : (links : List Link) (home : Home) (q : Queue) (xs : List ℕ) (unit : ℕ) (o n : Option ℕ) (k : Link) → IsLinked links home q xs
-    → o ≡ unit_before xs unit → n ≡ unit_after xs unit → StaysElsewhere links (after_unlink links unit o n k) home unit
+    → o ≡ unit_before xs unit → n ≡ unit_behind xs unit → StaysElsewhere links (after_unlink links unit o n k) home unit
 unlink_others links home q xs unit o n k l eo en g ne away =
     set_other (with_older (with_newer links o n) n o) unit g _ ne
     ∙ older_other (with_newer links o n) n o g (λ h. away (l.homes g ((newer_within links home q xs unit g l (sym en ∙ h)).0)))
@@ -208,7 +208,7 @@ abbrev pub queue_out : List Link → Queue → ℕ → Queue
 queue_out links q unit = queue_without q (link_at links unit).older (link_at links unit).newer
 
 pub out_linked : (links : List Link) (home : Home) (q : Queue) (unit : ℕ) → IsLinked links home q (units_of links q) → (link_at links unit).home ≡ Some home
-    → IsLinked (after_out links unit) home (queue_out links q unit) (without unit (units_of links q))
+    → IsLinked (after_out links unit) home (queue_out links q unit) (list_without unit (units_of links q))
 out_linked links home q unit l h =
     let xs : List ℕ = units_of links q in
     let i : is_among xs unit ≡ true = l.at_home unit h in
@@ -218,9 +218,9 @@ out_linked links home q unit l h =
     (unlinks links home q xs unit (link_at links unit).older (link_at links unit).newer (link_at links unit) l (within links home q xs unit l i) eo en)
 
 pub out_units : (links : List Link) (home : Home) (q : Queue) (unit : ℕ) → IsLinked links home q (units_of links q) → (link_at links unit).home ≡ Some home
-    → units_of (after_out links unit) (queue_out links q unit) ≡ without unit (units_of links q)
+    → units_of (after_out links unit) (queue_out links q unit) ≡ list_without unit (units_of links q)
 out_units links home q unit l h =
-    units_are (after_out links unit) home (queue_out links q unit) (without unit (units_of links q)) (out_linked links home q unit l h)
+    units_are (after_out links unit) home (queue_out links q unit) (list_without unit (units_of links q)) (out_linked links home q unit l h)
 
 pub out_others : (links : List Link) (home : Home) (q : Queue) (unit : ℕ) → IsLinked links home q (units_of links q) → (link_at links unit).home ≡ Some home
     → StaysElsewhere links (after_out links unit) home unit

@@ -13,8 +13,8 @@ use Rattle.lru_lists.specs.declared.queue.Queue.{Queue}
 use Rattle.lru_lists.specs.Queue.{link_at, units_of, IsLinked}
 
 -- what the record of a unit on one of the lists says of its place: the owner, and which list
-abbrev pub home_of : Lru → LruList → Home
-home_of lru list = record { owner = lru.owner; list = list }
+abbrev pub home_in : Lru → LruList → Home
+home_in lru list = record { owner = lru.owner; list = list }
 
 -- a unit as an entry of a list: its number, whether it is marked, whether it is dirty
 abbrev pub entry_of : List Link → ℕ → Entry
@@ -40,7 +40,7 @@ active_of links lru = entries_of links lru Active
 -- both lists are linked through these records
 abbrev pub AreLinked : List Link → Lru → Type 0
 AreLinked links lru = (list : LruList)
-    → IsLinked links (home_of lru list) (queue_of lru list) (units_of links (queue_of lru list))
+    → IsLinked links (home_in lru list) (queue_of lru list) (units_of links (queue_of lru list))
 
 -- the owner's lists, one of them with these ends and this length
 abbrev pub with_queue : Lru → LruList → Queue → Lru
@@ -48,13 +48,13 @@ with_queue lru Inactive q = record lru { inactive = q }
 with_queue lru Active q = record lru { active = q }
 
 -- the list of this owner at a home; None if the home is no list or another owner's
-abbrev pub place_of : Option Home → ℕ → Option LruList
-place_of None owner = None
-place_of (Some h) owner = if h.owner == owner then Some h.list else None
+abbrev pub list_at : Option Home → ℕ → Option LruList
+list_at None owner = None
+list_at (Some h) owner = if h.owner == owner then Some h.list else None
 
 -- the list of the owner that holds the frame; None if none of them does
 abbrev pub list_of : List Link → ℕ → ℕ → Option LruList
-list_of links owner f = place_of (link_at links f).home owner
+list_of links owner f = list_at (link_at links f).home owner
 
 -- no list of any owner holds the frame
 abbrev pub IsOnNone : List Link → ℕ → Type 0

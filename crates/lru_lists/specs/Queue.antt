@@ -23,9 +23,9 @@ is_among [] f = false
 is_among (x ∷ xs) f = x == f || is_among xs f
 
 -- no unit is in the list twice
-abbrev pub AreApart : List ℕ → Type 0
-AreApart [] = Unit {0}
-AreApart (x ∷ xs) = (is_among xs x ≡ false) × AreApart xs
+abbrev pub HasNoRepeats : List ℕ → Type 0
+HasNoRepeats [] = Unit {0}
+HasNoRepeats (x ∷ xs) = (is_among xs x ≡ false) × HasNoRepeats xs
 
 -- the oldest unit of the list, which runs from the oldest to the newest
 abbrev pub oldest_of : List ℕ → Option ℕ
@@ -39,9 +39,9 @@ newest_of (x ∷ []) = Some x
 newest_of (x ∷ y ∷ ys) = newest_of (y ∷ ys)
 
 -- the unit just after f in the list
-abbrev pub unit_after : List ℕ → ℕ → Option ℕ
-unit_after [] f = None
-unit_after (x ∷ xs) f = if x == f then oldest_of xs else unit_after xs f
+abbrev pub unit_behind : List ℕ → ℕ → Option ℕ
+unit_behind [] f = None
+unit_behind (x ∷ xs) f = if x == f then oldest_of xs else unit_behind xs f
 
 -- the unit just before f in the list whose first unit is x
 abbrev pub before_from : ℕ → List ℕ → ℕ → Option ℕ
@@ -54,22 +54,22 @@ unit_before [] f = None
 unit_before (x ∷ xs) f = before_from x xs f
 
 -- the list without f
-abbrev pub without : ℕ → List ℕ → List ℕ
-without f [] = []
-without f (x ∷ xs) = if x == f then xs else x ∷ without f xs
+abbrev pub list_without : ℕ → List ℕ → List ℕ
+list_without f [] = []
+list_without f (x ∷ xs) = if x == f then xs else x ∷ list_without f xs
 
 -- The records and the ends link exactly these units, in this order, as the list `home`. Exactly these units have that
 -- home. The queue has both ends and the length, and each unit's record has its two neighbours. No unit is there
 -- twice.
 pub record IsLinked (links : List Link) (home : Home) (queue : Queue) (units : List ℕ) : Type 0 where
-  pub apart : AreApart units
+  pub apart : HasNoRepeats units
   pub homes : (f : ℕ) → is_among units f ≡ true → (link_at links f).home ≡ Some home
   pub at_home : (f : ℕ) → (link_at links f).home ≡ Some home → is_among units f ≡ true
   pub oldest : queue.oldest ≡ oldest_of units
   pub newest : queue.newest ≡ newest_of units
   pub count : queue.length ≡ length units
   pub older : (f : ℕ) → is_among units f ≡ true → (link_at links f).older ≡ unit_before units f
-  pub newer : (f : ℕ) → is_among units f ≡ true → (link_at links f).newer ≡ unit_after units f
+  pub newer : (f : ℕ) → is_among units f ≡ true → (link_at links f).newer ≡ unit_behind units f
 
 -- up to n units, from this one on towards the newer
 abbrev pub units_from : List Link → Option ℕ → ℕ → List ℕ

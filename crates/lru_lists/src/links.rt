@@ -1,7 +1,7 @@
 //! The records of all frames, through which the lists of all owners are linked.
 
 ghost use Rattle.std.specs.Prelude.{◌≡◌, ◌<◌, ◌++◌, [], ◌∷◌, None, Some, IfOk, IfSome, length, slice_set};
-ghost use Rattle.lru_lists.specs.Queue.{link_at, units_of, without, AreNowhere, IsLinked, StaysElsewhere, SameUse};
+ghost use Rattle.lru_lists.specs.Queue.{link_at, units_of, list_without, AreNowhere, IsLinked, StaysElsewhere, SameUse};
 ghost use Rattle.lru_lists.specs.Queue.{newest_link, unlinked, nowhere, with_newer, with_older};
 ghost use Rattle.lru_lists.specs.Packed.{IsNumber};
 
@@ -75,7 +75,7 @@ impl Links {
     pub(crate) fn unlink_keeping_flags(&mut self, queue: &mut Queue, home: Home, unit: u32)
         requires linked { IsLinked self.old home queue.old (units_of self.old queue.old) }
         requires unit { (link_at self.old unit).home ≡ Some home }
-        ensures units { units_of self.new queue.new ≡ without unit (units_of self.old queue.old) }
+        ensures units { units_of self.new queue.new ≡ list_without unit (units_of self.old queue.old) }
         ensures linked { IsLinked self.new home queue.new (units_of self.new queue.new) }
         ensures unit { link_at self.new unit ≡ unlinked (link_at self.old unit) }
         ensures others { StaysElsewhere self.old self.new home unit }

@@ -9,7 +9,7 @@ ghost use Rattle.lru_lists.specs.declared.record.LruList.{LruList};
 ghost use Rattle.lru_lists.specs.declared.record.LruList.TheVariants.{Inactive};
 ghost use Rattle.lru_lists.specs.Lists.{AreLinked, HasNoUnits, IsOnNone, ChangesOwn, MovesOnly, KeepsUnits, SameOwners};
 ghost use Rattle.lru_lists.specs.Lists.{Touches, Ages, inactive_of, active_of, entries_of, entries_without, changed_at};
-ghost use Rattle.lru_lists.specs.Lists.{dirtied, marked, list_of, entry_of, is_marked_by_touch, home_of, queue_of};
+ghost use Rattle.lru_lists.specs.Lists.{dirtied, marked, list_of, entry_of, is_marked_by_touch, home_in, queue_of};
 ghost use Rattle.lru_lists.specs.Lists.{with_queue, first_entry, entry_after};
 
 use crate::links::Links;
@@ -54,7 +54,7 @@ impl Lru {
 
     // What the record of a unit on one of the lists says of its place.
     fn home(&self, list: LruList) -> Home
-        ensures { result ≡ home_of self.now list }
+        ensures { result ≡ home_in self.now list }
     {
         Home {
             owner: self.owner,
@@ -90,7 +90,7 @@ impl Lru {
         ensures entries { entries_of links.new self.new list
             ≡ entries_of links.old self.old list ++ marked false (entry_of links.old unit) ∷ [] }
         ensures other { (m : LruList) → m ≢ list → entries_of links.new self.new m ≡ entries_of links.old self.old m }
-        ensures unit { (link_at links.new unit).home ≡ Some (home_of self.old list) }
+        ensures unit { (link_at links.new unit).home ≡ Some (home_in self.old list) }
         ensures moves { MovesOnly links.old links.new self.old.owner unit }
         ensures used { SameUse links.old links.new unit }
         ensures dirt { (link_at links.new unit).is_dirty ≡ (link_at links.old unit).is_dirty }
@@ -103,7 +103,7 @@ impl Lru {
     // Removes a unit from the one of the two lists that holds it. It stays marked and dirty as it was.
     fn unlink_keeping_flags(&mut self, links: &mut Links, list: LruList, unit: u32)
         requires linked { AreLinked links.old self.old }
-        requires unit { (link_at links.old unit).home ≡ Some (home_of self.old list) }
+        requires unit { (link_at links.old unit).home ≡ Some (home_in self.old list) }
         ensures linked { AreLinked links.new self.new }
         ensures owner { self.new.owner ≡ self.old.owner }
         ensures entries { entries_of links.new self.new list
@@ -143,7 +143,7 @@ impl Lru {
         ensures active { active_of links.new self.new ≡ active_of links.old self.old }
         ensures others { ChangesOwn links.old links.new self.old.owner }
         ensures moves { MovesOnly links.old links.new self.old.owner unit }
-        ensures joined { (link_at links.new unit).home ≡ Some (home_of self.old Inactive) }
+        ensures joined { (link_at links.new unit).home ≡ Some (home_in self.old Inactive) }
     {
         links.clear(unit);
         self.push(links, LruList::Inactive, unit);

@@ -1,7 +1,8 @@
 //! One list: its ends and its length. Its units are linked through their records.
 
 ghost use Rattle.std.specs.Prelude.{◌≡◌, ◌<◌, ◌-◌, ◌^◌, ◌++◌, [], ◌∷◌, None, Some, IfSome, length};
-ghost use Rattle.lru_lists.specs.Queue.{link_at, units_of, without, IsLinked, StaysElsewhere, SameUse, newest_link};
+ghost use Rattle.lru_lists.specs.Queue.{link_at, units_of, list_without, IsLinked, StaysElsewhere, SameUse};
+ghost use Rattle.lru_lists.specs.Queue.{newest_link};
 ghost use Rattle.lru_lists.specs.Queue.{unlinked, pushed_queue, queue_without};
 
 use crate::links::Links;
@@ -95,7 +96,7 @@ pub(crate) fn unlink_keeping_flags(links: &mut Links, queue: &mut Queue, home: H
     requires frames { length links.old < 2 ^ 32 }
     requires linked { IsLinked links.old home queue.old (units_of links.old queue.old) }
     requires unit { (link_at links.old unit).home ≡ Some home }
-    ensures units { units_of links.new queue.new ≡ without unit (units_of links.old queue.old) }
+    ensures units { units_of links.new queue.new ≡ list_without unit (units_of links.old queue.old) }
     ensures linked { IsLinked links.new home queue.new (units_of links.new queue.new) }
     ensures unit { link_at links.new unit ≡ unlinked (link_at links.old unit) }
     ensures others { StaysElsewhere links.old links.new home unit }

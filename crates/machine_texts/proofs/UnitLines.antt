@@ -10,7 +10,7 @@ use Rattle.lru_lists.specs.declared.record.Entry.{Entry}
 use Rattle.lru_lists.specs.declared.record.LruList.{LruList}
 use Rattle.lru_lists.specs.Lists.{entry_after, first_entry}
 use Rattle.mem_machine.specs.Machines.{KnownMachine, IsConsistent, home_of}
-use Rattle.mem_machine.specs.FrameStates.{frame_state_at, unit_of}
+use Rattle.mem_machine.specs.FrameStates.{frame_state_at, headed_unit}
 use Rattle.mem_machine.specs.Showing.{ListedUnit, entries_in, listed, seat_with_look, seat_with_looks, units_in, with_look_at, with_looks_at}
 use Rattle.mem_machine.proofs.Listing.{IsListed, apart_mid, after_mid, has_mid, home_inside, listed_is}
 use Rattle.machine_texts.specs.Units.{LooksAtAll, ReadsLines, ReadsUnits, lines_text, order_at, unit_text, units_text}
@@ -169,7 +169,7 @@ lines_same : (m n : KnownMachine) → n.frame_states ≡ m.frame_states → (us 
 lines_same m n same [] ps = refl
 lines_same m n same (u ∷ us) [] = refl
 lines_same m n same (u ∷ us) (p ∷ ps) = λ i.
-    unit_text (option_map_or (λ unit. unit.order) (unit_of (frame_state_at (same i) u.entry.number)) 0) u p ++ lines_same m n same us ps i
+    unit_text (option_map_or (λ unit. unit.order) (headed_unit (frame_state_at (same i) u.entry.number)) 0) u p ++ lines_same m n same us ps i
 
 has_lines : (m : KnownMachine) (us : List ListedUnit) (ps : List ℕ) → 0 < length us → units_text m us ps ≡ lines_text m us ps
 has_lines m [] ps some = absurd (omega (arith, some))

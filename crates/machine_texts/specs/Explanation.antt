@@ -38,10 +38,10 @@ usage_after before (GroupKill g number) = None
 usage_after before (Kill g returned pages pinned left usage) = None
 
 -- the line of each note; `usage` is that under the limit whose stocks are drained, if any
-abbrev pub lines_text : List Group → (gone : List ℕ) → Option ℕ → List Note → List ℕ
-lines_text groups gone usage [] = []
-lines_text groups gone usage (note ∷ notes) =
-    line_text groups gone usage note ++ lines_text groups gone (usage_after usage note) notes
+abbrev pub notes_text : List Group → (gone : List ℕ) → Option ℕ → List Note → List ℕ
+notes_text groups gone usage [] = []
+notes_text groups gone usage (note ∷ notes) =
+    line_text groups gone usage note ++ notes_text groups gone (usage_after usage note) notes
 
 -- this many frames were reclaimed of which no note tells; nothing is written of none
 unfoldable pub left_out_text : ℕ → List ℕ
@@ -52,4 +52,4 @@ left_out_text frames = if frames == 0 then [] else (codes "# reclaimed " ++ deci
 -- removed, if it removed one.
 abbrev pub explanation_text : List Group → (gone : List ℕ) → List Note → (left_out : ℕ) → List ℕ
 explanation_text groups gone notes left_out =
-    if list_any is_attempt notes then lines_text groups gone None notes ++ left_out_text left_out else []
+    if list_any is_attempt notes then notes_text groups gone None notes ++ left_out_text left_out else []

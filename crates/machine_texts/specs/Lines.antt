@@ -29,13 +29,13 @@ unfoldable pub ending_text : ℕ → ℕ → List ℕ
 ending_text pages usage = codes " bytes " ++ bytes_text pages ++ codes " usage " ++ bytes_text usage ++ codes "\n"
 
 -- a limit without room, the usage under it, and what was asked for
-abbrev pub limit_text : List Group → (gone : List ℕ) → ℕ → ℕ → ℕ → ℕ → List ℕ
-limit_text groups gone g max usage need = codes "# limit " ++ group_text groups gone g ++ codes " " ++ bytes_text max
+abbrev pub limit_line : List Group → (gone : List ℕ) → ℕ → ℕ → ℕ → ℕ → List ℕ
+limit_line groups gone g max usage need = codes "# limit " ++ group_text groups gone g ++ codes " " ++ bytes_text max
     ++ codes " usage " ++ bytes_text usage ++ codes " need " ++ bytes_text need ++ codes "\n"
 
 -- no block of this order was free, and rounds follow
-abbrev pub zone_text : (order : ℕ) → List ℕ
-zone_text order = codes "# zone order " ++ decimal order ++ codes "\n"
+abbrev pub zone_line : (order : ℕ) → List ℕ
+zone_line order = codes "# zone order " ++ decimal order ++ codes "\n"
 
 -- this many pages were asked for, and rounds follow
 abbrev pub asked_text : List Group → (gone : List ℕ) → ℕ → ℕ → List ℕ
@@ -43,19 +43,19 @@ asked_text groups gone g pages =
     codes "# asked " ++ group_text groups gone g ++ codes " " ++ bytes_text pages ++ codes "\n"
 
 -- the frames from the first to the last, or the one frame
-unfoldable pub span_text : (first last : ℕ) → List ℕ
-span_text first last = if first == last then decimal first else (decimal first ++ codes "-" ++ decimal last)
+unfoldable pub range_text : (first last : ℕ) → List ℕ
+range_text first last = if first == last then decimal first else (decimal first ++ codes "-" ++ decimal last)
 
 -- a span of reclaimed units
 abbrev pub reclaimed_text : List Group → (gone : List ℕ) → ℕ → ℕ → ℕ → List ℕ
 reclaimed_text groups gone g first last =
-    codes "# reclaimed " ++ group_text groups gone g ++ codes " " ++ span_text first last ++ codes "\n"
+    codes "# reclaimed " ++ group_text groups gone g ++ codes " " ++ range_text first last ++ codes "\n"
 
 -- A stock that was drained under a limit, and the usage under the limit afterwards, by the usage before. Nothing is
 -- written for a stock that was drained for another reason.
-abbrev pub stock_text : Option ℕ → ℕ → ℕ → List ℕ
-stock_text (Some usage) cpu pages = codes "# stock " ++ decimal cpu ++ ending_text pages (usage - pages)
-stock_text None cpu pages = []
+abbrev pub stock_line : Option ℕ → ℕ → ℕ → List ℕ
+stock_line (Some usage) cpu pages = codes "# stock " ++ decimal cpu ++ ending_text pages (usage - pages)
+stock_line None cpu pages = []
 
 -- a round of reclaim: the units that were tried were either freed (`returned`) or missed
 abbrev pub round_text : ℕ → ℕ → ℕ → ℕ → ℕ → List ℕ
@@ -96,10 +96,10 @@ killed_text groups gone g returned pages pinned left usage =
 
 -- the line of a note; `usage` is that under the limit whose stocks are drained, if any
 abbrev pub line_text : List Group → (gone : List ℕ) → Option ℕ → Note → List ℕ
-line_text groups gone _ (Limit g max usage need) = limit_text groups gone g max usage need
-line_text groups gone _ (Zone order) = zone_text order
+line_text groups gone _ (Limit g max usage need) = limit_line groups gone g max usage need
+line_text groups gone _ (Zone order) = zone_line order
 line_text groups gone _ (Asked g pages) = asked_text groups gone g pages
-line_text groups gone usage (Stock cpu pages) = stock_text usage cpu pages
+line_text groups gone usage (Stock cpu pages) = stock_line usage cpu pages
 line_text groups gone _ (Reclaimed g first last) = reclaimed_text groups gone g first last
 line_text groups gone _ (Round number returned missed pages usage) = round_text number returned missed pages usage
 line_text groups gone _ (Oom g) = oom_text groups gone g

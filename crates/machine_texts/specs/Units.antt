@@ -7,7 +7,7 @@ use Rattle.frame_word.specs.ReferenceRule.{most_references}
 use Rattle.lru_lists.specs.declared.record.Entry.{Entry}
 use Rattle.lru_lists.specs.declared.record.LruList.{LruList}
 use Rattle.lru_lists.specs.declared.record.LruList.TheVariants.{Inactive, Active}
-use Rattle.mem_machine.specs.FrameStates.{frame_state_at, unit_of}
+use Rattle.mem_machine.specs.FrameStates.{frame_state_at, headed_unit}
 use Rattle.mem_machine.specs.Machines.{KnownMachine}
 use Rattle.mem_machine.specs.Showing.{ListedUnit, entries_in, listed, units_in, with_looks_at}
 
@@ -26,7 +26,7 @@ pins_text pins = if pins == 0 then [] else codes " pins " ++ decimal pins
 
 -- the order of the unit that the frame heads
 abbrev pub order_at : KnownMachine → ℕ → ℕ
-order_at machine head = option_map_or (λ unit. unit.order) (unit_of (frame_state_at machine.frame_states head)) 0
+order_at machine head = option_map_or (λ unit. unit.order) (headed_unit (frame_state_at machine.frame_states head)) 0
 
 -- whether the unit is dirty, whether it is marked, its pins, and the end of the line
 abbrev pub rest_text : Entry → (pins : ℕ) → List ℕ

@@ -3,7 +3,7 @@
 ghost use Rattle.std.specs.Prelude.{◌≡◌, ◌++◌, IfOk, None};
 ghost use Rattle.std.specs.List.{list_any};
 ghost use Rattle.std.specs.String.{string_bytes};
-ghost use Rattle.machine_texts.specs.Explanation.{explanation_text, is_attempt, left_out_text, lines_text, usage_after};
+ghost use Rattle.machine_texts.specs.Explanation.{explanation_text, is_attempt, left_out_text, notes_text, usage_after};
 
 use crate::lines::write_line;
 use crate::parts::push_count;
@@ -57,7 +57,7 @@ fn write_lines(
     text: &mut String,
 ) -> Result<(), AllocError>
     ensures { IfOk result (λ _. string_bytes text.new
-        ≡ string_bytes text.old ++ lines_text tree.now gone.now None notes.now) }
+        ≡ string_bytes text.old ++ notes_text tree.now gone.now None notes.now) }
 {
     let mut usage = None;
     for note in notes {

@@ -2,8 +2,8 @@
 
 ghost use Rattle.std.specs.Prelude.{◌≡◌, ◌++◌, IfOk};
 ghost use Rattle.std.specs.String.{string_bytes};
-ghost use Rattle.machine_texts.specs.Lines.{asked_text, group_kill_text, killed_text, limit_text, line_text, oom_text};
-ghost use Rattle.machine_texts.specs.Lines.{reclaimed_text, round_text, stock_text, victim_text, zone_text};
+ghost use Rattle.machine_texts.specs.Lines.{asked_text, group_kill_text, killed_text, limit_line, line_text, oom_text};
+ghost use Rattle.machine_texts.specs.Lines.{reclaimed_text, round_text, stock_line, victim_text, zone_line};
 
 use crate::parts::{
     push_bytes, push_candidate, push_count, push_ending, push_group, push_others, push_span,
@@ -76,7 +76,7 @@ fn write_limit(
     text: &mut String,
 ) -> Result<(), AllocError>
     ensures { IfOk result (λ _. string_bytes text.new
-        ≡ string_bytes text.old ++ limit_text tree.now gone.now group max usage need) }
+        ≡ string_bytes text.old ++ limit_line tree.now gone.now group max usage need) }
 {
     push_group("# limit ", tree, gone, group, text)?;
     push_bytes(" ", u64::from(max), text)?;
@@ -87,7 +87,7 @@ fn write_limit(
 
 // That no block of this order was free.
 fn write_zone(order: u32, text: &mut String) -> Result<(), AllocError>
-    ensures { IfOk result (λ _. string_bytes text.new ≡ string_bytes text.old ++ zone_text order) }
+    ensures { IfOk result (λ _. string_bytes text.new ≡ string_bytes text.old ++ zone_line order) }
 {
     push_count("# zone order ", u128::from(order), text)?;
     text.push_str("\n")
@@ -133,7 +133,7 @@ fn write_stock(
     pages: u32,
     text: &mut String,
 ) -> Result<(), AllocError>
-    ensures { IfOk result (λ _. string_bytes text.new ≡ string_bytes text.old ++ stock_text usage cpu pages) }
+    ensures { IfOk result (λ _. string_bytes text.new ≡ string_bytes text.old ++ stock_line usage cpu pages) }
 {
     let Some(usage) = usage else {
         return Ok(());

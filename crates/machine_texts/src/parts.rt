@@ -4,7 +4,7 @@ ghost use Rattle.std.specs.Prelude.{◌≡◌, ◌++◌, IfOk};
 ghost use Rattle.std.specs.Fmt.{decimal};
 ghost use Rattle.std.specs.String.{string_bytes};
 ghost use Rattle.machine_texts.specs.Lines.{bytes_text, candidate_text, ending_text, group_text, next_text, others_text};
-ghost use Rattle.machine_texts.specs.Lines.{span_text};
+ghost use Rattle.machine_texts.specs.Lines.{range_text};
 
 use control_files::number::push_number;
 use control_files::text::PAGE_BYTES;
@@ -111,14 +111,14 @@ pub(crate) fn push_ending(pages: u64, usage: u32, text: &mut String) -> Result<(
 }
 
 // Adds a word and the frames from the first to the last, or the one frame.
-#[tactic(auto, unfolding(crate::specs::Lines::span_text))]
+#[tactic(auto, unfolding(crate::specs::Lines::range_text))]
 pub(crate) fn push_span(
     word: &str,
     first: u64,
     last: u64,
     text: &mut String,
 ) -> Result<(), AllocError>
-    ensures { IfOk result (λ _. string_bytes text.new ≡ string_bytes text.old ++ (word.now ++ span_text first last)) }
+    ensures { IfOk result (λ _. string_bytes text.new ≡ string_bytes text.old ++ (word.now ++ range_text first last)) }
 {
     push_count(word, u128::from(first), text)?;
     if first == last {

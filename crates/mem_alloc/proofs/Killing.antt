@@ -9,7 +9,7 @@ use Rattle.group_tree.specs.declared.group.Group.{Group}
 use Rattle.group_tree.specs.Groups.{has_group, in_subtree}
 use Rattle.group_tree.specs.declared.event.EventKey.TheVariants.{Oom}
 use Rattle.group_charge.specs.declared.account.Account as charge
-use Rattle.group_charge.specs.Charges.{AreCharges, current_of, usage_of, with_event_at, with_oom_noted}
+use Rattle.group_charge.specs.Charges.{AreCharges, current_of, usage_charged, with_event_at, with_oom_noted}
 use Rattle.group_charge.proofs.CallerLemmas.{sum-map_same}
 use Rattle.group_charge.proofs.KeptLemmas.{number_below}
 use Rattle.group_charge.proofs.SumLemmas.{share}
@@ -65,8 +65,8 @@ each_lowers r t g pages (killed ∷ later) m n steps h =
     lowers_both t m h.between n (one_lowers t (kill_set m killed) m h.between h.first.marked h.first.stocks h.first.keeps)
     (each_lowers r t g pages later h.between n h.later h.second)
 
-usage_noted : (groups : List Group) (xs : List charge.Account) (g m : ℕ) → usage_of groups (map (with_event_at Oom groups g) xs) m ≡ usage_of groups xs m
-unfolding usage_of
+usage_noted : (groups : List Group) (xs : List charge.Account) (g m : ℕ) → usage_charged groups (map (with_event_at Oom groups g) xs) m ≡ usage_charged groups xs m
+unfolding usage_charged
 usage_noted groups xs g m = sum-map_same (share groups m) (with_event_at Oom groups g) (λ a. refl) xs
 
 pub oom_lowers : (t : KnownTable) (m : KnownMachine) (g : ℕ) (w : KnownWatch) → Lowers t m (with_watch (with_oom_noted_at m g) w)

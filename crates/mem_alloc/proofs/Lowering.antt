@@ -9,7 +9,7 @@ use Rattle.group_tree.specs.declared.group.Group.{Group}
 use Rattle.group_tree.specs.Groups.{has_group, in_subtree, limit_of}
 use Rattle.group_tree.specs.Room.{fits_limit, PathHasRoom}
 use Rattle.group_charge.specs.declared.account.Account as charge
-use Rattle.group_charge.specs.Charges.{Ledger, current_of, usage_of, noted, added, taken, peaked, charged, with_charge, with_uncharge}
+use Rattle.group_charge.specs.Charges.{Ledger, current_of, usage_charged, max_noted, added, taken, peaked, charged, with_charge, with_uncharge}
 use Rattle.group_charge.proofs.CallerLemmas.{sum-map_same}
 use Rattle.group_charge.proofs.SumLemmas.{share}
 use Rattle.stock_word.specs.declared.view.StockAccount.{StockAccount}
@@ -129,9 +129,9 @@ pub all_lower : (t : KnownTable) (g k : ℕ) (m n : KnownMachine) (drains : List
 all_lower t g zero m n drains h = subst (λ (x : KnownMachine). Lowers t m x) (sym h.1) (lowers_none t m)
 all_lower t g (suc k) m n drains h = lowers_both t m h.between n (all_lower t g k m h.between h.first h.makes_first) (below_lowers t g (suc k) h.between n h.last h.makes_last)
 
-usage_noted : (groups : List Group) (xs : List charge.Account) (g m : ℕ) → usage_of groups (map (noted groups g) xs) m ≡ usage_of groups xs m
-unfolding usage_of
-usage_noted groups xs g m = sum-map_same (share groups m) (noted groups g) (λ a. refl) xs
+usage_noted : (groups : List Group) (xs : List charge.Account) (g m : ℕ) → usage_charged groups (map (max_noted groups g) xs) m ≡ usage_charged groups xs m
+unfolding usage_charged
+usage_noted groups xs g m = sum-map_same (share groups m) (max_noted groups g) (λ a. refl) xs
 
 -- another watch changes nothing of this
 pub watched_lowers : (t : KnownTable) (m : KnownMachine) (w : KnownWatch) → Lowers t m (with_watch m w)
@@ -250,7 +250,7 @@ charged_back groups all (x ∷ xs) g n m =
     ∙ sym (sum_by-cons (share groups m) x xs)
 
 pub usage_back : (l : Ledger) (g n m : ℕ) → current_of (with_uncharge (with_charge l g n) g n) m ≡ current_of l m
-unfolding usage_of charged
+unfolding usage_charged charged
 usage_back l g n m = charged_back l.groups (map (added g n) l.accounts) l.accounts g n m
 
 pub room_back : (l : Ledger) (g n : ℕ) → PathHasRoom l.groups (current_of l) g n

@@ -21,12 +21,12 @@ use Rattle.step_rules.specs.Legal.{Allows, is_of_group}
 use Rattle.step_rules.specs.After.{Run, after, state_of, IsLegalRun}
 use Rattle.step_rules.specs.Laws.{pushed}
 use Rattle.step_rules.specs.Peaks.{IsPeak, peak_follows}
-use Rattle.step_rules.specs.Events.{note_of, group_noted, noted_at, is_noted_in_subtree, is_noted_at, makes_group, count_after, events_of, events_local_of}
+use Rattle.step_rules.specs.Events.{event_of, group_noted, noted_at, is_noted_in_subtree, is_noted_at, makes_group, count_after, events_in, events_local_in}
 use Rattle.step_rules.proofs.Moving.{gone_itself}
 use Rattle.step_rules.proofs.Peaking.{peaks_are_kept}
 use Rattle.step_rules.proofs.Noting.{events_are_counted}
 use Rattle.step_rules.proofs.Runs.{after_illegal, state_more}
-use Rattle.mem_core.specs.Accounts.{Account, new_account, account_of, with_note, events_after, account_after, AccountsFollow}
+use Rattle.mem_core.specs.Accounts.{Account, new_account, account_in, with_counted_event, events_after, account_after, AccountsFollow}
 use Rattle.mem_core.specs.Shown.{AccountsMatchRun}
 
 -- a group that is there after a step was there before, or the step made it
@@ -51,7 +51,7 @@ there_or_made s seat action answer m there = inl there
 
 -- a step that notes an event leaves the groups as they are
 notes_nothing_or_stays : (s : State) (seat : ℕ) (action : Action) (answer : Answer)
-    → (note_of action answer ≡ None) ⊎ ((after s seat action answer).groups ≡ s.groups)
+    → (event_of action answer ≡ None) ⊎ ((after s seat action answer).groups ≡ s.groups)
 notes_nothing_or_stays s seat action Illegal = inr (ap (λ (t : State). t.groups) (after_illegal s seat action))
 notes_nothing_or_stays s seat (SetMax h limit) Done = inl refl
 notes_nothing_or_stays s seat (SetFlag h flag) Done = inl refl
@@ -66,13 +66,13 @@ noted_same key s seat action answer g =
     let at : List Group → Option (EventKey × ℕ) → Bool = λ groups note. is_in_subtree groups g (group_noted key note) in
     elim (notes_nothing_or_stays s seat action answer) [
       | inl none ↦ ap (at (after s seat action answer).groups) none ∙ sym (ap (at s.groups) none)
-      | inr same ↦ ap (λ (groups : List Group). at groups (note_of action answer)) same
+      | inr same ↦ ap (λ (groups : List Group). at groups (event_of action answer)) same
     ]
 
 -- one more note counts one more of its key, at the groups that pass the test
 note_counted : (test : ℕ → Bool) (passes : Option ℕ → Bool) (note : Option (EventKey × ℕ)) (key : EventKey) (counts : EventCounts)
     → passes None ≡ false → ((h : ℕ) → passes (Some h) ≡ test h)
-    → count_of (with_note test note counts) key ≡ cond (passes (group_noted key note)) (one_more (count_of counts key)) (count_of counts key)
+    → count_of (with_counted_event test note counts) key ≡ cond (passes (group_noted key note)) (one_more (count_of counts key)) (count_of counts key)
 note_counted test passes None key counts none some =
     ap (λ b. cond b (one_more (count_of counts key)) (count_of counts key)) (sym none)
 note_counted test passes (Some note) key counts none some = by_test (test note.1) refl
@@ -104,10 +104,10 @@ key_counted : (test : ℕ → Bool) (passes : Option ℕ → Bool) (key : EventK
     ≡ cond (makes_group g action answer) 0 (cond (passes (noted_at key action answer)) (one_more (count_of counts key)) (count_of counts key))
 key_counted test passes key g action answer counts none some = by_made (makes_group g action answer)
   where
-    by_made : (made : Bool) → count_of (cond made no_events (with_note test (note_of action answer) counts)) key
+    by_made : (made : Bool) → count_of (cond made no_events (with_counted_event test (event_of action answer) counts)) key
         ≡ cond made 0 (cond (passes (noted_at key action answer)) (one_more (count_of counts key)) (count_of counts key))
     by_made true = none_counted key
-    by_made false = note_counted test passes (note_of action answer) key counts none some
+    by_made false = note_counted test passes (event_of action answer) key counts none some
 
 below_counted : (key : EventKey) (s : State) (seat : ℕ) (action : Action) (answer : Answer) (g : ℕ) (a : Account) →
     count_of (account_after (after s seat action answer) action answer g a).events key
@@ -145,22 +145,22 @@ tell_more zone run step answer old new legal ok told follow =
     λ m there. subst (λ (x : State). has_group x.groups m ≡ true) more there in
     record {
       peaks = λ m there.
-          let now : account_of new m ≡ account_after t step.action answer m (account_of old m) = follow m (before m there) in
-          let kept = peaks_are_kept.step zone run step answer legal ok m (account_of old m).peak there (λ was. told.peaks m was) in
+          let now : account_in new m ≡ account_after t step.action answer m (account_in old m) = follow m (before m there) in
+          let kept = peaks_are_kept.step zone run step answer legal ok m (account_in old m).peak there (λ was. told.peaks m was) in
           subst (IsPeak zone (pushed run step answer) m)
-          (ap (λ (x : State). peak_follows x step.action answer m (account_of old m).peak) more ∙ sym (ap (λ (a : Account). a.peak) now)) kept;
+          (ap (λ (x : State). peak_follows x step.action answer m (account_in old m).peak) more ∙ sym (ap (λ (a : Account). a.peak) now)) kept;
       events = λ key m there.
           let now = follow m (before m there) in
           let law = (events_are_counted.step zone run step answer key m).below in
-          ap (λ (a : Account). count_of a.events key) now ∙ below_counted key s step.seat step.action answer m (account_of old m)
-          ∙ follow_alike (is_noted_in_subtree key m) m s.groups step.action answer (count_of (account_of old m).events key) (events_of key zone run m)
+          ap (λ (a : Account). count_of a.events key) now ∙ below_counted key s step.seat step.action answer m (account_in old m)
+          ∙ follow_alike (is_noted_in_subtree key m) m s.groups step.action answer (count_of (account_in old m).events key) (events_in key zone run m)
           (elim (there_or_made s step.seat step.action answer m (before m there)) [ inl was ↦ inl (λ has e. told.events key m was) | inr made ↦ inr made ])
           ∙ sym law;
       events_local = λ key m there.
           let now = follow m (before m there) in
           let law = (events_are_counted.step zone run step answer key m).local in
-          ap (λ (a : Account). count_of a.events_local key) now ∙ local_counted key s step.seat step.action answer m (account_of old m)
-          ∙ follow_alike (is_noted_at key m) m s.groups step.action answer (count_of (account_of old m).events_local key) (events_local_of key zone run m)
+          ap (λ (a : Account). count_of a.events_local key) now ∙ local_counted key s step.seat step.action answer m (account_in old m)
+          ∙ follow_alike (is_noted_at key m) m s.groups step.action answer (count_of (account_in old m).events_local key) (events_local_in key zone run m)
           (elim (there_or_made s step.seat step.action answer m (before m there))
           [ inl was ↦ inl (λ has e. told.events_local key m was) | inr made ↦ inr made ])
           ∙ sym law;
@@ -173,9 +173,9 @@ root_alone m there = eqb-true 0 m (or_none (0 == m) (sym (has_group-any initial_
     or_none true e = refl
     or_none false e = e
 
-pub tell_start : (zone : Zone) (accounts : List Account) → ((m : ℕ) → account_of accounts m ≡ new_account) → AccountsMatchRun zone [] accounts
+pub tell_start : (zone : Zone) (accounts : List Account) → ((m : ℕ) → account_in accounts m ≡ new_account) → AccountsMatchRun zone [] accounts
 tell_start zone accounts new = record {
-  peaks = λ m there. subst (λ (k : ℕ). IsPeak zone [] k (account_of accounts m).peak) (root_alone m there)
+  peaks = λ m there. subst (λ (k : ℕ). IsPeak zone [] k (account_in accounts m).peak) (root_alone m there)
       (subst (IsPeak zone [] 0) (sym (ap (λ (a : Account). a.peak) (new m))) (peaks_are_kept.boot zone));
   events = λ key m there. ap (λ (a : Account). count_of a.events key) (new m) ∙ none_counted key ∙ sym (events_are_counted.boot zone key m).0;
   events_local = λ key m there. ap (λ (a : Account). count_of a.events_local key) (new m) ∙ none_counted key ∙ sym (events_are_counted.boot zone key m).1;

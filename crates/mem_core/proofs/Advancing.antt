@@ -22,8 +22,8 @@ use Rattle.step_rules.proofs.Runs.{after_illegal, allowed, state_more, legal_mor
 use Rattle.mem_core.specs.Rooms.{PlacesFront, pages_asked}
 use Rattle.mem_core.specs.Bounded.{IsBounded}
 use Rattle.mem_core.proofs.Bounding.{bounded_step}
-use Rattle.mem_core.specs.Shown.{CoreState, Shows, AccountsMatchRun, state_shown}
-use Rattle.mem_core.specs.Accounts.{Account, account_after, account_of, AccountsFollow}
+use Rattle.mem_core.specs.Shown.{CoreState, ShowsRun, AccountsMatchRun, state_shown}
+use Rattle.mem_core.specs.Accounts.{Account, account_after, account_in, AccountsFollow}
 use Rattle.mem_core.proofs.Accounting.{tell_more}
 use Rattle.mem_core.specs.Promise.{PlacesFrontIn}
 use Rattle.zone_blocks.proofs.Unique.{unique_blocks}
@@ -63,12 +63,12 @@ account_illegal t action m a = refl
 pub follow_illegal : (t : State) (action : Action) (answer : Answer) (accounts : List Account) → answer ≡ Illegal
     → AccountsFollow t action answer accounts accounts
 follow_illegal t action answer accounts e m there =
-    sym (ap (λ (x : Answer). account_after t action x m (account_of accounts m)) e ∙ account_illegal t action m (account_of accounts m))
+    sym (ap (λ (x : Answer). account_after t action x m (account_in accounts m)) e ∙ account_illegal t action m (account_in accounts m))
 
 -- a core that showed a run shows it with the step and its answer
-pub shown_more : (s t : CoreState) (run : Run) (step : Step) (answer : Answer) → Shows s run → Allows (state_shown s) step.seat step.action answer →
+pub shown_more : (s t : CoreState) (run : Run) (step : Step) (answer : Answer) → ShowsRun s run → Allows (state_shown s) step.seat step.action answer →
     t.zone ≡ s.zone → t.steps ≡ s.steps + 1 → state_shown t ≡ after (state_shown s) step.seat step.action answer
-    → AccountsFollow (after (state_shown s) step.seat step.action answer) step.action answer s.accounts t.accounts → Shows t (run ++ (step, answer) ∷ [])
+    → AccountsFollow (after (state_shown s) step.seat step.action answer) step.action answer s.accounts t.accounts → ShowsRun t (run ++ (step, answer) ∷ [])
 shown_more s t run step answer shows ok zone steps state follow =
     let here : Allows (state_of s.zone run) step.seat step.action answer = subst (λ (x : State). Allows x step.seat step.action answer) shows.state ok in
     let more : state_shown t ≡ state_of s.zone (run ++ (step, answer) ∷ []) = state

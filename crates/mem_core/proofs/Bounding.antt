@@ -12,7 +12,7 @@ use Rattle.step_rules.specs.declared.step.Action.TheVariants.{TakeIn, PassBack, 
 use Rattle.step_rules.specs.declared.step.Action.TheVariants.{Grant, Ungrant, PlaceBlock, Return, SetMax, SetFlag, Make, Remove, Kill}
 use Rattle.step_rules.specs.declared.step.Answer.{Answer}
 use Rattle.step_rules.specs.declared.step.Answer.TheVariants.{Done, Held, Left, Last, Took, Stocked, Pages, Granted, Placed, Number}
-use Rattle.step_rules.specs.Phases.{Kind, ListFrame, has_as, is_live, is_head_in_hand}
+use Rattle.step_rules.specs.Phases.{Kind, ListFrame, has_as, is_live_phase, is_head_in_hand}
 use Rattle.step_rules.specs.State.{Zone, State, Part, with_at, sum_to, one_if, is_cpu, is_held_by, visits, front_of, frames_of, live_references}
 use Rattle.step_rules.specs.Legal.{is_legal, IsAnswer, IsCounted, get_answer}
 use Rattle.step_rules.specs.After.{after, with_back, filled, drained, with_more}
@@ -26,11 +26,11 @@ use Rattle.step_rules.proofs.Placed.{zone_kept}
 use Rattle.mem_core.specs.Bounded.{IsBounded, pages_out, HolderIsThere}
 use Rattle.mem_core.specs.Rooms.{IsBelowBounds, pages_asked}
 
-hand_not_live : (x : Phase) → is_head_in_hand x ≡ true → is_live x ≡ false
+hand_not_live : (x : Phase) → is_head_in_hand x ≡ true → is_live_phase x ≡ false
 hand_not_live x e = elim (in_hand x e) [
-  | WasCollected u is ↦ ap is_live is
-  | WasBare u is ↦ ap is_live is
-  | WasEnded u is ↦ ap is_live is
+  | WasCollected u is ↦ ap is_live_phase is
+  | WasBare u is ↦ ap is_live_phase is
+  | WasEnded u is ↦ ap is_live_phase is
 ]
 
 -- but for the pins
@@ -73,10 +73,10 @@ room_there s p kind f sound below other =
     let a = sum_room s.zone.frames (λ f. one_if (has_as kind p (s.phases f))) f (λ i. one_most (has_as kind p (s.phases i))) below (ap one_if other) in
     omega arith
 
-pub referred_live : (s : State) (seat f : ℕ) → IsSound s → 1 ≤ s.references seat f → is_live (s.phases f) ≡ true
-referred_live s seat f sound some = dec (is_live (s.phases f)) refl
+pub referred_live : (s : State) (seat f : ℕ) → IsSound s → 1 ≤ s.references seat f → is_live_phase (s.phases f) ≡ true
+referred_live s seat f sound some = dec (is_live_phase (s.phases f)) refl
   where
-    dec : (b : Bool) → is_live (s.phases f) ≡ b → b ≡ true
+    dec : (b : Bool) → is_live_phase (s.phases f) ≡ b → b ≡ true
     dec true e = refl
     dec false e = absurd (let none : s.references seat f ≡ 0 = (sound.frames f).unreferred e seat in omega arith)
 

@@ -7,7 +7,7 @@ use Rattle.std.proofs.lemmas.Option.{slice_get_past, slice_get-get_or}
 use Rattle.step_rules.specs.State.{with_at}
 use Rattle.step_rules.proofs.Basics.{at_each, at_through}
 use Rattle.mem_core.specs.declared.seat.SeatRow.{SeatRow}
-use Rattle.mem_core.specs.Rows.{part_in, part_of}
+use Rattle.mem_core.specs.Rows.{part_in, part_in_row}
 
 pub looked_set : {X : Type 0} (xs : List X) (d : X) (k : ℕ) (x : X) → k < length xs → (λ (m : ℕ). get_or (set xs k x) m d) ≡ with_at (λ m. get_or xs m d) k x
 looked_set xs d k x below =
@@ -30,5 +30,5 @@ got_set xs k x below =
     λ i. λ m. at_each (slice_get xs) k (Some x) (λ n y. slice_get (set xs k x) n ≡ y) (get_set_same xs k x below) (λ n ne. get_set_other xs k n x ne) m i
 
 pub parts_set : (xs : List SeatRow) (k : ℕ) (s : SeatRow) → k < length xs
-    → (λ (p : ℕ). part_of (slice_get (set xs k s) p)) ≡ with_at (λ p. part_of (slice_get xs p)) k (part_in s)
-parts_set xs k s below = (λ i. λ p. part_of (got_set xs k s below i p)) ∙ at_through part_of (slice_get xs) k (Some s)
+    → (λ (p : ℕ). part_in_row (slice_get (set xs k s) p)) ≡ with_at (λ p. part_in_row (slice_get xs p)) k (part_in s)
+parts_set xs k s below = (λ i. λ p. part_in_row (got_set xs k s below i p)) ∙ at_through part_in_row (slice_get xs) k (Some s)

@@ -5,10 +5,10 @@ use Rattle.step_rules.specs.After.{Run, IsLegalRun}
 use Rattle.step_rules.specs.Promise.{IsShown}
 use Rattle.step_rules.proofs.Runs.{legal_from}
 use Rattle.step_rules.proofs.Promising.{the_promise_is_kept}
-use Rattle.mem_core.specs.Shown.{CoreState, Shows, state_shown, HasMaximalAreas}
-use Rattle.mem_core.specs.Promise.{shown_of, KeepsPromise, AlwaysKeepsPromise}
+use Rattle.mem_core.specs.Shown.{CoreState, ShowsRun, state_shown, HasMaximalAreas}
+use Rattle.mem_core.specs.Promise.{core_shown, CoreKeepsPromise, AlwaysKeepsPromise}
 
-shown_is_shown : (s : CoreState) → HasMaximalAreas s → IsShown (state_shown s) (shown_of s)
+shown_is_shown : (s : CoreState) → HasMaximalAreas s → IsShown (state_shown s) (core_shown s)
 shown_is_shown s areas = record {
   areas = areas;
   lists = λ p. refl;
@@ -18,10 +18,10 @@ shown_is_shown s areas = record {
   current = λ g there. refl;
 }
 
-pub keeps_promise : (s : CoreState) (run : Run) → Shows s run → HasMaximalAreas s → KeepsPromise s run
+pub keeps_promise : (s : CoreState) (run : Run) → ShowsRun s run → HasMaximalAreas s → CoreKeepsPromise s run
 keeps_promise s run shows areas free =
-    the_promise_is_kept s.zone run (shown_of s) shows.legal (ap (λ (x : State). is_unheld x.hold) (sym shows.state) ∙ free)
-    (subst (λ (x : State). IsShown x (shown_of s)) shows.state (shown_is_shown s areas))
+    the_promise_is_kept s.zone run (core_shown s) shows.legal (ap (λ (x : State). is_unheld x.hold) (sym shows.state) ∙ free)
+    (subst (λ (x : State). IsShown x (core_shown s)) shows.state (shown_is_shown s areas))
 
 pub always_keeps : (zone : Zone) (run : Run) → IsLegalRun zone run → AlwaysKeepsPromise zone run
 always_keeps zone run legal k free shown is = the_promise_is_kept zone _ shown (legal_from zone run k legal) free is

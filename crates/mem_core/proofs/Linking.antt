@@ -6,7 +6,7 @@ use Rattle.zone_blocks.specs.declared.block.Block.{Block}
 use Rattle.step_rules.proofs.Sound.{IsSound}
 use Rattle.mem_core.specs.declared.seat.SeatRow.{SeatRow}
 use Rattle.mem_core.specs.declared.rows.Rows.{Rows}
-use Rattle.mem_core.specs.Rows.{part_of, reference_of}
+use Rattle.mem_core.specs.Rows.{part_in_row, reference_of}
 use Rattle.mem_core.specs.Rows as rows
 use Rattle.mem_core.specs.Rooms.{FitsZone, IsBelowBounds}
 use Rattle.mem_core.proofs.Looking.{past_default}
@@ -19,7 +19,7 @@ use Rattle.mem_core.specs.Inside.{seat_shown, rows_shown, core_state}
 
 seat_found : (xs : List SeatRow) (k f : ℕ)
     → (reference_at (slice_get (map seat_shown xs) k) f ≡ reference_of (slice_get xs k) f) ×
-    (part_at (slice_get (map seat_shown xs) k) ≡ part_of (slice_get xs k))
+    (part_at (slice_get (map seat_shown xs) k) ≡ part_in_row (slice_get xs k))
 seat_found [] k f = (refl, refl)
 seat_found (x ∷ xs) zero f = (refl, refl)
 seat_found (x ∷ xs) (suc k) f = seat_found xs k f
@@ -37,6 +37,6 @@ shown_is c = rows_are c.rows c.accounts.items c.areas.blocks c.steps
 pub ready : (r : Rows) (n : ℕ) → n ≤ 2 ^ 96 → FitsZone r → IsSound (rows.state_in r) → IsBounded n (rows.state_in r) → IsBelowBounds (rows.state_in r)
 ready r n small fits sound bounded =
     few_from n (rows.state_in r) small
-    (λ p beyond. ap (λ o. (part_of o).book) (slice_get_past r.seats.items p (omega (arith, r.seats.ok.0, fits.seats, beyond))))
+    (λ p beyond. ap (λ o. (part_in_row o).book) (slice_get_past r.seats.items p (omega (arith, r.seats.ok.0, fits.seats, beyond))))
     (λ g past. past_default r.pending.items g 0 (omega (arith, r.pending.ok.0, fits.pending, past)))
     sound bounded

@@ -9,7 +9,7 @@ use Rattle.step_rules.proofs.Sums.{sum_none, sum_part, sum_change}
 use Rattle.mem_core.specs.declared.seat.SeatRow.{SeatRow}
 use Rattle.mem_core.specs.declared.rows.Rows.{Rows}
 use Rattle.mem_core.specs.Rows.{reference_of, state_in}
-use Rattle.mem_core.specs.Rooms.{FitsZone, HasRoom}
+use Rattle.mem_core.specs.Rooms.{FitsZone, SeatHasRoom}
 use Rattle.mem_core.specs.Tables.{sum_of}
 use Rattle.mem_core.proofs.Changing.{looked_set}
 
@@ -38,7 +38,7 @@ each_set xs f x here few each m =
 pub pins_are : (r : Rows) (seat : ℕ) (s : SeatRow) → FitsZone r → slice_get r.seats.items seat ≡ Some s → sum_of s.references ≡ pins_of (state_in r) seat
 pins_are r seat s fits is =
     let xs = r.seats.items in
-    let room : HasRoom r.frames s = subst (HasRoom r.frames) (get_or_from_slice_get xs seat s s is) (fits.rooms seat s (slice_get_within xs seat s is)) in
+    let room : SeatHasRoom r.frames s = subst (SeatHasRoom r.frames) (get_or_from_slice_get xs seat s s is) (fits.rooms seat s (slice_get_within xs seat s is)) in
     ap (λ n. sum_to n (reference_of (Some s))) room.references ∙ sym (ap (λ o. sum_to r.frames (reference_of o)) is)
 
 pub no_pins : (r : Rows) (seat : ℕ) → slice_get r.seats.items seat ≡ None → 0 ≡ pins_of (state_in r) seat

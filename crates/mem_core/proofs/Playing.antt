@@ -7,7 +7,7 @@ use Rattle.step_rules.specs.declared.step.Answer.{Answer}
 use Rattle.step_rules.specs.State.{Zone, State}
 use Rattle.step_rules.specs.After.{Run, state_of}
 use Rattle.step_rules.specs.Laws.{pushed}
-use Rattle.mem_core.specs.Shown.{CoreState, Shows, state_shown, HasMaximalAreas}
+use Rattle.mem_core.specs.Shown.{CoreState, ShowsRun, state_shown, HasMaximalAreas}
 use Rattle.mem_core.specs.Promise.{PlacesFrontIn, AlwaysPlacesFirst}
 use Rattle.mem_core.proofs.Pushing.{each_step_push}
 
@@ -28,15 +28,15 @@ zip-take_more steps answers i step answer h len =
 -- what has been said of the run so far
 pub record PlaysOn (zone : Zone) (s : CoreState) (run : Run) : Type 0 where
   pub sizes : s.zone ≡ zone
-  pub shows : Shows s run
+  pub shows : ShowsRun s run
   pub areas : HasMaximalAreas s
   pub first : AlwaysPlacesFirst zone run
 
-pub PlaysOn-start : (zone : Zone) (s : CoreState) → s.zone ≡ zone → Shows s [] → HasMaximalAreas s → PlaysOn zone s []
+pub PlaysOn-start : (zone : Zone) (s : CoreState) → s.zone ≡ zone → ShowsRun s [] → HasMaximalAreas s → PlaysOn zone s []
 PlaysOn-start zone s same shows areas = record { sizes = same; shows = shows; areas = areas; first = λ k. tt }
 
 pub PlaysOn-step : (zone : Zone) (s t : CoreState) (run : Run) (step : Step) (answer : Answer) → PlaysOn zone s run
-    → PlacesFrontIn (state_shown s) step.action answer → t.zone ≡ s.zone → Shows t (pushed run step answer)
+    → PlacesFrontIn (state_shown s) step.action answer → t.zone ≡ s.zone → ShowsRun t (pushed run step answer)
     → HasMaximalAreas t → PlaysOn zone t (pushed run step answer)
 PlaysOn-step zone s t run step answer so_far smallest same shows areas = record {
   sizes = same ∙ so_far.sizes;

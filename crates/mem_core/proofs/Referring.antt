@@ -6,7 +6,7 @@ use Rattle.step_rules.specs.After.{with_references}
 use Rattle.step_rules.proofs.Basics.{at_itself, at_through}
 use Rattle.mem_core.specs.declared.seat.SeatRow.{SeatRow}
 use Rattle.mem_core.specs.declared.rows.Rows.{Rows}
-use Rattle.mem_core.specs.Rows.{part_in, part_of, reference_of, state_in}
+use Rattle.mem_core.specs.Rows.{part_in, part_in_row, reference_of, state_in}
 use Rattle.mem_core.proofs.Changing.{got_set, looked_set, parts_set}
 use Rattle.mem_core.proofs.Looking.{got}
 
@@ -15,7 +15,7 @@ pub references_change : (r : Rows) (k : ℕ) (old s : SeatRow) (f n : ℕ) → k
     ◌≡◌ {A = State} (record (state_in r) {
       references = λ m f. reference_of (slice_get (set r.seats.items k s) m) f;
       parts =
-          λ p. part_of (slice_get (set r.seats.items k s) p);
+          λ p. part_in_row (slice_get (set r.seats.items k s) p);
     }) (with_references (state_in r) k f n)
 references_change r k old s f n below read part there new =
     let xs = r.seats.items in
@@ -25,6 +25,6 @@ references_change r k old s f n below read part there new =
     let refs : (λ (m : ℕ). reference_of (slice_get (set xs k s) m)) ≡ with_at (λ m. reference_of (slice_get xs m)) k
     (with_at (reference_of (slice_get xs k)) f n) = (λ i. λ m. reference_of (got_set xs k s below i m))
     ∙ at_through reference_of (slice_get xs) k (Some s) ∙ ap (with_at (λ m. reference_of (slice_get xs m)) k) row in
-    let parts = parts_set xs k s below ∙ ap (with_at (λ p. part_of (slice_get xs p)) k) (part ∙ ap part_of (sym is))
-    ∙ at_itself (λ p. part_of (slice_get xs p)) k in
+    let parts = parts_set xs k s below ∙ ap (with_at (λ p. part_in_row (slice_get xs p)) k) (part ∙ ap part_in_row (sym is))
+    ∙ at_itself (λ p. part_in_row (slice_get xs p)) k in
     λ i. record (state_in r) { references = refs i; parts = parts i }

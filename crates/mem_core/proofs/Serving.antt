@@ -4,7 +4,7 @@ use Rattle.std.specs.Prelude.{nat_le}
 use Rattle.std.proofs.lemmas.Bool.{cases_lt, false≢true, leb-true, ltb-true, or_cases, and_parts, eqb-true, ne_eqb}
 use Rattle.step_rules.specs.declared.phase.Phase.{Phase}
 use Rattle.step_rules.specs.declared.step.Action.TheVariants.{Get, Put, TakeIn, Credit, Consume, Unfreeze}
-use Rattle.step_rules.specs.Phases.{ListFrame, FreshFrame, has_as, is_head_in_hand, is_live, passes_out}
+use Rattle.step_rules.specs.Phases.{ListFrame, FreshFrame, has_as, is_head_in_hand, is_live_phase, passes_out}
 use Rattle.step_rules.specs.declared.phase.Stage.TheVariants.{AwaitsReturn, BackAt}
 use Rattle.step_rules.specs.Phases.{at_stage}
 use Rattle.step_rules.specs.After.{with_part, with_phase, with_references, with_back, after_last}
@@ -98,11 +98,11 @@ get_few s p f legal =
     let high = leb-true p s.zone.cpus (and_parts (nat_le 1 p) (nat_le p s.zone.cpus) cpu).1 in
     sum_part (s.zone.cpus + 1) (λ seat. s.references seat f) p (omega arith)
 
-hand_not_live : (x : Phase) → is_head_in_hand x ≡ true → is_live x ≡ false
+hand_not_live : (x : Phase) → is_head_in_hand x ≡ true → is_live_phase x ≡ false
 hand_not_live x e = elim (in_hand x e) [
-  | WasCollected u is ↦ ap is_live is
-  | WasBare u is ↦ ap is_live is
-  | WasEnded u is ↦ ap is_live is
+  | WasCollected u is ↦ ap is_live_phase is
+  | WasBare u is ↦ ap is_live_phase is
+  | WasEnded u is ↦ ap is_live_phase is
 ]
 
 -- a unit in the zone's hand has no reference

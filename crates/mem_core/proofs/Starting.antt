@@ -7,7 +7,7 @@ use Rattle.std.proofs.lemmas.List.{get_or-replicate, length-replicate}
 use Rattle.std.proofs.lemmas.Option.{slice_get_within, get_or_from_slice_get}
 use Rattle.step_rules.specs.State.{no_part}
 use Rattle.mem_core.specs.declared.seat.SeatRow.{SeatRow}
-use Rattle.mem_core.specs.Rows.{part_of, reference_of}
+use Rattle.mem_core.specs.Rows.{part_in_row, reference_of}
 use Rattle.mem_core.specs.Rooms.{IsNewSeat}
 use Rattle.mem_core.proofs.Looking.{past_default}
 
@@ -26,8 +26,8 @@ found (Some s) xs k e P none some = some s e
 new_at : (frames : ℕ) (xs : List SeatRow) (k : ℕ) (s : SeatRow) → All (IsNewSeat frames) xs → slice_get xs k ≡ Some s → IsNewSeat frames s
 new_at frames xs k s all e = subst (IsNewSeat frames) (get_or_from_slice_get xs k s s e) (all k s (slice_get_within xs k s e))
 
-pub new_part : (frames : ℕ) (xs : List SeatRow) (k : ℕ) → All (IsNewSeat frames) xs → part_of (slice_get xs k) ≡ no_part
-new_part frames xs k all = found (slice_get xs k) xs k refl (λ o. part_of o ≡ no_part) refl (λ s e. (new_at frames xs k s all e).part)
+pub new_part : (frames : ℕ) (xs : List SeatRow) (k : ℕ) → All (IsNewSeat frames) xs → part_in_row (slice_get xs k) ≡ no_part
+new_part frames xs k all = found (slice_get xs k) xs k refl (λ o. part_in_row o ≡ no_part) refl (λ s e. (new_at frames xs k s all e).part)
 
 pub new_reference : (frames : ℕ) (xs : List SeatRow) (k f : ℕ) → All (IsNewSeat frames) xs → reference_of (slice_get xs k) f ≡ 0
 new_reference frames xs k f all =

@@ -16,7 +16,7 @@ use Rattle.step_rules.specs.State.{all_to, one_if, sum_to, with_at}
 use Rattle.step_rules.specs.Usage.{frames_kept, is_in_subtree}
 use Rattle.step_rules.proofs.Basics.{at_same, at_other, at_each, at_through}
 use Rattle.step_rules.proofs.Sums.{sum_same, sum_none, sum_part, sum_change, sum_swap, sum_only}
-use Rattle.mem_core.specs.Counted.{IsTally, class_in, class_of, class_size, keeper_class, moved, stage_transit_cpu, transit_class}
+use Rattle.mem_core.specs.Counted.{IsTally, class_in, class_of, class_size, keeper_class, moved_sizes, stage_transit_cpu, transit_class}
 use Rattle.mem_core.proofs.Bounding.{sum_most, one_most}
 use Rattle.mem_core.proofs.Changing.{looked_set}
 use Rattle.mem_core.proofs.Starting.{replicate_all}
@@ -80,7 +80,7 @@ at_both h a b k some =
     g = with_at h a (h a - 1)
 
 pub tally_moves : (n : ℕ) (class : ℕ → ℕ) (sizes : List ℕ) (f to : ℕ) → IsTally n class sizes → f < n → to < length sizes
-    → IsTally n (with_at class f to) (moved sizes (class f) to)
+    → IsTally n (with_at class f to) (moved_sizes sizes (class f) to)
 tally_moves n class sizes f to tally here there = record { below = below; each = each }
   where
     h : ℕ → ℕ
@@ -89,19 +89,19 @@ tally_moves n class sizes f to tally here there = record { below = below; each =
     less : List ℕ
     less = set sizes (class f) (h (class f) - 1)
 
-    len : length (moved sizes (class f) to) ≡ length sizes
+    len : length (moved_sizes sizes (class f) to) ≡ length sizes
     len = length-set less to (get_or less to 0 + 1) ∙ length-set sizes (class f) (h (class f) - 1)
 
-    below : (m : ℕ) → m < n → with_at class f to m < length (moved sizes (class f) to)
-    below = at_each class f to (λ m k. m < n → k < length (moved sizes (class f) to))
+    below : (m : ℕ) → m < n → with_at class f to m < length (moved_sizes sizes (class f) to)
+    below = at_each class f to (λ m k. m < n → k < length (moved_sizes sizes (class f) to))
         (λ b. omega (arith, len, there)) (λ m ne b. let old = tally.below m b in omega (arith, len, old))
 
-    each : (k : ℕ) → get_or (moved sizes (class f) to) k 0 ≡ class_size n (with_at class f to) k
+    each : (k : ℕ) → get_or (moved_sizes sizes (class f) to) k 0 ≡ class_size n (with_at class f to) k
     each k =
         let in_less : to < length less = omega (arith, length-set sizes (class f) (h (class f) - 1), there) in
         let first = looked_set sizes 0 (class f) (h (class f) - 1) (tally.below f here) in
         let second = looked_set less 0 to (get_or less to 0 + 1) in_less in
-        let new : get_or (moved sizes (class f) to) k 0 ≡ with_at (with_at h (class f) (h (class f) - 1)) to
+        let new : get_or (moved_sizes sizes (class f) to) k 0 ≡ with_at (with_at h (class f) (h (class f) - 1)) to
         (with_at h (class f) (h (class f) - 1) to + 1) k = (λ i. second i k) ∙ (λ i. with_at (first i) to (first i to + 1) k) in
         let both = at_both h (class f) to k (sizes_some n class sizes f tally here) in
         let through : class_size n (with_at class f to) k ≡ sum_to n (with_at (λ i. one_if (class i == k)) f (one_if (to == k))) =
@@ -242,9 +242,9 @@ rests_class cpu (Tail g) below = no_class cpu
 -- the sizes follow the change of one phase
 pub tally_set : (class : Phase → ℕ) (xs : List Phase) (sizes : List ℕ) (f : ℕ) (x : Phase)
     → IsTally (length xs) (class_in class xs) sizes → f < length xs → class x < length sizes
-    → IsTally (length (set xs f x)) (class_in class (set xs f x)) (moved sizes (class_in class xs f) (class x))
+    → IsTally (length (set xs f x)) (class_in class (set xs f x)) (moved_sizes sizes (class_in class xs f) (class x))
 tally_set class xs sizes f x tally here there =
-    let after : List ℕ = moved sizes (class_in class xs f) (class x) in
+    let after : List ℕ = moved_sizes sizes (class_in class xs f) (class x) in
     let through : class_in class (set xs f x) ≡ with_at (class_in class xs) f (class x) =
     (λ i. λ m. class (looked_set xs InZone f x here i m)) ∙ at_through class (λ m. get_or xs m InZone) f x in
     subst (λ (n : ℕ). IsTally n (class_in class (set xs f x)) after) (sym (length-set xs f x))

@@ -10,7 +10,7 @@ use Rattle.step_rules.specs.declared.step.Action.TheVariants.{Grant}
 use Rattle.step_rules.specs.declared.step.Answer.TheVariants.{Granted}
 use Rattle.step_rules.specs.State.{State}
 use Rattle.step_rules.specs.Peaks.{peak_follows}
-use Rattle.step_rules.specs.Events.{note_of, makes_group}
+use Rattle.step_rules.specs.Events.{event_of, makes_group}
 -- a group's peak, the event counts of the group and all below it, and those of the group itself
 pub use Rattle.mem_core.specs.declared.account.Account.{Account}
 
@@ -19,19 +19,19 @@ abbrev pub new_account : Account
 new_account = record { peak = 0; events = no_events; events_local = no_events }
 
 -- the account of the group in a list of accounts; beyond the list's end, that of a new group
-abbrev pub account_of : List Account → ℕ → Account
-account_of accounts g = slice_index_or accounts g new_account
+abbrev pub account_in : List Account → ℕ → Account
+account_in accounts g = slice_index_or accounts g new_account
 
 -- the counts after an event, if there is one: one more of its kind, if its group passes the test
-abbrev pub with_note : (ℕ → Bool) → Option (EventKey × ℕ) → EventCounts → EventCounts
-with_note test None events = events
-with_note test (Some note) events = if test note.1 then with_one_more note.0 events else events
+abbrev pub with_counted_event : (ℕ → Bool) → Option (EventKey × ℕ) → EventCounts → EventCounts
+with_counted_event test None events = events
+with_counted_event test (Some note) events = if test note.1 then with_one_more note.0 events else events
 
 -- the counts of group g after one more step: the step's event is added if its group passes the test; a group that the
 -- step makes has no event
 abbrev pub events_after : (ℕ → Bool) → ℕ → Action → Answer → EventCounts → EventCounts
-events_after test g step answer events = if makes_group g step answer then no_events else with_note test
-    (note_of step answer) events
+events_after test g step answer events = if makes_group g step answer then no_events else with_counted_event test
+    (event_of step answer) events
 
 -- the account of group g after one more step, which led to state t
 abbrev pub account_after : State → Action → Answer → ℕ → Account → Account
@@ -44,7 +44,7 @@ account_after t step answer g account = record {
 -- the account of each existing group is that after the step
 abbrev pub AccountsFollow : State → Action → Answer → List Account → List Account → Type 0
 AccountsFollow t step answer old new = (m : ℕ) → has_group t.groups m ≡ true
-    → account_of new m ≡ account_after t step answer m (account_of old m)
+    → account_in new m ≡ account_after t step answer m (account_in old m)
 
 -- each peak is below 2^104
 abbrev pub HaveSmallPeaks : List Account → Type 0

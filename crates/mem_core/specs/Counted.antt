@@ -46,8 +46,8 @@ pub record IsTally (n : ℕ) (class : ℕ → ℕ) (sizes : List ℕ) : Type 0 w
   pub each : (k : ℕ) → slice_index_or sizes k 0 ≡ class_size n class k
 
 -- the sizes after one frame left a class for a class
-abbrev pub moved : List ℕ → ℕ → ℕ → List ℕ
-moved sizes from to = slice_set (slice_set sizes from (slice_index_or sizes from 0 - 1)) to
+abbrev pub moved_sizes : List ℕ → ℕ → ℕ → List ℕ
+moved_sizes sizes from to = slice_set (slice_set sizes from (slice_index_or sizes from 0 - 1)) to
     (slice_index_or (slice_set sizes from (slice_index_or sizes from 0 - 1)) to 0 + 1)
 
 -- the class of each frame in a list of phases

@@ -14,8 +14,8 @@ use Rattle.step_rules.specs.Promise.{Shown, IsShown, Promise}
 use Rattle.mem_core.specs.Shown.{CoreState, state_shown}
 
 -- what a core shows, in the terms of the promise; `current` is what its reader of that name returns
-abbrev pub shown_of : CoreState → Shown
-shown_of s = record {
+abbrev pub core_shown : CoreState → Shown
+core_shown s = record {
   areas = s.areas;
   lists = λ cpu. ((state_shown s).parts cpu).list;
   keeper = λ f. keeper_of ((state_shown s).phases f);
@@ -25,8 +25,8 @@ shown_of s = record {
 }
 
 -- if the core's lock is free, the promise holds of what the core shows
-abbrev pub KeepsPromise : CoreState → Run → Type 0
-KeepsPromise s run = is_unheld s.hold ≡ true → Promise s.zone run (shown_of s)
+abbrev pub CoreKeepsPromise : CoreState → Run → Type 0
+CoreKeepsPromise s run = is_unheld s.hold ≡ true → Promise s.zone run (core_shown s)
 
 -- after each beginning of the run that leaves the lock free, the promise holds of whatever shows the state
 abbrev pub AlwaysKeepsPromise : Zone → Run → Type 0

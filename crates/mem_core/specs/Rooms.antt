@@ -3,7 +3,7 @@ use Rattle.std.specs.Prelude.{◌≡◌, ◌+◌, ◌^◌, ◌<◌, ◌≤◌, �
 use Rattle.std.specs.Prelude.{vec_capacity}
 use Rattle.group_tree.specs.Bounds.{most_groups}
 use Rattle.zone_blocks.specs.Config.{most_cpus, most_frames}
-use Rattle.step_rules.specs.Phases.{Kind, has_as, is_live}
+use Rattle.step_rules.specs.Phases.{Kind, has_as, is_live_phase}
 use Rattle.step_rules.specs.State.{State, frames_of, free_in, front_of, is_cpu, pins_of, visits}
 use Rattle.zone_blocks.specs.declared.block.Block.{Block}
 use Rattle.zone_blocks.specs.Areas.{IsFrontOfSmallest, AreMaximalBlocks}
@@ -20,7 +20,7 @@ use Rattle.mem_core.specs.Rows.{state_in, part_in}
 
 -- a seat has a number of references for each frame, and room on its list for all frames; the rules let it have no more
 -- than 32 fresh frames and 256 back frames
-pub record HasRoom (frames : ℕ) (s : SeatRow) : Type 0 where
+pub record SeatHasRoom (frames : ℕ) (s : SeatRow) : Type 0 where
   pub references : length s.references ≡ frames
   pub list : frames ≤ vec_capacity s.list
   pub fresh : 32 ≤ vec_capacity s.fresh
@@ -35,7 +35,7 @@ pub record FitsZone (r : Rows) : Type 0 where
   pub seats : vec_len r.seats ≡ r.cpus + 1
   pub killed : vec_len r.killed ≡ most_groups
   pub pending : vec_len r.pending ≡ most_groups
-  pub rooms : All (HasRoom r.frames) r.seats.items
+  pub rooms : All (SeatHasRoom r.frames) r.seats.items
 
 -- No number is near its bound. A seat has at most 255 references on a frame, and only on a live one. A book is the
 -- pages of the stock, the fresh frames, and the pages unreported and reported. Books and pending pages are at most
@@ -49,13 +49,13 @@ pub record IsBelowBounds (s : State) : Type 0 where
   pub pending : (g : ℕ) → s.pending g ≤ 2 ^ 96
   pub room : (cpu : ℕ) (kind : Kind) (f : ℕ) → f < s.zone.frames → has_as kind cpu (s.phases f) ≡ false
       → length (frames_of (s.parts cpu) kind) < s.zone.frames
-  pub live : (seat f : ℕ) → 1 ≤ s.references seat f → is_live (s.phases f) ≡ true
+  pub live : (seat f : ℕ) → 1 ≤ s.references seat f → is_live_phase (s.phases f) ≡ true
   pub front : (cpu : ℕ) → 1 ≤ length (s.parts cpu).list → front_of (s.parts cpu).list < s.zone.frames
   pub pins : (cpu : ℕ) → is_cpu s.zone cpu ≡ true → pins_of s cpu + length (s.parts cpu).back ≤ 256
   pub visitor : (cpu : ℕ) → visits cpu s.hold ≡ true → cpu ≤ s.zone.cpus
 
 -- a step that may be made gets this answer, and leaves these rows
-pub record Makes (old : Rows) (seat : ℕ) (action : Action) (answer : Answer) (new : Rows) : Type 0 where
+pub record MakesOnRows (old : Rows) (seat : ℕ) (action : Action) (answer : Answer) (new : Rows) : Type 0 where
   pub answered : IsAnswer (state_in old) seat action answer
   pub counted : IsCounted (state_in old) action answer
   pub state : state_in new ≡ after (state_in old) seat action answer

@@ -19,9 +19,9 @@ part_in s = record {
 }
 
 -- the part of a seat; if there is no seat, an empty one
-abbrev pub part_of : Option SeatRow → Part
-part_of None = no_part
-part_of (Some s) = part_in s
+abbrev pub part_in_row : Option SeatRow → Part
+part_in_row None = no_part
+part_in_row (Some s) = part_in s
 
 -- the references of a seat on a frame; 0 if there is no seat
 abbrev pub reference_of : Option SeatRow → ℕ → ℕ
@@ -37,6 +37,6 @@ state_in r = record {
   killed = λ g. slice_index_or r.killed.items g false;
   phases = λ f. slice_index_or r.phases f InZone;
   references = λ seat f. reference_of (slice_get r.seats.items seat) f;
-  parts = λ cpu. part_of (slice_get r.seats.items cpu);
+  parts = λ cpu. part_in_row (slice_get r.seats.items cpu);
   pending = λ g. slice_index_or r.pending.items g 0;
 }

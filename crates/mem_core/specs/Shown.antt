@@ -13,13 +13,13 @@ use Rattle.step_rules.specs.declared.phase.Phase.TheVariants.{InZone}
 use Rattle.step_rules.specs.State.{Zone, Part, State, no_part, free_in}
 use Rattle.step_rules.specs.After.{Run, state_of, IsLegalRun}
 use Rattle.step_rules.specs.Peaks.{IsPeak}
-use Rattle.step_rules.specs.Events.{events_of, events_local_of}
+use Rattle.step_rules.specs.Events.{events_in, events_local_in}
 use Rattle.zone_blocks.specs.declared.config.Config.{Config}
-use Rattle.mem_core.specs.Accounts.{Account, account_of}
+use Rattle.mem_core.specs.Accounts.{Account, account_in}
 
 -- the frames and the CPUs of a zone that boots with these sizes
-abbrev pub zone_of : Config → Zone
-zone_of config = record { frames = config.frames; cpus = config.cpus }
+abbrev pub zone_of_config : Config → Zone
+zone_of_config config = record { frames = config.frames; cpus = config.cpus }
 
 -- what a core shows of a seat: its references on each frame, and its part
 pub record SeatState : Type 0 where
@@ -66,14 +66,14 @@ state_shown s = record {
 
 -- for each existing group the accounts have the peak and the event counts that the run defines
 pub record AccountsMatchRun (zone : Zone) (run : Run) (accounts : List Account) : Type 0 where
-  pub peaks : (g : ℕ) → has_group (state_of zone run).groups g ≡ true → IsPeak zone run g (account_of accounts g).peak
+  pub peaks : (g : ℕ) → has_group (state_of zone run).groups g ≡ true → IsPeak zone run g (account_in accounts g).peak
   pub events : (key : EventKey) (g : ℕ) → has_group (state_of zone run).groups g ≡ true
-      → count_of (account_of accounts g).events key ≡ events_of key zone run g
+      → count_of (account_in accounts g).events key ≡ events_in key zone run g
   pub events_local : (key : EventKey) (g : ℕ) → has_group (state_of zone run).groups g ≡ true
-      → count_of (account_of accounts g).events_local key ≡ events_local_of key zone run g
+      → count_of (account_in accounts g).events_local key ≡ events_local_in key zone run g
 
 -- the run is legal, and the core is what it leads to
-pub record Shows (s : CoreState) (run : Run) : Type 0 where
+pub record ShowsRun (s : CoreState) (run : Run) : Type 0 where
   pub legal : IsLegalRun s.zone run
   pub steps : s.steps ≡ length run
   pub state : state_shown s ≡ state_of s.zone run

@@ -2,7 +2,7 @@
 
 ghost use Rattle.std.specs.Prelude.{◌≡◌, ◌^◌, ◌<◌, ◌==◌, IfOk, vec_len, replicate};
 ghost use Rattle.step_rules.specs.Peaks.{peak_follows};
-ghost use Rattle.step_rules.specs.Events.{makes_group, note_of};
+ghost use Rattle.step_rules.specs.Events.{makes_group, event_of};
 ghost use Rattle.mem_core.specs.Rows.{state_in};
 ghost use Rattle.mem_core.specs.Rooms.{FitsZone, IsBelowBounds};
 ghost use Rattle.mem_core.specs.Accounts.{new_account, account_after, events_after, AccountsFollow, HaveSmallPeaks};
@@ -33,7 +33,7 @@ pub(crate) fn new_accounts(alloc: Global) -> Result<Vec<Account>, AllocError>
 
 // The event that a step counts, and the group at which it counts it.
 fn note_of(action: &Action, answer: &Answer) -> Option<(EventKey, GroupId)>
-    ensures { result ≡ note_of action.now answer.now }
+    ensures { result ≡ event_of action.now answer.now }
 {
     match answer {
         Answer::Done => match action {

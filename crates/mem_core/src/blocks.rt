@@ -10,7 +10,7 @@ ghost use Rattle.step_rules.specs.After.{after, with_block, without_unit};
 ghost use Rattle.step_rules.specs.declared.step.Action.{Action};
 ghost use Rattle.step_rules.specs.declared.step.Answer.{Answer};
 ghost use Rattle.mem_core.specs.Rows.{state_in};
-ghost use Rattle.mem_core.specs.Rooms.{FitsZone, IsBelowBounds, Makes, PlacesFront};
+ghost use Rattle.mem_core.specs.Rooms.{FitsZone, IsBelowBounds, MakesOnRows, PlacesFront};
 
 use crate::phase_table::PhaseTable;
 use crate::phases::unit_size;
@@ -86,7 +86,7 @@ pub(crate) fn place_block(
     requires bounded { IsBelowBounds (state_in rows.old) }
     requires legal { is_legal (state_in rows.old) seat (Action.PlaceBlock group order) ≡ true }
     requires areas { AreMaximalBlocks (free_in (state_in rows.old).zone (state_in rows.old).phases) areas.now.blocks }
-    ensures made { Makes rows.old seat (Action.PlaceBlock group order) result rows.new }
+    ensures made { MakesOnRows rows.old seat (Action.PlaceBlock group order) result rows.new }
     ensures front { PlacesFront areas.now.blocks (Action.PlaceBlock group order) result }
 {
     match free_block(rows, areas, order) {
@@ -130,7 +130,7 @@ pub(crate) fn return_unit(rows: &mut Rows, seat: u32, frame: u32) -> Answer
     requires fits { FitsZone rows.old }
     requires bounded { IsBelowBounds (state_in rows.old) }
     requires legal { is_legal (state_in rows.old) seat (Action.Return frame) ≡ true }
-    ensures made { Makes rows.old seat (Action.Return frame) result rows.new }
+    ensures made { MakesOnRows rows.old seat (Action.Return frame) result rows.new }
 {
     free_unit(rows, frame);
     Answer::Done

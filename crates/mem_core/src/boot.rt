@@ -5,7 +5,7 @@ ghost use Rattle.group_tree.specs.Bounds.{most_groups};
 ghost use Rattle.step_rules.specs.State.{at_boot, free_in};
 ghost use Rattle.zone_blocks.specs.Config.{most_cpus, most_frames};
 ghost use Rattle.mem_core.specs.Rows.{state_in};
-ghost use Rattle.mem_core.specs.Rooms.{FitsZone, HasRoom, IsNewSeat};
+ghost use Rattle.mem_core.specs.Rooms.{FitsZone, SeatHasRoom, IsNewSeat};
 
 use crate::phase_table::PhaseTable;
 use crate::phases::is_free;
@@ -21,7 +21,7 @@ fn new_seats(alloc: Global, frames: u32, cpus: u32) -> Result<Vec<SeatRow>, Allo
     requires frames { frames ≤ most_frames }
     requires cpus { cpus ≤ most_cpus }
     ensures number { IfOk result (λ seats. vec_len seats ≡ cpus + 1) }
-    ensures rooms { IfOk result (λ seats. All (HasRoom frames) seats.items) }
+    ensures rooms { IfOk result (λ seats. All (SeatHasRoom frames) seats.items) }
     ensures none { IfOk result (λ seats. All (IsNewSeat frames) seats.items) }
 {
     let mut seats = Vec::with_capacity(alloc, cpus as usize + 1)?;

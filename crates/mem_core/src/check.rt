@@ -2,7 +2,7 @@
 
 ghost use Rattle.std.specs.Prelude.{◌≡◌, ◌↔◌, IfOk};
 ghost use Rattle.step_rules.specs.After.{IsLegalRun};
-ghost use Rattle.mem_core.specs.Shown.{zone_of};
+ghost use Rattle.mem_core.specs.Shown.{zone_of_config};
 ghost use Rattle.mem_core.specs.Promise.{AlwaysKeepsPromise};
 ghost use Rattle.mem_core.specs.Checked.{IsVerdict};
 ghost use Rattle.mem_core.specs.declared.verdict.Verdict.TheVariants.{Legal};
@@ -22,9 +22,9 @@ use zone_blocks::config::Config;
 /// only if memory runs out; no clause says so, it was read in the code.
 pub fn check(alloc: Global, config: Config, log: &[(Step, Answer)]) -> Result<Verdict, AllocError>
     requires { IsValidConfig config }
-    ensures verdict { IfOk result (IsVerdict (zone_of config) log.now) }
-    ensures legal { IfOk result (λ verdict. (verdict ≡ Legal) ↔ IsLegalRun (zone_of config) log.now) }
-    ensures promise { IfOk result (λ verdict. verdict ≡ Legal → AlwaysKeepsPromise (zone_of config) log.now) }
+    ensures verdict { IfOk result (IsVerdict (zone_of_config config) log.now) }
+    ensures legal { IfOk result (λ verdict. (verdict ≡ Legal) ↔ IsLegalRun (zone_of_config config) log.now) }
+    ensures promise { IfOk result (λ verdict. verdict ≡ Legal → AlwaysKeepsPromise (zone_of_config config) log.now) }
 {
     let mut checker = Checker::new(alloc, config)?;
     for (index, (step, answer)) in log.iter().enumerate() {

@@ -8,7 +8,7 @@ ghost use Rattle.step_rules.specs.declared.step.Answer.TheVariants.{Placed};
 ghost use Rattle.group_tree.specs.Groups.{AreGroups};
 ghost use Rattle.mem_core.specs.Rows.{state_in};
 ghost use Rattle.mem_core.specs.Rooms.{AreasFor, FitsZone, IsBelowBounds};
-ghost use Rattle.mem_core.specs.Shown.{state_shown, zone_of};
+ghost use Rattle.mem_core.specs.Shown.{state_shown, zone_of_config};
 ghost use Rattle.mem_core.specs.Checked.{Leads};
 ghost use Rattle.zone_blocks.specs.Config.{IsValidConfig};
 
@@ -167,7 +167,7 @@ impl Checker {
     /// that its steps need. Of the sizes only the frames and the CPUs matter.
     pub fn new(alloc: Global, config: Config) -> Result<Checker, AllocError>
         requires { IsValidConfig config }
-        ensures state { IfOk result (λ checker. state_shown checker ≡ at_boot (zone_of config)) }
+        ensures state { IfOk result (λ checker. state_shown checker ≡ at_boot (zone_of_config config)) }
         ensures steps { IfOk result (λ checker. checker.steps ≡ 0) }
     {
         let rows = Rows::new(alloc, config.frames, config.cpus)?;

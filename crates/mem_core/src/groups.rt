@@ -4,7 +4,7 @@ ghost use Rattle.std.specs.Prelude.{◌≡◌, ◌≢◌, ◌+◌, ◌-◌, ◌<
 ghost use Rattle.step_rules.specs.Legal.{is_legal};
 ghost use Rattle.step_rules.specs.declared.step.Action.{Action};
 ghost use Rattle.mem_core.specs.Rows.{state_in};
-ghost use Rattle.mem_core.specs.Rooms.{FitsZone, IsBelowBounds, Makes};
+ghost use Rattle.mem_core.specs.Rooms.{FitsZone, IsBelowBounds, MakesOnRows};
 
 use crate::rows::Rows;
 use group_tree::group::GroupId;
@@ -16,7 +16,7 @@ pub(crate) fn grant(rows: &mut Rows, seat: u32, group: GroupId, pages: u32) -> A
     requires fits { FitsZone rows.old }
     requires bounded { IsBelowBounds (state_in rows.old) }
     requires legal { is_legal (state_in rows.old) seat (Action.Grant group pages) ≡ true }
-    ensures made { Makes rows.old seat (Action.Grant group pages) result rows.new }
+    ensures made { MakesOnRows rows.old seat (Action.Grant group pages) result rows.new }
 {
     if let Some(over) = rows.lowest_over(group, pages) {
         return Answer::Over(over);
@@ -31,7 +31,7 @@ pub(crate) fn ungrant(rows: &mut Rows, seat: u32, group: GroupId, pages: u32) ->
     requires fits { FitsZone rows.old }
     requires bounded { IsBelowBounds (state_in rows.old) }
     requires legal { is_legal (state_in rows.old) seat (Action.Ungrant group pages) ≡ true }
-    ensures made { Makes rows.old seat (Action.Ungrant group pages) result rows.new }
+    ensures made { MakesOnRows rows.old seat (Action.Ungrant group pages) result rows.new }
 {
     let left = rows.pending(group) - u128::from(pages);
     rows.set_pending(group, left);
@@ -43,7 +43,7 @@ pub(crate) fn note_max(rows: &mut Rows, seat: u32, group: GroupId) -> Answer
     requires fits { FitsZone rows.old }
     requires bounded { IsBelowBounds (state_in rows.old) }
     requires legal { is_legal (state_in rows.old) seat (Action.NoteMax group) ≡ true }
-    ensures made { Makes rows.old seat (Action.NoteMax group) result rows.new }
+    ensures made { MakesOnRows rows.old seat (Action.NoteMax group) result rows.new }
 {
     Answer::Done
 }
@@ -53,7 +53,7 @@ pub(crate) fn note_oom(rows: &mut Rows, seat: u32, group: GroupId) -> Answer
     requires fits { FitsZone rows.old }
     requires bounded { IsBelowBounds (state_in rows.old) }
     requires legal { is_legal (state_in rows.old) seat (Action.NoteOom group) ≡ true }
-    ensures made { Makes rows.old seat (Action.NoteOom group) result rows.new }
+    ensures made { MakesOnRows rows.old seat (Action.NoteOom group) result rows.new }
 {
     Answer::Done
 }
@@ -63,7 +63,7 @@ pub(crate) fn note_group_kill(rows: &mut Rows, seat: u32, group: GroupId) -> Ans
     requires fits { FitsZone rows.old }
     requires bounded { IsBelowBounds (state_in rows.old) }
     requires legal { is_legal (state_in rows.old) seat (Action.NoteGroupKill group) ≡ true }
-    ensures made { Makes rows.old seat (Action.NoteGroupKill group) result rows.new }
+    ensures made { MakesOnRows rows.old seat (Action.NoteGroupKill group) result rows.new }
 {
     Answer::Done
 }
@@ -73,7 +73,7 @@ pub(crate) fn set_max(rows: &mut Rows, seat: u32, group: GroupId, limit: Option<
     requires fits { FitsZone rows.old }
     requires bounded { IsBelowBounds (state_in rows.old) }
     requires legal { is_legal (state_in rows.old) seat (Action.SetMax group limit) ≡ true }
-    ensures made { Makes rows.old seat (Action.SetMax group limit) result rows.new }
+    ensures made { MakesOnRows rows.old seat (Action.SetMax group limit) result rows.new }
 {
     rows.tree.set_max(group, limit);
     Answer::Done
@@ -84,7 +84,7 @@ pub(crate) fn set_flag(rows: &mut Rows, seat: u32, group: GroupId, oom_group: bo
     requires fits { FitsZone rows.old }
     requires bounded { IsBelowBounds (state_in rows.old) }
     requires legal { is_legal (state_in rows.old) seat (Action.SetFlag group oom_group) ≡ true }
-    ensures made { Makes rows.old seat (Action.SetFlag group oom_group) result rows.new }
+    ensures made { MakesOnRows rows.old seat (Action.SetFlag group oom_group) result rows.new }
 {
     rows.tree.set_oom_group(group, oom_group);
     Answer::Done
@@ -95,7 +95,7 @@ pub(crate) fn make(rows: &mut Rows, seat: u32, path: &PathText) -> Answer
     requires fits { FitsZone rows.old }
     requires bounded { IsBelowBounds (state_in rows.old) }
     requires legal { is_legal (state_in rows.old) seat (Action.Make path.now) ≡ true }
-    ensures made { Makes rows.old seat (Action.Make path.now) result rows.new }
+    ensures made { MakesOnRows rows.old seat (Action.Make path.now) result rows.new }
 {
     let group = rows.tree.make(path.as_bytes()).unwrap();
     rows.set_killed(group, false);
@@ -107,7 +107,7 @@ pub(crate) fn remove(rows: &mut Rows, seat: u32, group: GroupId) -> Answer
     requires fits { FitsZone rows.old }
     requires bounded { IsBelowBounds (state_in rows.old) }
     requires legal { is_legal (state_in rows.old) seat (Action.Remove group) ≡ true }
-    ensures made { Makes rows.old seat (Action.Remove group) result rows.new }
+    ensures made { MakesOnRows rows.old seat (Action.Remove group) result rows.new }
 {
     rows.tree.remove(group);
     Answer::Done
@@ -118,7 +118,7 @@ pub(crate) fn kill(rows: &mut Rows, seat: u32, group: GroupId) -> Answer
     requires fits { FitsZone rows.old }
     requires bounded { IsBelowBounds (state_in rows.old) }
     requires legal { is_legal (state_in rows.old) seat (Action.Kill group) ≡ true }
-    ensures made { Makes rows.old seat (Action.Kill group) result rows.new }
+    ensures made { MakesOnRows rows.old seat (Action.Kill group) result rows.new }
 {
     rows.set_killed(group, true);
     Answer::Done

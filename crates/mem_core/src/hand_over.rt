@@ -4,7 +4,7 @@ ghost use Rattle.std.specs.Prelude.{◌≡◌, ◌≢◌, ◌+◌, ◌-◌, ◌<
 ghost use Rattle.step_rules.specs.Legal.{is_legal};
 ghost use Rattle.step_rules.specs.declared.step.Action.{Action};
 ghost use Rattle.mem_core.specs.Rows.{state_in};
-ghost use Rattle.mem_core.specs.Rooms.{FitsZone, IsBelowBounds, Makes};
+ghost use Rattle.mem_core.specs.Rooms.{FitsZone, IsBelowBounds, MakesOnRows};
 
 use crate::phases::{collected, is_fresh_at, passed_back};
 use crate::rows::Rows;
@@ -16,7 +16,7 @@ pub(crate) fn pass_out(rows: &mut Rows, seat: u32, frame: u32, cpu: u32) -> Answ
     requires fits { FitsZone rows.old }
     requires bounded { IsBelowBounds (state_in rows.old) }
     requires legal { is_legal (state_in rows.old) seat (Action.PassOut frame cpu) ≡ true }
-    ensures made { Makes rows.old seat (Action.PassOut frame cpu) result rows.new }
+    ensures made { MakesOnRows rows.old seat (Action.PassOut frame cpu) result rows.new }
 {
     rows.set_phase(
         frame,
@@ -33,7 +33,7 @@ pub(crate) fn take_in(rows: &mut Rows, seat: u32, frame: u32) -> Answer
     requires fits { FitsZone rows.old }
     requires bounded { IsBelowBounds (state_in rows.old) }
     requires legal { is_legal (state_in rows.old) seat (Action.TakeIn frame) ≡ true }
-    ensures made { Makes rows.old seat (Action.TakeIn frame) result rows.new }
+    ensures made { MakesOnRows rows.old seat (Action.TakeIn frame) result rows.new }
 {
     rows.set_phase(
         frame,
@@ -51,7 +51,7 @@ pub(crate) fn pass_back(rows: &mut Rows, seat: u32, frame: u32) -> Answer
     requires fits { FitsZone rows.old }
     requires bounded { IsBelowBounds (state_in rows.old) }
     requires legal { is_legal (state_in rows.old) seat (Action.PassBack frame) ≡ true }
-    ensures made { Makes rows.old seat (Action.PassBack frame) result rows.new }
+    ensures made { MakesOnRows rows.old seat (Action.PassBack frame) result rows.new }
 {
     let was_fresh = is_fresh_at(rows.phase(frame), seat);
     let phase = passed_back(rows.phase(frame));
@@ -65,7 +65,7 @@ pub(crate) fn collect(rows: &mut Rows, seat: u32, frame: u32, cpu: u32) -> Answe
     requires fits { FitsZone rows.old }
     requires bounded { IsBelowBounds (state_in rows.old) }
     requires legal { is_legal (state_in rows.old) seat (Action.Collect frame cpu) ≡ true }
-    ensures made { Makes rows.old seat (Action.Collect frame cpu) result rows.new }
+    ensures made { MakesOnRows rows.old seat (Action.Collect frame cpu) result rows.new }
 {
     let phase = collected(rows.phase(frame));
     rows.set_phase(frame, phase);

@@ -4,7 +4,7 @@ ghost use Rattle.std.specs.Prelude.{◌≡◌, ◌≢◌, ◌+◌, ◌-◌, ◌<
 ghost use Rattle.step_rules.specs.Legal.{is_legal};
 ghost use Rattle.step_rules.specs.declared.step.Action.{Action};
 ghost use Rattle.mem_core.specs.Rows.{state_in};
-ghost use Rattle.mem_core.specs.Rooms.{FitsZone, IsBelowBounds, Makes};
+ghost use Rattle.mem_core.specs.Rooms.{FitsZone, IsBelowBounds, MakesOnRows};
 
 use crate::rows::Rows;
 use step_rules::phase::Hold;
@@ -15,7 +15,7 @@ pub(crate) fn lock(rows: &mut Rows, seat: u32) -> Answer
     requires fits { FitsZone rows.old }
     requires bounded { IsBelowBounds (state_in rows.old) }
     requires legal { is_legal (state_in rows.old) seat Action.Lock ≡ true }
-    ensures made { Makes rows.old seat Action.Lock result rows.new }
+    ensures made { MakesOnRows rows.old seat Action.Lock result rows.new }
 {
     rows.set_hold(Hold::HeldBy(seat));
     Answer::Done
@@ -26,7 +26,7 @@ pub(crate) fn unlock(rows: &mut Rows, seat: u32) -> Answer
     requires fits { FitsZone rows.old }
     requires bounded { IsBelowBounds (state_in rows.old) }
     requires legal { is_legal (state_in rows.old) seat Action.Unlock ≡ true }
-    ensures made { Makes rows.old seat Action.Unlock result rows.new }
+    ensures made { MakesOnRows rows.old seat Action.Unlock result rows.new }
 {
     rows.set_hold(Hold::Unheld);
     Answer::Done
@@ -37,7 +37,7 @@ pub(crate) fn open_visit(rows: &mut Rows, seat: u32, cpu: u32) -> Answer
     requires fits { FitsZone rows.old }
     requires bounded { IsBelowBounds (state_in rows.old) }
     requires legal { is_legal (state_in rows.old) seat (Action.OpenVisit cpu) ≡ true }
-    ensures made { Makes rows.old seat (Action.OpenVisit cpu) result rows.new }
+    ensures made { MakesOnRows rows.old seat (Action.OpenVisit cpu) result rows.new }
 {
     rows.set_hold(Hold::Visiting(cpu));
     Answer::Done
@@ -48,7 +48,7 @@ pub(crate) fn shut_visit(rows: &mut Rows, seat: u32, cpu: u32) -> Answer
     requires fits { FitsZone rows.old }
     requires bounded { IsBelowBounds (state_in rows.old) }
     requires legal { is_legal (state_in rows.old) seat (Action.ShutVisit cpu) ≡ true }
-    ensures made { Makes rows.old seat (Action.ShutVisit cpu) result rows.new }
+    ensures made { MakesOnRows rows.old seat (Action.ShutVisit cpu) result rows.new }
 {
     rows.set_hold(Hold::HeldBy(cpu));
     Answer::Done

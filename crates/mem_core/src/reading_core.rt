@@ -6,8 +6,8 @@ ghost use Rattle.step_rules.specs.declared.step.Answer.TheVariants.{Illegal};
 ghost use Rattle.step_rules.specs.Legal.{Allows};
 ghost use Rattle.step_rules.specs.Peaks.{UsageMoves};
 ghost use Rattle.step_rules.specs.After.{Run, after};
-ghost use Rattle.mem_core.specs.Shown.{CoreState, Shows, state_shown, zone_of, HasMaximalAreas};
-ghost use Rattle.mem_core.specs.Promise.{PlacesFrontIn, KeepsPromise};
+ghost use Rattle.mem_core.specs.Shown.{CoreState, ShowsRun, state_shown, zone_of_config, HasMaximalAreas};
+ghost use Rattle.mem_core.specs.Promise.{PlacesFrontIn, CoreKeepsPromise};
 ghost use Rattle.zone_blocks.specs.Config.{IsValidConfig};
 
 mod readers;
@@ -51,8 +51,8 @@ impl Core {
     /// its steps need. Of the sizes only the frames and the CPUs matter.
     pub fn new(alloc: Global, config: Config) -> Result<Core, AllocError>
         requires { IsValidConfig config }
-        ensures zone { IfOk result (λ core. core.zone ≡ zone_of config) }
-        ensures empty { IfOk result (λ core. Shows core []) }
+        ensures zone { IfOk result (λ core. core.zone ≡ zone_of_config config) }
+        ensures empty { IfOk result (λ core. ShowsRun core []) }
         ensures areas { IfOk result HasMaximalAreas }
     {
         let rows = Rows::new(alloc, config.frames, config.cpus)?;
@@ -76,8 +76,8 @@ impl Core {
         ensures allowed { Allows (state_shown self.old) step.seat step.action result }
         ensures state { state_shown self.new ≡ after (state_shown self.old) step.seat step.action result }
         ensures steps { self.new.steps ≡ self.old.steps + 1 }
-        ensures shows { (run : Run) → Shows self.old run → Shows self.new (run ++ (step, result) ∷ []) }
-        ensures promise { (run : Run) → Shows self.old run → KeepsPromise self.new (run ++ (step, result) ∷ []) }
+        ensures shows { (run : Run) → ShowsRun self.old run → ShowsRun self.new (run ++ (step, result) ∷ []) }
+        ensures promise { (run : Run) → ShowsRun self.old run → CoreKeepsPromise self.new (run ++ (step, result) ∷ []) }
         ensures first { PlacesFrontIn (state_shown self.old) step.action result }
         ensures zone { self.new.zone ≡ self.old.zone }
         ensures areas { HasMaximalAreas self.new }

@@ -4,7 +4,7 @@ ghost use Rattle.std.specs.Prelude.{◌≡◌, ◌≢◌, ◌+◌, ◌-◌, ◌<
 ghost use Rattle.step_rules.specs.Legal.{is_legal};
 ghost use Rattle.step_rules.specs.declared.step.Action.{Action};
 ghost use Rattle.mem_core.specs.Rows.{state_in};
-ghost use Rattle.mem_core.specs.Rooms.{FitsZone, IsBelowBounds, Makes};
+ghost use Rattle.mem_core.specs.Rooms.{FitsZone, IsBelowBounds, MakesOnRows};
 ghost use Rattle.step_rules.specs.State.{live_references};
 
 use crate::phases::at_stage;
@@ -17,7 +17,7 @@ pub(crate) fn get(rows: &mut Rows, seat: u32, frame: u32) -> Answer
     requires fits { FitsZone rows.old }
     requires bounded { IsBelowBounds (state_in rows.old) }
     requires legal { is_legal (state_in rows.old) seat (Action.Get frame) ≡ true }
-    ensures made { Makes rows.old seat (Action.Get frame) result rows.new }
+    ensures made { MakesOnRows rows.old seat (Action.Get frame) result rows.new }
 {
     let live = rows.live_references(frame);
     if 1 <= live && live <= 254 {
@@ -37,7 +37,7 @@ pub(crate) fn put(rows: &mut Rows, seat: u32, frame: u32) -> Answer
     requires fits { FitsZone rows.old }
     requires bounded { IsBelowBounds (state_in rows.old) }
     requires legal { is_legal (state_in rows.old) seat (Action.Put frame) ≡ true }
-    ensures made { Makes rows.old seat (Action.Put frame) result rows.new }
+    ensures made { MakesOnRows rows.old seat (Action.Put frame) result rows.new }
 {
     let live = rows.live_references(frame);
     if live != 1 {
@@ -59,7 +59,7 @@ pub(crate) fn put_last(rows: &mut Rows, seat: u32, frame: u32) -> Answer
     requires legal { is_legal (state_in rows.old) seat (Action.Put frame) ≡ true }
     requires last { live_references (state_in rows.old) frame ≡ 1 }
     requires zone { seat ≡ 0 }
-    ensures made { Makes rows.old seat (Action.Put frame) result rows.new }
+    ensures made { MakesOnRows rows.old seat (Action.Put frame) result rows.new }
 {
     let count = rows.references(0, frame) - 1;
     let phase = at_stage(Stage::AwaitsReturn, rows.phase(frame));
@@ -75,7 +75,7 @@ pub(crate) fn put_last_at(rows: &mut Rows, seat: u32, frame: u32) -> Answer
     requires legal { is_legal (state_in rows.old) seat (Action.Put frame) ≡ true }
     requires last { live_references (state_in rows.old) frame ≡ 1 }
     requires cpu { seat ≢ 0 }
-    ensures made { Makes rows.old seat (Action.Put frame) result rows.new }
+    ensures made { MakesOnRows rows.old seat (Action.Put frame) result rows.new }
 {
     let count = rows.references(seat, frame) - 1;
     let phase = at_stage(Stage::BackAt(seat), rows.phase(frame));
@@ -90,7 +90,7 @@ pub(crate) fn freeze(rows: &mut Rows, seat: u32, frame: u32, count: u32) -> Answ
     requires fits { FitsZone rows.old }
     requires bounded { IsBelowBounds (state_in rows.old) }
     requires legal { is_legal (state_in rows.old) seat (Action.Freeze frame count) ≡ true }
-    ensures made { Makes rows.old seat (Action.Freeze frame count) result rows.new }
+    ensures made { MakesOnRows rows.old seat (Action.Freeze frame count) result rows.new }
 {
     if rows.live_references(frame) != count {
         return Answer::Missed;
@@ -107,7 +107,7 @@ pub(crate) fn unfreeze(rows: &mut Rows, seat: u32, frame: u32, count: u32) -> An
     requires fits { FitsZone rows.old }
     requires bounded { IsBelowBounds (state_in rows.old) }
     requires legal { is_legal (state_in rows.old) seat (Action.Unfreeze frame count) ≡ true }
-    ensures made { Makes rows.old seat (Action.Unfreeze frame count) result rows.new }
+    ensures made { MakesOnRows rows.old seat (Action.Unfreeze frame count) result rows.new }
 {
     let more = rows.references(0, frame) + count;
     let phase = at_stage(Stage::Live, rows.phase(frame));
@@ -121,7 +121,7 @@ pub(crate) fn publish(rows: &mut Rows, seat: u32, frame: u32) -> Answer
     requires fits { FitsZone rows.old }
     requires bounded { IsBelowBounds (state_in rows.old) }
     requires legal { is_legal (state_in rows.old) seat (Action.Publish frame) ≡ true }
-    ensures made { Makes rows.old seat (Action.Publish frame) result rows.new }
+    ensures made { MakesOnRows rows.old seat (Action.Publish frame) result rows.new }
 {
     Answer::Done
 }

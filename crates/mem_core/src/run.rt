@@ -3,8 +3,8 @@
 ghost use Rattle.std.specs.Prelude.{◌≡◌, ◌≤◌, IfOk, length};
 ghost use Rattle.std.specs.List.{zip};
 ghost use Rattle.step_rules.specs.After.{IsLegalRun};
-ghost use Rattle.mem_core.specs.Shown.{Shows, zone_of, HasMaximalAreas};
-ghost use Rattle.mem_core.specs.Promise.{KeepsPromise, AlwaysKeepsPromise, AlwaysPlacesFirst};
+ghost use Rattle.mem_core.specs.Shown.{ShowsRun, zone_of_config, HasMaximalAreas};
+ghost use Rattle.mem_core.specs.Promise.{CoreKeepsPromise, AlwaysKeepsPromise, AlwaysPlacesFirst};
 ghost use Rattle.zone_blocks.specs.Config.{IsValidConfig};
 
 use crate::reading_core::Core;
@@ -33,12 +33,12 @@ pub struct Played {
 pub fn play(alloc: Global, config: Config, steps: &[Step]) -> Result<Played, AllocError>
     requires { IsValidConfig config }
     ensures one_each { IfOk result (λ p. length p.answers.items ≡ length steps.now) }
-    ensures zone { IfOk result (λ p. p.core.zone ≡ zone_of config) }
-    ensures shows { IfOk result (λ p. Shows p.core (zip steps.now p.answers.items)) }
+    ensures zone { IfOk result (λ p. p.core.zone ≡ zone_of_config config) }
+    ensures shows { IfOk result (λ p. ShowsRun p.core (zip steps.now p.answers.items)) }
     ensures areas { IfOk result (λ p. HasMaximalAreas p.core) }
-    ensures promise { IfOk result (λ p. AlwaysKeepsPromise (zone_of config) (zip steps.now p.answers.items)) }
-    ensures promise_shown { IfOk result (λ p. KeepsPromise p.core (zip steps.now p.answers.items)) }
-    ensures first { IfOk result (λ p. AlwaysPlacesFirst (zone_of config) (zip steps.now p.answers.items)) }
+    ensures promise { IfOk result (λ p. AlwaysKeepsPromise (zone_of_config config) (zip steps.now p.answers.items)) }
+    ensures promise_shown { IfOk result (λ p. CoreKeepsPromise p.core (zip steps.now p.answers.items)) }
+    ensures first { IfOk result (λ p. AlwaysPlacesFirst (zone_of_config config) (zip steps.now p.answers.items)) }
 {
     let mut core = Core::new(alloc, config)?;
     let mut answers = Vec::with_capacity(alloc, steps.len())?;
@@ -57,9 +57,9 @@ pub fn play(alloc: Global, config: Config, steps: &[Step]) -> Result<Played, All
 pub fn run(alloc: Global, config: Config, steps: &[Step]) -> Result<Vec<Answer>, AllocError>
     requires { IsValidConfig config }
     ensures one_each { IfOk result (λ answers. length answers.items ≡ length steps.now) }
-    ensures legal { IfOk result (λ answers. IsLegalRun (zone_of config) (zip steps.now answers.items)) }
-    ensures promise { IfOk result (λ answers. AlwaysKeepsPromise (zone_of config) (zip steps.now answers.items)) }
-    ensures first { IfOk result (λ answers. AlwaysPlacesFirst (zone_of config) (zip steps.now answers.items)) }
+    ensures legal { IfOk result (λ answers. IsLegalRun (zone_of_config config) (zip steps.now answers.items)) }
+    ensures promise { IfOk result (λ answers. AlwaysKeepsPromise (zone_of_config config) (zip steps.now answers.items)) }
+    ensures first { IfOk result (λ answers. AlwaysPlacesFirst (zone_of_config config) (zip steps.now answers.items)) }
 {
     let Played { core: _, answers } = play(alloc, config, steps)?;
     Ok(answers)

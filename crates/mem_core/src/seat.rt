@@ -7,7 +7,7 @@ ghost use Rattle.step_rules.specs.After.{with_listed, with_unlisted, paid, credi
 ghost use Rattle.step_rules.specs.After.{filled, drained};
 ghost use Rattle.zone_blocks.specs.Config.{most_frames};
 ghost use Rattle.mem_core.specs.Rows.{part_in};
-ghost use Rattle.mem_core.specs.Rooms.{HasRoom, KeepsCapacity, KeepsRoom};
+ghost use Rattle.mem_core.specs.Rooms.{SeatHasRoom, KeepsCapacity, KeepsRoom};
 
 use crate::reference_counts::ReferenceCounts;
 use group_tree::group::GroupId;
@@ -176,7 +176,7 @@ pub(crate) fn new_seat(alloc: Global, frames: u32) -> Result<SeatRow, AllocError
     requires { frames ≤ most_frames }
     ensures part { IfOk result (λ s. part_in s ≡ no_part) }
     ensures none { IfOk result (λ s. s.references ≡ replicate frames 0) }
-    ensures room { IfOk result (HasRoom frames) }
+    ensures room { IfOk result (SeatHasRoom frames) }
 {
     let count = frames as usize;
     let references = ReferenceCounts::new(alloc, frames)?;

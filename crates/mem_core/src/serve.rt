@@ -5,7 +5,7 @@ ghost use Rattle.step_rules.specs.declared.step.Answer.TheVariants.{Illegal};
 ghost use Rattle.step_rules.specs.Legal.{is_legal, Allows};
 ghost use Rattle.step_rules.specs.After.{after};
 ghost use Rattle.mem_core.specs.Rows.{state_in};
-ghost use Rattle.mem_core.specs.Rooms.{AreasFor, FitsZone, IsBelowBounds, Makes, PlacesFront, pages_asked};
+ghost use Rattle.mem_core.specs.Rooms.{AreasFor, FitsZone, IsBelowBounds, MakesOnRows, PlacesFront, pages_asked};
 
 use crate::blocks::{place_block, return_unit};
 use crate::groups::{
@@ -44,7 +44,7 @@ fn make_step(rows: &mut Rows, areas: &FreeAreas, step: &Step) -> Answer
     requires bounded { IsBelowBounds (state_in rows.old) }
     requires areas { AreasFor (state_in rows.old) step.now.action areas.now.blocks }
     requires legal { is_legal (state_in rows.old) step.now.seat step.now.action ≡ true }
-    ensures made { Makes rows.old step.now.seat step.now.action result rows.new }
+    ensures made { MakesOnRows rows.old step.now.seat step.now.action result rows.new }
     ensures front { PlacesFront areas.now.blocks step.now.action result }
 {
     let seat = step.seat;

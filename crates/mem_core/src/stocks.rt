@@ -5,7 +5,7 @@ ghost use Rattle.step_rules.specs.After.{with_more};
 ghost use Rattle.step_rules.specs.Legal.{is_legal};
 ghost use Rattle.step_rules.specs.declared.step.Action.{Action};
 ghost use Rattle.mem_core.specs.Rows.{state_in};
-ghost use Rattle.mem_core.specs.Rooms.{FitsZone, IsBelowBounds, Makes};
+ghost use Rattle.mem_core.specs.Rooms.{FitsZone, IsBelowBounds, MakesOnRows};
 
 use crate::rows::Rows;
 use crate::sums::is_of_group;
@@ -26,7 +26,7 @@ pub(crate) fn consume(rows: &mut Rows, seat: u32, group: GroupId) -> Answer
     requires fits { FitsZone rows.old }
     requires bounded { IsBelowBounds (state_in rows.old) }
     requires legal { is_legal (state_in rows.old) seat (Action.Consume group) ≡ true }
-    ensures made { Makes rows.old seat (Action.Consume group) result rows.new }
+    ensures made { MakesOnRows rows.old seat (Action.Consume group) result rows.new }
 {
     if !is_of_group(rows.stock_group(seat), group) {
         return Answer::OtherGroup;
@@ -48,7 +48,7 @@ pub(crate) fn take_front(rows: &mut Rows, seat: u32, group: GroupId) -> Answer
     requires of { ((state_in rows.old).parts seat).stock.group ≡ Some group }
     requires undrained { ((state_in rows.old).parts seat).stock.is_drained ≡ false }
     requires page { 1 ≤ ((state_in rows.old).parts seat).stock.pages }
-    ensures made { Makes rows.old seat (Action.Consume group) result rows.new }
+    ensures made { MakesOnRows rows.old seat (Action.Consume group) result rows.new }
 {
     let unit = ChargedUnit {
         group,
@@ -71,7 +71,7 @@ pub(crate) fn credit(rows: &mut Rows, seat: u32, frame: u32) -> Answer
     requires fits { FitsZone rows.old }
     requires bounded { IsBelowBounds (state_in rows.old) }
     requires legal { is_legal (state_in rows.old) seat (Action.Credit frame) ≡ true }
-    ensures made { Makes rows.old seat (Action.Credit frame) result rows.new }
+    ensures made { MakesOnRows rows.old seat (Action.Credit frame) result rows.new }
 {
     if rows.is_drained(seat) {
         return Answer::Drained;
@@ -92,7 +92,7 @@ pub(crate) fn report(rows: &mut Rows, seat: u32, pages: u32) -> Answer
     requires fits { FitsZone rows.old }
     requires bounded { IsBelowBounds (state_in rows.old) }
     requires legal { is_legal (state_in rows.old) seat (Action.Report pages) ≡ true }
-    ensures made { Makes rows.old seat (Action.Report pages) result rows.new }
+    ensures made { MakesOnRows rows.old seat (Action.Report pages) result rows.new }
 {
     rows.report_pages(seat, pages);
     Answer::Done
@@ -103,7 +103,7 @@ pub(crate) fn absorb(rows: &mut Rows, seat: u32, cpu: u32) -> Answer
     requires fits { FitsZone rows.old }
     requires bounded { IsBelowBounds (state_in rows.old) }
     requires legal { is_legal (state_in rows.old) seat (Action.Absorb cpu) ≡ true }
-    ensures made { Makes rows.old seat (Action.Absorb cpu) result rows.new }
+    ensures made { MakesOnRows rows.old seat (Action.Absorb cpu) result rows.new }
 {
     let pages = rows.absorb_pages(cpu);
     Answer::Pages(pages)
@@ -114,7 +114,7 @@ pub(crate) fn fill(rows: &mut Rows, seat: u32, cpu: u32, group: GroupId, pages: 
     requires fits { FitsZone rows.old }
     requires bounded { IsBelowBounds (state_in rows.old) }
     requires legal { is_legal (state_in rows.old) seat (Action.Fill cpu group pages) ≡ true }
-    ensures made { Makes rows.old seat (Action.Fill cpu group pages) result rows.new }
+    ensures made { MakesOnRows rows.old seat (Action.Fill cpu group pages) result rows.new }
 {
     let left = rows.pending(group) - u128::from(pages);
     rows.set_pending(group, left);
@@ -127,7 +127,7 @@ pub(crate) fn drain_stock(rows: &mut Rows, seat: u32, cpu: u32) -> Answer
     requires fits { FitsZone rows.old }
     requires bounded { IsBelowBounds (state_in rows.old) }
     requires legal { is_legal (state_in rows.old) seat (Action.DrainStock cpu) ≡ true }
-    ensures made { Makes rows.old seat (Action.DrainStock cpu) result rows.new }
+    ensures made { MakesOnRows rows.old seat (Action.DrainStock cpu) result rows.new }
 {
     let of = rows.stock_group(cpu);
     let pages = rows.drain_stock(cpu);

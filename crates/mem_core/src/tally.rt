@@ -4,7 +4,7 @@ ghost use Rattle.std.specs.Prelude.{◌≡◌, ◌<◌, ◌≤◌, ℕ, IfOk, re
 ghost use Rattle.std.specs.List.{slice_index_or};
 ghost use Rattle.step_rules.specs.Phases.{keeper_of};
 ghost use Rattle.zone_blocks.specs.Config.{most_cpus, most_frames};
-ghost use Rattle.mem_core.specs.Counted.{keeper_class, moved, stage_transit_cpu, transit_class, transit_cpu};
+ghost use Rattle.mem_core.specs.Counted.{keeper_class, moved_sizes, stage_transit_cpu, transit_class, transit_cpu};
 
 use crate::phases::keeper_of;
 use std::alloc::{AllocError, Global};
@@ -89,7 +89,7 @@ pub(crate) fn move_one(sizes: &mut Vec<u32>, from: usize, to: usize)
     requires to { to < vec_len sizes.old }
     requires some { 1 ≤ slice_index_or sizes.old.items from 0 }
     requires few { (k : ℕ) → slice_index_or sizes.old.items k 0 ≤ most_frames }
-    ensures sizes { sizes.new.items ≡ moved sizes.old.items from to }
+    ensures sizes { sizes.new.items ≡ moved_sizes sizes.old.items from to }
     ensures number { vec_len sizes.new ≡ vec_len sizes.old }
 {
     sizes[from] -= 1;

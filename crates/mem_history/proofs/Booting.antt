@@ -12,7 +12,7 @@ use Rattle.mem_machine.specs.declared.frame_state.FrameState.{FrameState}
 use Rattle.mem_machine.specs.declared.frame_state.FrameState.TheVariants.{Free}
 use Rattle.mem_machine.specs.FrameStates.{frame_state_at}
 use Rattle.mem_machine.specs.Machines.{KnownMachine, IsFirst, is_killed}
-use Rattle.mem_machine.specs.Local.{local_of, hold_of, phase_of, part_of, part_with, references_of}
+use Rattle.mem_machine.specs.Local.{local_of, hold_of_cpu, phase_of, part_of, part_with, references_of}
 use Rattle.mem_machine.specs.Interleaving.{zone_of}
 use Rattle.mem_history.specs.Whole.{seen_by_holder, IsSeenAt}
 use Rattle.mem_history.specs.Kept.{ABootIsShown, TheFirstHolderIsShown}
@@ -55,7 +55,7 @@ module _ (t : KnownTable) (w : KnownStockTable) (m : KnownMachine) (first : IsFi
   boot_seen : local_of t m c ≡ seen_by_holder p (at_boot (zone_of t))
   boot_seen = λ i. record {
     zone = zone_of t;
-    hold = ap (λ (s : KnownSeat). hold_of s p) first.frame_seat i;
+    hold = ap (λ (s : KnownSeat). hold_of_cpu s p) first.frame_seat i;
     groups = ap (λ (l : Ledger). l.groups) first.ledger i;
     killed = λ g. (ap (λ (l : List Bool). is_killed l g) first.killed ∙ repeated 64 g false) i;
     phases = λ f. ap (phase_of c f) (ap (λ (l : List FrameState). frame_state_at l f) first.frame_states ∙ repeated t.frames f Free) i;

@@ -28,7 +28,7 @@ use Rattle.step_rules.proofs.Runs.{sound_run}
 use Rattle.step_rules.proofs.Freeing.{zone_of_run}
 use Rattle.step_rules.proofs.Settling.{nothing_pends}
 use Rattle.mem_machine.specs.declared.frame_state.FrameState.TheVariants.{Lent}
-use Rattle.mem_machine.specs.FrameStates.{frame_state_at, some_cpu, lent_to}
+use Rattle.mem_machine.specs.FrameStates.{frame_state_at, some_cpu, cpu_lent_to}
 use Rattle.mem_machine.specs.Machines.{KnownMachine, IsConsistent}
 use Rattle.mem_machine.specs.Local.{local_of, number_or_0}
 use Rattle.mem_machine.specs.Interleaving.{zone_of}
@@ -118,7 +118,7 @@ module _ (t : KnownTable) (w : KnownStockTable) (run : Run) (m : KnownMachine) (
       lent_of : cover (whole.phases f) ≡ phase.Lent p OnList → (note_of m.frame_seat.view f).lent ≡ c.frame_seat.view.number
       lent_of seen =
           let frame_state = lent_plain (frame_state_at m.frame_states f) p (sym seen ∙ frame_state_covers t m c whole sees f) in
-          some_is (note_of m.frame_seat.view f).lent p ((is.frame_states f inside).lent ∙ ap lent_to frame_state) ∙ sym number
+          some_is (note_of m.frame_seat.view f).lent p ((is.frame_states f inside).lent ∙ ap cpu_lent_to frame_state) ∙ sym number
         where
           some_is : (n q : ℕ) → some_cpu n ≡ Some q → n ≡ q
           some_is zero q e = cc

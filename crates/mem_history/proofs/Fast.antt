@@ -23,7 +23,7 @@ use Rattle.step_rules.proofs.Own.{own_answer}
 use Rattle.step_rules.proofs.Seeing.{legality_is_seen}
 use Rattle.step_rules.proofs.LocalLaws.{made_allows}
 use Rattle.mem_machine.specs.Machines.{KnownMachine}
-use Rattle.mem_machine.specs.Local.{local_of, hold_of}
+use Rattle.mem_machine.specs.Local.{local_of, hold_of_cpu}
 use Rattle.mem_machine.specs.Interleaving.{zone_of}
 use Rattle.mem_machine.specs.Steps.{cpu_makes}
 use Rattle.mem_history.specs.Whole.{seen_together, IsSeenAt, IsDecided, is_fast, FastLinesFollow}
@@ -149,7 +149,7 @@ fast_lines_follow t run cpus k before action answer after_visit_state shows serv
               sees = sees;
             })
         | inr ne ↦ others_follow t run m cpus k c shows serves.is_part n d done later (HeldBy d.number) serves.number legal_run done_is stays
-            (λ i x in_list. subst (λ (o : KnownMachine). hold_of o.frame_seat x.number ≡ HeldBy x.number) (sym serves.machine)
+            (λ i x in_list. subst (λ (o : KnownMachine). hold_of_cpu o.frame_seat x.number ≡ HeldBy x.number) (sym serves.machine)
             (ap (λ (s : State). s.hold) (shows.each i x in_list).sees))
             sees j e at ne
       ]);

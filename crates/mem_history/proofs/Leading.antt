@@ -24,7 +24,7 @@ use Rattle.step_rules.specs.declared.phase.Phase.{Phase}
 use Rattle.step_rules.specs.declared.phase.Phase.TheVariants as phase
 use Rattle.step_rules.specs.declared.step.Action.TheVariants.{Get, Put, Consume, Credit}
 use Rattle.step_rules.specs.declared.step.Answer.TheVariants.{Held, Left, Last, Took, Stocked}
-use Rattle.step_rules.specs.Phases.{ListFrame, FreshFrame, has_as, is_live, at_stage, stage_after_last}
+use Rattle.step_rules.specs.Phases.{ListFrame, FreshFrame, has_as, is_live_phase, at_stage, stage_after_last}
 use Rattle.step_rules.specs.State.{State, Part, with_at, one_if, is_cpu, pins_of, without, with_last, front_of, may_zone_act}
 use Rattle.step_rules.specs.Legal.{is_legal, IsAnswer}
 use Rattle.step_rules.specs.After.{Run, state_of, consumed, paid, credited, with_back}
@@ -39,7 +39,7 @@ use Rattle.mem_machine.specs.declared.frame_state.FrameState.TheVariants.{Free, 
 use Rattle.mem_machine.specs.FrameStates.{frame_state_at}
 use Rattle.mem_machine.specs.Machines.{KnownMachine, visit_state}
 use Rattle.mem_machine.specs.Counting.{one_more_last_put}
-use Rattle.mem_machine.specs.Local.{local_of, phase_of, part_of, part_with, references_of, fresh_group, number_or_0}
+use Rattle.mem_machine.specs.Local.{local_of, phase_of, part_of, part_with, references_of, group_of_fresh, number_or_0}
 use Rattle.mem_machine.specs.Interleaving.{zone_of}
 use Rattle.mem_machine.specs.Steps.{cpu_makes}
 use Rattle.mem_machine.proofs.Takes.{without_front}
@@ -155,7 +155,7 @@ module _ (t : KnownTable) (w : KnownStockTable) (run : Run) (m : KnownMachine) (
 
   -- a pinned frame heads a unit
   pinned_head : (f : ℕ) → 1 ≤ seat_references c.frame_seat f → (u : ChargedUnit) × (frame_state_at m.frame_states f ≡ Head u)
-  pinned_head f pinned = elim (cases_Bool (is_live (whole.phases f))) [
+  pinned_head f pinned = elim (cases_Bool (is_live_phase (whole.phases f))) [
     | inl live ↦
         let was = live_is (whole.phases f) live in
         (was.0, head_plain (frame_state_at m.frame_states f) was.0 (sym (ap cover was.1) ∙ covers_at f))
@@ -303,7 +303,7 @@ module _ (t : KnownTable) (w : KnownStockTable) (run : Run) (m : KnownMachine) (
   own_part_is : (local_of t m c).parts q ≡ part_with c.list c.fresh c.back (account_of m.stock_seat.view q)
   own_part_is = own_shown t m c q refl
 
-  other_phase : (d : KnownCpu) (x : ℕ) (y : FrameState) → d.number ≡ q → d.back ≡ c.back → fresh_group d ≡ fresh_group c →
+  other_phase : (d : KnownCpu) (x : ℕ) (y : FrameState) → d.number ≡ q → d.back ≡ c.back → group_of_fresh d ≡ group_of_fresh c →
       parts.times x d.fresh ≡ parts.times x c.fresh → phase_of d x y ≡ phase_of c x y
   other_phase d x Free named back group fresh = refl
   other_phase d x (Tail g) named back group fresh = refl
@@ -337,7 +337,7 @@ module _ (t : KnownTable) (w : KnownStockTable) (run : Run) (m : KnownMachine) (
       let part_is : (local_of t m e).parts q ≡ paid ((local_of t m c).parts q) = own_shown t m e q refl ∙ part ∙ sym (ap paid own_part_is) in
       let some_listed : 1 ≤ length ((local_of t m c).parts q).list = let h = ap (λ (x : Part). length x.list) own_part_is in let l = ap length front in omega arith in
       let some_room : length ((local_of t m c).parts q).fresh < 32 = let h = ap (λ (x : Part). length x.fresh) own_part_is in omega arith in
-      let group : fresh_group e ≡ fresh_group c = is_group ∙ sym was_group in
+      let group : group_of_fresh e ≡ group_of_fresh c = is_group ∙ sym was_group in
       let phases_are : (x : ℕ) → phase_of e x (frame_state_at m.frame_states x)
       ≡ with_at (local_of t m c).phases (front_of ((local_of t m c).parts q).list) (consumed q g) x =
       λ x. (elim (cases_eq x f) [
@@ -404,7 +404,7 @@ module _ (t : KnownTable) (w : KnownStockTable) (run : Run) (m : KnownMachine) (
       }) in
       let part_is : (local_of t m e).parts q ≡ credited ((local_of t m c).parts q) f =
       own_shown t m e q refl ∙ part ∙ sym (ap (λ (x : Part). credited x f) own_part_is) in
-      let group : fresh_group e ≡ fresh_group c = ap number_or_0 same_group in
+      let group : group_of_fresh e ≡ group_of_fresh c = ap number_or_0 same_group in
       let phases_are : (x : ℕ) → phase_of e x (frame_state_at m.frame_states x) ≡ with_at (local_of t m c).phases f (phase.Lent q OnList) x =
       λ x. elim (cases_eq x f) [
         | inl here ↦

@@ -22,7 +22,7 @@ use Rattle.step_rules.proofs.CoverParts.{own_part, other_part, own_reference}
 use Rattle.step_rules.proofs.CoverPhases.{own_fresh}
 use Rattle.mem_machine.specs.FrameStates.{frame_state_at}
 use Rattle.mem_machine.specs.Machines.{KnownMachine}
-use Rattle.mem_machine.specs.Local.{local_of, phase_of, part_of, part_with, references_of, hold_of}
+use Rattle.mem_machine.specs.Local.{local_of, phase_of, part_of, part_with, references_of, hold_of_cpu}
 use Rattle.mem_machine.proofs.Shown.{fresh_unit}
 use Rattle.mem_history.specs.Whole.{seen_by_holder}
 use Rattle.mem_history.proofs.Staying.{Owned, Stays}
@@ -156,7 +156,7 @@ own_stays c p s later ne other sound sound_later stays own =
 -- ---- what it sees
 
 module _ (t : KnownTable) (n : KnownMachine) (d c : KnownCpu) (s : State) (sound : IsSound s) (own : HasOwn c s) (ne : c.number ≡ 0 → ⊥)
-    (other : c.number ≡ d.number → ⊥) (held : hold_of n.frame_seat c.number ≡ HeldBy c.number) (hold : Hold)
+    (other : c.number ≡ d.number → ⊥) (held : hold_of_cpu n.frame_seat c.number ≡ HeldBy c.number) (hold : Hold)
     (sees : local_of t n d ≡ seen_by d.number (record s { hold = hold })) where
   abbrev q : ℕ
   q = c.number

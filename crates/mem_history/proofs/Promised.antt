@@ -61,17 +61,17 @@ free_covered (phase.Head u (FreshAt q)) = refl
 free_covered (phase.Head u (BackAt q)) = refl
 free_covered (phase.Head u stage) = refl
 
-free_plain : (x : FrameState) → phases.is_free (plain x) ≡ frame_states.is_free x
+free_plain : (x : FrameState) → phases.is_free (plain x) ≡ frame_states.is_free_state x
 free_plain Free = refl
 free_plain (Lent q) = refl
 free_plain (Head unit) = refl
 free_plain (Tail g) = refl
 
-free_each : (xs : List FrameState) (F : ℕ → Bool) (a : ℕ) → ((i j : ℕ) → a + i ≡ j → F j ≡ frame_states.is_free (slice_index_or xs i Free)) →
-    map F (range_with_len a (length xs)) ≡ map frame_states.is_free xs
+free_each : (xs : List FrameState) (F : ℕ → Bool) (a : ℕ) → ((i j : ℕ) → a + i ≡ j → F j ≡ frame_states.is_free_state (slice_index_or xs i Free)) →
+    map F (range_with_len a (length xs)) ≡ map frame_states.is_free_state xs
 free_each [] F a each = refl
 free_each (x ∷ xs) F a each =
-    let here : F a ≡ frame_states.is_free x = each 0 a (omega arith) in
+    let here : F a ≡ frame_states.is_free_state x = each 0 a (omega arith) in
     let rest = free_each xs F (a + 1) (λ i j e. each (suc i) j (omega arith)) in
     λ j. here j ∷ rest j
 

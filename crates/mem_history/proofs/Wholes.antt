@@ -35,7 +35,7 @@ use Rattle.mem_machine.specs.declared.frame_state.FrameState.{FrameState}
 use Rattle.mem_machine.specs.declared.frame_state.FrameState.TheVariants.{Free, Lent, Head, Tail}
 use Rattle.mem_machine.specs.FrameStates.{frame_state_at}
 use Rattle.mem_machine.specs.Machines.{KnownMachine}
-use Rattle.mem_machine.specs.Local.{local_of, phase_of, fresh_group, hold_of}
+use Rattle.mem_machine.specs.Local.{local_of, phase_of, group_of_fresh, hold_of_cpu}
 use Rattle.mem_machine.specs.Interleaving.{zone_of}
 use Rattle.mem_machine.specs.Steps.{cpu_makes}
 use Rattle.mem_machine.proofs.Holds.{hold_shut}
@@ -68,7 +68,7 @@ head_still false u q = refl
 
 phase_still : (c : KnownCpu) (f : ℕ) (x : FrameState) → is_passing (phase_of c f x) ≡ false
 phase_still c f Free = refl
-phase_still c f (Lent q) = lent_still (q == c.number && nat_le 1 (parts.times f c.fresh)) (record { group = fresh_group c; order = 0 }) q
+phase_still c f (Lent q) = lent_still (q == c.number && nat_le 1 (parts.times f c.fresh)) (record { group = group_of_fresh c; order = 0 }) q
 phase_still c f (Head unit) = head_still (nat_le 1 (parts.times f c.back)) unit c.number
 phase_still c f (Tail g) = refl
 
@@ -76,7 +76,7 @@ pub may_unlock : (t : KnownTable) (m : KnownMachine) (c : KnownCpu) → is_cpu (
     is_legal (local_of t m c) c.number Unlock ≡ true
 may_unlock t m c cpu shut =
     let s = local_of t m c in
-    let held : is_held_by c.number (hold_of m.frame_seat c.number) ≡ true =
+    let held : is_held_by c.number (hold_of_cpu m.frame_seat c.number) ≡ true =
     ap (is_held_by c.number) (hold_shut m.frame_seat c.number shut) ∙ eq-eqb c.number c.number refl in
     let settled : no_page_pends s ≡ true = all_each 64 (λ g. s.pending g == 0) (λ g below. eq-eqb (s.pending g) 0 refl) in
     let still : no_frame_passes s ≡ true =
@@ -142,7 +142,7 @@ module _ (t : KnownTable) (run : Run) (m : KnownMachine) (cpus : List KnownCpu) 
   -- each other part sees what it would see
   pub others_follow : (n : KnownMachine) (d : KnownCpu) (later : Run) (s : State) (hold : Hold) → d.number ≡ c.number → IsLegalRun zone later →
       state_of zone later ≡ s → Stays c.number whole s →
-      ((j : ℕ) (e : KnownCpu) → slice_get cpus j ≡ Some e → hold_of n.frame_seat e.number ≡ HeldBy e.number) → local_of t n d ≡ seen_by d.number (record s { hold = hold }) →
+      ((j : ℕ) (e : KnownCpu) → slice_get cpus j ≡ Some e → hold_of_cpu n.frame_seat e.number ≡ HeldBy e.number) → local_of t n d ≡ seen_by d.number (record s { hold = hold }) →
       (j : ℕ) (e : KnownCpu) → slice_get (slice_set cpus k d) j ≡ Some e → (j ≡ k → ⊥) → IsSeenAt t n s j e
   others_follow n d later s hold named legal is stays held sees j e at ne =
       let in_list = set_else cpus k j d e ne at in

@@ -11,7 +11,7 @@ use Rattle.lru_lists.specs.declared.record.Home.{Home}
 use Rattle.lru_lists.specs.declared.record.LruList.{LruList}
 use Rattle.lru_lists.specs.declared.record.LruList.TheVariants.{Inactive, Active}
 use Rattle.lru_lists.specs.declared.lru.Lru.{Lru}
-use Rattle.lru_lists.specs.Lists.{OthersStayLinked, OneOfAllChanges, AreLinked, AllLinked, ChangesOwn, list_of, place_of, entries_of, changed_at, dirtied}
+use Rattle.lru_lists.specs.Lists.{OthersStayLinked, OneOfAllChanges, AreLinked, AllLinked, ChangesOwn, list_of, list_at, entries_of, changed_at, dirtied}
 use Rattle.cpu_part.specs.Cpus.{KnownCpu}
 use Rattle.mem_machine.specs.FrameStates.{frame_state_at, head_group_of}
 use Rattle.mem_machine.specs.Machines.{KnownMachine, IsConsistent, OthersStay, home_of, lists_at, no_lists, group_lists, lists_of}
@@ -27,7 +27,7 @@ owner_bound t w m ok f h inside is = (subst (λ (x : Option Home). IfSome x (λ 
     (frame_state_at m.frame_states f) ≡ Some y.owner))) is (ok.frame_states f inside).kept).0
 
 pub on_list : (links : List Link) (f : ℕ) (h : Home) → home_of links f ≡ Some h → list_of links h.owner f ≢ None
-on_list links f h is none = none-some h.list (sym none ∙ ap (λ (x : Option Home). place_of x h.owner) is ∙ place_here h.owner h.list)
+on_list links f h is none = none-some h.list (sym none ∙ ap (λ (x : Option Home). list_at x h.owner) is ∙ place_here h.owner h.list)
 
 module _ (t : KnownTable) (w : KnownStockTable) (m : KnownMachine) (ok : IsConsistent t w m) (f : ℕ) (inside : f < t.frames) (h : Home)
     (home : home_of m.links f ≡ Some h)

@@ -6,14 +6,14 @@ use Rattle.std.proofs.lemmas.List.{get_or-replicate, length-replicate, length_pu
 use Rattle.zone_blocks.specs.Areas.{AreMaximalBlocks}
 use Rattle.frame_word.specs.declared.view.FrameNote.{FrameNote}
 use Rattle.frame_word.specs.Views.{note_of, blank}
-use Rattle.frame_word.specs.Seats.{KnownTable, KnownSeat, number_of, first_zone_view}
+use Rattle.frame_word.specs.Seats.{KnownTable, KnownSeat, seat_number, first_zone_view}
 use Rattle.stock_word.specs.Stock.{KnownStockTable, KnownStockSeat, account_of, first_zone_stock_view}
 use Rattle.group_charge.specs.Charges.{Ledger, initial_ledger, pages_of, account_at}
 use Rattle.group_charge.specs.Notes.{no_notes}
 use Rattle.lru_lists.specs.declared.record.Link.{Link}
 use Rattle.lru_lists.specs.declared.record.Home.{Home}
 use Rattle.lru_lists.specs.declared.lru.Lru.{Lru}
-use Rattle.lru_lists.specs.Lists.{AllLinked, AreLinked, HasNoUnits, place_of}
+use Rattle.lru_lists.specs.Lists.{AllLinked, AreLinked, HasNoUnits, list_at}
 use Rattle.lru_lists.specs.Queue.{AreNowhere}
 use Rattle.step_rules.specs.declared.phase.ChargedUnit.{ChargedUnit}
 use Rattle.step_rules.proofs.Sums.{sum_none}
@@ -51,7 +51,7 @@ empty_pushed lists more n new empty owner stands is = subst (λ (l : List Lru). 
             subst (AreLinked links) (sym same) (empty.stand k any (omega arith) links away)
         | inr past ↦
             let same : get_or (lists ++ new ∷ []) k any ≡ new = get_or_push lists new any k (omega arith) in
-            subst (AreLinked links) (sym same) (stands links (λ f. ap (λ (l : Link). place_of l.home n) (away f)))
+            subst (AreLinked links) (sym same) (stands links (λ f. ap (λ (l : Link). list_at l.home n) (away f)))
       ];
     })
 
@@ -135,7 +135,7 @@ module _ (t : KnownTable) (w : KnownStockTable) (m : KnownMachine) (first : IsFi
       cpus = cpus;
     };
     seats = record {
-      frames = (ap (λ (s : KnownSeat). s.table) first.frame_seat, ap (λ (s : KnownSeat). number_of s) first.frame_seat);
+      frames = (ap (λ (s : KnownSeat). s.table) first.frame_seat, ap (λ (s : KnownSeat). seat_number s) first.frame_seat);
       table = ap (λ (s : KnownStockSeat). s.table) first.stock_seat;
       stocks = ap (λ (s : KnownStockSeat). s.view.number) first.stock_seat;
     };

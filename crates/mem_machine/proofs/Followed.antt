@@ -20,7 +20,7 @@ use Rattle.step_rules.specs.declared.step.Answer.TheVariants.{Illegal, Done, Gra
 use Rattle.step_rules.specs.State.{State}
 use Rattle.step_rules.specs.After.{Run, after}
 use Rattle.step_rules.specs.Peaks.{peak_follows}
-use Rattle.step_rules.specs.Events.{note_of, noted_at, is_noted_at, is_noted_in_subtree, makes_group}
+use Rattle.step_rules.specs.Events.{event_of, noted_at, is_noted_at, is_noted_in_subtree, makes_group}
 use Rattle.step_rules.specs.Usage.{is_in_subtree}
 use Rattle.step_rules.specs.Legal.{is_of_group}
 use Rattle.step_rules.proofs.CallerLemmas.{noted_nowhere}
@@ -162,7 +162,7 @@ makes_watched t p m now same c d steps n made w took = record {
 abbrev pub is_still : Action → Answer → Bool
 is_still (Grant g n) Granted = false
 is_still (Make path) (Number n) = false
-is_still action answer = is_none (note_of action answer)
+is_still action answer = is_none (event_of action answer)
 
 -- no step of the list does
 abbrev pub are_still : Run → Bool
@@ -181,7 +181,7 @@ no_note (Some note) e = absurd (false≢true e)
 pub still_note : (key : EventKey) (action : Action) (answer : Answer) → is_still action answer ≡ true → noted_at key action answer ≡ None
 still_note key (Grant g n) Granted still = refl
 still_note key (Make path) (Number n) still = refl
-still_note key action answer still = noted_nowhere key action answer (no_note (note_of action answer) still)
+still_note key action answer still = noted_nowhere key action answer (no_note (event_of action answer) still)
 
 still_make : (m : ℕ) (action : Action) (answer : Answer) → is_still action answer ≡ true → makes_group m action answer ≡ false
 still_make m (Make path) (Number n) still = absurd (false≢true still)

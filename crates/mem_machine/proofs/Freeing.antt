@@ -28,7 +28,7 @@ use Rattle.step_rules.proofs.Placing.{within_cases}
 use Rattle.mem_machine.specs.declared.frame_state.FrameState.{FrameState}
 use Rattle.mem_machine.specs.declared.frame_state.FrameState.TheVariants.{Free, Head, Tail}
 use Rattle.mem_machine.specs.declared.counts.Counts.{Counts}
-use Rattle.mem_machine.specs.FrameStates.{frame_state_at, is_free, free_of, frame_state_group, head_group_of, one_if_is, AreUnits, IsUnitAt}
+use Rattle.mem_machine.specs.FrameStates.{frame_state_at, is_free_state, free_of, frame_state_group, head_group_of, one_if_is, AreUnits, IsUnitAt}
 use Rattle.mem_machine.specs.Machines.{KnownMachine, FitsFrameState, IsConsistent, BalancesCounts, home_of, frames_charged}
 use Rattle.mem_machine.specs.Freeing.{FreesFrames}
 use Rattle.mem_machine.proofs.Records.{free_at, length_free}
@@ -88,11 +88,11 @@ free_block_given before after frame_states new at k inside was gives frees =
     elim (within_cases at (2 ^ k) g) [
       | inl w ↦
           gives.were_free g (record { from = w.1; before = w.2 })
-          ∙ sym (now ∙ ap is_free (frees.records g) ∙ ap (λ (b : Bool). is_free (cond b Free (frame_state_at frame_states g))) w.0)
+          ∙ sym (now ∙ ap is_free_state (frees.records g) ∙ ap (λ (b : Bool). is_free_state (cond b Free (frame_state_at frame_states g))) w.0)
       | inr out ↦
-          let old : get_or before g false ≡ is_free (frame_state_at frame_states g) = ap (λ (l : List Bool). get_or l g false) was ∙ free_at frame_states g there in
-          let same : is_free (frame_state_at new g) ≡ is_free (frame_state_at frame_states g) =
-          ap is_free (frees.records g) ∙ ap (λ (b : Bool). is_free (cond b Free (frame_state_at frame_states g))) out.0 in
+          let old : get_or before g false ≡ is_free_state (frame_state_at frame_states g) = ap (λ (l : List Bool). get_or l g false) was ∙ free_at frame_states g there in
+          let same : is_free_state (frame_state_at new g) ≡ is_free_state (frame_state_at frame_states g) =
+          ap is_free_state (frees.records g) ∙ ap (λ (b : Bool). is_free_state (cond b Free (frame_state_at frame_states g))) out.0 in
           let o = gives.others g (λ h. out.1 h.from h.before) in
           both_ways _ _ (λ a. now ∙ same ∙ sym old ∙ o.1 a) (λ b. o.0 (old ∙ sym same ∙ sym now ∙ b))
     ])
@@ -110,10 +110,10 @@ unit_in_use before frame_states f unit was units heads =
       none_free = λ g covers free.
           let low = covers.from in let high = covers.before in
           let there : g < length frame_states = omega (arith, high, room) in
-          let told : is_free (frame_state_at frame_states g) ≡ true = sym (free_at frame_states g there) ∙ sym (ap (λ (l : List Bool). get_or l g false) was) ∙ free in
+          let told : is_free_state (frame_state_at frame_states g) ≡ true = sym (free_at frame_states g there) ∙ sym (ap (λ (l : List Bool). get_or l g false) was) ∙ free in
           elim (cases_eq g f) [
-            | inl e ↦ absurd (false≢true (sym (ap (λ (k : ℕ). is_free (frame_state_at frame_states k)) e ∙ ap is_free heads) ∙ told))
-            | inr ne ↦ absurd (false≢true (sym (ap is_free (is.tails g (omega (arith, low, ne)) high)) ∙ told))
+            | inl e ↦ absurd (false≢true (sym (ap (λ (k : ℕ). is_free_state (frame_state_at frame_states k)) e ∙ ap is_free_state heads) ∙ told))
+            | inr ne ↦ absurd (false≢true (sym (ap is_free_state (is.tails g (omega (arith, low, ne)) high)) ∙ told))
           ];
     }
 

@@ -28,9 +28,10 @@ use Rattle.step_rules.specs.After.{is_within}
 use Rattle.mem_machine.specs.declared.frame_state.FrameState.{FrameState}
 use Rattle.mem_machine.specs.declared.frame_state.FrameState.TheVariants.{Free, Lent, Head}
 use Rattle.mem_machine.specs.declared.counts.Counts.{Counts}
-use Rattle.mem_machine.specs.FrameStates.{frame_state_at, is_free, free_of, frame_state_group, head_group_of, some_cpu}
+use Rattle.mem_machine.specs.FrameStates.{frame_state_at, is_free_state, free_of, frame_state_group, head_group_of}
+use Rattle.mem_machine.specs.FrameStates.{some_cpu}
 use Rattle.mem_machine.specs.Machines.{KnownMachine, FitsFrameState, IsConsistent, BalancesCounts, Visits, home_of, is_killed, pages_booked}
-use Rattle.mem_machine.specs.Local.{IsLocalRun, local_of, fresh_group, number_or_0, visit_state}
+use Rattle.mem_machine.specs.Local.{IsLocalRun, local_of, group_of_fresh, number_or_0, visit_state}
 use Rattle.mem_machine.specs.Steps.{zone_makes}
 use Rattle.mem_machine.specs.Blocks.{PlacesUnit}
 use Rattle.mem_machine.specs.Counts.{with_killed_fresh}
@@ -61,14 +62,14 @@ pub record WasFresh (t : KnownTable) (m : KnownMachine) (c : KnownCpu) (f g : �
   pub booked : 1 + (account_of m.stock_seat.view c.number).unabsorbed ≤ (account_of m.stock_seat.view c.number).book
   pub of_group : (account_of m.stock_seat.view c.number).group ≡ Some g
   pub fits : g < 64
-  pub named : fresh_group c ≡ g
+  pub named : group_of_fresh c ≡ g
 
 -- it is in the zone's hand then
 pub in_hand_then : (seat new : KnownSeat) (f p : ℕ) → new ≡ seat_with seat f (collected_from p) → IsInOwnHand new f
 in_hand_then seat new f p is = subst (λ (s : KnownSeat). IsInOwnHand s f) (sym is) (ap (λ (k : FrameNote). k.own) (note_here seat.view f (collected_from p)))
 
 -- one record changed, and which frames are free did not
-free_stays : (frame_states : List FrameState) (f : ℕ) (x : FrameState) → f < length frame_states → is_free (frame_state_at frame_states f) ≡ false → is_free x ≡ false
+free_stays : (frame_states : List FrameState) (f : ℕ) (x : FrameState) → f < length frame_states → is_free_state (frame_state_at frame_states f) ≡ false → is_free_state x ≡ false
     → free_of frame_states ≡ free_of (slice_set frame_states f x)
 free_stays frame_states f x inside was now =
     free_set (free_of frame_states) (free_of frame_states) frame_states f x inside refl refl (λ a. absurd (false≢true (sym was ∙ sym (free_at frame_states f inside) ∙ a)))
@@ -147,7 +148,7 @@ module _ (t : KnownTable) (w : KnownStockTable) (m : KnownMachine) (c : KnownCpu
     }
 
     kept_free : free_of m.frame_states ≡ free_of kept.frame_states
-    kept_free = free_stays m.frame_states f (Head (record { group = g; order = 0 })) within (ap is_free is_lent) refl
+    kept_free = free_stays m.frame_states f (Head (record { group = g; order = 0 })) within (ap is_free_state is_lent) refl
 
     kept_consistent : IsConsistent t w kept
     kept_consistent =

@@ -8,7 +8,8 @@ use Rattle.group_charge.specs.Charges.{AreCharges, current_of}
 use Rattle.frame_word.specs.Views.{note_of}
 use Rattle.frame_word.specs.Seats.{KnownTable}
 use Rattle.stock_word.specs.declared.view.Stock.{Stock}
-use Rattle.stock_word.specs.Stock.{KnownStockTable, KnownStockSeat, account_of, stocked, pages_of, group_of, is_held}
+use Rattle.stock_word.specs.Stock.{KnownStockTable, KnownStockSeat, account_of, stocked, stock_pages_of, group_of}
+use Rattle.stock_word.specs.Stock.{is_held}
 use Rattle.stock_word.specs.Kinds.{after_took}
 use Rattle.stock_word.specs.Calls.{with_view}
 use Rattle.cpu_part.specs.Cpus.{KnownCpu, IsTied, times}
@@ -41,7 +42,7 @@ use Rattle.mem_machine.proofs.Followed.{follows_same, LeadsAs}
 -- ---- the own stock
 
 pub own_is : (t : KnownTable) (w : KnownStockTable) (m now : KnownMachine) → m ≡ now → (c : KnownCpu) (stock : Stock) → IsTied t w c → IsConsistent t w m
-    → (account_of m.stock_seat.view c.number).book ≡ pages_of stock + c.stock_seat.view.fresh + (account_of m.stock_seat.view c.number).unabsorbed
+    → (account_of m.stock_seat.view c.number).book ≡ stock_pages_of stock + c.stock_seat.view.fresh + (account_of m.stock_seat.view c.number).unabsorbed
     → group_of stock ≡ (account_of m.stock_seat.view c.number).group → is_held stock ≡ (account_of m.stock_seat.view c.number).filled → IsOwnStock (visit_state now c) stock
 own_is t w m now same c stock tied ok balanced group held = subst (λ (x : KnownMachine). IsOwnStock (visit_state x c) stock) same (record {
   group = group;

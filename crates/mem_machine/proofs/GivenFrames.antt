@@ -9,7 +9,7 @@ use Rattle.frame_word.specs.Seats.{KnownTable, KnownSeat, seat_with, IsInOwnHand
 use Rattle.stock_word.specs.Stock.{KnownStockTable}
 use Rattle.cpu_part.specs.Cpus.{KnownCpu, IsTied}
 use Rattle.mem_machine.specs.declared.frame_state.FrameState.TheVariants.{Free, Lent}
-use Rattle.mem_machine.specs.FrameStates.{frame_state_at, is_free, free_of}
+use Rattle.mem_machine.specs.FrameStates.{frame_state_at, is_free_state, free_of}
 use Rattle.mem_machine.specs.Machines.{KnownMachine, IsConsistent, Visits}
 use Rattle.mem_machine.specs.Lending.{LendsFrame}
 use Rattle.mem_machine.specs.Steps.{lend_steps}
@@ -71,7 +71,7 @@ given_free t w m now same ok before f i was inside free index =
     let sized = ok.sizes.frame_states in
     let below : f < length m.frame_states = omega (arith, inside, sized) in
     ap (λ (x : ℕ). get_or before x false) index ∙ ap (λ (l : List Bool). get_or l f false) was ∙ free_at m.frame_states f below
-    ∙ ap (λ (x : KnownMachine). is_free (frame_state_at x.frame_states f)) same ∙ ap is_free free
+    ∙ ap (λ (x : KnownMachine). is_free_state (frame_state_at x.frame_states f)) same ∙ ap is_free_state free
 
 -- and the zone has it in its hand
 pub given_hand : (t : KnownTable) (w : KnownStockTable) (m now : KnownMachine) → m ≡ now → IsConsistent t w m → (f : ℕ) → f < t.frames → frame_state_at now.frame_states f ≡ Free

@@ -31,9 +31,9 @@ use Rattle.step_rules.proofs.Basics.{at_same, at_other}
 use Rattle.step_rules.proofs.Placing.{block_free}
 use Rattle.mem_machine.specs.declared.frame_state.FrameState.{FrameState}
 use Rattle.mem_machine.specs.declared.frame_state.FrameState.TheVariants.{Free, Lent, Head, Tail}
-use Rattle.mem_machine.specs.FrameStates.{frame_state_at, is_free, free_of}
+use Rattle.mem_machine.specs.FrameStates.{frame_state_at, is_free_state, free_of}
 use Rattle.mem_machine.specs.Machines.{KnownMachine, is_killed}
-use Rattle.mem_machine.specs.Local.{fresh_group, phase_of, local_of, visit_state}
+use Rattle.mem_machine.specs.Local.{group_of_fresh, phase_of, local_of, visit_state}
 use Rattle.mem_machine.specs.Steps.{zone_makes}
 use Rattle.mem_machine.proofs.Reaching.{zone_step}
 use Rattle.mem_machine.proofs.Holds.{zone_may_act}
@@ -93,11 +93,11 @@ module _ (t : KnownTable) (m : KnownMachine) (c : KnownCpu) (g n : ℕ) (there :
 -- ---- free blocks
 
 -- a frame that is free by the rules is free by its record
-phase_free : (c : KnownCpu) (f : ℕ) (x : FrameState) → phases.is_free (phase_of c f x) ≡ true → is_free x ≡ true
+phase_free : (c : KnownCpu) (f : ℕ) (x : FrameState) → phases.is_free (phase_of c f x) ≡ true → is_free_state x ≡ true
 phase_free c f Free e = refl
 phase_free c f (Lent q) e = absurd (false≢true (sym (not_free (q == c.number && nat_le 1 (times f c.fresh))) ∙ e))
   where
-    not_free : (b : Bool) → phases.is_free (cond b (phase.Head (record { group = fresh_group c; order = 0 }) (FreshAt q)) (phase.Lent q OnList)) ≡ false
+    not_free : (b : Bool) → phases.is_free (cond b (phase.Head (record { group = group_of_fresh c; order = 0 }) (FreshAt q)) (phase.Lent q OnList)) ≡ false
     not_free true = refl
     not_free false = refl
 phase_free c f (Head unit) e = absurd (false≢true (sym (not_free (nat_le 1 (times f c.back))) ∙ e))

@@ -18,7 +18,7 @@ use Rattle.step_rules.specs.declared.step.Action.{Action}
 use Rattle.step_rules.specs.declared.step.Action.TheVariants.{Kill, NoteMax, NoteOom, NoteGroupKill, SetMax, SetFlag, Make, Remove}
 use Rattle.step_rules.specs.declared.step.Answer.TheVariants.{Done, Number}
 use Rattle.step_rules.specs.Usage.{usage_of}
-use Rattle.step_rules.specs.Events.{note_of}
+use Rattle.step_rules.specs.Events.{event_of}
 use Rattle.step_rules.specs.Legal.{is_removable}
 use Rattle.step_rules.specs.State.{State, with_at}
 use Rattle.step_rules.proofs.Basics.{at_each}
@@ -33,7 +33,7 @@ use Rattle.mem_machine.proofs.LedgerMoves.{follows_note, follows_limit, follows_
 use Rattle.mem_machine.proofs.Followed.{LeadsAs}
 
 -- a step notes an event of this kind at the group, and changes nothing that is seen
-note_runs : (kind : EventKey) (action : Action) (g : ℕ) → note_of action Done ≡ Some (kind, g)
+note_runs : (kind : EventKey) (action : Action) (g : ℕ) → event_of action Done ≡ Some (kind, g)
     → ((s : State) (x : Counts) → x ≡ counts_after s 0 action Done x) → (t : KnownTable) (m n : KnownMachine)
     → n ≡ record m { ledger = with_noted kind m.ledger g } → CountsEvent kind m.ledger n.ledger g → SamePeaks m.ledger n.ledger → (c : KnownCpu)
     → IsLocalRun c.number (local_of t m c) (zone_makes action Done ∷ []) (local_of t m c) → LeadsAs t c.number (visit_state m c) (zone_makes action Done ∷ []) (visit_state n c)
@@ -68,7 +68,7 @@ module _ (t : KnownTable) (m n : KnownMachine) (g : ℕ) (there : has_group m.le
 
 -- the same, of the machine as it was seen before
 module _ (t : KnownTable) (m now : KnownMachine) (same : m ≡ now) (g : ℕ) (there : has_group now.ledger.groups g ≡ true) where
-  notes : (kind : EventKey) (action : Action) → note_of action Done ≡ Some (kind, g) → ((s : State) (x : Counts) → x ≡ counts_after s 0 action Done x) → (l : Ledger) → l ≡ with_noted kind m.ledger g
+  notes : (kind : EventKey) (action : Action) → event_of action Done ≡ Some (kind, g) → ((s : State) (x : Counts) → x ≡ counts_after s 0 action Done x) → (l : Ledger) → l ≡ with_noted kind m.ledger g
       → CountsEvent kind m.ledger l g → SamePeaks m.ledger l → (c : KnownCpu)
       → IsLocalRun c.number (local_of t now c) (zone_makes action Done ∷ []) (local_of t now c)
       → LeadsAs t c.number (visit_state now c) (zone_makes action Done ∷ []) (visit_state (record m { ledger = l }) c)

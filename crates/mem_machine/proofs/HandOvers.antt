@@ -6,7 +6,7 @@ use Rattle.std.specs.Prelude.{nat_le}
 use Rattle.std.proofs.lemmas.Bool.{cases_eq, and_from, or_left, or_right, le-leb}
 use Rattle.frame_word.specs.declared.view.FrameNote.{FrameNote}
 use Rattle.frame_word.specs.Views.{note_of, passed_back_by_cpu, collected_from}
-use Rattle.frame_word.specs.Seats.{KnownTable, KnownSeat, number_of, seat_with, IsOpen, IsLent, IsBorrowed}
+use Rattle.frame_word.specs.Seats.{KnownTable, KnownSeat, seat_number, seat_with, IsOpen, IsLent, IsBorrowed}
 use Rattle.frame_word.proofs.Notes.{note_here, note_else}
 use Rattle.stock_word.specs.Stock.{KnownStockTable}
 use Rattle.cpu_part.specs.Cpus.{KnownCpu, IsTied, times}
@@ -58,19 +58,19 @@ module _ (t : KnownTable) (w : KnownStockTable) (m : KnownMachine) (c : KnownCpu
     | inr ne ↦ ap told (note_else m.frame_seat.view f g change ne) ∙ sym (ap told (note_else m.frame_seat.view f g (collected_from c.number) ne))
   ]
 
-  not_lent_to : (0 ≡ number_of c.frame_seat) → ⊥
+  not_lent_to : (0 ≡ seat_number c.frame_seat) → ⊥
   not_lent_to is = let a = tied.seats.frame_number in let b = tied.seats.some_number in omega (arith, a, b, is)
 
   no_one : ◌≡◌ {A = ℕ} 0 1 → ⊥
   no_one is = omega (arith, is)
 
-  plain_lent : (g : ℕ) → g < t.frames → (IsLent plain g (number_of c.frame_seat) → IsBorrowed cpu g) × (IsBorrowed cpu g → IsLent plain g (number_of c.frame_seat))
+  plain_lent : (g : ℕ) → g < t.frames → (IsLent plain g (seat_number c.frame_seat) → IsBorrowed cpu g) × (IsBorrowed cpu g → IsLent plain g (seat_number c.frame_seat))
   plain_lent g inside = elim (cases_eq g f) [
-    | inl e ↦ subst (λ (h : ℕ). (IsLent plain h (number_of c.frame_seat) → IsBorrowed cpu h) × (IsBorrowed cpu h → IsLent plain h (number_of c.frame_seat))) (sym e) (
+    | inl e ↦ subst (λ (h : ℕ). (IsLent plain h (seat_number c.frame_seat) → IsBorrowed cpu h) × (IsBorrowed cpu h → IsLent plain h (seat_number c.frame_seat))) (sym e) (
       λ a. absurd (not_lent_to (sym (ap (λ (k : FrameNote). k.lent) (note_here m.frame_seat.view f (collected_from c.number))) ∙ a)),
       λ a. absurd (no_one (sym (ap (λ (k : FrameNote). k.borrowed) (note_here c.frame_seat.view f passed_back_by_cpu)) ∙ a)),
     )
-    | inr ne ↦ subst (λ (k : FrameNote × FrameNote). (k.0.lent ≡ number_of c.frame_seat → k.1.borrowed ≡ 1) × (k.1.borrowed ≡ 1 → k.0.lent ≡ number_of c.frame_seat))
+    | inr ne ↦ subst (λ (k : FrameNote × FrameNote). (k.0.lent ≡ seat_number c.frame_seat → k.1.borrowed ≡ 1) × (k.1.borrowed ≡ 1 → k.0.lent ≡ seat_number c.frame_seat))
         (λ i. (sym (note_else m.frame_seat.view f g (collected_from c.number) ne) i, sym (note_else c.frame_seat.view f g passed_back_by_cpu ne) i)) (visit.lent g inside)
   ]
 
@@ -86,9 +86,9 @@ module _ (t : KnownTable) (w : KnownStockTable) (m : KnownMachine) (c : KnownCpu
         ∙ collected_is_still t m.frame_seat c.frame_seat c.number tied.seats.frame_number f visit.still cpu plain refl refl g inside
         ∙ sym (ap (λ (x : List ℕ × List ℕ × ℕ). get_or x.1 cpu.view.number 0 + (note_of cpu.view g).taken_in) (told_same g)));
     lent = subst (λ (x : KnownSeat × KnownSeat). (g : ℕ) → g < t.frames
-        → (IsLent x.0 g (number_of x.1) → IsBorrowed x.1 g) × (IsBorrowed x.1 g → IsLent x.0 g (number_of x.1)))
+        → (IsLent x.0 g (seat_number x.1) → IsBorrowed x.1 g) × (IsBorrowed x.1 g → IsLent x.0 g (seat_number x.1)))
         (λ i. (sym zone_is i, sym cpu_is i))
-        (λ g inside. subst (λ (x : List ℕ × List ℕ × ℕ). (x.2 ≡ number_of c.frame_seat → IsBorrowed cpu g) × (IsBorrowed cpu g → x.2 ≡ number_of c.frame_seat))
+        (λ g inside. subst (λ (x : List ℕ × List ℕ × ℕ). (x.2 ≡ seat_number c.frame_seat → IsBorrowed cpu g) × (IsBorrowed cpu g → x.2 ≡ seat_number c.frame_seat))
         (sym (told_same g)) (plain_lent g inside));
   }
 

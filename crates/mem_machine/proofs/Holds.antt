@@ -23,7 +23,7 @@ use Rattle.mem_machine.specs.declared.frame_state.FrameState.{FrameState}
 use Rattle.mem_machine.specs.declared.frame_state.FrameState.TheVariants.{Free, Lent, Head, Tail}
 use Rattle.mem_machine.specs.FrameStates.{frame_state_at}
 use Rattle.mem_machine.specs.Machines.{KnownMachine, Visits}
-use Rattle.mem_machine.specs.Local.{hold_of, local_of, phase_of, part_of, part_with, fresh_group, visit_state}
+use Rattle.mem_machine.specs.Local.{hold_of_cpu, local_of, phase_of, part_of, part_with, group_of_fresh, visit_state}
 use Rattle.mem_machine.specs.Steps.{open_steps, shut_steps}
 use Rattle.mem_machine.proofs.Reaching.{zone_step, run_one}
 use Rattle.mem_machine.proofs.Followed.{follows_same, LeadsAs}
@@ -33,16 +33,16 @@ zone_acts true p = refl
 zone_acts false p = refl
 
 -- the zone's seat may act while a CPU holds the lock
-pub zone_may_act : (seat : KnownSeat) (p : ℕ) → may_zone_act (hold_of seat p) 0 ≡ true
+pub zone_may_act : (seat : KnownSeat) (p : ℕ) → may_zone_act (hold_of_cpu seat p) 0 ≡ true
 zone_may_act seat p = zone_acts (get_or seat.view.opened p 0 == 1) p
 
-pub hold_open : (seat : KnownSeat) (p : ℕ) → IsOpen seat p → hold_of seat p ≡ Visiting p
+pub hold_open : (seat : KnownSeat) (p : ℕ) → IsOpen seat p → hold_of_cpu seat p ≡ Visiting p
 hold_open seat p is = ap (λ (n : ℕ). cond (n == 1) (Visiting p) (HeldBy p)) is
 
-pub hold_shut : (seat : KnownSeat) (p : ℕ) → IsShut seat p → hold_of seat p ≡ HeldBy p
+pub hold_shut : (seat : KnownSeat) (p : ℕ) → IsShut seat p → hold_of_cpu seat p ≡ HeldBy p
 hold_shut seat p shut = ap (λ (n : ℕ). cond (n == 1) (Visiting p) (HeldBy p)) shut
 
-pub visits_open : (seat : KnownSeat) (p : ℕ) → IsOpen seat p → visits p (hold_of seat p) ≡ true
+pub visits_open : (seat : KnownSeat) (p : ℕ) → IsOpen seat p → visits p (hold_of_cpu seat p) ≡ true
 visits_open seat p is = ap (visits p) (hold_open seat p is) ∙ eq-eqb p p refl
 
 -- the CPU is one of the table's
@@ -71,7 +71,7 @@ head_rests false p q unit = refl
 no_pass : (c : KnownCpu) (p f : ℕ) (x : FrameState) → resting p (phase_of c f x) ≡ true
 unfolding resting
 no_pass c p f Free = refl
-no_pass c p f (Lent q) = lent_rests (q == c.number && nat_le 1 (times f c.fresh)) p q (fresh_group c)
+no_pass c p f (Lent q) = lent_rests (q == c.number && nat_le 1 (times f c.fresh)) p q (group_of_fresh c)
 no_pass c p f (Head unit) = head_rests (nat_le 1 (times f c.back)) p c.number unit
 no_pass c p f (Tail g) = refl
 
@@ -87,9 +87,9 @@ pub open_runs : (t : KnownTable) (m n : KnownMachine) (c : KnownCpu) → n ≡ r
     → LeadsAs t c.number (visit_state m c) (open_steps c.number) (visit_state n c)
 open_runs t m n c is shut =
     let p = c.number in
-    let legal : (may_zone_act (hold_of m.frame_seat p) 0 && is_held_by p (hold_of m.frame_seat p)) ≡ true =
+    let legal : (may_zone_act (hold_of_cpu m.frame_seat p) 0 && is_held_by p (hold_of_cpu m.frame_seat p)) ≡ true =
     and_from _ _ (zone_may_act m.frame_seat p) (ap (is_held_by p) (hold_shut m.frame_seat p shut) ∙ eq-eqb p p refl) in
-    let opened : hold_of (seat_with_visit m.frame_seat p 1) p ≡ Visiting p = hold_open (seat_with_visit m.frame_seat p 1) p (put_here 0 m.frame_seat.view.opened p 1) in
+    let opened : hold_of_cpu (seat_with_visit m.frame_seat p 1) p ≡ Visiting p = hold_open (seat_with_visit m.frame_seat p 1) p (put_here 0 m.frame_seat.view.opened p 1) in
     subst (λ (k : KnownMachine). LeadsAs t p (visit_state m c) (open_steps c.number) (visit_state k c)) (sym is) (record {
       leads = run_one p (local_of t m c) _ 0 (OpenVisit p) Done (zone_step (local_of t m c) p (OpenVisit p) Done refl legal tt)
           (λ i. record (local_of t m c) { hold = opened i });
@@ -108,7 +108,7 @@ shut_runs t m n c is was_open noted =
     let still : nothing_passes s p ≡ true = all_each t.frames (rests s p) (λ f inside. unfolded_rest c p f (frame_state_at m.frame_states f)) in
     let legal : is_legal s 0 (ShutVisit p) ≡ true =
     and_from _ _ (and_from _ _ (and_from _ _ (and_from _ _ (zone_may_act m.frame_seat p) (visits_open m.frame_seat p was_open)) still) unreported) reported in
-    let shut : hold_of (seat_with_visit m.frame_seat p 0) p ≡ HeldBy p = hold_shut (seat_with_visit m.frame_seat p 0) p (put_here 0 m.frame_seat.view.opened p 0) in
+    let shut : hold_of_cpu (seat_with_visit m.frame_seat p 0) p ≡ HeldBy p = hold_shut (seat_with_visit m.frame_seat p 0) p (put_here 0 m.frame_seat.view.opened p 0) in
     subst (λ (k : KnownMachine). LeadsAs t p (visit_state m c) (shut_steps c.number) (visit_state k c)) (sym is) (record {
       leads = run_one p s _ 0 (ShutVisit p) Done (zone_step s p (ShutVisit p) Done refl legal tt) (λ i. record s { hold = shut i });
       follows = follows_same _ _ _ refl;

@@ -7,7 +7,7 @@ use Rattle.lru_lists.specs.declared.record.Home.{Home}
 use Rattle.lru_lists.specs.declared.record.LruList.TheVariants.{Inactive}
 use Rattle.lru_lists.specs.declared.lru.Lru.{Lru}
 use Rattle.lru_lists.specs.Queue.{link_at}
-use Rattle.lru_lists.specs.Lists.{OthersStayLinked, OneOfAllChanges, AreLinked, AllLinked, ChangesOwn, MovesOnly, place_of, inactive_of, active_of}
+use Rattle.lru_lists.specs.Lists.{OthersStayLinked, OneOfAllChanges, AreLinked, AllLinked, ChangesOwn, MovesOnly, list_at, inactive_of, active_of}
 use Rattle.lru_lists.specs.Lists as lists
 use Rattle.mem_machine.specs.Machines.{lists_at, no_lists, group_lists}
 use Rattle.mem_machine.specs.Lists.{JoinsList}
@@ -21,7 +21,7 @@ pub record IsAdded (links : List Link) (lru : Lru) (f : ℕ) (after : List Link)
   pub active : active_of after new ≡ active_of links lru
   pub changes : ChangesOwn links after lru.owner
   pub moves : MovesOnly links after lru.owner f
-  pub joined : (link_at after f).home ≡ Some (lists.home_of lru Inactive)
+  pub joined : (link_at after f).home ≡ Some (lists.home_in lru Inactive)
 
 -- all that `join_list` leaves
 pub record AllJoin (links : List Link) (lists : List Lru) (g f : ℕ) (after : List Link) (new : List Lru) : Type 0 where
@@ -56,7 +56,7 @@ module _ (links : List Link) (lists : List Lru) (g f : ℕ) (fits : g < 64) (gro
                 ∙ ap (λ (l : Lru). inactive_of links l ++ record { number = f; is_marked = false; is_dirty = false } ∷ []) was;
             active = ap (active_of after) now ∙ added.active ∙ ap (active_of links) was;
             others = others_stay links after lists g lru new all groups own added.changes others_stay_linked;
-            unlisted = λ x ne none. added.moves.kept x ne (ap (λ (h : Option Home). place_of h lru.owner) none);
+            unlisted = λ x ne none. added.moves.kept x ne (ap (λ (h : Option Home). list_at h lru.owner) none);
           };
           stand = all_stand;
           frames = added.changes.frames;

@@ -8,7 +8,7 @@ use Rattle.lru_lists.specs.declared.record.Home.{Home}
 use Rattle.lru_lists.specs.declared.lru.Lru.{Lru}
 use Rattle.lru_lists.specs.Queue.{link_at, nowhere, SameUse}
 use Rattle.lru_lists.specs.Lists.{OthersStayLinked, OneOfAllChanges, AreLinked, AllLinked, ChangesOwn, MovesOnly, inactive_of, active_of, entries_without}
-use Rattle.lru_lists.specs.Lists.{list_of, place_of}
+use Rattle.lru_lists.specs.Lists.{list_of, list_at}
 use Rattle.mem_machine.specs.Machines.{home_of, lists_at, no_lists, group_lists}
 use Rattle.mem_machine.specs.Lists.{LeavesList}
 use Rattle.mem_machine.proofs.Listed.{others_stay}
@@ -66,7 +66,7 @@ module _ (links : List Link) (lists : List Lru) (f : ℕ) (h : Home) (home : Som
         home = sym home;
         forgotten = forgotten;
         homes = moves.home;
-        unlisted = λ g none. moves.kept g (λ e. none-some h (sym none ∙ ap (home_of links) e ∙ sym home)) (ap (λ (x : Option Home). place_of x lru.owner) none);
+        unlisted = λ g none. moves.kept g (λ e. none-some h (sym none ∙ ap (home_of links) e ∙ sym home)) (ap (λ (x : Option Home). list_at x lru.owner) none);
         used = used;
         inactive = subst (λ (x : Lru × Lru). inactive_of after x.1 ≡ entries_without f (inactive_of links x.0))
             (λ i. (sym its_lists i, sym now_its i)) inactive;

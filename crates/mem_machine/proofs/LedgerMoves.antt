@@ -27,7 +27,7 @@ use Rattle.step_rules.specs.State.{State}
 use Rattle.step_rules.specs.After.{Run, after}
 use Rattle.step_rules.specs.Peaks.{peak_follows}
 use Rattle.step_rules.specs.Usage.{usage_of, frames_kept, pages_prepaid, pages_pending}
-use Rattle.step_rules.specs.Events.{note_of, count_after, is_noted_in_subtree, is_noted_at, makes_group}
+use Rattle.step_rules.specs.Events.{event_of, count_after, is_noted_in_subtree, is_noted_at, makes_group}
 use Rattle.step_rules.proofs.CallerLemmas.{noted_below_so, noted_at_so}
 use Rattle.step_rules.proofs.Homes.{number_low}
 use Rattle.step_rules.proofs.Moving.{gone_itself, pending_moves, pends_split}
@@ -112,7 +112,7 @@ turned a b = elim (cases_eq a b) [
 ]
 
 -- a step notes an event at a group
-pub follows_note : (kind : EventKey) (action : Action) (g : ℕ) → note_of action Done ≡ Some (kind, g) → (t : KnownTable) (m : KnownMachine) (c : KnownCpu) (k : Ledger)
+pub follows_note : (kind : EventKey) (action : Action) (g : ℕ) → event_of action Done ≡ Some (kind, g) → (t : KnownTable) (m : KnownMachine) (c : KnownCpu) (k : Ledger)
     → CountsEvent kind m.ledger k g → SamePeaks m.ledger k → FollowsSteps (local_of t m c) m.ledger (zone_makes action Done ∷ []) k
 follows_note kind action g notes t m c k counts peaks =
     let groups = m.ledger.groups in

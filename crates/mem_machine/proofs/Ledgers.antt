@@ -11,7 +11,7 @@ use Rattle.std.proofs.lemmas.List.Sums.{sum_by-cons}
 use Rattle.group_tree.specs.declared.group.Group.{Group}
 use Rattle.group_tree.specs.Groups.{the_root, in_subtree}
 use Rattle.group_charge.specs.declared.account.Account.{Account}
-use Rattle.group_charge.specs.Charges.{Ledger, AreCharges, current_of, usage_of as usage_charged, pages_of, account_at}
+use Rattle.group_charge.specs.Charges.{Ledger, AreCharges, current_of, usage_charged, pages_of, account_at}
 use Rattle.group_charge.proofs.ChargeLemmas.{all_distinct, as_many}
 use Rattle.stock_word.specs.declared.view.StockAccount.{StockAccount as Book}
 use Rattle.stock_word.specs.Stock.{KnownStockTable, account_of}

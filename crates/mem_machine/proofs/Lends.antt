@@ -10,7 +10,7 @@ use Rattle.zone_blocks.specs.Areas.{IsFree, AreMaximalBlocks, HasNoneFrom, IsFro
 use Rattle.zone_buddy.specs.Zone.{TakesFrames}
 use Rattle.frame_word.specs.declared.view.FrameNote.{FrameNote}
 use Rattle.frame_word.specs.Views.{note_of, in_hands, passed_out_to, took_in}
-use Rattle.frame_word.specs.Seats.{KnownTable, KnownSeat, number_of, seat_references, seat_with, IsInOwnHand, IsLent}
+use Rattle.frame_word.specs.Seats.{KnownTable, KnownSeat, seat_number, seat_references, seat_with, IsInOwnHand, IsLent}
 use Rattle.frame_word.specs.Seats.{IsBorrowed, Passes, NothingPasses}
 use Rattle.frame_word.proofs.Notes.{note_here, note_else}
 use Rattle.stock_word.specs.Stock.{KnownStockTable, KnownStockSeat, account_of}
@@ -32,7 +32,7 @@ use Rattle.mem_machine.specs.declared.frame_state.FrameState.TheVariants.{Free, 
 use Rattle.mem_machine.specs.FrameStates.{frame_state_at, free_of, frame_state_group, head_group_of, is_in_hand}
 use Rattle.mem_machine.specs.Machines.{KnownMachine, FitsFrameState, IsConsistent, Visits, home_of}
 use Rattle.mem_machine.specs.Lending.{LendsOne, LendsNone}
-use Rattle.mem_machine.specs.Local.{local_of, phase_of, part_of, part_with, fresh_group, visit_state}
+use Rattle.mem_machine.specs.Local.{local_of, phase_of, part_of, part_with, group_of_fresh, visit_state}
 use Rattle.mem_machine.specs.Steps.{lend_steps}
 use Rattle.mem_machine.proofs.Reaching.{zone_step, cpu_step}
 use Rattle.mem_machine.proofs.Holds.{IsSeated, zone_may_act, visits_open, seated_cpu}
@@ -64,8 +64,8 @@ and_no false = refl
 -- a lent frame that isn't fresh is on the list
 pub lent_listed : (c : KnownCpu) (f q : ℕ) → times f c.fresh ≡ 0 → phase_of c f (Lent q) ≡ phase.Lent q OnList
 lent_listed c f q none =
-    ap (λ (n : ℕ). cond (q == c.number && nat_le 1 n) (phase.Head (record { group = fresh_group c; order = 0 }) (FreshAt q)) (phase.Lent q OnList)) none
-    ∙ ap (λ (b : Bool). cond b (phase.Head (record { group = fresh_group c; order = 0 }) (FreshAt q)) (phase.Lent q OnList)) (and_no (q == c.number))
+    ap (λ (n : ℕ). cond (q == c.number && nat_le 1 n) (phase.Head (record { group = group_of_fresh c; order = 0 }) (FreshAt q)) (phase.Lent q OnList)) none
+    ∙ ap (λ (b : Bool). cond b (phase.Head (record { group = group_of_fresh c; order = 0 }) (FreshAt q)) (phase.Lent q OnList)) (and_no (q == c.number))
 
 -- the phases after one frame's record changed, and no other frame's place at the CPU
 pub phases_changed : (c d : KnownCpu) (frame_states : List FrameState) (f : ℕ) (x : FrameState) (a b : Phase) → f < length frame_states → phase_of d f x ≡ b
@@ -153,10 +153,10 @@ module _ (t : KnownTable) (w : KnownStockTable) (m : KnownMachine) (c : KnownCpu
     still = accepted_is_still t m.frame_seat c.frame_seat c.number tied.seats.frame_number f visit.still (seat_with m.frame_seat f (passed_out_to c.number))
         (seat_with c.frame_seat f took_in) refl refl;
     lent = λ g inside. elim (cases_eq g f) [
-      | inl e ↦ subst (λ (h : ℕ). (IsLent (seat_with m.frame_seat f (passed_out_to c.number)) h (number_of c.frame_seat) → IsBorrowed (seat_with c.frame_seat f took_in) h)
-          × (IsBorrowed (seat_with c.frame_seat f took_in) h → IsLent (seat_with m.frame_seat f (passed_out_to c.number)) h (number_of c.frame_seat))) (sym e)
+      | inl e ↦ subst (λ (h : ℕ). (IsLent (seat_with m.frame_seat f (passed_out_to c.number)) h (seat_number c.frame_seat) → IsBorrowed (seat_with c.frame_seat f took_in) h)
+          × (IsBorrowed (seat_with c.frame_seat f took_in) h → IsLent (seat_with m.frame_seat f (passed_out_to c.number)) h (seat_number c.frame_seat))) (sym e)
           (λ a. ap (λ (k : FrameNote). k.borrowed) (note_here c.frame_seat.view f took_in), λ a. lent_is_lent ∙ sym tied.seats.frame_number)
-      | inr ne ↦ subst (λ (k : FrameNote × FrameNote). (k.0.lent ≡ number_of c.frame_seat → k.1.borrowed ≡ 1) × (k.1.borrowed ≡ 1 → k.0.lent ≡ number_of c.frame_seat))
+      | inr ne ↦ subst (λ (k : FrameNote × FrameNote). (k.0.lent ≡ seat_number c.frame_seat → k.1.borrowed ≡ 1) × (k.1.borrowed ≡ 1 → k.0.lent ≡ seat_number c.frame_seat))
           (λ i. (sym (note_else m.frame_seat.view f g (passed_out_to c.number) ne) i, sym (note_else c.frame_seat.view f g took_in ne) i)) (visit.lent g inside)
     ];
   }

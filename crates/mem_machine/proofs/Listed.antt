@@ -13,8 +13,8 @@ use Rattle.lru_lists.specs.declared.record.Entry.{Entry}
 use Rattle.lru_lists.specs.declared.record.LruList.{LruList}
 use Rattle.lru_lists.specs.declared.record.LruList.TheVariants.{Inactive, Active}
 use Rattle.lru_lists.specs.declared.lru.Lru.{Lru}
-use Rattle.lru_lists.specs.Queue.{link_at, is_among, units_of, without}
-use Rattle.lru_lists.specs.Lists.{AreLinked, AllLinked, OthersStayLinked, ChangesOwn, Touches, list_of, place_of, home_of, queue_of, entries_of, entry_of, inactive_of, active_of}
+use Rattle.lru_lists.specs.Queue.{link_at, is_among, units_of, list_without}
+use Rattle.lru_lists.specs.Lists.{AreLinked, AllLinked, OthersStayLinked, ChangesOwn, Touches, list_of, list_at, home_in, queue_of, entries_of, entry_of, inactive_of, active_of}
 use Rattle.lru_lists.specs.Lists.{changed_at}
 use Rattle.lru_lists.specs.Lists.{entries_without, dirtied, marked}
 use Rattle.lru_lists.specs.declared.lru.Touched.{Touched}
@@ -31,7 +31,7 @@ some_list None not = absurd (not refl)
 some_list (Some list) not = (list, refl)
 
 -- the owner's list at a home of its own
-pub place_here : (owner : ℕ) (list : LruList) → place_of (Some (record { owner = owner; list = list })) owner ≡ Some list
+pub place_here : (owner : ℕ) (list : LruList) → list_at (Some (record { owner = owner; list = list })) owner ≡ Some list
 place_here owner list = let t : (owner == owner) ≡ true = eq-eqb owner owner refl in rw t refl
 
 abbrev value_or : {X : Type 0} → X → Option X → X
@@ -41,7 +41,7 @@ value_or any (Some x) = x
 some_same : {X : Type 0} (any a b : X) → Some a ≡ Some b → a ≡ b
 some_same any a b e = ap (value_or any) e
 
-home_of_list : (h : Option Home) (lru : Lru) (list : LruList) → place_of h lru.owner ≡ Some list → h ≡ Some (home_of lru list)
+home_of_list : (h : Option Home) (lru : Lru) (list : LruList) → list_at h lru.owner ≡ Some list → h ≡ Some (home_in lru list)
 home_of_list None lru list is = absurd (none-some list is)
 home_of_list (Some h) lru list is = elim (cases_eq h.owner lru.owner) [
   | inl e ↦
@@ -82,8 +82,8 @@ pub unlisted_stay : (before after : List Link) (owner f : ℕ) → ChangesOwn be
     → option_map (λ (x : Home). x.owner) (link_at after f).home ≡ option_map (λ (x : Home). x.owner) (link_at before f).home
     → (link_at before f).home ≡ None → link_at after f ≡ link_at before f
 unlisted_stay before after owner f changes same none =
-    changes.kept f (ap (λ (h : Option Home). place_of h owner) none)
-    (ap (λ (h : Option Home). place_of h owner) (none_stays (link_at before f).home (link_at after f).home same none))
+    changes.kept f (ap (λ (h : Option Home). list_at h owner) none)
+    (ap (λ (h : Option Home). list_at h owner) (none_stays (link_at before f).home (link_at after f).home same none))
 
 -- the frame is a unit of one of the two lists
 pub is_listed : List Link → Lru → ℕ → Bool
@@ -116,18 +116,18 @@ module _ (before after : List Link) (lru new : Lru) (old_stands : AreLinked befo
       | inl still ↦ ap (λ (k : Link). option_map (λ (x : Home). x.owner) k.home) (changes.kept f none still)
       | inr came ↦
           let l = some_list (list_of after lru.owner f) came in
-          let home : (link_at after f).home ≡ Some (home_of new l.0) =
-          home_of_list (link_at after f).home new l.0 (ap (place_of (link_at after f).home) owner ∙ l.1) in
+          let home : (link_at after f).home ≡ Some (home_in new l.0) =
+          home_of_list (link_at after f).home new l.0 (ap (list_at (link_at after f).home) owner ∙ l.1) in
           let was = listed_where before lru f (off f (listed_as after new l.0 f ((new_stands l.0).at_home f home))) in
           let there : list_of before lru.owner f ≡ Some was.0 =
-          ap (λ (h : Option Home). place_of h lru.owner) ((old_stands was.0).homes f was.1) ∙ place_here lru.owner was.0 in
+          ap (λ (h : Option Home). list_at h lru.owner) ((old_stands was.0).homes f was.1) ∙ place_here lru.owner was.0 in
           absurd (none-some was.0 (sym none ∙ there))
     ]
     | inr was ↦
         let l = some_list (list_of before lru.owner f) was in
-        let home : (link_at before f).home ≡ Some (home_of lru l.0) = home_of_list (link_at before f).home lru l.0 l.1 in
+        let home : (link_at before f).home ≡ Some (home_in lru l.0) = home_of_list (link_at before f).home lru l.0 l.1 in
         let now = listed_where after new f (on f (listed_as before lru l.0 f ((old_stands l.0).at_home f home))) in
-        let stands : (link_at after f).home ≡ Some (home_of new now.0) = (new_stands now.0).homes f now.1 in
+        let stands : (link_at after f).home ≡ Some (home_in new now.0) = (new_stands now.0).homes f now.1 in
         ap (option_map (λ (x : Home). x.owner)) stands ∙ ap Some owner ∙ sym (ap (option_map (λ (x : Home). x.owner)) home)
   ]
 
@@ -175,7 +175,7 @@ marked_numbers : (unit : ℕ) (b : Bool) (es : List Entry) → map (λ (e : Entr
 marked_numbers unit b [] = refl
 marked_numbers unit b (e ∷ es) = λ i. marked_number b (e.number == unit) e i ∷ marked_numbers unit b es i
 
-without_numbers : (unit : ℕ) (es : List Entry) → map (λ (e : Entry). e.number) (entries_without unit es) ≡ without unit (map (λ (e : Entry). e.number) es)
+without_numbers : (unit : ℕ) (es : List Entry) → map (λ (e : Entry). e.number) (entries_without unit es) ≡ list_without unit (map (λ (e : Entry). e.number) es)
 without_numbers unit [] = refl
 without_numbers unit (e ∷ es) = elim (cases_eq e.number unit) [
   | inl q ↦ let t : (e.number == unit) ≡ true = eq-eqb e.number unit q in rw t refl
@@ -186,7 +186,7 @@ numbers_end : (es : List Entry) (e : Entry) → map (λ (x : Entry). x.number) (
 numbers_end [] e = refl
 numbers_end (x ∷ es) e = ap (λ (l : List ℕ). x.number ∷ l) (numbers_end es e)
 
-among_without : (f g : ℕ) (xs : List ℕ) → (g ≡ f → ⊥) → is_among (without f xs) g ≡ is_among xs g
+among_without : (f g : ℕ) (xs : List ℕ) → (g ≡ f → ⊥) → is_among (list_without f xs) g ≡ is_among xs g
 among_without f g [] ne = refl
 among_without f g (x ∷ xs) ne = elim (cases_eq x f) [
   | inl e ↦ let t : (x == f) ≡ true = eq-eqb x f e in let u : (x == g) ≡ false = ne_eqb x g (λ h. ne (sym h ∙ e)) in rw (t, u) refl
@@ -203,8 +203,8 @@ among_more f g (x ∷ xs) ne = ap (λ b. (x == g) || b) (among_more f g xs ne)
 
 -- the units after a touch that moved one
 moved_listed : (f g : ℕ) (inactive active : List ℕ) → (g ≡ f → ⊥)
-    → (is_among (without f inactive) g || is_among (without f active ++ f ∷ []) g) ≡ (is_among inactive g || is_among active g)
-moved_listed f g inactive active ne = λ i. among_without f g inactive ne i || (among_more f g (without f active) ne ∙ among_without f g active ne) i
+    → (is_among (list_without f inactive) g || is_among (list_without f active ++ f ∷ []) g) ≡ (is_among inactive g || is_among active g)
+moved_listed f g inactive active ne = λ i. among_without f g inactive ne i || (among_more f g (list_without f active) ne ∙ among_without f g active ne) i
 
 -- the units of a list are the numbers of its entries
 units_numbers : (links : List Link) (lru : Lru) (list : LruList)
@@ -221,23 +221,23 @@ touched_listed before after lru new f touch.Marked old on touches g =
     ∙ sym (units_numbers before lru Active) in
     λ i. is_among (a i) g || is_among (b i) g
 touched_listed before after lru new f touch.Active old on touches g =
-    let a : units_of after new.inactive ≡ without f (units_of before lru.inactive) = units_numbers after new Inactive
+    let a : units_of after new.inactive ≡ list_without f (units_of before lru.inactive) = units_numbers after new Inactive
     ∙ ap (map (λ (e : Entry). e.number)) touches.1
-    ∙ without_numbers f (inactive_of before lru) ∙ ap (without f) (sym (units_numbers before lru Inactive)) in
-    let b : units_of after new.active ≡ without f (units_of before lru.active) ++ f ∷ [] =
+    ∙ without_numbers f (inactive_of before lru) ∙ ap (list_without f) (sym (units_numbers before lru Inactive)) in
+    let b : units_of after new.active ≡ list_without f (units_of before lru.active) ++ f ∷ [] =
     units_numbers after new Active ∙ ap (map (λ (e : Entry). e.number)) touches.2
     ∙ numbers_end (entries_without f (active_of before lru)) (marked false (entry_of before f))
-    ∙ ap (λ (l : List ℕ). l ++ f ∷ []) (without_numbers f (active_of before lru) ∙ ap (without f) (sym (units_numbers before lru Active))) in
+    ∙ ap (λ (l : List ℕ). l ++ f ∷ []) (without_numbers f (active_of before lru) ∙ ap (list_without f) (sym (units_numbers before lru Active))) in
     let now : (is_among (units_of after new.inactive) g || is_among (units_of after new.active) g)
-    ≡ (is_among (without f (units_of before lru.inactive)) g || is_among (without f (units_of before lru.active) ++ f ∷ []) g) =
+    ≡ (is_among (list_without f (units_of before lru.inactive)) g || is_among (list_without f (units_of before lru.active) ++ f ∷ []) g) =
     λ i. is_among (a i) g || is_among (b i) g in
     elim (cases_eq g f) [
       | inl e ↦
           let l = some_list (list_of before lru.owner f) on in
           let was : (is_among (units_of before lru.inactive) f || is_among (units_of before lru.active) f) ≡ true =
           listed_as before lru l.0 f ((old l.0).at_home f (home_of_list (link_at before f).home lru l.0 l.1)) in
-          let is : (is_among (without f (units_of before lru.inactive)) f || is_among (without f (units_of before lru.active) ++ f ∷ []) f) ≡ true =
-          or_right _ _ (among_end f (without f (units_of before lru.active))) in
+          let is : (is_among (list_without f (units_of before lru.inactive)) f || is_among (list_without f (units_of before lru.active) ++ f ∷ []) f) ≡ true =
+          or_right _ _ (among_end f (list_without f (units_of before lru.active))) in
           subst (λ (k : ℕ). (is_among (units_of after new.inactive) k || is_among (units_of after new.active) k)
           ≡ (is_among (units_of before lru.inactive) k || is_among (units_of before lru.active) k)) (sym e)
           ((λ i. is_among (a i) f || is_among (b i) f) ∙ is ∙ sym was)

@@ -9,7 +9,7 @@ use Rattle.lru_lists.specs.declared.record.Link.{Link}
 use Rattle.lru_lists.specs.declared.record.Home.{Home}
 use Rattle.lru_lists.specs.declared.record.Entry.{Entry}
 use Rattle.lru_lists.specs.declared.record.LruList.{LruList}
-use Rattle.lru_lists.specs.Queue.{link_at, nowhere, is_among, AreApart, units_of}
+use Rattle.lru_lists.specs.Queue.{link_at, nowhere, is_among, HasNoRepeats, units_of}
 use Rattle.lru_lists.specs.Lists.{entries_without, entry_after, first_entry, entry_of, queue_of}
 use Rattle.mem_machine.specs.Machines.{KnownMachine, IsConsistent, home_of, lists_at, no_lists}
 use Rattle.mem_machine.specs.Ageing.{entries_in}
@@ -78,7 +78,7 @@ map_has : (links : List Link) (units : List ℕ) (f : ℕ) → has_unit f (map (
 map_has links [] f = refl
 map_has links (x ∷ xs) f = ap (λ (b : Bool). x == f || b) (map_has links xs f)
 
-map_apart : (links : List Link) (units : List ℕ) → AreApart units → AreApartUnits (map (entry_of links) units)
+map_apart : (links : List Link) (units : List ℕ) → HasNoRepeats units → AreApartUnits (map (entry_of links) units)
 map_apart links [] apart = tt
 map_apart links (x ∷ xs) apart = (map_has links xs x ∙ apart.0, map_apart links xs apart.1)
 

@@ -4,7 +4,7 @@ use Rattle.frame_word.specs.Views.{note_of, looked}
 use Rattle.frame_word.specs.Seats.{KnownTable, KnownSeat, seat_with, seat_references}
 use Rattle.stock_word.specs.declared.view.Stock.{Stock}
 use Rattle.stock_word.specs.declared.view.Stock.TheVariants.{NoGroup, HeldBy, DrainedOf}
-use Rattle.stock_word.specs.Stock.{KnownStockTable, group_of, is_held, pages_of}
+use Rattle.stock_word.specs.Stock.{KnownStockTable, group_of, is_held, stock_pages_of}
 use Rattle.cpu_part.specs.Cpus.{KnownCpu}
 use Rattle.mem_machine.specs.FrameStates.{frame_state_at, some_cpu}
 use Rattle.mem_machine.specs.Machines.{KnownMachine, FitsFrameState, IsConsistent, StaysVisited, VisitState, home_of}
@@ -76,7 +76,7 @@ looked_all t w m now same ok f pins word is seat found =
 -- ---- a stock
 
 -- a stock is what its group, its pages and whether it is held make it
-stock_again : (s : Stock) → s ≡ stock_as (group_of s) (is_held s) (pages_of s)
+stock_again : (s : Stock) → s ≡ stock_as (group_of s) (is_held s) (stock_pages_of s)
 stock_again NoGroup = refl
 stock_again (HeldBy g n) = refl
 stock_again (DrainedOf g) = refl

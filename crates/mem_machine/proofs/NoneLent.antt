@@ -7,13 +7,13 @@ use Rattle.std.proofs.lemmas.Option.{none-some}
 use Rattle.std.proofs.lemmas.List.{get_or_past}
 use Rattle.std.proofs.lemmas.List.Sums.{sum_by-append}
 use Rattle.frame_word.specs.Views.{note_of}
-use Rattle.frame_word.specs.Seats.{KnownTable, IsLent, IsBorrowed, LentIsBorrowed, number_of}
+use Rattle.frame_word.specs.Seats.{KnownTable, IsLent, IsBorrowed, LentIsBorrowed, seat_number}
 use Rattle.stock_word.specs.Stock.{KnownStockTable}
 use Rattle.cpu_part.specs.Cpus.{KnownCpu, IsTied, times}
 use Rattle.step_rules.specs.State.{one_if}
 use Rattle.mem_machine.specs.declared.frame_state.FrameState.{FrameState}
 use Rattle.mem_machine.specs.declared.frame_state.FrameState.TheVariants.{Free, Lent, Head, Tail}
-use Rattle.mem_machine.specs.FrameStates.{frame_state_at, is_free, frame_state_group, some_cpu, lent_to}
+use Rattle.mem_machine.specs.FrameStates.{frame_state_at, is_free_state, frame_state_group, some_cpu, cpu_lent_to}
 use Rattle.mem_machine.specs.Machines.{KnownMachine, IsConsistent}
 use Rattle.mem_machine.specs.Places.{frames_free, frames_in_groups, NoneLentTo}
 
@@ -30,14 +30,14 @@ lent_is (suc n) p is = let same : suc n ≡ p = number_is is in (same, omega (ar
     number_is e = ap (number_or 0) e
 
 pub past_free : (p : ℕ) → Free ≡ Lent p → ⊥
-past_free p e = none-some p (ap lent_to e)
+past_free p e = none-some p (ap cpu_lent_to e)
 
 -- a frame that is lent is one of the zone's, and the zone's seat notes whom it is lent to
 lent_noted : (t : KnownTable) (w : KnownStockTable) (m : KnownMachine) → IsConsistent t w m → (f p : ℕ) → frame_state_at m.frame_states f ≡ Lent p
     → (f < t.frames) × ((note_of m.frame_seat.view f).lent ≡ p) × (1 ≤ p)
 lent_noted t w m ok f p is = elim (cases_lt f t.frames) [
   | inl inside ↦
-      let noted = lent_is (note_of m.frame_seat.view f).lent p ((ok.frame_states f inside).lent ∙ ap lent_to is) in
+      let noted = lent_is (note_of m.frame_seat.view f).lent p ((ok.frame_states f inside).lent ∙ ap cpu_lent_to is) in
       (inside, noted.0, noted.1)
   | inr past ↦
       let sized = ok.sizes.frame_states in
@@ -47,14 +47,14 @@ lent_noted t w m ok f p is = elim (cases_lt f t.frames) [
 -- who a frame is lent to is one of the CPUs
 pub lent_to_cpu : (t : KnownTable) (w : KnownStockTable) (m : KnownMachine) → IsConsistent t w m → (f p : ℕ) → frame_state_at m.frame_states f ≡ Lent p → (1 ≤ p) × (p ≤ t.cpus)
 lent_to_cpu t w m ok f p is =
-    subst (λ (x : FrameState). IfSome (lent_to x) (λ q. (1 ≤ q) × (q ≤ t.cpus))) is (ok.frame_states f (lent_noted t w m ok f p is).0).borrower
+    subst (λ (x : FrameState). IfSome (cpu_lent_to x) (λ q. (1 ≤ q) × (q ≤ t.cpus))) is (ok.frame_states f (lent_noted t w m ok f p is).0).borrower
 
 -- a CPU with no listed and no fresh frame has none that is lent to it
 pub none_lent : (t : KnownTable) (w : KnownStockTable) (m : KnownMachine) (c : KnownCpu) → IsConsistent t w m → IsTied t w c → LentIsBorrowed t m.frame_seat c.frame_seat
     → c.list ≡ [] → c.fresh ≡ [] → NoneLentTo c.number m.frame_states
 none_lent t w m c ok tied lent no_list no_fresh f is =
     let noted = lent_noted t w m ok f c.number is in
-    let its : IsLent m.frame_seat f (number_of c.frame_seat) = noted.1 ∙ sym tied.seats.frame_number in
+    let its : IsLent m.frame_seat f (seat_number c.frame_seat) = noted.1 ∙ sym tied.seats.frame_number in
     let borrowed : IsBorrowed c.frame_seat f = (lent f noted.0).0 its in
     let listed : times f c.list ≡ 0 = ap (times f) no_list in
     let fresh : times f c.fresh ≡ 0 = ap (times f) no_fresh in
@@ -67,12 +67,12 @@ each_is_placed [] none = refl
 each_is_placed (x ∷ xs) none =
     let rest = each_is_placed xs (λ f p is. none (suc f) p is) in
     let this = one_place x (λ p is. none 0 p is) in
-    let free : frames_free (x ∷ xs) ≡ 0 + one_if (is_free x) + frames_free xs = sum_by-append (λ (y : FrameState). one_if (is_free y)) (x ∷ []) xs in
+    let free : frames_free (x ∷ xs) ≡ 0 + one_if (is_free_state x) + frames_free xs = sum_by-append (λ (y : FrameState). one_if (is_free_state y)) (x ∷ []) xs in
     let charged : frames_in_groups (x ∷ xs) ≡ 0 + one_if (is_some (frame_state_group x)) + frames_in_groups xs =
     sum_by-append (λ (y : FrameState). one_if (is_some (frame_state_group y))) (x ∷ []) xs in
     omega (arith, rest, this, free, charged)
   where
-    one_place : (x : FrameState) → ((p : ℕ) → x ≡ Lent p → ⊥) → one_if (is_free x) + one_if (is_some (frame_state_group x)) ≡ 1
+    one_place : (x : FrameState) → ((p : ℕ) → x ≡ Lent p → ⊥) → one_if (is_free_state x) + one_if (is_some (frame_state_group x)) ≡ 1
     one_place Free none = refl
     one_place (Lent p) none = absurd (none p refl)
     one_place (Head unit) none = refl

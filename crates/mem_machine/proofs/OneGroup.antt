@@ -11,7 +11,7 @@ use Rattle.lru_lists.specs.declared.record.Home.{Home}
 use Rattle.lru_lists.specs.declared.record.Entry.{Entry}
 use Rattle.lru_lists.specs.declared.record.LruList.{LruList}
 use Rattle.lru_lists.specs.declared.lru.Lru.{Lru}
-use Rattle.lru_lists.specs.Lists.{OthersStayLinked, OneOfAllChanges, AreLinked, AllLinked, ChangesOwn, SameOwners, Ages, owner_of, list_of, place_of, entries_of}
+use Rattle.lru_lists.specs.Lists.{OthersStayLinked, OneOfAllChanges, AreLinked, AllLinked, ChangesOwn, SameOwners, Ages, owner_of, list_of, list_at, entries_of}
 use Rattle.lru_lists.specs.Lists.{inactive_of, active_of, entries_without, entry_of, marked, first_entry, entry_after}
 use Rattle.mem_machine.specs.FrameStates.{frame_state_at}
 use Rattle.mem_machine.specs.Machines.{KnownMachine, IsConsistent, OthersStay, UnlistedStay, home_of, lists_at}
@@ -44,7 +44,7 @@ pub read_on : (now : KnownMachine) (g : ℕ) (lru : Lru) → AreRead now g lru �
     → home_of now.links f ≡ Some (record { owner = g; list = list }) → list_of now.links lru.owner i ≡ Some list
 read_on now g lru is f i at list home =
     ap (λ (x : ℕ × ℕ). list_of now.links x.0 x.1) (λ j. (is.owner j, at j))
-    ∙ ap (λ (h : Option Home). place_of h g) home ∙ place_here g list
+    ∙ ap (λ (h : Option Home). list_at h g) home ∙ place_here g list
 
 pub some_on : (now : KnownMachine) (g : ℕ) (lru : Lru) → AreRead now g lru → (f i : ℕ) → i ≡ f → (list : LruList)
     → home_of now.links f ≡ Some (record { owner = g; list = list }) → list_of now.links lru.owner i ≢ None

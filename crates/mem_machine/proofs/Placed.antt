@@ -24,7 +24,7 @@ use Rattle.step_rules.proofs.Basics.{at_same, at_other}
 use Rattle.mem_machine.specs.declared.frame_state.FrameState.TheVariants.{Head, Tail}
 use Rattle.mem_machine.specs.FrameStates.{frame_state_at}
 use Rattle.mem_machine.specs.Machines.{KnownMachine, is_killed}
-use Rattle.mem_machine.specs.Local.{hold_of, references_of, phase_of, part_of, local_of, visit_state}
+use Rattle.mem_machine.specs.Local.{hold_of_cpu, references_of, phase_of, part_of, local_of, visit_state}
 use Rattle.mem_machine.specs.Blocks.{placed_frame_state, taken_steps}
 use Rattle.mem_machine.proofs.Reaching.{zone_step}
 use Rattle.mem_machine.proofs.Holds.{zone_may_act}
@@ -37,7 +37,7 @@ use Rattle.mem_machine.proofs.Followed.{LeadsAs}
 pub record IsPlaced (m : KnownMachine) (c : KnownCpu) (g : ℕ) (b : Block) (n : KnownMachine) : Type 0 where
   pub frame_states : (f : ℕ) → frame_state_at n.frame_states f ≡ placed_frame_state m.frame_states g b f
   pub references : (f : ℕ) → seat_references n.frame_seat f ≡ with_at (seat_references m.frame_seat) b.at (seat_references m.frame_seat b.at + 1) f
-  pub hold : hold_of n.frame_seat c.number ≡ hold_of m.frame_seat c.number
+  pub hold : hold_of_cpu n.frame_seat c.number ≡ hold_of_cpu m.frame_seat c.number
   pub groups : n.ledger.groups ≡ m.ledger.groups
   pub killed : n.killed ≡ m.killed
   pub stock_seat : n.stock_seat ≡ m.stock_seat

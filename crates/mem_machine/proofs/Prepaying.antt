@@ -9,7 +9,7 @@ use Rattle.stock_word.specs.declared.view.StockAccount.{StockAccount}
 use Rattle.stock_word.specs.declared.view.StockView.{StockView}
 use Rattle.stock_word.specs.declared.view.Stock.{Stock}
 use Rattle.stock_word.specs.declared.view.Stock.TheVariants.{NoGroup, HeldBy, DrainedOf}
-use Rattle.stock_word.specs.Stock.{KnownStockTable, KnownStockSeat, account_of, pages_of, is_held}
+use Rattle.stock_word.specs.Stock.{KnownStockTable, KnownStockSeat, account_of, stock_pages_of, is_held}
 use Rattle.stock_word.specs.Kinds.{zone_after_fill, after_fill}
 use Rattle.stock_word.specs.Calls.{with_view}
 use Rattle.stock_word.proofs.CallerLemmas.{account_of-with_account, account_of-with_account_other}
@@ -17,7 +17,7 @@ use Rattle.group_tree.specs.declared.group.Group.{Group}
 use Rattle.group_tree.specs.Groups.{has_group, in_subtree}
 use Rattle.group_tree.specs.Room as room
 use Rattle.group_charge.specs.declared.account.Account as charge
-use Rattle.group_charge.specs.Charges.{Ledger, AreCharges, current_of, usage_of, taken, with_charge, PagesRise}
+use Rattle.group_charge.specs.Charges.{Ledger, AreCharges, current_of, usage_charged, taken, with_charge, PagesRise}
 use Rattle.group_charge.proofs.CallerLemmas.{charge_pages}
 use Rattle.group_charge.proofs.SumLemmas.{share}
 use Rattle.cpu_part.specs.Cpus.{KnownCpu, IsTied, times}
@@ -268,8 +268,8 @@ less_if : (b : Bool) (p n : ℕ) → cond b (p - n) 0 ≤ cond b p 0
 less_if true p n = omega arith
 less_if false p n = omega arith
 
-usage_falls : (groups : List Group) (xs : List charge.Account) (g n m : ℕ) → usage_of groups (map (taken g n) xs) m ≤ usage_of groups xs m
-unfolding usage_of
+usage_falls : (groups : List Group) (xs : List charge.Account) (g n m : ℕ) → usage_charged groups (map (taken g n) xs) m ≤ usage_charged groups xs m
+unfolding usage_charged
 usage_falls groups [] g n m = omega arith
 usage_falls groups (x ∷ xs) g n m =
     let here : share groups m (taken g n x) ≤ share groups m x = cond_both (x.group == g) (record x { pages = x.pages - n }) x
@@ -283,7 +283,7 @@ pub current_falls : (l : Ledger) (o : Option ℕ) (n m : ℕ) → current_of (un
 current_falls l None n m = omega arith
 current_falls l (Some g) n m = usage_falls l.groups l.accounts g n m
 
-none_in : (stock : Stock) → is_held stock ≡ false → pages_of stock ≡ 0
+none_in : (stock : Stock) → is_held stock ≡ false → stock_pages_of stock ≡ 0
 none_in NoGroup is = refl
 none_in (HeldBy g n) is = absurd (false≢true (sym is))
 none_in (DrainedOf g) is = refl
@@ -325,9 +325,9 @@ module _ (m x : KnownMachine) (q p k : ℕ) (named : q ≡ p) (d : Drains q k m 
       let its : c.number ≡ q = mine ∙ sym named in
       let account : account_of x.stock_seat.view c.number ≡ drained_account m.stock_seat.view q k =
       ap (account_of x.stock_seat.view) its ∙ ap (λ (z : KnownMachine). account_of z.stock_seat.view q) d.machine ∙ drained_at m.stock_seat.view q k in
-      let empty : pages_of stock ≡ 0 = none_in stock (own.held ∙ ap (λ (a : StockAccount). a.filled) account) in
+      let empty : stock_pages_of stock ≡ 0 = none_in stock (own.held ∙ ap (λ (a : StockAccount). a.filled) account) in
       let left : (account_of x.stock_seat.view c.number).book ≡ (account_of m.stock_seat.view q).book - k = ap (λ (a : StockAccount). a.book) account in
-      let all : pages_of stock ≡ (account_of x.stock_seat.view c.number).book - length c.fresh = own.pages in
+      let all : stock_pages_of stock ≡ (account_of x.stock_seat.view c.number).book - length c.fresh = own.pages in
       let fresh : length c.fresh ≡ 0 = ap length none in
       let booked = d.booked in
       let book : (account_of m.stock_seat.view c.number).book ≡ (account_of m.stock_seat.view q).book = ap (λ (n : ℕ). (account_of m.stock_seat.view n).book) its in

@@ -20,7 +20,7 @@ use Rattle.step_rules.proofs.Sums.{sum_same}
 use Rattle.lru_lists.specs.declared.record.Link.{Link}
 use Rattle.mem_machine.specs.declared.frame_state.FrameState.{FrameState}
 use Rattle.mem_machine.specs.declared.frame_state.FrameState.TheVariants.{Free, Lent, Head, Tail}
-use Rattle.mem_machine.specs.FrameStates.{frame_state_at, is_free, free_of, frame_state_group, one_if_is, is_in_hand, some_cpu, lent_to, AreUnits}
+use Rattle.mem_machine.specs.FrameStates.{frame_state_at, is_free_state, free_of, frame_state_group, one_if_is, is_in_hand, some_cpu, cpu_lent_to, AreUnits}
 use Rattle.mem_machine.specs.Machines.{FitsFrameState, home_of, frames_charged}
 
 -- ---- which frames are free
@@ -29,13 +29,13 @@ pub length_free : (frame_states : List FrameState) → length (free_of frame_sta
 length_free [] = refl
 length_free (x ∷ xs) = let e = length_free xs in omega (arith, e)
 
-pub free_at : (frame_states : List FrameState) (f : ℕ) → f < length frame_states → get_or (free_of frame_states) f false ≡ is_free (frame_state_at frame_states f)
+pub free_at : (frame_states : List FrameState) (f : ℕ) → f < length frame_states → get_or (free_of frame_states) f false ≡ is_free_state (frame_state_at frame_states f)
 free_at [] f inside = absurd (omega arith)
 free_at (x ∷ xs) zero inside = refl
 free_at (x ∷ xs) (suc f) inside = free_at xs f (omega arith)
 
 -- a free frame has the record of one
-pub free_is : (x : FrameState) → is_free x ≡ true → x ≡ Free
+pub free_is : (x : FrameState) → is_free_state x ≡ true → x ≡ Free
 free_is Free e = refl
 free_is x e = absurd (false≢true e)
 
@@ -54,7 +54,7 @@ one_covered f g h = let a = h.from in let b : g < f + 1 = h.before in omega (ari
 
 -- the free frames of two sets that differ at one frame
 pub free_set : (before after : List Bool) (frame_states : List FrameState) (f : ℕ) (x : FrameState) → f < length frame_states → before ≡ free_of frame_states → length after ≡ length before
-    → (IsFree after f → is_free x ≡ true) → (is_free x ≡ true → IsFree after f)
+    → (IsFree after f → is_free_state x ≡ true) → (is_free_state x ≡ true → IsFree after f)
     → ((g : ℕ) → (g ≡ f → ⊥) → (IsFree after g → IsFree before g) × (IsFree before g → IsFree after g))
     → after ≡ free_of (slice_set frame_states f x)
 free_set before after frame_states f x inside was same to from others =
@@ -65,27 +65,27 @@ free_set before after frame_states f x inside was same to from others =
     let now = free_at (slice_set frame_states f x) g room in
     elim (cases_eq g f) [
       | inl e ↦
-          let here : is_free (frame_state_at (slice_set frame_states f x) g) ≡ is_free x =
-          ap (λ (h : ℕ). is_free (frame_state_at (slice_set frame_states f x) h)) e ∙ ap is_free (get_or-set_same frame_states f x Free inside) in
+          let here : is_free_state (frame_state_at (slice_set frame_states f x) g) ≡ is_free_state x =
+          ap (λ (h : ℕ). is_free_state (frame_state_at (slice_set frame_states f x) h)) e ∙ ap is_free_state (get_or-set_same frame_states f x Free inside) in
           both_ways _ _ (λ a. now ∙ here ∙ to (subst (λ (h : ℕ). IsFree after h) e a))
           (λ b. subst (λ (h : ℕ). IsFree after h) (sym e) (from (sym here ∙ sym now ∙ b)))
       | inr ne ↦
           let there : g < length frame_states = subst (λ (n : ℕ). g < n) (length-set frame_states f x) room in
-          let old : get_or before g false ≡ is_free (frame_state_at frame_states g) = ap (λ (l : List Bool). get_or l g false) was ∙ free_at frame_states g there in
-          let else_ : is_free (frame_state_at (slice_set frame_states f x) g) ≡ is_free (frame_state_at frame_states g) = ap is_free (get_or-set_other frame_states f g x Free ne) in
+          let old : get_or before g false ≡ is_free_state (frame_state_at frame_states g) = ap (λ (l : List Bool). get_or l g false) was ∙ free_at frame_states g there in
+          let else_ : is_free_state (frame_state_at (slice_set frame_states f x) g) ≡ is_free_state (frame_state_at frame_states g) = ap is_free_state (get_or-set_other frame_states f g x Free ne) in
           both_ways _ _ (λ a. now ∙ else_ ∙ sym old ∙ (others g ne).0 a) (λ b. (others g ne).1 (old ∙ sym else_ ∙ sym now ∙ b))
     ])
 
 -- after a frame was taken
 pub free_taken : (before after : List Bool) (frame_states : List FrameState) (f : ℕ) (x : FrameState) → f < length frame_states → before ≡ free_of frame_states
-    → TakesFrames before (record { at = f; order = 0 }) after → is_free x ≡ false → after ≡ free_of (slice_set frame_states f x)
+    → TakesFrames before (record { at = f; order = 0 }) after → is_free_state x ≡ false → after ≡ free_of (slice_set frame_states f x)
 free_taken before after frame_states f x inside was takes used =
     free_set before after frame_states f x inside was takes.same_length (λ a. absurd (takes.in_use f (covers_one f) a)) (λ a. absurd (false≢true (sym used ∙ a)))
     (λ g ne. let o = takes.others g (λ h. ne (one_covered f g h)) in (o.0, o.1))
 
 -- after a frame was freed
 pub free_given : (before after : List Bool) (frame_states : List FrameState) (f : ℕ) (x : FrameState) → f < length frame_states → before ≡ free_of frame_states
-    → TakesFrames after (record { at = f; order = 0 }) before → is_free x ≡ true → after ≡ free_of (slice_set frame_states f x)
+    → TakesFrames after (record { at = f; order = 0 }) before → is_free_state x ≡ true → after ≡ free_of (slice_set frame_states f x)
 free_given before after frame_states f x inside was gives free =
     free_set before after frame_states f x inside was (sym gives.same_length) (λ a. free) (λ a. gives.were_free f (covers_one f))
     (λ g ne. let o = gives.others g (λ h. ne (one_covered f g h)) in (o.1, o.0))
@@ -105,14 +105,14 @@ lent_number None = 0
 lent_number (Some p) = p
 
 -- a frame that is lent to a CPU has the record of one
-pub lent_frame_state : (x : FrameState) (p : ℕ) → 1 ≤ p → some_cpu p ≡ lent_to x → x ≡ Lent p
+pub lent_frame_state : (x : FrameState) (p : ℕ) → 1 ≤ p → some_cpu p ≡ cpu_lent_to x → x ≡ Lent p
 lent_frame_state Free p some is = absurd (none-some p (sym is ∙ some_cpu_is p some))
 lent_frame_state (Lent q) p some is = ap Lent (ap lent_number (sym is ∙ some_cpu_is p some))
 lent_frame_state (Head unit) p some is = absurd (none-some p (sym is ∙ some_cpu_is p some))
 lent_frame_state (Tail g) p some is = absurd (none-some p (sym is ∙ some_cpu_is p some))
 
 -- a frame that is lent to none, and isn't in the zone's hand, heads a unit
-pub heads_one : (x : FrameState) → some_cpu 0 ≡ lent_to x → 0 ≡ one_if (is_in_hand x) → (unit : ChargedUnit) × (x ≡ Head unit)
+pub heads_one : (x : FrameState) → some_cpu 0 ≡ cpu_lent_to x → 0 ≡ one_if (is_in_hand x) → (unit : ChargedUnit) × (x ≡ Head unit)
 heads_one Free is hand = absurd (omega (arith, hand))
 heads_one (Lent q) is hand = absurd (none-some q is)
 heads_one (Head unit) is hand = (unit, refl)

@@ -10,7 +10,7 @@ use Rattle.zone_blocks.specs.declared.block.Block.{Block}
 use Rattle.zone_blocks.specs.Areas.{AreMaximalBlocks}
 use Rattle.frame_word.specs.declared.view.FrameNote.{FrameNote}
 use Rattle.frame_word.specs.Views.{note_of, put_left, put_last}
-use Rattle.frame_word.specs.Seats.{KnownTable, KnownSeat, number_of, seat_with, seat_references, IsBorrowed}
+use Rattle.frame_word.specs.Seats.{KnownTable, KnownSeat, seat_number, seat_with, seat_references, IsBorrowed}
 use Rattle.frame_word.proofs.Notes.{note_here, note_else}
 use Rattle.stock_word.specs.Stock.{KnownStockTable}
 use Rattle.zone_buddy.specs.Zone.{GivesFrames}
@@ -37,7 +37,7 @@ use Rattle.step_rules.proofs.Basics.{at_same, at_other}
 use Rattle.step_rules.proofs.Placing.{within_cases}
 use Rattle.mem_machine.specs.declared.frame_state.FrameState.{FrameState}
 use Rattle.mem_machine.specs.declared.frame_state.FrameState.TheVariants.{Free, Head}
-use Rattle.mem_machine.specs.FrameStates.{frame_state_at, free_of, head_group_of, lent_to, some_cpu}
+use Rattle.mem_machine.specs.FrameStates.{frame_state_at, free_of, head_group_of, cpu_lent_to, some_cpu}
 use Rattle.mem_machine.specs.Machines.{KnownMachine, FitsFrameState, IsConsistent, Visits, BalancesCounts, home_of, is_killed, group_lists, lists_of}
 use Rattle.mem_machine.specs.Local.{IsLocalRun, local_of, phase_of, references_of, visit_state}
 use Rattle.mem_machine.specs.Counts.{with_last_put}
@@ -74,12 +74,12 @@ pub visit_stays : (t : KnownTable) (m n : KnownMachine) (c : KnownCpu) (f : ℕ)
     → ((k : FrameNote) → (change k).collected ≡ k.collected) → Visits t (visit_state m c) → Visits t (visit_state n c)
 visit_stays t m n c f change seat lent out back visit = record {
   is_open = subst (λ (s : KnownSeat). get_or s.view.opened c.number 0 ≡ 1) (sym seat) visit.is_open;
-  still = λ g inside. subst (λ (s : KnownSeat). get_or (note_of s.view g).passed_out (number_of c.frame_seat) 0 + (note_of c.frame_seat.view g).passed_back
-      ≡ get_or (note_of s.view g).collected (number_of c.frame_seat) 0 + (note_of c.frame_seat.view g).taken_in) (sym seat)
-      (ap (λ (l : List ℕ). get_or l (number_of c.frame_seat) 0 + (note_of c.frame_seat.view g).passed_back) (note_keeps m.frame_seat f change (λ k. k.passed_out) out g)
+  still = λ g inside. subst (λ (s : KnownSeat). get_or (note_of s.view g).passed_out (seat_number c.frame_seat) 0 + (note_of c.frame_seat.view g).passed_back
+      ≡ get_or (note_of s.view g).collected (seat_number c.frame_seat) 0 + (note_of c.frame_seat.view g).taken_in) (sym seat)
+      (ap (λ (l : List ℕ). get_or l (seat_number c.frame_seat) 0 + (note_of c.frame_seat.view g).passed_back) (note_keeps m.frame_seat f change (λ k. k.passed_out) out g)
       ∙ visit.still g inside
-      ∙ sym (ap (λ (l : List ℕ). get_or l (number_of c.frame_seat) 0 + (note_of c.frame_seat.view g).taken_in) (note_keeps m.frame_seat f change (λ k. k.collected) back g)));
-  lent = λ g inside. subst (λ (k : ℕ). (k ≡ number_of c.frame_seat → IsBorrowed c.frame_seat g) × (IsBorrowed c.frame_seat g → k ≡ number_of c.frame_seat))
+      ∙ sym (ap (λ (l : List ℕ). get_or l (seat_number c.frame_seat) 0 + (note_of c.frame_seat.view g).taken_in) (note_keeps m.frame_seat f change (λ k. k.collected) back g)));
+  lent = λ g inside. subst (λ (k : ℕ). (k ≡ seat_number c.frame_seat → IsBorrowed c.frame_seat g) × (IsBorrowed c.frame_seat g → k ≡ seat_number c.frame_seat))
       (sym (ap (λ (s : KnownSeat). (note_of s.view g).lent) seat ∙ note_keeps m.frame_seat f change (λ k. k.lent) lent g)) (visit.lent g inside);
 }
 
@@ -228,7 +228,7 @@ module _ (t : KnownTable) (w : KnownStockTable) (m : KnownMachine) (ok : IsConsi
           (record {
             own = takes.own (note_of m.frame_seat.view f);
             borrowed = takes.borrowed (note_of m.frame_seat.view f) ∙ (ok.frame_states f inside).borrowed;
-            lent = ap some_cpu (takes.lent (note_of m.frame_seat.view f)) ∙ (ok.frame_states f inside).lent ∙ ap lent_to heads;
+            lent = ap some_cpu (takes.lent (note_of m.frame_seat.view f)) ∙ (ok.frame_states f inside).lent ∙ ap cpu_lent_to heads;
             borrower = tt;
             references = takes.references (note_of m.frame_seat.view f) ∙ no_reference;
             kept = no_home Free;

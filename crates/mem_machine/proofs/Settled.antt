@@ -13,7 +13,7 @@ use Rattle.stock_word.specs.declared.view.Stock.TheVariants.{NoGroup, HeldBy, Dr
 use Rattle.stock_word.specs.Stock.{group_of}
 use Rattle.cpu_part.specs.Cpus.{KnownCpu}
 use Rattle.mem_machine.specs.Machines.{KnownMachine, Visits, is_killed}
-use Rattle.mem_machine.specs.Local.{fresh_group, visit_state, MakesAs, VisitState}
+use Rattle.mem_machine.specs.Local.{group_of_fresh, visit_state, MakesAs, VisitState}
 use Rattle.mem_machine.specs.Settling.{FindsNoneBack, FindsNoneFresh, HandsOver, KeepsFresh, DropsFresh, SettlesFresh, SettlesAllFresh, ReturnsBack, ReturnsAllBack, LeavesOthers, Settles}
 use Rattle.mem_machine.specs.Settling.{fresh_steps, return_steps, settle_steps}
 use Rattle.mem_machine.proofs.Followed.{makes_both, makes_none}
@@ -25,7 +25,7 @@ pub record WentOver (f : ℕ) (m : KnownMachine) (c : KnownCpu) (n : KnownMachin
   pub front : c.fresh ≡ f ∷ d.fresh
   pub others : LeavesOthers c d
   pub back : d.back ≡ c.back
-  pub group : fresh_group d ≡ fresh_group c
+  pub group : group_of_fresh d ≡ group_of_fresh c
   pub killed : n.killed ≡ m.killed
 
 went_over : (f : ℕ) (m : KnownMachine) (c : KnownCpu) (n : KnownMachine) (d : KnownCpu) → HandsOver f c d → n.killed ≡ m.killed → WentOver f m c n d
@@ -37,12 +37,12 @@ went_over f m c n d hands killed = record {
     pins = ap (λ (x : KnownCpu). x.pins) hands.cpu;
   };
   back = ap (λ (x : KnownCpu). x.back) hands.cpu;
-  group = ap fresh_group hands.cpu;
+  group = ap group_of_fresh hands.cpu;
   killed = killed;
 }
 
 pub settled_over : (f : ℕ) (m : KnownMachine) (c : KnownCpu) (n : KnownMachine) (d : KnownCpu) → SettlesFresh f (visit_state m c) (visit_state n d) → WentOver f m c n d
-settled_over f m c n d one = elim (cases_Bool (is_killed m.killed (fresh_group c))) [
+settled_over f m c n d one = elim (cases_Bool (is_killed m.killed (group_of_fresh c))) [
   | inl killed ↦ let drops = one.drops killed in went_over f m c n d drops.cpu (ap (λ (x : KnownMachine). x.killed) drops.machine)
   | inr alive ↦ let keeps = one.keeps alive in went_over f m c n d keeps.cpu (ap (λ (x : KnownMachine). x.killed) keeps.machine)
 ]
@@ -55,22 +55,22 @@ killed_read killed n g mark same size few read on =
     get_or_default killed g false mark inside ∙ ap (λ (k : ℕ). slice_index_or killed k mark) (sym same) ∙ sym read ∙ on
 
 -- the two ways in which it goes
-pub settles_kept : (f g : ℕ) (m : KnownMachine) (c : KnownCpu) (n : KnownMachine) (d : KnownCpu) → fresh_group c ≡ g → is_killed m.killed g ≡ false
+pub settles_kept : (f g : ℕ) (m : KnownMachine) (c : KnownCpu) (n : KnownMachine) (d : KnownCpu) → group_of_fresh c ≡ g → is_killed m.killed g ≡ false
     → KeepsFresh g f (visit_state m c) (visit_state n d) → SettlesFresh f (visit_state m c) (visit_state n d)
 settles_kept f g m c n d named alive keeps = record {
   keeps = λ e. subst (λ (k : ℕ). KeepsFresh k f (visit_state m c) (visit_state n d)) (sym named) keeps;
   drops = λ e. absurd (false≢true (sym (ap (is_killed m.killed) named ∙ alive) ∙ e));
 }
 
-pub settles_dropped : (f g : ℕ) (m : KnownMachine) (c : KnownCpu) (n : KnownMachine) (d : KnownCpu) → fresh_group c ≡ g → is_killed m.killed g ≡ true
+pub settles_dropped : (f g : ℕ) (m : KnownMachine) (c : KnownCpu) (n : KnownMachine) (d : KnownCpu) → group_of_fresh c ≡ g → is_killed m.killed g ≡ true
     → DropsFresh g f (visit_state m c) (visit_state n d) → SettlesFresh f (visit_state m c) (visit_state n d)
 settles_dropped f g m c n d named killed drops = record {
   keeps = λ e. absurd (false≢true (sym e ∙ ap (is_killed m.killed) named ∙ killed));
   drops = λ e. subst (λ (k : ℕ). DropsFresh k f (visit_state m c) (visit_state n d)) (sym named) drops;
 }
 
-pub steps_of : (b : Bool) (p f g : ℕ) (m : KnownMachine) (c : KnownCpu) (t : KnownTable) (x y : VisitState) → fresh_group c ≡ g → is_killed m.killed g ≡ b
-    → MakesAs t p x (fresh_steps b p f) y → MakesAs t p x (fresh_steps (is_killed m.killed (fresh_group c)) p f) y
+pub steps_of : (b : Bool) (p f g : ℕ) (m : KnownMachine) (c : KnownCpu) (t : KnownTable) (x y : VisitState) → group_of_fresh c ≡ g → is_killed m.killed g ≡ b
+    → MakesAs t p x (fresh_steps b p f) y → MakesAs t p x (fresh_steps (is_killed m.killed (group_of_fresh c)) p f) y
 steps_of b p f g m c t x y named is run = subst (λ (k : Bool). MakesAs t p x (fresh_steps k p f) y) (sym (ap (is_killed m.killed) named ∙ is)) run
 
 -- a list that isn't empty
@@ -93,12 +93,12 @@ of_no_group (DrainedOf g) e = absurd (none-some g (sym e))
 pub record FreshSoFar (t : KnownTable) (m : KnownMachine) (c : KnownCpu) (x : KnownMachine) (y : KnownCpu) : Type 0 where
   pub settles : (n : KnownMachine) (d : KnownCpu) → SettlesAllFresh y.fresh (visit_state x y) (visit_state n d) → SettlesAllFresh c.fresh (visit_state m c) (visit_state n d)
   pub steps : (b : VisitState)
-      → MakesAs t c.number (visit_state x y) (flat_map (fresh_steps (is_killed m.killed (fresh_group c)) c.number) y.fresh) b
-      → MakesAs t c.number (visit_state m c) (flat_map (fresh_steps (is_killed m.killed (fresh_group c)) c.number) c.fresh) b
+      → MakesAs t c.number (visit_state x y) (flat_map (fresh_steps (is_killed m.killed (group_of_fresh c)) c.number) y.fresh) b
+      → MakesAs t c.number (visit_state m c) (flat_map (fresh_steps (is_killed m.killed (group_of_fresh c)) c.number) c.fresh) b
   pub visit : Visits t (visit_state x y)
   pub others : LeavesOthers c y
   pub back : y.back ≡ c.back
-  pub killed : is_killed x.killed (fresh_group y) ≡ is_killed m.killed (fresh_group c)
+  pub killed : is_killed x.killed (group_of_fresh y) ≡ is_killed m.killed (group_of_fresh c)
 
 pub same_others : (c : KnownCpu) → LeavesOthers c c
 same_others c = record { number = refl; list = refl; pins = refl }
@@ -118,10 +118,10 @@ fresh_start t m c visit = record {
 
 pub fresh_more : (t : KnownTable) (m : KnownMachine) (c : KnownCpu) (x : KnownMachine) (y : KnownCpu) (x' : KnownMachine) (y' : KnownCpu) (f : ℕ)
     → FreshSoFar t m c x y → SettlesFresh f (visit_state x y) (visit_state x' y') → Visits t (visit_state x' y')
-    → MakesAs t y.number (visit_state x y) (fresh_steps (is_killed x.killed (fresh_group y)) y.number f) (visit_state x' y') → FreshSoFar t m c x' y'
+    → MakesAs t y.number (visit_state x y) (fresh_steps (is_killed x.killed (group_of_fresh y)) y.number f) (visit_state x' y') → FreshSoFar t m c x' y'
 fresh_more t m c x y x' y' f so_far one visit run =
     let over = settled_over f x y x' y' one in
-    let k : Bool = is_killed m.killed (fresh_group c) in
+    let k : Bool = is_killed m.killed (group_of_fresh c) in
     let p : ℕ = c.number in
     let run_c : MakesAs t p (visit_state x y) (fresh_steps k p f) (visit_state x' y') =
     subst (λ (z : ℕ × Bool). MakesAs t z.0 (visit_state x y) (fresh_steps z.1 z.0 f) (visit_state x' y')) (λ i. (so_far.others.number i, so_far.killed i)) run in
@@ -138,7 +138,7 @@ fresh_more t m c x y x' y' f so_far one visit run =
 -- none is left
 pub record FreshSettled (t : KnownTable) (m : KnownMachine) (c : KnownCpu) (n : KnownMachine) (d : KnownCpu) : Type 0 where
   pub settles : SettlesAllFresh c.fresh (visit_state m c) (visit_state n d)
-  pub steps : MakesAs t c.number (visit_state m c) (flat_map (fresh_steps (is_killed m.killed (fresh_group c)) c.number) c.fresh) (visit_state n d)
+  pub steps : MakesAs t c.number (visit_state m c) (flat_map (fresh_steps (is_killed m.killed (group_of_fresh c)) c.number) c.fresh) (visit_state n d)
   pub others : LeavesOthers c d
   pub back : d.back ≡ c.back
   pub none_fresh : d.fresh ≡ []
@@ -146,7 +146,7 @@ pub record FreshSettled (t : KnownTable) (m : KnownMachine) (c : KnownCpu) (n : 
 pub fresh_end : (t : KnownTable) (m : KnownMachine) (c : KnownCpu) (x : KnownMachine) (y : KnownCpu) (n : KnownMachine) (d : KnownCpu)
     → FreshSoFar t m c x y → FindsNoneFresh (visit_state x y) (visit_state n d) → FreshSettled t m c n d
 fresh_end t m c x y n d so_far none =
-    let k : Bool = is_killed m.killed (fresh_group c) in
+    let k : Bool = is_killed m.killed (group_of_fresh c) in
     record {
       settles = so_far.settles n d (subst (λ (l : List ℕ). SettlesAllFresh l (visit_state x y) (visit_state n d)) (sym none.none_fresh) none.stays);
       steps = so_far.steps (visit_state n d)
@@ -227,7 +227,7 @@ pub record AllSettled (t : KnownTable) (m : KnownMachine) (c : KnownCpu) (n : Kn
 
 pub settle_both : (t : KnownTable) (m : KnownMachine) (c : KnownCpu) (x : KnownMachine) (y : KnownCpu) (n : KnownMachine) (d : KnownCpu)
     → SettlesAllFresh c.fresh (visit_state m c) (visit_state x y) → LeavesOthers c y × (y.back ≡ c.back) × (y.fresh ≡ [])
-    → MakesAs t c.number (visit_state m c) (flat_map (fresh_steps (is_killed m.killed (fresh_group c)) c.number) c.fresh) (visit_state x y)
+    → MakesAs t c.number (visit_state m c) (flat_map (fresh_steps (is_killed m.killed (group_of_fresh c)) c.number) c.fresh) (visit_state x y)
     → ReturnsAllBack y.back (visit_state x y) (visit_state n d) → LeavesOthers y d × (d.fresh ≡ y.fresh) × (d.back ≡ [])
     → MakesAs t y.number (visit_state x y) (flat_map (return_steps y.number) y.back) (visit_state n d) → AllSettled t m c n d
 settle_both t m c x y n d fresh leaves run back leaves' run' = record {
@@ -235,7 +235,7 @@ settle_both t m c x y n d fresh leaves run back leaves' run' = record {
   others = both_others c y d leaves.0 leaves'.0;
   none_fresh = leaves'.1 ∙ leaves.2;
   none_back = leaves'.2;
-  steps = makes_both t c.number (flat_map (fresh_steps (is_killed m.killed (fresh_group c)) c.number) c.fresh) (flat_map (return_steps c.number) c.back)
+  steps = makes_both t c.number (flat_map (fresh_steps (is_killed m.killed (group_of_fresh c)) c.number) c.fresh) (flat_map (return_steps c.number) c.back)
       (visit_state m c) (visit_state x y) (visit_state n d) run
       (subst (λ (z : ℕ × List ℕ). MakesAs t z.0 (visit_state x y) (flat_map (return_steps z.0) z.1) (visit_state n d))
       (λ i. (leaves.0.number i, leaves.1 i)) run');

@@ -29,7 +29,7 @@ use Rattle.mem_machine.specs.declared.frame_state.FrameState.{FrameState}
 use Rattle.mem_machine.specs.declared.frame_state.FrameState.TheVariants.{Free, Lent, Head, Tail}
 use Rattle.mem_machine.specs.FrameStates.{frame_state_at}
 use Rattle.mem_machine.specs.Machines.{KnownMachine, Visits}
-use Rattle.mem_machine.specs.Local.{local_of, phase_of, part_of, part_with, references_of, fresh_group, visit_state}
+use Rattle.mem_machine.specs.Local.{local_of, phase_of, part_of, part_with, references_of, group_of_fresh, visit_state}
 use Rattle.mem_machine.specs.Freeing.{FreesFrames}
 use Rattle.mem_machine.specs.Settling.{with_page_absorbed}
 use Rattle.mem_machine.proofs.Holds.{zone_may_act, visits_open, seated_cpu}
@@ -49,7 +49,7 @@ is_visited t w m c tied visit f inside = record {
 
 -- the unit that a fresh frame is
 abbrev pub fresh_unit : KnownCpu → ChargedUnit
-fresh_unit c = record { group = fresh_group c; order = 0 }
+fresh_unit c = record { group = group_of_fresh c; order = 0 }
 
 pub fresh_phase : (c : KnownCpu) (f : ℕ) (x : FrameState) → x ≡ Lent c.number → times f c.fresh ≡ 1 → phase_of c f x ≡ phase.Head (fresh_unit c) (FreshAt c.number)
 fresh_phase c f x is once =

@@ -9,7 +9,7 @@ use Rattle.zone_blocks.specs.Areas.{AreMaximalBlocks}
 use Rattle.zone_buddy.specs.Zone.{GivesFrames, IsInUse}
 use Rattle.frame_word.specs.declared.view.FrameNote.{FrameNote}
 use Rattle.frame_word.specs.Views.{note_of, passed_back_by_cpu, collected_from}
-use Rattle.frame_word.specs.Seats.{KnownTable, KnownSeat, number_of, seat_with, IsLent, IsBorrowed, Passes, NothingPasses}
+use Rattle.frame_word.specs.Seats.{KnownTable, KnownSeat, seat_number, seat_with, IsLent, IsBorrowed, Passes, NothingPasses}
 use Rattle.frame_word.proofs.Notes.{note_here, note_else}
 use Rattle.stock_word.specs.Stock.{KnownStockTable, account_of}
 use Rattle.cpu_part.specs.Cpus.{KnownCpu, IsTied, times}
@@ -28,7 +28,8 @@ use Rattle.step_rules.specs.After.{after, without_frame}
 use Rattle.step_rules.proofs.Basics.{at_same}
 use Rattle.mem_machine.specs.declared.frame_state.FrameState.{FrameState}
 use Rattle.mem_machine.specs.declared.frame_state.FrameState.TheVariants.{Free, Lent, Head, Tail}
-use Rattle.mem_machine.specs.FrameStates.{frame_state_at, is_free, free_of, frame_state_group, head_group_of, some_cpu}
+use Rattle.mem_machine.specs.FrameStates.{frame_state_at, is_free_state, free_of, frame_state_group, head_group_of}
+use Rattle.mem_machine.specs.FrameStates.{some_cpu}
 use Rattle.mem_machine.specs.Machines.{KnownMachine, FitsFrameState, IsConsistent, Visits, home_of}
 use Rattle.mem_machine.specs.Lending.{UnlistsOne, UnlistsNone}
 use Rattle.mem_machine.specs.Local.{local_of, phase_of, part_of, part_with, visit_state}
@@ -120,7 +121,7 @@ module _ (t : KnownTable) (w : KnownStockTable) (m : KnownMachine) (c : KnownCpu
   }
 
   -- what was not lent before isn't after
-  not_lent_to : (0 ≡ number_of c.frame_seat) → ⊥
+  not_lent_to : (0 ≡ seat_number c.frame_seat) → ⊥
   not_lent_to is = let a = tied.seats.frame_number in let b = tied.seats.some_number in omega (arith, a, b, is)
 
   no_one : ◌≡◌ {A = ℕ} 0 1 → ⊥
@@ -132,12 +133,12 @@ module _ (t : KnownTable) (w : KnownStockTable) (m : KnownMachine) (c : KnownCpu
     still = collected_is_still t m.frame_seat c.frame_seat c.number tied.seats.frame_number f visit.still (seat_with c.frame_seat f passed_back_by_cpu)
         (seat_with m.frame_seat f (collected_from c.number)) refl refl;
     lent = λ g inside. elim (cases_eq g f) [
-      | inl e ↦ subst (λ (h : ℕ). (IsLent (seat_with m.frame_seat f (collected_from c.number)) h (number_of c.frame_seat) → IsBorrowed (seat_with c.frame_seat f passed_back_by_cpu) h)
-          × (IsBorrowed (seat_with c.frame_seat f passed_back_by_cpu) h → IsLent (seat_with m.frame_seat f (collected_from c.number)) h (number_of c.frame_seat))) (sym e) (
+      | inl e ↦ subst (λ (h : ℕ). (IsLent (seat_with m.frame_seat f (collected_from c.number)) h (seat_number c.frame_seat) → IsBorrowed (seat_with c.frame_seat f passed_back_by_cpu) h)
+          × (IsBorrowed (seat_with c.frame_seat f passed_back_by_cpu) h → IsLent (seat_with m.frame_seat f (collected_from c.number)) h (seat_number c.frame_seat))) (sym e) (
             λ a. absurd (not_lent_to (sym (ap (λ (k : FrameNote). k.lent) (note_here m.frame_seat.view f (collected_from c.number))) ∙ a)),
             λ a. absurd (no_one (sym (ap (λ (k : FrameNote). k.borrowed) (note_here c.frame_seat.view f passed_back_by_cpu)) ∙ a)),
           )
-      | inr ne ↦ subst (λ (k : FrameNote × FrameNote). (k.0.lent ≡ number_of c.frame_seat → k.1.borrowed ≡ 1) × (k.1.borrowed ≡ 1 → k.0.lent ≡ number_of c.frame_seat))
+      | inr ne ↦ subst (λ (k : FrameNote × FrameNote). (k.0.lent ≡ seat_number c.frame_seat → k.1.borrowed ≡ 1) × (k.1.borrowed ≡ 1 → k.0.lent ≡ seat_number c.frame_seat))
           (λ i. (sym (note_else m.frame_seat.view f g (collected_from c.number) ne) i, sym (note_else c.frame_seat.view f g passed_back_by_cpu ne) i)) (visit.lent g inside)
     ];
   }
@@ -261,7 +262,7 @@ may_give t w m c tied ok before f i k was inside lent index zero_is =
     let within : f < length m.frame_states = omega (arith, inside, sized) in
     let frame_state : frame_state_at m.frame_states f ≡ Lent c.number =
     lent_frame_state (frame_state_at m.frame_states f) c.number tied.seats.some_number (ap some_cpu (sym lent) ∙ (ok.frame_states f inside).lent) in
-    let used : get_or before f false ≡ false = ap (λ (l : List Bool). get_or l f false) was ∙ free_at m.frame_states f within ∙ ap is_free frame_state in
+    let used : get_or before f false ≡ false = ap (λ (l : List Bool). get_or l f false) was ∙ free_at m.frame_states f within ∙ ap is_free_state frame_state in
     let long : length before ≡ length m.frame_states = ap length was ∙ length_free m.frame_states in
     subst (λ (x : ℕ × ℕ). IsInUse before (record { at = x.0; order = x.1 })) (λ j. (sym index j, sym zero_is j))
     (record {

@@ -31,7 +31,8 @@ use Rattle.step_rules.proofs.Basics.{at_same, at_other}
 use Rattle.step_rules.proofs.Placing.{within_cases}
 use Rattle.mem_machine.specs.declared.frame_state.FrameState.{FrameState}
 use Rattle.mem_machine.specs.declared.frame_state.FrameState.TheVariants.{Free, Head, Tail}
-use Rattle.mem_machine.specs.FrameStates.{frame_state_at, is_free, is_in_hand, lent_to, free_of, frame_state_group}
+use Rattle.mem_machine.specs.FrameStates.{frame_state_at, is_free_state, is_in_hand, cpu_lent_to, free_of}
+use Rattle.mem_machine.specs.FrameStates.{frame_state_group}
 use Rattle.mem_machine.specs.Machines.{KnownMachine, IsConsistent, Visits, is_killed}
 use Rattle.mem_machine.specs.Blocks.{PlacesUnit, TakesBlock, TakesNoBlock, taken_steps, unplaced_steps}
 use Rattle.mem_machine.specs.Local.{local_of, phase_of, visit_state}
@@ -53,7 +54,7 @@ front_is_block n at e (suc d) h =
     let s : e + suc d ≡ e + d + 1 = omega arith in
     front_is_block n at e d (lower_half n at (e + d) (subst (λ (x : ℕ). IsBlock n (block_at at x)) s h))
 
-used_in_block : (g : ℕ) (b : Block) (x : Bool) → is_free (cond x (Head (record { group = g; order = b.order })) (Tail g)) ≡ false
+used_in_block : (g : ℕ) (b : Block) (x : Bool) → is_free_state (cond x (Head (record { group = g; order = b.order })) (Tail g)) ≡ false
 used_in_block g b true = refl
 used_in_block g b false = refl
 
@@ -93,13 +94,13 @@ module _ (old : List FrameState) (blocks : List Block) (areas : AreMaximalBlocks
       let now = free_at frame_states f room in
       elim (within_cases b.at (2 ^ b.order) f) [
         | inl w ↦
-            let used : is_free (frame_state_at frame_states f) ≡ false =
-            ap is_free (placed.records f ∙ in_block old g b f w.0) ∙ used_in_block g b (f == b.at) in
+            let used : is_free_state (frame_state_at frame_states f) ≡ false =
+            ap is_free_state (placed.records f ∙ in_block old g b f w.0) ∙ used_in_block g b (f == b.at) in
             both_ways _ _ (λ a. absurd (takes.in_use f (record { from = w.1; before = w.2 }) a)) (λ c. absurd (false≢true (sym used ∙ sym now ∙ c)))
         | inr out ↦
             let there : f < length old = subst (λ (n : ℕ). f < n) placed.frames room in
-            let earlier : get_or before f false ≡ is_free (frame_state_at old f) = ap (λ (l : List Bool). get_or l f false) was ∙ free_at old f there in
-            let same : is_free (frame_state_at frame_states f) ≡ is_free (frame_state_at old f) = ap is_free (placed.records f ∙ off_block old g b f out.0) in
+            let earlier : get_or before f false ≡ is_free_state (frame_state_at old f) = ap (λ (l : List Bool). get_or l f false) was ∙ free_at old f there in
+            let same : is_free_state (frame_state_at frame_states f) ≡ is_free_state (frame_state_at old f) = ap is_free_state (placed.records f ∙ off_block old g b f out.0) in
             let o = takes.others f (λ c. out.1 c.from c.before) in
             both_ways _ _ (λ a. now ∙ same ∙ sym earlier ∙ o.0 a) (λ c. o.1 (earlier ∙ sym same ∙ sym now ∙ c))
       ])
@@ -216,7 +217,7 @@ taken_here t w m c ok facts g fits b may room rise before free blocks was front 
     let used : IsUsed (unfrozen 1 (note_of m.frame_seat.view b.at)) = record {
       own = refl;
       borrowed = (ok.frame_states b.at inside).borrowed;
-      lent = no_cpu_is (note_of m.frame_seat.view b.at).lent ((ok.frame_states b.at inside).lent ∙ ap lent_to head);
+      lent = no_cpu_is (note_of m.frame_seat.view b.at).lent ((ok.frame_states b.at inside).lent ∙ ap cpu_lent_to head);
       references = let r : (note_of m.frame_seat.view b.at).references ≡ 0 = unreferred in omega (arith, r);
     } in
     let joins : JoinsCharges t w m g (2 ^ b.order) frame_states blocks (with_charge m.ledger g (2 ^ b.order)) m.stock_seat = record {

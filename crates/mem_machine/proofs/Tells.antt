@@ -20,7 +20,7 @@ use Rattle.step_rules.specs.After.{Run, after, state_of, IsLegalRun}
 use Rattle.step_rules.specs.Laws.{ShowsLocal, IsLocalStep, pushed}
 use Rattle.step_rules.specs.Reaches.{is_own, own_steps, MayFollow, IsInterleaved}
 use Rattle.step_rules.specs.Peaks.{IsPeak, peak_follows}
-use Rattle.step_rules.specs.Events.{is_noted_at, is_noted_in_subtree, events_of as events_in, events_local_of as events_local_in}
+use Rattle.step_rules.specs.Events.{is_noted_at, is_noted_in_subtree, events_in, events_local_in}
 use Rattle.step_rules.proofs.LegalTests.{grant_tests, make_tests, kill_tests}
 use Rattle.step_rules.proofs.Runs.{allowed, sound_run}
 use Rattle.step_rules.proofs.CoverUsage.{usage_seen}

@@ -30,7 +30,7 @@ use Rattle.mem_machine.specs.declared.frame_state.FrameState.{FrameState}
 use Rattle.mem_machine.specs.declared.frame_state.FrameState.TheVariants.{Free, Lent, Head, Tail}
 use Rattle.mem_machine.specs.FrameStates.{frame_state_at, some_cpu, frame_state_group}
 use Rattle.mem_machine.specs.Machines.{KnownMachine, IsConsistent}
-use Rattle.mem_machine.specs.Local.{number_or_0, fresh_group, phase_of, part_with, part_of, local_of}
+use Rattle.mem_machine.specs.Local.{number_or_0, group_of_fresh, phase_of, part_with, part_of, local_of}
 use Rattle.mem_machine.proofs.Ledgers.{cond_zero, cond_one, cond_sum, ledger_visit_state}
 use Rattle.mem_machine.proofs.Records.{lent_frame_state}
 
@@ -84,51 +84,51 @@ module _ (t : KnownTable) (w : KnownStockTable) (m : KnownMachine) (c : KnownCpu
   -- a frame that isn't fresh counts for the group that it is charged to
   keeper_plain : (f : ℕ) (x : FrameState) → nat_le 1 (times f c.fresh) ≡ false → keeper_of (phase_of c f x) ≡ frame_state_group x
   keeper_plain f Free e = refl
-  keeper_plain f (Lent q) e = lent_keeper (q == c.number) (nat_le 1 (times f c.fresh)) (record { group = fresh_group c; order = 0 }) q e
+  keeper_plain f (Lent q) e = lent_keeper (q == c.number) (nat_le 1 (times f c.fresh)) (record { group = group_of_fresh c; order = 0 }) q e
   keeper_plain f (Head unit) e = back_keeper (nat_le 1 (times f c.back)) unit c.number
   keeper_plain f (Tail h) e = refl
 
   kept_each : (f : ℕ) → f < t.frames → one_if (is_in_subtree groups g (keeper_of (phase_of c f (frame_state f))))
-      ≡ one_if (is_in_subtree groups g (frame_state_group (frame_state f))) + cond (in_subtree groups g (fresh_group c)) (times f c.fresh) 0
+      ≡ one_if (is_in_subtree groups g (frame_state_group (frame_state f))) + cond (in_subtree groups g (group_of_fresh c)) (times f c.fresh) 0
   kept_each f inside = elim (cases_lt (times f c.fresh) 1) [
     | inl none ↦
         let zero_is : times f c.fresh ≡ 0 = omega arith in
         let a : one_if (is_in_subtree groups g (keeper_of (phase_of c f (frame_state f))))
         ≡ one_if (is_in_subtree groups g (frame_state_group (frame_state f))) =
         ap (λ (o : Option ℕ). one_if (is_in_subtree groups g o)) (keeper_plain f (frame_state f) (ap (λ (n : ℕ). nat_le 1 n) zero_is)) in
-        let b : cond (in_subtree groups g (fresh_group c)) (times f c.fresh) 0 ≡ 0 =
-        ap (λ (n : ℕ). cond (in_subtree groups g (fresh_group c)) n 0) zero_is ∙ cond_zero (in_subtree groups g (fresh_group c)) in
+        let b : cond (in_subtree groups g (group_of_fresh c)) (times f c.fresh) 0 ≡ 0 =
+        ap (λ (n : ℕ). cond (in_subtree groups g (group_of_fresh c)) n 0) zero_is ∙ cond_zero (in_subtree groups g (group_of_fresh c)) in
         omega arith
     | inr some ↦
         let both = fresh_lent f inside some in
         let p = c.number in
         let test : (p == p && nat_le 1 (times f c.fresh)) ≡ true = and_from (p == p) (nat_le 1 (times f c.fresh)) (eq-eqb p p refl)
         (le-leb 1 (times f c.fresh) some) in
-        let a : one_if (is_in_subtree groups g (keeper_of (phase_of c f (frame_state f)))) ≡ one_if (in_subtree groups g (fresh_group c)) =
+        let a : one_if (is_in_subtree groups g (keeper_of (phase_of c f (frame_state f)))) ≡ one_if (in_subtree groups g (group_of_fresh c)) =
         ap (λ (x : FrameState). one_if (is_in_subtree groups g (keeper_of (phase_of c f x)))) both.0
-        ∙ ap (λ (b : Bool). one_if (is_in_subtree groups g (keeper_of (cond b (phase.Head (record { group = fresh_group c; order = 0 }) (FreshAt p))
+        ∙ ap (λ (b : Bool). one_if (is_in_subtree groups g (keeper_of (cond b (phase.Head (record { group = group_of_fresh c; order = 0 }) (FreshAt p))
         (phase.Lent p OnList))))) test in
         let b : one_if (is_in_subtree groups g (frame_state_group (frame_state f))) ≡ 0 = ap (λ (x : FrameState). one_if (is_in_subtree groups g (frame_state_group x))) both.0 in
-        let d : cond (in_subtree groups g (fresh_group c)) (times f c.fresh) 0 ≡ one_if (in_subtree groups g (fresh_group c)) =
-        ap (λ (n : ℕ). cond (in_subtree groups g (fresh_group c)) n 0) both.1 ∙ cond_one (in_subtree groups g (fresh_group c)) in
+        let d : cond (in_subtree groups g (group_of_fresh c)) (times f c.fresh) 0 ≡ one_if (in_subtree groups g (group_of_fresh c)) =
+        ap (λ (n : ℕ). cond (in_subtree groups g (group_of_fresh c)) n 0) both.1 ∙ cond_one (in_subtree groups g (group_of_fresh c)) in
         omega arith
   ]
 
   -- the fresh pages, if they count
   abbrev fresh_pages : ℕ
-  fresh_pages = cond (in_subtree groups g (fresh_group c)) (length c.fresh) 0
+  fresh_pages = cond (in_subtree groups g (group_of_fresh c)) (length c.fresh) 0
 
-  fresh_counted : sum_to t.frames (λ f. cond (in_subtree groups g (fresh_group c)) (times f c.fresh) 0) ≡ fresh_pages
+  fresh_counted : sum_to t.frames (λ f. cond (in_subtree groups g (group_of_fresh c)) (times f c.fresh) 0) ≡ fresh_pages
   fresh_counted =
-      sym (cond_sum (in_subtree groups g (fresh_group c)) t.frames (λ f. times f c.fresh))
-      ∙ ap (λ (n : ℕ). cond (in_subtree groups g (fresh_group c)) n 0)
+      sym (cond_sum (in_subtree groups g (group_of_fresh c)) t.frames (λ f. times f c.fresh))
+      ∙ ap (λ (n : ℕ). cond (in_subtree groups g (group_of_fresh c)) n 0)
       (sum_same t.frames (λ f. times f c.fresh) (λ f. steps.times f c.fresh) (λ f lt. as_steps f c.fresh)
       ∙ steps.count_length t.frames c.fresh (λ f beyond. let none = (tied.noted f).in_table beyond in let same = as_steps f c.fresh in omega arith))
 
   kept : frames_kept groups (λ f. phase_of c f (frame_state f)) t.frames g ≡ sum_to t.frames (λ f. one_if (is_in_subtree groups g (frame_state_group (frame_state f)))) + fresh_pages
   kept =
       let a = sum_same t.frames _ _ kept_each in
-      let b = sum_both t.frames (λ f. one_if (is_in_subtree groups g (frame_state_group (frame_state f)))) (λ f. cond (in_subtree groups g (fresh_group c)) (times f c.fresh) 0) in
+      let b = sum_both t.frames (λ f. one_if (is_in_subtree groups g (frame_state_group (frame_state f)))) (λ f. cond (in_subtree groups g (group_of_fresh c)) (times f c.fresh) 0) in
       let d = fresh_counted in
       omega arith
 
@@ -144,7 +144,7 @@ module _ (t : KnownTable) (w : KnownStockTable) (m : KnownMachine) (c : KnownCpu
   fresh_is = elim balanced.group [
     | inl none ↦
         ap (λ (n : ℕ). cond (is_in_subtree groups g (book c.number).group) n 0) none ∙ cond_zero (is_in_subtree groups g (book c.number).group)
-        ∙ sym (ap (λ (n : ℕ). cond (in_subtree groups g (fresh_group c)) n 0) none ∙ cond_zero (in_subtree groups g (fresh_group c)))
+        ∙ sym (ap (λ (n : ℕ). cond (in_subtree groups g (group_of_fresh c)) n 0) none ∙ cond_zero (in_subtree groups g (group_of_fresh c)))
     | inr group ↦
         fresh_of group (book c.number).group refl
         ∙ ap (λ (o : Option ℕ). cond (in_subtree groups g (number_or_0 o)) (length c.fresh) 0) group
@@ -214,7 +214,7 @@ no_group (stock_is.HeldBy h n) e = absurd (none-some h (sym e))
 no_group (stock_is.DrainedOf h) e = absurd (none-some h (sym e))
 
 pub looked : (t : KnownTable) (w : KnownStockTable) (m : KnownMachine) (c : KnownCpu) (stock : Stock) → IsTied t w c
-    → (account_of m.stock_seat.view c.number).book ≡ stocks.pages_of stock + c.stock_seat.view.fresh + (account_of m.stock_seat.view c.number).unabsorbed
+    → (account_of m.stock_seat.view c.number).book ≡ stocks.stock_pages_of stock + c.stock_seat.view.fresh + (account_of m.stock_seat.view c.number).unabsorbed
     → stocks.group_of stock ≡ (account_of m.stock_seat.view c.number).group
     → (stock ≡ c.stock_seat.view.last) ⊎ (stock ≡ stocks.drained_of c.stock_seat.view.last)
     → (c.stock_seat.view.last ≡ stock_is.NoGroup → c.fresh ≡ []) → IsBalanced m c

@@ -7,7 +7,7 @@ use Rattle.group_tree.specs.Groups.{has_group}
 use Rattle.group_charge.specs.Charges.{Ledger, peak_of, events_of, events_local_of}
 use Rattle.step_rules.specs.After.{Run}
 use Rattle.step_rules.specs.Peaks.{IsPeak}
-use Rattle.step_rules.specs.Events.{events_of as events_in, events_local_of as events_local_in}
+use Rattle.step_rules.specs.Events.{events_in, events_local_in}
 use Rattle.mem_machine.specs.Local.{VisitState, Makes}
 use Rattle.mem_machine.specs.Interleaving.{zone_of, Shows, IsInterleaving}
 

@@ -14,13 +14,13 @@ abbrev pub frame_state_at : List FrameState → ℕ → FrameState
 frame_state_at frame_states frame = slice_index_or frame_states frame Free
 
 -- the frame is in the free areas
-abbrev pub is_free : FrameState → Bool
-is_free Free = true
-is_free _ = false
+abbrev pub is_free_state : FrameState → Bool
+is_free_state Free = true
+is_free_state _ = false
 
 -- which frames are free
 abbrev pub free_of : List FrameState → List Bool
-free_of frame_states = map is_free frame_states
+free_of frame_states = map is_free_state frame_states
 
 -- the frame is in the zone's hand: it is free, or a tail of a charged unit
 abbrev pub is_in_hand : FrameState → Bool
@@ -34,14 +34,14 @@ some_cpu zero = None
 some_cpu (suc before) = Some (suc before)
 
 -- the CPU that the frame is lent to
-abbrev pub lent_to : FrameState → Option ℕ
-lent_to (Lent cpu) = Some cpu
-lent_to _ = None
+abbrev pub cpu_lent_to : FrameState → Option ℕ
+cpu_lent_to (Lent cpu) = Some cpu
+cpu_lent_to _ = None
 
 -- the unit that the frame heads
-abbrev pub unit_of : FrameState → Option ChargedUnit
-unit_of (Head unit) = Some unit
-unit_of _ = None
+abbrev pub headed_unit : FrameState → Option ChargedUnit
+headed_unit (Head unit) = Some unit
+headed_unit _ = None
 
 -- the group that the frame is charged to
 abbrev pub frame_state_group : FrameState → Option ℕ

@@ -32,8 +32,8 @@ number_or_0 None = 0
 number_or_0 (Some number) = number
 
 -- the group of the CPU's fresh frames
-abbrev pub fresh_group : KnownCpu → ℕ
-fresh_group cpu = number_or_0 (stocks.group_of cpu.stock_seat.view.last)
+abbrev pub group_of_fresh : KnownCpu → ℕ
+group_of_fresh cpu = number_or_0 (stocks.group_of cpu.stock_seat.view.last)
 
 -- The phase of a frame with this record, as the CPU sees it. A lent frame is fresh if it is one of the CPU's own fresh
 -- frames, else listed. The head of a unit is back if it is one of the CPU's back frames, else live.
@@ -41,7 +41,7 @@ abbrev pub phase_of : KnownCpu → ℕ → FrameState → Phase
 phase_of cpu frame Free = phase.InZone
 phase_of cpu frame (Lent other) =
     if other == cpu.number && nat_le 1 (times frame cpu.fresh)
-    then phase.Head (record { group = fresh_group cpu; order = 0 }) (FreshAt other)
+    then phase.Head (record { group = group_of_fresh cpu; order = 0 }) (FreshAt other)
     else phase.Lent other OnList
 phase_of cpu frame (Head unit) =
     if nat_le 1 (times frame cpu.back) then phase.Head unit (BackAt cpu.number) else phase.Head unit Live
@@ -79,15 +79,15 @@ references_of zone_seat cpu seat frame =
     else (if seat == cpu.number then seat_references cpu.frame_seat frame else 0)
 
 -- the CPU of this number holds the lock, and is visited if its visit is open
-abbrev pub hold_of : KnownSeat → ℕ → Hold
-hold_of seat cpu = if slice_index seat.view.opened cpu == 1 then Visiting cpu else HeldBy cpu
+abbrev pub hold_of_cpu : KnownSeat → ℕ → Hold
+hold_of_cpu seat cpu = if slice_index seat.view.opened cpu == 1 then Visiting cpu else HeldBy cpu
 
 -- The local state of a visit state: what the machine shows to the CPU that holds the lock, in the words of the rules.
 -- No page is pending between two calls.
 abbrev pub local_of : KnownTable → KnownMachine → KnownCpu → State
 local_of table machine cpu = record {
   zone = record { frames = table.frames; cpus = table.cpus };
-  hold = hold_of machine.frame_seat cpu.number;
+  hold = hold_of_cpu machine.frame_seat cpu.number;
   groups = machine.ledger.groups;
   killed = is_killed machine.killed;
   phases = λ frame. phase_of cpu frame (frame_state_at machine.frame_states frame);

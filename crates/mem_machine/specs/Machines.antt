@@ -35,7 +35,7 @@ use Rattle.group_charge.specs.Notes.{KnownNotes, forgotten, no_notes, noted}
 -- is less
 pub use Rattle.mem_machine.specs.Counts.{BalancesCounts}
 use Rattle.mem_machine.specs.Counts.{no_counts}
-use Rattle.mem_machine.specs.FrameStates.{AreUnits, frame_state_at, free_of, is_in_hand, some_cpu, lent_to}
+use Rattle.mem_machine.specs.FrameStates.{AreUnits, frame_state_at, free_of, is_in_hand, some_cpu, cpu_lent_to}
 use Rattle.mem_machine.specs.FrameStates.{frame_state_group, head_group_of, one_if_is}
 
 -- The machine holds the free areas, a record for each frame, and the groups with their charges. It holds the links of
@@ -157,8 +157,8 @@ pages_booked table stock group =
 pub record FitsFrameState (cpus : ℕ) (note : FrameNote) (home : Option Home) (frame_state : FrameState) : Type 0 where
   pub own : note.own ≡ one_if (is_in_hand frame_state)
   pub borrowed : note.borrowed ≡ 0
-  pub lent : some_cpu note.lent ≡ lent_to frame_state
-  pub borrower : IfSome (lent_to frame_state) (λ cpu. (1 ≤ cpu) × (cpu ≤ cpus))
+  pub lent : some_cpu note.lent ≡ cpu_lent_to frame_state
+  pub borrower : IfSome (cpu_lent_to frame_state) (λ cpu. (1 ≤ cpu) × (cpu ≤ cpus))
   pub references : note.references ≡ one_if (is_some home)
   pub kept : IfSome home (λ list. (list.owner < most_groups) × (head_group_of frame_state ≡ Some list.owner))
 

@@ -2,7 +2,7 @@
 use Rattle.std.specs.Prelude.{◌≡◌, ℕ, ◌+◌, ◌-◌, ◌^◌, ◌<◌, ◌≤◌, Some, true, false, IsTrue}
 use Rattle.frame_word.specs.Seats.{KnownTable}
 use Rattle.stock_word.specs.declared.view.Stock.{Stock}
-use Rattle.stock_word.specs.Stock.{account_of, pages_of, group_of, is_held}
+use Rattle.stock_word.specs.Stock.{account_of, stock_pages_of, group_of, is_held}
 use Rattle.cpu_part.specs.Calls.{TakesFront}
 use Rattle.group_tree.specs.Groups.{has_group}
 use Rattle.zone_blocks.specs.Config.{most_cpus, most_frames}
@@ -16,7 +16,7 @@ pub use Rattle.mem_machine.specs.Stocks.{pages_held}
 pub record IsOwnStock (now : VisitState) (stock : Stock) : Type 0 where
   pub group : group_of stock ≡ stock_group now.machine now.cpu.number
   pub held : is_held stock ≡ (account_of now.machine.stock_seat.view now.cpu.number).filled
-  pub pages : pages_of stock ≡ pages_held now
+  pub pages : stock_pages_of stock ≡ pages_held now
 
 -- the CPU's stock is of this group, isn't drained, and has a page
 pub record HoldsPage (now : VisitState) (owner : ℕ) : Type 0 where

@@ -20,7 +20,7 @@ use Rattle.step_rules.specs.After.{Run}
 use Rattle.mem_machine.specs.declared.frame_state.FrameState.TheVariants.{Head}
 use Rattle.mem_machine.specs.FrameStates.{frame_state_at, free_of}
 use Rattle.mem_machine.specs.Machines.{OneByOne, VisitState, VisitStateStays, is_killed}
-use Rattle.mem_machine.specs.Local.{Makes, fresh_group}
+use Rattle.mem_machine.specs.Local.{Makes, group_of_fresh}
 use Rattle.mem_machine.specs.Steps.{zone_makes, cpu_makes}
 use Rattle.mem_machine.specs.Lists.{ListsUnit}
 use Rattle.mem_machine.specs.Counts.{with_killed_fresh, with_last_put}
@@ -110,12 +110,12 @@ pub record ReturnsBack (frame : ℕ) (before after : VisitState) : Type 0 where
 
 -- the group of the CPU's fresh frames is killed
 abbrev pub is_fresh_killed : VisitState → Bool
-is_fresh_killed now = is_killed now.machine.killed (fresh_group now.cpu)
+is_fresh_killed now = is_killed now.machine.killed (group_of_fresh now.cpu)
 
 -- the oldest fresh frame is kept for its group, or dropped if that group is killed
 pub record SettlesFresh (frame : ℕ) (before after : VisitState) : Type 0 where
-  pub keeps : is_fresh_killed before ≡ false → KeepsFresh (fresh_group before.cpu) frame before after
-  pub drops : is_fresh_killed before ≡ true → DropsFresh (fresh_group before.cpu) frame before after
+  pub keeps : is_fresh_killed before ≡ false → KeepsFresh (group_of_fresh before.cpu) frame before after
+  pub drops : is_fresh_killed before ≡ true → DropsFresh (group_of_fresh before.cpu) frame before after
 
 -- no frame of the CPU is fresh, and nothing changed
 pub record FindsNoneFresh (before after : VisitState) : Type 0 where

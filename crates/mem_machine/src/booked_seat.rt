@@ -4,7 +4,8 @@ ghost use Rattle.std.specs.Prelude.{◌≡◌, ◌≢◌, ◌+◌, ◌-◌, ◌^
 ghost use Rattle.std.specs.Prelude.{Some};
 ghost use Rattle.frame_word.specs.Views.{collected_from};
 ghost use Rattle.frame_word.specs.Seats.{seat_with};
-ghost use Rattle.stock_word.specs.Stock.{account_of, drained_of, first_zone_stock_view, group_of, is_held, pages_of};
+ghost use Rattle.stock_word.specs.Stock.{account_of, drained_of, first_zone_stock_view, group_of, is_held};
+ghost use Rattle.stock_word.specs.Stock.{stock_pages_of};
 ghost use Rattle.stock_word.specs.Stock.{stocked};
 ghost use Rattle.stock_word.specs.Kinds.{after_fill, with_steps, zone_after_drain, zone_after_fill};
 ghost use Rattle.stock_word.specs.Calls.{after_look, with_view};
@@ -120,7 +121,7 @@ impl<N: BootName> BookedSeat<N> {
     /// The CPU's stock, as `Cpu::look` returns it.
     pub(crate) fn look(&mut self, tables: &Tables<N>, cpu: &mut Cpu<N>) -> Stock
         ensures balanced { (account_of self.old.view cpu.old.number).book
-            ≡ pages_of result + cpu.old.stock_seat.view.fresh + (account_of self.old.view cpu.old.number).unabsorbed }
+            ≡ stock_pages_of result + cpu.old.stock_seat.view.fresh + (account_of self.old.view cpu.old.number).unabsorbed }
         ensures bounded { (account_of self.old.view cpu.old.number).book < 65536 }
         ensures group { group_of result ≡ (account_of self.old.view cpu.old.number).group }
         ensures held { is_held result ≡ (account_of self.old.view cpu.old.number).filled }

@@ -4,7 +4,7 @@ ghost use Rattle.std.specs.Prelude.{◌≡◌, ◌<◌, ◌↔◌, IsTrue};
 ghost use Rattle.group_tree.specs.Groups.{has_group};
 ghost use Rattle.group_charge.specs.Charges.{current_of};
 ghost use Rattle.zone_blocks.specs.Areas.{AreMaximalBlocks};
-ghost use Rattle.mem_machine.specs.FrameStates.{frame_state_at, free_of, place_of, unit_of};
+ghost use Rattle.mem_machine.specs.FrameStates.{frame_state_at, free_of, place_of, headed_unit};
 ghost use Rattle.mem_machine.specs.Machines.{HeadsKeptUnit, IsConsistent, frames_charged, is_killed};
 
 use crate::counts::Counts;
@@ -46,7 +46,7 @@ impl<N: BootName> Machine<N> {
     /// The unit that the frame heads; None exactly if it heads none.
     pub fn unit(&self, frame: Frame) -> Option<ChargedUnit>
         requires { frame < N.frames.frames }
-        ensures { result ≡ unit_of (frame_state_at self.now.frame_states frame) }
+        ensures { result ≡ headed_unit (frame_state_at self.now.frame_states frame) }
     {
         match self.frame_states[frame.number() as usize] {
             FrameState::Head(unit) => Some(unit),

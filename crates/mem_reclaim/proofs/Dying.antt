@@ -10,7 +10,7 @@ use Rattle.group_tree.proofs.CallerLemmas.{either_above, in_subtree-below, in_su
 use Rattle.group_charge.proofs.KeptLemmas.{number_below}
 use Rattle.mem_machine.specs.Machines.{KnownMachine, is_killed}
 use Rattle.mem_reclaim.specs.declared.sets.Killed.{Killed}
-use Rattle.mem_reclaim.specs.Laws.{FlaggedGroupsDieWhole, IsChosen, IsWhole, OnlyTheLivingDie, VictimsDie}
+use Rattle.mem_reclaim.specs.Laws.{FlaggedGroupsDieWhole, IsChosen, HasAllOrNone, OnlyTheLivingDie, VictimsDie}
 use Rattle.mem_reclaim.specs.Sets.{HasNoFlagged, IsKilledRoot, IsHighestFlagged, alive_in_subtree, kill_set}
 use Rattle.mem_reclaim.specs.Victim.{may_be_killed}
 use Rattle.mem_reclaim.proofs.Alive.{alive_more, alive_next, alive_to}
@@ -58,12 +58,12 @@ module _ (m : KnownMachine) (limited : ℕ) (killed : Killed) (is : IsChosen m l
         cond-true (is_oom_group m.ledger.groups killed.killed_root) (alive_in_subtree m killed.killed_root) (killed.victim ∷ [])
         (on_path_is m.ledger.groups limited killed.victim killed.killed_root high.between).flag
 
-    whole_inside : (g : ℕ) → in_subtree m.ledger.groups killed.killed_root g ≡ true → IsWhole m g (kill_set m killed)
+    whole_inside : (g : ℕ) → in_subtree m.ledger.groups killed.killed_root g ≡ true → HasAllOrNone m g (kill_set m killed)
     whole_inside g inside = inl (λ other may.
         subst (λ (l : List ℕ). Contains l other) (sym set_all) (in_set killed.killed_root other (may_above killed.killed_root g other inside may)))
 
     whole_outside : (g : ℕ) → in_subtree m.ledger.groups limited g ≡ true → is_oom_group m.ledger.groups g ≡ true
-        → in_subtree m.ledger.groups killed.killed_root g ≡ false → IsWhole m g (kill_set m killed)
+        → in_subtree m.ledger.groups killed.killed_root g ≡ false → HasAllOrNone m g (kill_set m killed)
     whole_outside g below flag outside = inr (λ other may there.
         let dies = of_set killed.killed_root other (subst (λ (l : List ℕ). Contains l other) set_all there) in
         let under_root = (and_parts (in_subtree m.ledger.groups killed.killed_root other) _ dies).0 in
@@ -79,7 +79,7 @@ module _ (m : KnownMachine) (limited : ℕ) (killed : Killed) (is : IsChosen m l
         ] in
         true≢false (sym inside ∙ outside))
 
-    flagged_whole : (g : ℕ) → in_subtree m.ledger.groups limited g ≡ true → is_oom_group m.ledger.groups g ≡ true → IsWhole m g (kill_set m killed)
+    flagged_whole : (g : ℕ) → in_subtree m.ledger.groups limited g ≡ true → is_oom_group m.ledger.groups g ≡ true → HasAllOrNone m g (kill_set m killed)
     flagged_whole g below flag = elim (cases_Bool (in_subtree m.ledger.groups killed.killed_root g)) [
       | inl inside ↦ whole_inside g inside
       | inr outside ↦ whole_outside g below flag outside
@@ -114,7 +114,7 @@ module _ (m : KnownMachine) (limited : ℕ) (killed : Killed) (is : IsChosen m l
         All-contains (λ (x : ℕ). x ≡ killed.victim) (killed.victim ∷ []) g (all_one (λ (x : ℕ). x ≡ killed.victim) killed.victim refl)
         (subst (λ (l : List ℕ). Contains l g) set_alone there)
 
-    alone_whole : (g : ℕ) → in_subtree m.ledger.groups limited g ≡ true → is_oom_group m.ledger.groups g ≡ true → IsWhole m g (kill_set m killed)
+    alone_whole : (g : ℕ) → in_subtree m.ledger.groups limited g ≡ true → is_oom_group m.ledger.groups g ≡ true → HasAllOrNone m g (kill_set m killed)
     alone_whole g below flag = inr (λ other may there.
         let under_g : in_subtree m.ledger.groups g killed.victim ≡ true =
         subst (λ (x : ℕ). in_subtree m.ledger.groups g x ≡ true) (only_victim other there) (and_parts (in_subtree m.ledger.groups g other) _ may).0 in
@@ -130,7 +130,7 @@ module _ (m : KnownMachine) (limited : ℕ) (killed : Killed) (is : IsChosen m l
 -- ---- the laws
 
 whole_by : (m : KnownMachine) (limited : ℕ) (killed : Killed) → IsChosen m limited killed → IsKilledRoot m.ledger.groups limited killed
-    → (g : ℕ) → in_subtree m.ledger.groups limited g ≡ true → is_oom_group m.ledger.groups g ≡ true → IsWhole m g (kill_set m killed)
+    → (g : ℕ) → in_subtree m.ledger.groups limited g ≡ true → is_oom_group m.ledger.groups g ≡ true → HasAllOrNone m g (kill_set m killed)
 whole_by m limited killed is (inl high) g below flag = flagged_whole m limited killed is high g below flag
 whole_by m limited killed is (inr alone) g below flag = alone_whole m limited killed is alone.0 alone.1 g below flag
 

@@ -26,8 +26,8 @@ pub record IsChosen (machine : KnownMachine) (limited : ℕ) (killed : Killed) :
   pub killed_root_is : IsKilledRoot machine.ledger.groups limited killed
 
 -- of the groups of the subtree that aren't killed, all are in the set, or none is
-abbrev pub IsWhole : KnownMachine → ℕ → List ℕ → Type 0
-IsWhole machine group set =
+abbrev pub HasAllOrNone : KnownMachine → ℕ → List ℕ → Type 0
+HasAllOrNone machine group set =
     ((other : ℕ) → may_be_killed machine group other ≡ true → Contains set other)
     ⊎ ((other : ℕ) → may_be_killed machine group other ≡ true → ¬ Contains set other)
 
@@ -36,7 +36,7 @@ abbrev pub FlaggedGroupsDieWhole : Type 0
 FlaggedGroupsDieWhole =
     (machine : KnownMachine) (limited : ℕ) (killed : Killed) → IsChosen machine limited killed
     → (group : ℕ) → in_subtree machine.ledger.groups limited group ≡ true
-    → is_oom_group machine.ledger.groups group ≡ true → IsWhole machine group (kill_set machine killed)
+    → is_oom_group machine.ledger.groups group ≡ true → HasAllOrNone machine group (kill_set machine killed)
 
 -- the victim is killed
 abbrev pub VictimsDie : Type 0

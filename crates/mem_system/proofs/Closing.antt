@@ -15,7 +15,7 @@ use Rattle.stock_word.specs.declared.view.Stock.{Stock}
 use Rattle.stock_word.specs.declared.view.Stock.TheVariants.{NoGroup, HeldBy, DrainedOf}
 use Rattle.stock_word.specs.declared.view.StockView.{StockView}
 use Rattle.stock_word.specs.StockRule.{IsStockOf}
-use Rattle.stock_word.specs.Stock.{KnownStockTable, KnownStockSeat, AreOf, account_of, view_in, pages_of, is_held}
+use Rattle.stock_word.specs.Stock.{KnownStockTable, KnownStockSeat, AreOf, account_of, view_in, stock_pages_of, is_held}
 use Rattle.cpu_part.specs.Cpus.{KnownCpu, IsIdle, times}
 use Rattle.step_rules.specs.State.{one_if}
 use Rattle.mem_machine.specs.Machines.{KnownMachine, IsConsistent, home_of}
@@ -26,7 +26,7 @@ use Rattle.mem_system.specs.Locked.{KnownLocked, IsQuiet, AllShut}
 use Rattle.mem_machine.specs.Local.{VisitState}
 use Rattle.mem_system.specs.Ends.{ForEachCpu, SettlesInVisit, VisitsUnderLock, Empties, IsEmptied, IsAuditOf, IsClosed, HasNoPage, KnownEmptiedBoot}
 use Rattle.mem_system.specs.Ends.{MakesLastVisits}
-use Rattle.mem_system.specs.Ends.{Closes, frame_seat_of, stock_seat_of, steps_of_visits, drops_of, pins_of}
+use Rattle.mem_system.specs.Ends.{Closes, frame_seat_of, stock_seat_of, steps_of_visits, drops_of, pins_of_all}
 use Rattle.step_watch.proofs.Watching.{watches_both}
 use Rattle.mem_system.proofs.Locking.{visits_watched}
 
@@ -81,7 +81,7 @@ none_of_all h (c ∷ cpus) all =
     let rest = none_of_all h cpus (λ k any inside. all (suc k) any (omega (arith, inside))) in
     omega (arith, one, rest)
 
-not_held : (stock : Stock) → is_held stock ≡ false → pages_of stock ≡ 0
+not_held : (stock : Stock) → is_held stock ≡ false → stock_pages_of stock ≡ 0
 not_held NoGroup is = refl
 not_held (HeldBy g n) is = absurd (false≢true (sym is))
 not_held (DrainedOf g) is = refl
@@ -153,7 +153,7 @@ module _ (t : KnownTable) (w : KnownStockTable) (m : KnownMachine) (cpus : List 
       let number : c.number ≡ p = sym emptied.tied.seats.stock_number ∙ sym (ap (λ v. v.number) view) ∙ at.number in
       let words = closed.stocks k inside in
       let drained = ap (λ (q : ℕ). (account_of m.stock_seat.view q).filled) (at.number ∙ sym number) ∙ emptied.drained in
-      let empty : pages_of words.stock ≡ 0 = not_held words.stock (words.held ∙ drained) in
+      let empty : stock_pages_of words.stock ≡ 0 = not_held words.stock (words.held ∙ drained) in
       let fresh : (view_in (map stock_seat_of cpus) k).fresh ≡ 0 = ap (λ v. v.fresh) view ∙ emptied.tied.within.pages_are ∙ ap length emptied.idle.1 in
       let noted = words.reported ∙ ok.absorbed (view_in (map stock_seat_of cpus) k).number in
       let balanced = words.balanced in
@@ -188,7 +188,7 @@ drops_join a b c k most = omega arith
 -- the last visits, from their two rounds
 pub all_visits : (t : KnownTable) (w : KnownStockTable) (l : KnownLocked) (cpus : List KnownCpu) (x : KnownMachine) (rested : List KnownCpu)
     (k : KnownEmptiedBoot)
-    → IsQuiet t w l → pins_of cpus ≡ 0 → k.drops ≡ min (drops_of cpus) max_count
+    → IsQuiet t w l → pins_of_all cpus ≡ 0 → k.drops ≡ min (drops_of cpus) max_count
     → ForEachCpu (VisitsUnderLock t SettlesInVisit) l.machine cpus x rested → ForEachCpu (VisitsUnderLock t Empties) x rested k.machine k.cpus
     → MakesLastVisits t w l cpus k
 all_visits t w l cpus x rested k quiet no_pin drops rests empties = record {

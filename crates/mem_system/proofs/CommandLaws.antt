@@ -9,7 +9,7 @@ use Rattle.zone_blocks.specs.declared.config.Config.{Config}
 use Rattle.zone_blocks.specs.Config.{IsValidConfig}
 use Rattle.control_files.specs.declared.file.File.{File}
 use Rattle.control_files.specs.declared.file.File.TheVariants.{Reclaim}
-use Rattle.control_files.specs.Files.{name_of}
+use Rattle.control_files.specs.Files.{name_of_file}
 use Rattle.cpu_part.specs.Cpus.{KnownCpu}
 use Rattle.step_rules.specs.State.{one_if}
 use Rattle.step_rules.specs.After.{Run}
@@ -58,7 +58,7 @@ only_commands_kill cmd said call served =
 pub only_reclaim_falls_short : OnlyReclaimFallsShort
 only_reclaim_falls_short path file value why call served = elim served.executes.does [
   | inl refused ↦ inl (refused.1.machine, refused.1.steps_are)
-  | inr short ↦ inr (short.is_file.named ∙ ap name_of short.falls.file_is, short.falls.fault_is)
+  | inr short ↦ inr (short.is_file.named ∙ ap name_of_file short.falls.file_is, short.falls.fault_is)
 ]
 
 -- ---- the list behind a Release

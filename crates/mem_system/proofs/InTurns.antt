@@ -8,7 +8,7 @@ use Rattle.frame_word.specs.Seats.{KnownTable}
 use Rattle.stock_word.specs.Stock.{KnownStockTable}
 use Rattle.cpu_part.specs.Cpus.{KnownCpu}
 use Rattle.mem_machine.specs.Machines.{KnownMachine}
-use Rattle.mem_system.specs.Ends.{ForEachCpu, IsEmptied, LendsAndFillsNone, pins_of}
+use Rattle.mem_system.specs.Ends.{ForEachCpu, IsEmptied, LendsAndFillsNone, pins_of_all}
 use Rattle.mem_machine.specs.Local.{VisitState, visit_state}
 
 -- the visits of the first i CPUs lead from the first machine to this one, and the others are as they were
@@ -63,7 +63,7 @@ nothing_left : (l : List ℕ) → length l ≡ 0 → l ≡ []
 nothing_left [] h = refl
 nothing_left (x ∷ xs) h = absurd (omega (arith, h))
 
-pub no_pin_at : (cpus now : List KnownCpu) (i : ℕ) (any : KnownCpu) → i < length now → length now ≡ length cpus → drop i now ≡ drop i cpus → pins_of cpus ≡ 0
+pub no_pin_at : (cpus now : List KnownCpu) (i : ℕ) (any : KnownCpu) → i < length now → length now ≡ length cpus → drop i now ≡ drop i cpus → pins_of_all cpus ≡ 0
     → (get_or now i any).pins ≡ []
 no_pin_at cpus now i any inside long left none =
     let within : i < length cpus = omega (arith, inside, long) in

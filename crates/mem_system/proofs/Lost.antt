@@ -9,7 +9,7 @@ use Rattle.seat_sums.specs.Totals.{sum_over, total_over}
 use Rattle.frame_word.specs.declared.view.FrameNote.{FrameNote}
 use Rattle.frame_word.specs.declared.view.FrameView.{FrameView}
 use Rattle.frame_word.specs.Views.{note_of, in_hands, lent_count}
-use Rattle.frame_word.specs.ReferenceRule.{mark, mark_base, only, marked, visit_index, references_in, hands_in, lent_in, borrowed_in, opened_in}
+use Rattle.frame_word.specs.ReferenceRule.{mark, mark_base, only, mark_count, visit_index, references_in, hands_in, lent_in, borrowed_in, opened_in}
 use Rattle.frame_word.specs.Seats.{KnownTable}
 use Rattle.frame_word.proofs.Notes.{only_here, only_else, marked_else, lent_yes, lent_no}
 use Rattle.stock_word.specs.Stock.{KnownStockTable}
@@ -19,7 +19,7 @@ use Rattle.step_rules.specs.State.{one_if}
 use Rattle.lru_lists.specs.declared.record.Home.{Home}
 use Rattle.mem_machine.specs.declared.frame_state.FrameState.{FrameState}
 use Rattle.mem_machine.specs.declared.frame_state.FrameState.TheVariants.{Free, Lent, Head, Tail}
-use Rattle.mem_machine.specs.FrameStates.{frame_state_at, is_in_hand, lent_to, head_group_of}
+use Rattle.mem_machine.specs.FrameStates.{frame_state_at, is_in_hand, cpu_lent_to, head_group_of}
 use Rattle.mem_machine.specs.Machines.{KnownMachine, IsConsistent, home_of}
 use Rattle.mem_system.specs.Locked.{AllShut}
 use Rattle.mem_system.specs.Lost.{ConsistentMachinesLoseNoUnit, AreAllSeats, NoUnitIsLost, SomeCpu, IsKeptFor, HasUnit, HasLent}
@@ -110,7 +110,7 @@ module _ (t : KnownTable) (w : KnownStockTable) (m : KnownMachine) (ok : IsConsi
     borrowed = (ok.frame_states f inside).borrowed
 
     lent : note.lent ≡ 0
-    lent = no_cpu_is note.lent ((ok.frame_states f inside).lent ∙ ap lent_to is)
+    lent = no_cpu_is note.lent ((ok.frame_states f inside).lent ∙ ap cpu_lent_to is)
 
     -- a CPU in whose hand it is owns it, since what a CPU borrows is lent to it
     in_hand : SomeCpu cpus (λ cpu. 1 ≤ hands_in f cpu.frame_seat.view) → SomeCpu cpus (HasUnit f)
@@ -182,8 +182,8 @@ module _ (t : KnownTable) (w : KnownStockTable) (m : KnownMachine) (ok : IsConsi
   lent_found : (f p : ℕ) → frame_state_at m.frame_states f ≡ Lent p → SomeCpu cpus (HasLent p f)
   lent_found f p is =
       let cpu = lent_to_cpu t w m ok f p is in
-      let inside = within f (λ e. none-some p (ap lent_to (e ∙ is))) in
-      let noted = (lent_is (note_of zone f).lent p ((ok.frame_states f inside).lent ∙ ap lent_to is)).0 in
+      let inside = within f (λ e. none-some p (ap cpu_lent_to (e ∙ is))) in
+      let noted = (lent_is (note_of zone f).lent p ((ok.frame_states f inside).lent ∙ ap cpu_lent_to is)).0 in
       let rule = (all.rule.each_frame f inside).each_cpu p cpu.0 cpu.1 in
       let near = rule.lent_is_near in
       let one = lent_total f p ∙ lent_yes (note_of zone f) p noted in

@@ -1,7 +1,7 @@
 -- Serves `make_cpus` and `take_apart`. The parts of the CPUs at first, made one by one.
 use Rattle.std.proofs.Common.{◌≡◌, ℕ, zero, suc, ◌+◌, ◌-◌, ◌<◌, ◌≤◌, List, [], ◌∷◌, ◌++◌, All, length, get_or, refl, sym, ap, ◌∙◌, subst, arith}
 use Rattle.atomic_table.specs.Seated.{TableId}
-use Rattle.frame_word.specs.Seats.{KnownTable, KnownSeat, number_of, IsCpuSeat, first_cpu_view, first_cpu_seats}
+use Rattle.frame_word.specs.Seats.{KnownTable, KnownSeat, seat_number, IsCpuSeat, first_cpu_view, first_cpu_seats}
 use Rattle.stock_word.specs.Stock.{KnownStockTable, KnownStockSeat, IsCpuView, first_cpu_stock_view, first_seats}
 use Rattle.cpu_part.specs.Cpus.{KnownCpu, IsIdle}
 use Rattle.mem_system.specs.Boots.{part_at_first, first_cpus}
@@ -21,8 +21,8 @@ front_is xs first rest taken e is = is ∙ ap (λ l. get_or l 0 taken) e
 
 -- a first seat is one of the table's CPUs', and did nothing
 pub frame_seat_first : (t : KnownTable) (s : KnownSeat) (p : ℕ) → s ≡ record { table = t.table; view = first_cpu_view p } → 1 ≤ p → p ≤ t.cpus
-    → IsCpuSeat t s × (s.view ≡ first_cpu_view (number_of s))
-frame_seat_first t s p is low high = subst (λ (x : KnownSeat). IsCpuSeat t x × (x.view ≡ first_cpu_view (number_of x))) (sym is) ((refl, low, high), refl)
+    → IsCpuSeat t s × (s.view ≡ first_cpu_view (seat_number s))
+frame_seat_first t s p is low high = subst (λ (x : KnownSeat). IsCpuSeat t x × (x.view ≡ first_cpu_view (seat_number x))) (sym is) ((refl, low, high), refl)
 
 pub stock_seat_first : (w : KnownStockTable) (s : KnownStockSeat) (p : ℕ) → s ≡ record { table = w.table; view = first_cpu_stock_view p } → 1 ≤ p → p ≤ w.cpus
     → (s.table ≡ w.table) × IsCpuView w s.view × (s.view.fresh ≡ 0)

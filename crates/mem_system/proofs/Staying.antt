@@ -3,11 +3,11 @@ use Rattle.std.proofs.Common.{◌≡◌, ℕ, List, [], ◌∷◌, ap, ◌∙◌
 use Rattle.std.proofs.lemmas.Bool.{cases_Bool}
 use Rattle.cpu_part.specs.Cpus.{KnownCpu}
 use Rattle.mem_machine.specs.Machines.{KnownMachine, is_killed}
-use Rattle.mem_machine.specs.Local.{fresh_group, visit_state}
+use Rattle.mem_machine.specs.Local.{group_of_fresh, visit_state}
 use Rattle.mem_machine.specs.Settling.{SettlesFresh, SettlesAllFresh, ReturnsAllBack, Settles}
 
 settled_fresh : (f : ℕ) (m n : KnownMachine) (c d : KnownCpu) → SettlesFresh f (visit_state m c) (visit_state n d) → n.ledger.groups ≡ m.ledger.groups
-settled_fresh f m n c d s = elim (cases_Bool (is_killed m.killed (fresh_group c))) [
+settled_fresh f m n c d s = elim (cases_Bool (is_killed m.killed (group_of_fresh c))) [
   | inl killed ↦ ap (λ (k : KnownMachine). k.ledger.groups) (s.drops killed).machine
   | inr alive ↦ ap (λ (k : KnownMachine). k.ledger.groups) (s.keeps alive).machine
 ]

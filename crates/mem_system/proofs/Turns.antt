@@ -5,7 +5,7 @@ use Rattle.std.specs.Prelude.{slice_set}
 use Rattle.std.proofs.lemmas.Bool.{cases_lt, cases_eq}
 use Rattle.frame_word.specs.Seats.{KnownTable}
 use Rattle.stock_word.specs.declared.view.StockAccount.{StockAccount}
-use Rattle.stock_word.specs.Stock.{KnownStockSeat, account_at, account_of}
+use Rattle.stock_word.specs.Stock.{KnownStockSeat, stock_account_at, account_of}
 use Rattle.stock_word.specs.Kinds.{zone_after_drain}
 use Rattle.cpu_part.specs.Cpus.{KnownCpu}
 use Rattle.mem_machine.specs.declared.frame_state.FrameState.{FrameState}
@@ -118,7 +118,7 @@ emptied_alone m entered x y n c1 c2 frames p q k opened takes drains shut =
     record {
       none_lent = λ r none f is. none f (sym (ap (λ (l : List FrameState). frame_state_at l f) first)
           ∙ taken.lent f r (sym (ap (λ (l : List FrameState). frame_state_at l f) frame_states) ∙ is));
-      drained = λ r was. ap (λ (l : List StockAccount). (account_at l r).filled) accounts ∙ elim (cases_eq r q) [
+      drained = λ r was. ap (λ (l : List StockAccount). (stock_account_at l r).filled) accounts ∙ elim (cases_eq r q) [
         | inl e ↦ ap (λ (j : ℕ). (account_of (zone_after_drain m.stock_seat.view q k) j).filled) e ∙ ap (λ (a : StockAccount). a.filled) (drained_at m.stock_seat.view q k)
         | inr ne ↦ ap (λ (a : StockAccount). a.filled) (drained_else m.stock_seat.view q k r ne) ∙ was
       ];

@@ -7,7 +7,7 @@ use Rattle.frame_word.specs.Seats.{KnownTable}
 use Rattle.frame_word.proofs.Notes.{put_here, put_else}
 use Rattle.cpu_part.specs.Cpus.{KnownCpu}
 use Rattle.mem_machine.specs.Machines.{KnownMachine, is_killed, with_watch, without_notes}
-use Rattle.mem_machine.specs.Local.{local_of, fresh_group, visit_state, MakesAs}
+use Rattle.mem_machine.specs.Local.{local_of, group_of_fresh, visit_state, MakesAs}
 use Rattle.mem_machine.specs.Settling.{SettlesFresh, SettlesAllFresh, ReturnsAllBack, Settles, settle_steps}
 use Rattle.mem_machine.specs.Steps.{open_steps, shut_steps}
 use Rattle.mem_system.specs.declared.command.Cmd.{Cmd}
@@ -30,7 +30,7 @@ all_shut m x n p shut opened is q =
 
 -- a settled frame leaves the visits as they were
 settled_fresh : (f : ℕ) (m n : KnownMachine) (c d : KnownCpu) → SettlesFresh f (visit_state m c) (visit_state n d) → n.frame_seat.view.opened ≡ m.frame_seat.view.opened
-settled_fresh f m n c d s = elim (cases_Bool (is_killed m.killed (fresh_group c))) [
+settled_fresh f m n c d s = elim (cases_Bool (is_killed m.killed (group_of_fresh c))) [
   | inl killed ↦ ap (λ (k : KnownMachine). k.frame_seat.view.opened) (s.drops killed).machine
   | inr alive ↦ ap (λ (k : KnownMachine). k.frame_seat.view.opened) (s.keeps alive).machine
 ]

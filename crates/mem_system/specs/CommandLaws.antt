@@ -3,14 +3,14 @@ use Rattle.std.specs.Prelude.{◌≡◌, ℕ, ◌≤◌, ◌<◌, ◌⊎◌, Lis
 use Rattle.std.specs.Borrow.{Bor}
 use Rattle.frame_word.specs.Seats.{KnownTable}
 use Rattle.stock_word.specs.declared.view.Stock.{Stock}
-use Rattle.stock_word.specs.Stock.{KnownStockTable, pages_of, word_of}
+use Rattle.stock_word.specs.Stock.{KnownStockTable, stock_pages_of, word_of}
 use Rattle.stock_word.specs.StockRule.{report_index, stock_index}
 use Rattle.zone_blocks.specs.declared.config.Config.{Config}
 use Rattle.zone_blocks.specs.Config.{IsValidConfig}
 use Rattle.group_tree.specs.declared.fault.Fault.{Fault}
 use Rattle.group_tree.specs.declared.fault.Fault.TheVariants.{Again}
 use Rattle.control_files.specs.declared.file.File.TheVariants.{Reclaim}
-use Rattle.control_files.specs.Files.{name_of}
+use Rattle.control_files.specs.Files.{name_of_file}
 use Rattle.mem_machine.specs.Local.{VisitState}
 use Rattle.mem_reclaim.specs.Moves.{kills_in}
 use Rattle.mem_system.specs.declared.audit.Audit.{Audit}
@@ -35,7 +35,7 @@ OnlyReclaimFallsShort =
     (path file value : Bor (List ℕ)) (fault : Fault) (call : Transition LockedState)
     (served : Serves (Write path file value) (Refused fault) call)
     → ((served.done ≡ served.settled.machine) × (served.inner ≡ []))
-    ⊎ ((file.now ≡ name_of Reclaim) × (fault ≡ Again))
+    ⊎ ((file.now ≡ name_of_file Reclaim) × (fault ≡ Again))
 
 -- a Release leaves at most `high` frames in the CPU's list, if there were at most as many
 abbrev pub ReleasesCutLists : Type 0
@@ -47,7 +47,7 @@ ReleasesCutLists =
 pub record HasEmptyWords (stock_words : List ℕ) (cpu : ℕ) : Type 0 where
   pub stock : Stock
   pub encoded : slice_index stock_words (stock_index cpu) ≡ word_of stock
-  pub empty : pages_of stock ≡ 0
+  pub empty : stock_pages_of stock ≡ 0
   pub none_reported : slice_index stock_words (report_index cpu) ≡ 0
 
 -- the last words of both tables: no CPU's words hold a page, and no frame's word counts more than the zone's reference

@@ -9,7 +9,7 @@ use Rattle.step_rules.specs.State.{one_if}
 use Rattle.step_rules.specs.After.{Run}
 use Rattle.frame_word.specs.Seats.{KnownTable, KnownSeat, view_of}
 use Rattle.stock_word.specs.declared.view.Stock.{Stock}
-use Rattle.stock_word.specs.Stock.{KnownStockTable, KnownStockSeat, account_of, view_in, word_of, pages_of}
+use Rattle.stock_word.specs.Stock.{KnownStockTable, KnownStockSeat, account_of, view_in, word_of, stock_pages_of}
 use Rattle.stock_word.specs.StockRule.{IsStockOf, stock_index, report_index}
 use Rattle.group_tree.specs.Room.{max_count}
 use Rattle.cpu_part.specs.Cpus.{KnownCpu, IsTied, IsIdle}
@@ -27,8 +27,8 @@ use Rattle.mem_system.specs.Visits.{with_visit_of, with_watch_at, visited, visit
 use Rattle.step_watch.specs.Watched.{KnownWatch, Watches}
 
 -- how many pins the CPUs have together
-abbrev pub pins_of : List KnownCpu → ℕ
-pins_of cpus = sum_by (λ cpu. length cpu.pins) cpus
+abbrev pub pins_of_all : List KnownCpu → ℕ
+pins_of_all cpus = sum_by (λ cpu. length cpu.pins) cpus
 
 -- how many fresh frames the CPUs put back on their own lists
 abbrev pub drops_of : List KnownCpu → ℕ
@@ -182,7 +182,7 @@ pub record AreLastWords (table : KnownTable) (machine : KnownMachine) (cpus : Li
 pub record HasNoPage (machine : KnownMachine) (stock_words : List ℕ) (cpu : ℕ) : Type 0 where
   pub stock : Stock
   pub encoded : slice_index stock_words (stock_index cpu) ≡ word_of stock
-  pub empty : pages_of stock ≡ 0
+  pub empty : stock_pages_of stock ≡ 0
   pub none_reported : slice_index stock_words (report_index cpu) ≡ 0
   pub book : (account_of machine.stock_seat.view cpu).book ≡ 0
 
@@ -200,7 +200,7 @@ pub record MakesLastVisits (table : KnownTable) (stock_table : KnownStockTable) 
     (cpus : List KnownCpu)
     (emptied : KnownEmptiedBoot) : Type 0 where
   pub quiet : IsQuiet table stock_table locked
-  pub no_pin : pins_of cpus ≡ 0
+  pub no_pin : pins_of_all cpus ≡ 0
   pub settled : KnownMachine
   pub settled_cpus : List KnownCpu
   pub settles : ForEachCpu (VisitsUnderLock table SettlesInVisit) locked.machine cpus settled settled_cpus

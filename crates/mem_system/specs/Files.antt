@@ -10,7 +10,7 @@ use Rattle.frame_word.specs.Seats.{KnownTable}
 use Rattle.cpu_part.specs.Cpus.{KnownCpu}
 use Rattle.control_files.specs.declared.file.File.{File}
 use Rattle.control_files.specs.declared.file.File.TheVariants.{Max, OomGroup, Reclaim}
-use Rattle.control_files.specs.Files.{name_of, file_text, is_writable}
+use Rattle.control_files.specs.Files.{name_of_file, file_text, is_writable}
 use Rattle.control_files.specs.Flag.{IsFlagText, IsNoFlagText}
 use Rattle.control_files.specs.Limit.{ReadsAmount, ReadsAs, IsTooGreat, IsNoAmountText, IsNoLimitText}
 use Rattle.step_rules.specs.After.{Run}
@@ -36,13 +36,13 @@ KeepsAnyVisit table before after =
 pub record IsFileOf (groups : List Group) (path name : List ℕ) (group : ℕ) (file : File) : Type 0 where
   pub number : number_at groups path ≡ Some group
   pub below_root : group ≢ 0
-  pub named : name ≡ name_of file
+  pub named : name ≡ name_of_file file
 
 -- A group has the path. It is the root, which has no file, or no file has the name.
 pub record HasNoFileNamed (groups : List Group) (path name : List ℕ) : Type 0 where
   pub group : ℕ
   pub number : number_at groups path ≡ Some group
-  pub none : (group ≡ 0) ⊎ ((file : File) → name ≢ name_of file)
+  pub none : (group ≡ 0) ⊎ ((file : File) → name ≢ name_of_file file)
 
 -- why there is no such file: no group has the path, or its group has no file of this name
 abbrev pub HasNoFile : List Group → (path name : List ℕ) → Fault → Type 0

@@ -2,7 +2,7 @@
 
 ghost use Rattle.std.specs.Prelude.{◌≡◌, ◌<◌, ◌≤◌, ◌^◌, min, length, IfOk, IfErr};
 ghost use Rattle.group_tree.specs.Room.{max_count};
-ghost use Rattle.mem_system.specs.Ends.{Ends, MakesLastVisits, drops_of, pins_of};
+ghost use Rattle.mem_system.specs.Ends.{Ends, MakesLastVisits, drops_of, pins_of_all};
 
 use crate::audit::Audit;
 use crate::emptied_boot::EmptiedBoot;
@@ -22,7 +22,7 @@ pub struct Pinned<N: BootName> {
 // The pins of the CPUs together.
 fn count_pins<N: BootName>(cpus: &[Cpu<N>]) -> u64
     requires { length cpus.now < 2 ^ 32 }
-    ensures { result ≡ pins_of cpus.now }
+    ensures { result ≡ pins_of_all cpus.now }
 {
     let mut pins = 0;
     for cpu in cpus {
@@ -53,7 +53,7 @@ pub fn make_last_visits<N: BootName>(
 ) -> Result<EmptiedBoot<N>, Pinned<N>>
     requires { length cpus.items ≡ N.frames.cpus }
     ensures visits { IfOk result (MakesLastVisits N.frames N.stocks locked cpus.items) }
-    ensures pins { IfErr result (λ pinned. pinned.pins ≡ pins_of cpus.items) }
+    ensures pins { IfErr result (λ pinned. pinned.pins ≡ pins_of_all cpus.items) }
     ensures some_pin { IfErr result (λ pinned. 1 ≤ pinned.pins) }
     ensures locked { IfErr result (λ pinned. pinned.locked ≡ locked) }
     ensures tables { IfErr result (λ pinned. pinned.tables ≡ tables) }
@@ -98,7 +98,7 @@ pub fn end<N: BootName>(
 ) -> Result<Audit, Pinned<N>>
     requires { length cpus.items ≡ N.frames.cpus }
     ensures ends { IfOk result (λ audit. Ends N.frames N.stocks locked cpus.items audit) }
-    ensures pins { IfErr result (λ pinned. pinned.pins ≡ pins_of cpus.items) }
+    ensures pins { IfErr result (λ pinned. pinned.pins ≡ pins_of_all cpus.items) }
     ensures some_pin { IfErr result (λ pinned. 1 ≤ pinned.pins) }
     ensures locked { IfErr result (λ pinned. pinned.locked ≡ locked) }
     ensures tables { IfErr result (λ pinned. pinned.tables ≡ tables) }

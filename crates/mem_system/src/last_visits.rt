@@ -5,7 +5,7 @@ ghost use Rattle.std.specs.Prelude.{◌≡◌, [], All};
 ghost use Rattle.mem_system.specs.Locked.{AllShut};
 ghost use Rattle.mem_system.specs.Commands.{BySteps};
 ghost use Rattle.mem_system.specs.Ends.{Empties, ForEachCpu, SettlesInVisit, VisitsUnderLock};
-ghost use Rattle.mem_system.specs.Ends.{IsEmptied, IsSettledUnpinned, LendsAndFillsNone, pins_of};
+ghost use Rattle.mem_system.specs.Ends.{IsEmptied, IsSettledUnpinned, LendsAndFillsNone, pins_of_all};
 ghost use Rattle.mem_machine.specs.Local.{visit_state};
 
 use cpu_part::{BootName, Cpu, Tables};
@@ -81,7 +81,7 @@ pub(crate) fn settle_all<N: BootName>(
     cpus: &mut [Cpu<N>],
 )
     requires shut { AllShut machine.old }
-    requires no_pin { pins_of cpus.old ≡ 0 }
+    requires no_pin { pins_of_all cpus.old ≡ 0 }
     ensures settles { ForEachCpu (VisitsUnderLock N.frames SettlesInVisit)
         machine.old cpus.old machine.new cpus.new }
     ensures shut { AllShut machine.new }

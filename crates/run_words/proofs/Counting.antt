@@ -7,7 +7,7 @@ use Rattle.step_rules.specs.declared.phase.Stage.TheVariants.{FreshPassing, Back
 use Rattle.step_rules.specs.declared.phase.Phase.{Phase}
 use Rattle.step_rules.specs.declared.phase.Phase.TheVariants.{Lent, Head}
 use Rattle.step_rules.specs.declared.step.Answer.TheVariants.{Held, Zero, Full}
-use Rattle.step_rules.specs.Phases.{is_live}
+use Rattle.step_rules.specs.Phases.{is_live_phase}
 use Rattle.step_rules.specs.State.{State, live_references, sum_to}
 use Rattle.step_rules.specs.Legal.{get_answer}
 use Rattle.step_rules.proofs.PhaseLemmas.{live_is}
@@ -20,11 +20,11 @@ use Rattle.run_words.specs.Words.{word_in_phase, frame_word}
 pub sum_others : (s : State) (k f n m : ℕ) → m ≢ f → sum_to (s.zone.cpus + 1) (λ seat. changed s.references k f n seat m) ≡ live_references s m
 sum_others s k f n m ne = sum_same (s.zone.cpus + 1) _ _ (λ seat below. changed_others s.references k f n m ne seat)
 
-pub none_live : (s : State) (f : ℕ) → IsSound s → is_live (s.phases f) ≡ false → live_references s f ≡ 0
+pub none_live : (s : State) (f : ℕ) → IsSound s → is_live_phase (s.phases f) ≡ false → live_references s f ≡ 0
 none_live s f sound dead = sum_none (s.zone.cpus + 1) (λ seat. s.references seat f) (λ seat below. (sound.frames f).unreferred dead seat)
 
 -- a frame in a live phase has its number of references as its word
-pub live_word : (s : State) (f : ℕ) → is_live (s.phases f) ≡ true → (live : ℕ) → word_in_phase (s.phases f) live ≡ live
+pub live_word : (s : State) (f : ℕ) → is_live_phase (s.phases f) ≡ true → (live : ℕ) → word_in_phase (s.phases f) live ≡ live
 live_word s f is live = ap (λ x. word_in_phase x live) (live_is (s.phases f) is).1
 
 pub referenced : (s : State) (f : ℕ) → IsSound s → 1 ≤ live_references s f → frame_word s f ≡ live_references s f
@@ -62,7 +62,7 @@ held_answer n low high = (λ i. cond (le-leb 1 n low i && le-leb n 254 high i) H
 mark_high : (q : ℕ) → 256 ≤ 256 + q
 mark_high q = omega arith
 
-answer_in : (x : Phase) (live : ℕ) → (is_live x ≡ false → live ≡ 0) → get_answer (word_in_phase x live) ≡ get_answer live
+answer_in : (x : Phase) (live : ℕ) → (is_live_phase x ≡ false → live ≡ 0) → get_answer (word_in_phase x live) ≡ get_answer live
 answer_in (Lent q PassingOut) live dead = high_answer (256 + q) (mark_high q) ∙ sym (ap get_answer (dead refl))
 answer_in (Lent q PassingBack) live dead = high_answer (256 + q) (mark_high q) ∙ sym (ap get_answer (dead refl))
 answer_in (Head u (FreshPassing q)) live dead = high_answer (256 + q) (mark_high q) ∙ sym (ap get_answer (dead refl))

@@ -9,7 +9,7 @@ use Rattle.step_rules.specs.declared.phase.Phase.{Phase}
 use Rattle.step_rules.specs.declared.phase.Phase.TheVariants.{Lent}
 use Rattle.step_rules.specs.declared.step.Action.TheVariants.{OpenVisit, ShutVisit, PassOut, TakeIn, PassBack, Collect}
 use Rattle.step_rules.specs.declared.step.Answer.TheVariants.{Done}
-use Rattle.step_rules.specs.Phases.{ListFrame, FreshFrame, is_live, has_as, passed_back, collected}
+use Rattle.step_rules.specs.Phases.{ListFrame, FreshFrame, is_live_phase, has_as, passed_back, collected}
 use Rattle.step_rules.specs.Phases as kinds
 use Rattle.step_rules.specs.State.{State, with_at, live_references, one_if, front_of, is_held_by, visits}
 use Rattle.step_rules.specs.Legal.{is_legal}
@@ -49,7 +49,7 @@ pub follows_take_in : (s : State) (words : Words) (seat f : ℕ) → Stands s wo
 follows_take_in s words seat f stands legal =
     let tests = take_in_tests s seat f legal in
     let below = below_frames s.zone f tests.1 in
-    let dead : is_live (s.phases f) ≡ false = ap is_live (out_is seat (s.phases f) tests.2) in
+    let dead : is_live_phase (s.phases f) ≡ false = ap is_live_phase (out_is seat (s.phases f) tests.2) in
     let t = after s seat (TakeIn f) Done in
     let has = phase_word s f (Lent seat OnList) 0 (none_live s f stands.sound dead) in
     record {
@@ -91,10 +91,10 @@ got_word cpu x live (FromList e) = ap (λ y. word_in_phase (collected y) live) e
 got_word cpu x live (FromFresh u e) = ap (λ y. word_in_phase (collected y) live) e
 got_word cpu x live (FromBack u e) = ap (λ y. word_in_phase (collected y) live) e
 
-got_dead : (cpu : ℕ) (x : Phase) → CameBack cpu x → is_live x ≡ false
-got_dead cpu x (FromList e) = ap is_live e
-got_dead cpu x (FromFresh u e) = ap is_live e
-got_dead cpu x (FromBack u e) = ap is_live e
+got_dead : (cpu : ℕ) (x : Phase) → CameBack cpu x → is_live_phase x ≡ false
+got_dead cpu x (FromList e) = ap is_live_phase e
+got_dead cpu x (FromFresh u e) = ap is_live_phase e
+got_dead cpu x (FromBack u e) = ap is_live_phase e
 
 pub follows_collect : (s : State) (words : Words) (seat f cpu : ℕ) → Stands s words → is_legal s seat (Collect f cpu) ≡ true
     → Follows s seat (Collect f cpu) Done (with_frame_word words f 0)

@@ -7,7 +7,7 @@ use Rattle.step_rules.specs.declared.phase.Phase.TheVariants.{Head}
 use Rattle.step_rules.specs.declared.step.Action.TheVariants.{Get, Put, Freeze, Unfreeze}
 use Rattle.step_rules.specs.declared.step.Answer.{Answer}
 use Rattle.step_rules.specs.declared.step.Answer.TheVariants.{Done, Held, Zero, Full, Left, Last, Missed}
-use Rattle.step_rules.specs.Phases.{is_live, at_stage, stage_after_last}
+use Rattle.step_rules.specs.Phases.{is_live_phase, at_stage, stage_after_last}
 use Rattle.step_rules.specs.State.{State, with_at, live_references}
 use Rattle.step_rules.specs.Legal.{is_legal, get_answer}
 use Rattle.step_rules.specs.After.{after, with_back}
@@ -19,13 +19,13 @@ use Rattle.step_rules.proofs.Referring.{live_from_one, live_from_references, sea
 use Rattle.step_rules.proofs.SoundSteps.{below_frames, cpu_range}
 use Rattle.step_rules.proofs.Sums.{sum_part}
 use Rattle.run_words.specs.Words.{Words, word_in_phase, frame_word, with_frame_word}
-use Rattle.run_words.specs.Steps.{word_at}
+use Rattle.run_words.specs.Steps.{frame_word_at}
 use Rattle.run_words.proofs.WordLists.{HasSameStock, frame_set, stocks_same}
 use Rattle.run_words.proofs.Following.{Stands, Follows, all_stocks, same_stocks}
 use Rattle.run_words.proofs.Counting.{answer_by_word, held_answer, live_word, low_word, none_live, sum_others}
 
 -- the number of references of a live frame is its word
-word_is_live : (s : State) (words : Words) (f : ℕ) → Stands s words → f < s.zone.frames → is_live (s.phases f) ≡ true → word_at words f ≡ live_references s f
+word_is_live : (s : State) (words : Words) (f : ℕ) → Stands s words → f < s.zone.frames → is_live_phase (s.phases f) ≡ true → frame_word_at words f ≡ live_references s f
 word_is_live s words f stands below live = stands.frames.frame f below ∙ live_word s f live (live_references s f)
 
 more_by_one : (t r l : ℕ) → t + r ≡ l + (r + 1) → t ≡ l + 1
@@ -35,11 +35,11 @@ less_by_one : (t r l : ℕ) → 1 ≤ r → t + r ≡ l + (r - 1) → t ≡ l - 
 less_by_one t r l some e = omega arith
 
 pub follows_get : (s : State) (words : Words) (seat f : ℕ) → Stands s words → is_legal s seat (Get f) ≡ true
-    → 1 ≤ word_at words f → word_at words f < 255 → Follows s seat (Get f) Held (with_frame_word words f (word_at words f + 1))
+    → 1 ≤ frame_word_at words f → frame_word_at words f < 255 → Follows s seat (Get f) Held (with_frame_word words f (frame_word_at words f + 1))
 follows_get s words seat f stands legal some room =
     let tests = get_tests s seat f legal in
     let below = below_frames s.zone f tests.1 in
-    let n = word_at words f in
+    let n = frame_word_at words f in
     let live = live_references s f in
     let t = after s seat (Get f) Held in
     let found : n ≡ frame_word s f = stands.frames.frame f below in
@@ -58,18 +58,18 @@ follows_get s words seat f stands legal some room =
       stocks = stocks_same s t words.stocks stands.stocks refl (all_stocks s.parts);
     }
 
-get_counted : (s : State) (words : Words) (seat f : ℕ) (answer : Answer) → Stands s words → is_legal s seat (Get f) ≡ true → get_answer (word_at words f) ≡ answer
+get_counted : (s : State) (words : Words) (seat f : ℕ) (answer : Answer) → Stands s words → is_legal s seat (Get f) ≡ true → get_answer (frame_word_at words f) ≡ answer
     → answer ≡ get_answer (live_references s f)
 get_counted s words seat f answer stands legal e =
     let below = below_frames s.zone f (get_tests s seat f legal).1 in
     sym e ∙ ap get_answer (stands.frames.frame f below) ∙ answer_by_word s f stands.sound
 
-pub follows_zero : (s : State) (words : Words) (seat f : ℕ) → Stands s words → is_legal s seat (Get f) ≡ true → get_answer (word_at words f) ≡ Zero
+pub follows_zero : (s : State) (words : Words) (seat f : ℕ) → Stands s words → is_legal s seat (Get f) ≡ true → get_answer (frame_word_at words f) ≡ Zero
     → Follows s seat (Get f) Zero words
 follows_zero s words seat f stands legal e =
     record { answered = tt; counted = get_counted s words seat f Zero stands legal e; frames = stands.frames; stocks = stands.stocks }
 
-pub follows_full : (s : State) (words : Words) (seat f : ℕ) → Stands s words → is_legal s seat (Get f) ≡ true → get_answer (word_at words f) ≡ Full
+pub follows_full : (s : State) (words : Words) (seat f : ℕ) → Stands s words → is_legal s seat (Get f) ≡ true → get_answer (frame_word_at words f) ≡ Full
     → Follows s seat (Get f) Full words
 follows_full s words seat f stands legal e =
     record { answered = tt; counted = get_counted s words seat f Full stands legal e; frames = stands.frames; stocks = stands.stocks }
@@ -78,7 +78,7 @@ left_one : (t l n : ℕ) → t ≡ l - 1 → l ≡ n + 1 → t ≡ n
 left_one t l n e f = omega arith
 
 pub follows_put : (s : State) (words : Words) (seat f n : ℕ) → Stands s words → is_legal s seat (Put f) ≡ true
-    → 1 ≤ n → word_at words f ≡ n + 1 → Follows s seat (Put f) (Left n) (with_frame_word words f n)
+    → 1 ≤ n → frame_word_at words f ≡ n + 1 → Follows s seat (Put f) (Left n) (with_frame_word words f n)
 follows_put s words seat f n stands legal some found =
     let tests = put_tests s seat f legal in
     let below = below_frames s.zone f tests.1 in
@@ -98,7 +98,7 @@ follows_put s words seat f n stands legal some found =
       stocks = stocks_same s t words.stocks stands.stocks refl (all_stocks s.parts);
     }
 
-last_word : (seat live : ℕ) (x : Phase) → is_live x ≡ true → word_in_phase (at_stage (stage_after_last seat) x) live ≡ live
+last_word : (seat live : ℕ) (x : Phase) → is_live_phase x ≡ true → word_in_phase (at_stage (stage_after_last seat) x) live ≡ live
 last_word seat live x is = ap (λ y. word_in_phase (at_stage (stage_after_last seat) y) live) (live_is x is).1 ∙ by_seat (seat == 0)
   where
     by_seat : (b : Bool) → word_in_phase (Head (live_is x is).0 (cond b AwaitsReturn (BackAt seat))) live ≡ live
@@ -118,7 +118,7 @@ others_stay : (s : State) (seat f n : ℕ) (y : Phase) (m : ℕ) → m ≢ f
 others_stay s seat f n y m ne = λ i. word_in_phase (at_other s.phases f y m ne i) (sum_others s seat f n m ne i)
 
 pub follows_last : (s : State) (words : Words) (seat f : ℕ) → Stands s words → is_legal s seat (Put f) ≡ true
-    → word_at words f ≡ 1 → Follows s seat (Put f) Last (with_frame_word words f 0)
+    → frame_word_at words f ≡ 1 → Follows s seat (Put f) Last (with_frame_word words f 0)
 follows_last s words seat f stands legal found =
     let tests = put_tests s seat f legal in
     let below = below_frames s.zone f tests.1 in
@@ -143,14 +143,14 @@ follows_last s words seat f stands legal found =
 none_after : (t r l n : ℕ) → t + r ≡ l + (r - n) → l ≡ n → n ≤ r → r ≤ l → t ≡ 0
 none_after t r l n e all enough part = omega arith
 
-frozen_word : (live : ℕ) (x : Phase) → is_live x ≡ true → word_in_phase (at_stage AwaitsReturn x) live ≡ live
+frozen_word : (live : ℕ) (x : Phase) → is_live_phase x ≡ true → word_in_phase (at_stage AwaitsReturn x) live ≡ live
 frozen_word live x is = ap (λ y. word_in_phase (at_stage AwaitsReturn y) live) (live_is x is).1
 
 low_zero : (n : ℕ) → 0 ≤ n
 low_zero n = omega arith
 
 pub follows_freeze : (s : State) (words : Words) (seat f n : ℕ) → Stands s words → is_legal s seat (Freeze f n) ≡ true
-    → word_at words f ≡ n → Follows s seat (Freeze f n) Done (with_frame_word words f 0)
+    → frame_word_at words f ≡ n → Follows s seat (Freeze f n) Done (with_frame_word words f 0)
 follows_freeze s words seat f n stands legal found =
     let tests = freeze_tests s seat f n legal in
     let below = below_frames s.zone f tests.1 in
@@ -174,7 +174,7 @@ follows_freeze s words seat f n stands legal found =
     }
 
 pub follows_missed : (s : State) (words : Words) (seat f n : ℕ) → Stands s words → is_legal s seat (Freeze f n) ≡ true
-    → word_at words f ≢ n → Follows s seat (Freeze f n) Missed words
+    → frame_word_at words f ≢ n → Follows s seat (Freeze f n) Missed words
 follows_missed s words seat f n stands legal found =
     let tests = freeze_tests s seat f n legal in
     let below = below_frames s.zone f tests.1 in
@@ -188,10 +188,10 @@ follows_missed s words seat f n stands legal found =
       stocks = stands.stocks;
     }
 
-hand_dead : (x : Phase) → InHand x → is_live x ≡ false
-hand_dead x (WasCollected u e) = ap is_live e
-hand_dead x (WasBare u e) = ap is_live e
-hand_dead x (WasEnded u e) = ap is_live e
+hand_dead : (x : Phase) → InHand x → is_live_phase x ≡ false
+hand_dead x (WasCollected u e) = ap is_live_phase e
+hand_dead x (WasBare u e) = ap is_live_phase e
+hand_dead x (WasEnded u e) = ap is_live_phase e
 
 woken_word : (live : ℕ) (x : Phase) → InHand x → word_in_phase (at_stage Live x) live ≡ live
 woken_word live x (WasCollected u e) = ap (λ y. word_in_phase (at_stage Live y) live) e

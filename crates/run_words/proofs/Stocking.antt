@@ -4,7 +4,7 @@ use Rattle.std.specs.Prelude.{slice_set, is_some}
 use Rattle.std.proofs.lemmas.Bool.{leb-true}
 use Rattle.stock_word.specs.declared.view.Stock.{Stock}
 use Rattle.stock_word.specs.declared.view.Stock.TheVariants.{NoGroup, HeldBy, DrainedOf}
-use Rattle.stock_word.specs.Stock.{word_of, HasWord, pages_of, group_of}
+use Rattle.stock_word.specs.Stock.{word_of, HasWord, stock_pages_of, group_of}
 use Rattle.stock_word.specs.StockRule.{stock_index, report_index}
 use Rattle.stock_word.proofs.Stocks.{held_word}
 use Rattle.step_rules.specs.declared.phase.Way.TheVariants.{OnList}
@@ -22,8 +22,8 @@ use Rattle.step_rules.proofs.PhaseLemmas.{listed_is, fresh_is}
 use Rattle.step_rules.proofs.Sound.{IsBooked}
 use Rattle.step_rules.proofs.SoundSteps.{cpu_range}
 use Rattle.step_rules.proofs.Stocked.{FitsStock}
-use Rattle.run_words.specs.Words.{Words, AreStockWords, word_in_phase, frame_word, stock_by, stock_in, with_stock_word, with_report_word}
-use Rattle.run_words.specs.Steps.{stock_word_at, report_word_at, ExchangesStock, FindsStock, DrainsStock, OfGroup, OfNone}
+use Rattle.run_words.specs.Words.{Words, AreStockWords, word_in_phase, frame_word, stock_said, stock_in, with_stock_word, with_report_word}
+use Rattle.run_words.specs.Steps.{stock_word_at, report_word_at, ExchangesStock, FindsStock, LeavesDrained, OfGroup, OfNone}
 use Rattle.run_words.proofs.WordLists.{frames_same, stock_set, report_set, stocks_same}
 use Rattle.run_words.proofs.Following.{Stands, Follows, same_stocks, visited_cpu}
 
@@ -44,7 +44,7 @@ same_word s (HeldBy g n) h k e = held_word s g n h k.0 k.1 e
 same_word s (DrainedOf g) h k e = drained_word s g h k e
 
 -- ---- what the stock of a part says of its group, its pages, and whether it was drained
-held_parts : (o : Option ℕ) (n : ℕ) (d : Bool) (g m : ℕ) → stock_by o n d ≡ HeldBy g m → (o ≡ Some g) × (n ≡ m) × (d ≡ false)
+held_parts : (o : Option ℕ) (n : ℕ) (d : Bool) (g m : ℕ) → stock_said o n d ≡ HeldBy g m → (o ≡ Some g) × (n ≡ m) × (d ≡ false)
 held_parts None n d g m e = absurd (let a : NoGroup ≡ HeldBy g m = e in cc)
 held_parts (Some k) n true g m e = absurd (let a : DrainedOf k ≡ HeldBy g m = e in cc)
 held_parts (Some k) n false g m e =
@@ -53,7 +53,7 @@ held_parts (Some k) n false g m e =
     let c : n ≡ m = cc in
     (ap Some b, c, refl)
 
-drained_parts : (o : Option ℕ) (n : ℕ) (d : Bool) (g : ℕ) → stock_by o n d ≡ DrainedOf g → (o ≡ Some g) × (d ≡ true)
+drained_parts : (o : Option ℕ) (n : ℕ) (d : Bool) (g : ℕ) → stock_said o n d ≡ DrainedOf g → (o ≡ Some g) × (d ≡ true)
 drained_parts None n d g e = absurd (let a : NoGroup ≡ DrainedOf g = e in cc)
 drained_parts (Some k) n true g e =
     let a : DrainedOf k ≡ DrainedOf g = e in
@@ -61,17 +61,17 @@ drained_parts (Some k) n true g e =
     (ap Some b, refl)
 drained_parts (Some k) n false g e = absurd (let a : HeldBy k n ≡ DrainedOf g = e in cc)
 
-none_parts : (o : Option ℕ) (n : ℕ) (d : Bool) → stock_by o n d ≡ NoGroup → o ≡ None
+none_parts : (o : Option ℕ) (n : ℕ) (d : Bool) → stock_said o n d ≡ NoGroup → o ≡ None
 none_parts None n d e = refl
 none_parts (Some k) n true e = absurd (let a : DrainedOf k ≡ NoGroup = e in cc)
 none_parts (Some k) n false e = absurd (let a : HeldBy k n ≡ NoGroup = e in cc)
 
-group_by : (o : Option ℕ) (n : ℕ) (d : Bool) → group_of (stock_by o n d) ≡ o
+group_by : (o : Option ℕ) (n : ℕ) (d : Bool) → group_of (stock_said o n d) ≡ o
 group_by None n d = refl
 group_by (Some k) n true = refl
 group_by (Some k) n false = refl
 
-pages_by : (o : Option ℕ) (n : ℕ) (d : Bool) → (o ≡ None → n ≡ 0) → (d ≡ true → n ≡ 0) → pages_of (stock_by o n d) ≡ n
+pages_by : (o : Option ℕ) (n : ℕ) (d : Bool) → (o ≡ None → n ≡ 0) → (d ≡ true → n ≡ 0) → stock_pages_of (stock_said o n d) ≡ n
 pages_by None n d none_left drained_left = sym (none_left refl)
 pages_by (Some k) n true none_left drained_left = sym (drained_left refl)
 pages_by (Some k) n false none_left drained_left = refl
@@ -82,7 +82,7 @@ no_page book pages fresh unreported reported e none = omega arith
 no_pages : (part : Part) → FitsStock part → IsBooked part → part.stock.group ≡ None → part.stock.pages ≡ 0
 no_pages part fits booked e = no_page part.book part.stock.pages (length part.fresh) part.unreported part.reported booked (fits.book e)
 
-pages_in : (part : Part) → FitsStock part → IsBooked part → pages_of (stock_in part) ≡ part.stock.pages
+pages_in : (part : Part) → FitsStock part → IsBooked part → stock_pages_of (stock_in part) ≡ part.stock.pages
 pages_in part fits booked = pages_by part.stock.group part.stock.pages part.stock.is_drained (no_pages part fits booked) fits.none
 
 -- the stock that the word says is the CPU's
@@ -144,7 +144,7 @@ follows_consume s words later seat g n stands legal x =
         visit = λ cpu. refl;
       });
       stocks = part_stock s t words.stocks seat (paid part) (HeldBy g n) stands.stocks range.1 refl refl
-          (λ i. stock_by (is.0 i) (less i) (is.2 i)) x.after_fits refl;
+          (λ i. stock_said (is.0 i) (less i) (is.2 i)) x.after_fits refl;
     }
 
 pub follows_consume_drained : (s : State) (words later : Words) (seat g : ℕ) → Stands s words → is_legal s seat (Consume g) ≡ true
@@ -174,7 +174,7 @@ follows_credit s words later seat f g n stands legal x =
         visit = λ cpu. refl;
       });
       stocks = part_stock s t words.stocks seat (credited part f) (HeldBy g (n + 1)) stands.stocks range.1 refl refl
-          (λ i. stock_by (is.0 i) (is.1 i + 1) (is.2 i)) x.after_fits refl;
+          (λ i. stock_said (is.0 i) (is.1 i + 1) (is.2 i)) x.after_fits refl;
     }
 
 pub follows_credit_drained : (s : State) (words later : Words) (seat f g : ℕ) → Stands s words → is_legal s seat (Credit f) ≡ true
@@ -230,7 +230,7 @@ follows_fill s words seat cpu g n stands legal fits =
     }
 
 pub follows_drain : (s : State) (words later : Words) (seat cpu n : ℕ) → Stands s words → is_legal s seat (DrainStock cpu) ≡ true
-    → DrainsStock words cpu n later → Follows s seat (DrainStock cpu) (Pages n) later
+    → LeavesDrained words cpu n later → Follows s seat (DrainStock cpu) (Pages n) later
 follows_drain s words later seat cpu n stands legal (OfGroup stock g of pages x) =
     let tests = drain_stock_tests s seat cpu legal in
     let range = cpu_range s.zone cpu tests.1 in
@@ -240,10 +240,10 @@ follows_drain s words later seat cpu n stands legal (OfGroup stock g of pages x)
     let t = after s seat (DrainStock cpu) (Pages n) in
     subst (Follows s seat (DrainStock cpu) (Pages n)) (sym x.later_is) (record {
       answered = tt;
-      counted = pages ∙ sym (ap pages_of is) ∙ pages_in part (stands.fits cpu) (stands.sound.booked cpu);
+      counted = pages ∙ sym (ap stock_pages_of is) ∙ pages_in part (stands.fits cpu) (stands.sound.booked cpu);
       frames = frames_same s t words.frames stands.frames (record { zone = refl; frame = λ f. refl; visit = λ q. refl });
       stocks = part_stock s t words.stocks cpu (drained part n) (DrainedOf g) stands.stocks range.1 refl refl
-          (λ i. stock_by (group i) (part.stock.pages - n) (is_some (group i))) x.after_fits refl;
+          (λ i. stock_said (group i) (part.stock.pages - n) (is_some (group i))) x.after_fits refl;
     })
 follows_drain s words later seat cpu n stands legal (OfNone pages x) =
     let tests = drain_stock_tests s seat cpu legal in

@@ -3,7 +3,7 @@ use Rattle.std.specs.Prelude.{◌≡◌, ◌≢◌, ℕ, ◌+◌, ◌*◌, ◌<�
 use Rattle.frame_word.specs.ReferenceRule.{mark, most_references}
 use Rattle.stock_word.specs.declared.view.Stock.{Stock}
 use Rattle.stock_word.specs.declared.view.Stock.TheVariants.{NoGroup, HeldBy, DrainedOf}
-use Rattle.stock_word.specs.Stock.{word_of, HasWord, pages_of, group_of}
+use Rattle.stock_word.specs.Stock.{word_of, HasWord, stock_pages_of, group_of}
 use Rattle.stock_word.specs.StockRule.{stock_index, report_index}
 use Rattle.step_rules.specs.declared.step.Step.{Step}
 use Rattle.step_rules.specs.declared.step.Action.{Action}
@@ -22,8 +22,8 @@ use Rattle.step_rules.specs.Laws.{pushed}
 use Rattle.run_words.specs.Words.{Words, IsRunOf, with_frame_word, with_visit_word, with_stock_word, with_report_word}
 
 -- the frame's word
-abbrev pub word_at : Words → ℕ → ℕ
-word_at words f = slice_index words.frames f
+abbrev pub frame_word_at : Words → ℕ → ℕ
+frame_word_at words f = slice_index words.frames f
 
 -- the CPU's stock word
 abbrev pub stock_word_at : Words → ℕ → ℕ
@@ -35,19 +35,19 @@ report_word_at words cpu = slice_index words.stocks (report_index cpu)
 
 -- a get finds 1 to 254 references, and adds one
 pub record AddsReference (words : Words) (f : ℕ) (later : Words) : Type 0 where
-  pub some : 1 ≤ word_at words f
-  pub room : word_at words f < most_references
-  pub later_is : later ≡ with_frame_word words f (word_at words f + 1)
+  pub some : 1 ≤ frame_word_at words f
+  pub room : frame_word_at words f < most_references
+  pub later_is : later ≡ with_frame_word words f (frame_word_at words f + 1)
 
 -- a get finds a word that decides this answer, and changes nothing
 pub record RefusesGet (words : Words) (f : ℕ) (answer : Answer) (later : Words) : Type 0 where
-  pub answered : get_answer (word_at words f) ≡ answer
+  pub answered : get_answer (frame_word_at words f) ≡ answer
   pub later_is : later ≡ words
 
 -- a put finds more than one reference, and leaves n
-pub record LeavesReferences (words : Words) (f n : ℕ) (later : Words) : Type 0 where
+pub record PutLeavesSome (words : Words) (f n : ℕ) (later : Words) : Type 0 where
   pub some : 1 ≤ n
-  pub found : word_at words f ≡ n + 1
+  pub found : frame_word_at words f ≡ n + 1
   pub later_is : later ≡ with_frame_word words f n
 
 -- the CPU's stock word is that of one stock, and becomes that of another
@@ -65,10 +65,10 @@ pub record FindsStock (words : Words) (cpu : ℕ) (stock : Stock) (later : Words
 
 -- A drain of n pages. Of a stock of group g it leaves the drained stock of g; a stock of no group has no page, and its
 -- word stays.
-pub data DrainsStock (words : Words) (cpu n : ℕ) (later : Words) : Type 0 where
-  OfGroup : (stock : Stock) (g : ℕ) → group_of stock ≡ Some g → n ≡ pages_of stock
-      → ExchangesStock words cpu stock (DrainedOf g) later → DrainsStock words cpu n later
-  OfNone : n ≡ 0 → FindsStock words cpu NoGroup later → DrainsStock words cpu n later
+pub data LeavesDrained (words : Words) (cpu n : ℕ) (later : Words) : Type 0 where
+  OfGroup : (stock : Stock) (g : ℕ) → group_of stock ≡ Some g → n ≡ stock_pages_of stock
+      → ExchangesStock words cpu stock (DrainedOf g) later → LeavesDrained words cpu n later
+  OfNone : n ≡ 0 → FindsStock words cpu NoGroup later → LeavesDrained words cpu n later
 
 -- The table: the step with this answer makes `later` of the words. A get adds 1 to a word of 1 to 254, and a put takes 1
 -- off. A freeze stores 0 if the word is the number that it names. A frame in transit has the mark of its CPU. A consume
@@ -77,10 +77,10 @@ abbrev pub ChangesWords : Zone → Words → ℕ → Action → Answer → Words
 ChangesWords zone words seat (Get f) Held later = AddsReference words f later
 ChangesWords zone words seat (Get f) Zero later = RefusesGet words f Zero later
 ChangesWords zone words seat (Get f) Full later = RefusesGet words f Full later
-ChangesWords zone words seat (Put f) (Left n) later = LeavesReferences words f n later
-ChangesWords zone words seat (Put f) Last later = (word_at words f ≡ 1) × (later ≡ with_frame_word words f 0)
-ChangesWords zone words seat (Freeze f n) Done later = (word_at words f ≡ n) × (later ≡ with_frame_word words f 0)
-ChangesWords zone words seat (Freeze f n) Missed later = (word_at words f ≢ n) × (later ≡ words)
+ChangesWords zone words seat (Put f) (Left n) later = PutLeavesSome words f n later
+ChangesWords zone words seat (Put f) Last later = (frame_word_at words f ≡ 1) × (later ≡ with_frame_word words f 0)
+ChangesWords zone words seat (Freeze f n) Done later = (frame_word_at words f ≡ n) × (later ≡ with_frame_word words f 0)
+ChangesWords zone words seat (Freeze f n) Missed later = (frame_word_at words f ≢ n) × (later ≡ words)
 ChangesWords zone words seat (Unfreeze f n) Done later = later ≡ with_frame_word words f n
 ChangesWords zone words seat (PassOut f cpu) Done later = later ≡ with_frame_word words f (mark cpu)
 ChangesWords zone words seat (TakeIn f) Done later = later ≡ with_frame_word words f 0
@@ -100,7 +100,7 @@ ChangesWords zone words seat (Absorb cpu) (Pages n) later =
     (n ≡ report_word_at words cpu) × (later ≡ with_report_word words cpu 0)
 ChangesWords zone words seat (Fill cpu g n) Done later =
     HasWord (HeldBy g n) × (later ≡ with_stock_word words cpu (word_of (HeldBy g n)))
-ChangesWords zone words seat (DrainStock cpu) (Pages n) later = DrainsStock words cpu n later
+ChangesWords zone words seat (DrainStock cpu) (Pages n) later = LeavesDrained words cpu n later
 ChangesWords zone words seat action answer later = ⊥
 
 -- a step that no word is of: it is made by a load of a word that nobody writes

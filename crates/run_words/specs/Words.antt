@@ -42,13 +42,13 @@ stock_of_group g pages true = DrainedOf g
 stock_of_group g pages false = HeldBy g pages
 
 -- the stock as a stock word says it, by its group, its pages and whether it was drained
-abbrev pub stock_by : Option ℕ → ℕ → Bool → Stock
-stock_by None pages is_drained = NoGroup
-stock_by (Some g) pages is_drained = stock_of_group g pages is_drained
+abbrev pub stock_said : Option ℕ → ℕ → Bool → Stock
+stock_said None pages is_drained = NoGroup
+stock_said (Some g) pages is_drained = stock_of_group g pages is_drained
 
 -- the stock of the part, as its stock word says it
 abbrev pub stock_in : Part → Stock
-stock_in part = stock_by part.stock.group part.stock.pages part.stock.is_drained
+stock_in part = stock_said part.stock.group part.stock.pages part.stock.is_drained
 
 -- the words of the frames and of the visits are those of the state
 pub record AreFrameWords (s : State) (words : List ℕ) : Type 0 where

@@ -8,7 +8,7 @@ use Rattle.script_lines.specs.declared.line.Line.TheVariants.{Go, At}
 use Rattle.script_lines.specs.declared.line.Command.{Command}
 use Rattle.script_lines.specs.declared.line.Command.TheVariants.{Settle}
 use Rattle.script_lines.specs.declared.line.Command.TheVariants.{Blocks, Show, Stock}
-use Rattle.script_lines.specs.Verb.{its_verb, name_of}
+use Rattle.script_lines.specs.Verb.{its_verb, name_of_verb}
 use Rattle.script_lines.specs.declared.verb.Verb.{Verb}
 use Rattle.script_lines.specs.declared.verb.Verb.TheVariants as verb
 use Rattle.script_lines.proofs.Verbs.{name_no_space, same_verb}
@@ -79,15 +79,15 @@ request_parts sizes text w r cut cpu command is =
 
 -- the word before the first space is the name, and the rest of the text the arguments
 name_parts : (sizes : Config) (text w r : List ℕ) → IsCut text w r → (command : Command) (arguments : List ℕ)
-    → text ≡ name_of (its_verb command) ++ 32 ∷ arguments → HasArguments sizes command arguments
-    → (w ≡ name_of (its_verb command)) × HasArguments sizes command r
+    → text ≡ name_of_verb (its_verb command) ++ 32 ∷ arguments → HasArguments sizes command arguments
+    → (w ≡ name_of_verb (its_verb command)) × HasArguments sizes command r
 name_parts sizes text w r cut command arguments is has =
-    let same = cut_once text w r (name_of (its_verb command)) arguments cut (name_no_space (its_verb command)) is in
+    let same = cut_once text w r (name_of_verb (its_verb command)) arguments cut (name_no_space (its_verb command)) is in
     (same.0, subst (HasArguments sizes command) (sym same.1) has)
 
 -- what the word before the first space and the rest of the text are, where the text is that of a command
 pub command_parts : (sizes : Config) (text w r : List ℕ) → IsCut text w r → (command : Command) → IsCommandText sizes command text
-    → (w ≡ name_of (its_verb command)) × HasArguments sizes command r
+    → (w ≡ name_of_verb (its_verb command)) × HasArguments sizes command r
 command_parts sizes text w r cut Settle is = absurd (no_cut (codes "settle") w r (name_no_space verb.Settle) (sym is ∙ cut.parts))
 command_parts sizes text w r cut Blocks is = absurd (no_cut (codes "blocks") w r (name_no_space verb.Blocks) (sym is ∙ cut.parts))
 command_parts sizes text w r cut Show is = absurd (no_cut (codes "show") w r (name_no_space verb.Show) (sym is ∙ cut.parts))
@@ -111,29 +111,29 @@ begins sizes text Stock is = inl is
 begins sizes text command is = inr (is.0, is.1)
 
 -- a name that isn't of a command that stands alone
-pub not_alone : (sizes : Config) (text : List ℕ) (v : Verb) → text ≡ name_of v → stands_alone v ≡ false → (command : Command) → ¬ IsCommandText sizes command text
+pub not_alone : (sizes : Config) (text : List ℕ) (v : Verb) → text ≡ name_of_verb v → stands_alone v ≡ false → (command : Command) → ¬ IsCommandText sizes command text
 not_alone sizes text v e other Settle is = let same : v ≡ verb.Settle = same_verb v verb.Settle (sym e ∙ is) in cc
 not_alone sizes text v e other Blocks is = let same : v ≡ verb.Blocks = same_verb v verb.Blocks (sym e ∙ is) in cc
 not_alone sizes text v e other Show is = let same : v ≡ verb.Show = same_verb v verb.Show (sym e ∙ is) in cc
 not_alone sizes text v e other Stock is = let same : v ≡ verb.Stock = same_verb v verb.Stock (sym e ∙ is) in cc
 not_alone sizes text v e other command is =
-    no_cut (name_of v) (name_of (its_verb command)) is.0 (name_no_space v) (sym e ∙ is.1)
+    no_cut (name_of_verb v) (name_of_verb (its_verb command)) is.0 (name_no_space v) (sym e ∙ is.1)
 
 -- no command is that of the text where none has the arguments
-pub no_command : (sizes : Config) (text r : List ℕ) (v : Verb) → IsCut text (name_of v) r
+pub no_command : (sizes : Config) (text r : List ℕ) (v : Verb) → IsCut text (name_of_verb v) r
     → ((command : Command) → its_verb command ≡ v → ¬ HasArguments sizes command r) → (command : Command) → ¬ IsCommandText sizes command text
 no_command sizes text r v cut none command is =
-    let parts = command_parts sizes text (name_of v) r cut command is in
+    let parts = command_parts sizes text (name_of_verb v) r cut command is in
     none command (sym (same_verb v (its_verb command) parts.0)) parts.1
 
 -- a text of this name and these arguments
-named_parts : (sizes : Config) (text r : List ℕ) (v : Verb) → IsCut text (name_of v) r → (command : Command)
+named_parts : (sizes : Config) (text r : List ℕ) (v : Verb) → IsCut text (name_of_verb v) r → (command : Command)
     → its_verb command ≡ v → HasArguments sizes command r
-    → (arguments : List ℕ) × (text ≡ name_of (its_verb command) ++ 32 ∷ arguments) × HasArguments sizes command arguments
-named_parts sizes text r v cut command same has = (r, cut.parts ∙ ap (λ w. name_of w ++ 32 ∷ r) (sym same), has)
+    → (arguments : List ℕ) × (text ≡ name_of_verb (its_verb command) ++ 32 ∷ arguments) × HasArguments sizes command arguments
+named_parts sizes text r v cut command same has = (r, cut.parts ∙ ap (λ w. name_of_verb w ++ 32 ∷ r) (sym same), has)
 
 -- the command of the text has this name and these arguments
-pub is_command : (sizes : Config) (text r : List ℕ) (v : Verb) → IsCut text (name_of v) r → (command : Command)
+pub is_command : (sizes : Config) (text r : List ℕ) (v : Verb) → IsCut text (name_of_verb v) r → (command : Command)
     → its_verb command ≡ v → HasArguments sizes command r → IsCommandText sizes command text
 is_command sizes text r v cut Settle same has = absurd has
 is_command sizes text r v cut Blocks same has = absurd has
@@ -142,7 +142,7 @@ is_command sizes text r v cut Stock same has = absurd has
 is_command sizes text r v cut command same has = named_parts sizes text r v cut command same has
 
 -- what the arguments say is what the text says
-pub from_arguments : (sizes : Config) (text r : List ℕ) (v : Verb) (found : Option Command) → IsCut text (name_of v) r
+pub from_arguments : (sizes : Config) (text r : List ℕ) (v : Verb) (found : Option Command) → IsCut text (name_of_verb v) r
     → MatchOption found ((command : Command) → its_verb command ≡ v → ¬ HasArguments sizes command r)
     (λ command. (its_verb command ≡ v) × HasArguments sizes command r)
     → MatchOption found ((command : Command) → ¬ IsCommandText sizes command text) (λ command. IsCommandText sizes command text)

@@ -3,7 +3,7 @@ use Rattle.std.proofs.Common.{◌≡◌, ◌≢◌, ℕ, zero, suc, ◌<◌, Boo
 use Rattle.std.proofs.Common.{◌∙◌, eqb, length, arith, nat_eq}
 use Rattle.std.proofs.lemmas.Bool.{eqb-true, eqb-false, ltb-true}
 use Rattle.script_lines.specs.Names.{code_of, is_word}
-use Rattle.script_lines.specs.Verb.{coded_commands, name_of, verb_coded}
+use Rattle.script_lines.specs.Verb.{coded_commands, name_of_verb, verb_coded}
 use Rattle.std.specs.Map.{lookup}
 use Rattle.script_lines.specs.declared.verb.Verb.{Verb}
 use Rattle.script_lines.specs.declared.verb.Verb.TheVariants.{Mkdir, Rmdir, Write, Read, Alloc, Fast, Release, Get, Put, Settle, Touch}
@@ -12,7 +12,7 @@ use Rattle.script_lines.proofs.Codes.{AreBytes, same_code}
 use Rattle.script_lines.proofs.Cuts.{NoSpace}
 
 -- each number is that of its command's name
-pub verb_coded-name_of : (v : Verb) → verb_coded (code_of (name_of v)) ≡ Some v
+pub verb_coded-name_of : (v : Verb) → verb_coded (code_of (name_of_verb v)) ≡ Some v
 verb_coded-name_of Mkdir = refl
 verb_coded-name_of Rmdir = refl
 verb_coded-name_of Write = refl
@@ -33,7 +33,7 @@ verb_coded-name_of Stock = refl
 verb_coded-name_of Units = refl
 
 -- two commands have two names
-pub same_verb : (v w : Verb) → name_of v ≡ name_of w → v ≡ w
+pub same_verb : (v w : Verb) → name_of_verb v ≡ name_of_verb w → v ≡ w
 same_verb v w e =
     let same : Some v ≡ Some w = sym (verb_coded-name_of v) ∙ ap (λ text. verb_coded (code_of text)) e ∙ verb_coded-name_of w in
     cc
@@ -41,7 +41,7 @@ same_verb v w e =
 -- the list has each command at the number of its own name
 abbrev NumbersItsCommands : List (ℕ × Verb) → Type 0
 NumbersItsCommands [] = Unit {0}
-NumbersItsCommands (e ∷ es) = (e.0 ≡ code_of (name_of e.1)) × NumbersItsCommands es
+NumbersItsCommands (e ∷ es) = (e.0 ≡ code_of (name_of_verb e.1)) × NumbersItsCommands es
 
 found : (code : ℕ) (e : ℕ × Verb) (v : Verb) (rest : Option Verb) (b : Bool) → b ≡ eqb code e.0
     → cond b (Some e.1) rest ≡ Some v → ((code ≡ e.0) × (e.1 ≡ v)) ⊎ (rest ≡ Some v)
@@ -49,11 +49,11 @@ found code e v rest true t h = inl (eqb-true code e.0 (sym t), cc)
 found code e v rest false t h = inr h
 
 coded_in : (commands : List (ℕ × Verb)) (code : ℕ) (v : Verb) → NumbersItsCommands commands
-    → lookup (λ key. nat_eq code key) commands ≡ Some v → code ≡ code_of (name_of v)
+    → lookup (λ key. nat_eq code key) commands ≡ Some v → code ≡ code_of (name_of_verb v)
 coded_in [] code v numbers e = cc
 coded_in (c ∷ cs) code v numbers e =
     elim (found code c v _ (eqb code c.0) refl e) [
-      | inl h ↦ h.0 ∙ numbers.0 ∙ ap (λ w. code_of (name_of w)) h.1
+      | inl h ↦ h.0 ∙ numbers.0 ∙ ap (λ w. code_of (name_of_verb w)) h.1
       | inr later ↦ coded_in cs code v numbers.1 later
     ]
 
@@ -68,7 +68,7 @@ word_told [] e k d h = absurd (omega arith)
 word_told (b ∷ bs) e zero d h = (told b (eqb b 32) (nat_lt b 256) (is_word bs) refl refl e).0
 word_told (b ∷ bs) e (suc k) d h = word_told bs (told b (eqb b 32) (nat_lt b 256) (is_word bs) refl refl e).1 k d (omega arith)
 
-name_is_word : (v : Verb) → is_word (name_of v) ≡ true
+name_is_word : (v : Verb) → is_word (name_of_verb v) ≡ true
 name_is_word Mkdir = refl
 name_is_word Rmdir = refl
 name_is_word Write = refl
@@ -89,13 +89,13 @@ name_is_word Stock = refl
 name_is_word Units = refl
 
 -- no name has a space
-pub name_no_space : (v : Verb) → NoSpace (name_of v)
-name_no_space v k d h = (word_told (name_of v) (name_is_word v) k d h).0
+pub name_no_space : (v : Verb) → NoSpace (name_of_verb v)
+name_no_space v k d h = (word_told (name_of_verb v) (name_is_word v) k d h).0
 
-name_bytes : (v : Verb) → AreBytes (name_of v)
-name_bytes v k d h = (word_told (name_of v) (name_is_word v) k d h).1
+name_bytes : (v : Verb) → AreBytes (name_of_verb v)
+name_bytes v k d h = (word_told (name_of_verb v) (name_is_word v) k d h).1
 
-is_short : (v : Verb) → nat_lt (length (name_of v)) 8 ≡ true
+is_short : (v : Verb) → nat_lt (length (name_of_verb v)) 8 ≡ true
 is_short Mkdir = refl
 is_short Rmdir = refl
 is_short Write = refl
@@ -116,10 +116,10 @@ is_short Stock = refl
 is_short Units = refl
 
 -- no name is long
-pub name_short : (v : Verb) → length (name_of v) < 8
-name_short v = ltb-true (length (name_of v)) 8 (is_short v)
+pub name_short : (v : Verb) → length (name_of_verb v) < 8
+name_short v = ltb-true (length (name_of_verb v)) 8 (is_short v)
 
 -- a text whose number names a command is its name
-pub named : (text : List ℕ) (v : Verb) → AreBytes text → verb_coded (code_of text) ≡ Some v → text ≡ name_of v
-named text v bytes e = same_code text (name_of v) bytes (name_bytes v) (coded_in coded_commands (code_of text) v
+pub named : (text : List ℕ) (v : Verb) → AreBytes text → verb_coded (code_of text) ≡ Some v → text ≡ name_of_verb v
+named text v bytes e = same_code text (name_of_verb v) bytes (name_bytes v) (coded_in coded_commands (code_of text) v
     (refl, (refl, (refl, (refl, (refl, (refl, (refl, (refl, (refl, (refl, (refl, (refl, (refl, (refl, (refl, (refl, (refl, (refl, tt)))))))))))))))))) e)

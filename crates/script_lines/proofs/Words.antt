@@ -4,7 +4,7 @@ use Rattle.std.proofs.lemmas.List.{length-take-le, take_all}
 use Rattle.std.proofs.lemmas.Bool.Decides.{eqb_tells}
 use Rattle.script_lines.specs.Names.{IsWordEnd, is_word}
 use Rattle.script_lines.specs.Script.{BeginsWithName, IsCut}
-use Rattle.script_lines.specs.Verb.{name_of}
+use Rattle.script_lines.specs.Verb.{name_of_verb}
 use Rattle.script_lines.specs.declared.verb.Verb.{Verb}
 use Rattle.script_lines.proofs.Codes.{AreBytes}
 use Rattle.script_lines.proofs.Cuts.{NoSpace, cut_at, cut_once, no_cut}
@@ -25,18 +25,18 @@ word_cut text end is more = cut_at text end more (word_no_space text end is) (is
 pub word_alone : (text : List ℕ) (end : ℕ) → end ≡ length text → take end text ≡ text
 word_alone text end e = take_all end text (omega arith)
 
-at_end : (text : List ℕ) (end : ℕ) (v : Verb) → IsWordEnd text end → text ≡ name_of v → (end < length text) ⊎ (end ≡ length text) → take end text ≡ name_of v
+at_end : (text : List ℕ) (end : ℕ) (v : Verb) → IsWordEnd text end → text ≡ name_of_verb v → (end < length text) ⊎ (end ≡ length text) → take end text ≡ name_of_verb v
 at_end text end v is e (inl more) =
     let space : get_or text end 0 ≡ 32 = is.stop more in
-    let long : end < length (name_of v) = rw (← e) more in
+    let long : end < length (name_of_verb v) = rw (← e) more in
     absurd (name_no_space v end 0 long (rw (← e) space))
 at_end text end v is e (inr whole) = word_alone text end whole ∙ e
 
-before : (text : List ℕ) (end : ℕ) (v : Verb) (rest : List ℕ) → IsWordEnd text end → text ≡ name_of v ++ 32 ∷ rest
-    → (end < length text) ⊎ (end ≡ length text) → take end text ≡ name_of v
-before text end v rest is e (inl more) = (cut_once text _ _ (name_of v) rest (word_cut text end is more) (name_no_space v) e).0
+before : (text : List ℕ) (end : ℕ) (v : Verb) (rest : List ℕ) → IsWordEnd text end → text ≡ name_of_verb v ++ 32 ∷ rest
+    → (end < length text) ⊎ (end ≡ length text) → take end text ≡ name_of_verb v
+before text end v rest is e (inl more) = (cut_once text _ _ (name_of_verb v) rest (word_cut text end is more) (name_no_space v) e).0
 before text end v rest is e (inr whole) =
-    let none : NoSpace text = rw (word_alone text end whole) at (word_no_space text end is) in absurd (no_cut text (name_of v) rest none e)
+    let none : NoSpace text = rw (word_alone text end whole) at (word_no_space text end is) in absurd (no_cut text (name_of_verb v) rest none e)
 
 reaches : (n end : ℕ) → end ≤ n → (end < n) ⊎ (end ≡ n)
 reaches n end h = elim (eqb_tells end n) [
@@ -45,7 +45,7 @@ reaches n end h = elim (eqb_tells end n) [
 ]
 
 -- the first word of a text that begins with a name is that name
-pub word_is : (text : List ℕ) (end : ℕ) (v : Verb) → IsWordEnd text end → BeginsWithName v text → take end text ≡ name_of v
+pub word_is : (text : List ℕ) (end : ℕ) (v : Verb) → IsWordEnd text end → BeginsWithName v text → take end text ≡ name_of_verb v
 word_is text end v is (inl e) = at_end text end v is e (reaches (length text) end is.inside)
 word_is text end v is (inr e) = before text end v e.0 is e.1 (reaches (length text) end is.inside)
 
@@ -60,7 +60,7 @@ whole_word text end is word = elim (reaches (length text) end is.inside) [
 pub too_long : (text : List ℕ) (end : ℕ) (v : Verb) → IsWordEnd text end → 7 < end → ¬ BeginsWithName v text
 too_long text end v is long b =
     let word = word_is text end v is b in
-    let lengths : length (take end text) ≡ length (name_of v) = rw word refl in
+    let lengths : length (take end text) ≡ length (name_of_verb v) = rw word refl in
     let taken = length-take-le end text is.inside in
     let short = name_short v in
     omega arith

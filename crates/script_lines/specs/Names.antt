@@ -12,8 +12,8 @@ abbrev pub code_of : List ℕ → ℕ
 code_of name = code_from 1 name
 
 -- how many bytes the longest name of a command has
-abbrev pub longest_name : ℕ
-longest_name = 7
+abbrev pub longest_command_name : ℕ
+longest_command_name = 7
 
 -- whether each of the text is a byte, and none is a space
 abbrev pub is_word : List ℕ → Bool

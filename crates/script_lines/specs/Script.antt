@@ -11,7 +11,7 @@ use Rattle.script_lines.specs.declared.line.Command.{Command}
 -- how each command is written
 pub use Rattle.script_lines.specs.Verb.{IsPathText, WritesNumber, IsAllocText, IsReadText, IsWriteText, IsFrameText}
 pub use Rattle.script_lines.specs.Verb.{IsGroupText, IsPath, HasArguments, IsCommandText}
-use Rattle.script_lines.specs.Verb.{name_of}
+use Rattle.script_lines.specs.Verb.{name_of_verb}
 use Rattle.script_lines.specs.declared.verb.Verb.{Verb}
 use Rattle.script_lines.specs.declared.fault.ScriptFault.{ScriptFault}
 use Rattle.script_lines.specs.declared.fault.ScriptFault.TheVariants.{BadLine, NoMemory}
@@ -40,12 +40,12 @@ pub record IsCut (text word rest : List ℕ) : Type 0 where
 
 -- the text is the name of this command, or goes on with a space behind it
 abbrev pub BeginsWithName : Verb → List ℕ → Type 0
-BeginsWithName verb text = (text ≡ name_of verb) ⊎ (rest : List ℕ) × (text ≡ name_of verb ++ 32 ∷ rest)
+BeginsWithName verb text = (text ≡ name_of_verb verb) ⊎ (rest : List ℕ) × (text ≡ name_of_verb verb ++ 32 ∷ rest)
 
 -- the text is the name of this command, and this is what follows a space behind it; None if nothing does
 abbrev pub IsNamed : Verb → Option (Bor (List ℕ)) → List ℕ → Type 0
-IsNamed verb None text = text ≡ name_of verb
-IsNamed verb (Some rest) text = IsCut text (name_of verb) rest.now
+IsNamed verb None text = text ≡ name_of_verb verb
+IsNamed verb (Some rest) text = IsCut text (name_of_verb verb) rest.now
 
 -- `P COMMAND`, P being the number of a CPU
 pub record IsRequestText (sizes : Config) (cpu : ℕ) (command : Command) (text : List ℕ) : Type 0 where

@@ -47,25 +47,25 @@ on_frame Owner frame = Some (command.Owner frame)
 on_frame verb frame = None
 
 -- the name of a command, as a script writes it
-abbrev pub name_of : Verb → List ℕ
-name_of Mkdir = codes "mkdir"
-name_of Rmdir = codes "rmdir"
-name_of Write = codes "write"
-name_of Read = codes "read"
-name_of Alloc = codes "alloc"
-name_of Fast = codes "fast"
-name_of Release = codes "release"
-name_of Get = codes "get"
-name_of Put = codes "put"
-name_of Settle = codes "settle"
-name_of Touch = codes "touch"
-name_of Dirty = codes "dirty"
-name_of Clean = codes "clean"
-name_of Owner = codes "owner"
-name_of Blocks = codes "blocks"
-name_of Show = codes "show"
-name_of Stock = codes "stock"
-name_of Units = codes "units"
+abbrev pub name_of_verb : Verb → List ℕ
+name_of_verb Mkdir = codes "mkdir"
+name_of_verb Rmdir = codes "rmdir"
+name_of_verb Write = codes "write"
+name_of_verb Read = codes "read"
+name_of_verb Alloc = codes "alloc"
+name_of_verb Fast = codes "fast"
+name_of_verb Release = codes "release"
+name_of_verb Get = codes "get"
+name_of_verb Put = codes "put"
+name_of_verb Settle = codes "settle"
+name_of_verb Touch = codes "touch"
+name_of_verb Dirty = codes "dirty"
+name_of_verb Clean = codes "clean"
+name_of_verb Owner = codes "owner"
+name_of_verb Blocks = codes "blocks"
+name_of_verb Show = codes "show"
+name_of_verb Stock = codes "stock"
+name_of_verb Units = codes "units"
 
 -- ---- what follows a name
 
@@ -140,7 +140,7 @@ IsCommandText sizes command.Settle text = text ≡ codes "settle"
 IsCommandText sizes command.Blocks text = text ≡ codes "blocks"
 IsCommandText sizes command.Show text = text ≡ codes "show"
 IsCommandText sizes command.Stock text = text ≡ codes "stock"
-IsCommandText sizes other text = (arguments : List ℕ) × (text ≡ name_of (its_verb other) ++ 32 ∷ arguments)
+IsCommandText sizes other text = (arguments : List ℕ) × (text ≡ name_of_verb (its_verb other) ++ 32 ∷ arguments)
     × HasArguments sizes other arguments
 
 -- ---- the table

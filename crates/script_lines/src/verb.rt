@@ -1,7 +1,7 @@
 //! The names of the commands.
 
 ghost use Rattle.std.specs.Prelude.{◌≡◌, ◌≤◌, IfOk, MatchOption, length, take, true};
-ghost use Rattle.script_lines.specs.Names.{IsWordEnd, code_of, is_word, longest_name};
+ghost use Rattle.script_lines.specs.Names.{IsWordEnd, code_of, is_word, longest_command_name};
 ghost use Rattle.script_lines.specs.Script.{BeginsWithName, IsNamed};
 ghost use Rattle.script_lines.specs.Verb.{IsNames, verb_coded};
 ghost use Rattle.script_lines.specs.declared.verb.Verb.{Verb};
@@ -49,7 +49,7 @@ impl Name {
     // The name of this text.
     fn of(text: &[u8]) -> Name
         requires word { is_word text.now ≡ true }
-        requires short { length text.now ≤ longest_name }
+        requires short { length text.now ≤ longest_command_name }
         ensures { result.code ≡ code_of text.now }
     {
         let (name, _end) = Name::at_front(text);
@@ -59,7 +59,7 @@ impl Name {
     // The first word of the text as a name, and its end. The number of a longer word than a name may have overflowed.
     fn at_front(text: &[u8]) -> (Name, usize)
         ensures end { IsWordEnd text.now result.1 }
-        ensures name { result.1 ≤ longest_name → result.0.code ≡ code_of (take result.1 text.now) }
+        ensures name { result.1 ≤ longest_command_name → result.0.code ≡ code_of (take result.1 text.now) }
     {
         let mut code = 1u64;
         let mut end = 0;

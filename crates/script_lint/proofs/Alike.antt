@@ -1,7 +1,7 @@
 -- How many bytes two texts begin with alike.
 use Rattle.std.proofs.Common.{◌≡◌, ℕ, ◌+◌, ◌<◌, ◌≤◌, List, [], ◌∷◌, ◌++◌, All, get_or, arith, refl, subst}
 use Rattle.std.proofs.lemmas.List.Elements.{All-push}
-use Rattle.script_lines.specs.Verb.{name_of}
+use Rattle.script_lines.specs.Verb.{name_of_verb}
 use Rattle.script_lines.specs.declared.verb.Verb.{Verb}
 use Rattle.script_lines.specs.declared.verb.Verb.TheVariants.{Mkdir, Rmdir, Write, Read, Alloc, Fast, Release, Get, Put, Settle, Touch}
 use Rattle.script_lines.specs.declared.verb.Verb.TheVariants.{Dirty, Clean, Owner, Blocks, Show, Stock, Units}
@@ -13,19 +13,19 @@ none_alike one other = record { inside_one = omega arith; inside_other = omega a
 
 -- no more bytes begin the name
 abbrev pub IsMost : List ℕ → ℕ → Verb → Type 0
-IsMost text most v = (more : ℕ) → BeginAlike text (name_of v) more → more ≤ most
+IsMost text most v = (more : ℕ) → BeginAlike text (name_of_verb v) more → more ≤ most
 
 -- so of each of the first commands, and one of all has so many
 pub record IsMostOf (text : List ℕ) (verbs : List Verb) (most : ℕ) : Type 0 where
   pub verb : Verb
-  pub alike : BeginAlike text (name_of verb) most
+  pub alike : BeginAlike text (name_of_verb verb) most
   pub most_of : All (IsMost text most) verbs
 
 pub none_of : (text : List ℕ) → IsMostOf text [] 0
-none_of text = record { verb = Mkdir; alike = none_alike text (name_of Mkdir); most_of = λ k d h. absurd (omega arith) }
+none_of text = record { verb = Mkdir; alike = none_alike text (name_of_verb Mkdir); most_of = λ k d h. absurd (omega arith) }
 
 -- the next command has more
-pub more_of : (text : List ℕ) (verbs : List Verb) (v : Verb) (most count : ℕ) → IsMostOf text verbs most → IsCommon text (name_of v) count
+pub more_of : (text : List ℕ) (verbs : List Verb) (v : Verb) (most count : ℕ) → IsMostOf text verbs most → IsCommon text (name_of_verb v) count
     → most < count → IsMostOf text (verbs ++ v ∷ []) count
 more_of text verbs v most count so_far common greater = record {
   verb = v;
@@ -34,7 +34,7 @@ more_of text verbs v most count so_far common greater = record {
 }
 
 -- or it hasn't
-pub no_more_of : (text : List ℕ) (verbs : List Verb) (v : Verb) (most count : ℕ) → IsMostOf text verbs most → IsCommon text (name_of v) count
+pub no_more_of : (text : List ℕ) (verbs : List Verb) (v : Verb) (most count : ℕ) → IsMostOf text verbs most → IsCommon text (name_of_verb v) count
     → count ≤ most → IsMostOf text (verbs ++ v ∷ []) most
 no_more_of text verbs v most count so_far common less = record {
   verb = so_far.verb;

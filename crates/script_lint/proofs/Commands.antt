@@ -4,7 +4,7 @@ use Rattle.std.proofs.Math.Seq.{take-append-add, take-append_seam}
 use Rattle.std.proofs.lemmas.List.{append_assoc, append-nil, length-append, length-take-le, take-append-drop, take-append-le, take_all}
 use Rattle.zone_blocks.specs.declared.config.Config.{Config}
 use Rattle.script_lines.specs.Script.{BeginsWithName, HasArguments, IsCut, IsPathText, WritesNumber}
-use Rattle.script_lines.specs.Verb.{its_verb, name_of}
+use Rattle.script_lines.specs.Verb.{its_verb, name_of_verb}
 use Rattle.script_lines.specs.declared.line.Command.{Command}
 use Rattle.script_lines.specs.declared.line.Command.TheVariants as command
 use Rattle.script_lines.specs.declared.verb.Verb.{Verb}
@@ -89,21 +89,21 @@ from_shape sizes counts Stock r is = absurd is
 from_shape sizes counts Units r is = (command.Units (lent r), refl, (is, refl))
 
 -- a name, a space and what has the shape are a command, and nothing else behind the name is
-pub command_from : (sizes : Config) → HasValidCounts sizes → (text : List ℕ) (v : Verb) (r : List ℕ) → IsCut text (name_of v) r
+pub command_from : (sizes : Config) → HasValidCounts sizes → (text : List ℕ) (v : Verb) (r : List ℕ) → IsCut text (name_of_verb v) r
     → IsShape (shape_of sizes v) r → IsCommand sizes text
 command_from sizes counts text v r cut is =
     let found = from_shape sizes counts v r is in
     (found.0, is_command sizes text r v cut found.0 found.1 found.2)
 
-pub command_to : (sizes : Config) (text : List ℕ) (v : Verb) (r : List ℕ) → IsCut text (name_of v) r → IsCommand sizes text
+pub command_to : (sizes : Config) (text : List ℕ) (v : Verb) (r : List ℕ) → IsCut text (name_of_verb v) r → IsCommand sizes text
     → IsShape (shape_of sizes v) r
 command_to sizes text v r cut is =
-    let parts = command_parts sizes text (name_of v) r cut is.0 is.1 in
+    let parts = command_parts sizes text (name_of_verb v) r cut is.0 is.1 in
     let same = same_verb v (its_verb is.0) parts.0 in
     subst (λ w. IsShape (shape_of sizes w) r) (sym same) (to_shape sizes is.0 r parts.1)
 
 -- the name of a command that stands alone is a command
-pub is_alone : (sizes : Config) (v : Verb) → shape_of sizes v ≡ Alone → IsCommand sizes (name_of v)
+pub is_alone : (sizes : Config) (v : Verb) → shape_of sizes v ≡ Alone → IsCommand sizes (name_of_verb v)
 is_alone sizes Settle e = (command.Settle, refl)
 is_alone sizes Blocks e = (command.Blocks, refl)
 is_alone sizes Show e = (command.Show, refl)
@@ -143,53 +143,53 @@ some_shape sizes Fast = inr (48 ∷ [], (0, nought, omega arith, omega arith))
 some_shape sizes other = inr (48 ∷ [], (0, nought, omega arith, omega arith))
 
 -- every name begins a command
-complete : (sizes : Config) → HasValidCounts sizes → (v : Verb) → (rest : List ℕ) × IsCommand sizes (name_of v ++ rest)
+complete : (sizes : Config) → HasValidCounts sizes → (v : Verb) → (rest : List ℕ) × IsCommand sizes (name_of_verb v ++ rest)
 complete sizes counts v = elim (some_shape sizes v) [
-  | inl alone ↦ ([], subst (IsCommand sizes) (sym (append-nil (name_of v))) (is_alone sizes v alone))
-  | inr some ↦ (32 ∷ some.0, command_from sizes counts (name_of v ++ 32 ∷ some.0) v some.0 (record { parts = refl; no_space = name_no_space v }) some.1)
+  | inl alone ↦ ([], subst (IsCommand sizes) (sym (append-nil (name_of_verb v))) (is_alone sizes v alone))
+  | inr some ↦ (32 ∷ some.0, command_from sizes counts (name_of_verb v ++ 32 ∷ some.0) v some.0 (record { parts = refl; no_space = name_no_space v }) some.1)
 ]
 
 -- a name that lacks what should follow it
-pub stuck_behind_name : (sizes : Config) → HasValidCounts sizes → (text : List ℕ) (v : Verb) → text ≡ name_of v → shape_of sizes v ≢ Alone
+pub stuck_behind_name : (sizes : Config) → HasValidCounts sizes → (text : List ℕ) (v : Verb) → text ≡ name_of_verb v → shape_of sizes v ≢ Alone
     → IsStuck (IsCommand sizes) text (length text)
 stuck_behind_name sizes counts text v e more = record {
   inside = omega arith;
   goes_on =
-      let whole : name_of v ≡ take (length text) text = sym e ∙ sym (take_all (length text) text (omega arith)) in
+      let whole : name_of_verb v ≡ take (length text) text = sym e ∙ sym (take_all (length text) text (omega arith)) in
       subst (GoesOn (IsCommand sizes)) whole (complete sizes counts v);
   stuck = λ h. absurd (omega arith);
   bad = λ is. not_alone sizes text v e (not_standing sizes v more) is.0 is.1;
 }
 
 -- a space behind the name of a command that stands alone
-pub stuck_at_space : (sizes : Config) (text : List ℕ) (v : Verb) (r : List ℕ) → IsCut text (name_of v) r → shape_of sizes v ≡ Alone
-    → IsStuck (IsCommand sizes) text (length (name_of v))
+pub stuck_at_space : (sizes : Config) (text : List ℕ) (v : Verb) (r : List ℕ) → IsCut text (name_of_verb v) r → shape_of sizes v ≡ Alone
+    → IsStuck (IsCommand sizes) text (length (name_of_verb v))
 stuck_at_space sizes text v r cut alone =
-    let long = ap length cut.parts ∙ length-append (name_of v) (32 ∷ r) in
+    let long = ap length cut.parts ∙ length-append (name_of_verb v) (32 ∷ r) in
     let nothing : (t : List ℕ) → IsShape (shape_of sizes v) t → ⊥ = λ t is. subst (λ s. IsShape s t) alone is in
     record {
       inside = omega arith;
       goes_on =
-          let front : take (length (name_of v)) text ≡ name_of v
-          = ap (take (length (name_of v))) cut.parts ∙ take-append_seam (name_of v) (32 ∷ r) in
-          let here : IsCommand sizes (name_of v ++ []) = subst (IsCommand sizes) (sym (append-nil (name_of v))) (is_alone sizes v alone) in
+          let front : take (length (name_of_verb v)) text ≡ name_of_verb v
+          = ap (take (length (name_of_verb v))) cut.parts ∙ take-append_seam (name_of_verb v) (32 ∷ r) in
+          let here : IsCommand sizes (name_of_verb v ++ []) = subst (IsCommand sizes) (sym (append-nil (name_of_verb v))) (is_alone sizes v alone) in
           subst (GoesOn (IsCommand sizes)) (sym front) ([], here);
       stuck = λ h on.
-          let front : take (length (name_of v) + 1) text ≡ name_of v ++ 32 ∷ []
-          = ap (take (length (name_of v) + 1)) cut.parts ∙ take-append-add (name_of v) (32 ∷ r) 1 in
-          let here : GoesOn (IsCommand sizes) (name_of v ++ 32 ∷ []) = subst (GoesOn (IsCommand sizes)) front on in
-          let whole : IsCut ((name_of v ++ 32 ∷ []) ++ here.0) (name_of v) here.0
-          = record { parts = append_assoc (name_of v) (32 ∷ []) here.0; no_space = name_no_space v } in
+          let front : take (length (name_of_verb v) + 1) text ≡ name_of_verb v ++ 32 ∷ []
+          = ap (take (length (name_of_verb v) + 1)) cut.parts ∙ take-append-add (name_of_verb v) (32 ∷ r) 1 in
+          let here : GoesOn (IsCommand sizes) (name_of_verb v ++ 32 ∷ []) = subst (GoesOn (IsCommand sizes)) front on in
+          let whole : IsCut ((name_of_verb v ++ 32 ∷ []) ++ here.0) (name_of_verb v) here.0
+          = record { parts = append_assoc (name_of_verb v) (32 ∷ []) here.0; no_space = name_no_space v } in
           nothing here.0 (command_to sizes _ v here.0 whole here.1);
       bad = λ is. nothing r (command_to sizes text v r cut is);
     }
 
 -- what follows a name and a space can't be continued
-pub stuck_in_arguments : (sizes : Config) → HasValidCounts sizes → (text : List ℕ) (v : Verb) (r : List ℕ) (place : ℕ) → IsCut text (name_of v) r
-    → IsStuck (IsShape (shape_of sizes v)) r place → IsStuck (IsCommand sizes) text (length (name_of v) + 1 + place)
+pub stuck_in_arguments : (sizes : Config) → HasValidCounts sizes → (text : List ℕ) (v : Verb) (r : List ℕ) (place : ℕ) → IsCut text (name_of_verb v) r
+    → IsStuck (IsShape (shape_of sizes v)) r place → IsStuck (IsCommand sizes) text (length (name_of_verb v) + 1 + place)
 stuck_in_arguments sizes counts text v r place cut is =
-    let named : (t : List ℕ) → IsCut (name_of v ++ 32 ∷ t) (name_of v) t = λ t. record { parts = refl; no_space = name_no_space v } in
-    stuck_behind (IsCommand sizes) (IsShape (shape_of sizes v)) (name_of v)
+    let named : (t : List ℕ) → IsCut (name_of_verb v ++ 32 ∷ t) (name_of_verb v) t = λ t. record { parts = refl; no_space = name_no_space v } in
+    stuck_behind (IsCommand sizes) (IsShape (shape_of sizes v)) (name_of_verb v)
     (λ t h. command_from sizes counts _ v t (named t) h) (λ t h. command_to sizes _ v t (named t) h) text r place cut.parts is
 
 -- the beginnings of a command's name that is no more than such
@@ -210,10 +210,10 @@ module _ (sizes : Config) (counts : HasValidCounts sizes) (text word : List ℕ)
       let here : GoesOn (IsCommand sizes) (take (count + 1) word) = subst (GoesOn (IsCommand sizes)) same on in
       let v : Verb = its_verb here.1.0 in
       elim (begins sizes _ here.1.0 here.1.1) [
-        | inl e ↦ let more = longest.most v (count + 1) (alike_more word here.0 (count + 1) (name_of v) (omega arith) e) in omega arith
+        | inl e ↦ let more = longest.most v (count + 1) (alike_more word here.0 (count + 1) (name_of_verb v) (omega arith) e) in omega arith
         | inr e ↦
-            let front = front_of_word (take (count + 1) word) here.0 (name_of v) e.0 (no_space_front word (count + 1) first.no_space) e.1 in
-            let more = longest.most v (count + 1) (alike_more word front.0 (count + 1) (name_of v) (omega arith) (sym front.1)) in omega arith
+            let front = front_of_word (take (count + 1) word) here.0 (name_of_verb v) e.0 (no_space_front word (count + 1) first.no_space) e.1 in
+            let more = longest.most v (count + 1) (alike_more word front.0 (count + 1) (name_of_verb v) (omega arith) (sym front.1)) in omega arith
       ]
 
   -- nor does the whole word with a space
@@ -225,9 +225,9 @@ module _ (sizes : Config) (counts : HasValidCounts sizes) (text word : List ℕ)
       let v : Verb = its_verb here.1.0 in
       let cut : IsCut ((word ++ 32 ∷ []) ++ here.0) word here.0 = record { parts = append_assoc word (32 ∷ []) here.0; no_space = first.no_space } in
       elim (begins sizes _ here.1.0 here.1.1) [
-        | inl e ↦ no_cut (name_of v) word here.0 (name_no_space v) (sym e ∙ cut.parts)
+        | inl e ↦ no_cut (name_of_verb v) word here.0 (name_no_space v) (sym e ∙ cut.parts)
         | inr e ↦
-            let is_name = (cut_once _ word here.0 (name_of v) e.0 cut (name_no_space v) e.1).0 in
+            let is_name = (cut_once _ word here.0 (name_of_verb v) e.0 cut (name_no_space v) e.1).0 in
             none v (inr (behind.0, behind.1 ∙ ap (λ (w : List ℕ). w ++ 32 ∷ behind.0) is_name))
       ]
 
@@ -241,12 +241,12 @@ module _ (sizes : Config) (counts : HasValidCounts sizes) (text word : List ℕ)
       record {
         inside = omega arith;
         goes_on =
-            let same : take count (name_of longest.verb) ≡ take count text = sym alike.same ∙ sym (front_of_first text word count first le) in
-            let parts : take count (name_of longest.verb) ++ (drop count (name_of longest.verb) ++ done.0) ≡ name_of longest.verb ++ done.0
-            = sym (append_assoc (take count (name_of longest.verb)) (drop count (name_of longest.verb)) done.0)
-            ∙ ap (λ (t : List ℕ). t ++ done.0) (take-append-drop count (name_of longest.verb)) in
-            let here : GoesOn (IsCommand sizes) (take count (name_of longest.verb))
-            = (drop count (name_of longest.verb) ++ done.0, subst (IsCommand sizes) (sym parts) done.1) in
+            let same : take count (name_of_verb longest.verb) ≡ take count text = sym alike.same ∙ sym (front_of_first text word count first le) in
+            let parts : take count (name_of_verb longest.verb) ++ (drop count (name_of_verb longest.verb) ++ done.0) ≡ name_of_verb longest.verb ++ done.0
+            = sym (append_assoc (take count (name_of_verb longest.verb)) (drop count (name_of_verb longest.verb)) done.0)
+            ∙ ap (λ (t : List ℕ). t ++ done.0) (take-append-drop count (name_of_verb longest.verb)) in
+            let here : GoesOn (IsCommand sizes) (take count (name_of_verb longest.verb))
+            = (drop count (name_of_verb longest.verb) ++ done.0, subst (IsCommand sizes) (sym parts) done.1) in
             subst (GoesOn (IsCommand sizes)) same here;
         stuck = λ h. elim (cases_lt count (length word)) [
           | inl less ↦ not_within less

@@ -7,12 +7,12 @@ use Rattle.std.specs.Str.Parse.{AllDigits}
 use Rattle.std.specs.Cmp.Lexicographic.{same_text}
 use Rattle.zone_blocks.specs.declared.config.Config.{Config}
 use Rattle.script_lines.specs.Script.{IsCut, is_go}
-use Rattle.script_lines.specs.Verb.{name_of}
+use Rattle.script_lines.specs.Verb.{name_of_verb}
 use Rattle.script_lines.specs.declared.verb.Verb.{Verb}
 use Rattle.script_lines.specs.declared.line.Command.TheVariants as command
 use Rattle.script_lint.specs.Continuation.{GoesOn, IsSplit, IsStuck}
 use Rattle.script_lint.specs.Names.{IsCommon}
-use Rattle.script_lint.specs.Shapes.{HasFullRange, HasValidCounts, IsCommand, IsGoodText, IsOpen, IsRequest, IsShape, IsWord, LacksWord, behind_word, shape_of}
+use Rattle.script_lint.specs.Shapes.{HasFullRange, HasValidCounts, IsCommand, IsGoodText, BeginsWithWord, IsRequest, IsShape, IsWord, LacksWord, behind_word, shape_of}
 use Rattle.script_lint.specs.declared.shape.Kind.{Kind}
 use Rattle.script_lint.specs.declared.shape.Kind.TheVariants.{Number}
 use Rattle.script_lint.proofs.Commands.{alike_more, command_from, stuck_in_arguments}
@@ -162,7 +162,7 @@ stuck_go sizes bs count other common =
         omega arith
 
 -- a word, a space, and nothing
-pub some_open : (kind : Kind) → HasFullRange kind → (r : List ℕ) × IsOpen kind r
+pub some_open : (kind : Kind) → HasFullRange kind → (r : List ℕ) × BeginsWithWord kind r
 some_open kind full = let some = some_word kind full in (some.0 ++ 32 ∷ [], (some.0, [], refl, some.1, tt))
 
 -- a text behind whose first word and space the rest is right or stuck
@@ -174,9 +174,9 @@ split_behind kind Rest some text word rest (Some place) cut is stuck =
     stuck_in_rest (IsWord kind) Rest (word_no_space kind) some text word rest place cut is stuck
 
 -- the same behind the name of a command
-pub command_behind : (sizes : Config) → HasValidCounts sizes → (text : List ℕ) (v : Verb) (rest : List ℕ) (found : Option ℕ) → IsCut text (name_of v) rest
+pub command_behind : (sizes : Config) → HasValidCounts sizes → (text : List ℕ) (v : Verb) (rest : List ℕ) (found : Option ℕ) → IsCut text (name_of_verb v) rest
     → MatchOption found (IsShape (shape_of sizes v) rest) (λ place. IsStuck (IsShape (shape_of sizes v)) rest place)
-    → MatchOption (behind_word (name_of v) found) (IsCommand sizes text) (λ place. IsStuck (IsCommand sizes) text place)
+    → MatchOption (behind_word (name_of_verb v) found) (IsCommand sizes text) (λ place. IsStuck (IsCommand sizes) text place)
 command_behind sizes counts text v rest None cut is = command_from sizes counts text v rest cut is
 command_behind sizes counts text v rest (Some place) cut is = stuck_in_arguments sizes counts text v rest place cut is
 

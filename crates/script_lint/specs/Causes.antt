@@ -4,7 +4,7 @@ use Rattle.std.specs.Prelude.{if◌then◌else◌, drop, nat_eq, nat_lt, slice_g
 use Rattle.std.specs.List.{find, list_any}
 use Rattle.std.specs.Cmp.Lexicographic.{pointwise}
 use Rattle.script_lines.specs.Script.{is_go}
-use Rattle.script_lines.specs.Verb.{name_of}
+use Rattle.script_lines.specs.Verb.{name_of_verb}
 use Rattle.script_lines.specs.declared.verb.Verb.{Verb}
 use Rattle.script_lines.specs.declared.verb.Verb.TheVariants.{Mkdir, Rmdir, Write, Read, Alloc, Fast, Release, Get, Put}
 use Rattle.script_lines.specs.declared.verb.Verb.TheVariants.{Settle, Touch, Dirty, Clean, Owner, Blocks, Show, Stock}
@@ -98,7 +98,7 @@ all_verbs =
 -- the name of a command, or no name at all
 abbrev pub is_known : List ℕ → Bool
 is_known [] = true
-is_known (b ∷ bs) = list_any (λ v. pointwise nat_eq (b ∷ bs) (name_of v)) all_verbs
+is_known (b ∷ bs) = list_any (λ v. pointwise nat_eq (b ∷ bs) (name_of_verb v)) all_verbs
 
 -- no command has the second word as its name: a byte leaves all names, or it ends before it is one
 abbrev pub is_unknown_command : List ℕ → ℕ → Bool

@@ -4,7 +4,7 @@ use Rattle.std.specs.Prelude.{nat_eq}
 use Rattle.std.specs.List.{starts_with}
 use Rattle.std.specs.Str.{bytes_eq}
 use Rattle.zone_blocks.specs.declared.config.Config.{Config}
-use Rattle.control_files.specs.Files.{is_readable, is_writable, name_of}
+use Rattle.control_files.specs.Files.{is_readable, is_writable, name_of_file}
 use Rattle.control_files.specs.Flag.{IsNoFlagText}
 use Rattle.control_files.specs.Limit.{IsNoAmountText, IsNoLimitText, IsTooGreat}
 use Rattle.control_files.specs.declared.file.File.{File}
@@ -37,7 +37,7 @@ is_unmodelled name = is_soft_limit name || is_statistic name || is_of_swap name
 
 -- no group has a file of this name
 abbrev pub IsNoFileName : List ℕ → Type 0
-IsNoFileName name = (file : File) → name ≢ name_of file
+IsNoFileName name = (file : File) → name ≢ name_of_file file
 
 -- why there is no such file: no group has one of this name, or the path is the root's, which has no files
 abbrev pub LacksFile : (path name : List ℕ) → Refusal → Type 0
@@ -48,19 +48,19 @@ LacksFile path name other = ⊥
 
 -- the file of this name is the only one, and a group that has the path has it
 pub record HasFile (path name : List ℕ) (file : File) : Type 0 where
-  pub named : name ≡ name_of file
-  pub only : (other : File) → name ≡ name_of other → other ≡ file
+  pub named : name ≡ name_of_file file
+  pub only : (other : File) → name ≡ name_of_file other → other ≡ file
   pub there : (why : Refusal) → ¬ LacksFile path name why
 
 -- the file doesn't take this value, or none
-abbrev pub RefusesValue : File → (value : List ℕ) → Refusal → Type 0
-RefusesValue file value ReadOnly = is_writable file ≡ false
-RefusesValue Max value NoLimit = IsNoLimitText value
-RefusesValue Max value TooGreat = IsTooGreat value
-RefusesValue Reclaim value NoAmount = IsNoAmountText value
-RefusesValue Reclaim value TooGreat = IsTooGreat value
-RefusesValue OomGroup value NoFlag = IsNoFlagText value
-RefusesValue file value other = ⊥
+abbrev pub NeverTakesValue : File → (value : List ℕ) → Refusal → Type 0
+NeverTakesValue file value ReadOnly = is_writable file ≡ false
+NeverTakesValue Max value NoLimit = IsNoLimitText value
+NeverTakesValue Max value TooGreat = IsTooGreat value
+NeverTakesValue Reclaim value NoAmount = IsNoAmountText value
+NeverTakesValue Reclaim value TooGreat = IsTooGreat value
+NeverTakesValue OomGroup value NoFlag = IsNoFlagText value
+NeverTakesValue file value other = ⊥
 
 -- the file can't be read
 abbrev pub RefusesRead : File → Refusal → Type 0
@@ -69,7 +69,7 @@ RefusesRead file other = ⊥
 
 -- a file of this name does this
 abbrev pub OfFile : List ℕ → (File → Type 0) → Type 0
-OfFile name Does = (file : File) × (name ≡ name_of file) × Does file
+OfFile name Does = (file : File) × (name ≡ name_of_file file) × Does file
 
 -- why the file of the path can't be read
 abbrev pub RefusesReadOf : (path name : List ℕ) → Refusal → Type 0
@@ -77,7 +77,7 @@ RefusesReadOf path name why = LacksFile path name why ⊎ OfFile name (λ file. 
 
 -- why the value can't be written to the file of the path
 abbrev pub RefusesWriteOf : (path name value : List ℕ) → Refusal → Type 0
-RefusesWriteOf path name value why = LacksFile path name why ⊎ OfFile name (λ file. RefusesValue file value why)
+RefusesWriteOf path name value why = LacksFile path name why ⊎ OfFile name (λ file. NeverTakesValue file value why)
 
 -- the order is above that of the greatest blocks
 abbrev pub RefusesOrder : ℕ → Refusal → Type 0

@@ -45,6 +45,6 @@ sentence NoFlag = codes "memory.oom.group takes 0 or 1"
 sentence TooGreat = codes "a number of bytes is at most 18446744073709551615"
 
 -- the line that says that a line is refused, and why
-abbrev pub refused_text : (name : List ℕ) → RefusedLine → List ℕ
-refused_text name refused =
+abbrev pub refused_line_text : (name : List ℕ) → RefusedLine → List ℕ
+refused_line_text name refused =
     name ++ (codes ":" ++ (decimal refused.line ++ (codes ": refused: " ++ (sentence refused.refusal ++ codes "\n"))))

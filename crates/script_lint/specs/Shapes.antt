@@ -57,15 +57,15 @@ shape_of sizes Fast = One (up_to 63)
 shape_of sizes other = One (up_to (sizes.frames - 1))
 
 -- a word of this kind, a space, and any bytes
-abbrev pub IsOpen : Kind → List ℕ → Type 0
-IsOpen kind text = IsSplit (IsWord kind) (λ value. ⊤) text
+abbrev pub BeginsWithWord : Kind → List ℕ → Type 0
+BeginsWithWord kind text = IsSplit (IsWord kind) (λ value. ⊤) text
 
 -- what follows the name of a command and a space has this shape
 abbrev pub IsShape : Shape → List ℕ → Type 0
 IsShape Alone text = ⊥
 IsShape (One first) text = IsWord first text
 IsShape (Two first second) text = IsSplit (IsWord first) (IsWord second) text
-IsShape (Open first second) text = IsSplit (IsWord first) (IsOpen second) text
+IsShape (Open first second) text = IsSplit (IsWord first) (BeginsWithWord second) text
 
 -- each word of this shape may begin with any digit
 abbrev pub HasFullRanges : Shape → Type 0

@@ -5,10 +5,10 @@ use Rattle.std.specs.Char.{encode_utf8}
 use Rattle.std.specs.Fmt.{decimal}
 use Rattle.std.specs.List.{flat_map}
 use Rattle.zone_blocks.specs.declared.config.Config.{Config}
-use Rattle.script_lines.specs.Verb.{name_of}
+use Rattle.script_lines.specs.Verb.{name_of_verb}
 use Rattle.script_lines.specs.declared.verb.Verb.{Verb}
 use Rattle.script_lint.specs.Causes.{byte_at, is_printable, word_at}
-use Rattle.script_lint.specs.Forms.{form_of, verb_of}
+use Rattle.script_lint.specs.Forms.{form_text_of, verb_of}
 use Rattle.script_lint.specs.declared.finding.Cause.{Cause}
 use Rattle.script_lint.specs.declared.finding.Cause.TheVariants.{LateComment, NoCpu, CpuOutOfRange, UnknownCommand}
 use Rattle.script_lint.specs.declared.finding.Cause.TheVariants.{TooFewWords, TooManyWords, TwoSpaces, SpaceAtEnd, Tab}
@@ -26,14 +26,14 @@ abbrev pub shown : ℕ → ℕ
 shown b = if is_printable b then b else 63
 
 -- the word that the place is in, as it is shown
-abbrev pub word_text : Finding → List ℕ
-word_text f = flat_map (λ b. encode_utf8 (shown b)) (word_at f.text.now f.spot.place)
+abbrev pub shown_word_text : Finding → List ℕ
+shown_word_text f = flat_map (λ b. encode_utf8 (shown b)) (word_at f.text.now f.spot.place)
 
 -- the command that may be meant, or all of them
 abbrev pub near_text : Option Verb → List ℕ
 near_text None = codes "; commands are mkdir, rmdir, write, read, alloc, fast, release, get, put, settle, touch, dirty, "
     ++ codes "clean, owner, blocks, show, stock, units, and go without a CPU"
-near_text (Some v) = codes "; did you mean '" ++ name_of v ++ codes "'?"
+near_text (Some v) = codes "; did you mean '" ++ name_of_verb v ++ codes "'?"
 
 -- what is said of a carriage return, at the end of the line or before
 abbrev pub return_text : Bool → List ℕ
@@ -47,8 +47,8 @@ cpus_text cpus = codes " doesn't exist (CPUs 1 to "
     ++ (decimal cpus ++ (codes " with --cpus " ++ (decimal cpus ++ codes ")")))
 
 -- which frames there are
-abbrev pub frames_text : ℕ → List ℕ
-frames_text frames =
+abbrev pub zone_range_text : ℕ → List ℕ
+zone_range_text frames =
     codes " is outside the zone (frames 0 to "
     ++ (decimal (frames - 1) ++ (codes " with --frames " ++ (decimal frames ++ codes ")")))
 
@@ -56,18 +56,18 @@ frames_text frames =
 abbrev pub cause_text : Config → Finding → Cause → List ℕ
 cause_text sizes f LateComment = codes "a comment is a line that begins with #"
 cause_text sizes f NoCpu = codes "no CPU's number: a line is P COMMAND or go"
-cause_text sizes f CpuOutOfRange = codes "CPU " ++ (word_text f ++ cpus_text sizes.cpus)
-cause_text sizes f UnknownCommand = codes "no command '" ++ (word_text f ++ (codes "'" ++ near_text f.near))
-cause_text sizes f TooFewWords = codes "too few words: " ++ form_of (verb_of f.text.now)
-cause_text sizes f TooManyWords = codes "too many words: " ++ form_of (verb_of f.text.now)
+cause_text sizes f CpuOutOfRange = codes "CPU " ++ (shown_word_text f ++ cpus_text sizes.cpus)
+cause_text sizes f UnknownCommand = codes "no command '" ++ (shown_word_text f ++ (codes "'" ++ near_text f.near))
+cause_text sizes f TooFewWords = codes "too few words: " ++ form_text_of (verb_of f.text.now)
+cause_text sizes f TooManyWords = codes "too many words: " ++ form_text_of (verb_of f.text.now)
 cause_text sizes f TwoSpaces = codes "two spaces"
 cause_text sizes f SpaceAtEnd = codes "space at an end of the line"
 cause_text sizes f Tab = codes "tab"
 cause_text sizes f CarriageReturn = return_text (f.spot.place + 1 == length f.text.now)
 cause_text sizes f NumberOutOfRange = codes "'"
-    ++ (word_text f ++ (codes "' isn't a number from 0 to 4294967295: " ++ form_of (verb_of f.text.now)))
-cause_text sizes f FrameOutOfZone = codes "frame " ++ (word_text f ++ frames_text sizes.frames)
-cause_text sizes f GroupOutOfRange = codes "group " ++ word_text f ++ codes " is outside 0 to 63"
+    ++ (shown_word_text f ++ (codes "' isn't a number from 0 to 4294967295: " ++ form_text_of (verb_of f.text.now)))
+cause_text sizes f FrameOutOfZone = codes "frame " ++ (shown_word_text f ++ zone_range_text sizes.frames)
+cause_text sizes f GroupOutOfRange = codes "group " ++ shown_word_text f ++ codes " is outside 0 to 63"
 cause_text sizes f UnprintableByte = codes "byte " ++ decimal (byte_at f.text.now f.spot.place)
     ++ codes " isn't printable ASCII"
 cause_text sizes f LineTooLong = codes "the line has more than 1024 bytes"

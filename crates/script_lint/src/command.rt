@@ -4,11 +4,12 @@ ghost use Rattle.std.specs.Prelude.{◌+◌, ◌<◌, ◌^◌, ◌≡◌, ◌≢
 ghost use Rattle.zone_blocks.specs.declared.config.Config.{Config};
 ghost use Rattle.script_lines.specs.Script.{BeginsWithName, IsCut, IsNamed};
 ghost use Rattle.script_lines.specs.declared.verb.Verb.{Verb};
-ghost use Rattle.script_lines.specs.Verb.{IsNames, name_of};
+ghost use Rattle.script_lines.specs.Verb.{IsNames, name_of_verb};
 ghost use Rattle.script_lint.specs.Continuation.{IsStuck};
 ghost use Rattle.script_lint.specs.declared.shape.Shape.TheVariants.{Alone};
 ghost use Rattle.script_lint.specs.Names.{IsCommon, IsLongest};
-ghost use Rattle.script_lint.specs.Shapes.{HasFullRange, HasFullRanges, HasValidCounts, IsCommand, IsOpen, IsShape};
+ghost use Rattle.script_lint.specs.Shapes.{HasFullRange, HasFullRanges, HasValidCounts, IsCommand, BeginsWithWord};
+ghost use Rattle.script_lint.specs.Shapes.{IsShape};
 ghost use Rattle.script_lint.specs.Shapes.{behind_word};
 
 use crate::shape::{Kind, Shape, shape_of};
@@ -41,7 +42,7 @@ pub(crate) const VERBS: [Verb; 18] = [
 
 // The name of a command, as a script writes it.
 pub(crate) fn name_of(verb: Verb) -> &'static str
-    ensures { result.now ≡ name_of verb }
+    ensures { result.now ≡ name_of_verb verb }
 {
     match verb {
         Verb::Mkdir => "mkdir",
@@ -119,7 +120,7 @@ fn shape_place(shape: Shape, text: &[u8]) -> Option<usize>
 // The place from which on the text doesn't go on to a word of this kind, a space and any bytes. None if it is that.
 fn open_place(kind: Kind, text: &[u8]) -> Option<usize>
     requires { HasFullRange kind }
-    ensures { MatchOption result (IsOpen kind text.now) (λ place. IsStuck (IsOpen kind) text.now place) }
+    ensures { MatchOption result (BeginsWithWord kind text.now) (λ place. IsStuck (BeginsWithWord kind) text.now place) }
 {
     match start_of(kind, text) {
         Start::Stuck(place) => Some(place),
@@ -182,7 +183,7 @@ fn name_place(text: &[u8]) -> usize
 // The place of a text that is this command's name, a space and this rest.
 fn arguments_place(verb: Verb, text: &[u8], rest: &[u8], sizes: &Config) -> Option<usize>
     requires counts { HasValidCounts sizes.now }
-    requires named { IsCut text.now (name_of verb) rest.now }
+    requires named { IsCut text.now (name_of_verb verb) rest.now }
     ensures { MatchOption result (IsCommand sizes.now text.now)
         (λ place. IsStuck (IsCommand sizes.now) text.now place) }
 {

@@ -3,8 +3,8 @@
 ghost use Rattle.std.specs.Prelude.{◌≡◌};
 ghost use Rattle.std.specs.List.{find};
 ghost use Rattle.std.specs.Str.{bytes_eq};
-ghost use Rattle.script_lines.specs.Verb.{name_of};
-ghost use Rattle.script_lint.specs.Forms.{form_of, verb_of};
+ghost use Rattle.script_lines.specs.Verb.{name_of_verb};
+ghost use Rattle.script_lint.specs.Forms.{form_text_of, verb_of};
 
 use crate::cause::word_behind;
 use crate::command::{VERBS, name_of};
@@ -12,7 +12,7 @@ use script_lines::verb::Verb;
 
 // The form of the line's command, or of a line if none has the second word as its name.
 pub(crate) fn form_of(text: &[u8]) -> &'static str
-    ensures { result.now ≡ form_of (verb_of text.now) }
+    ensures { result.now ≡ form_text_of (verb_of text.now) }
 {
     match verb_of(text) {
         Some(verb) => verb_form(verb),
@@ -29,7 +29,7 @@ fn verb_of(text: &[u8]) -> Option<Verb>
 
 // The first of the commands that has this name.
 fn first_named(verbs: &[Verb], name: &[u8]) -> Option<Verb>
-    ensures { result ≡ find (λ v. bytes_eq (name_of v) name.now) verbs.now }
+    ensures { result ≡ find (λ v. bytes_eq (name_of_verb v) name.now) verbs.now }
 {
     verbs
         .iter()
@@ -38,7 +38,7 @@ fn first_named(verbs: &[Verb], name: &[u8]) -> Option<Verb>
 }
 
 fn verb_form(verb: Verb) -> &'static str
-    ensures { result.now ≡ form_of (Some verb) }
+    ensures { result.now ≡ form_text_of (Some verb) }
 {
     match verb {
         Verb::Mkdir => "mkdir PATH",

@@ -3,7 +3,8 @@
 ghost use Rattle.std.specs.Prelude.{◌≡◌, IfErr, IfOk, List, ℕ};
 ghost use Rattle.control_files.specs.declared.file.File.{File};
 ghost use Rattle.script_lint.specs.Refusals.{HasFile, IsJudged, IsNoFileName, IsRefused, LacksFile, RefusesOrder};
-ghost use Rattle.script_lint.specs.Refusals.{RefusesRead, RefusesReadOf, RefusesValue, RefusesWriteOf, is_unmodelled};
+ghost use Rattle.script_lint.specs.Refusals.{RefusesRead, RefusesReadOf, NeverTakesValue, RefusesWriteOf};
+ghost use Rattle.script_lint.specs.Refusals.{is_unmodelled};
 ghost use Rattle.script_lint.specs.Refusals.{is_of_swap, is_soft_limit, is_statistic};
 ghost use Rattle.script_lint.specs.Refused.{sentence};
 ghost use Rattle.script_lint.specs.declared.refusal.Refusal.{Refusal};
@@ -178,7 +179,7 @@ fn is_of_swap(name: &[u8]) -> bool
 
 // Why the file doesn't take this value, if it doesn't.
 fn value_refusal(file: File, value: &[u8]) -> Option<Refusal>
-    ensures { IsJudged (RefusesValue file value.now) result }
+    ensures { IsJudged (NeverTakesValue file value.now) result }
 {
     match file {
         File::Max => limit_refusal(value),
@@ -189,7 +190,7 @@ fn value_refusal(file: File, value: &[u8]) -> Option<Refusal>
 }
 
 fn limit_refusal(value: &[u8]) -> Option<Refusal>
-    ensures { IsJudged (RefusesValue File.Max value.now) result }
+    ensures { IsJudged (NeverTakesValue File.Max value.now) result }
 {
     match read_limit(value) {
         Ok(_) => None,
@@ -201,7 +202,7 @@ fn limit_refusal(value: &[u8]) -> Option<Refusal>
 }
 
 fn amount_refusal(value: &[u8]) -> Option<Refusal>
-    ensures { IsJudged (RefusesValue File.Reclaim value.now) result }
+    ensures { IsJudged (NeverTakesValue File.Reclaim value.now) result }
 {
     match read_amount(value) {
         Ok(_) => None,
@@ -213,7 +214,7 @@ fn amount_refusal(value: &[u8]) -> Option<Refusal>
 }
 
 fn flag_refusal(value: &[u8]) -> Option<Refusal>
-    ensures { IsJudged (RefusesValue File.OomGroup value.now) result }
+    ensures { IsJudged (NeverTakesValue File.OomGroup value.now) result }
 {
     match read_flag(value) {
         Ok(_) => None,

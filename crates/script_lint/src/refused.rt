@@ -5,7 +5,7 @@ ghost use Rattle.std.specs.List.{flat_map};
 ghost use Rattle.std.specs.String.{string_bytes};
 ghost use Rattle.script_lines.specs.Verb.{IsNames};
 ghost use Rattle.script_lint.specs.Refusals.{IsJudgedText};
-ghost use Rattle.script_lint.specs.Refused.{AreRefused, numbered, refused_text};
+ghost use Rattle.script_lint.specs.Refused.{AreRefused, numbered, refused_line_text};
 
 use crate::refusal::{Refusal, refusal_of};
 use script_lines::line::Line;
@@ -108,7 +108,7 @@ pub fn write_refused(
     text: &mut String,
 ) -> Result<(), AllocError>
     ensures { IfOk result (λ _. string_bytes text.new
-        ≡ string_bytes text.old ++ flat_map (refused_text name.now) refused.now) }
+        ≡ string_bytes text.old ++ flat_map (refused_line_text name.now) refused.now) }
 {
     for line in refused {
         write_line(name, *line, text)?;
@@ -117,7 +117,7 @@ pub fn write_refused(
 }
 
 fn write_line(name: &str, refused: RefusedLine, text: &mut String) -> Result<(), AllocError>
-    ensures { IfOk result (λ _. string_bytes text.new ≡ string_bytes text.old ++ refused_text name.now refused) }
+    ensures { IfOk result (λ _. string_bytes text.new ≡ string_bytes text.old ++ refused_line_text name.now refused) }
 {
     let line = refused.line;
     let why = refused.refusal.sentence();

@@ -4,8 +4,8 @@ ghost use Rattle.std.specs.Prelude.{◌≡◌, ◌++◌, All, IfOk, None, Some};
 ghost use Rattle.std.specs.List.{flat_map};
 ghost use Rattle.std.specs.String.{string_bytes};
 ghost use Rattle.zone_blocks.specs.declared.config.Config.{Config};
-ghost use Rattle.script_lint.specs.Texts.{IsInside, cause_text, cpus_text, default_text, finding_text, frames_text};
-ghost use Rattle.script_lint.specs.Texts.{given_text, near_text, shown, sizes_text, word_text};
+ghost use Rattle.script_lint.specs.Texts.{IsInside, cause_text, cpus_text, default_text, finding_text, zone_range_text};
+ghost use Rattle.script_lint.specs.Texts.{given_text, near_text, shown, sizes_text, shown_word_text};
 ghost use Rattle.script_lint.specs.declared.finding.Cause.TheVariants.{CarriageReturn, FrameOutOfZone, GroupOutOfRange};
 ghost use Rattle.script_lint.specs.declared.finding.Cause.TheVariants.{NumberOutOfRange, CpuOutOfRange};
 ghost use Rattle.script_lint.specs.declared.finding.Cause.TheVariants.{TooFewWords, TooManyWords};
@@ -121,7 +121,7 @@ pub fn write_cause(
 // The word that goes wrong, as it is shown.
 fn push_word(finding: &Finding<'_>, text: &mut String) -> Result<(), AllocError>
     requires { IsInside finding.now }
-    ensures { IfOk result (λ _. string_bytes text.new ≡ string_bytes text.old ++ word_text finding.now) }
+    ensures { IfOk result (λ _. string_bytes text.new ≡ string_bytes text.old ++ shown_word_text finding.now) }
 {
     for byte in word_at(finding.text, finding.spot.place) {
         text.push(char::from(shown(*byte)))?;
@@ -234,7 +234,7 @@ fn write_frame(finding: &Finding<'_>, sizes: &Config, text: &mut String) -> Resu
 }
 
 fn write_frames(frames: u32, text: &mut String) -> Result<(), AllocError>
-    ensures { IfOk result (λ _. string_bytes text.new ≡ string_bytes text.old ++ frames_text frames) }
+    ensures { IfOk result (λ _. string_bytes text.new ≡ string_bytes text.old ++ zone_range_text frames) }
 {
     let last = frames.saturating_sub(1);
     write!(

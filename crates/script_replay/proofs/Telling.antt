@@ -13,7 +13,8 @@ use Rattle.script_replay.specs.declared.work.Work.TheVariants.{Visit, Settle}
 use Rattle.script_replay.specs.Answers.{AddsAnswer, AddsText, AnswersWork, ServesUnderLock, ServesWork, WritesAnswer}
 use Rattle.script_replay.specs.Answers.{explanation_if, path_removed}
 use Rattle.script_replay.specs.Numbers.{SaysNumbered, numbered_text}
-use Rattle.script_replay.specs.Reasons.{borrower_of, fault_in, head_named, head_named_by, reason_text, reasoned_text}
+use Rattle.script_replay.specs.Reasons.{borrower_of, fault_in, head_named, head_named_by, refusal_reason_text}
+use Rattle.script_replay.specs.Reasons.{reasoned_text}
 use Rattle.script_replay.specs.Terms.{Terms}
 
 -- what holds of a text holds of the text that was added
@@ -52,7 +53,7 @@ told_as is as_well before after r turn adds = record {
 pub unreasoned : (is_explained : Bool) (answer : LineAnswer) (lent : Option ℕ) → fault_in answer ≡ None
     → reasoned_text is_explained answer lent ≡ answer_text answer
 unreasoned false answer lent none = refl
-unreasoned true answer lent none = ap (λ (fault : Option Fault). answer_text answer ++ reason_text fault lent) none ∙ append-nil (answer_text answer)
+unreasoned true answer lent none = ap (λ (fault : Option Fault). answer_text answer ++ refusal_reason_text fault lent) none ∙ append-nil (answer_text answer)
 
 -- an answer without notes
 pub alone : (is_explained : Bool) (work : Work) (call : Transition LockedState) (answer : LineAnswer) → AnswersWork is_explained work call answer false

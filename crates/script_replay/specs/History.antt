@@ -128,7 +128,7 @@ pub record ReplaysLegally (terms : Terms) (lines : List Line) (before after : Sy
 
 -- The last of so many lines is the first one with a step that the watch doesn't allow: it allowed all steps of the
 -- lines before it, which led to `between`.
-pub record IsFirstIllegal (terms : Terms) (lines : List Line) (number : ℕ) (before after : SystemState) : Type 0 where
+pub record IsFirstIllegalLine (terms : Terms) (lines : List Line) (number : ℕ) (before after : SystemState) : Type 0 where
   pub between : SystemState
   pub earlier : List ℕ
   pub last : List ℕ
@@ -139,15 +139,15 @@ pub record IsFirstIllegal (terms : Terms) (lines : List Line) (number : ℕ) (be
 
 -- why a checked replay stopped after so many lines: memory ran out for the text of the last of them; or the last of
 -- them is the first one with a step that the watch doesn't allow, and has this number
-abbrev pub IsReason : Terms → (lines : List Line) (number : ℕ) (before after : SystemState) → Stopped → Type 0
-IsReason terms lines number before after (NoMemory error) = ⊤
-IsReason terms lines number before after (NotLegal line) =
-    IsFirstIllegal terms lines number before after × (line ≡ number_in_script (get_or lines (number - 1) Go))
+abbrev pub IsStopReason : Terms → (lines : List Line) (number : ℕ) (before after : SystemState) → Stopped → Type 0
+IsStopReason terms lines number before after (NoMemory error) = ⊤
+IsStopReason terms lines number before after (NotLegal line) =
+    IsFirstIllegalLine terms lines number before after × (line ≡ number_in_script (get_or lines (number - 1) Go))
 
 -- a checked replay stopped for this reason: the lines up to the one where it stopped were served
 pub record StopsFor (terms : Terms) (lines : List Line) (before after : SystemState) (why : Stopped) : Type 0 where
   pub stops : StopsAt (Replays terms) lines before after
-  pub reason : IsReason terms lines stops.number before after why
+  pub reason : IsStopReason terms lines stops.number before after why
 
 -- The result of a replay that is checked. If it succeeds, all lines were served, these are their answers, and the watch
 -- allowed every step. Else it stopped for this reason.

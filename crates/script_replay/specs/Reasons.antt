@@ -47,11 +47,11 @@ borrower_of None machine = None
 borrower_of (Some frame) machine = borrower_at (place_of (frame_state_at machine.frame_states frame))
 
 -- the line that says why, if there is a refusal
-abbrev pub reason_text : Option Fault → (lent : Option ℕ) → List ℕ
-reason_text None lent = []
-reason_text (Some reason) lent = refused_text reason lent
+abbrev pub refusal_reason_text : Option Fault → (lent : Option ℕ) → List ℕ
+refusal_reason_text None lent = []
+refusal_reason_text (Some reason) lent = refused_text reason lent
 
 -- the text of an answer; if it is to be explained and is a refusal, it continues with the line that says why
 abbrev pub reasoned_text : (is_explained : Bool) → LineAnswer → (lent : Option ℕ) → List ℕ
 reasoned_text false answer lent = answer_text answer
-reasoned_text true answer lent = answer_text answer ++ reason_text (fault_in answer) lent
+reasoned_text true answer lent = answer_text answer ++ refusal_reason_text (fault_in answer) lent

@@ -11,7 +11,7 @@ use Rattle.step_rules.specs.Usage.{is_in_subtree, frames_kept, stock_in_subtree,
 use Rattle.step_rules.specs.After.{state_of}
 use Rattle.step_rules.specs.Places.{places_of, is_same_frame_place, place_in}
 use Rattle.step_rules.specs.Returns.{counted_with_state}
-use Rattle.step_rules.specs.Counts.{stock_in, stock_out, counted}
+use Rattle.step_rules.specs.Counts.{stock_gained, stock_lost, counted}
 use Rattle.step_rules.specs.Grants.{pending_in, pending_out}
 use Rattle.step_rules.specs.Folds.{last_fill}
 use Rattle.step_rules.specs.Current.{AllCurrentFollowsRun}
@@ -84,10 +84,10 @@ current_follows_the_run zone run legal g =
           (sym (told f (Charged h) ∙ ap (λ b. b && is_same_frame_place (Charged h) (place_in (s.phases f))) (lt-ltb f zone.frames below)
           ∙ charged_is (s.phases f) h))));
       prepaid =
-          in_and_out (zone.cpus + 1) (λ p. is_in_subtree s.groups g (last_fill run p).group) (λ p. counted (stock_in p) run)
-          (λ p. (s.parts p).stock.pages) (λ p. counted (stock_out p) run)
+          in_and_out (zone.cpus + 1) (λ p. is_in_subtree s.groups g (last_fill run p).group) (λ p. counted (stock_gained p) run)
+          (λ p. (s.parts p).stock.pages) (λ p. counted (stock_lost p) run)
           (λ p below. stocks_are_counted zone run legal p)
-          ∙ ap (λ n. n + sum_to (zone.cpus + 1) (λ p. if is_in_subtree s.groups g (last_fill run p).group then counted (stock_out p) run else 0))
+          ∙ ap (λ n. n + sum_to (zone.cpus + 1) (λ p. if is_in_subtree s.groups g (last_fill run p).group then counted (stock_lost p) run else 0))
           (sum_same (zone.cpus + 1) (λ p. if is_in_subtree s.groups g (last_fill run p).group then (s.parts p).stock.pages else 0)
           (λ p. stock_in_subtree s.groups g (s.parts p)) (λ p below. same_stock p));
       pending = in_and_out 64 (in_subtree s.groups g) (λ h. counted_with_state (pending_in h) zone run) s.pending

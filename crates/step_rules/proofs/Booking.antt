@@ -12,7 +12,7 @@ use Rattle.step_rules.specs.Phases as kinds
 use Rattle.step_rules.specs.State.{Zone, Part, State, one_if, front_of}
 use Rattle.step_rules.specs.Legal.{Allows, IsMade, is_passable}
 use Rattle.step_rules.specs.After.{Run, after, state_of, IsLegalRun, without_frame, with_report, absorbed, paid, credited, filled, drained}
-use Rattle.step_rules.specs.Units.{units_of, fresh_group}
+use Rattle.step_rules.specs.Units.{units_after_run, fresh_group}
 use Rattle.step_rules.specs.Booked.{unreported_in, reported_in, absorbed_in, AllPartsAreBooked}
 use Rattle.step_rules.proofs.LegalTests.{pass_back_tests, report_tests}
 use Rattle.step_rules.proofs.PhaseLemmas.{listed_is, fresh_is, back_is}
@@ -77,7 +77,7 @@ unreported_made p zone run seat (PassBack f) Done legal made =
     let s = state_of zone run in
     let ok = made.legal in
     let may : is_passable s seat f ≡ true = (pass_back_tests (state_of zone run) seat f ok).3 in
-    let same : is_some ((units_of run).fresh_for f) ≡ has_as FreshFrame seat (s.phases f) =
+    let same : is_some ((units_after_run run).fresh_for f) ≡ has_as FreshFrame seat (s.phases f) =
     ap is_some (sym (units_follow_the_run zone run legal f).fresh) ∙ sent_fresh seat (front_of (s.parts seat).list) f (s.phases f) may in
     ap (λ b. unreported (s.parts p) + (if seat == p then one_if b else 0)) same
     ∙ gained unreported s.parts seat p (without_frame (s.parts seat) (s.phases f) seat f) (one_if (has_as FreshFrame seat (s.phases f))) refl

@@ -8,18 +8,18 @@ use Rattle.step_rules.specs.declared.step.Action.{Action}
 use Rattle.step_rules.specs.declared.step.Answer.{Answer}
 use Rattle.step_rules.specs.Usage.{is_in_subtree}
 use Rattle.step_rules.specs.Legal.{is_of_group}
-use Rattle.step_rules.specs.Events.{note_of, group_noted, noted_at, is_noted_in_subtree, is_noted_at}
+use Rattle.step_rules.specs.Events.{event_of, group_noted, noted_at, is_noted_in_subtree, is_noted_at}
 
 -- ---- what a step notes, by any key, from the one note that it makes or doesn't make
-pub noted_so : (kind key : EventKey) (g : ℕ) (action : Action) (answer : Answer) → note_of action answer ≡ Some (kind, g) →
+pub noted_so : (kind key : EventKey) (g : ℕ) (action : Action) (answer : Answer) → event_of action answer ≡ Some (kind, g) →
     noted_at key action answer ≡ (if is_same_key key kind then Some g else None)
 noted_so kind key g action answer e = ap (group_noted key) e
 
-pub noted_nowhere : (key : EventKey) (action : Action) (answer : Answer) → note_of action answer ≡ None → noted_at key action answer ≡ None
+pub noted_nowhere : (key : EventKey) (action : Action) (answer : Answer) → event_of action answer ≡ None → noted_at key action answer ≡ None
 noted_nowhere key action answer e = ap (group_noted key) e
 
 pub noted_below_so : (kind key : EventKey) (g m : ℕ) (groups : List Group) (action : Action) (answer : Answer) →
-    note_of action answer ≡ Some (kind, g) → is_noted_in_subtree key m groups action answer ≡ (is_same_key key kind && in_subtree groups m g)
+    event_of action answer ≡ Some (kind, g) → is_noted_in_subtree key m groups action answer ≡ (is_same_key key kind && in_subtree groups m g)
 noted_below_so kind key g m groups action answer e =
     ap (is_in_subtree groups m) (noted_so kind key g action answer e) ∙ by_key (is_same_key key kind)
   where
@@ -28,7 +28,7 @@ noted_below_so kind key g m groups action answer e =
     by_key false = refl
 
 pub noted_at_so : (kind key : EventKey) (g m : ℕ) (groups : List Group) (action : Action) (answer : Answer) →
-    note_of action answer ≡ Some (kind, g) → is_noted_at key m groups action answer ≡ (is_same_key key kind && g == m)
+    event_of action answer ≡ Some (kind, g) → is_noted_at key m groups action answer ≡ (is_same_key key kind && g == m)
 noted_at_so kind key g m groups action answer e =
     ap (λ (o : Option ℕ). is_of_group o m) (noted_so kind key g action answer e) ∙ by_key (is_same_key key kind)
   where

@@ -25,7 +25,7 @@ use Rattle.step_rules.specs.Usage.{is_in_subtree, frames_kept, stock_in_subtree,
 use Rattle.step_rules.specs.Legal.{is_legal, IsAnswer, IsCounted, IsMade, Allows, takes_fill}
 use Rattle.step_rules.specs.After.{Run, IsLegalRun, after, state_of, is_within, unit_size, placed_phase, with_block, without_unit, with_more, with_back, without_frame}
 use Rattle.step_rules.specs.After.{with_report, absorbed, paid, credited, consumed, filled, drained}
-use Rattle.step_rules.specs.Units.{units_of}
+use Rattle.step_rules.specs.Units.{units_after_run}
 use Rattle.step_rules.specs.Charges.{groups_after, groups_of, charged_in, unit_pages, charged_out, charged_in_subtree}
 use Rattle.step_rules.proofs.LegalTests.{consume_tests, credit_tests, drain_stock_tests, fill_tests, grant_tests, pass_out_tests}
 use Rattle.step_rules.proofs.LegalTests.{place_block_tests, return_tests, take_in_tests, ungrant_tests}
@@ -226,7 +226,7 @@ drain_moves groups m s p n h all (Some k) e =
 
 module _ (groups : List Group) (m : ℕ) where
   moves_exactly : (s : State) (run : Run) (seat : ℕ) (action : Action) (answer : Answer) → IsSound s → IsHomed s →
-      ((f : ℕ) → unit_of (s.phases f) ≡ (units_of run).unit f) → is_legal s seat action ≡ true → IsAnswer s seat action answer → IsCounted s action answer →
+      ((f : ℕ) → unit_of (s.phases f) ≡ (units_after_run run).unit f) → is_legal s seat action ≡ true → IsAnswer s seat action answer → IsCounted s action answer →
       total groups m s + charged_in (in_subtree groups m) run seat action answer
       ≡ total groups m (after s seat action answer) + charged_out (in_subtree groups m) run seat action answer
   moves_exactly s run seat action Illegal sound h told legal ok counted = absurd (no_illegal s seat action ok)
@@ -352,7 +352,7 @@ module _ (groups : List Group) (m : ℕ) where
   moves_exactly s run seat (Return f) Done sound h told legal ok counted =
       let may : is_returnable s.killed (s.phases f) ≡ true = (return_tests s seat f legal).2 in
       let a = any_unit_goes groups m s f sound (returning_is s.killed (s.phases f) may) in
-      let b : unit_pages (in_subtree groups m) (unit_of (s.phases f)) ≡ unit_pages (in_subtree groups m) ((units_of run).unit f) =
+      let b : unit_pages (in_subtree groups m) (unit_of (s.phases f)) ≡ unit_pages (in_subtree groups m) ((units_after_run run).unit f) =
       ap (unit_pages (in_subtree groups m)) (told f) in
       omega arith
   moves_exactly s run seat Lock answer sound h told legal ok counted = refl

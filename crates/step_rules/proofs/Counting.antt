@@ -12,7 +12,7 @@ use Rattle.step_rules.specs.declared.step.Answer.TheVariants.{Illegal, Done, Hel
 use Rattle.step_rules.specs.State.{Zone, Part, State, at_boot, with_at}
 use Rattle.step_rules.specs.Legal.{is_legal, IsAnswer, IsCounted, Allows, takes_fill, is_of_group}
 use Rattle.step_rules.specs.After.{Run, after, state_of, IsLegalRun, with_back, paid, credited, filled, drained}
-use Rattle.step_rules.specs.Counts.{count_at, references_in, references_out, stock_in, stock_out, book_in, book_out, counted}
+use Rattle.step_rules.specs.Counts.{count_at, references_gained, references_lost, stock_gained, stock_lost, book_gained, book_lost, counted}
 use Rattle.step_rules.specs.Counts.{ReferencesAreCounted, StocksAreCounted, BooksAreCounted}
 use Rattle.step_rules.proofs.LegalTests.{fill_tests, freeze_tests, put_tests}
 use Rattle.step_rules.proofs.Basics.{at_same, at_other}
@@ -49,27 +49,27 @@ counts_balance gain loss F boot each zone run legal =
     sym (pair_first f g run (0, 0)) ∙ kept.1 ∙ ap (λ n. F (state_of zone run) + n) (pair_last f g run (0, 0))
 
 -- an illegal step counts nothing
-no_references_in : (k m seat : ℕ) (action : Action) → references_in k m seat action Illegal ≡ 0
+no_references_in : (k m seat : ℕ) (action : Action) → references_gained k m seat action Illegal ≡ 0
 no_references_in k m seat Lock = refl
 no_references_in k m seat action = refl
 
-no_references_out : (k m seat : ℕ) (action : Action) → references_out k m seat action Illegal ≡ 0
+no_references_out : (k m seat : ℕ) (action : Action) → references_lost k m seat action Illegal ≡ 0
 no_references_out k m seat Lock = refl
 no_references_out k m seat action = refl
 
-no_stock_in : (p seat : ℕ) (action : Action) → stock_in p seat action Illegal ≡ 0
+no_stock_in : (p seat : ℕ) (action : Action) → stock_gained p seat action Illegal ≡ 0
 no_stock_in p seat Lock = refl
 no_stock_in p seat action = refl
 
-no_stock_out : (p seat : ℕ) (action : Action) → stock_out p seat action Illegal ≡ 0
+no_stock_out : (p seat : ℕ) (action : Action) → stock_lost p seat action Illegal ≡ 0
 no_stock_out p seat Lock = refl
 no_stock_out p seat action = refl
 
-no_book_in : (p seat : ℕ) (action : Action) → book_in p seat action Illegal ≡ 0
+no_book_in : (p seat : ℕ) (action : Action) → book_gained p seat action Illegal ≡ 0
 no_book_in p seat Lock = refl
 no_book_in p seat action = refl
 
-no_book_out : (p seat : ℕ) (action : Action) → book_out p seat action Illegal ≡ 0
+no_book_out : (p seat : ℕ) (action : Action) → book_lost p seat action Illegal ≡ 0
 no_book_out p seat Lock = refl
 no_book_out p seat action = refl
 
@@ -131,7 +131,7 @@ taken references seat f n k m some = let a = reference_changes references seat f
     count_zero seat f k m in omega arith
 
 references_made : (k m : ℕ) (s : State) (seat : ℕ) (action : Action) (answer : Answer) → is_legal s seat action ≡ true →
-    s.references k m + references_in k m seat action answer ≡ (after s seat action answer).references k m + references_out k m seat action answer
+    s.references k m + references_gained k m seat action answer ≡ (after s seat action answer).references k m + references_lost k m seat action answer
 references_made k m s seat action Illegal legal =
     let a = no_references_in k m seat action in
     let b = no_references_out k m seat action in
@@ -153,16 +153,16 @@ references_made k m s seat action answer legal = refl
 
 pub references_are_counted : ReferencesAreCounted
 references_are_counted zone run legal seat f =
-    counts_balance (references_in seat f) (references_out seat f) (λ s. s.references seat f) (λ z. refl)
+    counts_balance (references_gained seat f) (references_lost seat f) (λ s. s.references seat f) (λ z. refl)
     (λ s k action answer sound ok. by_answer s k action answer ok) zone run legal
   where
     by_answer : (s : State) (k : ℕ) (action : Action) (answer : Answer) → Allows s k action answer →
-        s.references seat f + references_in seat f k action answer ≡ (after s k action answer).references seat f + references_out seat f k action answer
+        s.references seat f + references_gained seat f k action answer ≡ (after s k action answer).references seat f + references_lost seat f k action answer
     by_answer s k action answer ok =
         elim (allowed s k action answer ok) [
           | inl illegal ↦
-              subst (λ (a : Answer). s.references seat f + references_in seat f k action a ≡ (after s k action a).references seat f
-              + references_out seat f k action a) (sym illegal)
+              subst (λ (a : Answer). s.references seat f + references_gained seat f k action a ≡ (after s k action a).references seat f
+              + references_lost seat f k action a) (sym illegal)
               (let a = no_references_in seat f k action in
               let b = no_references_out seat f k action in
               let c : (after s k action Illegal).references seat f ≡ s.references seat f = ap (λ (t : State). t.references seat f) (after_illegal s k action) in
@@ -213,7 +213,7 @@ pages_in part = part.stock.pages
 
 stock_made : (p : ℕ) (s : State) (seat : ℕ) (action : Action) (answer : Answer) → is_legal s seat action ≡ true → IsAnswer s seat action answer →
     IsCounted s action answer →
-    pages_in (s.parts p) + stock_in p seat action answer ≡ pages_in ((after s seat action answer).parts p) + stock_out p seat action answer
+    pages_in (s.parts p) + stock_gained p seat action answer ≡ pages_in ((after s seat action answer).parts p) + stock_lost p seat action answer
 stock_made p s seat action Illegal legal ok count =
     let a = no_stock_in p seat action in
     let b = no_stock_out p seat action in
@@ -238,14 +238,14 @@ stock_made p s seat action answer legal ok count = refl
 
 pub stocks_are_counted : StocksAreCounted
 stocks_are_counted zone run legal p =
-    counts_balance (stock_in p) (stock_out p) (λ s. pages_in (s.parts p)) (λ z. refl) (λ s k action answer sound ok. by_answer s k action answer ok) zone run legal
+    counts_balance (stock_gained p) (stock_lost p) (λ s. pages_in (s.parts p)) (λ z. refl) (λ s k action answer sound ok. by_answer s k action answer ok) zone run legal
   where
     by_answer : (s : State) (k : ℕ) (action : Action) (answer : Answer) → Allows s k action answer →
-        pages_in (s.parts p) + stock_in p k action answer ≡ pages_in ((after s k action answer).parts p) + stock_out p k action answer
+        pages_in (s.parts p) + stock_gained p k action answer ≡ pages_in ((after s k action answer).parts p) + stock_lost p k action answer
     by_answer s k action answer ok =
         elim (allowed s k action answer ok) [
           | inl illegal ↦
-              subst (λ (a : Answer). pages_in (s.parts p) + stock_in p k action a ≡ pages_in ((after s k action a).parts p) + stock_out p k action a)
+              subst (λ (a : Answer). pages_in (s.parts p) + stock_gained p k action a ≡ pages_in ((after s k action a).parts p) + stock_lost p k action a)
               (sym illegal)
               (let a = no_stock_in p k action in
               let b = no_stock_out p k action in
@@ -261,7 +261,7 @@ book_in_part part = part.book
 
 book_made : (p : ℕ) (s : State) (seat : ℕ) (action : Action) (answer : Answer) → IsSound s → is_legal s seat action ≡ true →
     IsAnswer s seat action answer → IsCounted s action answer →
-    book_in_part (s.parts p) + book_in p seat action answer ≡ book_in_part ((after s seat action answer).parts p) + book_out p seat action answer
+    book_in_part (s.parts p) + book_gained p seat action answer ≡ book_in_part ((after s seat action answer).parts p) + book_lost p seat action answer
 book_made p s seat action Illegal sound legal ok count =
     let a = no_book_in p seat action in
     let b = no_book_out p seat action in
@@ -286,15 +286,15 @@ book_made p s seat action answer sound legal ok count = refl
 
 pub books_are_counted : BooksAreCounted
 books_are_counted zone run legal p =
-    counts_balance (book_in p) (book_out p) (λ s. book_in_part (s.parts p)) (λ z. refl) by_answer zone run legal
+    counts_balance (book_gained p) (book_lost p) (λ s. book_in_part (s.parts p)) (λ z. refl) by_answer zone run legal
   where
     by_answer : (s : State) (k : ℕ) (action : Action) (answer : Answer) → IsSound s → Allows s k action answer →
-        book_in_part (s.parts p) + book_in p k action answer ≡ book_in_part ((after s k action answer).parts p) + book_out p k action answer
+        book_in_part (s.parts p) + book_gained p k action answer ≡ book_in_part ((after s k action answer).parts p) + book_lost p k action answer
     by_answer s k action answer sound ok =
         elim (allowed s k action answer ok) [
           | inl illegal ↦
-              subst (λ (a : Answer). book_in_part (s.parts p) + book_in p k action a ≡ book_in_part ((after s k action a).parts p)
-              + book_out p k action a) (sym illegal)
+              subst (λ (a : Answer). book_in_part (s.parts p) + book_gained p k action a ≡ book_in_part ((after s k action a).parts p)
+              + book_lost p k action a) (sym illegal)
               (let a = no_book_in p k action in
               let b = no_book_out p k action in
               let c : book_in_part ((after s k action Illegal).parts p) ≡ book_in_part (s.parts p) =

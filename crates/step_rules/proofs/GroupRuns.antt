@@ -16,7 +16,7 @@ use Rattle.step_rules.specs.State.{at_boot, sum_to, all_to}
 use Rattle.step_rules.specs.Legal.{is_of_group}
 use Rattle.step_rules.specs.After.{IsLegalRun}
 use Rattle.step_rules.specs.Examples.{small_zone, group_comes_and_goes, killed_group_ends, group_killed_whole, group_dies_whole, stock_without_a_page}
-use Rattle.step_rules.specs.Events.{events_of, events_local_of}
+use Rattle.step_rules.specs.Events.{events_in, events_local_in}
 use Rattle.step_rules.specs.Folds.{flag_given}
 use Rattle.step_rules.proofs.SmallRuns.{legal_each, root_has_room, front_block}
 
@@ -102,15 +102,15 @@ pub stock_run_is_legal : IsLegalRun small_zone stock_without_a_page
 unfolding has_group group_at sum_to all_to
 stock_run_is_legal = legal_each (at_boot small_zone) stock_without_a_page (record { legal = refl; answered = tt; counted = tt }, (record { legal = refl; answered = tt; counted = tt }, (record { legal = refl; answered = tt; counted = tt }, (record { legal = refl; answered = tt; counted = tt }, (record { legal = refl; answered = tt; counted = tt }, (record { legal = refl; answered = tt; counted = tt }, (record { legal = refl; answered = root_has_room _ 1; counted = tt }, (record { legal = refl; answered = none_free _ refl; counted = tt }, (record { legal = refl; answered = tt; counted = tt }, (record { legal = refl; answered = λ same. true≢false (ap (λ o. is_of_group o 0) same); counted = tt }, (record { legal = refl; answered = (refl, refl, omega arith); counted = tt }, (record { legal = refl; answered = (refl, refl, refl); counted = tt }, (record { legal = refl; answered = tt; counted = refl }, (record { legal = refl; answered = (refl, refl); counted = tt }, (record { legal = refl; answered = refl; counted = tt }, tt)))))))))))))))
 
-pub noted_above : (events_of Oom small_zone group_comes_and_goes 1 ≡ 1) × (events_local_of Oom small_zone group_comes_and_goes 1 ≡ 0)
+pub noted_above : (events_in Oom small_zone group_comes_and_goes 1 ≡ 1) × (events_local_in Oom small_zone group_comes_and_goes 1 ≡ 0)
 unfolding in_subtree path_of group_at names_of with_limit without_group
 noted_above = (refl, refl)
 
-pub counted_anew : (events_of Oom small_zone group_comes_and_goes 2 ≡ 0) × (events_of OomKill small_zone group_comes_and_goes 2 ≡ 0)
+pub counted_anew : (events_in Oom small_zone group_comes_and_goes 2 ≡ 0) × (events_in OomKill small_zone group_comes_and_goes 2 ≡ 0)
 unfolding in_subtree path_of group_at names_of with_limit without_group
 counted_anew = (refl, refl)
 
-pub noted_at_last : (events_of Max small_zone group_comes_and_goes 0 ≡ 1) × (events_local_of Max small_zone group_comes_and_goes 2 ≡ 1)
+pub noted_at_last : (events_in Max small_zone group_comes_and_goes 0 ≡ 1) × (events_local_in Max small_zone group_comes_and_goes 2 ≡ 1)
 unfolding in_subtree path_of group_at names_of with_limit without_group
 noted_at_last = (refl, refl)
 
@@ -139,12 +139,12 @@ whole_run_is_legal = legal_each (at_boot small_zone) group_dies_whole (record { 
 pub flags_given : (flag_given group_killed_whole 1 ≡ true) × (flag_given group_killed_whole 2 ≡ false)
 flags_given = (refl, refl)
 
-pub counted_whole : (events_local_of OomGroupKill small_zone group_killed_whole 1 ≡ 1) × (events_local_of OomGroupKill small_zone group_killed_whole 2 ≡ 0)
+pub counted_whole : (events_local_in OomGroupKill small_zone group_killed_whole 1 ≡ 1) × (events_local_in OomGroupKill small_zone group_killed_whole 2 ≡ 0)
 counted_whole = (refl, refl)
 
-pub counted_above : (events_of OomGroupKill small_zone group_killed_whole 0 ≡ 1) × (events_of OomKill small_zone group_killed_whole 0 ≡ 2)
+pub counted_above : (events_in OomGroupKill small_zone group_killed_whole 0 ≡ 1) × (events_in OomKill small_zone group_killed_whole 0 ≡ 2)
 unfolding in_subtree path_of group_at names_of with_oom_group
 counted_above = (refl, refl)
 
-pub whole_anew : (flag_given group_dies_whole 1 ≡ false) × (events_local_of OomGroupKill small_zone group_dies_whole 1 ≡ 0)
+pub whole_anew : (flag_given group_dies_whole 1 ≡ false) × (events_local_in OomGroupKill small_zone group_dies_whole 1 ≡ 0)
 whole_anew = (refl, refl)

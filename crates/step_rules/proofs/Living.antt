@@ -13,7 +13,7 @@ use Rattle.step_rules.specs.declared.step.Action.TheVariants.{Lock, Get, Put, Fr
 use Rattle.step_rules.specs.declared.step.Action.TheVariants.{PlaceBlock, Return}
 use Rattle.step_rules.specs.declared.step.Answer.{Answer}
 use Rattle.step_rules.specs.declared.step.Answer.TheVariants.{Illegal, Done, Held, Left, Last, Took, Stocked, Placed}
-use Rattle.step_rules.specs.Phases.{is_live, at_stage, stage_after_last, passed_back, collected, unit_of}
+use Rattle.step_rules.specs.Phases.{is_live_phase, at_stage, stage_after_last, passed_back, collected, unit_of}
 use Rattle.step_rules.specs.State.{State, at_boot, with_at, sum_to, is_cpu, live_references}
 use Rattle.step_rules.specs.Legal.{Allows, IsMade, get_answer}
 use Rattle.step_rules.specs.After.{after, placed_phase, with_block, unit_size, without_unit}
@@ -45,18 +45,18 @@ sum_others : (s : State) (k f n m : ℕ) → (m ≡ f → ⊥) →
 sum_others s k f n m ne = sum_same (s.zone.cpus + 1) _ _ (λ seat below. changed_others s.references k f n m ne seat)
 
 -- ---- live phases
-live_at : (phases : ℕ → Phase) (g : ℕ) (y : Phase) (f : ℕ) → (is_live y ≡ true → is_live (phases g) ≡ true) → is_live (with_at phases g y f) ≡ true →
-    is_live (phases f) ≡ true
-live_at phases g y f here live = at_each phases g y (λ m z. is_live z ≡ true → is_live (phases m) ≡ true) here (λ m ne e. e) f live
+live_at : (phases : ℕ → Phase) (g : ℕ) (y : Phase) (f : ℕ) → (is_live_phase y ≡ true → is_live_phase (phases g) ≡ true) → is_live_phase (with_at phases g y f) ≡ true →
+    is_live_phase (phases f) ≡ true
+live_at phases g y f here live = at_each phases g y (λ m z. is_live_phase z ≡ true → is_live_phase (phases m) ≡ true) here (λ m ne e. e) f live
 
-live_off : (phases : ℕ → Phase) (g : ℕ) (y : Phase) (f : ℕ) → is_live y ≡ false → is_live (with_at phases g y f) ≡ true →
-    (f ≡ g → ⊥) × (is_live (phases f) ≡ true)
+live_off : (phases : ℕ → Phase) (g : ℕ) (y : Phase) (f : ℕ) → is_live_phase y ≡ false → is_live_phase (with_at phases g y f) ≡ true →
+    (f ≡ g → ⊥) × (is_live_phase (phases f) ≡ true)
 live_off phases g y f dead live = (
-  λ same. true≢false (sym live ∙ ap (λ (m : ℕ). is_live (with_at phases g y m)) same ∙ ap is_live (at_same phases g y) ∙ dead),
+  λ same. true≢false (sym live ∙ ap (λ (m : ℕ). is_live_phase (with_at phases g y m)) same ∙ ap is_live_phase (at_same phases g y) ∙ dead),
   live_at phases g y f (λ e. absurd (true≢false (sym e ∙ dead))) live,
 )
 
-sent_live : (x : Phase) → is_live (passed_back x) ≡ true → is_live x ≡ true
+sent_live : (x : Phase) → is_live_phase (passed_back x) ≡ true → is_live_phase x ≡ true
 sent_live (Head u (FreshAt p)) e = absurd (false≢true e)
 sent_live (Head u (BackAt p)) e = absurd (false≢true e)
 sent_live (Head u stage) e = e
@@ -64,7 +64,7 @@ sent_live InZone e = e
 sent_live (Lent p way) e = absurd (false≢true e)
 sent_live (Tail g) e = e
 
-got_live : (x : Phase) → is_live (collected x) ≡ true → is_live x ≡ true
+got_live : (x : Phase) → is_live_phase (collected x) ≡ true → is_live_phase x ≡ true
 got_live (Head u (FreshPassing p)) e = absurd (false≢true e)
 got_live (Head u (BackPassing p)) e = absurd (false≢true e)
 got_live (Head u stage) e = e
@@ -72,51 +72,51 @@ got_live InZone e = e
 got_live (Lent p way) e = absurd (false≢true e)
 got_live (Tail g) e = e
 
-last_dead : (seat : ℕ) (x : Phase) → is_live (at_stage (stage_after_last seat) x) ≡ false
+last_dead : (seat : ℕ) (x : Phase) → is_live_phase (at_stage (stage_after_last seat) x) ≡ false
 last_dead seat (Head u stage) = by_seat (seat == 0)
   where
-    by_seat : (b : Bool) → is_live (Head u (cond b AwaitsReturn (BackAt seat))) ≡ false
+    by_seat : (b : Bool) → is_live_phase (Head u (cond b AwaitsReturn (BackAt seat))) ≡ false
     by_seat true = refl
     by_seat false = refl
 last_dead seat InZone = refl
 last_dead seat (Lent p way) = refl
 last_dead seat (Tail g) = refl
 
-frozen_dead : (x : Phase) → is_live (at_stage AwaitsReturn x) ≡ false
+frozen_dead : (x : Phase) → is_live_phase (at_stage AwaitsReturn x) ≡ false
 frozen_dead (Head u stage) = refl
 frozen_dead InZone = refl
 frozen_dead (Lent p way) = refl
 frozen_dead (Tail g) = refl
 
-hand_dead : (x : Phase) → InHand x → is_live x ≡ false
-hand_dead x (WasCollected u e) = ap is_live e
-hand_dead x (WasBare u e) = ap is_live e
-hand_dead x (WasEnded u e) = ap is_live e
+hand_dead : (x : Phase) → InHand x → is_live_phase x ≡ false
+hand_dead x (WasCollected u e) = ap is_live_phase e
+hand_dead x (WasBare u e) = ap is_live_phase e
+hand_dead x (WasEnded u e) = ap is_live_phase e
 
-placed_dead : (g : ℕ) (b : Block) (f : ℕ) → is_live (placed_phase g b f) ≡ false
+placed_dead : (g : ℕ) (b : Block) (f : ℕ) → is_live_phase (placed_phase g b f) ≡ false
 placed_dead g b f = by_head (f == b.at)
   where
-    by_head : (t : Bool) → is_live (cond t (Head (record { group = g; order = b.order }) Bare) (Tail g)) ≡ false
+    by_head : (t : Bool) → is_live_phase (cond t (Head (record { group = g; order = b.order }) Bare) (Tail g)) ≡ false
     by_head true = refl
     by_head false = refl
 
-block_live : (phases : ℕ → Phase) (g : ℕ) (b : Block) (f : ℕ) → is_live (with_block phases g b f) ≡ true → is_live (phases f) ≡ true
+block_live : (phases : ℕ → Phase) (g : ℕ) (b : Block) (f : ℕ) → is_live_phase (with_block phases g b f) ≡ true → is_live_phase (phases f) ≡ true
 block_live phases g b f live =
     elim (within_cases b.at (2 ^ b.order) f) [
-      | inl within ↦ absurd (true≢false (sym live ∙ ap is_live (in_block phases g b f within.0) ∙ placed_dead g b f))
-      | inr without ↦ sym (ap is_live (off_block phases g b f without.0)) ∙ live
+      | inl within ↦ absurd (true≢false (sym live ∙ ap is_live_phase (in_block phases g b f within.0) ∙ placed_dead g b f))
+      | inr without ↦ sym (ap is_live_phase (off_block phases g b f without.0)) ∙ live
     ]
 
-unit_live : (phases : ℕ → Phase) (g f : ℕ) → is_live (without_unit phases g f) ≡ true → is_live (phases f) ≡ true
+unit_live : (phases : ℕ → Phase) (g f : ℕ) → is_live_phase (without_unit phases g f) ≡ true → is_live_phase (phases f) ≡ true
 unit_live phases g f live =
     elim (within_cases g (unit_size (unit_of (phases g))) f) [
-      | inl within ↦ absurd (true≢false (sym live ∙ ap is_live (in_unit phases g f within.0)))
-      | inr without ↦ sym (ap is_live (off_unit phases g f without.0)) ∙ live
+      | inl within ↦ absurd (true≢false (sym live ∙ ap is_live_phase (in_unit phases g f within.0)))
+      | inr without ↦ sym (ap is_live_phase (off_unit phases g f without.0)) ∙ live
     ]
 
 -- ---- a live frame has 1 to 255 references
 abbrev IsReferred : ℕ → State → Type 0
-IsReferred f s = is_live (s.phases f) ≡ true → (1 ≤ live_references s f) × (live_references s f ≤ 255)
+IsReferred f s = is_live_phase (s.phases f) ≡ true → (1 ≤ live_references s f) × (live_references s f ≤ 255)
 
 pub held_range : (n : ℕ) → Held ≡ get_answer n → (1 ≤ n) × (n ≤ 254)
 held_range n h =
@@ -184,7 +184,7 @@ referred_made f s seat (Unfreeze g n) Done sound holds made = λ live.
           (first_given (live_references later g) (s.references 0 g) (live_references s g) n (sum_changed s 0 g (s.references 0 g + n) (zero_low s.zone.cpus))
           none (leb-true 1 n tests.3) (leb-true n 255 tests.4))
       | inr ne ↦ as_many (live_references later f) (live_references s f) (sum_others s 0 g (s.references 0 g + n) f ne)
-          (holds (sym (ap is_live (at_other s.phases g (at_stage Live (s.phases g)) f ne)) ∙ live))
+          (holds (sym (ap is_live_phase (at_other s.phases g (at_stage Live (s.phases g)) f ne)) ∙ live))
     ]
 referred_made f s seat (PassOut g p) Done sound holds made = λ live. holds (live_at s.phases g _ f (λ e. absurd (false≢true e)) live)
 referred_made f s seat (TakeIn g) Done sound holds made = λ live. holds (live_at s.phases g _ f (λ e. absurd (false≢true e)) live)

@@ -9,7 +9,7 @@ use Rattle.step_rules.specs.declared.phase.Stage.TheVariants.{FreshAt, FreshPass
 use Rattle.step_rules.specs.declared.phase.Stage.TheVariants.{AwaitsReturn}
 use Rattle.step_rules.specs.declared.phase.Phase.{Phase}
 use Rattle.step_rules.specs.declared.phase.Phase.TheVariants.{InZone, Lent, Head, Tail}
-use Rattle.step_rules.specs.Phases.{Kind, ListFrame, FreshFrame, BackFrame, is_live, is_free, has_as, unit_of, passed_back, collected, passes_out, passes_back}
+use Rattle.step_rules.specs.Phases.{Kind, ListFrame, FreshFrame, BackFrame, is_live_phase, is_free, has_as, unit_of, passed_back, collected, passes_out, passes_back}
 use Rattle.step_rules.specs.State.{Zone, State, with_at, one_if, frames_of, with_last, front_of}
 use Rattle.step_rules.specs.After.{with_phase, with_part, without_frame, paid, credited, consumed}
 use Rattle.step_rules.proofs.Lists.{times, length_without, length_last, front_stands, one_if_true}
@@ -21,7 +21,7 @@ use Rattle.step_rules.proofs.PhaseLemmas.{equal_test}
 
 -- what holds of a frame that was not live and is not live now
 dead_fits : (zone : Zone) (hold : Hold) (groups : ℕ → Option ℕ) (references : ℕ → ℕ) (f : ℕ) (x y : Phase) →
-    FrameFits zone hold groups references f x → is_live x ≡ false → f < zone.frames →
+    FrameFits zone hold groups references f x → is_live_phase x ≡ false → f < zone.frames →
     ((q : ℕ) → passes_out q y ≡ true → hold ≡ Visiting q) → ((q : ℕ) → passes_back q y ≡ true → hold ≡ Visiting q) → PhasePaid zone.cpus groups y →
     FrameFits zone hold groups references f y
 dead_fits zone hold groups references f x y old dead below out back paid = record {
@@ -81,7 +81,7 @@ booked_back s f p sound =
 
 -- a frame of the CPU's list, its fresh or its back frames is passed back
 sound_sent : (s : State) (f p : ℕ) (x y : Phase) → IsSound s → f < s.zone.frames → s.hold ≡ Visiting p → s.phases f ≡ x → passed_back x ≡ y →
-    is_live x ≡ false →
+    is_live_phase x ≡ false →
     ((q : ℕ) → passes_out q y ≡ true → q ≡ p) → ((q : ℕ) → passes_back q y ≡ true → q ≡ p) → PhasePaid s.zone.cpus (groups_in s.parts) y →
     ((q : ℕ) (kind : Kind) → has_as kind q y ≡ false) → ((q : ℕ) (kind : Kind) → (q ≡ p → ⊥) → has_as kind q x ≡ false) →
     ((u : ChargedUnit) → unit_of y ≡ Some u → unit_of x ≡ Some u) → ((g : ℕ) → x ≡ Tail g → ⊥) →
@@ -123,7 +123,7 @@ sound_sent_back s f p sound below visit has =
     (λ q e. absurd (false≢true e)) (λ q e. sym (equal_test p q e)) tt (nobody_has_back_passing is.0 p) (only_back is.0 p) (λ u e. e) (λ g e. cc)
 
 -- a frame that was passed back comes to the zone
-sound_got : (s : State) (f p : ℕ) (x y : Phase) → IsSound s → f < s.zone.frames → s.phases f ≡ x → collected x ≡ y → is_live x ≡ false →
+sound_got : (s : State) (f p : ℕ) (x y : Phase) → IsSound s → f < s.zone.frames → s.phases f ≡ x → collected x ≡ y → is_live_phase x ≡ false →
     ((q : ℕ) → passes_out q y ≡ false) → ((q : ℕ) → passes_back q y ≡ false) → PhasePaid s.zone.cpus (groups_in s.parts) y →
     ((q : ℕ) (kind : Kind) → has_as kind q y ≡ false) → ((q : ℕ) (kind : Kind) → has_as kind q x ≡ false) →
     ((u : ChargedUnit) → unit_of y ≡ Some u → unit_of x ≡ Some u) → ((g : ℕ) → x ≡ Tail g → ⊥) →

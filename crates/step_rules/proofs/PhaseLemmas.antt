@@ -13,7 +13,7 @@ use Rattle.step_rules.specs.declared.phase.Phase.{Phase}
 use Rattle.step_rules.specs.declared.phase.Phase.TheVariants.{InZone, Lent, Head, Tail}
 use Rattle.step_rules.specs.declared.step.Answer.{Answer}
 use Rattle.step_rules.specs.declared.step.Answer.TheVariants.{Held, Zero, Full}
-use Rattle.step_rules.specs.Phases.{Kind, ListFrame, FreshFrame, BackFrame, is_free, is_live, has_as, passes_out, passes_back, is_head_in_hand, is_returnable}
+use Rattle.step_rules.specs.Phases.{Kind, ListFrame, FreshFrame, BackFrame, is_free, is_live_phase, has_as, passes_out, passes_back, is_head_in_hand, is_returnable}
 use Rattle.step_rules.specs.State.{is_unheld, is_held_by, visits}
 use Rattle.step_rules.specs.Legal.{get_answer}
 
@@ -26,7 +26,7 @@ pub equal_test : (a b : ℕ) → (a == b) ≡ true → a ≡ b
 equal_test a b e = eqb-true a b e
 
 -- the frame is live
-pub live_is : (x : Phase) → is_live x ≡ true → (u : ChargedUnit) × (x ≡ Head u Live)
+pub live_is : (x : Phase) → is_live_phase x ≡ true → (u : ChargedUnit) × (x ≡ Head u Live)
 live_is (Head u Live) e = (u, refl)
 live_is x e = absurd (false≢true e)
 

@@ -13,7 +13,7 @@ use Rattle.step_rules.specs.declared.phase.Stage.{Stage}
 use Rattle.step_rules.specs.declared.phase.Stage.TheVariants.{FreshAt, Collected, Bare, AwaitsReturn}
 use Rattle.step_rules.specs.declared.phase.Phase.{Phase}
 use Rattle.step_rules.specs.declared.phase.Phase.TheVariants.{InZone, Lent, Head, Tail}
-use Rattle.step_rules.specs.Phases.{FreshFrame, is_live, is_free, has_as, unit_of, passes_out, passes_back}
+use Rattle.step_rules.specs.Phases.{FreshFrame, is_live_phase, is_free, has_as, unit_of, passes_out, passes_back}
 use Rattle.step_rules.specs.State.{Zone, Part, State, with_at, one_if, frames_of, free_in}
 use Rattle.step_rules.specs.Legal.{nothing_passes, rests, takes_fill, is_of_group}
 use Rattle.step_rules.specs.After.{is_within, placed_phase, with_block, unit_size, without_unit, filled, drained}
@@ -31,7 +31,7 @@ quiet_rests (Head u AwaitsReturn) e q = (refl, refl)
 quiet_rests (Tail g) e q = (refl, refl)
 quiet_rests x e q = absurd (false≢true e)
 
-quiet_dead : (x : Phase) → is_quiet x ≡ true → is_live x ≡ false
+quiet_dead : (x : Phase) → is_quiet x ≡ true → is_live_phase x ≡ false
 quiet_dead InZone e = refl
 quiet_dead (Head u Collected) e = refl
 quiet_dead (Head u Bare) e = refl

@@ -22,14 +22,14 @@ use Rattle.step_rules.specs.declared.step.Action.{Action}
 use Rattle.step_rules.specs.declared.step.Action.TheVariants.{Get, Put, Freeze, Unfreeze, Consume, Credit, Grant, PlaceBlock, Return}
 use Rattle.step_rules.specs.declared.step.Answer.{Answer}
 use Rattle.step_rules.specs.declared.step.Answer.TheVariants.{Done, Held, Last, Took, Stocked, Granted, Placed}
-use Rattle.step_rules.specs.Phases.{FreshFrame, is_free, is_live, has_as, unit_of, keeper_of, is_head_in_hand, is_returnable}
+use Rattle.step_rules.specs.Phases.{FreshFrame, is_free, is_live_phase, has_as, unit_of, keeper_of, is_head_in_hand, is_returnable}
 use Rattle.step_rules.specs.State.{Zone, Stock, State, one_if, sum_to, front_of, is_cpu, free_in, live_references}
 use Rattle.group_tree.specs.Room.{fits_limit}
 use Rattle.step_rules.specs.Usage.{is_in_subtree, usage_of, frames_kept, stock_in_subtree, pages_prepaid}
 use Rattle.step_rules.specs.Legal.{is_legal, Allows}
 use Rattle.step_rules.specs.After.{Run, state_of, IsLegalRun}
 use Rattle.step_rules.specs.Folds.{limit_given, was_killed, InHand}
-use Rattle.step_rules.specs.Units.{units_of}
+use Rattle.step_rules.specs.Units.{units_after_run}
 use Rattle.step_rules.specs.Places.{is_same_frame_place, place_in}
 use Rattle.step_rules.specs.Returns.{phase_awaits_return, is_killed_return_phase, times_in, IsAllPlaced, ReturnsOnce}
 use Rattle.step_rules.specs.Charges.{charged_in_subtree}
@@ -103,24 +103,24 @@ module _ (zone : Zone) (run : Run) (legal : IsLegalRun zone run) where
       ap (λ (k : ℕ). Some (record { group = k; order = head.1.order })) (head.3 ∙ some_group h g kept) in
       (head.0, head.1.order, sym (units_follow_the_run zone run legal head.0).unit ∙ head.2 ∙ same, record { from = omega arith; before = head.5 })
 
-  no_reference : (f : ℕ) → is_live ((state_of zone run).phases f) ≡ false → HasNoReference run f
+  no_reference : (f : ℕ) → is_live_phase ((state_of zone run).phases f) ≡ false → HasNoReference run f
   no_reference f dead = λ seat.
       let told = references_are_counted zone run legal seat f in
       let none = (live_are_referenced zone run legal f).none dead seat in
       omega arith
 
   -- a frame that no group keeps is in no use
-  unused : (f : ℕ) (x : Phase) → (state_of zone run).phases f ≡ x → keeper_of x ≡ None → is_live x ≡ false → phase_awaits_return x ≡ false → IsUnused run f
+  unused : (f : ℕ) (x : Phase) → (state_of zone run).phases f ≡ x → keeper_of x ≡ None → is_live_phase x ≡ false → phase_awaits_return x ≡ false → IsUnused run f
   unused f x was kept dead shut = (
     λ g in_it. none_some g (sym (ap keeper_of was ∙ kept) ∙ in_unit_kept f g in_it),
-    no_reference f (ap is_live was ∙ dead),
+    no_reference f (ap is_live_phase was ∙ dead),
     (every_frame_returns_once zone run legal f).awaited ∙ ap phase_awaits_return was ∙ shut,
   )
 
-  unit_told : (f : ℕ) (u : ChargedUnit) {stage : Stage} → (state_of zone run).phases f ≡ Head u stage → is_some ((units_of run).unit f) ≡ true
+  unit_told : (f : ℕ) (u : ChargedUnit) {stage : Stage} → (state_of zone run).phases f ≡ Head u stage → is_some ((units_after_run run).unit f) ≡ true
   unit_told f u was = sym (ap is_some (units_follow_the_run zone run legal f).unit) ∙ ap (λ y. is_some (unit_of y)) was
 
-  same_hand : (p : ℕ) → is_cpu zone p ≡ true → ((units_of run).hands p).list ≡ ((state_of zone run).parts p).list
+  same_hand : (p : ℕ) → is_cpu zone p ≡ true → ((units_after_run run).hands p).list ≡ ((state_of zone run).parts p).list
   same_hand p cpu = ap (λ (h : InHand). h.list) ((units_follow_the_run zone run legal 0).hands p) ∙ sym (parts_follow_the_run zone run legal p cpu).list
 
   is_of_zone : (p : ℕ) → is_cpu (state_of zone run).zone p ≡ true → is_cpu zone p ≡ true
@@ -306,9 +306,9 @@ returns_kept zone run legal seat (Unfreeze f n) Done ok =
     by_hand (in_hand ((state_of zone run).phases f) hand)
   where
     by_hand : Hand ((state_of zone run).phases f) → ReturnsNoFrameTwice run seat (Unfreeze f n) Done
-    by_hand (WasCollected u was) = (unit_told zone run legal f u was, no_reference zone run legal f (ap is_live was))
-    by_hand (WasBare u was) = (unit_told zone run legal f u was, no_reference zone run legal f (ap is_live was))
-    by_hand (WasEnded u was) = (unit_told zone run legal f u was, no_reference zone run legal f (ap is_live was))
+    by_hand (WasCollected u was) = (unit_told zone run legal f u was, no_reference zone run legal f (ap is_live_phase was))
+    by_hand (WasBare u was) = (unit_told zone run legal f u was, no_reference zone run legal f (ap is_live_phase was))
+    by_hand (WasEnded u was) = (unit_told zone run legal f u was, no_reference zone run legal f (ap is_live_phase was))
 returns_kept zone run legal seat (Return f) Done ok =
     let s = state_of zone run in
     let may : is_returnable s.killed (s.phases f) ≡ true = (return_tests (state_of zone run) seat f ok.legal).2 in
@@ -319,12 +319,12 @@ returns_kept zone run legal seat (Return f) Done ok =
     came_back back may (AsEnded u was) = (
       inl (back.awaited ∙ ap phase_awaits_return was),
       unit_told zone run legal f u was,
-      no_reference zone run legal f (ap is_live was),
+      no_reference zone run legal f (ap is_live_phase was),
     )
     came_back back may (AsKilled u was killed) = (
       inr (back.killed_return seat may ∙ ap (is_killed_return_phase (state_of zone run).killed) was ∙ killed),
       unit_told zone run legal f u was,
-      no_reference zone run legal f (ap is_live was),
+      no_reference zone run legal f (ap is_live_phase was),
     )
 returns_kept zone run legal seat (Credit f) Stocked ok =
     let s = state_of zone run in
@@ -334,7 +334,7 @@ returns_kept zone run legal seat (Credit f) Stocked ok =
       ap (λ (h : InHand). times_in f h.fresh) ((units_follow_the_run zone run legal f).hands seat)
           ∙ ap (times_in f) (sym (parts_follow_the_run zone run legal seat (is_of_zone zone run legal seat cpu)).fresh)
           ∙ (parts_are_booked zone run legal seat).fresh f ∙ ap one_if fresh,
-      no_reference zone run legal f (ap is_live is.1),
+      no_reference zone run legal f (ap is_live_phase is.1),
     )
 returns_kept zone run legal seat (Consume g) Took ok =
     let s = state_of zone run in

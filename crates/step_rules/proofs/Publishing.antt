@@ -12,7 +12,7 @@ use Rattle.step_rules.specs.declared.step.Action.TheVariants.{Lock, Put, Freeze,
 use Rattle.step_rules.specs.declared.step.Action.TheVariants.{Credit, PlaceBlock, Publish, Return}
 use Rattle.step_rules.specs.declared.step.Answer.{Answer}
 use Rattle.step_rules.specs.declared.step.Answer.TheVariants.{Illegal, Done, Last, Took, Stocked, Placed}
-use Rattle.step_rules.specs.Phases.{FreshFrame, has_as, passes_out, is_free, is_head, is_live, is_returnable, at_stage, stage_after_last}
+use Rattle.step_rules.specs.Phases.{FreshFrame, has_as, passes_out, is_free, is_head, is_live_phase, is_returnable, at_stage, stage_after_last}
 use Rattle.step_rules.specs.Phases.{passed_back, collected, unit_of}
 use Rattle.step_rules.specs.State.{State, with_at, front_of}
 use Rattle.step_rules.specs.Legal.{IsMade}
@@ -31,7 +31,7 @@ use Rattle.step_rules.proofs.Telling.{told_run}
 
 -- the frame has references, or an end of it is open
 abbrev is_used : Phase → Bool
-is_used x = is_live x || phase_awaits_return x
+is_used x = is_live_phase x || phase_awaits_return x
 
 used_head : (x : Phase) → is_used x ≡ true → is_head x ≡ true
 used_head (Head u stage) e = refl
@@ -142,7 +142,7 @@ kept_made f s x seat (Publish g) Done sound kept made =
     let some : nat_le 1 (s.references 0 g) ≡ true = (publish_tests s seat g legal).3 in
     let live = live_from_one s 0 g sound (leb-true 1 (s.references 0 g) some) in
     elim (cases_eq f g) [
-      | inl same ↦ λ e. ap (λ (m : ℕ). is_used (s.phases m)) same ∙ or_left (is_live (s.phases g)) (phase_awaits_return (s.phases g)) live
+      | inl same ↦ λ e. ap (λ (m : ℕ). is_used (s.phases m)) same ∙ or_left (is_live_phase (s.phases g)) (phase_awaits_return (s.phases g)) live
       | inr ne ↦ λ e. kept (sym (ap (λ c. if c then true else x) (ne_eqb f g ne)) ∙ e)
     ]
 kept_made f s x seat (Return g) Done sound kept made =

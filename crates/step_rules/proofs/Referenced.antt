@@ -6,7 +6,7 @@ use Rattle.step_rules.specs.declared.step.Action.{Action}
 use Rattle.step_rules.specs.declared.step.Action.TheVariants.{Get, Put, Freeze}
 use Rattle.step_rules.specs.declared.step.Answer.{Answer}
 use Rattle.step_rules.specs.declared.step.Answer.TheVariants.{Done, Held, Zero, Full, Left, Last}
-use Rattle.step_rules.specs.Phases.{is_live, unit_of}
+use Rattle.step_rules.specs.Phases.{is_live_phase, unit_of}
 use Rattle.step_rules.specs.State.{Zone, State, sum_to, is_cpu, live_references}
 use Rattle.step_rules.specs.Legal.{Allows, get_answer}
 use Rattle.step_rules.specs.After.{Run, after, state_of, IsLegalRun}
@@ -73,7 +73,7 @@ at_most_255 : (zone : Zone) (run : Run) → IsLegalRun zone run → (f : ℕ) �
 at_most_255 zone run legal f =
     let s = state_of zone run in
     let told = live_are_referenced zone run legal f in
-    elim (cases_Bool (is_live (s.phases f))) [
+    elim (cases_Bool (is_live_phase (s.phases f))) [
       | inl live ↦ (told.some live).1
       | inr dead ↦ let none = sum_none (s.zone.cpus + 1) (λ seat. s.references seat f) (λ seat below. told.none dead seat) in omega arith
     ]

@@ -6,7 +6,7 @@ use Rattle.step_rules.specs.declared.phase.ChargedUnit.{ChargedUnit}
 use Rattle.step_rules.specs.declared.phase.Stage.TheVariants.{Live, BackAt, AwaitsReturn}
 use Rattle.step_rules.specs.declared.phase.Phase.{Phase}
 use Rattle.step_rules.specs.declared.phase.Phase.TheVariants.{Head, Tail}
-use Rattle.step_rules.specs.Phases.{Kind, is_live, has_as, unit_of, at_stage, is_head_in_hand}
+use Rattle.step_rules.specs.Phases.{Kind, is_live_phase, has_as, unit_of, at_stage, is_head_in_hand}
 use Rattle.step_rules.specs.State.{Zone, State, with_at, live_references, frames_of}
 use Rattle.step_rules.specs.After.{with_references, with_phase, with_back, after_last}
 use Rattle.step_rules.proofs.Basics.{at_same, at_other, at_each}
@@ -32,17 +32,17 @@ pub changed_here : (references : Referring) (seat f n : ℕ) → changed referen
 changed_here references seat f n = ap (λ (r : ℕ → ℕ). r f) (at_same references seat (with_at (references seat) f n)) ∙ at_same (references seat) f n
 
 -- where there is a reference the frame is live
-pub live_from_references : (s : State) (f : ℕ) → IsSound s → 1 ≤ live_references s f → is_live (s.phases f) ≡ true
+pub live_from_references : (s : State) (f : ℕ) → IsSound s → 1 ≤ live_references s f → is_live_phase (s.phases f) ≡ true
 live_from_references s f sound some =
-    elim (cases_Bool (is_live (s.phases f))) [
+    elim (cases_Bool (is_live_phase (s.phases f))) [
       | inl live ↦ live
       | inr dead ↦ absurd (let a =
           sum_none (s.zone.cpus + 1) (λ seat. s.references seat f) (λ seat below. (sound.frames f).unreferred dead seat) in omega arith)
     ]
 
-pub live_from_one : (s : State) (seat f : ℕ) → IsSound s → 1 ≤ s.references seat f → is_live (s.phases f) ≡ true
+pub live_from_one : (s : State) (seat f : ℕ) → IsSound s → 1 ≤ s.references seat f → is_live_phase (s.phases f) ≡ true
 live_from_one s seat f sound some =
-    elim (cases_Bool (is_live (s.phases f))) [
+    elim (cases_Bool (is_live_phase (s.phases f))) [
       | inl live ↦ live
       | inr dead ↦ absurd (let a = (sound.frames f).unreferred dead seat in omega arith)
     ]
@@ -56,7 +56,7 @@ seat_there s seat f sound some =
     ]
 
 -- a live frame keeps what holds under other references of a seat that is there
-live_fits : (s : State) (seat f n : ℕ) → IsSound s → is_live (s.phases f) ≡ true → seat ≤ s.zone.cpus →
+live_fits : (s : State) (seat f n : ℕ) → IsSound s → is_live_phase (s.phases f) ≡ true → seat ≤ s.zone.cpus →
     FrameFits s.zone s.hold (groups_in s.parts) (λ q. changed s.references seat f n q f) f (s.phases f)
 live_fits s seat f n sound live there =
     let old = sound.frames f in
@@ -70,7 +70,7 @@ live_fits s seat f n sound live there =
     }
 
 -- a reference more or less on a frame that stays live
-pub sound_referred : (s : State) (seat f n : ℕ) → IsSound s → is_live (s.phases f) ≡ true → seat ≤ s.zone.cpus → IsSound (with_references s seat f n)
+pub sound_referred : (s : State) (seat f n : ℕ) → IsSound s → is_live_phase (s.phases f) ≡ true → seat ≤ s.zone.cpus → IsSound (with_references s seat f n)
 sound_referred s seat f n sound live there =
     let is = live_is (s.phases f) live in
     sound_references s.zone s.hold s.phases s.references (changed s.references seat f n) s.parts f sound (record {
@@ -80,7 +80,7 @@ sound_referred s seat f n sound live there =
       lists = λ kind. Stays refl refl;
       elsewhere = λ q kind ne. refl;
       unit = λ u e. inr e;
-      no_tail = λ g e. absurd (true≢false (sym live ∙ ap is_live e));
+      no_tail = λ g e. absurd (true≢false (sym live ∙ ap is_live_phase e));
       booked = sound.booked 0;
     })
 

@@ -25,7 +25,7 @@ use Rattle.step_rules.specs.State.{Zone, State, at_boot, with_at, one_if, front_
 use Rattle.step_rules.specs.Legal.{is_legal, IsAnswer, IsMade, Allows}
 use Rattle.step_rules.specs.After.{Run, after, state_of, IsLegalRun, is_within, placed_phase, with_block, unit_size, without_unit, consumed}
 use Rattle.step_rules.specs.Folds.{was_killed}
-use Rattle.step_rules.specs.Units.{units_of, fresh_group}
+use Rattle.step_rules.specs.Units.{units_after_run, fresh_group}
 use Rattle.step_rules.specs.Returns.{phase_awaits_return, is_killed_return_stage, is_killed_return_phase}
 use Rattle.step_rules.specs.Returns.{is_killed_return, is_killed_group, awaits_return_after, awaits_return, uses_ended}
 use Rattle.step_rules.specs.Returns.{uses_closed, counted_with_state}
@@ -430,7 +430,7 @@ pub killed_return_is_told : (zone : Zone) (run : Run) → IsLegalRun zone run �
     is_killed_return run f ≡ is_killed_return_phase (state_of zone run).killed ((state_of zone run).phases f)
 killed_return_is_told zone run legal f may =
     let s = state_of zone run in
-    killed_group_same (was_killed run) s.killed (λ g. sym (groups_follow_the_run zone run legal g).killed) ((units_of run).fresh_for f)
+    killed_group_same (was_killed run) s.killed (λ g. sym (groups_follow_the_run zone run legal g).killed) ((units_after_run run).fresh_for f)
     ∙ ap (is_killed_group s.killed) (sym (units_follow_the_run zone run legal f).fresh)
     ∙ fresh_killed_return s.killed (s.phases f) (returning_is s.killed (s.phases f) may)
 

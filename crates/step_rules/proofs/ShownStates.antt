@@ -23,7 +23,7 @@ use Rattle.step_rules.specs.Examples.{small_zone, life_of_a_frame}
 use Rattle.step_rules.specs.Breaches.{kept_run, shown_rightly, at_list, IsShownWrongly, seen_nowhere, seen_twice, listed_twice, listed_by_nobody}
 use Rattle.step_rules.specs.Breaches.{kept_in_no_unit, seen_beyond, prepaid_for_nobody, prepaid_left_out, no_group_seen}
 use Rattle.step_rules.specs.Breaches.{IsWrongAfter, shown_free, parted_areas, prepaid_by_nobody, prepaid_for_no_group, granted_and_lost, lost_in_number}
-use Rattle.step_rules.specs.Units.{units_of}
+use Rattle.step_rules.specs.Units.{units_after_run}
 use Rattle.step_rules.specs.Returns.{times_in}
 use Rattle.step_rules.proofs.SmallRuns.{life_is_legal}
 use Rattle.step_rules.proofs.LentTo.{beginnings_are_legal}
@@ -178,10 +178,10 @@ by_nobody_is_wrong promise = by_place (promise.frames 1 (omega arith)).place (pr
     by_place (Charged g) once = none_some g once.1
 
 -- the only unit of the run is that of frame 0, of one frame
-second_in_no_unit : (h k : ℕ) → (units_of kept_run).unit h ≡ Some (record { group = 0; order = k }) → Covers (record { at = h; order = k }) 1 → ⊥
+second_in_no_unit : (h k : ℕ) → (units_after_run kept_run).unit h ≡ Some (record { group = 0; order = k }) → Covers (record { at = h; order = k }) 1 → ⊥
 second_in_no_unit h k is covers = elim (cases_eq 0 h) [
   | inl e ↦
-      let size = one_frame (subst (λ (m : ℕ). (units_of kept_run).unit m ≡ Some (record { group = 0; order = k })) (sym e) is) in
+      let size = one_frame (subst (λ (m : ℕ). (units_after_run kept_run).unit m ≡ Some (record { group = 0; order = k })) (sym e) is) in
       let high = covers.before in
       omega (arith, e, size, high)
   | inr ne ↦ none_some _ (sym (no_unit ne) ∙ is)
@@ -194,7 +194,7 @@ second_in_no_unit h k is covers = elim (cases_eq 0 h) [
     one_frame : ◌≡◌ {A = Option ChargedUnit} (Some (record { group = 0; order = 0 })) (Some (record { group = 0; order = k })) → 1 ≡ 2 ^ k
     one_frame same = ap (λ (n : ℕ). 2 ^ n) (ap order_in same)
 
-    no_unit : (0 ≡ h → ⊥) → (units_of kept_run).unit h ≡ None
+    no_unit : (0 ≡ h → ⊥) → (units_after_run kept_run).unit h ≡ None
     no_unit ne = rw (ne_eqb 0 h ne) refl
 
 pub in_no_unit_is_wrong : IsShownWrongly kept_in_no_unit

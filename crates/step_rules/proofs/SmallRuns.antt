@@ -9,9 +9,9 @@ use Rattle.step_rules.specs.State.{State, at_boot, sum_to, all_to}
 use Rattle.group_tree.specs.Room.{PathHasRoom, has_room}
 use Rattle.step_rules.specs.Legal.{Allows}
 use Rattle.step_rules.specs.After.{Run, IsLegalRun}
-use Rattle.step_rules.specs.Examples.{small_zone, life_of_a_frame, credited_twice, returned_twice, unlocked_too_soon, returned_when_killed, at_the_borders, in_line, noted}
+use Rattle.step_rules.specs.Examples.{small_zone, life_of_a_frame, credited_twice, returned_twice, unlocked_too_soon, returned_when_killed, at_the_borders, in_line, noted_events}
 use Rattle.group_tree.specs.declared.event.EventKey.TheVariants.{Max, Oom, OomKill}
-use Rattle.step_rules.specs.Events.{events_of, events_local_of}
+use Rattle.step_rules.specs.Events.{events_in, events_local_in}
 use Rattle.step_rules.proofs.Runs.{next, IsLegalFrom}
 
 -- each step is allowed after those before it
@@ -324,19 +324,19 @@ line_is_kept = legal_each (at_boot small_zone) in_line (
   ),
 )
 
-pub noted_is_legal : IsLegalRun small_zone noted
+pub noted_is_legal : IsLegalRun small_zone noted_events
 unfolding has_group group_at sum_to all_to
-noted_is_legal = legal_each (at_boot small_zone) noted
+noted_is_legal = legal_each (at_boot small_zone) noted_events
     (record { legal = refl; answered = tt; counted = tt }, (record { legal = refl; answered = tt; counted = tt }, (record { legal = refl; answered = tt; counted = tt }, (record { legal = refl; answered = tt; counted = tt }, (record { legal = refl; answered = tt; counted = tt }, tt)))))
 
-pub max_counts : (events_of Max small_zone noted 0 ≡ 1) × (events_local_of Max small_zone noted 0 ≡ 1)
+pub max_counts : (events_in Max small_zone noted_events 0 ≡ 1) × (events_local_in Max small_zone noted_events 0 ≡ 1)
 unfolding in_subtree path_of group_at names_of
 max_counts = (refl, refl)
 
-pub oom_counts : (events_of Oom small_zone noted 0 ≡ 2) × (events_local_of Oom small_zone noted 0 ≡ 2)
+pub oom_counts : (events_in Oom small_zone noted_events 0 ≡ 2) × (events_local_in Oom small_zone noted_events 0 ≡ 2)
 unfolding in_subtree path_of group_at names_of
 oom_counts = (refl, refl)
 
-pub oom_kill_counts : (events_of OomKill small_zone noted 0 ≡ 1) × (events_local_of OomKill small_zone noted 0 ≡ 1)
+pub oom_kill_counts : (events_in OomKill small_zone noted_events 0 ≡ 1) × (events_local_in OomKill small_zone noted_events 0 ≡ 1)
 unfolding in_subtree path_of group_at names_of
 oom_kill_counts = (refl, refl)

@@ -8,7 +8,7 @@ use Rattle.step_rules.specs.declared.phase.Stage.{Stage}
 use Rattle.step_rules.specs.declared.phase.Stage.TheVariants.{FreshAt}
 use Rattle.step_rules.specs.declared.phase.Phase.{Phase}
 use Rattle.step_rules.specs.declared.phase.Phase.TheVariants.{Head, Tail}
-use Rattle.step_rules.specs.Phases.{Kind, is_free, is_live, has_as, passes_out, passes_back, unit_of}
+use Rattle.step_rules.specs.Phases.{Kind, is_free, is_live_phase, has_as, passes_out, passes_back, unit_of}
 use Rattle.step_rules.specs.State.{Zone, Part, State, with_at, one_if, without, with_last, frames_of}
 use Rattle.step_rules.proofs.Basics.{at_other, at_each, at_itself}
 use Rattle.step_rules.proofs.Lists.{times, times_same, times_other, times_last, times_without, times_without_other}
@@ -33,7 +33,7 @@ PhasePaid cpus groups _ = Unit {0}
 pub record FrameFits (zone : Zone) (hold : Hold) (groups : ℕ → Option ℕ) (references : ℕ → ℕ) (f : ℕ) (x : Phase) : Type 0 where
   pub out : (q : ℕ) → passes_out q x ≡ true → hold ≡ Visiting q
   pub returning : (q : ℕ) → passes_back q x ≡ true → hold ≡ Visiting q
-  pub unreferred : is_live x ≡ false → (seat : ℕ) → references seat ≡ 0
+  pub unreferred : is_live_phase x ≡ false → (seat : ℕ) → references seat ≡ 0
   pub seats : (seat : ℕ) → zone.cpus < seat → references seat ≡ 0
   pub paid : PhasePaid zone.cpus groups x
   pub inside : zone.frames ≤ f → is_free x ≡ true

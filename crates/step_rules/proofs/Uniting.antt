@@ -22,7 +22,7 @@ use Rattle.step_rules.specs.State.{Zone, State, at_boot, with_at, front_of, is_c
 use Rattle.step_rules.specs.Legal.{IsMade}
 use Rattle.step_rules.specs.After.{Run, IsLegalRun, after, state_of, placed_phase, with_block, unit_size, without_unit, consumed}
 use Rattle.step_rules.specs.Folds.{InHand, hand_after}
-use Rattle.step_rules.specs.Units.{Units, unit_after, fresh_after, units_after, no_units, units_of, fresh_group, AllUnitsFollowRun}
+use Rattle.step_rules.specs.Units.{Units, unit_after, fresh_after, units_after, no_units, units_after_run, fresh_group, AllUnitsFollowRun}
 use Rattle.step_rules.proofs.LegalTests.{collect_tests, consume_tests, freeze_tests, pass_out_tests, put_tests, return_tests}
 use Rattle.step_rules.proofs.LegalTests.{take_in_tests, unfreeze_tests}
 use Rattle.step_rules.proofs.Basics.{at_same, at_other, at_each}
@@ -230,7 +230,7 @@ hands_alone : (run : Run) (u : Units) (p : ℕ) →
 hands_alone [] u p = refl
 hands_alone (e ∷ run) u p = hands_alone run (units_after u e.0.seat e.0.action e.1) p
 
-pub units_in : (zone : Zone) (run : Run) → IsLegalRun zone run → HasUnits (state_of zone run) (units_of run)
+pub units_in : (zone : Zone) (run : Run) → IsLegalRun zone run → HasUnits (state_of zone run) (units_after_run run)
 units_in zone run legal = told_run units_after HasUnits units_still units_made zone no_units (units_boot zone) run legal
 
 pub units_follow_the_run : AllUnitsFollowRun

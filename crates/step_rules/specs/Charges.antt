@@ -9,7 +9,7 @@ use Rattle.step_rules.specs.declared.step.Action.TheVariants.{Grant, Ungrant, Re
 use Rattle.step_rules.specs.declared.step.Answer.{Answer}
 use Rattle.step_rules.specs.declared.step.Answer.TheVariants.{Done, Granted, Number}
 use Rattle.step_rules.specs.After.{Run}
-use Rattle.step_rules.specs.Units.{units_of}
+use Rattle.step_rules.specs.Units.{units_after_run}
 use Rattle.step_rules.specs.Returns.{counted_with_run}
 
 -- the groups after one more step
@@ -37,7 +37,7 @@ unit_pages test (Some unit) = if test unit.group then 2 ^ unit.order else 0
 -- the pages that a step after this run uncharges from them: those ungranted, and the frames of a unit that is returned
 abbrev pub charged_out : (ℕ → Bool) → Run → ℕ → Action → Answer → ℕ
 charged_out test run seat (Ungrant g n) Done = if test g then n else 0
-charged_out test run seat (Return f) Done = unit_pages test ((units_of run).unit f)
+charged_out test run seat (Return f) Done = unit_pages test ((units_after_run run).unit f)
 charged_out test run seat action answer = 0
 
 -- The pages charged to the group and those below it. Grants and returns of the whole run count by group numbers, in the

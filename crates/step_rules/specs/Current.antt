@@ -9,7 +9,7 @@ use Rattle.step_rules.specs.Usage.{is_in_subtree, frames_kept, pages_prepaid, pa
 use Rattle.step_rules.specs.After.{Run, state_of, IsLegalRun}
 use Rattle.step_rules.specs.Places.{places_of}
 use Rattle.step_rules.specs.Returns.{counted_with_state}
-use Rattle.step_rules.specs.Counts.{stock_in, stock_out, counted}
+use Rattle.step_rules.specs.Counts.{stock_gained, stock_lost, counted}
 use Rattle.step_rules.specs.Grants.{pending_in, pending_out}
 use Rattle.step_rules.specs.Folds.{last_fill}
 
@@ -33,9 +33,9 @@ over_groups zone run g of = sum_to most_groups (λ h. if in_subtree (state_of zo
 -- less those ungranted, filled and placed.
 pub record CurrentFollowsRun (zone : Zone) (run : Run) (g : ℕ) : Type 0 where
   pub kept : frames_kept (state_of zone run).groups (state_of zone run).phases zone.frames g ≡ frames_placed zone run g
-  pub prepaid : over_stocks zone run g (λ cpu. counted (stock_in cpu) run)
+  pub prepaid : over_stocks zone run g (λ cpu. counted (stock_gained cpu) run)
       ≡ pages_prepaid (state_of zone run).groups (state_of zone run).parts zone.cpus g
-      + over_stocks zone run g (λ cpu. counted (stock_out cpu) run)
+      + over_stocks zone run g (λ cpu. counted (stock_lost cpu) run)
   pub pending : over_groups zone run g (λ h. counted_with_state (pending_in h) zone run)
       ≡ pages_pending (state_of zone run).groups (state_of zone run).pending g
       + over_groups zone run g (λ h. counted_with_state (pending_out h) zone run)

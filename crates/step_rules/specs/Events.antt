@@ -17,12 +17,12 @@ use Rattle.step_rules.specs.After.{Run, after, state_of}
 use Rattle.step_rules.specs.Laws.{pushed}
 
 -- the event that a step notes, and the group at which it notes it
-abbrev pub note_of : Action → Answer → Option (EventKey × ℕ)
-note_of (action.NoteMax g) Done = Some (Max, g)
-note_of (action.NoteOom g) Done = Some (Oom, g)
-note_of (action.Kill g) Done = Some (OomKill, g)
-note_of (action.NoteGroupKill g) Done = Some (OomGroupKill, g)
-note_of step answer = None
+abbrev pub event_of : Action → Answer → Option (EventKey × ℕ)
+event_of (action.NoteMax g) Done = Some (Max, g)
+event_of (action.NoteOom g) Done = Some (Oom, g)
+event_of (action.Kill g) Done = Some (OomKill, g)
+event_of (action.NoteGroupKill g) Done = Some (OomGroupKill, g)
+event_of step answer = None
 
 -- the group of a note, if there is one and it is of this kind
 abbrev pub group_noted : EventKey → Option (EventKey × ℕ) → Option ℕ
@@ -31,7 +31,7 @@ group_noted key (Some note) = if is_same_key key note.0 then Some note.1 else No
 
 -- the group at which a step notes an event of this kind
 abbrev pub noted_at : EventKey → Action → Answer → Option ℕ
-noted_at key step answer = group_noted key (note_of step answer)
+noted_at key step answer = group_noted key (event_of step answer)
 
 -- a step notes an event of this kind at a group of g's subtree
 abbrev pub is_noted_in_subtree : EventKey → ℕ → List Group → Action → Answer → Bool
@@ -60,12 +60,12 @@ passed_since_made test g zone run = (fold (with_passed test g) (at_boot zone, 0)
 
 -- memory.events: how many events of this kind were noted at the group and its descendants since it was made; a count
 -- stays at 2^64 - 1
-abbrev pub events_of : EventKey → Zone → Run → ℕ → ℕ
-events_of key zone run g = min (passed_since_made (is_noted_in_subtree key g) g zone run) max_count
+abbrev pub events_in : EventKey → Zone → Run → ℕ → ℕ
+events_in key zone run g = min (passed_since_made (is_noted_in_subtree key g) g zone run) max_count
 
 -- memory.events.local: how many events of this kind were noted at the group itself since it was made
-abbrev pub events_local_of : EventKey → Zone → Run → ℕ → ℕ
-events_local_of key zone run g = min (passed_since_made (is_noted_at key g) g zone run) max_count
+abbrev pub events_local_in : EventKey → Zone → Run → ℕ → ℕ
+events_local_in key zone run g = min (passed_since_made (is_noted_at key g) g zone run) max_count
 
 -- a count of g after one more step: 0 if the step makes g, one more if it notes an event
 abbrev pub count_after : (List Group → Action → Answer → Bool) → ℕ → List Group → Action → Answer → ℕ → ℕ
@@ -75,15 +75,15 @@ count_after test g groups step answer count =
 -- how one more step changes both counts of each kind, for each group
 pub record EventsFollow (zone : Zone) (run : Run) (step : Step) (answer : Answer) (key : EventKey)
     (g : ℕ) : Type 0 where
-  pub below : events_of key zone (pushed run step answer) g
+  pub below : events_in key zone (pushed run step answer) g
       ≡ count_after (is_noted_in_subtree key g) g (state_of zone run).groups step.action answer
-      (events_of key zone run g)
-  pub local : events_local_of key zone (pushed run step answer) g
-      ≡ count_after (is_noted_at key g) g (state_of zone run).groups step.action answer (events_local_of key zone run g)
+      (events_in key zone run g)
+  pub local : events_local_in key zone (pushed run step answer) g
+      ≡ count_after (is_noted_at key g) g (state_of zone run).groups step.action answer (events_local_in key zone run g)
 
 -- at boot each count is 0, and each step changes the counts as `count_after` says
 pub record EventsAreCounted : Type 0 where
   pub boot : (zone : Zone) (key : EventKey) (g : ℕ)
-      → (events_of key zone [] g ≡ 0) × (events_local_of key zone [] g ≡ 0)
+      → (events_in key zone [] g ≡ 0) × (events_local_in key zone [] g ≡ 0)
   pub step : (zone : Zone) (run : Run) (step : Step) (answer : Answer) (key : EventKey) (g : ℕ)
       → EventsFollow zone run step answer key g

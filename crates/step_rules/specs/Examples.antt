@@ -99,8 +99,8 @@ in_line =
     ∷ made 0 (Publish 0) Done ∷ made 0 (Put 0) (Left 1) ∷ made 0 (Publish 0) Illegal ∷ []
 
 -- three kinds of events are noted at the root, once, twice and once
-abbrev pub noted : Run
-noted = made 1 Lock Done ∷ made 0 (NoteMax 0) Done ∷ made 0 (NoteOom 0) Done ∷ made 0 (NoteOom 0) Done
+abbrev pub noted_events : Run
+noted_events = made 1 Lock Done ∷ made 0 (NoteMax 0) Done ∷ made 0 (NoteOom 0) Done ∷ made 0 (NoteOom 0) Done
     ∷ made 0 (Kill 0) Done ∷ []
 
 -- Two groups are made, one below the other, and the upper one gets a limit of one page. A grant of two pages to the

@@ -4,7 +4,7 @@ use Rattle.step_rules.specs.declared.step.Action.{Action}
 use Rattle.step_rules.specs.declared.step.Action.TheVariants.{Publish, Return}
 use Rattle.step_rules.specs.declared.step.Answer.{Answer}
 use Rattle.step_rules.specs.declared.step.Answer.TheVariants.{Done}
-use Rattle.step_rules.specs.Phases.{is_head, is_live}
+use Rattle.step_rules.specs.Phases.{is_head, is_live_phase}
 use Rattle.step_rules.specs.State.{Zone}
 use Rattle.step_rules.specs.After.{Run, state_of, IsLegalRun}
 use Rattle.step_rules.specs.Returns.{phase_awaits_return}
@@ -23,7 +23,7 @@ is_published run f = fold (λ old e. published_after f old e.0.action e.1) false
 pub record PublishedIsKept (zone : Zone) (run : Run) (f : ℕ) : Type 0 where
   pub head : is_published run f ≡ true → is_head ((state_of zone run).phases f) ≡ true
   pub used_or_ended : is_published run f ≡ true
-      → (is_live ((state_of zone run).phases f) || phase_awaits_return ((state_of zone run).phases f)) ≡ true
+      → (is_live_phase ((state_of zone run).phases f) || phase_awaits_return ((state_of zone run).phases f)) ≡ true
 
 -- after every legal run each published frame heads a charged unit, live or with an open end
 abbrev pub AllPublishedIsKept : Type 0

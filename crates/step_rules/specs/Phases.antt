@@ -42,9 +42,9 @@ is_live_stage Live = true
 is_live_stage _ = false
 
 -- the frame has references
-abbrev pub is_live : Phase → Bool
-is_live (Head unit stage) = is_live_stage stage
-is_live _ = false
+abbrev pub is_live_phase : Phase → Bool
+is_live_phase (Head unit stage) = is_live_stage stage
+is_live_phase _ = false
 
 -- the CPU has the unit's head as a frame of this kind
 abbrev pub has_stage : Kind → ℕ → Stage → Bool

@@ -24,8 +24,8 @@ use Rattle.group_tree.specs.Room.{fits_limit}
 use Rattle.step_rules.specs.Usage.{is_in_subtree, usage_of}
 use Rattle.step_rules.specs.After.{Run, state_of, IsLegalRun}
 use Rattle.step_rules.specs.Folds.{limit_given, was_killed}
-use Rattle.step_rules.specs.Units.{units_of}
-use Rattle.step_rules.specs.Counts.{references_in, references_out, counted}
+use Rattle.step_rules.specs.Units.{units_after_run}
+use Rattle.step_rules.specs.Counts.{references_gained, references_lost, counted}
 use Rattle.step_rules.specs.Returns.{awaits_return, is_killed_return, times_in}
 use Rattle.step_rules.specs.Charges.{groups_of, charged_in_subtree}
 use Rattle.step_rules.specs.References.{CountsReferences}
@@ -67,7 +67,7 @@ HasOnce zone shown f (Charged g) = (has_group shown.groups g ≡ true) × (shown
 -- by the run a unit of this group has the frame: that of a head h, of 2^k frames
 abbrev pub IsInUnit : Run → ℕ → ℕ → Type 0
 IsInUnit run g f =
-    (h : ℕ) × (k : ℕ) × ((units_of run).unit h ≡ Some (record { group = g; order = k }))
+    (h : ℕ) × (k : ℕ) × ((units_after_run run).unit h ≡ Some (record { group = g; order = k }))
     × Covers (record { at = h; order = k }) f
 
 -- The frame is shown once at one place, and at no other. A group keeps it exactly if a unit of that group has it.
@@ -105,7 +105,7 @@ KeepsLimits run action answer = Unit {0}
 -- ---- no frame is returned twice for one use
 -- no seat has a reference on the frame: each gave up as many as it was given
 abbrev pub HasNoReference : Run → ℕ → Type 0
-HasNoReference run f = (seat : ℕ) → counted (references_in seat f) run ≡ counted (references_out seat f) run
+HasNoReference run f = (seat : ℕ) → counted (references_gained seat f) run ≡ counted (references_lost seat f) run
 
 -- the frame is in no use: no unit has it, no seat refers to it, and no return of it is due after a last reference
 abbrev pub IsUnused : Run → ℕ → Type 0
@@ -120,13 +120,13 @@ abbrev pub ReturnsNoFrameTwice : Run → ℕ → Action → Answer → Type 0
 ReturnsNoFrameTwice run seat (Get f) Held = awaits_return run f ≡ false
 ReturnsNoFrameTwice run seat (Put f) Last = awaits_return run f ≡ false
 ReturnsNoFrameTwice run seat (Freeze f n) Done = awaits_return run f ≡ false
-ReturnsNoFrameTwice run seat (Unfreeze f n) Done = (is_some ((units_of run).unit f) ≡ true) × HasNoReference run f
+ReturnsNoFrameTwice run seat (Unfreeze f n) Done = (is_some ((units_after_run run).unit f) ≡ true) × HasNoReference run f
 ReturnsNoFrameTwice run seat (Return f) Done = ((awaits_return run f ≡ true) ⊎ (is_killed_return run f ≡ true))
-    × (is_some ((units_of run).unit f) ≡ true) × HasNoReference run f
-ReturnsNoFrameTwice run seat (Credit f) Stocked = (times_in f ((units_of run).hands seat).fresh ≡ 1)
+    × (is_some ((units_after_run run).unit f) ≡ true) × HasNoReference run f
+ReturnsNoFrameTwice run seat (Credit f) Stocked = (times_in f ((units_after_run run).hands seat).fresh ≡ 1)
     × HasNoReference run f
 ReturnsNoFrameTwice run seat (Consume g) Took =
-    (1 ≤ length ((units_of run).hands seat).list) × IsUnused run (front_of ((units_of run).hands seat).list)
+    (1 ≤ length ((units_after_run run).hands seat).list) × IsUnused run (front_of ((units_after_run run).hands seat).list)
 ReturnsNoFrameTwice run seat (PlaceBlock g k) (Placed b) = (b.order ≡ k) × ((f : ℕ) → Covers b f → IsUnused run f)
 ReturnsNoFrameTwice run seat action answer = Unit {0}
 

@@ -6,12 +6,12 @@ use Rattle.step_rules.specs.declared.step.Answer.{Answer}
 use Rattle.step_rules.specs.declared.step.Answer.TheVariants.{Done, Held, Zero, Full, Left, Last}
 use Rattle.step_rules.specs.State.{Zone, sum_to}
 use Rattle.step_rules.specs.After.{Run}
-use Rattle.step_rules.specs.Units.{units_of}
-use Rattle.step_rules.specs.Counts.{references_in, references_out, counted}
+use Rattle.step_rules.specs.Units.{units_after_run}
+use Rattle.step_rules.specs.Counts.{references_gained, references_lost, counted}
 
 -- the references of the seat on the frame: those it was given, less those it gave up
 abbrev pub references_had : Run → ℕ → ℕ → ℕ
-references_had run seat f = counted (references_in seat f) run - counted (references_out seat f) run
+references_had run seat f = counted (references_gained seat f) run - counted (references_lost seat f) run
 
 -- the references of all seats of the zone on the frame
 abbrev pub references_on : Zone → Run → ℕ → ℕ
@@ -22,7 +22,7 @@ references_on zone run f = sum_to (zone.cpus + 1) (λ seat. references_had run s
 -- 255. A put is of a seat that has a reference: `Left n` leaves n, at least one, and Last leaves none. A freeze takes n
 -- references, at least one: all that seat 0 has, and it leaves none.
 abbrev pub CountsReferences : Zone → Run → Run → ℕ → Action → Answer → Type 0
-CountsReferences zone run next seat (Get f) Held = (is_some ((units_of run).unit f) ≡ true)
+CountsReferences zone run next seat (Get f) Held = (is_some ((units_after_run run).unit f) ≡ true)
     × (1 ≤ references_on zone run f) × (references_on zone run f < 255)
     × (references_on zone next f ≡ references_on zone run f + 1)
 CountsReferences zone run next seat (Get f) Zero = references_on zone run f ≡ 0

@@ -16,7 +16,7 @@ use Rattle.step_rules.specs.Usage.{frames_kept, pages_prepaid, usage_of}
 use Rattle.step_rules.specs.Legal.{is_legal, IsMade, no_frame_passes}
 use Rattle.step_rules.specs.After.{Run, after, state_of, IsLegalRun}
 use Rattle.step_rules.specs.Folds.{was_killed}
-use Rattle.step_rules.specs.Units.{units_of}
+use Rattle.step_rules.specs.Units.{units_after_run}
 use Rattle.step_rules.specs.Places.{is_same_frame_place, place_in}
 
 -- the stage of a unit whose last reference was dropped and that wasn't returned since
@@ -49,7 +49,7 @@ is_killed_group killed (Some g) = killed g
 
 -- a return of the frame is of a killed group's fresh frame
 abbrev pub is_killed_return : Run → ℕ → Bool
-is_killed_return run f = is_killed_group (was_killed run) ((units_of run).fresh_for f)
+is_killed_return run f = is_killed_group (was_killed run) ((units_after_run run).fresh_for f)
 
 -- Whether frame f awaits its return after one more step. It does from a last put or a freeze of all references on,
 -- until references are put on it again or it is returned.

@@ -57,8 +57,8 @@ no_units = record {
 }
 
 -- the units after a run
-abbrev pub units_of : Run → Units
-units_of run = fold (λ old e. units_after old e.0.seat e.0.action e.1) no_units run
+abbrev pub units_after_run : Run → Units
+units_after_run run = fold (λ old e. units_after old e.0.seat e.0.action e.1) no_units run
 
 -- the stage of a unit that a consume paid for and that had no reference
 abbrev pub is_fresh_stage : Stage → Bool
@@ -75,9 +75,9 @@ fresh_group _ = None
 -- the unit in the state is that of the run, and the frame is fresh in the state exactly if it is by the run, for the
 -- same group
 pub record UnitsFollowRun (zone : Zone) (run : Run) (f : ℕ) : Type 0 where
-  pub unit : unit_of ((state_of zone run).phases f) ≡ (units_of run).unit f
-  pub fresh : fresh_group ((state_of zone run).phases f) ≡ (units_of run).fresh_for f
-  pub hands : (cpu : ℕ) → (units_of run).hands cpu ≡ hand_of run cpu
+  pub unit : unit_of ((state_of zone run).phases f) ≡ (units_after_run run).unit f
+  pub fresh : fresh_group ((state_of zone run).phases f) ≡ (units_after_run run).fresh_for f
+  pub hands : (cpu : ℕ) → (units_after_run run).hands cpu ≡ hand_of run cpu
 
 -- after every legal run the units and the fresh frames are those of the run
 abbrev pub AllUnitsFollowRun : Type 0

@@ -3,7 +3,8 @@
 ghost use Rattle.std.specs.Prelude.{◌≡◌, ◌++◌, true, false, Some};
 ghost use Rattle.step_rules.specs.After.{IsLegalRun, state_of};
 ghost use Rattle.step_rules.specs.Examples.{small_zone, life_of_a_frame, credited_twice, returned_twice};
-ghost use Rattle.step_rules.specs.Examples.{unlocked_too_soon, returned_when_killed, at_the_borders, in_line, noted};
+ghost use Rattle.step_rules.specs.Examples.{unlocked_too_soon, returned_when_killed, at_the_borders, in_line};
+ghost use Rattle.step_rules.specs.Examples.{noted_events};
 ghost use Rattle.step_rules.specs.Examples.{group_comes_and_goes, killed_group_ends, group_killed_whole};
 ghost use Rattle.step_rules.specs.Examples.{group_dies_whole, stock_without_a_page, first_visit, hand_over, last_put};
 ghost use Rattle.step_rules.specs.Examples.{lock_taken, vain_visit, with_pins, with_back_frames, with_fresh_frames};
@@ -17,7 +18,7 @@ ghost use Rattle.step_rules.specs.Kept.{is_published};
 ghost use Rattle.step_rules.specs.Lent.{lent_to};
 ghost use Rattle.step_rules.specs.declared.step.Action.TheVariants.{Get, Consume};
 ghost use Rattle.group_tree.specs.declared.event.EventKey.TheVariants.{Max, Oom, OomKill, OomGroupKill};
-ghost use Rattle.step_rules.specs.Events.{events_of, events_local_of};
+ghost use Rattle.step_rules.specs.Events.{events_in, events_local_in};
 ghost use Rattle.step_rules.specs.declared.phase.Phase.TheVariants.{InZone};
 ghost use Rattle.step_rules.specs.declared.phase.Hold.TheVariants.{Unheld};
 
@@ -65,10 +66,10 @@ pub fn only_the_front_passes_back()
 
 /// Each kind of event is counted at the group at which it is noted: one `max`, two of `oom` and one `oom_kill`.
 pub fn notes_are_counted()
-    ensures legal { IsLegalRun small_zone noted }
-    ensures max { (events_of Max small_zone noted 0 ≡ 1) × (events_local_of Max small_zone noted 0 ≡ 1) }
-    ensures oom { (events_of Oom small_zone noted 0 ≡ 2) × (events_local_of Oom small_zone noted 0 ≡ 2) }
-    ensures oom_kill { (events_of OomKill small_zone noted 0 ≡ 1) × (events_local_of OomKill small_zone noted 0 ≡ 1) }
+    ensures legal { IsLegalRun small_zone noted_events }
+    ensures max { (events_in Max small_zone noted_events 0 ≡ 1) × (events_local_in Max small_zone noted_events 0 ≡ 1) }
+    ensures oom { (events_in Oom small_zone noted_events 0 ≡ 2) × (events_local_in Oom small_zone noted_events 0 ≡ 2) }
+    ensures oom_kill { (events_in OomKill small_zone noted_events 0 ≡ 1) × (events_local_in OomKill small_zone noted_events 0 ≡ 1) }
 {}
 
 /// The limit of the parent bounds the pages of a group: a grant over it names the parent, and it may be set below the
@@ -77,12 +78,12 @@ pub fn notes_are_counted()
 pub fn a_group_comes_and_goes()
     ensures legal { IsLegalRun small_zone group_comes_and_goes }
     ensures killed { was_killed group_comes_and_goes 2 ≡ false }
-    ensures above { (events_of Oom small_zone group_comes_and_goes 1 ≡ 1)
-        × (events_local_of Oom small_zone group_comes_and_goes 1 ≡ 0) }
-    ensures anew { (events_of Oom small_zone group_comes_and_goes 2 ≡ 0)
-        × (events_of OomKill small_zone group_comes_and_goes 2 ≡ 0) }
-    ensures noted { (events_of Max small_zone group_comes_and_goes 0 ≡ 1)
-        × (events_local_of Max small_zone group_comes_and_goes 2 ≡ 1) }
+    ensures above { (events_in Oom small_zone group_comes_and_goes 1 ≡ 1)
+        × (events_local_in Oom small_zone group_comes_and_goes 1 ≡ 0) }
+    ensures anew { (events_in Oom small_zone group_comes_and_goes 2 ≡ 0)
+        × (events_in OomKill small_zone group_comes_and_goes 2 ≡ 0) }
+    ensures noted { (events_in Max small_zone group_comes_and_goes 0 ≡ 1)
+        × (events_local_in Max small_zone group_comes_and_goes 2 ≡ 1) }
 {}
 
 /// A killed group gets no more pages, and those pending for it are placed or ungranted. Events are noted at it and its
@@ -96,12 +97,12 @@ pub fn a_killed_group_ends()
 pub fn a_group_dies_whole()
     ensures legal { IsLegalRun small_zone group_dies_whole }
     ensures flag { (flag_given group_killed_whole 1 ≡ true) × (flag_given group_killed_whole 2 ≡ false) }
-    ensures at_group { (events_local_of OomGroupKill small_zone group_killed_whole 1 ≡ 1)
-        × (events_local_of OomGroupKill small_zone group_killed_whole 2 ≡ 0) }
-    ensures above { (events_of OomGroupKill small_zone group_killed_whole 0 ≡ 1)
-        × (events_of OomKill small_zone group_killed_whole 0 ≡ 2) }
+    ensures at_group { (events_local_in OomGroupKill small_zone group_killed_whole 1 ≡ 1)
+        × (events_local_in OomGroupKill small_zone group_killed_whole 2 ≡ 0) }
+    ensures above { (events_in OomGroupKill small_zone group_killed_whole 0 ≡ 1)
+        × (events_in OomKill small_zone group_killed_whole 0 ≡ 2) }
     ensures anew { (flag_given group_dies_whole 1 ≡ false)
-        × (events_local_of OomGroupKill small_zone group_dies_whole 1 ≡ 0) }
+        × (events_local_in OomGroupKill small_zone group_dies_whole 1 ≡ 0) }
 {}
 
 /// A stock pays only for its own group, for as many frames as it has pages, and for none once it is drained. If no

@@ -4,7 +4,7 @@ ghost use Rattle.std.specs.Prelude.{◌≡◌, ◌∷◌, [], ◌+◌, ◌++◌,
 ghost use Rattle.step_rules.specs.declared.step.Action.TheVariants.{Make};
 ghost use Rattle.step_rules.specs.declared.step.Answer.TheVariants.{Number};
 ghost use Rattle.log_lines.specs.Line.{entry_text};
-ghost use Rattle.mem_core.specs.Shown.{state_shown, zone_of};
+ghost use Rattle.mem_core.specs.Shown.{state_shown, zone_of_config};
 ghost use Rattle.mem_core.specs.Checked.{Leads};
 ghost use Rattle.step_watch.specs.Watched.{Accepts, Adds, IsNewLog, IsNewWatch, Watches, has_failed, has_legal_steps};
 ghost use Rattle.step_watch.specs.Watched.{has_whole_log, known_log, log_text, steps_seen, watch_off, zone_makes};
@@ -95,7 +95,7 @@ impl Watch {
     /// it needs. Of the sizes only the frames and the CPUs matter.
     pub fn new(alloc: Global, config: Config) -> Result<Watch, AllocError>
         requires { IsValidConfig config }
-        ensures { IfOk result (IsNewWatch (zone_of config)) }
+        ensures { IfOk result (IsNewWatch (zone_of_config config)) }
     {
         let checker = Checker::new(alloc, config)?;
         Ok(Watch {

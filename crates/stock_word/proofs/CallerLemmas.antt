@@ -2,16 +2,16 @@
 use Rattle.std.proofs.Common.{◌≡◌, ◌≢◌, ℕ, zero, suc, false, List, [], ◌∷◌, refl, ap, ◌∙◌, arith}
 use Rattle.stock_word.specs.declared.view.StockAccount.{StockAccount}
 use Rattle.stock_word.specs.declared.view.StockView.{StockView}
-use Rattle.stock_word.specs.Stock.{account_at, with_account_at, account_of, with_account, MayBeFilled}
+use Rattle.stock_word.specs.Stock.{stock_account_at, with_account_at, account_of, with_account, MayBeFilled}
 use Rattle.stock_word.specs.Kinds.{after_report, zone_after_report, zone_after_drain, zone_after_absorb, with_steps}
 
-place_set : (accounts : List StockAccount) (p : ℕ) (a : StockAccount) → account_at (with_account_at accounts p a) p ≡ a
+place_set : (accounts : List StockAccount) (p : ℕ) (a : StockAccount) → stock_account_at (with_account_at accounts p a) p ≡ a
 place_set [] zero a = refl
 place_set [] (suc p) a = place_set [] p a
 place_set (b ∷ accounts) zero a = refl
 place_set (b ∷ accounts) (suc p) a = place_set accounts p a
 
-place_else : (accounts : List StockAccount) (p q : ℕ) (a : StockAccount) → q ≢ p → account_at (with_account_at accounts p a) q ≡ account_at accounts q
+place_else : (accounts : List StockAccount) (p q : ℕ) (a : StockAccount) → q ≢ p → stock_account_at (with_account_at accounts p a) q ≡ stock_account_at accounts q
 place_else [] zero zero a ne = absurd (ne refl)
 place_else [] zero (suc q) a ne = refl
 place_else [] (suc p) zero a ne = refl

@@ -5,7 +5,7 @@ use Rattle.atomic_table.specs.Seated.{TableId}
 use Rattle.stock_word.specs.declared.view.StockView.{StockView}
 use Rattle.stock_word.specs.Kinds.{IsAlone}
 use Rattle.stock_word.specs.Stock.{KnownStockSeat, first_zone_stock_view, first_cpu_stock_view, first_cpu_stock_views}
-use Rattle.stock_word.specs.Stock.{first_seats, first_of, view_in, AreOf}
+use Rattle.stock_word.specs.Stock.{first_seats, first_stock_view, view_in, AreOf}
 use Rattle.stock_word.specs.Stock.{without_second, second_alone}
 
 -- one more of a count that is left
@@ -34,8 +34,8 @@ split_rest views rest p k is cut = cut ∙ ap without_second is
 pub one_view_is : (views : List StockView) (v : StockView) → views ≡ v ∷ [] → IsAlone views
 one_view_is views v is = subst IsAlone (sym is) refl
 
-pub first_is : (views : List StockView) (v : StockView) → views ≡ v ∷ [] → first_of views ≡ v
-first_is views v is = ap first_of is
+pub first_is : (views : List StockView) (v : StockView) → views ≡ v ∷ [] → first_stock_view views ≡ v
+first_is views v is = ap first_stock_view is
 
 -- the seat of p stands behind those before it
 pub next_seats : (table : TableId) (p n k : ℕ) (seats seats' all : List KnownStockSeat) (seat : KnownStockSeat)

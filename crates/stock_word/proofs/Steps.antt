@@ -12,13 +12,13 @@ use Rattle.atomic_table.proofs.Lists.{exchanged}
 use Rattle.stock_word.specs.declared.view.Stock.TheVariants.{HeldBy, DrainedOf}
 use Rattle.stock_word.specs.declared.view.StockAccount.{StockAccount}
 use Rattle.stock_word.specs.declared.view.StockView.{StockView}
-use Rattle.stock_word.specs.Stock.{word_of, pages_of, group_of, account_of, with_account, first_of, without_second, second_alone}
+use Rattle.stock_word.specs.Stock.{word_of, stock_pages_of, group_of, account_of, with_account, first_stock_view, without_second, second_alone}
 use Rattle.stock_word.specs.StockRule.{stock_index, report_index, IsStock, StockRule}
 use Rattle.stock_word.specs.Kinds.{after_took, after_back, after_drained, after_report, zone_after_report}
 use Rattle.stock_word.specs.Kinds.{zone_after_fill}
 use Rattle.stock_word.specs.Kinds.{after_fill}
 use Rattle.stock_word.specs.Kinds.{zone_after_drain, zone_after_absorb, with_steps}
-use Rattle.stock_word.specs.Kinds.{Drains, DrainsNone, LooksAt, Absorbs, Fills, Alone, Joined, consuming_step}
+use Rattle.stock_word.specs.Kinds.{DrainsWord, DrainsNone, LooksAt, Absorbs, FillsWord, Alone, Joined, consuming_step}
 use Rattle.stock_word.specs.Kinds.{crediting_step, looking_step, draining_step}
 use Rattle.stock_word.specs.Kinds.{absorbing_step, reporting_step, consuming_held_step, filling_step, seeing_stock_step}
 use Rattle.stock_word.proofs.Stocks.{left_of, took, back, now_drained, sees_drained, last_group, reported, held_by_books, nothing_booked}
@@ -54,7 +54,7 @@ same_held_group g n k j a b e = let c : (g + 1) * 65536 + n ≡ (k + 1) * 65536 
 same_held_pages : (g n k j : ℕ) → n < 65536 → j < 65536 → word_of (HeldBy g n) ≡ word_of (HeldBy k j) → n ≡ j
 same_held_pages g n k j a b e = let c : (g + 1) * 65536 + n ≡ (k + 1) * 65536 + j = e in omega arith
 
-exact_books : (a : StockAccount) (v : StockView) → pages_of v.last ≡ left_of a v → v.fresh + a.unabsorbed < a.book → a.book ≡ pages_of v.last + v.fresh + a.unabsorbed
+exact_books : (a : StockAccount) (v : StockView) → stock_pages_of v.last ≡ left_of a v → v.fresh + a.unabsorbed < a.book → a.book ≡ stock_pages_of v.last + v.fresh + a.unabsorbed
 exact_books a v e more = omega arith
 
 module _ {S : Type 0} (cpus slots id : ℕ) where
@@ -281,13 +281,13 @@ module _ {S : Type 0} (cpus slots id : ℕ) where
         let a = account_of m p in
         stock_owes m zeroth p low high s rule at (word_of (DrainedOf g)) (record a {
           book =
-              a.book - pages_of stock.stock;
+              a.book - stock_pages_of stock.stock;
           filled = false;
         }) then (drained _ _ a view g stock group) (
-          with_steps 1 (zone_after_drain m p (pages_of stock.stock)),
+          with_steps 1 (zone_after_drain m p (stock_pages_of stock.stock)),
           refl,
           (λ q k is of.
-              subst (λ (y : ℕ × ℕ). Drains y.0 y.1 index found (word_of (DrainedOf g)) m (with_steps 1 (zone_after_drain m p (pages_of stock.stock))))
+              subst (λ (y : ℕ × ℕ). DrainsWord y.0 y.1 index found (word_of (DrainedOf g)) m (with_steps 1 (zone_after_drain m p (stock_pages_of stock.stock))))
               (λ i. (same_stock_index p q is i, same_some g k (sym booked ∙ ap (λ (n : ℕ). (account_of m n).group) (same_stock_index p q is) ∙ of) i))
               (record {
                 stock = stock.stock;
@@ -445,7 +445,7 @@ module _ {S : Type 0} (cpus slots id : ℕ) where
           after_fill v g n,
           refl,
           (λ k j fit is.
-              subst (λ (y : ℕ × ℕ). Fills y.0 y.1 index new m v (zone_after_fill m v.number g n) (after_fill v g n))
+              subst (λ (y : ℕ × ℕ). FillsWord y.0 y.1 index new m v (zone_after_fill m v.number g n) (after_fill v g n))
               (λ i. (same_held_group g n k j few fit is i, same_held_pages g n k j few fit is i))
               (record {
                 at_stock = refl;
@@ -497,7 +497,7 @@ module _ {S : Type 0} (cpus slots id : ℕ) where
               };
               of_group = booked;
               has_word = kept.last_word;
-              exact = exact_books a v (ap pages_of books.0) more;
+              exact = exact_books a v (ap stock_pages_of books.0) more;
               zone_after = refl;
             },
           ),
@@ -506,49 +506,49 @@ module _ {S : Type 0} (cpus slots id : ℕ) where
 -- ---- the same at the seat that the caller has
 
 pub consume_allowed : {S : Type 0} (cpus slots id : ℕ) (me : Me S (List StockView)) (g n : ℕ)
-    → me ≡ (first_of me.0 ∷ [], []) → 0 < (first_of me.0).number → (first_of me.0).number ≤ cpus
-    → (first_of me.0).last ≡ HeldBy g (n + 1)
-    → (index old new : ℕ) → index ≡ stock_index (first_of me.0).number → old ≡ word_of (HeldBy g (n + 1)) → new ≡ word_of (HeldBy g n)
+    → me ≡ (first_stock_view me.0 ∷ [], []) → 0 < (first_stock_view me.0).number → (first_stock_view me.0).number ≤ cpus
+    → (first_stock_view me.0).last ≡ HeldBy g (n + 1)
+    → (index old new : ℕ) → index ≡ stock_index (first_stock_view me.0).number → old ≡ word_of (HeldBy g (n + 1)) → new ≡ word_of (HeldBy g n)
     → Allows (λ (s : State S (List StockView)). StockRule cpus s.words s.views) slots id me index (λ x. either (eqb x old) new x)
     (Alone consuming_step (step slots index old new none) me)
 consume_allowed {S} cpus slots id me g n is low high last index old new at_index at_old at_new =
     subst (λ (z : Me S (List StockView)). Allows (λ (s : State S (List StockView)). StockRule cpus s.words s.views) slots id z
     index (λ x. either (eqb x old) new x) (Alone consuming_step (step slots index old new none) z)) (sym is)
     (subst (λ (y : ℕ × ℕ × ℕ). Allows (λ (s : State S (List StockView)). StockRule cpus s.words s.views) slots id
-    (first_of me.0 ∷ [], []) y.0 (λ x. either (eqb x y.1) y.2 x)
-    (Alone consuming_step (step slots y.0 y.1 y.2 none) (first_of me.0 ∷ [], []))) (λ i. (sym at_index i, sym at_old i, sym at_new i))
-    (consume_allowed_at cpus slots id (first_of me.0) low high g n last))
+    (first_stock_view me.0 ∷ [], []) y.0 (λ x. either (eqb x y.1) y.2 x)
+    (Alone consuming_step (step slots y.0 y.1 y.2 none) (first_stock_view me.0 ∷ [], []))) (λ i. (sym at_index i, sym at_old i, sym at_new i))
+    (consume_allowed_at cpus slots id (first_stock_view me.0) low high g n last))
 
 pub credit_allowed : {S : Type 0} (cpus slots id : ℕ) (me : Me S (List StockView)) (g n : ℕ)
-    → me ≡ (first_of me.0 ∷ [], []) → 0 < (first_of me.0).number → (first_of me.0).number ≤ cpus
-    → (first_of me.0).last ≡ HeldBy g n → 0 < (first_of me.0).fresh
-    → (index old new : ℕ) → index ≡ stock_index (first_of me.0).number → old ≡ word_of (HeldBy g n) → new ≡ word_of (HeldBy g (n + 1))
+    → me ≡ (first_stock_view me.0 ∷ [], []) → 0 < (first_stock_view me.0).number → (first_stock_view me.0).number ≤ cpus
+    → (first_stock_view me.0).last ≡ HeldBy g n → 0 < (first_stock_view me.0).fresh
+    → (index old new : ℕ) → index ≡ stock_index (first_stock_view me.0).number → old ≡ word_of (HeldBy g n) → new ≡ word_of (HeldBy g (n + 1))
     → Allows (λ (s : State S (List StockView)). StockRule cpus s.words s.views) slots id me index (λ x. either (eqb x old) new x)
     (Alone crediting_step (step slots index old new none) me)
 credit_allowed {S} cpus slots id me g n is low high last fresh index old new at_index at_old at_new =
     subst (λ (z : Me S (List StockView)). Allows (λ (s : State S (List StockView)). StockRule cpus s.words s.views) slots id z
     index (λ x. either (eqb x old) new x) (Alone crediting_step (step slots index old new none) z)) (sym is)
     (subst (λ (y : ℕ × ℕ × ℕ). Allows (λ (s : State S (List StockView)). StockRule cpus s.words s.views) slots id
-    (first_of me.0 ∷ [], []) y.0 (λ x. either (eqb x y.1) y.2 x)
-    (Alone crediting_step (step slots y.0 y.1 y.2 none) (first_of me.0 ∷ [], []))) (λ i. (sym at_index i, sym at_old i, sym at_new i))
-    (credit_allowed_at cpus slots id (first_of me.0) low high g n last fresh))
+    (first_stock_view me.0 ∷ [], []) y.0 (λ x. either (eqb x y.1) y.2 x)
+    (Alone crediting_step (step slots y.0 y.1 y.2 none) (first_stock_view me.0 ∷ [], []))) (λ i. (sym at_index i, sym at_old i, sym at_new i))
+    (credit_allowed_at cpus slots id (first_stock_view me.0) low high g n last fresh))
 
 pub looking_allowed : {S : Type 0} (cpus slots id : ℕ) (me : Me S (List StockView)) (p : ℕ)
-    → me ≡ (first_of me.0 ∷ [], []) → (first_of me.0).number ≡ 0 → 0 < p → p ≤ cpus → (index : ℕ)
+    → me ≡ (first_stock_view me.0 ∷ [], []) → (first_stock_view me.0).number ≡ 0 → 0 < p → p ≤ cpus → (index : ℕ)
     → index ≡ stock_index p
     → Allows (λ (s : State S (List StockView)). StockRule cpus s.words s.views) slots id me index (λ x. x) (Alone looking_step (step slots index 0 0 none) me)
 looking_allowed {S} cpus slots id me p is zeroth low high index at_index =
     subst (λ (z : Me S (List StockView)). Allows (λ (s : State S (List StockView)). StockRule cpus s.words s.views) slots id z
     index (λ x. x) (Alone looking_step (step slots index 0 0 none) z)) (sym is)
     (subst (λ (y : ℕ). Allows (λ (s : State S (List StockView)). StockRule cpus s.words s.views) slots id (
-      first_of me.0 ∷ [],
+      first_stock_view me.0 ∷ [],
       [],
-    ) y (λ x. x) (Alone looking_step (step slots y 0 0 none) (first_of me.0 ∷ [], []))) (sym at_index)
-    (looking_allowed_at cpus slots id (first_of me.0) zeroth p low high))
+    ) y (λ x. x) (Alone looking_step (step slots y 0 0 none) (first_stock_view me.0 ∷ [], []))) (sym at_index)
+    (looking_allowed_at cpus slots id (first_stock_view me.0) zeroth p low high))
 
 pub draining_allowed : {S : Type 0} (cpus slots id : ℕ) (me : Me S (List StockView)) (p g : ℕ)
-    → me ≡ (first_of me.0 ∷ [], []) → (first_of me.0).number ≡ 0 → 0 < p → p ≤ cpus
-    → (account_of (first_of me.0) p).group ≡ Some g
+    → me ≡ (first_stock_view me.0 ∷ [], []) → (first_stock_view me.0).number ≡ 0 → 0 < p → p ≤ cpus
+    → (account_of (first_stock_view me.0) p).group ≡ Some g
     → (index new : ℕ) → index ≡ stock_index p → new ≡ word_of (DrainedOf g)
     → Allows (λ (s : State S (List StockView)). StockRule cpus s.words s.views) slots id me index (λ x. new)
     (Alone draining_step (step slots index new 0 none) me)
@@ -556,23 +556,23 @@ draining_allowed {S} cpus slots id me p g is zeroth low high group index new at_
     subst (λ (z : Me S (List StockView)). Allows (λ (s : State S (List StockView)). StockRule cpus s.words s.views) slots id z
     index (λ x. new) (Alone draining_step (step slots index new 0 none) z)) (sym is)
     (subst (λ (y : ℕ × ℕ). Allows (λ (s : State S (List StockView)). StockRule cpus s.words s.views) slots id (
-      first_of me.0 ∷ [],
+      first_stock_view me.0 ∷ [],
       [],
-    ) y.0 (λ x. y.1) (Alone draining_step (step slots y.0 y.1 0 none) (first_of me.0 ∷ [], []))) (λ i. (sym at_index i, sym at_new i))
-    (draining_allowed_at cpus slots id (first_of me.0) zeroth p low high g group))
+    ) y.0 (λ x. y.1) (Alone draining_step (step slots y.0 y.1 0 none) (first_stock_view me.0 ∷ [], []))) (λ i. (sym at_index i, sym at_new i))
+    (draining_allowed_at cpus slots id (first_stock_view me.0) zeroth p low high g group))
 
 pub absorbing_allowed : {S : Type 0} (cpus slots id : ℕ) (me : Me S (List StockView)) (p : ℕ)
-    → me ≡ (first_of me.0 ∷ [], []) → (first_of me.0).number ≡ 0 → 0 < p → p ≤ cpus → (index : ℕ)
+    → me ≡ (first_stock_view me.0 ∷ [], []) → (first_stock_view me.0).number ≡ 0 → 0 < p → p ≤ cpus → (index : ℕ)
     → index ≡ report_index p
     → Allows (λ (s : State S (List StockView)). StockRule cpus s.words s.views) slots id me index (λ x. 0) (Alone absorbing_step (step slots index 0 0 none) me)
 absorbing_allowed {S} cpus slots id me p is zeroth low high index at_index =
     subst (λ (z : Me S (List StockView)). Allows (λ (s : State S (List StockView)). StockRule cpus s.words s.views) slots id z
     index (λ x. 0) (Alone absorbing_step (step slots index 0 0 none) z)) (sym is)
     (subst (λ (y : ℕ). Allows (λ (s : State S (List StockView)). StockRule cpus s.words s.views) slots id (
-      first_of me.0 ∷ [],
+      first_stock_view me.0 ∷ [],
       [],
-    ) y (λ x. 0) (Alone absorbing_step (step slots y 0 0 none) (first_of me.0 ∷ [], []))) (sym at_index)
-    (absorbing_allowed_at cpus slots id (first_of me.0) zeroth p low high))
+    ) y (λ x. 0) (Alone absorbing_step (step slots y 0 0 none) (first_stock_view me.0 ∷ [], []))) (sym at_index)
+    (absorbing_allowed_at cpus slots id (first_stock_view me.0) zeroth p low high))
 
 pub reporting_allowed : {S : Type 0} (cpus slots id : ℕ) (me : Me S (List StockView)) (m v : StockView) (n : ℕ)
     → me ≡ (m ∷ v ∷ [], []) → m.number ≡ 0 → 0 < v.number → v.number ≤ cpus → n ≤ v.fresh → (index : ℕ)

@@ -4,7 +4,7 @@ use Rattle.stock_word.specs.declared.view.Stock.{Stock}
 use Rattle.stock_word.specs.declared.view.Stock.TheVariants.{NoGroup, HeldBy, DrainedOf}
 use Rattle.stock_word.specs.declared.view.StockAccount.{StockAccount}
 use Rattle.stock_word.specs.declared.view.StockView.{StockView}
-use Rattle.stock_word.specs.Stock.{word_of, HasWord, pages_of, group_of, is_held, drained_of}
+use Rattle.stock_word.specs.Stock.{word_of, HasWord, stock_pages_of, group_of, is_held, drained_of}
 use Rattle.stock_word.specs.StockRule.{IsStock}
 use Rattle.stock_word.specs.Kinds.{after_took, after_back, after_drained, after_report, after_fill}
 
@@ -34,7 +34,7 @@ pub took : (word report : ℕ) (a : StockAccount) (v : StockView) (g n : ℕ) �
 took word report a v g n h last is =
     let s = stock_held word report a v g (n + 1) h last is in
     let fits : HasWord (HeldBy g (n + 1)) = subst HasWord last h.last_word in
-    let pages : pages_of h.stock ≡ n + 1 = ap pages_of s in
+    let pages : stock_pages_of h.stock ≡ n + 1 = ap stock_pages_of s in
     let balanced : a.book ≡ n + (v.fresh + 1) + report = omega (arith, h.balanced, pages) in
     let fewer : n < 65536 = omega (arith, fits.1) in
     record {
@@ -58,7 +58,7 @@ pub back : (word report : ℕ) (a : StockAccount) (v : StockView) (g n : ℕ) �
 back word report a v g n h fresh last is =
     let s = stock_held word report a v g n h last is in
     let fits : HasWord (HeldBy g n) = subst HasWord last h.last_word in
-    let pages : pages_of h.stock ≡ n = ap pages_of s in
+    let pages : stock_pages_of h.stock ≡ n = ap stock_pages_of s in
     let balanced : a.book ≡ (n + 1) + (v.fresh - 1) + report = omega (arith, h.balanced, pages) in
     let more : n + 1 < 65536 = omega (arith, h.bounded, balanced) in
     record {
@@ -128,7 +128,7 @@ reported word report a v n h fresh = record {
 abbrev pub left_of : StockAccount → StockView → ℕ
 left_of a v = a.book - v.fresh - a.unabsorbed
 
-held_of : (s : Stock) (g : ℕ) → 0 < pages_of s → group_of s ≡ Some g → s ≡ HeldBy g (pages_of s)
+held_of : (s : Stock) (g : ℕ) → 0 < stock_pages_of s → group_of s ≡ Some g → s ≡ HeldBy g (stock_pages_of s)
 held_of NoGroup g more e = absurd (omega arith)
 held_of (HeldBy k n) g more e = let d : k ≡ g = cc in ap (λ x. HeldBy x n) d
 held_of (DrainedOf k) g more e = absurd (omega arith)
@@ -142,15 +142,15 @@ not_held (DrainedOf g) = refl
 pub held_by_books : (word report : ℕ) (a : StockAccount) (v : StockView) (g : ℕ) (h : IsStock word report a v) → a.group ≡ Some g → v.fresh + a.unabsorbed < a.book
     → (v.last ≡ HeldBy g (left_of a v)) × (word ≡ word_of (HeldBy g (left_of a v)))
 held_by_books word report a v g h group more =
-    let pages : pages_of h.stock ≡ left_of a v = omega (arith, h.balanced, h.reported, more) in
-    let some : 0 < pages_of h.stock = omega (arith, h.balanced, h.reported, more) in
-    let is : h.stock ≡ HeldBy g (pages_of h.stock) = held_of h.stock g some (h.of_group ∙ group) in
+    let pages : stock_pages_of h.stock ≡ left_of a v = omega (arith, h.balanced, h.reported, more) in
+    let some : 0 < stock_pages_of h.stock = omega (arith, h.balanced, h.reported, more) in
+    let is : h.stock ≡ HeldBy g (stock_pages_of h.stock) = held_of h.stock g some (h.of_group ∙ group) in
     let stock : h.stock ≡ HeldBy g (left_of a v) = is ∙ ap (HeldBy g) pages in
     let seen : h.stock ≡ v.last = ⊎_elim (λ (e : h.stock ≡ v.last). e) (λ (e : h.stock
     ≡ drained_of v.last). absurd (true≢false (sym (ap is_held is) ∙ ap is_held e ∙ not_held v.last))) h.last_seen in
     (sym seen ∙ stock, h.encoded ∙ ap word_of stock)
 
-no_pages : (s : Stock) → is_held s ≡ false → pages_of s ≡ 0
+no_pages : (s : Stock) → is_held s ≡ false → stock_pages_of s ≡ 0
 no_pages NoGroup e = refl
 no_pages (HeldBy g n) e = absurd (true≢false e)
 no_pages (DrainedOf g) e = refl
@@ -192,7 +192,7 @@ drained_again (DrainedOf g) = refl
 -- a drain
 pub drained : (word report : ℕ) (a : StockAccount) (v : StockView) (g : ℕ) (h : IsStock word report a v)
     → group_of h.stock ≡ Some g
-    → IsStock (word_of (DrainedOf g)) report (record a { book = a.book - pages_of h.stock; filled = false }) v
+    → IsStock (word_of (DrainedOf g)) report (record a { book = a.book - stock_pages_of h.stock; filled = false }) v
 drained word report a v g h group =
     let is = drained_group h.stock g group in
     let low : HasWord (DrainedOf g) = subst HasWord is (drained_has_word h.stock h.has_word) in

@@ -5,13 +5,13 @@ use native.Mathlib.Decide.{ℕ_discrete}
 use Rattle.stock_word.specs.declared.view.Stock.{Stock}
 use Rattle.stock_word.specs.declared.view.Stock.TheVariants.{NoGroup, HeldBy, DrainedOf}
 use Rattle.stock_word.specs.declared.view.StockView.{StockView}
-use Rattle.stock_word.specs.Stock.{KnownStockSeat, KnownRawSeat, word_of, HasWord, pages_of, is_held, group_of, account_of, first_of}
-use Rattle.stock_word.specs.Kinds.{Drains, DrainsNone, LooksAt, with_steps, zone_after_drain}
+use Rattle.stock_word.specs.Stock.{KnownStockSeat, KnownRawSeat, word_of, HasWord, stock_pages_of, is_held, group_of, account_of, first_stock_view}
+use Rattle.stock_word.specs.Kinds.{DrainsWord, DrainsNone, LooksAt, with_steps, zone_after_drain}
 use Rattle.stock_word.specs.Calls.{with_view, after_look, steps_of_drain}
 
 -- the seat that the caller has afterwards
-pub seat_after : (index : KnownRawSeat) (before : KnownStockSeat) (u : StockView) → index.table ≡ before.table → first_of index.views ≡ u
-    → record { table = index.table; view = first_of index.views } ≡ with_view before u
+pub seat_after : (index : KnownRawSeat) (before : KnownStockSeat) (u : StockView) → index.table ≡ before.table → first_stock_view index.views ≡ u
+    → record { table = index.table; view = first_stock_view index.views } ≡ with_view before u
 seat_after index before u table_is same = λ i. record { table = table_is i; view = same i }
 
 -- ---- drain
@@ -63,16 +63,16 @@ looked_and_drained m p g n group =
 
 -- the swap took the pages of the stock that it found
 pub drained_booked : (before : StockView) (p g index found new pages : ℕ) (m w : StockView) → m ≡ before
-    → (kind : Drains p g index found new m w) → pages ≡ pages_of kind.stock → pages ≤ (account_of before p).book
+    → (kind : DrainsWord p g index found new m w) → pages ≡ stock_pages_of kind.stock → pages ≤ (account_of before p).book
 drained_booked before p g index found new pages m w e kind many = let b = ap (λ (v : StockView). (account_of v p).book) e in omega (arith, kind.enough, b)
 
-unheld_pages : (s : Stock) → is_held s ≡ false → pages_of s ≡ 0
+unheld_pages : (s : Stock) → is_held s ≡ false → stock_pages_of s ≡ 0
 unheld_pages NoGroup e = refl
 unheld_pages (HeldBy g n) e = absurd (true≢false e)
 unheld_pages (DrainedOf g) e = refl
 
 pub drained_before : (before : StockView) (p g index found new pages : ℕ) (m w : StockView) → m ≡ before
-    → (kind : Drains p g index found new m w) → pages ≡ pages_of kind.stock → (account_of before p).filled ≡ false
+    → (kind : DrainsWord p g index found new m w) → pages ≡ stock_pages_of kind.stock → (account_of before p).filled ≡ false
     → pages ≡ 0
 drained_before before p g index found new pages m w e kind many off =
     many ∙ unheld_pages kind.stock (kind.was_held ∙ ap (λ (v : StockView). (account_of v p).filled) e ∙ off)

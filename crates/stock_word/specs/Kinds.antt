@@ -8,8 +8,9 @@ use Rattle.atomic_table.specs.Table.{Me, Step}
 use Rattle.stock_word.specs.declared.view.Stock.{Stock}
 use Rattle.stock_word.specs.declared.view.Stock.TheVariants.{HeldBy, DrainedOf}
 use Rattle.stock_word.specs.declared.view.StockView.{StockView}
-use Rattle.stock_word.specs.Stock.{word_of, HasWord, pages_of, group_of, is_held, drained_of, account_of, with_account}
-use Rattle.stock_word.specs.Stock.{first_of, second_of}
+use Rattle.stock_word.specs.Stock.{word_of, HasWord, stock_pages_of, group_of, is_held, drained_of, account_of}
+use Rattle.stock_word.specs.Stock.{with_account}
+use Rattle.stock_word.specs.Stock.{first_stock_view, second_stock_view}
 use Rattle.stock_word.specs.StockRule.{stock_index, report_index, StockRule}
 
 -- ---- the views after each kind: a step counts once, at the CPU's seat if that made it, alone or joined, else at the
@@ -105,11 +106,11 @@ pub record ConsumesHeld (index before after : ℕ) (z v z' v' : StockView) : Typ
   pub consumes : Consumes index before after v v'
   pub of_group : (account_of z v.number).group ≡ Some consumes.group
   pub has_word : HasWord (HeldBy consumes.group consumes.pages)
-  pub exact : (account_of z v.number).book ≡ pages_of v.last + v.fresh + (account_of z v.number).unabsorbed
+  pub exact : (account_of z v.number).book ≡ stock_pages_of v.last + v.fresh + (account_of z v.number).unabsorbed
   pub zone_after : z' ≡ z
 
 -- fill, by the joined seats: the CPU's stock word becomes held by g with n pages; the book was 0 and is n
-pub record Fills (group pages index after : ℕ) (z v z' v' : StockView) : Type 0 where
+pub record FillsWord (group pages index after : ℕ) (z v z' v' : StockView) : Type 0 where
   pub at_stock : index ≡ stock_index v.number
   pub word_after : after ≡ word_of (HeldBy group pages)
   pub book_before : (account_of z v.number).book ≡ 0
@@ -118,16 +119,16 @@ pub record Fills (group pages index after : ℕ) (z v z' v' : StockView) : Type 
 
 -- drain, by the zone's seat: the CPU's stock word, held by g with n pages or drained of g, becomes drained of g; the
 -- book is n less
-pub record Drains (cpu group index before after : ℕ) (z z' : StockView) : Type 0 where
+pub record DrainsWord (cpu group index before after : ℕ) (z z' : StockView) : Type 0 where
   pub stock : Stock
   pub at_stock : index ≡ stock_index cpu
   pub of_group : group_of stock ≡ Some group
   pub has_word : HasWord stock
   pub word_before : before ≡ word_of stock
   pub word_after : after ≡ word_of (DrainedOf group)
-  pub enough : pages_of stock ≤ (account_of z cpu).book
+  pub enough : stock_pages_of stock ≤ (account_of z cpu).book
   pub was_held : is_held stock ≡ (account_of z cpu).filled
-  pub zone_after : z' ≡ with_steps 1 (zone_after_drain z cpu (pages_of stock))
+  pub zone_after : z' ≡ with_steps 1 (zone_after_drain z cpu (stock_pages_of stock))
 
 -- the drain of a stock that was never filled, by the zone's seat: the CPU's stock word is 0 and is unchanged
 pub record DrainsNone (cpu index before after : ℕ) (z z' : StockView) : Type 0 where
@@ -156,7 +157,7 @@ pub record SeesStock (index before after : ℕ) (z v z' v' : StockView) : Type 0
   pub has_word : HasWord stock
   pub word_before : before ≡ word_of stock
   pub word_after : after ≡ before
-  pub balanced : (account_of z v.number).book ≡ pages_of stock + v.fresh + (account_of z v.number).unabsorbed
+  pub balanced : (account_of z v.number).book ≡ stock_pages_of stock + v.fresh + (account_of z v.number).unabsorbed
   pub bounded : (account_of z v.number).book < 65536
   pub of_group : group_of stock ≡ (account_of z v.number).group
   pub held : is_held stock ≡ (account_of z v.number).filled
@@ -177,15 +178,15 @@ pub record Absorbs (cpu index before after : ℕ) (z z' : StockView) : Type 0 wh
 
 -- a raw seat has one view
 abbrev pub IsAlone : List StockView → Type 0
-IsAlone views = views ≡ first_of views ∷ []
+IsAlone views = views ≡ first_stock_view views ∷ []
 
 -- the zone's raw seat has taken in a CPU's: it has its own view, then that one
 abbrev pub IsPair : List StockView → Type 0
-IsPair views = views ≡ first_of views ∷ second_of views ∷ []
+IsPair views = views ≡ first_stock_view views ∷ second_stock_view views ∷ []
 
 -- the final words of a table of which one seat has these views: the rule holds of them and of all seats' views
-abbrev pub Ends : ℕ → List ℕ → List StockView → Type 0
-Ends cpus words views = (seats : List (List StockView)) × (id : ℕ) × (get_elem? seats id ≡ some views)
+abbrev pub AreFinalStockWords : ℕ → List ℕ → List StockView → Type 0
+AreFinalStockWords cpus words views = (seats : List (List StockView)) × (id : ℕ) × (get_elem? seats id ≡ some views)
     × StockRule cpus words seats
 
 -- ---- how the steps of a table are read as kinds
@@ -193,13 +194,13 @@ Ends cpus words views = (seats : List (List StockView)) × (id : ℕ) × (get_el
 -- a step by one seat, with one view
 abbrev pub Alone : {S : Type 0} → (Step S → ℕ → StockView → StockView → Type 0) → Step S → Me S (List StockView) → ℕ
     → Me S (List StockView) → Type 0
-Alone kind s me found next = (w : StockView) × (next ≡ (w ∷ [], me.1)) × kind s found (first_of me.0) w
+Alone kind s me found next = (w : StockView) × (next ≡ (w ∷ [], me.1)) × kind s found (first_stock_view me.0) w
 
 -- a step by the zone's seat, joined with a CPU's
 abbrev pub Joined : {S : Type 0} → (Step S → ℕ → StockView → StockView → StockView → StockView → Type 0) → Step S
     → Me S (List StockView) → ℕ → Me S (List StockView) → Type 0
 Joined kind s me found next = (z : StockView) × (v : StockView) × (next ≡ (z ∷ v ∷ [], me.1))
-    × kind s found (first_of me.0) (second_of me.0) z v
+    × kind s found (first_stock_view me.0) (second_stock_view me.0) z v
 
 -- the exchange of a consume: it took a page, or found the stock drained
 abbrev pub consuming_step : {S : Type 0} → Step S → ℕ → StockView → StockView → Type 0
@@ -219,7 +220,7 @@ looking_step s found z z' = (cpu : ℕ) → s.word ≡ stock_index cpu
 -- the swap of a drain
 abbrev pub draining_step : {S : Type 0} → Step S → ℕ → StockView → StockView → Type 0
 draining_step s found z z' = (cpu group : ℕ) → s.word ≡ stock_index cpu → (account_of z cpu).group ≡ Some group
-    → Drains cpu group s.word found s.first z z'
+    → DrainsWord cpu group s.word found s.first z z'
 
 -- the swap of an absorb
 abbrev pub absorbing_step : {S : Type 0} → Step S → ℕ → StockView → StockView → Type 0
@@ -240,4 +241,4 @@ consuming_held_step s found z v z' v' = ConsumesHeld s.word found (found - s.fir
 -- the store of a fill
 abbrev pub filling_step : {S : Type 0} → Step S → ℕ → StockView → StockView → StockView → StockView → Type 0
 filling_step s found z v z' v' = (group pages : ℕ) → pages < 65536 → s.first ≡ word_of (HeldBy group pages)
-    → Fills group pages s.word s.first z v z' v'
+    → FillsWord group pages s.word s.first z v z' v'

@@ -21,10 +21,10 @@ HasWord (HeldBy g n) = (g < 64) × (n < 65536)
 HasWord (DrainedOf g) = g < 64
 
 -- the pages in a stock
-abbrev pub pages_of : Stock → ℕ
-pages_of NoGroup = 0
-pages_of (HeldBy g n) = n
-pages_of (DrainedOf g) = 0
+abbrev pub stock_pages_of : Stock → ℕ
+stock_pages_of NoGroup = 0
+stock_pages_of (HeldBy g n) = n
+stock_pages_of (DrainedOf g) = 0
 
 -- the group of a stock
 abbrev pub group_of : Stock → Option ℕ
@@ -49,10 +49,10 @@ abbrev pub no_account : StockAccount
 no_account = record { book = 0; group = None; filled = false; unabsorbed = 0 }
 
 -- the account of this CPU; past the end, that of a CPU whose stock was never filled
-abbrev pub account_at : List StockAccount → ℕ → StockAccount
-account_at [] cpu = no_account
-account_at (a ∷ accounts) zero = a
-account_at (a ∷ accounts) (suc cpu) = account_at accounts cpu
+abbrev pub stock_account_at : List StockAccount → ℕ → StockAccount
+stock_account_at [] cpu = no_account
+stock_account_at (a ∷ accounts) zero = a
+stock_account_at (a ∷ accounts) (suc cpu) = stock_account_at accounts cpu
 
 -- the accounts, with this one for the CPU
 abbrev pub with_account_at : List StockAccount → ℕ → StockAccount → List StockAccount
@@ -77,7 +77,7 @@ pub record KnownRawSeat : Type 0 where
 
 -- the zone's account of the CPU
 abbrev pub account_of : StockView → ℕ → StockAccount
-account_of zone cpu = account_at zone.accounts cpu
+account_of zone cpu = stock_account_at zone.accounts cpu
 
 -- the zone's view with another account of the CPU
 abbrev pub with_account : StockView → ℕ → StockAccount → StockView
@@ -136,14 +136,14 @@ views_of [] = []
 views_of (seat ∷ seats) = seat.view ∷ views_of seats
 
 -- the first of a seat's views; if there is none, what the zone's seat knows at first
-abbrev pub first_of : List StockView → StockView
-first_of [] = first_zone_stock_view
-first_of (v ∷ views) = v
+abbrev pub first_stock_view : List StockView → StockView
+first_stock_view [] = first_zone_stock_view
+first_stock_view (v ∷ views) = v
 
 -- the second view of joined seats; if there is none, what the zone's seat knows at first
-abbrev pub second_of : List StockView → StockView
-second_of [] = first_zone_stock_view
-second_of (v ∷ views) = first_of views
+abbrev pub second_stock_view : List StockView → StockView
+second_stock_view [] = first_zone_stock_view
+second_stock_view (v ∷ views) = first_stock_view views
 
 -- the zone's account of the CPU that has this view
 abbrev pub account_for : StockView → StockView → StockAccount
@@ -156,11 +156,11 @@ stocked zone view = (account_for zone view).book - view.fresh - (account_for zon
 -- What a seat stores beside its raw seat: the number and the last stock of its one view. A CPU that never saw
 -- a stock has no fresh page.
 pub record IsSoundSeat (views : List StockView) (number : ℕ) (last : Stock) : Type 0 where
-  pub one_view : views ≡ first_of views ∷ []
-  pub same_number : number ≡ (first_of views).number
-  pub same_last : last ≡ (first_of views).last
+  pub one_view : views ≡ first_stock_view views ∷ []
+  pub same_number : number ≡ (first_stock_view views).number
+  pub same_last : last ≡ (first_stock_view views).last
   pub last_word : HasWord last
-  pub none_fresh : last ≡ NoGroup → (first_of views).fresh ≡ 0
+  pub none_fresh : last ≡ NoGroup → (first_stock_view views).fresh ≡ 0
 
 -- the view is that of a seat of one of these CPUs
 abbrev pub IsCpuView : KnownStockTable → StockView → Type 0

@@ -4,7 +4,7 @@ use Rattle.seat_sums.specs.Totals.{total_over}
 use Rattle.stock_word.specs.declared.view.Stock.{Stock}
 use Rattle.stock_word.specs.declared.view.StockAccount.{StockAccount}
 use Rattle.stock_word.specs.declared.view.StockView.{StockView}
-use Rattle.stock_word.specs.Stock.{word_of, HasWord, pages_of, group_of, is_held, drained_of, account_of}
+use Rattle.stock_word.specs.Stock.{word_of, HasWord, stock_pages_of, group_of, is_held, drained_of, account_of}
 
 -- the index of the CPU's stock word
 abbrev pub stock_index : ℕ → ℕ
@@ -29,7 +29,7 @@ pub record IsStock (word report : ℕ) (account : StockAccount) (view : StockVie
   pub encoded : word ≡ word_of stock
   pub has_word : HasWord stock
   -- the book is the pages in the stock, the fresh pages and the reported pages, and fits a word
-  pub balanced : account.book ≡ pages_of stock + view.fresh + report
+  pub balanced : account.book ≡ stock_pages_of stock + view.fresh + report
   pub bounded : account.book < 65536
   -- the stock is of the group of the last fill; before the first it is of no group and nothing is booked
   pub of_group : group_of stock ≡ account.group

@@ -1,7 +1,8 @@
 //! The end of a stock table.
 ghost use Rattle.std.specs.Prelude.{◌≡◌, ◌+◌, ◌-◌, ◌*◌, ◌<◌, ◌≤◌, ℕ, [], ◌∷◌, length, slice_index};
 ghost use Rattle.stock_word.specs.Kinds.{IsAlone};
-ghost use Rattle.stock_word.specs.Stock.{IsZoneView, IsCpuView, AreOf, first_of, Gathers, view_in, word_of, HasWord};
+ghost use Rattle.stock_word.specs.Stock.{IsZoneView, IsCpuView, AreOf, first_stock_view, Gathers, view_in, word_of};
+ghost use Rattle.stock_word.specs.Stock.{HasWord};
 ghost use Rattle.stock_word.specs.declared.view.Stock.{Stock as AStock};
 ghost use Rattle.stock_word.specs.StockRule.{IsStockOf, stock_index as index_of_stock, report_index as index_of_report};
 
@@ -35,7 +36,7 @@ impl StockWords {
         requires table { (zone.old.table ≡ self.now.table) × AreOf self.now.table seats.items }
         requires alone { IsAlone zone.old.views }
         ensures table { zone.new.table ≡ self.now.table }
-        ensures all { Gathers (first_of zone.old.views) seats.items zone.new.views }
+        ensures all { Gathers (first_stock_view zone.old.views) seats.items zone.new.views }
     {
         while let Some(seat) = seats.pop() {
             let StockSeat {

@@ -11,11 +11,12 @@ ghost use Rattle.std.specs.Prelude.{◌≡◌, ◌≢◌, ◌*◌, ◌+◌, ◌-
 ghost use Rattle.std.specs.Mem.Slots.{slots_items, slots_len, IsFull};
 ghost use Rattle.stock_word.specs.declared.view.Stock.TheVariants.{HeldBy, DrainedOf};
 ghost use Rattle.stock_word.specs.Stock.{KnownStockTable, KnownRawSeat, IsSized, HasWord, word_of, IsCpuView};
-ghost use Rattle.stock_word.specs.Stock.{IsZoneView, account_of, account_for, stocked, MayBeFilled, first_of};
-ghost use Rattle.stock_word.specs.Stock.{second_of};
+ghost use Rattle.stock_word.specs.Stock.{IsZoneView, account_of, account_for, stocked, MayBeFilled, first_stock_view};
+ghost use Rattle.stock_word.specs.Stock.{second_stock_view};
 ghost use Rattle.stock_word.specs.Stock.{first_zone_stock_view, first_cpu_stock_views, without_second, second_alone};
-ghost use Rattle.stock_word.specs.Kinds.{IsAlone, IsPair, Ends, Consumes, Credits, SeesDrained, Reports, ConsumesHeld};
-ghost use Rattle.stock_word.specs.Kinds.{Fills, SeesStock, DrainsNone, LooksAt, Drains, Absorbs, Alone, Joined};
+ghost use Rattle.stock_word.specs.Kinds.{IsAlone, IsPair, AreFinalStockWords, Consumes, Credits, SeesDrained, Reports};
+ghost use Rattle.stock_word.specs.Kinds.{ConsumesHeld};
+ghost use Rattle.stock_word.specs.Kinds.{FillsWord, SeesStock, DrainsNone, LooksAt, DrainsWord, Absorbs, Alone, Joined};
 ghost use Rattle.stock_word.specs.Kinds.{consuming_step, crediting_step, looking_step, draining_step, absorbing_step};
 ghost use Rattle.stock_word.specs.Kinds.{reporting_step};
 ghost use Rattle.stock_word.specs.Kinds.{consuming_held_step, filling_step, seeing_stock_step};
@@ -184,18 +185,18 @@ impl StockWords {
     pub(crate) fn step_consume(&self, raw: &mut RawSeat, cpu: u32, group: u32, pages: u32) -> u64
         requires table { raw.old.table ≡ self.now.table }
         requires alone { IsAlone raw.old.views }
-        requires number { cpu ≡ (first_of raw.old.views).number }
-        requires cpu { IsCpuView self.now (first_of raw.old.views) }
-        requires last { (first_of raw.old.views).last ≡ HeldBy group pages }
+        requires number { cpu ≡ (first_stock_view raw.old.views).number }
+        requires cpu { IsCpuView self.now (first_stock_view raw.old.views) }
+        requires last { (first_stock_view raw.old.views).last ≡ HeldBy group pages }
         requires page { 0 < pages }
         requires has_word { HasWord (HeldBy group pages) }
         ensures table { raw.new.table ≡ raw.old.table }
         ensures alone { IsAlone raw.new.views }
         ensures took { result ≡ word_of (HeldBy group pages)
-            → Consumes (index_of_stock cpu) result (word_of (HeldBy group (pages - 1))) (first_of raw.old.views)
-            (first_of raw.new.views) }
+            → Consumes (index_of_stock cpu) result (word_of (HeldBy group (pages - 1))) (first_stock_view raw.old.views)
+            (first_stock_view raw.new.views) }
         ensures drained { result ≢ word_of (HeldBy group pages)
-            → SeesDrained (index_of_stock cpu) result result (first_of raw.old.views) (first_of raw.new.views) }
+            → SeesDrained (index_of_stock cpu) result result (first_stock_view raw.old.views) (first_stock_view raw.new.views) }
     {
         let word = Stock::HeldBy { group, pages }.word();
         let left = Stock::HeldBy {
@@ -212,18 +213,18 @@ impl StockWords {
     pub(crate) fn step_credit(&self, raw: &mut RawSeat, cpu: u32, group: u32, pages: u32) -> u64
         requires table { raw.old.table ≡ self.now.table }
         requires alone { IsAlone raw.old.views }
-        requires number { cpu ≡ (first_of raw.old.views).number }
-        requires cpu { IsCpuView self.now (first_of raw.old.views) }
-        requires last { (first_of raw.old.views).last ≡ HeldBy group pages }
-        requires fresh { 0 < (first_of raw.old.views).fresh }
+        requires number { cpu ≡ (first_stock_view raw.old.views).number }
+        requires cpu { IsCpuView self.now (first_stock_view raw.old.views) }
+        requires last { (first_stock_view raw.old.views).last ≡ HeldBy group pages }
+        requires fresh { 0 < (first_stock_view raw.old.views).fresh }
         requires has_word { HasWord (HeldBy group pages) }
         ensures table { raw.new.table ≡ raw.old.table }
         ensures alone { IsAlone raw.new.views }
         ensures back { result ≡ word_of (HeldBy group pages)
-            → Credits (index_of_stock cpu) result (word_of (HeldBy group (pages + 1))) (first_of raw.old.views)
-            (first_of raw.new.views) }
+            → Credits (index_of_stock cpu) result (word_of (HeldBy group (pages + 1))) (first_stock_view raw.old.views)
+            (first_stock_view raw.new.views) }
         ensures drained { result ≢ word_of (HeldBy group pages)
-            → SeesDrained (index_of_stock cpu) result result (first_of raw.old.views) (first_of raw.new.views) }
+            → SeesDrained (index_of_stock cpu) result result (first_stock_view raw.old.views) (first_stock_view raw.new.views) }
     {
         let word = Stock::HeldBy { group, pages }.word();
         let more = Stock::HeldBy {
@@ -244,14 +245,14 @@ impl StockWords {
     pub(crate) fn step_look(&self, raw: &mut RawSeat, cpu: u32) -> u64
         requires table { raw.old.table ≡ self.now.table }
         requires alone { IsAlone raw.old.views }
-        requires zone { IsZoneView (first_of raw.old.views) }
+        requires zone { IsZoneView (first_stock_view raw.old.views) }
         requires cpu { (0 < cpu) × (cpu ≤ self.now.cpus) }
         ensures table { raw.new.table ≡ raw.old.table }
         ensures alone { IsAlone raw.new.views }
-        ensures none { result ≡ 0 → DrainsNone cpu (index_of_stock cpu) result result (first_of raw.old.views)
-            (first_of raw.new.views) }
-        ensures some { result ≢ 0 → LooksAt cpu (index_of_stock cpu) result result (first_of raw.old.views)
-            (first_of raw.new.views) }
+        ensures none { result ≡ 0 → DrainsNone cpu (index_of_stock cpu) result result (first_stock_view raw.old.views)
+            (first_stock_view raw.new.views) }
+        ensures some { result ≢ 0 → LooksAt cpu (index_of_stock cpu) result result (first_stock_view raw.old.views)
+            (first_stock_view raw.new.views) }
     {
         let at = stock_index(cpu);
         self.table.shared.load::<Looking>(&mut raw.seat, at)
@@ -261,14 +262,14 @@ impl StockWords {
     pub(crate) fn step_drain(&self, raw: &mut RawSeat, cpu: u32, group: u32) -> u64
         requires table { raw.old.table ≡ self.now.table }
         requires alone { IsAlone raw.old.views }
-        requires zone { IsZoneView (first_of raw.old.views) }
+        requires zone { IsZoneView (first_stock_view raw.old.views) }
         requires cpu { (0 < cpu) × (cpu ≤ self.now.cpus) }
-        requires group { (account_of (first_of raw.old.views) cpu).group ≡ Some group }
+        requires group { (account_of (first_stock_view raw.old.views) cpu).group ≡ Some group }
         requires fits { group < 64 }
         ensures table { raw.new.table ≡ raw.old.table }
         ensures alone { IsAlone raw.new.views }
-        ensures kind { Drains cpu group (index_of_stock cpu) result (word_of (DrainedOf group)) (first_of raw.old.views)
-            (first_of raw.new.views) }
+        ensures kind { DrainsWord cpu group (index_of_stock cpu) result (word_of (DrainedOf group)) (first_stock_view raw.old.views)
+            (first_stock_view raw.new.views) }
     {
         let drained = Stock::DrainedOf { group };
         let at = stock_index(cpu);
@@ -281,11 +282,11 @@ impl StockWords {
     pub(crate) fn step_absorb(&self, raw: &mut RawSeat, cpu: u32) -> u64
         requires table { raw.old.table ≡ self.now.table }
         requires alone { IsAlone raw.old.views }
-        requires zone { IsZoneView (first_of raw.old.views) }
+        requires zone { IsZoneView (first_stock_view raw.old.views) }
         requires cpu { (0 < cpu) × (cpu ≤ self.now.cpus) }
         ensures table { raw.new.table ≡ raw.old.table }
         ensures alone { IsAlone raw.new.views }
-        ensures kind { Absorbs cpu (index_of_report cpu) result 0 (first_of raw.old.views) (first_of raw.new.views) }
+        ensures kind { Absorbs cpu (index_of_report cpu) result 0 (first_stock_view raw.old.views) (first_stock_view raw.new.views) }
     {
         let at = report_index(cpu);
         self.table.shared.swap::<Absorbing>(&mut raw.seat, at, 0)
@@ -299,15 +300,15 @@ impl StockWords {
     pub(crate) fn step_report(&self, raw: &mut RawSeat, cpu: u32, pages: u32) -> u64
         requires table { raw.old.table ≡ self.now.table }
         requires pair { IsPair raw.old.views }
-        requires number { cpu ≡ (second_of raw.old.views).number }
-        requires zone { IsZoneView (first_of raw.old.views) }
-        requires cpu { IsCpuView self.now (second_of raw.old.views) }
-        requires fresh { pages ≤ (second_of raw.old.views).fresh }
+        requires number { cpu ≡ (second_stock_view raw.old.views).number }
+        requires zone { IsZoneView (first_stock_view raw.old.views) }
+        requires cpu { IsCpuView self.now (second_stock_view raw.old.views) }
+        requires fresh { pages ≤ (second_stock_view raw.old.views).fresh }
         ensures table { raw.new.table ≡ raw.old.table }
         ensures pair { IsPair raw.new.views }
         ensures kind { Reports pages (index_of_report cpu) result (result + pages)
-            (first_of raw.old.views) (second_of raw.old.views) (first_of raw.new.views)
-            (second_of raw.new.views) }
+            (first_stock_view raw.old.views) (second_stock_view raw.old.views) (first_stock_view raw.new.views)
+            (second_stock_view raw.new.views) }
     {
         let at = report_index(cpu);
         self.table
@@ -319,16 +320,16 @@ impl StockWords {
     pub(crate) fn step_consume_held(&self, raw: &mut RawSeat, cpu: u32, group: u32) -> u64
         requires table { raw.old.table ≡ self.now.table }
         requires pair { IsPair raw.old.views }
-        requires number { cpu ≡ (second_of raw.old.views).number }
-        requires zone { IsZoneView (first_of raw.old.views) }
-        requires cpu { IsCpuView self.now (second_of raw.old.views) }
-        requires group { (account_for (first_of raw.old.views) (second_of raw.old.views)).group ≡ Some group }
-        requires page { 0 < stocked (first_of raw.old.views) (second_of raw.old.views) }
+        requires number { cpu ≡ (second_stock_view raw.old.views).number }
+        requires zone { IsZoneView (first_stock_view raw.old.views) }
+        requires cpu { IsCpuView self.now (second_stock_view raw.old.views) }
+        requires group { (account_for (first_stock_view raw.old.views) (second_stock_view raw.old.views)).group ≡ Some group }
+        requires page { 0 < stocked (first_stock_view raw.old.views) (second_stock_view raw.old.views) }
         ensures table { raw.new.table ≡ raw.old.table }
         ensures pair { IsPair raw.new.views }
         ensures kind { ConsumesHeld (index_of_stock cpu) result (result - 1)
-            (first_of raw.old.views) (second_of raw.old.views) (first_of raw.new.views)
-            (second_of raw.new.views) }
+            (first_stock_view raw.old.views) (second_stock_view raw.old.views) (first_stock_view raw.new.views)
+            (second_stock_view raw.new.views) }
     {
         let at = stock_index(cpu);
         self.table
@@ -340,16 +341,16 @@ impl StockWords {
     pub(crate) fn step_fill(&self, raw: &mut RawSeat, cpu: u32, group: u32, pages: u32)
         requires table { raw.old.table ≡ self.now.table }
         requires pair { IsPair raw.old.views }
-        requires number { cpu ≡ (second_of raw.old.views).number }
-        requires zone { IsZoneView (first_of raw.old.views) }
-        requires cpu { IsCpuView self.now (second_of raw.old.views) }
+        requires number { cpu ≡ (second_stock_view raw.old.views).number }
+        requires zone { IsZoneView (first_stock_view raw.old.views) }
+        requires cpu { IsCpuView self.now (second_stock_view raw.old.views) }
         requires has_word { HasWord (HeldBy group pages) }
-        requires settled { MayBeFilled (first_of raw.old.views) (second_of raw.old.views) }
+        requires settled { MayBeFilled (first_stock_view raw.old.views) (second_stock_view raw.old.views) }
         ensures table { raw.new.table ≡ raw.old.table }
         ensures pair { IsPair raw.new.views }
-        ensures kind { Fills group pages (index_of_stock cpu) (word_of (HeldBy group pages))
-            (first_of raw.old.views) (second_of raw.old.views) (first_of raw.new.views)
-            (second_of raw.new.views) }
+        ensures kind { FillsWord group pages (index_of_stock cpu) (word_of (HeldBy group pages))
+            (first_stock_view raw.old.views) (second_stock_view raw.old.views) (first_stock_view raw.new.views)
+            (second_stock_view raw.new.views) }
     {
         let held = Stock::HeldBy { group, pages };
         let at = stock_index(cpu);
@@ -362,14 +363,14 @@ impl StockWords {
     pub(crate) fn step_look_joined(&self, raw: &mut RawSeat, cpu: u32) -> u64
         requires table { raw.old.table ≡ self.now.table }
         requires pair { IsPair raw.old.views }
-        requires number { cpu ≡ (second_of raw.old.views).number }
-        requires zone { IsZoneView (first_of raw.old.views) }
-        requires cpu { IsCpuView self.now (second_of raw.old.views) }
+        requires number { cpu ≡ (second_stock_view raw.old.views).number }
+        requires zone { IsZoneView (first_stock_view raw.old.views) }
+        requires cpu { IsCpuView self.now (second_stock_view raw.old.views) }
         ensures table { raw.new.table ≡ raw.old.table }
         ensures pair { IsPair raw.new.views }
         ensures kind { SeesStock (index_of_stock cpu) result result
-            (first_of raw.old.views) (second_of raw.old.views) (first_of raw.new.views)
-            (second_of raw.new.views) }
+            (first_stock_view raw.old.views) (second_stock_view raw.old.views) (first_stock_view raw.new.views)
+            (second_stock_view raw.new.views) }
     {
         let at = stock_index(cpu);
         self.table.shared.load::<SeeingStock>(&mut raw.seat, at)
@@ -395,7 +396,7 @@ impl StockWords {
     pub(crate) fn end(self, raw: RawSeat) -> Closed<(), Global>
         requires table { raw.table ≡ self.table }
         ensures full { IsFull result.words × (slots_len result.slots ≡ 0) }
-        ensures rule { Ends self.cpus (slots_items result.words) raw.views }
+        ensures rule { AreFinalStockWords self.cpus (slots_items result.words) raw.views }
     {
         let StockWords { table } = self;
         let RawSeat { seat } = raw;

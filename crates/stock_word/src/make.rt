@@ -3,7 +3,7 @@ ghost use Rattle.std.specs.Prelude.{◌≡◌, ◌+◌, ◌<◌, ◌≤◌, ℕ,
 ghost use Rattle.stock_word.specs.Kinds.{IsAlone};
 ghost use Rattle.stock_word.specs.Stock.{first_zone_stock_view, first_cpu_stock_view, first_cpu_stock_views};
 ghost use Rattle.stock_word.specs.Stock.{first_seats};
-ghost use Rattle.stock_word.specs.Stock.{first_of};
+ghost use Rattle.stock_word.specs.Stock.{first_stock_view};
 ghost use Rattle.stock_word.specs.Stock.{view_in, AreOf, StartsAs};
 
 use crate::kinds::{RawSeat, StockWords};
@@ -14,8 +14,8 @@ use std::alloc::{AllocError, Global};
 // A seat as it is at first.
 fn seated(raw: RawSeat, number: u32) -> StockSeat
     requires view { IsAlone raw.views }
-    requires first { StartsAs number (first_of raw.views) }
-    ensures { result ≡ record { table = raw.table; view = first_of raw.views } }
+    requires first { StartsAs number (first_stock_view raw.views) }
+    ensures { result ≡ record { table = raw.table; view = first_stock_view raw.views } }
 {
     StockSeat {
         raw,

@@ -20,9 +20,9 @@ impl Model for StockSeat {
 
     ghost Value = { KnownStockSeat };
 
-    ghost use Rattle.stock_word.specs.Stock.{first_of, IsSoundSeat};
+    ghost use Rattle.stock_word.specs.Stock.{first_stock_view, IsSoundSeat};
 
-    ghost view = { λ s. record { table = s.raw.table; view = first_of s.raw.views } };
+    ghost view = { λ s. record { table = s.raw.table; view = first_stock_view s.raw.views } };
 
     ghost invariant = { λ s. IsSoundSeat s.raw.views s.number s.last };
 }

@@ -18,7 +18,7 @@ pub enum Stock {
 impl Stock {
     ghost use Rattle.std.specs.Prelude.{◌≡◌};
     ghost use Rattle.stock_word.specs.declared.view.Stock.{Stock};
-    ghost use Rattle.stock_word.specs.Stock.{word_of, HasWord, pages_of, group_of};
+    ghost use Rattle.stock_word.specs.Stock.{word_of, HasWord, stock_pages_of, group_of};
 
     /// The word that encodes this stock in the table.
     pub(crate) fn word(self) -> u64
@@ -60,7 +60,7 @@ impl Stock {
 
     /// The pages in the stock.
     pub fn pages(self) -> u32
-        ensures { result ≡ pages_of self }
+        ensures { result ≡ stock_pages_of self }
     {
         match self {
             Stock::HeldBy { group: _, pages } => pages,

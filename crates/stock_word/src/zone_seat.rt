@@ -1,7 +1,7 @@
 //! The calls of the zone's seat, alone or joined with a CPU's. Whoever has that seat holds the zone's lock.
 ghost use Rattle.std.specs.Prelude.{◌≡◌, ◌+◌, ◌-◌, ◌<◌, ◌≤◌, ◌⊎◌, [], ◌∷◌, false, Some, IfSome};
-ghost use Rattle.stock_word.specs.Stock.{IsCpuView, IsZoneView, account_of, account_for, stocked, first_of};
-ghost use Rattle.stock_word.specs.Stock.{second_of, HasWord, pages_of, group_of, is_held, drained_of};
+ghost use Rattle.stock_word.specs.Stock.{IsCpuView, IsZoneView, account_of, account_for, stocked, first_stock_view};
+ghost use Rattle.stock_word.specs.Stock.{second_stock_view, HasWord, stock_pages_of, group_of, is_held, drained_of};
 ghost use Rattle.stock_word.specs.Kinds.{IsAlone, IsPair, after_took, after_report, zone_after_report, zone_after_fill};
 ghost use Rattle.stock_word.specs.Kinds.{after_fill};
 ghost use Rattle.stock_word.specs.Kinds.{zone_after_drain, zone_after_absorb, with_steps};
@@ -18,7 +18,7 @@ impl StockWords {
         requires tables { (zone.old.table ≡ self.now.table) × (raw.old.table ≡ self.now.table) }
         requires alone { IsAlone zone.old.views × IsAlone raw.old.views }
         ensures tables { (zone.new.table ≡ self.now.table) × (raw.new.table ≡ self.now.table) }
-        ensures joined { zone.new.views ≡ first_of zone.old.views ∷ first_of raw.old.views ∷ [] }
+        ensures joined { zone.new.views ≡ first_stock_view zone.old.views ∷ first_stock_view raw.old.views ∷ [] }
     {
         let empty = self.split_empty(zone);
         let taken = mem::replace(raw, empty);
@@ -30,8 +30,8 @@ impl StockWords {
         requires table { zone.old.table ≡ self.now.table }
         requires pair { IsPair zone.old.views }
         ensures tables { (zone.new.table ≡ self.now.table) × (raw.new.table ≡ self.now.table) }
-        ensures zone { zone.new.views ≡ first_of zone.old.views ∷ [] }
-        ensures cpu { raw.new.views ≡ second_of zone.old.views ∷ [] }
+        ensures zone { zone.new.views ≡ first_stock_view zone.old.views ∷ [] }
+        ensures cpu { raw.new.views ≡ second_stock_view zone.old.views ∷ [] }
     {
         *raw = self.split_second(zone);
     }
@@ -61,7 +61,7 @@ impl StockWords {
         requires cpu { IsCpuView self.now seat.old.view }
         ensures has_word { HasWord result }
         ensures balanced { (account_for zone.old.view seat.old.view).book
-            ≡ pages_of result + seat.old.view.fresh + (account_for zone.old.view seat.old.view).unabsorbed }
+            ≡ stock_pages_of result + seat.old.view.fresh + (account_for zone.old.view seat.old.view).unabsorbed }
         ensures bounded { (account_for zone.old.view seat.old.view).book < 65536 }
         ensures group { group_of result ≡ (account_for zone.old.view seat.old.view).group }
         ensures held { is_held result ≡ (account_for zone.old.view seat.old.view).filled }

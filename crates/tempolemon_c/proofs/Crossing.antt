@@ -5,7 +5,7 @@ use Rattle.std.specs.Prelude.{IsSome, IsSomeAnd, Option}
 use Rattle.frame_word.specs.Seats.{KnownTable}
 use Rattle.stock_word.specs.Stock.{KnownStockTable}
 use Rattle.control_files.specs.declared.file.File.{File}
-use Rattle.tempolemon_c.specs.HandleCalls.{HasFile}
+use Rattle.tempolemon_c.specs.HandleCalls.{GroupHasFiles}
 use Rattle.tempolemon_c.specs.Known.{KnownLive}
 use Rattle.tempolemon_c.specs.Serving.{OnRaw}
 use Rattle.tempolemon_c.specs.Calls.{HasFileBehind}
@@ -31,6 +31,6 @@ some_behind f s (Some live) some = some
 
 -- the boot that the pointer leads to has the group
 pub file_behind : (group : ℕ) (file : File) (f : KnownTable) (s : KnownStockTable) (o : Option KnownLive)
-    → IsSomeAnd (boot_of f s o) (HasFileBehind group file) → IsSomeAnd o (HasFile group file)
+    → IsSomeAnd (boot_of f s o) (HasFileBehind group file) → IsSomeAnd o (GroupHasFiles group file)
 file_behind group file f s None has = absurd has
 file_behind group file f s (Some live) has = has

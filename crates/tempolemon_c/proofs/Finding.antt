@@ -11,7 +11,7 @@ use Rattle.script_lines.specs.declared.line.Command.TheVariants as cmd
 use Rattle.script_replay.specs.declared.answer_value.AnswerValue.{AnswerValue}
 use Rattle.script_replay.specs.Terms.{boot_tables}
 use Rattle.script_replay.specs.ValueAnswers.{NamesItsGroups, SaysCommand, answer_of}
-use Rattle.tempolemon_c.specs.HandleCalls.{Calls, IsCpu}
+use Rattle.tempolemon_c.specs.HandleCalls.{CallsLive, IsCpu}
 use Rattle.tempolemon_c.specs.Commands.{SameButState}
 use Rattle.tempolemon_c.specs.Known.{KnownLive}
 use Rattle.tempolemon_c.specs.declared.calls.Call.TheVariants as call
@@ -34,7 +34,7 @@ module _ (frames : KnownTable) (stock_table : KnownStockTable) (cpu group : ℕ)
   pub frame_taken : (path : Bor (List ℕ)) → IsCpu from.sizes.cpus cpu → AreCharges from.state.locked.machine.ledger → path_of groups group ≡ Some path.now
       → ((named : Bor (List ℕ)) → number_at groups named.now ≡ Some group
       → SaysCommand (boot_tables frames stock_table) cpu (cmd.Alloc named 0) from.state to.state (answer_of after value))
-      → NamesItsGroups after value → SameButState from to → Calls frames stock_table cpu (call.Alloc group 0) from to (returned.Served value)
+      → NamesItsGroups after value → SameButState from to → CallsLive frames stock_table cpu (call.Alloc group 0) from to (returned.Served value)
   frame_taken path exists legal is says there rest = record {
     command = cmd.Alloc path 0;
     means = (is, refl);

@@ -14,7 +14,7 @@ use Rattle.script_replay.specs.declared.answer_value.AnswerValue.TheVariants.{Se
 use Rattle.tempolemon_c.specs.declared.calls.Call.{Call}
 use Rattle.tempolemon_c.specs.declared.calls.CallAnswer.TheVariants as call
 use Rattle.tempolemon_c.specs.declared.calls.FileText.{FileText}
-use Rattle.tempolemon_c.specs.HandleCalls.{Calls, ShowsFile, file_reply}
+use Rattle.tempolemon_c.specs.HandleCalls.{CallsLive, ShowsFile, file_reply}
 use Rattle.tempolemon_c.specs.Known.{KnownLive}
 use Rattle.tempolemon_c.specs.declared.typed_result.TypedResult.{TypedResult}
 use Rattle.tempolemon_c.specs.Calls.{CallsInto, HasGroupsBehind, PutsAnswer, ReturnsAnswer, ReturnsValue}
@@ -49,7 +49,7 @@ module _ (group : ℕ) (file : File) (shown : FileText) (before after : Option L
       (sym on.was) (subst (λ (r : Reply). ReturnsAnswer (answer.Served r) status out old new) on.done.reply_is out_so)
 
 module _ (cpu : ℕ) (asked : Call) (value : AnswerValue) (before mid : Option LiveBoot)
-    (on : OnBoot (λ frames stocks from to. Calls frames stocks cpu asked from to (call.Served value)) before mid) where
+    (on : OnBoot (λ frames stocks from to. CallsLive frames stocks cpu asked from to (call.Served value)) before mid) where
   -- the groups that the value names are there
   pub groups_there : IsSomeAnd mid (HasGroupsBehind value)
   groups_there = subst (λ (b : Option LiveBoot). IsSomeAnd b (HasGroupsBehind value)) (sym on.is) on.done.tells.is_answer.0

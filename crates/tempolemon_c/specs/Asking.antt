@@ -3,7 +3,7 @@ use Rattle.std.specs.Prelude.{Option, Some}
 use Rattle.tempolemon_c.specs.declared.requests.Request.{Request}
 use Rattle.tempolemon_c.specs.declared.requests.Request.TheVariants.{Start, Lines, StoreUnread, TakeUnread, End}
 use Rattle.tempolemon_c.specs.declared.requests.RequestAnswer.{RequestAnswer}
-use Rattle.tempolemon_c.specs.Serving.{Serves}
+use Rattle.tempolemon_c.specs.Serving.{ServesRequest}
 use Rattle.tempolemon_c.specs.Handles.{LiveBoot, OnBoot}
 
 -- the request neither starts nor ends a boot
@@ -17,4 +17,4 @@ IsBetween (End alloc) = ⊥
 -- the request was served with this answer
 abbrev pub AsksBehind : Request → (before after : Option LiveBoot) → RequestAnswer → Type 0
 AsksBehind request before after answer =
-    OnBoot (λ frames stocks from to. Serves frames stocks (Some from) request (Some to) answer) before after
+    OnBoot (λ frames stocks from to. ServesRequest frames stocks (Some from) request (Some to) answer) before after

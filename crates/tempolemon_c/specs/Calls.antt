@@ -13,7 +13,7 @@ use Rattle.script_lines.specs.declared.line.Command.{Command}
 use Rattle.tempolemon_c.specs.declared.calls.Call.{Call}
 use Rattle.tempolemon_c.specs.declared.calls.Call.TheVariants as call
 use Rattle.control_files.specs.declared.file.File.{File}
-use Rattle.tempolemon_c.specs.HandleCalls.{HasFile, IsCpu, Means, NamesMissingFrame, NamesMissingGroup, RefusesCall, ServesCommand}
+use Rattle.tempolemon_c.specs.HandleCalls.{GroupHasFiles, IsCpu, Means, NamesMissingFrame, NamesMissingGroup, RefusesCall, ServesLiveCommand}
 use Rattle.tempolemon_c.specs.Known.{KnownLive}
 use Rattle.script_replay.specs.ValueAnswers.{NamesItsGroups, answer_of}
 use Rattle.script_replay.specs.declared.answer_value.AnswerValue.{AnswerValue}
@@ -30,7 +30,7 @@ pub record AnswersCall (frames : KnownTable) (stock_table : KnownStockTable) (cp
     (answer : LineAnswer) : Type 0 where
   pub command : Command
   pub means : Means from.state.locked.machine.ledger.groups asked command
-  pub serves : ServesCommand frames stock_table cpu command from to answer
+  pub serves : ServesLiveCommand frames stock_table cpu command from to answer
 
 -- the same of the boot behind a handle
 abbrev pub AnswersBehind : (cpu : ℕ) → Call → (before after : Option LiveBoot) → LineAnswer → Type 0
@@ -43,9 +43,9 @@ IsPlainOutcome (outcome.Text group file) = ⊥
 IsPlainOutcome other = Unit {0}
 
 -- the answer isn't a text
-abbrev pub IsPlain : AnswerValue → Type 0
-IsPlain (value.Served outcome) = IsPlainOutcome outcome
-IsPlain other = Unit {0}
+abbrev pub HasNoText : AnswerValue → Type 0
+HasNoText (value.Served outcome) = IsPlainOutcome outcome
+HasNoText other = Unit {0}
 
 -- a text was written at the start of a buffer that has room for it; one without room stays
 pub record PutsText (text : List ℕ) (old new : List ℕ) : Type 0 where
@@ -79,7 +79,7 @@ HasGroupsBehind value boot = NamesItsGroups boot.live.state.locked.machine.ledge
 
 -- the boot behind the handle has the group, and it isn't the root, which has no files
 abbrev pub HasFileBehind : (group : ℕ) → File → LiveBoot → Type 0
-HasFileBehind group file boot = HasFile group file boot.live
+HasFileBehind group file boot = GroupHasFiles group file boot.live
 
 -- the call was served: the status, the result, and what the buffer gets are those of its answer
 pub record ServesBehind (cpu : ℕ) (asked : Call) (before after : Option LiveBoot) (status : ℕ) (out : TypedResult)
@@ -160,7 +160,7 @@ pub record IsTooSmall (before after : Option LiveBoot) (status : ℕ) (out : Typ
 
 -- What a read of a file does. Whether the buffer has room for the longest text of a file is looked at first, whatever
 -- the handle and the call
-pub record Reads (path file : List ℕ) (cpu : ℕ) (before after : Option LiveBoot) (status : ℕ) (out : TypedResult)
+pub record ReadsIntoBuffer (path file : List ℕ) (cpu : ℕ) (before after : Option LiveBoot) (status : ℕ) (out : TypedResult)
     (old new : List ℕ) : Type 0 where
   pub refused : length old < longest_text → IsTooSmall before after status out old new
   pub read : longest_text ≤ length old → ReadsBehind (IsRead path file) cpu before after status out old new

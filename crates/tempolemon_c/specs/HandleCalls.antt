@@ -72,12 +72,12 @@ NamesMissingGroup groups (call.Alloc group order) = HasNoGroup groups group
 NamesMissingGroup groups other = ⊥
 
 -- what a call returned is this answer, with the texts that the ledger after the command gives it
-abbrev pub IsAnswer : Ledger → LineAnswer → CallAnswer → Type 0
-IsAnswer ledger answer (returned.Served value) = NamesItsGroups ledger value × (answer ≡ answer_of ledger value)
-IsAnswer ledger answer other = ⊥
+abbrev pub IsReturnedAnswer : Ledger → LineAnswer → CallAnswer → Type 0
+IsReturnedAnswer ledger answer (returned.Served value) = NamesItsGroups ledger value × (answer ≡ answer_of ledger value)
+IsReturnedAnswer ledger answer other = ⊥
 
 -- the CPU and what the command names exist, it was served with this answer, and nothing else changed
-pub record ServesCommand (frames : KnownTable) (stock_table : KnownStockTable) (cpu : ℕ) (command : Command)
+pub record ServesLiveCommand (frames : KnownTable) (stock_table : KnownStockTable) (cpu : ℕ) (command : Command)
     (from to : KnownLive) (answer : LineAnswer) : Type 0 where
   pub there : CpuCommandInRange from.sizes.frames from.sizes.cpus cpu command
   pub says : SaysCommand (boot_tables frames stock_table) cpu command from.state to.state answer
@@ -87,8 +87,8 @@ pub record ServesCommand (frames : KnownTable) (stock_table : KnownStockTable) (
 pub record ReturnsCommandAnswer (frames : KnownTable) (stock_table : KnownStockTable) (cpu : ℕ) (command : Command)
     (from to : KnownLive) (returned : CallAnswer) : Type 0 where
   pub answer : LineAnswer
-  pub serves : ServesCommand frames stock_table cpu command from to answer
-  pub is_answer : IsAnswer to.state.locked.machine.ledger answer returned
+  pub serves : ServesLiveCommand frames stock_table cpu command from to answer
+  pub is_answer : IsReturnedAnswer to.state.locked.machine.ledger answer returned
 
 -- the call was served as the command of a script that it means, and this is returned of the answer
 pub record ServesCall (frames : KnownTable) (stock_table : KnownStockTable) (cpu : ℕ) (asked : Call)
@@ -105,18 +105,18 @@ pub record RefusesCall (is_missing : Type 0) (from to : KnownLive) : Type 0 wher
 
 -- What a call of a CPU does, and what it returns. The CPU is looked for first: a missing frame or group is named only of
 -- a CPU that exists
-abbrev pub Calls : KnownTable → KnownStockTable → (cpu : ℕ) → Call → (from to : KnownLive) → CallAnswer → Type 0
-Calls frames stock_table cpu asked from to (returned.Served value) =
+abbrev pub CallsLive : KnownTable → KnownStockTable → (cpu : ℕ) → Call → (from to : KnownLive) → CallAnswer → Type 0
+CallsLive frames stock_table cpu asked from to (returned.Served value) =
     ServesCall frames stock_table cpu asked from to (returned.Served value)
-Calls frames stock_table cpu asked from to returned.NoCpu = RefusesCall (¬ IsCpu from.sizes.cpus cpu) from to
-Calls frames stock_table cpu asked from to returned.NoFrame =
+CallsLive frames stock_table cpu asked from to returned.NoCpu = RefusesCall (¬ IsCpu from.sizes.cpus cpu) from to
+CallsLive frames stock_table cpu asked from to returned.NoFrame =
     RefusesCall (IsCpu from.sizes.cpus cpu × NamesMissingFrame from.sizes.frames asked) from to
-Calls frames stock_table cpu asked from to returned.NoGroup =
+CallsLive frames stock_table cpu asked from to returned.NoGroup =
     RefusesCall (IsCpu from.sizes.cpus cpu × NamesMissingGroup from.state.locked.machine.ledger.groups asked) from to
 
 -- the group exists, and isn't the root, which has no files
-abbrev pub HasFile : (group : ℕ) → File → KnownLive → Type 0
-HasFile group file live = HasItsGroups live.state.locked.machine.ledger (outcome.Text group file)
+abbrev pub GroupHasFiles : (group : ℕ) → File → KnownLive → Type 0
+GroupHasFiles group file live = HasItsGroups live.state.locked.machine.ledger (outcome.Text group file)
 
 -- what a file shows, as the reply to a read of it
 abbrev pub file_reply : FileText → Reply

@@ -21,7 +21,7 @@ config_of sizes = record {
 
 -- the sizes are in their ranges, and the text is what the program's `replay` answers to the script: what a new boot of
 -- these sizes answers to its lines, with explanations and the report of the end if these are asked for
-pub record IsAnswered (sizes : Config) (is_explained is_audited : Bool) (script text : List ℕ) : Type 0 where
+pub record IsReplayAnswer (sizes : Config) (is_explained is_audited : Bool) (script text : List ℕ) : Type 0 where
   pub valid : IsValidConfig sizes
   pub lines : List Line
   pub script_is : IsScript sizes script lines
@@ -29,12 +29,12 @@ pub record IsAnswered (sizes : Config) (is_explained is_audited : Bool) (script 
       text
 
 -- the sizes are in their ranges, and this is the number of the first bad line of the script
-pub record IsBadAt (sizes : Config) (script : List ℕ) (number : ℕ) : Type 0 where
+pub record IsBadScript (sizes : Config) (script : List ℕ) (number : ℕ) : Type 0 where
   pub valid : IsValidConfig sizes
   pub first : IsFirstBadLine sizes script number
 
 -- Which fault comes when. The sizes are judged first: every other fault says that they are in their ranges
-abbrev pub HasCause : Config → List ℕ → ReplayFault → Type 0
-HasCause sizes script BadConfig = ¬ IsValidConfig sizes
-HasCause sizes script (BadLine number) = IsBadAt sizes script number
-HasCause sizes script NoMemory = IsValidConfig sizes
+abbrev pub HasReplayCause : Config → List ℕ → ReplayFault → Type 0
+HasReplayCause sizes script BadConfig = ¬ IsValidConfig sizes
+HasReplayCause sizes script (BadLine number) = IsBadScript sizes script number
+HasReplayCause sizes script NoMemory = IsValidConfig sizes

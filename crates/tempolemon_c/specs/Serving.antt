@@ -14,20 +14,20 @@ use Rattle.tempolemon_c.specs.declared.requests.RequestAnswer.{RequestAnswer}
 use Rattle.tempolemon_c.specs.declared.requests.RequestAnswer.TheVariants as returned
 
 -- the frames' table after a request: a start brings its own, else it stays
-abbrev pub frames_of : KnownTable → Request → KnownTable
-frames_of frames (Start alloc boot sizes) = boot.frames
-frames_of frames (Lines alloc text is_explained) = frames
-frames_of frames (StoreUnread text) = frames
-frames_of frames (TakeUnread alloc) = frames
-frames_of frames (End alloc) = frames
+abbrev pub frames_after_request : KnownTable → Request → KnownTable
+frames_after_request frames (Start alloc boot sizes) = boot.frames
+frames_after_request frames (Lines alloc text is_explained) = frames
+frames_after_request frames (StoreUnread text) = frames
+frames_after_request frames (TakeUnread alloc) = frames
+frames_after_request frames (End alloc) = frames
 
 -- the stocks' table after a request
-abbrev pub stocks_of : KnownStockTable → Request → KnownStockTable
-stocks_of stock_table (Start alloc boot sizes) = boot.stocks
-stocks_of stock_table (Lines alloc text is_explained) = stock_table
-stocks_of stock_table (StoreUnread text) = stock_table
-stocks_of stock_table (TakeUnread alloc) = stock_table
-stocks_of stock_table (End alloc) = stock_table
+abbrev pub stocks_after_request : KnownStockTable → Request → KnownStockTable
+stocks_after_request stock_table (Start alloc boot sizes) = boot.stocks
+stocks_after_request stock_table (Lines alloc text is_explained) = stock_table
+stocks_after_request stock_table (StoreUnread text) = stock_table
+stocks_after_request stock_table (TakeUnread alloc) = stock_table
+stocks_after_request stock_table (End alloc) = stock_table
 
 -- what may be asked: a start if there is no boot, and the boot has the sizes that are named; all else if there is one
 abbrev pub IsFit : Option KnownLive → Request → Type 0
@@ -43,16 +43,16 @@ IsFit (Some live) (TakeUnread alloc) = Unit {0}
 IsFit (Some live) (End alloc) = Unit {0}
 
 -- a boot that is started has these tables
-abbrev pub IsNamed : KnownTable → KnownStockTable → Request → Type 0
-IsNamed frames stock_table (Start alloc boot sizes) = (boot.frames ≡ frames) × (boot.stocks ≡ stock_table)
-IsNamed frames stock_table (Lines alloc text is_explained) = Unit {0}
-IsNamed frames stock_table (StoreUnread text) = Unit {0}
-IsNamed frames stock_table (TakeUnread alloc) = Unit {0}
-IsNamed frames stock_table (End alloc) = Unit {0}
+abbrev pub StartsUnder : KnownTable → KnownStockTable → Request → Type 0
+StartsUnder frames stock_table (Start alloc boot sizes) = (boot.frames ≡ frames) × (boot.stocks ≡ stock_table)
+StartsUnder frames stock_table (Lines alloc text is_explained) = Unit {0}
+StartsUnder frames stock_table (StoreUnread text) = Unit {0}
+StartsUnder frames stock_table (TakeUnread alloc) = Unit {0}
+StartsUnder frames stock_table (End alloc) = Unit {0}
 
 -- what may be asked under the name of these tables
 abbrev pub MayBeAsked : KnownTable → KnownStockTable → Option KnownLive → Request → Type 0
-MayBeAsked frames stock_table live request = IsFit live request × IsNamed frames stock_table request
+MayBeAsked frames stock_table live request = IsFit live request × StartsUnder frames stock_table request
 
 -- there is a boot before and after, and `does` leads from one to the other
 pub record OnLive (does : (from to : KnownLive) → Type 0) (before after : Option KnownLive) : Type 0 where
@@ -71,7 +71,7 @@ pub record OnRaw (does : (from to : KnownLive) → Type 0) (old_frames : KnownTa
   pub on_live : OnLive does before after
 
 -- a boot of these sizes stands as at first, and no answer is unread
-pub record Starts (frames : KnownTable) (stock_table : KnownStockTable) (sizes : Config)
+pub record StartsBoot (frames : KnownTable) (stock_table : KnownStockTable) (sizes : Config)
     (after : Option KnownLive) : Type 0 where
   pub live : KnownLive
   pub is : after ≡ Some live
@@ -80,7 +80,7 @@ pub record Starts (frames : KnownTable) (stock_table : KnownStockTable) (sizes :
   pub none_unread : live.unread_answer ≡ []
 
 -- the boot ended, with this report
-pub record Ends (frames : KnownTable) (stock_table : KnownStockTable) (before after : Option KnownLive)
+pub record EndsLive (frames : KnownTable) (stock_table : KnownStockTable) (before after : Option KnownLive)
     (ended : BootEnd) : Type 0 where
   pub from : KnownLive
   pub was : before ≡ Some from
@@ -88,29 +88,29 @@ pub record Ends (frames : KnownTable) (stock_table : KnownStockTable) (before af
   pub ends : EndsHeld frames stock_table from.state ended
 
 -- What a request does under the name of these tables, and what is answered
-abbrev pub Serves : KnownTable → KnownStockTable
+abbrev pub ServesRequest : KnownTable → KnownStockTable
     → (before : Option KnownLive) (request : Request) (after : Option KnownLive)
     (answer : RequestAnswer) → Type 0
-Serves frames stock_table before (Start alloc boot sizes) after returned.Done = Starts frames stock_table sizes after
-Serves frames stock_table before (Start alloc boot sizes) after returned.NoMemory = after ≡ None
-Serves frames stock_table before (Lines alloc text is_explained) after (returned.Text answers) =
+ServesRequest frames stock_table before (Start alloc boot sizes) after returned.Done = StartsBoot frames stock_table sizes after
+ServesRequest frames stock_table before (Start alloc boot sizes) after returned.NoMemory = after ≡ None
+ServesRequest frames stock_table before (Lines alloc text is_explained) after (returned.Text answers) =
     OnLive (AnswersScript frames stock_table text.items is_explained answers.items) before after
-Serves frames stock_table before (Lines alloc text is_explained) after (returned.BadLine number) =
+ServesRequest frames stock_table before (Lines alloc text is_explained) after (returned.BadLine number) =
     OnLive (RefusesScript text.items number) before after
-Serves frames stock_table before (Lines alloc text is_explained) after returned.NoMemory =
+ServesRequest frames stock_table before (Lines alloc text is_explained) after returned.NoMemory =
     OnLive (RunsOut frames stock_table text.items is_explained) before after
-Serves frames stock_table before (StoreUnread text) after returned.Done =
+ServesRequest frames stock_table before (StoreUnread text) after returned.Done =
     OnLive (λ from to. to ≡ with_unread_answer from text.items) before after
-Serves frames stock_table before (TakeUnread alloc) after (returned.Text text) =
+ServesRequest frames stock_table before (TakeUnread alloc) after (returned.Text text) =
     OnLive (λ from to. TakesUnreadAnswer from to text.items) before after
-Serves frames stock_table before (End alloc) after (returned.Ended ended) = Ends frames stock_table before after ended
-Serves frames stock_table before request after answer = ⊥
+ServesRequest frames stock_table before (End alloc) after (returned.Ended ended) = EndsLive frames stock_table before after ended
+ServesRequest frames stock_table before request after answer = ⊥
 
 -- what a request does, with the tables before and after it
 pub record ServesRaw (old_frames : KnownTable) (old_stock_table : KnownStockTable) (before : Option KnownLive)
     (request : Request)
     (frames : KnownTable) (stock_table : KnownStockTable) (after : Option KnownLive) (answer : RequestAnswer)
     : Type 0 where
-  pub frames_are : frames ≡ frames_of old_frames request
-  pub stocks_are : stock_table ≡ stocks_of old_stock_table request
-  pub serves : Serves frames stock_table before request after answer
+  pub frames_are : frames ≡ frames_after_request old_frames request
+  pub stocks_are : stock_table ≡ stocks_after_request old_stock_table request
+  pub serves : ServesRequest frames stock_table before request after answer

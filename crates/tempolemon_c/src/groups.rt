@@ -1,7 +1,7 @@
 //! The calls that make and remove groups, and write and read their files. None of them takes memory.
 
 ghost use Rattle.tempolemon_c.specs.Behind.{behind};
-ghost use Rattle.tempolemon_c.specs.Calls.{CallsPath, IsMkdir, IsRead, IsRmdir, IsWrite, Reads};
+ghost use Rattle.tempolemon_c.specs.Calls.{CallsPath, IsMkdir, IsRead, IsRmdir, IsWrite, ReadsIntoBuffer};
 
 use crate::calling::{serve_call, serve_into};
 use crate::handle::Handle;
@@ -70,7 +70,7 @@ pub extern "C" fn tempolemon_read(
     text: &mut [u8],
     out: &mut TypedResult,
 ) -> u8
-    ensures { Reads path.now file.now cpu (behind handle.old) (behind handle.new) result out.new text.old text.new }
+    ensures { ReadsIntoBuffer path.now file.now cpu (behind handle.old) (behind handle.new) result out.new text.old text.new }
 {
     if text.len() < MAX_TEXT {
         *out = TypedResult {

@@ -13,7 +13,7 @@ ghost use Rattle.std.specs.Prelude.{◌≡◌, ◌≢◌, ◌↔◌};
 ghost use Rattle.zone_blocks.specs.Config.{IsValidConfig};
 ghost use Rattle.script_lines.specs.Script.{IsFirstBadLine};
 ghost use Rattle.tempolemon_c.specs.Buffers.{FillsBuffer, ExceedsBuffer};
-ghost use Rattle.tempolemon_c.specs.Replays.{IsAnswered, config_of};
+ghost use Rattle.tempolemon_c.specs.Replays.{IsReplayAnswer, config_of};
 ghost use Rattle.tempolemon_c.specs.Statuses.{IsReplayStatus, bad_config, bad_line, done, small_buffer};
 
 mod boots;
@@ -66,9 +66,9 @@ pub extern "C" fn tempolemon_replay(
     ensures bad_sizes { (result ≡ bad_config) ↔ (¬ IsValidConfig (config_of sizes.now)) }
     ensures first_bad_line { result ≡ bad_line → IsFirstBadLine (config_of sizes.now) script.now first_bad.new }
     ensures answered { result ≡ done → FillsBuffer
-        (IsAnswered (config_of sizes.now) is_explained is_audited script.now) answers.old answers.new written.new }
+        (IsReplayAnswer (config_of sizes.now) is_explained is_audited script.now) answers.old answers.new written.new }
     ensures too_small { result ≡ small_buffer → ExceedsBuffer
-        (IsAnswered (config_of sizes.now) is_explained is_audited script.now) answers.old written.new }
+        (IsReplayAnswer (config_of sizes.now) is_explained is_audited script.now) answers.old written.new }
     ensures buffer_stays { result ≢ done → answers.new ≡ answers.old }
     ensures no_length { result ≢ done → result ≢ small_buffer → written.new ≡ 0 }
     ensures no_bad_line { result ≢ bad_line → first_bad.new ≡ 0 }

@@ -12,7 +12,7 @@ ghost use Rattle.script_replay.specs.ValueAnswers.{HasValueAnswer};
 ghost use Rattle.script_replay.specs.Works.{work_of};
 ghost use Rattle.load_run.specs.Answers.{IsNewBootState};
 ghost use Rattle.load_run.specs.Ending.{EndsHeld};
-ghost use Rattle.tempolemon_c.specs.HandleCalls.{Calls, HasNoGroup, IsCpu, ReturnsCommandAnswer, file_reply};
+ghost use Rattle.tempolemon_c.specs.HandleCalls.{CallsLive, HasNoGroup, IsCpu, ReturnsCommandAnswer, file_reply};
 ghost use Rattle.tempolemon_c.specs.declared.calls.Call.TheVariants.{Alloc, AtFrame};
 ghost use Rattle.tempolemon_c.specs.Commands.{AnswersScript, FailsScript, FailsText, ReplaysText, TakesUnreadAnswer};
 ghost use Rattle.tempolemon_c.specs.Commands.{with_unread_answer};
@@ -107,7 +107,7 @@ impl<N: BootName> Live<N> {
     /// nothing is done. No memory is taken.
     #[inline(always)]
     pub fn call(&mut self, cpu: u32, call: &Call<'_>) -> CallAnswer
-        ensures { Calls N.frames N.stocks cpu call.now self.old self.new result }
+        ensures { CallsLive N.frames N.stocks cpu call.now self.old self.new result }
     {
         if cpu == 0 || cpu as usize > self.cpus.len() {
             return CallAnswer::NoCpu;
@@ -162,7 +162,7 @@ impl<N: BootName> Live<N> {
     #[inline(always)]
     fn serve_at(&mut self, cpu: u32, frame: u32, what: FrameCall) -> CallAnswer
         requires there { IsCpu (length self.old.state.cpus) cpu }
-        ensures { Calls N.frames N.stocks cpu (AtFrame frame what) self.old self.new result }
+        ensures { CallsLive N.frames N.stocks cpu (AtFrame frame what) self.old self.new result }
     {
         if frame >= self.sizes.frames {
             return CallAnswer::NoFrame;
@@ -173,7 +173,7 @@ impl<N: BootName> Live<N> {
     // Takes a block for the group of this number, at a CPU that is there.
     fn allocate(&mut self, cpu: u32, group: u32, order: u32) -> CallAnswer
         requires there { IsCpu (length self.old.state.cpus) cpu }
-        ensures { Calls N.frames N.stocks cpu (Alloc group order) self.old self.new result }
+        ensures { CallsLive N.frames N.stocks cpu (Alloc group order) self.old self.new result }
     {
         let Some(group) = find_group(self.locked.charges(), group) else {
             return CallAnswer::NoGroup;
@@ -192,7 +192,7 @@ impl<N: BootName> Live<N> {
     fn take_frame(&mut self, cpu: u32, group: GroupId) -> CallAnswer
         requires there { IsCpu (length self.old.state.cpus) cpu }
         requires group { IsTrue (has_group self.old.state.locked.machine.ledger.groups group) }
-        ensures { Calls N.frames N.stocks cpu (Alloc group 0) self.old self.new result }
+        ensures { CallsLive N.frames N.stocks cpu (Alloc group 0) self.old self.new result }
     {
         let _path = self.locked.charges().tree().path_of(group).as_bytes(); // Called for its contract.
         CallAnswer::Served(alloc_value(&mut self.locked, &self.tables, &mut self.cpus, cpu, group))

@@ -3,7 +3,7 @@
 ghost use Rattle.std.specs.Prelude.{◌≡◌, IsSome, IsSomeAnd, None, Option};
 ghost use Rattle.frame_word.specs.Seats.{KnownTable};
 ghost use Rattle.stock_word.specs.Stock.{KnownStockTable};
-ghost use Rattle.tempolemon_c.specs.HandleCalls.{Calls, HasFile, ShowsFile};
+ghost use Rattle.tempolemon_c.specs.HandleCalls.{CallsLive, GroupHasFiles, ShowsFile};
 ghost use Rattle.tempolemon_c.specs.Known.{KnownLive};
 ghost use Rattle.tempolemon_c.specs.Owned.{frames_coded, known_coded, live_owns, marker, stocks_coded};
 ghost use Rattle.tempolemon_c.specs.Serving.{IsFit, OnRaw, ServesRaw};
@@ -79,7 +79,7 @@ pub fn serve_raw(raw: RawBoot, request: Request) -> (RawBoot, RequestAnswer)
 #[inline(always)]
 pub fn call_raw(raw: RawBoot, cpu: u32, call: &Call<'_>) -> (RawBoot, CallAnswer)
     requires some { IsSome raw.live }
-    ensures serves { OnRaw (λ from to. Calls raw.frames raw.stocks cpu call.now from to result.1)
+    ensures serves { OnRaw (λ from to. CallsLive raw.frames raw.stocks cpu call.now from to result.1)
         raw.frames raw.stocks raw.live result.0.frames result.0.stocks result.0.live }
 {
     let RawBoot { ptr, alloc } = raw;
@@ -103,7 +103,7 @@ pub fn call_raw(raw: RawBoot, cpu: u32, call: &Call<'_>) -> (RawBoot, CallAnswer
 
 /// Returns what a file of a group shows, as `show_file` does, under the name that it picks for the tables.
 pub fn show_raw(raw: RawBoot, group: GroupId, file: File) -> (RawBoot, FileText)
-    requires there { IsSomeAnd raw.live (HasFile group file) }
+    requires there { IsSomeAnd raw.live (GroupHasFiles group file) }
     ensures shows { OnRaw (λ from to. ShowsFile group file from to result.1)
         raw.frames raw.stocks raw.live result.0.frames result.0.stocks result.0.live }
 {

@@ -2,7 +2,7 @@
 
 ghost use Rattle.std.specs.Prelude.{◌≡◌, IfErr, IfOk};
 ghost use Rattle.zone_blocks.specs.Config.{IsValidConfig};
-ghost use Rattle.tempolemon_c.specs.Replays.{HasCause, IsAnswered};
+ghost use Rattle.tempolemon_c.specs.Replays.{HasReplayCause, IsReplayAnswer};
 
 use crate::fault::ReplayFault;
 use load_run::Form;
@@ -23,8 +23,8 @@ pub fn answer_script(
     is_explained: bool,
     is_audited: bool,
 ) -> Result<Vec<u8>, ReplayFault>
-    ensures answers { IfOk result (λ text. IsAnswered sizes is_explained is_audited script.now text.items) }
-    ensures fault { IfErr result (HasCause sizes script.now) }
+    ensures answers { IfOk result (λ text. IsReplayAnswer sizes is_explained is_audited script.now text.items) }
+    ensures fault { IfErr result (HasReplayCause sizes script.now) }
 {
     match boot(alloc, sizes) {
         Ok(boot) => answer_on_boot(alloc, boot, &sizes, script, is_explained, is_audited),
@@ -44,8 +44,8 @@ fn answer_on_boot(
 ) -> Result<Vec<u8>, ReplayFault>
     requires valid { IsValidConfig sizes.now }
     requires sizes { boot.sizes ≡ sizes.now }
-    ensures answers { IfOk result (λ text. IsAnswered sizes.now is_explained is_audited script.now text.items) }
-    ensures fault { IfErr result (HasCause sizes.now script.now) }
+    ensures answers { IfOk result (λ text. IsReplayAnswer sizes.now is_explained is_audited script.now text.items) }
+    ensures fault { IfErr result (HasReplayCause sizes.now script.now) }
 {
     let form = Form {
         is_explained,

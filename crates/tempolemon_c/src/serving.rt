@@ -1,8 +1,8 @@
 //! Serving requests under the name of a boot's tables.
 
 ghost use Rattle.std.specs.Prelude.{◌≡◌, IsSome, IsSomeAnd, None};
-ghost use Rattle.tempolemon_c.specs.HandleCalls.{Calls, HasFile, ShowsFile};
-ghost use Rattle.tempolemon_c.specs.Serving.{MayBeAsked, OnLive, Serves};
+ghost use Rattle.tempolemon_c.specs.HandleCalls.{CallsLive, GroupHasFiles, ShowsFile};
+ghost use Rattle.tempolemon_c.specs.Serving.{MayBeAsked, OnLive, ServesRequest};
 ghost use Rattle.tempolemon_c.specs.declared.requests.Request.TheVariants.{End, Lines, Start, StoreUnread, TakeUnread};
 
 use crate::box_parts::BoxParts;
@@ -24,7 +24,7 @@ pub fn serve<N: BootName>(
     request: Request,
 ) -> (LivePointer<N>, RequestAnswer)
     requires asked { MayBeAsked N.frames N.stocks pointer.live request }
-    ensures serves { Serves N.frames N.stocks pointer.live request result.0.live result.1 }
+    ensures serves { ServesRequest N.frames N.stocks pointer.live request result.0.live result.1 }
 {
     match request {
         Request::Start { alloc, boot, sizes } => start(pointer, alloc, boot, sizes),
@@ -47,7 +47,7 @@ pub fn serve_call<N: BootName>(
     call: &Call<'_>,
 ) -> (LivePointer<N>, CallAnswer)
     requires some { IsSome pointer.live }
-    ensures serves { OnLive (λ from to. Calls N.frames N.stocks cpu call.now from to result.1)
+    ensures serves { OnLive (λ from to. CallsLive N.frames N.stocks cpu call.now from to result.1)
         pointer.live result.0.live }
 {
     let mut live = pointer.into_box_parts().into_box();
@@ -61,7 +61,7 @@ pub fn show_file<N: BootName>(
     group: GroupId,
     file: File,
 ) -> (LivePointer<N>, FileText)
-    requires there { IsSomeAnd pointer.live (HasFile group file) }
+    requires there { IsSomeAnd pointer.live (GroupHasFiles group file) }
     ensures shows { OnLive (λ from to. ShowsFile group file from to result.1) pointer.live result.0.live }
 {
     let live = pointer.into_box_parts().into_box();
@@ -79,7 +79,7 @@ fn start<N: BootName>(
     requires frames { boot.frames ≡ N.frames }
     requires stocks { boot.stocks ≡ N.stocks }
     requires sizes { boot.sizes ≡ sizes }
-    ensures serves { Serves N.frames N.stocks pointer.live (Start alloc boot sizes) result.0.live result.1 }
+    ensures serves { ServesRequest N.frames N.stocks pointer.live (Start alloc boot sizes) result.0.live result.1 }
 {
     let Ok(live) = Live::<N>::start(alloc, boot, sizes) else {
         return (pointer, RequestAnswer::NoMemory);
@@ -97,7 +97,7 @@ fn answer_lines<N: BootName>(
     is_explained: bool,
 ) -> (LivePointer<N>, RequestAnswer)
     requires some { IsSome pointer.live }
-    ensures serves { Serves N.frames N.stocks pointer.live (Lines alloc text is_explained) result.0.live result.1 }
+    ensures serves { ServesRequest N.frames N.stocks pointer.live (Lines alloc text is_explained) result.0.live result.1 }
 {
     let mut live = pointer.into_box_parts().into_box();
     let answered = live.answer_lines(alloc, &text, is_explained);
@@ -114,7 +114,7 @@ fn store_unread<N: BootName>(
     text: Vec<u8>,
 ) -> (LivePointer<N>, RequestAnswer)
     requires some { IsSome pointer.live }
-    ensures serves { Serves N.frames N.stocks pointer.live (StoreUnread text) result.0.live result.1 }
+    ensures serves { ServesRequest N.frames N.stocks pointer.live (StoreUnread text) result.0.live result.1 }
 {
     let mut live = pointer.into_box_parts().into_box();
     live.store_unread(text);
@@ -126,7 +126,7 @@ fn take_unread<N: BootName>(
     alloc: Global,
 ) -> (LivePointer<N>, RequestAnswer)
     requires some { IsSome pointer.live }
-    ensures serves { Serves N.frames N.stocks pointer.live (TakeUnread alloc) result.0.live result.1 }
+    ensures serves { ServesRequest N.frames N.stocks pointer.live (TakeUnread alloc) result.0.live result.1 }
 {
     let mut live = pointer.into_box_parts().into_box();
     let text = live.take_unread(alloc);
@@ -138,7 +138,7 @@ fn take_unread<N: BootName>(
 
 fn finish<N: BootName>(pointer: LivePointer<N>, alloc: Global) -> (LivePointer<N>, RequestAnswer)
     requires some { IsSome pointer.live }
-    ensures serves { Serves N.frames N.stocks pointer.live (End alloc) result.0.live result.1 }
+    ensures serves { ServesRequest N.frames N.stocks pointer.live (End alloc) result.0.live result.1 }
 {
     let live = Box::into_inner(pointer.into_box_parts().into_box());
     let ended = live.finish();

@@ -4,7 +4,7 @@ ghost use Rattle.std.specs.Prelude.{◌≡◌, List, ℕ};
 ghost use Rattle.group_charge.specs.Charges.{Ledger};
 ghost use Rattle.mem_system.specs.Outcomes.{reply_of};
 ghost use Rattle.script_replay.specs.ValueAnswers.{answer_of};
-ghost use Rattle.tempolemon_c.specs.Calls.{IsPlain, IsPlainOutcome, PutsAnswer, PutsReply};
+ghost use Rattle.tempolemon_c.specs.Calls.{HasNoText, IsPlainOutcome, PutsAnswer, PutsReply};
 ghost use Rattle.tempolemon_c.specs.Kinds.{fast_result, get_result, put_result, reply_result, reply_status};
 ghost use Rattle.tempolemon_c.specs.Kinds.{result_of, result_with, status_of};
 
@@ -51,7 +51,7 @@ fn with_number(kind: u8, number: u64) -> TypedAnswer
 /// memory.
 #[inline(always)]
 pub(crate) fn typed_answer_of(value: &AnswerValue) -> TypedAnswer
-    requires { IsPlain value.now }
+    requires { HasNoText value.now }
     ensures status { (ledger : Ledger) → result.status ≡ status_of (answer_of ledger value.now) }
     ensures typed { (ledger : Ledger) → result.typed ≡ result_of (answer_of ledger value.now) }
     ensures no_text { (ledger : Ledger) (buffer : List ℕ) → PutsAnswer (answer_of ledger value.now) buffer buffer }

@@ -9,7 +9,7 @@ use Rattle.stock_word.specs.Stock.{KnownStockTable}
 use Rattle.zone_threads.specs.Homes.{HasCpu, HasNoCpu, KnownHome}
 use Rattle.zone_threads.specs.declared.home.NotLeft.{NotLeft}
 use Rattle.zone_threads.specs.declared.home.NotLeft.TheVariants as not_left
-use Rattle.tempolemon_threads.specs.Serving.{DropsHome, OnRaw, Serves}
+use Rattle.tempolemon_threads.specs.Serving.{DropsHome, OnRawHome, ServesHomeRequest}
 use Rattle.tempolemon_threads.specs.declared.requests.Request.TheVariants.{Leave}
 use Rattle.tempolemon_threads.specs.declared.requests.RequestAnswer.{RequestAnswer}
 use Rattle.tempolemon_threads.specs.declared.requests.RequestAnswer.TheVariants as answer
@@ -17,7 +17,7 @@ use Rattle.tempolemon_threads.specs.Zones.{IsCpuHandle, IsZoneHandle, OnPart, le
 
 -- what was done to the home that the pointer leads to was done behind the handle
 pub crossed : (does : KnownTable → KnownStockTable → (from to : KnownHome) → Type 0) (f : KnownTable) (s : KnownStockTable) (o : Option KnownHome)
-    (g : KnownTable) (t : KnownStockTable) (p : Option KnownHome) → OnRaw (does f s) f s o g t p → OnPart does (led_of f s o) (led_of g t p)
+    (g : KnownTable) (t : KnownStockTable) (p : Option KnownHome) → OnRawHome (does f s) f s o g t p → OnPart does (led_of f s o) (led_of g t p)
 crossed does f s o g t p on = record {
   frames = f;
   stocks = s;
@@ -42,8 +42,8 @@ zone_behind f s is_live (Some home) is some = is.no_cpu home refl
 
 -- a return by a CPU's handle doesn't find that there is no CPU
 pub no_cpu_left : (f : KnownTable) (s : KnownStockTable) (a : Global) (is_live : Bool) (o before after : Option KnownHome) (said : RequestAnswer)
-    (reason : NotLeft) → IsCpuHandle is_live o → before ≡ o → Serves f s before (Leave a) after said → said ≡ answer.NotLeft reason
+    (reason : NotLeft) → IsCpuHandle is_live o → before ≡ o → ServesHomeRequest f s before (Leave a) after said → said ≡ answer.NotLeft reason
     → reason ≡ not_left.NoCpu → ⊥
 no_cpu_left f s a is_live o before after said reason is same serves one two =
-    let drops : DropsHome before after = subst (λ (x : RequestAnswer). Serves f s before (Leave a) after x) (one ∙ ap answer.NotLeft two) serves in
+    let drops : DropsHome before after = subst (λ (x : RequestAnswer). ServesHomeRequest f s before (Leave a) after x) (one ∙ ap answer.NotLeft two) serves in
     false≢true (subst (λ (x : Option KnownCpu). IsSome x) drops.none (is.cpu drops.from (sym same ∙ drops.was)))

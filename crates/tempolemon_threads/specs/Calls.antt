@@ -5,8 +5,8 @@ use Rattle.group_tree.specs.declared.fault.Fault.TheVariants.{NoGroup}
 use Rattle.control_files.specs.Text.{longest_text}
 use Rattle.mem_system.specs.declared.command.Cmd.{Cmd}
 use Rattle.mem_system.specs.declared.command.Cmd.TheVariants as cmd
-use Rattle.zone_threads.specs.Calling.{Calls, Reads}
-use Rattle.zone_threads.specs.Shown.{Shows}
+use Rattle.zone_threads.specs.Calling.{Calls, AnswersRead}
+use Rattle.zone_threads.specs.Shown.{ReadsText}
 use Rattle.zone_threads.specs.declared.calls.Call.{Call}
 use Rattle.zone_threads.specs.declared.calls.Call.TheVariants.{AllocBlock, AllocFrame, Visit}
 use Rattle.zone_threads.specs.declared.calls.CallAnswer.{CallAnswer}
@@ -18,7 +18,7 @@ use Rattle.zone_threads.specs.declared.texts.TextAnswer.TheVariants as text
 use Rattle.zone_threads.specs.declared.texts.TextCall.{TextCall}
 use Rattle.zone_threads.specs.declared.texts.TextCall.TheVariants.{Units}
 use Rattle.tempolemon_threads.specs.Buffers.{ExceedsBuffer, FillsBuffer}
-use Rattle.tempolemon_threads.specs.Kinds.{no_result, read_result, read_status, result_of, status_of}
+use Rattle.tempolemon_threads.specs.Kinds.{no_result, read_result, read_status, call_result_of, call_status_of}
 use Rattle.tempolemon_threads.specs.Statuses.{busy, done, no_memory, not_live, small_buffer}
 use Rattle.tempolemon_threads.specs.Zones.{Led, OnPart}
 use Rattle.tempolemon_threads.specs.declared.typed_result.TypedResult.{TypedResult}
@@ -30,13 +30,13 @@ pub record IsNotLive (before after : Option Led) (status : ℕ) (out : TypedResu
   pub status_is : status ≡ not_live
   pub out_is : out ≡ no_result
 
--- the call was answered: `Calls` says what each answer means for the CPU, and `status_of` and `result_of` which status
+-- the call was answered: `Calls` says what each answer means for the CPU, and `call_status_of` and `call_result_of` which status
 -- and result go with it
 pub record AnswersPart (asked : Call) (before after : Option Led) (status : ℕ) (out : TypedResult) : Type 0 where
   pub answer : CallAnswer
   pub calls : OnPart (λ frames stocks from to. Calls frames stocks asked from to answer) before after
-  pub status_is : status ≡ status_of answer
-  pub out_is : out ≡ result_of answer
+  pub status_is : status ≡ call_status_of answer
+  pub out_is : out ≡ call_result_of answer
 
 -- what a call does
 abbrev pub CallsPart : Call → (before after : Option Led) (status : ℕ) (out : TypedResult) → Type 0
@@ -48,26 +48,26 @@ AllocsPart group zero before after status out = CallsPart (AllocFrame group) bef
 AllocsPart group (suc less) before after status out = CallsPart (AllocBlock group (suc less)) before after status out
 
 -- a command with these texts was given
-pub record Visits (is_asked : Cmd → Type 0) (before after : Option Led) (status : ℕ) (out : TypedResult) : Type 0 where
+pub record GivesCommand (is_asked : Cmd → Type 0) (before after : Option Led) (status : ℕ) (out : TypedResult) : Type 0 where
   pub asked : Cmd
   pub is : is_asked asked
   pub calls : CallsPart (Visit asked) before after status out
 
 -- the command makes the group of this path
-abbrev pub IsMkdir : (path : List ℕ) → Cmd → Type 0
-IsMkdir path (cmd.Mkdir named) = named.now ≡ path
-IsMkdir path other = ⊥
+abbrev pub IsMkdirCmd : (path : List ℕ) → Cmd → Type 0
+IsMkdirCmd path (cmd.Mkdir named) = named.now ≡ path
+IsMkdirCmd path other = ⊥
 
 -- the command removes the group of this path
-abbrev pub IsRmdir : (path : List ℕ) → Cmd → Type 0
-IsRmdir path (cmd.Rmdir named) = named.now ≡ path
-IsRmdir path other = ⊥
+abbrev pub IsRmdirCmd : (path : List ℕ) → Cmd → Type 0
+IsRmdirCmd path (cmd.Rmdir named) = named.now ≡ path
+IsRmdirCmd path other = ⊥
 
 -- the command writes this value to this file of the group of this path
-abbrev pub IsWrite : (path file value : List ℕ) → Cmd → Type 0
-IsWrite path file value (cmd.Write named in_file text) =
+abbrev pub IsWriteCmd : (path file value : List ℕ) → Cmd → Type 0
+IsWriteCmd path file value (cmd.Write named in_file text) =
     (named.now ≡ path) × ((in_file.now ≡ file) × (text.now ≡ value))
-IsWrite path file value other = ⊥
+IsWriteCmd path file value other = ⊥
 
 -- a text was written at the start of a buffer that has room for it; one without room stays
 pub record PutsText (text : List ℕ) (old new : List ℕ) : Type 0 where
@@ -86,30 +86,30 @@ pub record ReadsPart (path file : List ℕ) (before after : Option Led) (status 
   pub path_is : asked.path.now ≡ path
   pub file_is : asked.file.now ≡ file
   pub answer : ReadAnswer
-  pub reads : OnPart (λ frames stocks from to. Reads frames stocks asked from to answer) before after
+  pub reads : OnPart (λ frames stocks from to. AnswersRead frames stocks asked from to answer) before after
   pub status_is : status ≡ read_status answer
   pub out_is : out ≡ read_result answer
   pub buffer : PutsRead answer old new
 
 -- the buffer is refused as too small, and nothing was done
-pub record IsTooSmall (before after : Option Led) (status : ℕ) (out : TypedResult) (old new : List ℕ) : Type 0 where
+pub record RefusesSmallBuffer (before after : Option Led) (status : ℕ) (out : TypedResult) (old new : List ℕ) : Type 0 where
   pub status_is : status ≡ small_buffer
   pub stays : after ≡ before
   pub out_is : out ≡ no_result
   pub buffer_stays : new ≡ old
 
 -- a read into a buffer with room for the longest text of a file: the handle leads nowhere, or the read was answered
-abbrev pub ReadsBehind : (path file : List ℕ) (before after : Option Led) (status : ℕ) (out : TypedResult)
+abbrev pub ReadsIfLive : (path file : List ℕ) (before after : Option Led) (status : ℕ) (out : TypedResult)
     (old new : List ℕ) → Type 0
-ReadsBehind path file before after status out old new =
+ReadsIfLive path file before after status out old new =
     (IsNotLive before after status out × (new ≡ old)) ⊎ ReadsPart path file before after status out old new
 
 -- What a read of a file does. Whether the buffer has room for the longest text of a file is looked at first, whatever
 -- the handle and the call
 pub record ReadsInto (path file : List ℕ) (before after : Option Led) (status : ℕ) (out : TypedResult)
     (old new : List ℕ) : Type 0 where
-  pub refused : length old < longest_text → IsTooSmall before after status out old new
-  pub read : longest_text ≤ length old → ReadsBehind path file before after status out old new
+  pub refused : length old < longest_text → RefusesSmallBuffer before after status out old new
+  pub read : longest_text ≤ length old → ReadsIfLive path file before after status out old new
 
 -- The buffer and the length of a text, by the answer. If the buffer is too small for a text, the length is what it
 -- needs.
@@ -124,7 +124,7 @@ GivesText text.NoMemory status old new written = (status ≡ no_memory) × (new 
 pub record ShowsPart (asked : TextCall) (before after : Option Led) (status : ℕ) (old new : List ℕ) (written : ℕ)
     : Type 0 where
   pub answer : TextAnswer
-  pub shows : OnPart (λ frames stocks. Shows frames stocks asked answer) before after
+  pub shows : OnPart (λ frames stocks. ReadsText frames stocks asked answer) before after
   pub gives : GivesText answer status old new written
 
 -- nothing was done: the handle leads nowhere, another thread has the lock, or memory ran out before

@@ -57,26 +57,26 @@ put_result (put.Left references) = result_with 10 references
 put_result put.Last = result_with 18 0
 
 -- the result of an answer
-abbrev pub result_of : CallAnswer → TypedResult
-result_of answer.Busy = no_result
-result_of answer.NoFrame = no_result
-result_of answer.NoGroup = no_result
-result_of (answer.Served outcome) = outcome_result outcome
-result_of (answer.Taken frame) = result_with 3 frame
-result_of answer.Listed = result_with 13 0
-result_of (answer.Got got) = get_result got
-result_of (answer.Put put) = put_result put
-result_of answer.Settled = result_with 12 0
-result_of (answer.Refused fault) = result_with 20 0
+abbrev pub call_result_of : CallAnswer → TypedResult
+call_result_of answer.Busy = no_result
+call_result_of answer.NoFrame = no_result
+call_result_of answer.NoGroup = no_result
+call_result_of (answer.Served outcome) = outcome_result outcome
+call_result_of (answer.Taken frame) = result_with 3 frame
+call_result_of answer.Listed = result_with 13 0
+call_result_of (answer.Got got) = get_result got
+call_result_of (answer.Put put) = put_result put
+call_result_of answer.Settled = result_with 12 0
+call_result_of (answer.Refused fault) = result_with 20 0
 
 -- the status of an answer
-abbrev pub status_of : CallAnswer → ℕ
-status_of answer.Busy = busy
-status_of answer.NoFrame = bad_frame
-status_of answer.NoGroup = bad_group
-status_of (answer.Served outcome) = outcome_status outcome
-status_of (answer.Refused fault) = number_of fault
-status_of other = done
+abbrev pub call_status_of : CallAnswer → ℕ
+call_status_of answer.Busy = busy
+call_status_of answer.NoFrame = bad_frame
+call_status_of answer.NoGroup = bad_group
+call_status_of (answer.Served outcome) = outcome_status outcome
+call_status_of (answer.Refused fault) = number_of fault
+call_status_of other = done
 
 -- the result of a read
 abbrev pub read_result : ReadAnswer → TypedResult

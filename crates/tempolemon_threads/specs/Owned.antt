@@ -41,8 +41,8 @@ abbrev pub home_row : RattleType → KnownTable → KnownStockTable → RattleTy
 home_row name frames stock_table = Home.the_row name (record { frames = frames; stocks = stock_table })
 
 -- how a home is stored, if there is one
-abbrev pub known_coded : Coded (Option KnownHome)
-known_coded = coded_option (Known.the_code Brand.the_row.Denot Brand.the_row.coded)
+abbrev pub home_coded : Coded (Option KnownHome)
+home_coded = coded_option (Known.the_code Brand.the_row.Denot Brand.the_row.coded)
 
 -- a pointer to a home owns it as a box does; a pointer to nothing owns nothing
 abbrev pub home_owns : RattleType → KnownTable → KnownStockTable → Global → Ptr → Option KnownHome → Fml

@@ -3,7 +3,7 @@ use Rattle.std.specs.Prelude.{◌≡◌, Option, None, Some, IsSome}
 use Rattle.frame_word.specs.Seats.{KnownTable}
 use Rattle.stock_word.specs.Stock.{KnownStockTable}
 use Rattle.zone_threads.specs.Homes.{EndsZone, GetsCpu, HasCpu, HasNoCpu, IfNotEntered, KnownHome}
-use Rattle.zone_threads.specs.Shown.{Shows}
+use Rattle.zone_threads.specs.Shown.{ReadsText}
 use Rattle.zone_threads.specs.declared.home.NotLeft.TheVariants as not_left
 use Rattle.tempolemon_threads.specs.declared.requests.Request.{Request}
 use Rattle.tempolemon_threads.specs.declared.requests.Request.TheVariants.{Start, Enter, Leave, Text, End}
@@ -13,45 +13,45 @@ use Rattle.tempolemon_threads.specs.declared.requests.Forked.{Forked}
 use Rattle.tempolemon_threads.specs.declared.requests.Forked.TheVariants as forked
 
 -- the frames' table after a request: a start brings its own, else it stays
-abbrev pub frames_of : KnownTable → Request → KnownTable
-frames_of frames (Start alloc boot) = boot.frames
-frames_of frames (Enter number) = frames
-frames_of frames (Leave alloc) = frames
-frames_of frames (Text alloc asked) = frames
-frames_of frames (End alloc) = frames
+abbrev pub home_frames_after : KnownTable → Request → KnownTable
+home_frames_after frames (Start alloc boot) = boot.frames
+home_frames_after frames (Enter number) = frames
+home_frames_after frames (Leave alloc) = frames
+home_frames_after frames (Text alloc asked) = frames
+home_frames_after frames (End alloc) = frames
 
 -- the stocks' table after a request
-abbrev pub stocks_of : KnownStockTable → Request → KnownStockTable
-stocks_of stock_table (Start alloc boot) = boot.stocks
-stocks_of stock_table (Enter number) = stock_table
-stocks_of stock_table (Leave alloc) = stock_table
-stocks_of stock_table (Text alloc asked) = stock_table
-stocks_of stock_table (End alloc) = stock_table
+abbrev pub home_stocks_after : KnownStockTable → Request → KnownStockTable
+home_stocks_after stock_table (Start alloc boot) = boot.stocks
+home_stocks_after stock_table (Enter number) = stock_table
+home_stocks_after stock_table (Leave alloc) = stock_table
+home_stocks_after stock_table (Text alloc asked) = stock_table
+home_stocks_after stock_table (End alloc) = stock_table
 
 -- what may be asked: a start if there is no home, a text of a CPU, an end without one, and all else if there is a home
-abbrev pub IsFit : Option KnownHome → Request → Type 0
-IsFit None (Start alloc boot) = Unit {0}
-IsFit None (Enter number) = ⊥
-IsFit None (Leave alloc) = ⊥
-IsFit None (Text alloc asked) = ⊥
-IsFit None (End alloc) = ⊥
-IsFit (Some home) (Start alloc boot) = ⊥
-IsFit (Some home) (Enter number) = Unit {0}
-IsFit (Some home) (Leave alloc) = Unit {0}
-IsFit (Some home) (Text alloc asked) = HasCpu home
-IsFit (Some home) (End alloc) = HasNoCpu home
+abbrev pub IsFitForHome : Option KnownHome → Request → Type 0
+IsFitForHome None (Start alloc boot) = Unit {0}
+IsFitForHome None (Enter number) = ⊥
+IsFitForHome None (Leave alloc) = ⊥
+IsFitForHome None (Text alloc asked) = ⊥
+IsFitForHome None (End alloc) = ⊥
+IsFitForHome (Some home) (Start alloc boot) = ⊥
+IsFitForHome (Some home) (Enter number) = Unit {0}
+IsFitForHome (Some home) (Leave alloc) = Unit {0}
+IsFitForHome (Some home) (Text alloc asked) = HasCpu home
+IsFitForHome (Some home) (End alloc) = HasNoCpu home
 
 -- a boot that is started has these tables
-abbrev pub IsNamed : KnownTable → KnownStockTable → Request → Type 0
-IsNamed frames stock_table (Start alloc boot) = (boot.frames ≡ frames) × (boot.stocks ≡ stock_table)
-IsNamed frames stock_table (Enter number) = Unit {0}
-IsNamed frames stock_table (Leave alloc) = Unit {0}
-IsNamed frames stock_table (Text alloc asked) = Unit {0}
-IsNamed frames stock_table (End alloc) = Unit {0}
+abbrev pub StartsHomeUnder : KnownTable → KnownStockTable → Request → Type 0
+StartsHomeUnder frames stock_table (Start alloc boot) = (boot.frames ≡ frames) × (boot.stocks ≡ stock_table)
+StartsHomeUnder frames stock_table (Enter number) = Unit {0}
+StartsHomeUnder frames stock_table (Leave alloc) = Unit {0}
+StartsHomeUnder frames stock_table (Text alloc asked) = Unit {0}
+StartsHomeUnder frames stock_table (End alloc) = Unit {0}
 
 -- what may be asked under the name of these tables
-abbrev pub MayBeAsked : KnownTable → KnownStockTable → Option KnownHome → Request → Type 0
-MayBeAsked frames stock_table home request = IsFit home request × IsNamed frames stock_table request
+abbrev pub MayBeAskedOfHome : KnownTable → KnownStockTable → Option KnownHome → Request → Type 0
+MayBeAskedOfHome frames stock_table home request = IsFitForHome home request × StartsHomeUnder frames stock_table request
 
 -- there is a home before and after, and `does` leads from one to the other
 pub record OnHome (does : (from to : KnownHome) → Type 0) (before after : Option KnownHome) : Type 0 where
@@ -62,7 +62,7 @@ pub record OnHome (does : (from to : KnownHome) → Type 0) (before after : Opti
   pub done : does from to
 
 -- the same, and the tables stay
-pub record OnRaw (does : (from to : KnownHome) → Type 0) (old_frames : KnownTable) (old_stock_table : KnownStockTable)
+pub record OnRawHome (does : (from to : KnownHome) → Type 0) (old_frames : KnownTable) (old_stock_table : KnownStockTable)
     (before : Option KnownHome) (frames : KnownTable) (stock_table : KnownStockTable) (after : Option KnownHome) :
     Type 0 where
   pub frames_are : frames ≡ old_frames
@@ -90,33 +90,33 @@ pub record DropsHome (before after : Option KnownHome) : Type 0 where
   pub is : after ≡ None
 
 -- what a request does under the name of these tables, by its answer
-abbrev pub Serves : KnownTable → KnownStockTable → (before : Option KnownHome) (request : Request)
+abbrev pub ServesHomeRequest : KnownTable → KnownStockTable → (before : Option KnownHome) (request : Request)
     (after : Option KnownHome) (answer : RequestAnswer) → Type 0
-Serves frames stock_table before (Start alloc boot) after returned.Started = StartsHome after
-Serves frames stock_table before (Start alloc boot) after returned.NoMemory = after ≡ None
-Serves frames stock_table before (Enter number) after returned.Entered = OnHome (GetsCpu number) before after
-Serves frames stock_table before (Enter number) after (returned.NotEntered reason) =
+ServesHomeRequest frames stock_table before (Start alloc boot) after returned.Started = StartsHome after
+ServesHomeRequest frames stock_table before (Start alloc boot) after returned.NoMemory = after ≡ None
+ServesHomeRequest frames stock_table before (Enter number) after returned.Entered = OnHome (GetsCpu number) before after
+ServesHomeRequest frames stock_table before (Enter number) after (returned.NotEntered reason) =
     OnHome (λ from to. IfNotEntered frames.cpus number from reason to) before after
-Serves frames stock_table before (Leave alloc) after returned.Left = LeavesHome before after
-Serves frames stock_table before (Leave alloc) after (returned.NotLeft not_left.NoCpu) = DropsHome before after
-Serves frames stock_table before (Leave alloc) after (returned.NotLeft not_left.Busy) = after ≡ before
-Serves frames stock_table before (Text alloc asked) after (returned.Text text) =
-    OnHome (Shows frames stock_table asked text) before after
-Serves frames stock_table before (Text alloc asked) after returned.Busy = after ≡ before
-Serves frames stock_table before (End alloc) after returned.Out = after ≡ before
-Serves frames stock_table before (End alloc) after (returned.Ended ended) =
+ServesHomeRequest frames stock_table before (Leave alloc) after returned.Left = LeavesHome before after
+ServesHomeRequest frames stock_table before (Leave alloc) after (returned.NotLeft not_left.NoCpu) = DropsHome before after
+ServesHomeRequest frames stock_table before (Leave alloc) after (returned.NotLeft not_left.Busy) = after ≡ before
+ServesHomeRequest frames stock_table before (Text alloc asked) after (returned.Text text) =
+    OnHome (ReadsText frames stock_table asked text) before after
+ServesHomeRequest frames stock_table before (Text alloc asked) after returned.Busy = after ≡ before
+ServesHomeRequest frames stock_table before (End alloc) after returned.Out = after ≡ before
+ServesHomeRequest frames stock_table before (End alloc) after (returned.Ended ended) =
     EndsZone frames stock_table ended × (after ≡ None)
-Serves frames stock_table before (End alloc) after returned.NoMemory = after ≡ None
-Serves frames stock_table before (End alloc) after returned.Lost = after ≡ None
-Serves frames stock_table before request after answer = ⊥
+ServesHomeRequest frames stock_table before (End alloc) after returned.NoMemory = after ≡ None
+ServesHomeRequest frames stock_table before (End alloc) after returned.Lost = after ≡ None
+ServesHomeRequest frames stock_table before request after answer = ⊥
 
 -- what a request does, with the tables before and after it
-pub record ServesRaw (old_frames : KnownTable) (old_stock_table : KnownStockTable) (before : Option KnownHome)
+pub record ServesRawHome (old_frames : KnownTable) (old_stock_table : KnownStockTable) (before : Option KnownHome)
     (request : Request) (frames : KnownTable) (stock_table : KnownStockTable) (after : Option KnownHome)
     (answer : RequestAnswer) : Type 0 where
-  pub frames_are : frames ≡ frames_of old_frames request
-  pub stocks_are : stock_table ≡ stocks_of old_stock_table request
-  pub serves : Serves frames stock_table before request after answer
+  pub frames_are : frames ≡ home_frames_after old_frames request
+  pub stocks_are : stock_table ≡ home_stocks_after old_stock_table request
+  pub serves : ServesHomeRequest frames stock_table before request after answer
 
 -- there is a second home, without a CPU; or there is none
 abbrev pub IsForked : Option KnownHome → Forked → Type 0

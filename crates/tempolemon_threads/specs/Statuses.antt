@@ -58,12 +58,12 @@ abbrev pub lost : ℕ
 lost = 112
 
 -- the statuses with which a boot is answered
-abbrev pub IsBootStatus : ℕ → Type 0
-IsBootStatus status = Contains (done ∷ bad_config ∷ no_memory ∷ is_live ∷ []) status
+abbrev pub IsZoneBootStatus : ℕ → Type 0
+IsZoneBootStatus status = Contains (done ∷ bad_config ∷ no_memory ∷ is_live ∷ []) status
 
 -- the statuses with which an end is answered
-abbrev pub IsEndStatus : ℕ → Type 0
-IsEndStatus status = Contains (done ∷ not_live ∷ cpus_out ∷ no_memory ∷ lost ∷ []) status
+abbrev pub IsZoneEndStatus : ℕ → Type 0
+IsZoneEndStatus status = Contains (done ∷ not_live ∷ cpus_out ∷ no_memory ∷ lost ∷ []) status
 
 -- the statuses with which a take is answered
 abbrev pub IsTakeStatus : ℕ → Type 0

@@ -21,8 +21,8 @@ config_of sizes = record {
 }
 
 -- what a host reads of the end of a zone, as the zone reported it
-abbrev pub ended_of : Report → ZoneEnd
-ended_of report = record {
+abbrev pub zone_end_of : Report → ZoneEnd
+zone_end_of report = record {
   held = report.held;
   audit = record {
     frames = report.frames;
@@ -109,5 +109,5 @@ pub record ReturnsPart (before after : Option Led) : Type 0 where
 pub record EndsWith (report : Report) (before after : Option Led) : Type 0 where
   pub zone : Led
   pub was : before ≡ Some zone
-  pub ends : EndsZone zone.frames zone.stocks (ended_of report)
+  pub ends : EndsZone zone.frames zone.stocks (zone_end_of report)
   pub is : after ≡ None

@@ -2,7 +2,7 @@
 //! lock.
 
 ghost use Rattle.tempolemon_threads.specs.Behind.{part_behind};
-ghost use Rattle.tempolemon_threads.specs.Calls.{IsMkdir, IsRmdir, IsWrite, ReadsInto, Visits};
+ghost use Rattle.tempolemon_threads.specs.Calls.{IsMkdirCmd, IsRmdirCmd, IsWriteCmd, ReadsInto, GivesCommand};
 
 use crate::buffers::copy_answers;
 use crate::calling::serve_call;
@@ -23,7 +23,7 @@ pub extern "C" fn tempolemon_try_mkdir(
     path: &[u8],
     out: &mut TypedResult,
 ) -> u8
-    ensures { Visits (IsMkdir path.now) (part_behind part.old) (part_behind part.new) result out.new }
+    ensures { GivesCommand (IsMkdirCmd path.now) (part_behind part.old) (part_behind part.new) result out.new }
 {
     serve_call(alloc, part, &Call::Visit(Cmd::Mkdir { path }), out)
 }
@@ -36,7 +36,7 @@ pub extern "C" fn tempolemon_try_rmdir(
     path: &[u8],
     out: &mut TypedResult,
 ) -> u8
-    ensures { Visits (IsRmdir path.now) (part_behind part.old) (part_behind part.new) result out.new }
+    ensures { GivesCommand (IsRmdirCmd path.now) (part_behind part.old) (part_behind part.new) result out.new }
 {
     serve_call(alloc, part, &Call::Visit(Cmd::Rmdir { path }), out)
 }
@@ -51,7 +51,7 @@ pub extern "C" fn tempolemon_try_write(
     value: &[u8],
     out: &mut TypedResult,
 ) -> u8
-    ensures { Visits (IsWrite path.now file.now value.now)
+    ensures { GivesCommand (IsWriteCmd path.now file.now value.now)
         (part_behind part.old) (part_behind part.new) result out.new }
 {
     let cmd = Cmd::Write { path, file, value };

@@ -2,9 +2,9 @@
 
 ghost use Rattle.std.specs.Prelude.{◌≡◌, ◌↔◌, IfNone, IfSome, IsSome, IsSomeAnd, IsTrue, MatchBool, MatchResult, None};
 ghost use Rattle.mem_system.specs.Boots.{IsSizedAs};
-ghost use Rattle.zone_threads.specs.Calling.{Calls, Reads};
+ghost use Rattle.zone_threads.specs.Calling.{Calls, AnswersRead};
 ghost use Rattle.zone_threads.specs.Homes.{HasNoCpu};
-ghost use Rattle.zone_threads.specs.Shown.{Shows};
+ghost use Rattle.zone_threads.specs.Shown.{ReadsText};
 ghost use Rattle.tempolemon_threads.specs.Behind.{part_behind, zone_behind};
 ghost use Rattle.tempolemon_threads.specs.Handling.{EndsAs, EntersNone, ForksAs};
 ghost use Rattle.tempolemon_threads.specs.Zones.{BootsZone, CpuIn, OnPart, ReturnsPart};
@@ -143,7 +143,7 @@ impl CpuPart {
     #[tactic(auto, using(crate::proofs::Crossing::crossed, crate::proofs::Crossing::cpu_behind))]
     pub(crate) fn read(&mut self, alloc: Global, asked: &ReadCall<'_>) -> ReadAnswer
         requires live { IsSome (part_behind self.old) }
-        ensures { OnPart (λ frames stocks from to. Reads frames stocks asked.now from to result)
+        ensures { OnPart (λ frames stocks from to. AnswersRead frames stocks asked.now from to result)
             (part_behind self.old) (part_behind self.new) }
     {
         let raw = std::mem::replace(&mut self.raw, RawHome::none(alloc));
@@ -156,7 +156,7 @@ impl CpuPart {
     pub(crate) fn text(&mut self, alloc: Global, asked: TextCall) -> Option<TextAnswer>
         requires live { IsSome (part_behind self.old) }
         ensures shown { IfSome result (λ answer.
-            OnPart (λ frames stocks. Shows frames stocks asked answer) (part_behind self.old) (part_behind self.new)) }
+            OnPart (λ frames stocks. ReadsText frames stocks asked answer) (part_behind self.old) (part_behind self.new)) }
         ensures busy { IfNone result (part_behind self.new ≡ part_behind self.old) }
     {
         let raw = std::mem::replace(&mut self.raw, RawHome::none(alloc));

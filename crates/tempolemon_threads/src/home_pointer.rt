@@ -2,7 +2,7 @@
 
 ghost use Rattle.std.specs.Prelude.{◌≡◌, IsSome, None, Option, Some};
 ghost use Rattle.zone_threads.specs.Homes.{KnownHome};
-ghost use Rattle.tempolemon_threads.specs.Owned.{known_coded, home_owns};
+ghost use Rattle.tempolemon_threads.specs.Owned.{home_coded, home_owns};
 
 use crate::box_parts::BoxParts;
 use cpu_part::BootName;

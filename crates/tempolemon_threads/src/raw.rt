@@ -3,10 +3,10 @@
 ghost use Rattle.std.specs.Prelude.{◌≡◌, IsSome, IsSomeAnd, None, Option};
 ghost use Rattle.frame_word.specs.Seats.{KnownTable};
 ghost use Rattle.stock_word.specs.Stock.{KnownStockTable};
-ghost use Rattle.zone_threads.specs.Calling.{Calls, Reads};
+ghost use Rattle.zone_threads.specs.Calling.{Calls, AnswersRead};
 ghost use Rattle.zone_threads.specs.Homes.{HasCpu, KnownHome};
-ghost use Rattle.tempolemon_threads.specs.Owned.{frames_coded, home_owns, known_coded, marker, stocks_coded};
-ghost use Rattle.tempolemon_threads.specs.Serving.{ForksRaw, IsFit, OnRaw, ServesRaw};
+ghost use Rattle.tempolemon_threads.specs.Owned.{frames_coded, home_owns, home_coded, marker, stocks_coded};
+ghost use Rattle.tempolemon_threads.specs.Serving.{ForksRaw, IsFitForHome, OnRawHome, ServesRawHome};
 
 use crate::home_pointer::HomePointer;
 use crate::requests::{Forked, Request, RequestAnswer};
@@ -48,8 +48,8 @@ impl RawHome {
 
 /// Serves a request, as `serve` does, under a name that it picks for the tables.
 pub fn serve_raw(raw: RawHome, request: Request) -> (RawHome, RequestAnswer)
-    requires fit { IsFit raw.home request }
-    ensures serves { ServesRaw raw.frames raw.stocks raw.home request
+    requires fit { IsFitForHome raw.home request }
+    ensures serves { ServesRawHome raw.frames raw.stocks raw.home request
         result.0.frames result.0.stocks result.0.home result.1 }
 {
     let RawHome { ptr, alloc } = raw;
@@ -75,7 +75,7 @@ pub fn serve_raw(raw: RawHome, request: Request) -> (RawHome, RequestAnswer)
 #[inline(always)]
 pub fn call_raw(raw: RawHome, call: &Call<'_>) -> (RawHome, CallAnswer)
     requires cpu { IsSomeAnd raw.home HasCpu }
-    ensures serves { OnRaw (λ from to. Calls raw.frames raw.stocks call.now from to result.1)
+    ensures serves { OnRawHome (λ from to. Calls raw.frames raw.stocks call.now from to result.1)
         raw.frames raw.stocks raw.home result.0.frames result.0.stocks result.0.home }
 {
     let RawHome { ptr, alloc } = raw;
@@ -99,7 +99,7 @@ pub fn call_raw(raw: RawHome, call: &Call<'_>) -> (RawHome, CallAnswer)
 /// Serves a read of a file for the home's CPU, as `serve_read` does, under the name that it picks.
 pub fn read_raw(raw: RawHome, asked: &ReadCall<'_>) -> (RawHome, ReadAnswer)
     requires cpu { IsSomeAnd raw.home HasCpu }
-    ensures serves { OnRaw (λ from to. Reads raw.frames raw.stocks asked.now from to result.1)
+    ensures serves { OnRawHome (λ from to. AnswersRead raw.frames raw.stocks asked.now from to result.1)
         raw.frames raw.stocks raw.home result.0.frames result.0.stocks result.0.home }
 {
     let RawHome { ptr, alloc } = raw;

@@ -27,11 +27,11 @@ pub struct Report {
 }
 
 impl Report {
-    ghost use Rattle.tempolemon_threads.specs.Zones.{ended_of};
+    ghost use Rattle.tempolemon_threads.specs.Zones.{zone_end_of};
 
     /// The report of the end of a zone.
     pub fn of(ended: ZoneEnd) -> Report
-        ensures { ended_of result ≡ ended }
+        ensures { zone_end_of result ≡ ended }
     {
         Report {
             held: ended.held,

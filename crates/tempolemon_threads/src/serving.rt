@@ -1,9 +1,9 @@
 //! Serving requests and calls under the name of a zone's tables.
 
 ghost use Rattle.std.specs.Prelude.{◌≡◌, IsSome, IsSomeAnd, None};
-ghost use Rattle.zone_threads.specs.Calling.{Calls, Reads};
+ghost use Rattle.zone_threads.specs.Calling.{Calls, AnswersRead};
 ghost use Rattle.zone_threads.specs.Homes.{HasCpu, HasNoCpu};
-ghost use Rattle.tempolemon_threads.specs.Serving.{Forks, MayBeAsked, OnHome, Serves};
+ghost use Rattle.tempolemon_threads.specs.Serving.{Forks, MayBeAskedOfHome, OnHome, ServesHomeRequest};
 ghost use Rattle.tempolemon_threads.specs.declared.requests.Request.TheVariants.{End, Enter, Leave, Start, Text};
 
 use crate::box_parts::BoxParts;
@@ -21,8 +21,8 @@ pub fn serve<N: BootName>(
     pointer: HomePointer<N>,
     request: Request,
 ) -> (HomePointer<N>, RequestAnswer)
-    requires asked { MayBeAsked N.frames N.stocks pointer.home request }
-    ensures serves { Serves N.frames N.stocks pointer.home request result.0.home result.1 }
+    requires asked { MayBeAskedOfHome N.frames N.stocks pointer.home request }
+    ensures serves { ServesHomeRequest N.frames N.stocks pointer.home request result.0.home result.1 }
 {
     match request {
         Request::Start { alloc, boot } => start(pointer, alloc, boot),
@@ -54,7 +54,7 @@ pub fn serve_read<N: BootName>(
     asked: &ReadCall<'_>,
 ) -> (HomePointer<N>, ReadAnswer)
     requires cpu { IsSomeAnd pointer.home HasCpu }
-    ensures serves { OnHome (λ from to. Reads N.frames N.stocks asked.now from to result.1)
+    ensures serves { OnHome (λ from to. AnswersRead N.frames N.stocks asked.now from to result.1)
         pointer.home result.0.home }
 {
     let mut home = pointer.into_box_parts().into_box();
@@ -90,7 +90,7 @@ fn start<N: BootName>(
     requires none { pointer.home ≡ None }
     requires frames { boot.frames ≡ N.frames }
     requires stocks { boot.stocks ≡ N.stocks }
-    ensures serves { Serves N.frames N.stocks pointer.home (Start alloc boot) result.0.home result.1 }
+    ensures serves { ServesHomeRequest N.frames N.stocks pointer.home (Start alloc boot) result.0.home result.1 }
 {
     let Ok(home) = Home::<N>::start(alloc, boot) else {
         return (pointer, RequestAnswer::NoMemory);
@@ -103,7 +103,7 @@ fn start<N: BootName>(
 
 fn enter<N: BootName>(pointer: HomePointer<N>, number: u32) -> (HomePointer<N>, RequestAnswer)
     requires some { IsSome pointer.home }
-    ensures serves { Serves N.frames N.stocks pointer.home (Enter number) result.0.home result.1 }
+    ensures serves { ServesHomeRequest N.frames N.stocks pointer.home (Enter number) result.0.home result.1 }
 {
     let mut home = pointer.into_box_parts().into_box();
     match home.enter(number) {
@@ -117,7 +117,7 @@ fn enter<N: BootName>(pointer: HomePointer<N>, number: u32) -> (HomePointer<N>, 
 
 fn leave<N: BootName>(pointer: HomePointer<N>, alloc: Global) -> (HomePointer<N>, RequestAnswer)
     requires some { IsSome pointer.home }
-    ensures serves { Serves N.frames N.stocks pointer.home (Leave alloc) result.0.home result.1 }
+    ensures serves { ServesHomeRequest N.frames N.stocks pointer.home (Leave alloc) result.0.home result.1 }
 {
     let mut home = pointer.into_box_parts().into_box();
     let left = home.leave();
@@ -140,7 +140,7 @@ fn text<N: BootName>(
     asked: TextCall,
 ) -> (HomePointer<N>, RequestAnswer)
     requires cpu { IsSomeAnd pointer.home HasCpu }
-    ensures serves { Serves N.frames N.stocks pointer.home (Text alloc asked) result.0.home result.1 }
+    ensures serves { ServesHomeRequest N.frames N.stocks pointer.home (Text alloc asked) result.0.home result.1 }
 {
     let mut home = pointer.into_box_parts().into_box();
     let text = home.text(alloc, asked);
@@ -153,7 +153,7 @@ fn text<N: BootName>(
 
 fn end<N: BootName>(pointer: HomePointer<N>, alloc: Global) -> (HomePointer<N>, RequestAnswer)
     requires some { IsSomeAnd pointer.home HasNoCpu }
-    ensures serves { Serves N.frames N.stocks pointer.home (End alloc) result.0.home result.1 }
+    ensures serves { ServesHomeRequest N.frames N.stocks pointer.home (End alloc) result.0.home result.1 }
 {
     let home = Box::into_inner(pointer.into_box_parts().into_box());
     match home.into_zone() {

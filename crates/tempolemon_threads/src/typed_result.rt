@@ -1,8 +1,9 @@
 //! What a typed call gives its host.
 
 ghost use Rattle.std.specs.Prelude.{◌≡◌};
-ghost use Rattle.tempolemon_threads.specs.Kinds.{get_result, outcome_result, outcome_status, put_result, result_of};
-ghost use Rattle.tempolemon_threads.specs.Kinds.{result_with, status_of};
+ghost use Rattle.tempolemon_threads.specs.Kinds.{get_result, outcome_result, outcome_status, put_result};
+ghost use Rattle.tempolemon_threads.specs.Kinds.{call_result_of};
+ghost use Rattle.tempolemon_threads.specs.Kinds.{result_with, call_status_of};
 
 use crate::kinds::{
     ACTIVE, CHARGED, CPU, FRAME, FREE, FULL, GROUP, HELD, LAST, LEFT, LISTED, MARKED, NOTHING, OK,
@@ -47,8 +48,8 @@ fn with_number(status: u8, kind: u8, number: u64) -> TypedAnswer
 #[inline(always)]
 #[tactic(auto, using(crate::proofs::Numbers::number_low))]
 pub(crate) fn typed_answer_of(answer: CallAnswer) -> TypedAnswer
-    ensures status { result.status ≡ status_of answer }
-    ensures typed { result.typed ≡ result_of answer }
+    ensures status { result.status ≡ call_status_of answer }
+    ensures typed { result.typed ≡ call_result_of answer }
 {
     match answer {
         CallAnswer::Busy => with_number(BUSY, NOTHING, 0),

@@ -3,7 +3,7 @@
 ghost use Rattle.std.specs.Prelude.{◌≡◌, ◌≢◌, ◌↔◌, IsSome, None};
 ghost use Rattle.zone_blocks.specs.Config.{IsValidConfig};
 ghost use Rattle.tempolemon_threads.specs.Behind.{part_behind, zone_behind};
-ghost use Rattle.tempolemon_threads.specs.Statuses.{IsBootStatus, IsEndStatus, IsReturnStatus, IsTakeStatus};
+ghost use Rattle.tempolemon_threads.specs.Statuses.{IsZoneBootStatus, IsZoneEndStatus, IsReturnStatus, IsTakeStatus};
 ghost use Rattle.tempolemon_threads.specs.Statuses.{bad_config, bad_cpu, cpus_out, done, is_live, not_live};
 ghost use Rattle.tempolemon_threads.specs.Zones.{BootsZone, EndsWith, HasNoSuchCpu, ReturnsPart, TakesPart, config_of};
 
@@ -22,7 +22,7 @@ use zone_threads::home::NotEntered;
 /// the zone stays.
 #[unsafe(no_mangle)]
 pub extern "C" fn tempolemon_zone_boot(alloc: Global, sizes: &Sizes, zone: &mut Zone) -> u8
-    ensures statuses { IsBootStatus result }
+    ensures statuses { IsZoneBootStatus result }
     ensures refused_live { (result ≡ is_live) ↔ (zone_behind zone.old ≢ None) }
     ensures bad_sizes { (result ≡ bad_config)
         ↔ ((zone_behind zone.old ≡ None) × (¬ IsValidConfig (config_of sizes.now))) }
@@ -48,7 +48,7 @@ pub extern "C" fn tempolemon_zone_boot(alloc: Global, sizes: &Sizes, zone: &mut 
 /// Ends the zone and reports what it counted, if all its CPUs are returned. Pins that are still held are put first.
 #[unsafe(no_mangle)]
 pub extern "C" fn tempolemon_zone_end(alloc: Global, zone: &mut Zone, report: &mut Report) -> u8
-    ensures statuses { IsEndStatus result }
+    ensures statuses { IsZoneEndStatus result }
     ensures none_live { (result ≡ not_live) ↔ (zone_behind zone.old ≡ None) }
     ensures ended { result ≡ done → EndsWith report.new (zone_behind zone.old) (zone_behind zone.new) }
     ensures cpus_out { result ≡ cpus_out → zone_behind zone.new ≡ zone_behind zone.old }

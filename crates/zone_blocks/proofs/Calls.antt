@@ -12,9 +12,9 @@ use Rattle.bit_levels.specs.Sets.{IsIn, IsLastIn}
 use Rattle.zone_blocks.specs.declared.block.Block.{Block}
 use Rattle.zone_blocks.specs.declared.links.Link.{Link}
 use Rattle.zone_blocks.specs.Block.{IsBlock}
-use Rattle.zone_blocks.specs.Areas.{HasNoneOf, HasNoneFrom, IsFirstOf, IsSmallestFrom, Inserts, Removes, Overlaps}
+use Rattle.zone_blocks.specs.Areas.{HasNoneOf, HasNoneFrom, IsFirstOf, IsSmallestFrom, Inserts, RemovesBlock, Overlaps}
 use Rattle.zone_blocks.specs.Links.{next_of, prev_of, Joins}
-use Rattle.zone_blocks.specs.OrderLists.{MeetsRange, blocks_of, is_there, with_bit, AreBlockBits, AreOrderLists, AreRings, IsStart, IsNode}
+use Rattle.zone_blocks.specs.OrderLists.{MeetsRange, blocks_of, has_block_bit, with_bit, AreBlockBits, AreOrderLists, AreRings, IsStart, IsNode}
 use Rattle.zone_blocks.specs.OrderLists.{IsLastBefore, Follows, IsNodeBelow, IsNodeBefore, IsNextAfter, HasNoneAfter, head_of}
 use Rattle.zone_blocks.proofs.Lists.{number_within, numbered_is_block}
 use Rattle.zone_blocks.proofs.OrderLists.{there, from_there, bits_put, number_of, number_back, inserts, removes, apart_inserted, apart_removed}
@@ -50,8 +50,8 @@ bit_tells n bits b e old h is same here =
     let o = is.order in
     let whole = read_bits n bits b.order e old h (omega arith) same here in
     let read : List Bool → Bool = λ xs. get_or xs (number_of b) false in
-    let E : ℕ → Type 0 = λ j. get_or old (b.at / 2 ^ j) false ≡ is_there bits b in
-    let bit : get_or old (b.at / 2 ^ e) false ≡ is_there bits b = subst E (sym same) (ap read whole) in
+    let E : ℕ → Type 0 = λ j. get_or old (b.at / 2 ^ j) false ≡ has_block_bit bits b in
+    let bit : get_or old (b.at / 2 ^ e) false ≡ has_block_bit bits b = subst E (sym same) (ap read whole) in
     ((λ t. there n bits b is (sym bit ∙ t)), (λ c. bit ∙ (from_there n bits b c).1))
 
 pub bits_written : (n : ℕ) (bits : List (List Bool)) (b : Block) (e : ℕ) (old new : List Bool) (v : Bool) → AreBlockBits n bits → IsBlock n b → e ≡ b.order
@@ -187,7 +187,7 @@ inserted n bits links mid links' b a after h is alone last read p q =
 pub removed : (n : ℕ) (bits : List (List Bool)) (links links' : List Link) (b : Block) (p q : ℕ) → AreOrderLists n bits links → Contains (blocks_of n bits) b
     → p ≡ prev_of links b.at → q ≡ next_of links b.at → Joins links p q links'
     → AreOrderLists n (with_bit bits b.order (number_of b) false) links'
-    × Removes (blocks_of n bits) b (blocks_of n (with_bit bits b.order (number_of b) false))
+    × RemovesBlock (blocks_of n bits) b (blocks_of n (with_bit bits b.order (number_of b) false))
 removed n bits links links' b p q h c ep eq join =
     let is = (from_there n bits b c).0 in
     let o = is.order in

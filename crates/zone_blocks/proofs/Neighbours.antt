@@ -6,7 +6,7 @@ use Rattle.std.proofs.lemmas.Nat.{pow_pos}
 use Rattle.zone_blocks.specs.declared.block.Block.{Block}
 use Rattle.zone_blocks.specs.declared.links.Link.{Link}
 use Rattle.zone_blocks.specs.Block.{IsBlock}
-use Rattle.zone_blocks.specs.Areas.{Inserts, Removes, Overlaps}
+use Rattle.zone_blocks.specs.Areas.{Inserts, RemovesBlock, Overlaps}
 use Rattle.zone_blocks.specs.Links.{next_of, prev_of, Joins}
 use Rattle.zone_blocks.specs.OrderLists.{AreApart, IsStart, IsNode, ComesAfter, IsLastBefore, Follows, AreRings}
 use Rattle.zone_blocks.proofs.Nested.{covers_start}
@@ -363,7 +363,7 @@ after_put_block n old new b a y h f = node_other n old new b a y b.order h f.nod
 pub record TakesOut (n : ℕ) (old new : List Block) (b : Block) : Type 0 where
   pub zone : AreInZone n old
   pub there : Contains old b
-  pub change : Removes old b new
+  pub change : RemovesBlock old b new
 
 start_stays : (n : ℕ) (old new : List Block) (b : Block) → TakesOut n old new b → (k z : ℕ)
     → ((k ≡ b.order) × (z ≡ b.at) → ⊥) → IsStart old k z → IsStart new k z

@@ -10,8 +10,8 @@ use Rattle.std.proofs.lemmas.Bool.{cases_lt, cases_eq, false≢true}
 use Rattle.std.proofs.lemmas.Nat.{div-mul-add, pow_pos}
 use Rattle.zone_blocks.specs.declared.block.Block.{Block}
 use Rattle.zone_blocks.specs.Block.{IsBlock, Covers}
-use Rattle.zone_blocks.specs.Areas.{AreBlocksApart, Precedes, Inserts, Removes, Overlaps}
-use Rattle.zone_blocks.specs.OrderLists.{blocks_of, blocks_of_zone, is_there, with_bit, AreBlockBits, AreApart, MeetsRange}
+use Rattle.zone_blocks.specs.Areas.{AreBlocksApart, Precedes, Inserts, RemovesBlock, Overlaps}
+use Rattle.zone_blocks.specs.OrderLists.{blocks_of, blocks_of_zone, has_block_bit, with_bit, AreBlockBits, AreApart, MeetsRange}
 use Rattle.zone_blocks.proofs.Lists.{contains_filter, contains_from_filter, number_within, numbered_is_block, in_zone, from_zone, zone_ordered}
 use Rattle.zone_blocks.proofs.Filling.{same_block}
 use Rattle.zone_blocks.proofs.Pairing.{decide_same}
@@ -20,17 +20,17 @@ use Rattle.zone_blocks.proofs.Edits.{contains_remove_old, contains_remove_keeps,
 
 -- ---- the blocks that the bits tell
 
-pub there : (n : ℕ) (bits : List (List Bool)) (b : Block) → IsBlock n b → is_there bits b ≡ true → Contains (blocks_of n bits) b
+pub there : (n : ℕ) (bits : List (List Bool)) (b : Block) → IsBlock n b → has_block_bit bits b ≡ true → Contains (blocks_of n bits) b
 unfolding blocks_of
-there n bits b h t = contains_filter (is_there bits) (blocks_of_zone n) b (in_zone n b h) t
+there n bits b h t = contains_filter (has_block_bit bits) (blocks_of_zone n) b (in_zone n b h) t
 
-pub from_there : (n : ℕ) (bits : List (List Bool)) (b : Block) → Contains (blocks_of n bits) b → IsBlock n b × (is_there bits b ≡ true)
+pub from_there : (n : ℕ) (bits : List (List Bool)) (b : Block) → Contains (blocks_of n bits) b → IsBlock n b × (has_block_bit bits b ≡ true)
 unfolding blocks_of
-from_there n bits b c = let r = contains_from_filter (is_there bits) (blocks_of_zone n) b c in (from_zone n b r.0, r.1)
+from_there n bits b c = let r = contains_from_filter (has_block_bit bits) (blocks_of_zone n) b c in (from_zone n b r.0, r.1)
 
 pub blocks_ordered : (n : ℕ) (bits : List (List Bool)) → AllPairs Precedes (blocks_of n bits)
 unfolding blocks_of
-blocks_ordered n bits = AllPairs-filter Precedes (is_there bits) (blocks_of_zone n) (zone_ordered n)
+blocks_ordered n bits = AllPairs-filter Precedes (has_block_bit bits) (blocks_of_zone n) (zone_ordered n)
 
 pub blocks_apart : (n : ℕ) (bits : List (List Bool)) → AreApart (blocks_of n bits) → AreBlocksApart n (blocks_of n bits)
 blocks_apart n bits apart = record {
@@ -65,7 +65,7 @@ abbrev pub number_of : Block → ℕ
 number_of b = b.at / 2 ^ b.order
 
 pub read_same : (n : ℕ) (bits : List (List Bool)) (b : Block) (v : Bool) → AreBlockBits n bits → IsBlock n b
-    → is_there (with_bit bits b.order (number_of b) v) b ≡ v
+    → has_block_bit (with_bit bits b.order (number_of b) v) b ≡ v
 read_same n bits b v h is =
     let count = h.count in
     let o = is.order in
@@ -84,7 +84,7 @@ same_number n b c hb hc o e =
     same_block c b (sym wc ∙ ap size o ∙ ap scale e ∙ wb) o
 
 pub read_other : (n : ℕ) (bits : List (List Bool)) (b c : Block) (v : Bool) → IsBlock n b → IsBlock n c → (c ≡ b → ⊥)
-    → is_there (with_bit bits b.order (number_of b) v) c ≡ is_there bits c
+    → has_block_bit (with_bit bits b.order (number_of b) v) c ≡ has_block_bit bits c
 read_other n bits b c v hb hc ne =
     let new : List Bool = set (get_or bits b.order []) (number_of b) v in
     elim (cases_eq c.order b.order) [
@@ -127,7 +127,7 @@ inserts n bits b h is =
     }
 
 pub removes : (n : ℕ) (bits : List (List Bool)) (b : Block) → AreBlockBits n bits → Contains (blocks_of n bits) b
-    → Removes (blocks_of n bits) b (blocks_of n (with_bit bits b.order (number_of b) false))
+    → RemovesBlock (blocks_of n bits) b (blocks_of n (with_bit bits b.order (number_of b) false))
 removes n bits b h c =
     let is = (from_there n bits b c).0 in
     let new = with_bit bits b.order (number_of b) false in
@@ -156,12 +156,12 @@ apart_inserted old new b apart alone h x y qx qy f cx cy =
       ]
     ]
 
-pub apart_removed : (old new : List Block) (b : Block) → AreApart old → Removes old b new → AreApart new
+pub apart_removed : (old new : List Block) (b : Block) → AreApart old → RemovesBlock old b new → AreApart new
 apart_removed old new b apart h x y qx qy f cx cy = apart x y (h.only x qx) (h.only y qy) f cx cy
 
 -- ---- a block less: the list is shorter
 
-pub fewer : (old new : List Block) (b : Block) → AllPairs Precedes old → Contains old b → Removes old b new → length new < length old
+pub fewer : (old new : List Block) (b : Block) → AllPairs Precedes old → Contains old b → RemovesBlock old b new → length new < length old
 fewer old new b ordered (p, l, e) h =
     let cut = remove old p in
     let same : new ≡ cut = same_from_members Precedes precedes_strict precedes_one_way new cut h.ordered (all_pairs_remove Precedes old p l ordered)

@@ -12,7 +12,7 @@ use Rattle.std.proofs.Math.Nat.{mul-mod_left, add-mod_right, mul-le-mul_right}
 use Rattle.bit_levels.specs.Sets.{IsIn}
 use Rattle.zone_blocks.specs.declared.block.Block.{Block}
 use Rattle.zone_blocks.specs.Block.{IsBlock, HasPairBit, buddy}
-use Rattle.zone_blocks.specs.Areas.{Inserts, Removes, IsOneOfPair}
+use Rattle.zone_blocks.specs.Areas.{Inserts, RemovesBlock, IsOneOfPair}
 use Rattle.zone_blocks.specs.PairBits.{pair_of, bit_of, toggled, AreBitLists, ArePairBits, ChangesOne}
 use Rattle.zone_blocks.proofs.Filling.{same_block}
 
@@ -396,7 +396,7 @@ inserts_one old new b none h = record {
   only = λ c ne q. elim (h.only c q) [ inl was ↦ was | inr e ↦ absurd (ne e) ];
 }
 
-pub removes_one : (old new : List Block) (b : Block) → Contains old b → Removes old b new → ChangesOne old new b
+pub removes_one : (old new : List Block) (b : Block) → Contains old b → RemovesBlock old b new → ChangesOne old new b
 removes_one old new b there h = record {
   changed = inl (there, h.gone);
   keeps = λ c ne q. h.keeps c q ne;

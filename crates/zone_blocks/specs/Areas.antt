@@ -85,7 +85,7 @@ pub record Inserts (before : List Block) (b : Block) (after : List Block) : Type
   pub ordered : AllPairs Precedes after
 
 -- the list after has the blocks before except b, in walk order
-pub record Removes (before : List Block) (b : Block) (after : List Block) : Type 0 where
+pub record RemovesBlock (before : List Block) (b : Block) (after : List Block) : Type 0 where
   pub gone : ¬ Contains after b
   pub keeps : (c : Block) → Contains before c → c ≢ b → Contains after c
   pub only : (c : Block) → Contains after c → Contains before c

@@ -3,16 +3,16 @@ use Rattle.std.specs.Prelude.{◌≡◌, ◌≢◌, ℕ, List, length, slice_ind
 use Rattle.zone_blocks.specs.declared.links.Link.{Link}
 
 -- the record of node x; past the last node, a blank one
-abbrev pub link_at : List Link → ℕ → Link
-link_at links x = slice_index_or links x record { next = 0; prev = 0 }
+abbrev pub node_at : List Link → ℕ → Link
+node_at links x = slice_index_or links x record { next = 0; prev = 0 }
 
 -- the node after x
 abbrev pub next_of : List Link → ℕ → ℕ
-next_of links x = (link_at links x).next
+next_of links x = (node_at links x).next
 
 -- the node before x
 abbrev pub prev_of : List Link → ℕ → ℕ
-prev_of links x = (link_at links x).prev
+prev_of links x = (node_at links x).prev
 
 -- b is now the node after a, and a the node before b; all else is unchanged
 pub record Joins (old : List Link) (a b : ℕ) (new : List Link) : Type 0 where

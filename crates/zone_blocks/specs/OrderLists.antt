@@ -12,8 +12,8 @@ use Rattle.zone_blocks.specs.Links.{next_of, prev_of}
 -- ---- the set of blocks: for each order a bit for each block that the zone can have
 
 -- the bit of the block: whether it is in the areas
-abbrev pub is_there : List (List Bool) → Block → Bool
-is_there bits b = slice_index_or (slice_index_or bits b.order []) (b.at / 2 ^ b.order) false
+abbrev pub has_block_bit : List (List Bool) → Block → Bool
+has_block_bit bits b = slice_index_or (slice_index_or bits b.order []) (b.at / 2 ^ b.order) false
 
 -- the bits, with a new value for the block of this order and number
 abbrev pub with_bit : List (List Bool) → ℕ → ℕ → Bool → List (List Bool)
@@ -30,7 +30,7 @@ blocks_of_zone frames = flat_map (blocks_of_order frames) (range_with_len 0 11)
 
 -- the blocks in the areas, in walk order
 unfoldable pub blocks_of : ℕ → List (List Bool) → List Block
-blocks_of frames bits = filter (is_there bits) (blocks_of_zone frames)
+blocks_of frames bits = filter (has_block_bit bits) (blocks_of_zone frames)
 
 -- there are bits for each order, one for each block that the zone can have
 pub record AreBlockBits (frames : ℕ) (bits : List (List Bool)) : Type 0 where

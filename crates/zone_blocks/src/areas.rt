@@ -4,7 +4,7 @@ ghost use Rattle.std.specs.Prelude.{◌≡◌, ◌≤◌, ◌<◌, ◌↔◌, �
 ghost use Rattle.std.specs.List.{Contains};
 ghost use Rattle.zone_blocks.specs.Block.{IsBlock, HasPairBit};
 ghost use Rattle.zone_blocks.specs.Areas.{AreMaximalBlocks, AreBlocksApart, HasNoneOf, HasNoneFrom};
-ghost use Rattle.zone_blocks.specs.Areas.{IsFirstOf, IsSmallestFrom, Inserts, Removes, Overlaps, IsOneOfPair};
+ghost use Rattle.zone_blocks.specs.Areas.{IsFirstOf, IsSmallestFrom, Inserts, RemovesBlock, Overlaps, IsOneOfPair};
 ghost use Rattle.zone_blocks.specs.OrderLists.{AreMaximalUpTo, HasNoneAfter, IsNextAfter};
 
 use crate::block::Block;
@@ -250,7 +250,7 @@ impl FreeAreas {
     #[inline(always)]
     pub fn remove(&mut self, block: Block)
         requires { Contains self.old.blocks block }
-        ensures blocks { Removes self.old.blocks block self.new.blocks }
+        ensures blocks { RemovesBlock self.old.blocks block self.new.blocks }
         ensures frames { self.new.frames ≡ self.old.frames }
     {
         toggle_pair(&mut self.pairs, self.frames, &block);

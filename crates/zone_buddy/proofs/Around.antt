@@ -8,7 +8,7 @@ use Rattle.zone_blocks.specs.Block.{IsBlock, Covers}
 use Rattle.zone_blocks.specs.Areas.{FreeBlocks, Inserts}
 use Rattle.zone_blocks.proofs.Filling.{same_block}
 use Rattle.zone_blocks.proofs.Nested.{start_is}
-use Rattle.zone_buddy.specs.Zone.{block_at, set_of, AreSoundAreas, TakesFrames}
+use Rattle.zone_buddy.specs.Zone.{block_at, free_set_of, AreSoundAreas, TakesFrames}
 use Rattle.zone_buddy.proofs.Halves.{Halving, AreHalves, halve_at}
 
 -- ---- the look for the block that has a frame
@@ -39,7 +39,7 @@ pub record HalvedAround (old : FreeBlocks) (b : Block) (frame : ℕ) (areas : Fr
   pub halving : Halving areas at k
   pub frames : areas.frames ≡ old.frames
   pub has_frame : Covers (block_at at k) frame
-  pub taken : (free : List Bool) → TakesFrames free b (set_of old) → TakesFrames free (block_at at k) (set_of areas)
+  pub taken : (free : List Bool) → TakesFrames free b (free_set_of old) → TakesFrames free (block_at at k) (free_set_of areas)
 
 pub halved_more : (old : FreeBlocks) (b : Block) (frame : ℕ) (areas new : FreeBlocks) (at k e : ℕ) (u x y : Block) → k ≡ e + 1 → u ≡ x
     → (IsBlock areas.frames (block_at at (e + 1)) → AreHalves areas.frames (block_at at (e + 1)) x y) → HalvedAround old b frame areas at k

@@ -8,7 +8,7 @@ use Rattle.zone_blocks.specs.Block.{IsBlock, Covers, enclosing, buddy}
 use Rattle.zone_blocks.specs.Areas.{IsFree, FreeBlocks, Overlaps, Inserts}
 use Rattle.zone_blocks.proofs.Filling.{same_block}
 use Rattle.zone_blocks.proofs.Nested.{covers_start, start_is}
-use Rattle.zone_buddy.specs.Zone.{block_at, set_of, AreSoundAreas, TakesFrames, GivesFrames}
+use Rattle.zone_buddy.specs.Zone.{block_at, free_set_of, AreSoundAreas, TakesFrames, GivesFrames}
 use Rattle.zone_buddy.proofs.Sets.{decide_covers}
 use Rattle.zone_buddy.proofs.Frames.{gives_frames, kept_more, apart_from_use}
 
@@ -110,15 +110,15 @@ lower_first n at e h =
 pub record Halving (areas : FreeBlocks) (at k : ℕ) : Type 0 where
   pub kept : AreSoundAreas areas
   pub block : IsBlock areas.frames (block_at at k)
-  pub in_use : (f : ℕ) → Covers (block_at at k) f → ¬ IsFree (set_of areas) f
+  pub in_use : (f : ℕ) → Covers (block_at at k) f → ¬ IsFree (free_set_of areas) f
 
 -- one half is put in, and the other stays in use
 halve : (old new : FreeBlocks) (whole u v : Block) → Halving old whole.at whole.order → AreHalves old.frames whole u v → Inserts old.blocks u new.blocks
-    → new.frames ≡ old.frames → Halving new v.at v.order × ((free : List Bool) → TakesFrames free whole (set_of old) → TakesFrames free v (set_of new))
+    → new.frames ≡ old.frames → Halving new v.at v.order × ((free : List Bool) → TakesFrames free whole (free_set_of old) → TakesFrames free v (free_set_of new))
 halve old new whole u v h halves inserts same =
-    let given : GivesFrames (set_of old) u (set_of new) =
+    let given : GivesFrames (free_set_of old) u (free_set_of new) =
     gives_frames old new u inserts halves.first (λ f c. h.in_use f (halves.in_first f c)) same in
-    let in_use : (f : ℕ) → Covers v f → ¬ IsFree (set_of new) f = λ f c is.
+    let in_use : (f : ℕ) → Covers v f → ¬ IsFree (free_set_of new) f = λ f c is.
     h.in_use f (halves.in_second f c) ((given.others f (halves.apart f c)).1 is) in
     let kept = kept_more old new u h.kept inserts halves.first (λ f c. h.in_use f (halves.in_first f c)) same (λ g.
     in_use v.at (covers_start v) (g.all_free v.at halves.encloses)) in (
@@ -155,13 +155,13 @@ half_ready areas at k e u x y ek eu halves h' =
 pub halve_at : (old new : FreeBlocks) (at k e : ℕ) (u x y : Block) → k ≡ e + 1 → u ≡ x
     → (IsBlock old.frames (block_at at (e + 1)) → AreHalves old.frames (block_at at (e + 1)) x y) → Halving old at k
     → Inserts old.blocks u new.blocks → new.frames ≡ old.frames
-    → Halving new y.at y.order × ((free : List Bool) → TakesFrames free (block_at at k) (set_of old) → TakesFrames free y (set_of new))
+    → Halving new y.at y.order × ((free : List Bool) → TakesFrames free (block_at at k) (free_set_of old) → TakesFrames free y (free_set_of new))
 halve_at old new at k e u x y ek eu halves h' inserts same =
     let H : ℕ → Type 0 = λ i. Halving old at i in
     let I : Block → Type 0 = λ z. Inserts old.blocks z new.blocks in
     let h : Halving old at (e + 1) = subst H ek h' in
     let r = halve old new (block_at at (e + 1)) x y h (halves h.block) (subst I eu inserts) same in
-    (r.0, λ free t. let T : ℕ → Type 0 = λ i. TakesFrames free (block_at at i) (set_of old) in r.1 free (subst T ek t))
+    (r.0, λ free t. let T : ℕ → Type 0 = λ i. TakesFrames free (block_at at i) (free_set_of old) in r.1 free (subst T ek t))
 
 -- the size of a half, and the upper half, as the code has them
 pub size_is : (e size order : ℕ) → size ≡ 2 ^ order → order ≡ e → size ≡ 2 ^ e

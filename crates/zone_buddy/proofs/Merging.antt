@@ -6,10 +6,10 @@ use Rattle.std.proofs.lemmas.Nat.{pow_pos}
 use Rattle.std.proofs.Math.Nat.{add-mod_right}
 use Rattle.zone_blocks.specs.declared.block.Block.{Block}
 use Rattle.zone_blocks.specs.Block.{IsBlock, Covers, enclosing, HasPairBit, buddy}
-use Rattle.zone_blocks.specs.Areas.{IsFree, IsFreeBlock, FreeBlocks, Inserts, Removes, IsOneOfPair}
+use Rattle.zone_blocks.specs.Areas.{IsFree, IsFreeBlock, FreeBlocks, Inserts, RemovesBlock, IsOneOfPair}
 use Rattle.zone_blocks.proofs.Filling.{same_block}
 use Rattle.zone_blocks.proofs.Nested.{covers_start, start_aligned, start_is}
-use Rattle.zone_buddy.specs.Zone.{block_at, set_of, AreSoundAreas, GivesFrames, HasNoBuddy, TakesBuddy}
+use Rattle.zone_buddy.specs.Zone.{block_at, free_set_of, AreSoundAreas, GivesFrames, HasNoBuddy, TakesBuddy}
 use Rattle.zone_buddy.proofs.Sets.{decide_covers, subset}
 use Rattle.zone_buddy.proofs.Frames.{length-set_of, takes_frames, gives_frames, kept_less, kept_more}
 use Rattle.zone_buddy.proofs.Halves.{double, next_aligned, Halving, HasBuddyAt, has_buddy}
@@ -83,17 +83,17 @@ pub record SameUnion (a : List Bool) (b : Block) (c : List Bool) (d : Block) : T
   pub from : (f : ℕ) → IsFree c f ⊎ Covers d f → IsFree a f ⊎ Covers b f
 
 merged : (old new : FreeBlocks) (m : Block) (x : ℕ) → HasBuddyAt m x → Halving old m.at m.order → m.order < 10 → Contains old.blocks (block_at x m.order)
-    → Removes old.blocks (block_at x m.order) new.blocks → new.frames ≡ old.frames
-    → Halving new (enclosing m).at (m.order + 1) × ((a : List Bool) (b : Block) → SameUnion a b (set_of old) m → SameUnion a b (set_of new) (enclosing m))
+    → RemovesBlock old.blocks (block_at x m.order) new.blocks → new.frames ≡ old.frames
+    → Halving new (enclosing m).at (m.order + 1) × ((a : List Bool) (b : Block) → SameUnion a b (free_set_of old) m → SameUnion a b (free_set_of new) (enclosing m))
 merged old new m x hx h below there removes same =
     let w : Block = block_at x m.order in
     let taken = takes_frames old new w h.kept.maximal there removes same in
     let hw = (h.kept.maximal.each w there).is_free in
     let wb : IsBlock old.frames w = rw (length-set_of old) at hw.block in
     let end = encloses_no_more old.frames m x hx h.block wb in
-    let in_use : (f : ℕ) → Covers (enclosing m) f → ¬ IsFree (set_of new) f = λ f c is.
+    let in_use : (f : ℕ) → Covers (enclosing m) f → ¬ IsFree (free_set_of new) f = λ f c is.
     elim (both_cover m x f hx c) [
-      | inl p ↦ h.in_use f p (subset (set_of old) (set_of new) w taken f is)
+      | inl p ↦ h.in_use f p (subset (free_set_of old) (free_set_of new) w taken f is)
       | inr p ↦ taken.in_use f p is
     ] in (
       record {
@@ -111,7 +111,7 @@ merged old new m x hx h below there removes same =
           | inr c ↦ inr (block_enclosed m x f hx c)
         ];
         from = λ f z. u.from f (elim z [
-          | inl is ↦ inl (subset (set_of old) (set_of new) w taken f is)
+          | inl is ↦ inl (subset (free_set_of old) (free_set_of new) w taken f is)
           | inr c ↦ elim (both_cover m x f hx c) [
             | inl p ↦ inr p
             | inr p ↦ inl (hw.all_free f p)
@@ -121,12 +121,12 @@ merged old new m x hx h below there removes same =
     )
 
 pub merge_step : (old new : FreeBlocks) (m larger : Block) → Halving old m.at m.order → TakesBuddy old m new larger
-    → Halving new larger.at larger.order × ((a : List Bool) (b : Block) → SameUnion a b (set_of old) m → SameUnion a b (set_of new) larger)
+    → Halving new larger.at larger.order × ((a : List Bool) (b : Block) → SameUnion a b (free_set_of old) m → SameUnion a b (free_set_of new) larger)
 merge_step old new m larger h t =
     let r = has_buddy old.frames m h.block in
     let C : Block → Type 0 = λ z. Contains old.blocks z in
-    let R : Block → Type 0 = λ z. Removes old.blocks z new.blocks in
-    let P : Block → Type 0 = λ z. Halving new z.at z.order × ((a : List Bool) (b : Block) → SameUnion a b (set_of old) m → SameUnion a b (set_of new) z) in
+    let R : Block → Type 0 = λ z. RemovesBlock old.blocks z new.blocks in
+    let P : Block → Type 0 = λ z. Halving new z.at z.order × ((a : List Bool) (b : Block) → SameUnion a b (free_set_of old) m → SameUnion a b (free_set_of new) z) in
     subst P (sym t.larger_is)
     (merged old new m r.0 r.1 h t.order_below (subst C r.1.buddy_is t.there) (subst R r.1.buddy_is t.taken) t.same_frames)
 
@@ -164,14 +164,14 @@ buddy_encloses b x h =
     ]
 
 alone : (old new : FreeBlocks) (m : Block) (x : ℕ) → HasBuddyAt m x → Halving old m.at m.order → ¬ Contains old.blocks (block_at x m.order)
-    → GivesFrames (set_of old) m (set_of new) → new.frames ≡ old.frames → IsFreeBlock (set_of new) (enclosing m) → ⊥
+    → GivesFrames (free_set_of old) m (free_set_of new) → new.frames ≡ old.frames → IsFreeBlock (free_set_of new) (enclosing m) → ⊥
 alone old new m x hx h none given same g =
     let w : Block = block_at x m.order in
     let d = double m.order in
     let end = g.block.inside in
     let end' = rw (length-set_of new, same) at end in
     let order = h.block.order in
-    let all_free : (f : ℕ) → Covers w f → IsFree (set_of old) f = λ f c.
+    let all_free : (f : ℕ) → Covers w f → IsFree (free_set_of old) f = λ f c.
     (given.others f (λ q. buddy_apart m x f hx q c)).1 (g.all_free f (buddy_enclosed m x f hx c)) in
     none (h.kept.maximal.all w record {
       is_free = record {
@@ -198,12 +198,12 @@ last_kept old new m h none inserts same =
           alone old new m r.0 r.1 h (subst C r.1.buddy_is missing) given same g
     ])
 
-pub last_given : (a : List Bool) (b : Block) (old new : FreeBlocks) (m : Block) → ((f : ℕ) → Covers b f → ¬ IsFree a f) → SameUnion a b (set_of old) m
-    → Halving old m.at m.order → Inserts old.blocks m new.blocks → new.frames ≡ old.frames → GivesFrames a b (set_of new)
+pub last_given : (a : List Bool) (b : Block) (old new : FreeBlocks) (m : Block) → ((f : ℕ) → Covers b f → ¬ IsFree a f) → SameUnion a b (free_set_of old) m
+    → Halving old m.at m.order → Inserts old.blocks m new.blocks → new.frames ≡ old.frames → GivesFrames a b (free_set_of new)
 last_given a b old new m in_use u h inserts same =
     let given = gives_frames old new m inserts h.block h.in_use same in
-    let free_now : (f : ℕ) → IsFree (set_of old) f ⊎ Covers m f → IsFree (set_of new) f = λ f z. elim z [
-      | inl is ↦ subset (set_of new) (set_of old) m given f is
+    let free_now : (f : ℕ) → IsFree (free_set_of old) f ⊎ Covers m f → IsFree (free_set_of new) f = λ f z. elim z [
+      | inl is ↦ subset (free_set_of new) (free_set_of old) m given f is
       | inr c ↦ given.were_free f c
     ] in
     record {
@@ -213,7 +213,7 @@ last_given a b old new m in_use u h inserts same =
       others = λ f out. (
         λ is. free_now f (u.to f (inl is)),
         λ is.
-            let was : IsFree (set_of old) f ⊎ Covers m f = elim (decide_covers m f) [
+            let was : IsFree (free_set_of old) f ⊎ Covers m f = elim (decide_covers m f) [
               | inl c ↦ inr c
               | inr not ↦ inl ((given.others f not).1 is)
             ] in
@@ -247,7 +247,7 @@ bit_is_one a m alone (inr p) = p.1
 
 pub buddy_taken : (old new : FreeBlocks) (m other : Block) (next low : ℕ) → IsBlock old.frames m → other ≡ buddy m
     → next ≡ m.order + 1 → next ≤ 10 → low ≡ min m.at other.at
-    → Contains old.blocks (buddy m) → Removes old.blocks other new.blocks → new.frames ≡ old.frames → TakesBuddy old m new (block_at low next)
+    → Contains old.blocks (buddy m) → RemovesBlock old.blocks other new.blocks → new.frames ≡ old.frames → TakesBuddy old m new (block_at low next)
 buddy_taken old new m other next low block is en below el there removes same =
     let r = has_buddy old.frames m block in
     let address : Block → ℕ = λ z. z.at in
@@ -256,7 +256,7 @@ buddy_taken old new m other next low block is en below el there removes same =
       | inl p ↦ let d = pow_pos m.order in omega (arith, el, e, p.0, p.1)
       | inr p ↦ let d = pow_pos m.order in omega (arith, el, e, p.0, p.1)
     ] in
-    let R : Block → Type 0 = λ z. Removes old.blocks z new.blocks in
+    let R : Block → Type 0 = λ z. RemovesBlock old.blocks z new.blocks in
     record {
       there = there;
       order_below = omega arith;
@@ -271,8 +271,8 @@ pub halving_same : (old mid : FreeBlocks) (m : Block) → HasNoBuddy old m mid �
 halving_same old mid m none h = let P : FreeBlocks → Type 0 = λ a. Halving a m.at m.order in subst P (sym none.same) h
 
 pub union_same : (a : List Bool) (b : Block) (old mid : FreeBlocks) (m : Block) → HasNoBuddy old m mid
-    → SameUnion a b (set_of old) m → SameUnion a b (set_of mid) m
-union_same a b old mid m none u = let P : FreeBlocks → Type 0 = λ x. SameUnion a b (set_of x) m in subst P (sym none.same) u
+    → SameUnion a b (free_set_of old) m → SameUnion a b (free_set_of mid) m
+union_same a b old mid m none u = let P : FreeBlocks → Type 0 = λ x. SameUnion a b (free_set_of x) m in subst P (sym none.same) u
 
 pub none_same : (old mid : FreeBlocks) (m : Block) → HasNoBuddy old m mid → (m.order ≡ 10) ⊎ (¬ Contains mid.blocks (buddy m))
 none_same old mid m none = let P : FreeBlocks → Type 0 = λ x. (m.order ≡ 10) ⊎ (¬ Contains x.blocks (buddy m)) in subst P (sym none.same) none.none

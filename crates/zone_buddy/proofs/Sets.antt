@@ -5,7 +5,7 @@ use Rattle.std.proofs.lemmas.Bool.{cases_lt}
 use Rattle.std.proofs.lemmas.Nat.{pow_pos}
 use Rattle.zone_blocks.specs.declared.block.Block.{Block}
 use Rattle.zone_blocks.specs.Block.{IsBlock, Covers, enclosing}
-use Rattle.zone_blocks.specs.Areas.{IsFree, IsFreeBlock, IsMaximalBlock, AreMaximalBlocks, Inserts, Removes}
+use Rattle.zone_blocks.specs.Areas.{IsFree, IsFreeBlock, IsMaximalBlock, AreMaximalBlocks, Inserts, RemovesBlock}
 use Rattle.zone_blocks.proofs.Nested.{same_maximal, inside_maximal, enclosing_covers, covers_start}
 use Rattle.zone_blocks.proofs.Unique.{in_maximal}
 use Rattle.zone_buddy.specs.Zone.{TakesFrames}
@@ -62,7 +62,7 @@ enclosing_not_free before after b c hc h hb g =
     let up = p.before in
     other f record { from = omega (arith, inside.0); before = omega (arith, inside.1) } q))
 
-pub removed_maximal : (before after : List Bool) (old new : List Block) (c : Block) → AreMaximalBlocks before old → Contains old c → Removes old c new
+pub removed_maximal : (before after : List Bool) (old new : List Block) (c : Block) → AreMaximalBlocks before old → Contains old c → RemovesBlock old c new
     → TakesFrames before c after → AreMaximalBlocks after new
 removed_maximal before after old new c kept there removes h =
     let hc = kept.each c there in

@@ -3,10 +3,10 @@ use Rattle.std.specs.Prelude.{◌≡◌, ◌+◌, ◌^◌, ℕ, ◌<◌, ◌↔�
 use Rattle.std.specs.List.{Contains, list_any, range_with_len}
 use Rattle.zone_blocks.specs.declared.block.Block.{Block}
 use Rattle.zone_blocks.specs.Block.{IsBlock, Covers, enclosing, buddy}
-use Rattle.zone_blocks.specs.Areas.{IsFree, AreMaximalBlocks, FreeBlocks, Removes}
+use Rattle.zone_blocks.specs.Areas.{IsFree, AreMaximalBlocks, FreeBlocks, RemovesBlock}
 
 -- what a caller sees of a zone: for each frame whether it is free, and the maximal free blocks in walk order
-pub record Zone : Type 0 where
+pub record BuddyZone : Type 0 where
   pub free : List Bool
   pub blocks : List Block
 
@@ -37,16 +37,16 @@ abbrev pub covers : ℕ → Block → Bool
 covers f b = nat_le b.at f && nat_lt f (b.at + 2 ^ b.order)
 
 -- for each frame, whether a block of the areas has it
-unfoldable pub set_of : FreeBlocks → List Bool
-set_of areas = map (λ f. list_any (covers f) areas.blocks) (range_with_len 0 areas.frames)
+unfoldable pub free_set_of : FreeBlocks → List Bool
+free_set_of areas = map (λ f. list_any (covers f) areas.blocks) (range_with_len 0 areas.frames)
 
 -- what a caller sees of these areas: for each frame whether it is free, and their blocks
-abbrev pub zone_of : FreeBlocks → Zone
-zone_of areas = record { free = set_of areas; blocks = areas.blocks }
+abbrev pub buddy_zone_of : FreeBlocks → BuddyZone
+buddy_zone_of areas = record { free = free_set_of areas; blocks = areas.blocks }
 
 -- the areas are the maximal free blocks of their frames, and each frame number has 32 bits
 pub record AreSoundAreas (areas : FreeBlocks) : Type 0 where
-  pub maximal : AreMaximalBlocks (set_of areas) areas.blocks
+  pub maximal : AreMaximalBlocks (free_set_of areas) areas.blocks
   pub small : areas.frames < 2 ^ 32
 
 -- no block of these has the frame
@@ -63,5 +63,5 @@ pub record TakesBuddy (before : FreeBlocks) (b : Block) (after : FreeBlocks) (la
   pub there : Contains before.blocks (buddy b)
   pub order_below : b.order < 10
   pub same_frames : after.frames ≡ before.frames
-  pub taken : Removes before.blocks (buddy b) after.blocks
+  pub taken : RemovesBlock before.blocks (buddy b) after.blocks
   pub larger_is : larger ≡ enclosing b

@@ -23,11 +23,11 @@ pub struct Buddy {
 }
 
 impl Model for Buddy {
-    ghost use Rattle.zone_buddy.specs.Zone.{Zone, zone_of, AreSoundAreas};
+    ghost use Rattle.zone_buddy.specs.Zone.{BuddyZone, buddy_zone_of, AreSoundAreas};
 
-    ghost Value = { Zone };
+    ghost Value = { BuddyZone };
 
-    ghost view = { λ b. zone_of b.areas };
+    ghost view = { λ b. buddy_zone_of b.areas };
 
     ghost invariant = { λ b. AreSoundAreas b.areas };
 }

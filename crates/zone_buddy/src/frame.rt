@@ -4,7 +4,7 @@ ghost use Rattle.std.specs.Prelude.{◌≡◌, ℕ, List, Bool, MatchOption};
 ghost use Rattle.std.specs.List.{Contains};
 ghost use Rattle.zone_blocks.specs.Block.{IsBlock, Covers};
 ghost use Rattle.zone_blocks.specs.Areas.{IsFree};
-ghost use Rattle.zone_buddy.specs.Zone.{block_at, set_of, AreSoundAreas, HasNoBlockWith, TakesFrames};
+ghost use Rattle.zone_buddy.specs.Zone.{block_at, free_set_of, AreSoundAreas, HasNoBlockWith, TakesFrames};
 
 use zone_blocks::areas::FreeAreas;
 use zone_blocks::block::Block;
@@ -31,12 +31,12 @@ pub fn block_with(areas: &FreeAreas, frame: u32) -> Option<Block>
 pub fn free_other_halves(areas: &mut FreeAreas, block: &Block, frame: u32)
     requires kept { AreSoundAreas areas.old }
     requires block { IsBlock areas.old.frames block.now }
-    requires in_use { (f : ℕ) → Covers block.now f → ¬ IsFree (set_of areas.old) f }
+    requires in_use { (f : ℕ) → Covers block.now f → ¬ IsFree (free_set_of areas.old) f }
     requires frame { Covers block.now frame }
     ensures kept { AreSoundAreas areas.new }
     ensures frames { areas.new.frames ≡ areas.old.frames }
-    ensures in_use { (free : List Bool) → TakesFrames free block.now (set_of areas.old)
-        → TakesFrames free (block_at frame 0) (set_of areas.new) }
+    ensures in_use { (free : List Bool) → TakesFrames free block.now (free_set_of areas.old)
+        → TakesFrames free (block_at frame 0) (free_set_of areas.new) }
 {
     let mut exponent = block.order.exponent();
     let mut at = block.at;

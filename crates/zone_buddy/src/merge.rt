@@ -4,7 +4,7 @@ ghost use Rattle.std.specs.Prelude.{◌≡◌, ◌≤◌, ◌<◌, ◌^◌, ℕ,
 ghost use Rattle.std.specs.List.{Contains};
 ghost use Rattle.zone_blocks.specs.Block.{IsBlock, Covers};
 ghost use Rattle.zone_blocks.specs.Areas.{IsFree};
-ghost use Rattle.zone_buddy.specs.Zone.{set_of, AreSoundAreas, GivesFrames, TakesBuddy, HasNoBuddy};
+ghost use Rattle.zone_buddy.specs.Zone.{free_set_of, AreSoundAreas, GivesFrames, TakesBuddy, HasNoBuddy};
 
 use zone_blocks::areas::FreeAreas;
 use zone_blocks::block::Block;
@@ -33,10 +33,10 @@ fn take_buddy(areas: &mut FreeAreas, block: &Block) -> Option<Block>
 pub fn insert_merged(areas: &mut FreeAreas, block: Block)
     requires kept { AreSoundAreas areas.old }
     requires block { IsBlock areas.old.frames block }
-    requires in_use { (f : ℕ) → Covers block f → ¬ IsFree (set_of areas.old) f }
+    requires in_use { (f : ℕ) → Covers block f → ¬ IsFree (free_set_of areas.old) f }
     ensures kept { AreSoundAreas areas.new }
     ensures frames { areas.new.frames ≡ areas.old.frames }
-    ensures free { GivesFrames (set_of areas.old) block (set_of areas.new) }
+    ensures free { GivesFrames (free_set_of areas.old) block (free_set_of areas.new) }
 {
     let mut merged = block;
     while let Some(larger) = take_buddy(areas, &merged) {

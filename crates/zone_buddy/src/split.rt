@@ -3,7 +3,7 @@
 ghost use Rattle.std.specs.Prelude.{◌≡◌, ◌≤◌, ◌<◌, ℕ, List, Bool};
 ghost use Rattle.zone_blocks.specs.Block.{IsBlock, Covers};
 ghost use Rattle.zone_blocks.specs.Areas.{IsFree};
-ghost use Rattle.zone_buddy.specs.Zone.{block_at, set_of, AreSoundAreas, TakesFrames};
+ghost use Rattle.zone_buddy.specs.Zone.{block_at, free_set_of, AreSoundAreas, TakesFrames};
 
 use zone_blocks::areas::FreeAreas;
 use zone_blocks::block::Block;
@@ -14,12 +14,12 @@ use zone_blocks::order::Order;
 pub fn free_upper_halves(areas: &mut FreeAreas, block: &Block, order: Order)
     requires kept { AreSoundAreas areas.old }
     requires block { IsBlock areas.old.frames block.now }
-    requires in_use { (f : ℕ) → Covers block.now f → ¬ IsFree (set_of areas.old) f }
+    requires in_use { (f : ℕ) → Covers block.now f → ¬ IsFree (free_set_of areas.old) f }
     requires enough { order ≤ block.now.order }
     ensures kept { AreSoundAreas areas.new }
     ensures frames { areas.new.frames ≡ areas.old.frames }
-    ensures in_use { (free : List Bool) → TakesFrames free block.now (set_of areas.old)
-        → TakesFrames free (block_at block.now.at order) (set_of areas.new) }
+    ensures in_use { (free : List Bool) → TakesFrames free block.now (free_set_of areas.old)
+        → TakesFrames free (block_at block.now.at order) (free_set_of areas.new) }
 {
     let mut exponent = block.order.exponent();
     while exponent > order.exponent() {

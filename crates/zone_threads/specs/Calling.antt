@@ -40,14 +40,14 @@ pub record ServesBlock (frames : KnownTable) (group order : ℕ) (outcome : Outc
   pub serves : ServesOutcome frames (cmd.Alloc path order) outcome before after
 
 -- the fast allocation got no frame
-abbrev pub IsMissed : Fast → Type 0
-IsMissed (Got frame) = ⊥
-IsMissed other = Unit {0}
+abbrev pub GetsNoFrame : Fast → Type 0
+GetsNoFrame (Got frame) = ⊥
+GetsNoFrame other = Unit {0}
 
 -- a fast allocation for the group got no frame; of the CPU, at most what it knows of its stock has changed
 pub record MissesFast (group : ℕ) (from to : KnownCpu) : Type 0 where
   pub fast : Fast
-  pub missed : IsMissed fast
+  pub missed : GetsNoFrame fast
   pub answers : FastAnswers group fast from to
 
 -- the frame wasn't a fresh one of the CPU, or its stock was drained, and at most what it knows of that has changed
@@ -65,19 +65,19 @@ abbrev pub IsMissingIn : List Group → ℕ → Type 0
 IsMissingIn groups number = (most_groups ≤ number) ⊎ (has_group groups number ≡ false)
 
 -- behind the lock, no group had this number
-abbrev pub HasNoGroup : KnownTable → KnownStockTable → ℕ → Type 0
-HasNoGroup frames stock_table group =
+abbrev pub NoGroupBehindLock : KnownTable → KnownStockTable → ℕ → Type 0
+NoGroupBehindLock frames stock_table group =
     BehindLock frames stock_table (λ found. IsMissingIn found.machine.ledger.groups group)
 
 -- what is so, if nothing was allocated under the lock for this reason
 abbrev pub IfMissing : KnownTable → KnownStockTable → (group : ℕ) → Missed → Type 0
-IfMissing frames stock_table group missed.NoGroup = HasNoGroup frames stock_table group
+IfMissing frames stock_table group missed.NoGroup = NoGroupBehindLock frames stock_table group
 IfMissing frames stock_table group missed.Busy = Unit {0}
 
 -- a frame was asked for a number that no group has
 abbrev pub MissesGroup : KnownTable → KnownStockTable → (group : ℕ) → (from to : KnownHome) → Type 0
 MissesGroup frames stock_table group from to =
-    ((most_groups ≤ group) × (to ≡ from)) ⊎ (HasNoGroup frames stock_table group × OnCpu (MissesFast group) from to)
+    ((most_groups ≤ group) × (to ≡ from)) ⊎ (NoGroupBehindLock frames stock_table group × OnCpu (MissesFast group) from to)
 
 -- What each call does, by its answer.
 abbrev pub Calls : KnownTable → KnownStockTable → Call → (from to : KnownHome) → CallAnswer → Type 0
@@ -93,7 +93,7 @@ Calls frames stock_table (call.AllocFrame group) from to (answer.Served outcome)
     OnCpu (Then (MissesFast group) (IsVisited frames stock_table (ServesFrameOutcome frames group outcome))) from to
 Calls frames stock_table (call.AllocBlock group order) from to answer.Busy = to ≡ from
 Calls frames stock_table (call.AllocBlock group order) from to answer.NoGroup =
-    HasNoGroup frames stock_table group × (to ≡ from)
+    NoGroupBehindLock frames stock_table group × (to ≡ from)
 Calls frames stock_table (call.AllocBlock group order) from to (answer.Served outcome) =
     OnCpu (IsVisited frames stock_table (ServesBlock frames group order outcome)) from to
 Calls frames stock_table (call.Release frame) from to answer.Busy = OnCpu (MissesDrop frame) from to
@@ -115,15 +115,15 @@ Calls frames stock_table call.Settle from to answer.Settled =
 Calls frames stock_table asked from to returned = ⊥
 
 -- what a read of a file does under the lock, by its answer
-abbrev pub ReadsBehind : KnownTable → KnownStockTable → ReadCall → (from to : KnownCpu) → ReadAnswer → Type 0
-ReadsBehind frames stock_table asked from to read.Busy = ⊥
-ReadsBehind frames stock_table asked from to (read.Text text) =
+abbrev pub IsReadUnderLock : KnownTable → KnownStockTable → ReadCall → (from to : KnownCpu) → ReadAnswer → Type 0
+IsReadUnderLock frames stock_table asked from to read.Busy = ⊥
+IsReadUnderLock frames stock_table asked from to (read.Text text) =
     IsVisited frames stock_table (IsServed frames (cmd.Read asked.path asked.file) (reply.Text text)) from to
-ReadsBehind frames stock_table asked from to (read.Refused fault) =
+IsReadUnderLock frames stock_table asked from to (read.Refused fault) =
     IsVisited frames stock_table (IsServed frames (cmd.Read asked.path asked.file) (reply.Refused fault)) from to
 
 -- what a read of a file does, by its answer
-abbrev pub Reads : KnownTable → KnownStockTable → ReadCall → (from to : KnownHome) → ReadAnswer → Type 0
-Reads frames stock_table asked from to read.Busy = to ≡ from
-Reads frames stock_table asked from to answer =
-    OnCpu (λ cpu left. ReadsBehind frames stock_table asked cpu left answer) from to
+abbrev pub AnswersRead : KnownTable → KnownStockTable → ReadCall → (from to : KnownHome) → ReadAnswer → Type 0
+AnswersRead frames stock_table asked from to read.Busy = to ≡ from
+AnswersRead frames stock_table asked from to answer =
+    OnCpu (λ cpu left. IsReadUnderLock frames stock_table asked cpu left answer) from to

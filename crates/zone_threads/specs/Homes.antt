@@ -7,7 +7,7 @@ use Rattle.frame_word.specs.Seats.{KnownTable}
 use Rattle.stock_word.specs.Stock.{KnownStockTable}
 use Rattle.cpu_part.specs.Cpus.{KnownCpu}
 use Rattle.mem_system.specs.declared.audit.Audit.{Audit}
-use Rattle.mem_system.specs.Ends.{AddsUp, Ends, pins_of}
+use Rattle.mem_system.specs.Ends.{AddsUp, Ends, pins_of_all}
 use Rattle.mem_system.specs.Locked.{BehindLock, KnownLocked}
 use Rattle.zone_threads.specs.declared.home.NotEntered.{NotEntered}
 use Rattle.zone_threads.specs.declared.home.NotEntered.TheVariants as not_entered
@@ -111,6 +111,6 @@ EndsSome frames stock_table audit =
 -- the parked parts had so many pins, the zone ended so, and what was counted adds up
 pub record EndsZone (frames : KnownTable) (stock_table : KnownStockTable) (ended : ZoneEnd) : Type 0 where
   pub parked : List KnownCpu
-  pub held_is : ended.held ≡ pins_of parked
+  pub held_is : ended.held ≡ pins_of_all parked
   pub ends : EndsSome frames stock_table ended.audit
   pub adds_up : AddsUp ended.audit

@@ -17,7 +17,7 @@ use Rattle.zone_threads.specs.declared.texts.TextCall.{TextCall}
 use Rattle.zone_threads.specs.declared.texts.TextCall.TheVariants as call
 
 -- the text is this, and the machine stays
-pub record IsShown (shown text : List ℕ) (before after : KnownMachine) : Type 0 where
+pub record ShowsExactly (shown text : List ℕ) (before after : KnownMachine) : Type 0 where
   pub text_is : text ≡ shown
   pub stays : after ≡ before
 
@@ -33,16 +33,16 @@ SaysUnits path answer.NoMemory settled machine = Unit {0}
 -- The same of each text. If memory ran out, the CPU is settled all the same.
 abbrev pub SaysText : TextCall → TextAnswer → LockedState → KnownMachine → Type 0
 SaysText call.Show (answer.Text text) settled machine =
-    IsShown (show_text machine) text.items settled.locked.machine machine
+    ShowsExactly (show_text machine) text.items settled.locked.machine machine
 SaysText call.Blocks (answer.Text text) settled machine =
-    IsShown (blocks_text machine.blocks) text.items settled.locked.machine machine
+    ShowsExactly (blocks_text machine.blocks) text.items settled.locked.machine machine
 SaysText call.Stock (answer.Text text) settled machine =
-    IsShown (stock_line_text (visit_state_of settled)) text.items (with_look settled.locked.machine) machine
+    ShowsExactly (stock_line_text (visit_state_of settled)) text.items (with_look settled.locked.machine) machine
 SaysText (call.Units path) answer settled machine = SaysUnits path.items answer settled machine
 SaysText asked answer.NoMemory settled machine = Unit {0}
 SaysText asked other settled machine = ⊥
 
 -- what is done for a text
-abbrev pub Shows : KnownTable → KnownStockTable → TextCall → TextAnswer → (from to : KnownHome) → Type 0
-Shows frames stock_table asked answer from to =
+abbrev pub ReadsText : KnownTable → KnownStockTable → TextCall → TextAnswer → (from to : KnownHome) → Type 0
+ReadsText frames stock_table asked answer from to =
     OnCpu (ReadsAfterSettling frames stock_table (SaysText asked answer)) from to

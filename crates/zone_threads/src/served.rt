@@ -5,7 +5,7 @@ ghost use Rattle.group_tree.specs.Groups.{has_group};
 ghost use Rattle.mem_system.specs.Commands.{IsOfZone};
 ghost use Rattle.mem_system.specs.Shown.{SettlesCaller};
 ghost use Rattle.mem_system.specs.Visits.{IsVisited, ServesFrameOutcome, ServesOutcome};
-ghost use Rattle.zone_threads.specs.Calling.{HasNoGroup, IsMissingIn, ReadsBehind, ServesBlock};
+ghost use Rattle.zone_threads.specs.Calling.{NoGroupBehindLock, IsMissingIn, IsReadUnderLock, ServesBlock};
 
 use crate::behind::Behind;
 use crate::calls::{ReadAnswer, ReadCall};
@@ -47,7 +47,7 @@ impl<N: BootName> Behind<N> {
     ) -> Option<Outcome>
         ensures served { IfSome result (λ outcome.
             IsVisited N.frames N.stocks (ServesFrameOutcome N.frames group outcome) cpu.old cpu.new) }
-        ensures none { IfNone result (HasNoGroup N.frames N.stocks group × (cpu.new ≡ cpu.old)) }
+        ensures none { IfNone result (NoGroupBehindLock N.frames N.stocks group × (cpu.new ≡ cpu.old)) }
     {
         self.locked.prove_quiet();
         let Some(group) = find_group(self.locked.charges(), group) else {
@@ -68,7 +68,7 @@ impl<N: BootName> Behind<N> {
     ) -> Option<Outcome>
         ensures served { IfSome result (λ outcome.
             IsVisited N.frames N.stocks (ServesBlock N.frames group order outcome) cpu.old cpu.new) }
-        ensures none { IfNone result (HasNoGroup N.frames N.stocks group × (cpu.new ≡ cpu.old)) }
+        ensures none { IfNone result (NoGroupBehindLock N.frames N.stocks group × (cpu.new ≡ cpu.old)) }
     {
         self.locked.prove_quiet();
         let Some(group) = find_group(self.locked.charges(), group) else {
@@ -93,7 +93,7 @@ impl<N: BootName> Behind<N> {
 
     /// Reads a file of a group, with its text.
     pub fn read(&mut self, tables: &Tables<N>, cpu: &mut Cpu<N>, asked: &ReadCall<'_>) -> ReadAnswer
-        ensures { ReadsBehind N.frames N.stocks asked.now cpu.old cpu.new result }
+        ensures { IsReadUnderLock N.frames N.stocks asked.now cpu.old cpu.new result }
     {
         let ReadCall { path, file } = *asked;
         self.locked.prove_quiet();

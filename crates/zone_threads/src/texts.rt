@@ -2,7 +2,7 @@
 
 ghost use Rattle.std.specs.Prelude.{◌≡◌, IfNone, IfSome, IsSome};
 ghost use Rattle.mem_system.specs.Shown.{ReadsAfterSettling};
-ghost use Rattle.zone_threads.specs.Shown.{Shows, SaysText, SaysUnits};
+ghost use Rattle.zone_threads.specs.Shown.{ReadsText, SaysText, SaysUnits};
 ghost use Rattle.zone_threads.specs.declared.texts.TextCall.TheVariants.{Blocks, Show, Stock};
 
 use crate::behind::Behind;
@@ -39,7 +39,7 @@ impl<N: BootName> Home<N> {
     /// Settles the CPU, and returns a text, under the lock; `None` if another thread has it.
     pub fn text(&mut self, alloc: Global, asked: TextCall) -> Option<TextAnswer>
         requires some { IsSome self.old.cpu }
-        ensures shown { IfSome result (λ answer. Shows N.frames N.stocks asked answer self.old self.new) }
+        ensures shown { IfSome result (λ answer. ReadsText N.frames N.stocks asked answer self.old self.new) }
         ensures busy { IfNone result (self.new ≡ self.old) }
     {
         let zone = &*self.zone;

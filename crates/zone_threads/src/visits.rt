@@ -3,7 +3,7 @@
 ghost use Rattle.std.specs.Prelude.{◌≡◌, ◌↔◌, IfNone, IfSome, IsSome, IsTrue, MatchResult};
 ghost use Rattle.mem_system.specs.Commands.{IsOfZone, NamesFrameBelow};
 ghost use Rattle.mem_system.specs.Visits.{IsVisited, ServesFrameOutcome, ServesOutcome};
-ghost use Rattle.zone_threads.specs.Calling.{Calls, IfMissing, Reads, ServesBlock};
+ghost use Rattle.zone_threads.specs.Calling.{Calls, IfMissing, AnswersRead, ServesBlock};
 ghost use Rattle.zone_threads.specs.Homes.{OnCpu};
 ghost use Rattle.zone_threads.specs.declared.calls.Call.TheVariants.{AllocBlock, Settle, Visit};
 
@@ -77,7 +77,7 @@ impl<N: BootName> Home<N> {
     /// Reads a file of a group under the lock, with its text.
     pub fn read(&mut self, asked: &ReadCall<'_>) -> ReadAnswer
         requires some { IsSome self.old.cpu }
-        ensures { Reads N.frames N.stocks asked.now self.old self.new result }
+        ensures { AnswersRead N.frames N.stocks asked.now self.old self.new result }
     {
         let zone = &*self.zone;
         let Some(cpu) = &mut self.cpu else {

@@ -1,7 +1,7 @@
 //! The end of a zone, once no thread has a CPU.
 
 ghost use Rattle.std.specs.Prelude.{◌≡◌, [], IfSome, length};
-ghost use Rattle.mem_system.specs.Ends.{AddsUp, pins_of};
+ghost use Rattle.mem_system.specs.Ends.{AddsUp, pins_of_all};
 ghost use Rattle.zone_threads.specs.Homes.{EndsSome, EndsZone};
 
 use crate::behind::Behind;
@@ -22,7 +22,7 @@ pub struct ZoneEnd {
 /// isn't there, which no call leaves so: the parts stay in memory then.
 pub fn end_parts<N: BootName>(tables: Tables<N>, behind: Behind<N>) -> Option<ZoneEnd>
     ensures ends { IfSome result (λ ended. EndsZone N.frames N.stocks ended) }
-    ensures held { IfSome result (λ ended. ended.held ≡ pins_of behind.parked) }
+    ensures held { IfSome result (λ ended. ended.held ≡ pins_of_all behind.parked) }
 {
     let Behind { locked, parked } = behind;
     if parked.len() != tables.frames.cpus() as usize {

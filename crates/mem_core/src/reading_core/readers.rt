@@ -12,10 +12,10 @@ ghost use Rattle.step_rules.specs.Places.{places_of, place_in, is_same_frame_pla
 ghost use Rattle.step_rules.specs.Folds.{flag_given, limit_given, was_killed};
 ghost use Rattle.step_rules.specs.After.{Run, part_after, state_of};
 ghost use Rattle.step_rules.specs.Peaks.{IsPeak};
-ghost use Rattle.step_rules.specs.Events.{events_of, events_local_of};
-ghost use Rattle.mem_core.specs.Accounts.{account_of};
-ghost use Rattle.mem_core.specs.Shown.{CoreState, Shows, state_shown};
-ghost use Rattle.mem_core.specs.Promise.{shown_of};
+ghost use Rattle.step_rules.specs.Events.{events_in, events_local_in};
+ghost use Rattle.mem_core.specs.Accounts.{account_in};
+ghost use Rattle.mem_core.specs.Shown.{CoreState, ShowsRun, state_shown};
+ghost use Rattle.mem_core.specs.Promise.{core_shown};
 
 use super::Core;
 use group_tree::event::EventCounts;
@@ -29,7 +29,7 @@ impl Core {
     /// How many steps were made, with those that were answered Illegal.
     pub fn steps(&self) -> u64
         ensures now { result ≡ self.now.steps }
-        ensures run { (run : Run) → Shows self.now run → result ≡ length run }
+        ensures run { (run : Run) → ShowsRun self.now run → result ≡ length run }
     {
         self.steps
     }
@@ -37,7 +37,7 @@ impl Core {
     /// The groups.
     pub fn tree(&self) -> &Tree
         ensures now { result.now ≡ self.now.groups }
-        ensures run { (run : Run) → Shows self.now run → result.now ≡ (state_of self.now.zone run).groups }
+        ensures run { (run : Run) → ShowsRun self.now run → result.now ≡ (state_of self.now.zone run).groups }
     {
         &self.rows.tree
     }
@@ -46,7 +46,7 @@ impl Core {
     pub fn areas(&self) -> &FreeAreas
         ensures frames { result.now.frames ≡ self.now.zone.frames }
         ensures now { result.now.blocks ≡ self.now.areas }
-        ensures run { (run : Run) → Shows self.now run
+        ensures run { (run : Run) → ShowsRun self.now run
             → AreMaximalBlocks (free_in self.now.zone (state_of self.now.zone run).phases) result.now.blocks }
     {
         &self.areas
@@ -56,7 +56,7 @@ impl Core {
     pub fn max(&self, group: GroupId) -> Option<u32>
         requires { IsTrue (has_group self.now.groups group) }
         ensures now { result ≡ limit_of self.now.groups group }
-        ensures run { (run : Run) → Shows self.now run → result ≡ limit_given run group }
+        ensures run { (run : Run) → ShowsRun self.now run → result ≡ limit_given run group }
     {
         self.rows.tree.max(group)
     }
@@ -65,7 +65,7 @@ impl Core {
     pub fn is_oom_group(&self, group: GroupId) -> bool
         requires { IsTrue (has_group self.now.groups group) }
         ensures now { result ≡ is_oom_group self.now.groups group }
-        ensures run { (run : Run) → Shows self.now run → result ≡ flag_given run group }
+        ensures run { (run : Run) → ShowsRun self.now run → result ≡ flag_given run group }
     {
         self.rows.tree.is_oom_group(group)
     }
@@ -74,7 +74,7 @@ impl Core {
     pub fn place(&self, frame: u32) -> FramePlace
         requires { frame < self.now.zone.frames }
         ensures now { result ≡ place_in ((state_shown self.now).phases frame) }
-        ensures run { (run : Run) → Shows self.now run → (p : FramePlace)
+        ensures run { (run : Run) → ShowsRun self.now run → (p : FramePlace)
             → places_of self.now.zone run frame p ≡ is_same_frame_place p result }
     {
         place_in(self.phase(frame))
@@ -83,7 +83,7 @@ impl Core {
     /// Whether a group of this number is killed.
     pub fn is_killed(&self, group: GroupId) -> bool
         ensures now { result ≡ (state_shown self.now).killed group }
-        ensures run { (run : Run) → Shows self.now run → result ≡ (state_of self.now.zone run).killed group }
+        ensures run { (run : Run) → ShowsRun self.now run → result ≡ (state_of self.now.zone run).killed group }
     {
         self.rows.is_killed(group)
     }
@@ -91,7 +91,7 @@ impl Core {
     /// The phase of a frame.
     pub fn phase(&self, frame: u32) -> Phase
         ensures now { result ≡ (state_shown self.now).phases frame }
-        ensures run { (run : Run) → Shows self.now run → result ≡ (state_of self.now.zone run).phases frame }
+        ensures run { (run : Run) → ShowsRun self.now run → result ≡ (state_of self.now.zone run).phases frame }
     {
         self.rows.phase(frame)
     }
@@ -99,7 +99,7 @@ impl Core {
     /// The references of a seat on a frame.
     pub fn references(&self, seat: u32, frame: u32) -> u32
         ensures now { result ≡ (state_shown self.now).references seat frame }
-        ensures run { (run : Run) → Shows self.now run → result ≡ (state_of self.now.zone run).references seat frame }
+        ensures run { (run : Run) → ShowsRun self.now run → result ≡ (state_of self.now.zone run).references seat frame }
     {
         self.rows.references(seat, frame)
     }
@@ -107,7 +107,7 @@ impl Core {
     /// The front of a CPU's list; 0 if the list is empty.
     pub fn front(&self, cpu: u32) -> u32
         ensures now { result ≡ front_of ((state_shown self.now).parts cpu).list }
-        ensures run { (run : Run) → Shows self.now run → result ≡ front_of (part_after self.now.zone run cpu).list }
+        ensures run { (run : Run) → ShowsRun self.now run → result ≡ front_of (part_after self.now.zone run cpu).list }
     {
         self.rows.front(cpu)
     }
@@ -115,7 +115,7 @@ impl Core {
     /// How many frames are on a CPU's list.
     pub fn list_len(&self, cpu: u32) -> usize
         ensures now { result ≡ length ((state_shown self.now).parts cpu).list }
-        ensures run { (run : Run) → Shows self.now run → result ≡ length (part_after self.now.zone run cpu).list }
+        ensures run { (run : Run) → ShowsRun self.now run → result ≡ length (part_after self.now.zone run cpu).list }
     {
         self.rows.list_len(cpu)
     }
@@ -123,7 +123,7 @@ impl Core {
     /// The pages that a CPU reported and that aren't absorbed yet.
     pub fn reported(&self, cpu: u32) -> u128
         ensures now { result ≡ ((state_shown self.now).parts cpu).reported }
-        ensures run { (run : Run) → Shows self.now run → result ≡ (part_after self.now.zone run cpu).reported }
+        ensures run { (run : Run) → ShowsRun self.now run → result ≡ (part_after self.now.zone run cpu).reported }
     {
         self.rows.reported(cpu)
     }
@@ -131,7 +131,7 @@ impl Core {
     /// The references of a seat on all frames; those of a CPU are its pins.
     pub fn pin_count(&self, seat: u32) -> u32
         ensures now { result ≡ pins_of (state_shown self.now) seat }
-        ensures run { (run : Run) → Shows self.now run → result ≡ pins_of (state_of self.now.zone run) seat }
+        ensures run { (run : Run) → ShowsRun self.now run → result ≡ pins_of (state_of self.now.zone run) seat }
     {
         self.rows.pin_count(seat)
     }
@@ -140,8 +140,8 @@ impl Core {
     /// prepaid for them, and those pending.
     pub fn current(&self, group: GroupId) -> u128
         ensures now { result ≡ usage_of (state_shown self.now) group }
-        ensures shown { result ≡ (shown_of self.now).current group }
-        ensures run { (run : Run) → Shows self.now run → result ≡ usage_of (state_of self.now.zone run) group }
+        ensures shown { result ≡ (core_shown self.now).current group }
+        ensures run { (run : Run) → ShowsRun self.now run → result ≡ usage_of (state_of self.now.zone run) group }
         ensures few { result < 2 ^ 104 }
     {
         self.rows.usage(group)
@@ -150,9 +150,9 @@ impl Core {
     /// The greatest usage of an existing group since it was made (memory.peak), in pages; it is below 2^104.
     pub fn peak(&self, group: GroupId) -> u128
         requires { IsTrue (has_group self.now.groups group) }
-        ensures now { result ≡ (account_of self.now.accounts group).peak }
+        ensures now { result ≡ (account_in self.now.accounts group).peak }
         ensures few { result < 2 ^ 104 }
-        ensures run { (run : Run) → Shows self.now run → IsPeak self.now.zone run group result }
+        ensures run { (run : Run) → ShowsRun self.now run → IsPeak self.now.zone run group result }
     {
         self.accounts[group.number() as usize].peak
     }
@@ -160,9 +160,9 @@ impl Core {
     /// The event counts of an existing group and all groups below it since it was made (memory.events).
     pub fn events(&self, group: GroupId) -> EventCounts
         requires { IsTrue (has_group self.now.groups group) }
-        ensures now { result ≡ (account_of self.now.accounts group).events }
-        ensures run { (run : Run) → Shows self.now run → (key : EventKey)
-            → count_of result key ≡ events_of key self.now.zone run group }
+        ensures now { result ≡ (account_in self.now.accounts group).events }
+        ensures run { (run : Run) → ShowsRun self.now run → (key : EventKey)
+            → count_of result key ≡ events_in key self.now.zone run group }
     {
         let account = self.accounts[group.number() as usize];
         account.events
@@ -171,9 +171,9 @@ impl Core {
     /// The event counts of an existing group itself since it was made (memory.events.local).
     pub fn events_local(&self, group: GroupId) -> EventCounts
         requires { IsTrue (has_group self.now.groups group) }
-        ensures now { result ≡ (account_of self.now.accounts group).events_local }
-        ensures run { (run : Run) → Shows self.now run → (key : EventKey)
-            → count_of result key ≡ events_local_of key self.now.zone run group }
+        ensures now { result ≡ (account_in self.now.accounts group).events_local }
+        ensures run { (run : Run) → ShowsRun self.now run → (key : EventKey)
+            → count_of result key ≡ events_local_in key self.now.zone run group }
     {
         self.accounts[group.number() as usize].events_local
     }
@@ -181,7 +181,7 @@ impl Core {
     /// The frames on a CPU's list, the front first.
     pub fn list(&self, cpu: u32) -> &[u32]
         ensures now { result.now ≡ ((state_shown self.now).parts cpu).list }
-        ensures run { (run : Run) → Shows self.now run → result.now ≡ (part_after self.now.zone run cpu).list }
+        ensures run { (run : Run) → ShowsRun self.now run → result.now ≡ (part_after self.now.zone run cpu).list }
     {
         self.rows.list(cpu)
     }
@@ -189,7 +189,7 @@ impl Core {
     /// A CPU's fresh frames, the oldest first.
     pub fn fresh(&self, cpu: u32) -> &[u32]
         ensures now { result.now ≡ ((state_shown self.now).parts cpu).fresh }
-        ensures run { (run : Run) → Shows self.now run → result.now ≡ (part_after self.now.zone run cpu).fresh }
+        ensures run { (run : Run) → ShowsRun self.now run → result.now ≡ (part_after self.now.zone run cpu).fresh }
     {
         self.rows.fresh(cpu)
     }
@@ -197,7 +197,7 @@ impl Core {
     /// A CPU's back frames, the oldest first.
     pub fn back(&self, cpu: u32) -> &[u32]
         ensures now { result.now ≡ ((state_shown self.now).parts cpu).back }
-        ensures run { (run : Run) → Shows self.now run → result.now ≡ (part_after self.now.zone run cpu).back }
+        ensures run { (run : Run) → ShowsRun self.now run → result.now ≡ (part_after self.now.zone run cpu).back }
     {
         self.rows.back(cpu)
     }

@@ -1,6 +1,6 @@
 use Rattle.std.proofs.Common.{◌≡◌, ◌∙◌, List, arith, ap, length, subst, sym}
 use Rattle.cpu_part.specs.Cpus.{KnownCpu}
-use Rattle.mem_system.specs.Ends.{ForEachCpu, MakesLastVisits, pins_of}
+use Rattle.mem_system.specs.Ends.{ForEachCpu, MakesLastVisits, pins_of_all}
 use Rattle.mem_system.specs.Locked.{KnownLocked}
 use Rattle.mem_system.proofs.Closing.{turn_long, written_back}
 use Rattle.script_replay.specs.Lines.{system_state}
@@ -14,7 +14,7 @@ unreachable-requires g c =
     let long = turn_long PutsAllPins _ _ _ _ c.put_all_pins.ensures.puts ∙ ap length first in
     let same = written_back c.in-Err.pinned.cpus.len c.put_all_pins.new.cpus c.in-Err.pinned.cpus.items long (sym c.deref_mut.ensures.len ∙ ap length first) in
     let none : c.in-Err-make_last_visits.field-0.pins ≡ 0 =
-    c.in-Err-make_last_visits.ensures.pins ∙ ap pins_of same ∙ none_pinned _ _ _ _ c.put_all_pins.ensures.puts in
+    c.in-Err-make_last_visits.ensures.pins ∙ ap pins_of_all same ∙ none_pinned _ _ _ _ c.put_all_pins.ensures.puts in
     let some = c.in-Err-make_last_visits.ensures.some_pin in
     omega arith
 

@@ -1,6 +1,6 @@
 -- Serves the contract of `write_head`: there is none; or it was written, or not whole.
 use Rattle.std.proofs.Common.{◌≡◌, ◌∙◌}
-use Rattle.load_run.specs.Logs.{head_text}
+use Rattle.load_run.specs.Logs.{log_head_text}
 use Rattle.load_run.proofs.SessionEnds.{head_begun, head_missed, head_written, no_head}
 use Rattle.load_run.proofs.serving.write_head.Goals as goal
 
@@ -9,12 +9,12 @@ returns-in-Answers-clause-written g c = no_head c.args.form _ c.args.sizes.now (
 
 pub returns-in-Ok-clause-written : goal.returns-in-Ok-clause-written
 returns-in-Ok-clause-written g c =
-    let same : c.deref.result.now ≡ head_text c.args.sizes.now = c.deref.ensures.value ∙ c.in-Ok.ensures in
+    let same : c.deref.result.now ≡ log_head_text c.args.sizes.now = c.deref.ensures.value ∙ c.in-Ok.ensures in
     head_written c.write_answers.result c.args.form c.args.sizes.now _ _ c.deref.result.now c.in-Steps.is same c.write_answers.ensures.written
 
 pub returns-in-Ok-clause-begun : goal.returns-in-Ok-clause-begun
 returns-in-Ok-clause-begun g c =
-    let same : c.deref.result.now ≡ head_text c.args.sizes.now = c.deref.ensures.value ∙ c.in-Ok.ensures in
+    let same : c.deref.result.now ≡ log_head_text c.args.sizes.now = c.deref.ensures.value ∙ c.in-Ok.ensures in
     head_begun c.write_answers.result c.args.form c.args.sizes.now _ _ c.deref.result.now c.in-Steps.is same c.write_answers.ensures.fault
     c.write_answers.ensures.beginning
 

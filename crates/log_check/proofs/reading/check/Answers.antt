@@ -3,7 +3,7 @@ use Rattle.std.proofs.Common.{◌∙◌, ◌≡◌, ◌<◌, ◌≤◌, ◌++◌
 use Rattle.std.specs.Io.KnownBytes.{Consumes}
 use Rattle.log_check.specs.declared.verdict.LogVerdict.{LogVerdict}
 use Rattle.log_check.specs.declared.reader.LogReader.{LogReader}
-use Rattle.log_check.specs.Taking.{Fits, Reads}
+use Rattle.log_check.specs.Taking.{HasRoomForLine, ReadsOrJudges}
 use Rattle.log_check.proofs.Exact.{exact_if}
 use Rattle.log_check.specs.Reading.{NamesLineAfter}
 use Rattle.log_check.proofs.Parts.{IsReadTo, all_far, all_read, ended, ended_far, kept, more}
@@ -39,7 +39,7 @@ returns-in-Some-clause-verdict g c =
     let piece = take c.in-Ok.n c.read.new.buf in
     ended c.args.is_all (g.I.Read.remaining c.args.input.now) (g.I.Read.remaining c.loop.input) (g.I.Read.remaining c.read.new.self) c.loop.log
     c.take_bytes.new.self piece c.in-Some.end (c.in_ok-end-in-Ok.ensures.all ∙ c.loop.invariant.1) c.loop.invariant.2 c.in-Ok.ensures.bytes.0
-    (λ before h. subst (λ (e : Option LogVerdict). Reads (before ++ piece) c.take_bytes.new.self e) c.in-Some.is (c.in_ok-end-in-Ok.ensures.read before h))
+    (λ before h. subst (λ (e : Option LogVerdict). ReadsOrJudges (before ++ piece) c.take_bytes.new.self e) c.in-Some.is (c.in_ok-end-in-Ok.ensures.read before h))
 
 pub returns-in-Some-clause-exact : goal.returns-in-Some-clause-exact
 returns-in-Some-clause-exact g c =
@@ -58,7 +58,7 @@ loop-preserved g c =
     let input = g.I.Read.remaining c.args.input.now in
     let before = g.I.Read.remaining c.loop.input in
     let after = g.I.Read.remaining c.read.new.self in
-    let So : LogReader → Type 0 = λ log. Fits log × (log.is_all ≡ c.args.is_all) × IsReadTo input after log in
+    let So : LogReader → Type 0 = λ log. HasRoomForLine log × (log.is_all ≡ c.args.is_all) × IsReadTo input after log in
     elim c.match-read.branch [
       | in-Ok+in_ok-end-in-Ok+in_default w ↦
           let piece = take w.in-Ok.n c.read.new.buf in
@@ -66,7 +66,7 @@ loop-preserved g c =
             w.in_ok-end-in-Ok.ensures.fits,
             w.in_ok-end-in-Ok.ensures.all ∙ c.loop.invariant.1,
             more input before after c.loop.log w.take_bytes.new.self piece c.loop.invariant.2 w.in-Ok.ensures.bytes.0
-                (λ text h. subst (λ (e : Option LogVerdict). Reads (text ++ piece) w.take_bytes.new.self e) w.in_default.is (w.in_ok-end-in-Ok.ensures.read text h)),
+                (λ text h. subst (λ (e : Option LogVerdict). ReadsOrJudges (text ++ piece) w.take_bytes.new.self e) w.in_default.is (w.in_ok-end-in-Ok.ensures.read text h)),
           )
       | in-Err w ↦ subst So (sym w.log-is) (
         c.loop.invariant.0,

@@ -2,13 +2,13 @@
 use Rattle.std.proofs.Common.{◌++◌, codes}
 use Rattle.log_check.specs.ReasonTexts.{reason_text}
 use Rattle.log_check.proofs.Pieces.{behind}
-use Rattle.log_check.specs.Texts.{due_text, place_text}
+use Rattle.log_check.specs.Texts.{due_text, step_place_text}
 use Rattle.log_check.proofs.text.write_illegal.Goals as goal
 
 pub returns : goal.returns
 returns c =
     let illegal = c.args.illegal.now in
-    let place = place_text illegal.line illegal.step in
+    let place = step_place_text illegal.line illegal.step in
     let due = due_text illegal.expected in
     let why = reason_text illegal.reason ++ codes "\n" in
     behind c.write_why.result c.args.text.now.items _ _ place (due ++ why) c.in_ok-write_place.ensures

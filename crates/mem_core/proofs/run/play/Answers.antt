@@ -6,14 +6,14 @@ use Rattle.step_rules.specs.State.{Zone}
 use Rattle.step_rules.specs.After.{Run, IsLegalRun}
 use Rattle.step_rules.specs.Laws.{pushed}
 use Rattle.mem_core.proofs.Playing.{PlaysOn, PlaysOn-start, PlaysOn-step, PlaysOn-all, zip-take_more, length-zip-take}
-use Rattle.mem_core.specs.Shown.{zone_of}
+use Rattle.mem_core.specs.Shown.{zone_of_config}
 use Rattle.mem_core.proofs.Keeping.{keeps_promise, always_keeps}
 use Rattle.mem_core.proofs.run.play.Goals as goal
 
 pub loop-step-init : goal.loop-step-init
 loop-step-init c = record {
   one_each = ap length c.in_ok-answers.ensures.items;
-  plays = PlaysOn-start (zone_of c.args.config) c.in_ok-core.core c.in_ok-core.ensures.zone c.in_ok-core.ensures.empty c.in_ok-core.ensures.areas;
+  plays = PlaysOn-start (zone_of_config c.args.config) c.in_ok-core.core c.in_ok-core.ensures.zone c.in_ok-core.ensures.empty c.in_ok-core.ensures.areas;
 }
 
 pub step-requires : goal.step-requires
@@ -38,16 +38,16 @@ loop-step-preserved c =
     ap (zip (take (i + 1) steps)) pushes
     ∙ zip-take_more steps answers i step answer c.loop-step-test.true so_far.one_each
     ∙ ap (λ (x : Step). pushed run x answer) (sym c.step-item.is) in
-    let goes_on = PlaysOn-step (zone_of c.args.config) c.loop-step.core c.step.new.self run step answer so_far.plays
+    let goes_on = PlaysOn-step (zone_of_config c.args.config) c.loop-step.core c.step.new.self run step answer so_far.plays
     c.step.ensures.first c.step.ensures.zone (c.step.ensures.shows run so_far.plays.shows) c.step.ensures.areas in
     record {
       one_each = ap length pushes ∙ length-append answers (answer ∷ []) ∙ ap (λ n. n + 1) so_far.one_each;
-      plays = subst (PlaysOn (zone_of c.args.config) c.step.new.self) (sym more) goes_on;
+      plays = subst (PlaysOn (zone_of_config c.args.config) c.step.new.self) (sym more) goes_on;
     }
 
-all : (c : goal.After-loop-step) → PlaysOn (zone_of c.args.config) c.loop-step.core (zip c.args.steps.now c.loop-step.answers.items)
+all : (c : goal.After-loop-step) → PlaysOn (zone_of_config c.args.config) c.loop-step.core (zip c.args.steps.now c.loop-step.answers.items)
 all c =
-    PlaysOn-all (zone_of c.args.config) c.loop-step.core c.args.steps.now c.loop-step.answers.items
+    PlaysOn-all (zone_of_config c.args.config) c.loop-step.core c.args.steps.now c.loop-step.answers.items
     c.loop-step.step-index c.loop-step-test.false c.loop-step.invariant.plays
 
 pub returns-clause-first : goal.returns-clause-first
@@ -56,7 +56,7 @@ returns-clause-first c = (all c).first
 pub returns-clause-promise : goal.returns-clause-promise
 returns-clause-promise c =
     let run : Run = zip c.args.steps.now c.loop-step.answers.items in
-    always_keeps (zone_of c.args.config) run (subst (λ (z : Zone). IsLegalRun z run) (all c).sizes (all c).shows.legal)
+    always_keeps (zone_of_config c.args.config) run (subst (λ (z : Zone). IsLegalRun z run) (all c).sizes (all c).shows.legal)
 
 pub returns-clause-promise_shown : goal.returns-clause-promise_shown
 returns-clause-promise_shown c = keeps_promise c.loop-step.core (zip c.args.steps.now c.loop-step.answers.items) (all c).shows (all c).areas

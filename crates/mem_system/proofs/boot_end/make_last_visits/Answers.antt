@@ -5,7 +5,7 @@ use Rattle.group_tree.specs.Room.{max_count}
 use Rattle.cpu_part.specs.Cpus.{KnownCpu}
 use Rattle.mem_system.specs.Locked.{IsEmptyWithRoom, KnownLocked}
 use Rattle.mem_system.specs.Left.{NothingIsLeft}
-use Rattle.mem_system.specs.Ends.{ForEachCpu, SettlesInVisit, VisitsUnderLock, Empties, IsSettledUnpinned, KnownEmptiedBoot, MakesLastVisits, drops_of, pins_of}
+use Rattle.mem_system.specs.Ends.{ForEachCpu, SettlesInVisit, VisitsUnderLock, Empties, IsSettledUnpinned, KnownEmptiedBoot, MakesLastVisits, drops_of, pins_of_all}
 use Rattle.mem_system.proofs.Closing.{turn_long, written_back, all_visits}
 use Rattle.mem_system.proofs.boot_end.make_last_visits.Goals as goal
 
@@ -30,8 +30,8 @@ returns-clause-visits g c =
     let longer = turn_long (VisitsUnderLock t Empties) _ _ _ _ c.empty_all.ensures.empties ∙ ap length second in
     let last = written_back c.args.cpus.len c.empty_all.new.cpus _ longer (size ∙ sym (ap length same ∙ long)) in
     let read : c.deref.result.now ≡ c.args.cpus.items = c.deref.ensures.value in
-    let none : pins_of c.args.cpus.items ≡ 0 =
-    let counted = c.count_pins-pins.ensures in let zero = c.if-pins-gt0.false in sym (ap pins_of read) ∙ sym counted ∙ omega (arith, zero) in
+    let none : pins_of_all c.args.cpus.items ≡ 0 =
+    let counted = c.count_pins-pins.ensures in let zero = c.if-pins-gt0.false in sym (ap pins_of_all read) ∙ sym counted ∙ omega (arith, zero) in
     let dropped = c.count_drops-drops.ensures ∙ ap (λ (l : List KnownCpu). min (drops_of l) max_count) c.deref-2.ensures.value in
     let rests : ForEachCpu (VisitsUnderLock t SettlesInVisit) c.locked.inside.machine c.args.cpus.items c.settle_all.new.machine c.settle_all.new.cpus =
     subst (λ (l : List KnownCpu). ForEachCpu (VisitsUnderLock t SettlesInVisit) c.locked.inside.machine l c.settle_all.new.machine c.settle_all.new.cpus) first c.settle_all.ensures.settles in

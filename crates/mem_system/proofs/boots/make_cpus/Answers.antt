@@ -1,6 +1,6 @@
 use Rattle.std.proofs.Common.{◌≡◌, ◌+◌, ◌-◌, ◌<◌, ◌++◌, ◌∷◌, [], All, length, sym, ap, ◌∙◌, subst, arith, rules}
 use Rattle.std.specs.List.{remove}
-use Rattle.frame_word.specs.Seats.{number_of, first_cpu_seats}
+use Rattle.frame_word.specs.Seats.{seat_number, first_cpu_seats}
 use Rattle.stock_word.specs.Stock.{first_seats}
 use Rattle.cpu_part.specs.Cpus.{IsIdle, first_cpu}
 use Rattle.mem_system.specs.Boots.{first_cpus}
@@ -36,7 +36,7 @@ new-requires g c =
     record {
       frame_seat = frame_seat_first g.N.BootName.frames _ (i + 1) frame_seat (omega arith) (omega (arith, c.requires.cpus));
       stock_seat = stock_seat_first g.N.BootName.stocks _ (i + 1) stock_seat (omega arith) (omega (arith, c.requires.stock_cpus));
-      same = ap (λ s. s.view.number) stock_seat ∙ sym (ap (λ s. number_of s) frame_seat);
+      same = ap (λ s. s.view.number) stock_seat ∙ sym (ap (λ s. seat_number s) frame_seat);
     }
 
 pub take_apart-requires : goal.take_apart-requires

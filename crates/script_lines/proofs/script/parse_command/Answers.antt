@@ -1,6 +1,6 @@
 use Rattle.std.proofs.Common.{subst}
 use Rattle.script_lines.specs.Script.{IsCut, IsNamed}
-use Rattle.script_lines.specs.Verb.{its_verb, name_of}
+use Rattle.script_lines.specs.Verb.{its_verb, name_of_verb}
 use Rattle.script_lines.proofs.Readings.{begins, from_arguments, on_none}
 use Rattle.script_lines.proofs.script.parse_command.Goals as goal
 
@@ -10,6 +10,6 @@ returns-in_err-verb c = on_none _ _ _ c.from_residual.ensures
 
 pub returns-in-Some : goal.returns-in-Some
 returns-in-Some c =
-    let cut : IsCut c.args.text.now (name_of c.in_ok-verb.verb) c.in-Some.arguments.now
+    let cut : IsCut c.args.text.now (name_of_verb c.in_ok-verb.verb) c.in-Some.arguments.now
     = subst (λ rest. IsNamed c.in_ok-verb.verb rest c.args.text.now) c.in-Some.is c.in_ok-verb.ensures in
     from_arguments c.args.sizes.now c.args.text.now c.in-Some.arguments.now c.in_ok-verb.verb c.parse_arguments.result cut c.parse_arguments.ensures

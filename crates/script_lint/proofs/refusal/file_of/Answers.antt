@@ -1,6 +1,6 @@
 use Rattle.std.proofs.Common.{rules, ◌≡◌, codes, false}
 use Rattle.std.specs.Str.{bytes_eq}
-use Rattle.control_files.specs.Files.{name_of}
+use Rattle.control_files.specs.Files.{name_of_file}
 use Rattle.script_lint.proofs.Judging.{none_lacks}
 use Rattle.script_lint.proofs.refusal.file_of.Goals as goal
 
@@ -9,7 +9,7 @@ returns-in-None-clause-none c = c.no_file.ensures c.args.path.now
 
 pub returns-else-eq-clause-file : goal.returns-else-eq-clause-file
 returns-else-eq-clause-file c =
-    let named : c.args.name.now ≡ name_of c.in-Some.file = (c.file_named.ensures c.in-Some.file).0 c.in-Some.is in
+    let named : c.args.name.now ≡ name_of_file c.in-Some.file = (c.file_named.ensures c.in-Some.file).0 c.in-Some.is in
     let other : bytes_eq c.args.path.now (codes "/") ≡ false = search rules in
     record {
       named = named;

@@ -45,7 +45,7 @@ use Rattle.core.specs.contracts.marker.Brand as Brand
 use Rattle.core.proofs.marker.Brand.TheLaws as brand_row
 use Rattle.tempolemon_c.proofs.Moves.{word, ptr_typed, word_typed, both, and_tt, parts_out, parts_in, row_tells}
 use Rattle.tempolemon_c.specs.Owned.{brand, marker, live_owns}
-use Rattle.tempolemon_c.specs.HandleCalls.{Calls}
+use Rattle.tempolemon_c.specs.HandleCalls.{CallsLive}
 use Rattle.tempolemon_c.specs.Serving.{OnLive}
 use Rattle.tempolemon_c.specs.Known.{KnownLive}
 use Rattle.cpu_part.specs.declared.boot_name.BootName.{Ghosts}
@@ -130,8 +130,8 @@ module _ {M : Type 1} {𝓤 : Ura M} (𝓛 : Logic 𝓤) (at_mem : Memory → SP
       use1 𝓛 (raw ((Served g).pre y)) (id⊢ 𝓤 _) $
       calls_at ! (fm_of 𝓤 H 𝓛.laws 𝓣) (Served g) (kn g) y (and_then ! (get ! refl) (and_then ! (get ! refl) (and_then ! (get ! refl) (no_more !)))) (λ u.
       use1 𝓛 (later (some (λ (t : PointerR.Denot × CallAnswer.the_row.Denot). ((‵ (flft κ₀ q₀) ⊛ (‵ (flft κ₁ q₁) ⊛ (‵ (flft (α ∷ []) full_share) ⊛ ‵ ftrue))) ⊛ ‵ ((Tuple (PointerR ∷ CallAnswer.the_row ∷ [])).own_val t (u ∷ []))) ⊛
-      some (λ ended. ‵ (lasts (S.ended brand g none) (κ₀, (κ₁, (α ∷ [], tt))) (from, (n, (r, tt))) ended) ⊛ raw (fact 𝓤 (OnLive (λ live to. Calls g.frames g.stocks n r.now live to t.1) d.live t.0.live)))))) (id⊢ 𝓤 _) $
-      await ! tt $ pick ! (λ t. split ! $ move ! (1 ∷ []) $ pick ! (λ ended. split ! $ drop ! $ heard ! (OnLive (λ live to. Calls g.frames g.stocks n r.now live to t.1) d.live t.0.live) (λ did. split ! $
+      some (λ ended. ‵ (lasts (S.ended brand g none) (κ₀, (κ₁, (α ∷ [], tt))) (from, (n, (r, tt))) ended) ⊛ raw (fact 𝓤 (OnLive (λ live to. CallsLive g.frames g.stocks n r.now live to t.1) d.live t.0.live)))))) (id⊢ 𝓤 _) $
+      await ! tt $ pick ! (λ t. split ! $ move ! (1 ∷ []) $ pick ! (λ ended. split ! $ drop ! $ heard ! (OnLive (λ live to. CallsLive g.frames g.stocks n r.now live to t.1) d.live t.0.live) (λ did. split ! $
       -- [the tokens; the result]
       split ! $ move ! (1 ∷ []) $ split ! $ move ! (1 ∷ []) $ split ! $ drop ! $ move ! (1 ∷ 0 ∷ []) $ join ! $ move ! (1 ∷ 0 ∷ []) $ join ! $ move ! (1 ∷ []) $
       let p' = t.0.ptr in let a' = t.0.alloc in

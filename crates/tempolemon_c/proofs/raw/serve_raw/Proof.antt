@@ -48,7 +48,8 @@ use Rattle.core.specs.contracts.marker.Brand as Brand
 use Rattle.core.proofs.marker.Brand.TheLaws as brand_row
 use Rattle.tempolemon_c.proofs.Moves.{word, ptr_typed, word_typed, both, and_tt, parts_out, parts_in, row_tells}
 use Rattle.tempolemon_c.specs.Owned.{brand, marker, live_owns}
-use Rattle.tempolemon_c.specs.Serving.{IsFit, IsNamed, MayBeAsked, Serves, frames_of, stocks_of}
+use Rattle.tempolemon_c.specs.Serving.{IsFit, StartsUnder, MayBeAsked, ServesRequest, frames_after_request}
+use Rattle.tempolemon_c.specs.Serving.{stocks_after_request}
 use Rattle.tempolemon_c.specs.Known.{KnownLive}
 use Rattle.tempolemon_c.specs.declared.requests.Request.TheVariants.{Start, Lines, StoreUnread, TakeUnread, End}
 use Rattle.cpu_part.specs.declared.boot_name.BootName.{Ghosts}
@@ -70,7 +71,7 @@ abbrev brand_laws : Laws brand
 brand_laws = arg_laws (layout brand) no Brand.the_row brand_row.the_row_laws refl
 
 abbrev name : RawBoot.the_row.Denot → Request.the_row.Denot → Ghosts brand.Denot
-name d q = record { frames = frames_of d.frames q; stocks = stocks_of d.stocks q }
+name d q = record { frames = frames_after_request d.frames q; stocks = stocks_after_request d.stocks q }
 
 abbrev none : Dict
 none = impl [] tnil dnil
@@ -79,7 +80,7 @@ abbrev args : Args
 args = bounded (a_type ∷ []) (brand, tt) (dcons none dnil)
 
 -- the name is that of the request, if it brings a boot
-named : (f : KnownTable) (s : KnownStockTable) (q : Request.the_row.Denot) → IsNamed (frames_of f q) (stocks_of s q) q
+named : (f : KnownTable) (s : KnownStockTable) (q : Request.the_row.Denot) → StartsUnder (frames_after_request f q) (stocks_after_request s q) q
 named f s (Start alloc boot sizes) = (refl, refl)
 named f s (Lines alloc text is_explained) = tt
 named f s (StoreUnread text) = tt
@@ -88,7 +89,7 @@ named f s (End alloc) = tt
 
 -- what is owned under the name that is remembered is owned under the one that is picked
 same : (a : Global) (p : Ptr) (f : KnownTable) (s : KnownStockTable) (o : Option KnownLive) (q : Request.the_row.Denot) → IsFit o q
-    → live_owns marker f s a p o ≡ live_owns marker (frames_of f q) (stocks_of s q) a p o
+    → live_owns marker f s a p o ≡ live_owns marker (frames_after_request f q) (stocks_after_request s q) a p o
 same a p f s None q fit = refl
 same a p f s (Some live) (Start alloc boot sizes) fit = absurd fit
 same a p f s (Some live) (Lines alloc text is_explained) fit = refl
@@ -156,8 +157,8 @@ module _ {M : Type 1} {𝓤 : Ura M} (𝓛 : Logic 𝓤) (at_mem : Memory → SP
       use1 𝓛 (raw ((Served g).pre y)) (id⊢ 𝓤 _) $
       calls_at ! (fm_of 𝓤 H 𝓛.laws 𝓣) (Served g) (kn g) y (and_then ! (get ! refl) (and_then ! (get ! refl) (no_more !))) (λ u.
       use1 𝓛 (later (some (λ (r : PointerR.Denot × RequestAnswer.the_row.Denot). ((‵ (flft (α ∷ []) full_share) ⊛ ‵ ftrue) ⊛ ‵ ((Tuple (PointerR ∷ RequestAnswer.the_row ∷ [])).own_val r (u ∷ []))) ⊛
-      some (λ ended. ‵ (lasts (S.ended brand g none) (α ∷ [], tt) (from, (q, tt)) ended) ⊛ raw (fact 𝓤 (Serves g.frames g.stocks d.live q r.0.live r.1)))))) (id⊢ 𝓤 _) $
-      await ! tt $ pick ! (λ r. split ! $ move ! (1 ∷ []) $ pick ! (λ ended. split ! $ drop ! $ heard ! (Serves g.frames g.stocks d.live q r.0.live r.1) (λ did. split ! $ drop ! $
+      some (λ ended. ‵ (lasts (S.ended brand g none) (α ∷ [], tt) (from, (q, tt)) ended) ⊛ raw (fact 𝓤 (ServesRequest g.frames g.stocks d.live q r.0.live r.1)))))) (id⊢ 𝓤 _) $
+      await ! tt $ pick ! (λ r. split ! $ move ! (1 ∷ []) $ pick ! (λ ended. split ! $ drop ! $ heard ! (ServesRequest g.frames g.stocks d.live q r.0.live r.1) (λ did. split ! $ drop ! $
       let p' = r.0.ptr in let a' = r.0.alloc in
       let F₂ = live_owns marker g.frames g.stocks a' p' r.0.live in
       let made : RawBoot.the_row.Denot = record { ptr = p'; alloc = a'; frames = g.frames; stocks = g.stocks; live = r.0.live } in

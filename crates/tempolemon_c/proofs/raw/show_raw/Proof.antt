@@ -44,7 +44,7 @@ use Rattle.core.specs.contracts.marker.Brand as Brand
 use Rattle.core.proofs.marker.Brand.TheLaws as brand_row
 use Rattle.tempolemon_c.proofs.Moves.{word, ptr_typed, word_typed, both, and_tt, parts_out, parts_in, row_tells}
 use Rattle.tempolemon_c.specs.Owned.{brand, marker, live_owns}
-use Rattle.tempolemon_c.specs.HandleCalls.{HasFile, ShowsFile}
+use Rattle.tempolemon_c.specs.HandleCalls.{GroupHasFiles, ShowsFile}
 use Rattle.tempolemon_c.specs.Serving.{OnLive}
 use Rattle.tempolemon_c.specs.Known.{KnownLive}
 use Rattle.cpu_part.specs.declared.boot_name.BootName.{Ghosts}
@@ -118,8 +118,8 @@ module _ {M : Type 1} {𝓤 : Ura M} (𝓛 : Logic 𝓤) (at_mem : Memory → SP
       let PointerR = LivePointer.the_row marker g in
       let from : PointerR.Denot = record { ptr = p; alloc = a; live = d.live } in
       qed 𝓛 ((‵ ftrue ⊛ ‵ (fsep (RawBoot.the_row.own_val d z.0.4.0) (fsep (GroupId.the_row.own_val n z.0.4.1.0)
-      (fsep (File.the_row.own_val i z.0.4.1.1.0) ftrue)))) ∷ raw (fact 𝓤 (IsSomeAnd d.live (HasFile n i))) ∷ []) ∵
-      split ! $ drop ! $ move ! (1 ∷ []) $ heard ! (IsSomeAnd d.live (HasFile n i)) (λ there. fsplit ! $
+      (fsep (File.the_row.own_val i z.0.4.1.1.0) ftrue)))) ∷ raw (fact 𝓤 (IsSomeAnd d.live (GroupHasFiles n i))) ∷ []) ∵
+      split ! $ drop ! $ move ! (1 ∷ []) $ heard ! (IsSomeAnd d.live (GroupHasFiles n i)) (λ there. fsplit ! $
       parts_out (shape RawBoot.the_type) ! p a z.0.4.0 F₀ (λ hv ws fa. move ! (2 ∷ []) $ fsplit ! $
       row_tells GroupId.the_row group_laws.the_row_laws ! n z.0.4.1.0 (λ nv ns fn. move ! (1 ∷ []) $ fsplit ! $
       row_tells File.the_row file_laws.the_row_laws ! i z.0.4.1.1.0 (λ iv is fi. move ! (1 ∷ []) $ drop ! $
@@ -138,7 +138,7 @@ module _ {M : Type 1} {𝓤 : Ura M} (𝓛 : Logic 𝓤) (at_mem : Memory → SP
       -- [the pointer; the token; the file; the group]
       nothing ! $ move ! (3 ∷ 0 ∷ []) $ fjoin ! $ move ! (3 ∷ 0 ∷ []) $ fjoin ! $ move ! (1 ∷ 0 ∷ []) $ fjoin ! $
       nothing ! $ move ! (2 ∷ 0 ∷ []) $ join ! $ join ! $
-      use0 𝓛 (raw (fact 𝓤 (IsSomeAnd d.live (HasFile n i)))) (fact_i 𝓤 (IsSomeAnd d.live (HasFile n i)) (emp 𝓤) there) $
+      use0 𝓛 (raw (fact 𝓤 (IsSomeAnd d.live (GroupHasFiles n i)))) (fact_i 𝓤 (IsSomeAnd d.live (GroupHasFiles n i)) (emp 𝓤) there) $
       use0 𝓛 (raw (fact 𝓤 ((α ∷ []) ⊑ brand.lives))) (fact_i 𝓤 ((α ∷ []) ⊑ brand.lives) (emp 𝓤) (⊑_static (α ∷ []))) $ join ! $ move ! (1 ∷ 0 ∷ []) $ join ! $
       let y : (Served g).Ghost = (((α ∷ [], tt), (full_share, tt), tt, (from, (n, (i, tt))), (word p hv ∷ [], (nv ∷ [], (iv ∷ [], tt)))), tt) in
       use1 𝓛 (raw ((Served g).pre y)) (id⊢ 𝓤 _) $

@@ -44,7 +44,7 @@ use Rattle.core.specs.contracts.marker.Brand as Brand
 use Rattle.core.proofs.marker.Brand.TheLaws as brand_row
 use Rattle.tempolemon_threads.proofs.Moves.{word, ptr_typed, word_typed, both, and_tt, parts_out, parts_in, row_tells}
 use Rattle.tempolemon_threads.specs.Owned.{brand, marker, home_owns}
-use Rattle.zone_threads.specs.Calling.{Reads}
+use Rattle.zone_threads.specs.Calling.{AnswersRead}
 use Rattle.tempolemon_threads.specs.Serving.{OnHome}
 use Rattle.zone_threads.specs.Homes.{HasCpu, KnownHome}
 use Rattle.cpu_part.specs.declared.boot_name.BootName.{Ghosts}
@@ -128,8 +128,8 @@ module _ {M : Type 1} {𝓤 : Ura M} (𝓛 : Logic 𝓤) (at_mem : Memory → SP
       use1 𝓛 (raw ((Served g).pre y)) (id⊢ 𝓤 _) $
       calls_at ! (fm_of 𝓤 H 𝓛.laws 𝓣) (Served g) (kn g) y (and_then ! (get ! refl) (and_then ! (get ! refl) (no_more !))) (λ u.
       use1 𝓛 (later (some (λ (t : PointerR.Denot × CallAnswer.the_row.Denot). ((‵ (flft κ₀ q₀) ⊛ (‵ (flft κ₁ q₁) ⊛ (‵ (flft (α ∷ []) full_share) ⊛ ‵ ftrue))) ⊛ ‵ ((Tuple (PointerR ∷ CallAnswer.the_row ∷ [])).own_val t (u ∷ []))) ⊛
-      some (λ ended. ‵ (lasts (S.ended brand g none) (κ₀, (κ₁, (α ∷ [], tt))) (from, (r, tt)) ended) ⊛ raw (fact 𝓤 (OnHome (λ home to. Reads g.frames g.stocks r.now home to t.1) d.home t.0.home)))))) (id⊢ 𝓤 _) $
-      await ! tt $ pick ! (λ t. split ! $ move ! (1 ∷ []) $ pick ! (λ ended. split ! $ drop ! $ heard ! (OnHome (λ home to. Reads g.frames g.stocks r.now home to t.1) d.home t.0.home) (λ did. split ! $
+      some (λ ended. ‵ (lasts (S.ended brand g none) (κ₀, (κ₁, (α ∷ [], tt))) (from, (r, tt)) ended) ⊛ raw (fact 𝓤 (OnHome (λ home to. AnswersRead g.frames g.stocks r.now home to t.1) d.home t.0.home)))))) (id⊢ 𝓤 _) $
+      await ! tt $ pick ! (λ t. split ! $ move ! (1 ∷ []) $ pick ! (λ ended. split ! $ drop ! $ heard ! (OnHome (λ home to. AnswersRead g.frames g.stocks r.now home to t.1) d.home t.0.home) (λ did. split ! $
       -- [the tokens; the result]
       split ! $ move ! (1 ∷ []) $ split ! $ move ! (1 ∷ []) $ split ! $ drop ! $ move ! (1 ∷ 0 ∷ []) $ join ! $ move ! (1 ∷ 0 ∷ []) $ join ! $ move ! (1 ∷ []) $
       let p' = t.0.ptr in let a' = t.0.alloc in

@@ -48,7 +48,8 @@ use Rattle.core.specs.contracts.marker.Brand as Brand
 use Rattle.core.proofs.marker.Brand.TheLaws as brand_row
 use Rattle.tempolemon_threads.proofs.Moves.{word, ptr_typed, word_typed, both, and_tt, parts_out, parts_in, row_tells}
 use Rattle.tempolemon_threads.specs.Owned.{brand, marker, home_owns}
-use Rattle.tempolemon_threads.specs.Serving.{IsFit, IsNamed, MayBeAsked, Serves, frames_of, stocks_of}
+use Rattle.tempolemon_threads.specs.Serving.{IsFitForHome, StartsHomeUnder, MayBeAskedOfHome, ServesHomeRequest}
+use Rattle.tempolemon_threads.specs.Serving.{home_frames_after, home_stocks_after}
 use Rattle.zone_threads.specs.Homes.{KnownHome}
 use Rattle.tempolemon_threads.specs.declared.requests.Request.TheVariants.{Start, Enter, Leave, Text, End}
 use Rattle.zone_threads.specs.declared.texts.TextCall.TheVariants.{Blocks, Show, Stock, Units}
@@ -71,7 +72,7 @@ abbrev brand_laws : Laws brand
 brand_laws = arg_laws (layout brand) no Brand.the_row brand_row.the_row_laws refl
 
 abbrev name : RawHome.the_row.Denot → Request.the_row.Denot → Ghosts brand.Denot
-name d q = record { frames = frames_of d.frames q; stocks = stocks_of d.stocks q }
+name d q = record { frames = home_frames_after d.frames q; stocks = home_stocks_after d.stocks q }
 
 abbrev none : Dict
 none = impl [] tnil dnil
@@ -80,7 +81,7 @@ abbrev args : Args
 args = bounded (a_type ∷ []) (brand, tt) (dcons none dnil)
 
 -- the name is that of the request, if it brings a boot
-named : (f : KnownTable) (s : KnownStockTable) (q : Request.the_row.Denot) → IsNamed (frames_of f q) (stocks_of s q) q
+named : (f : KnownTable) (s : KnownStockTable) (q : Request.the_row.Denot) → StartsHomeUnder (home_frames_after f q) (home_stocks_after s q) q
 named f s (Start alloc boot) = (refl, refl)
 named f s (Enter number) = tt
 named f s (Leave alloc) = tt
@@ -88,8 +89,8 @@ named f s (Text alloc asked) = tt
 named f s (End alloc) = tt
 
 -- what is owned under the name that is remembered is owned under the one that is picked
-same : (a : Global) (p : Ptr) (f : KnownTable) (s : KnownStockTable) (o : Option KnownHome) (q : Request.the_row.Denot) → IsFit o q
-    → home_owns marker f s a p o ≡ home_owns marker (frames_of f q) (stocks_of s q) a p o
+same : (a : Global) (p : Ptr) (f : KnownTable) (s : KnownStockTable) (o : Option KnownHome) (q : Request.the_row.Denot) → IsFitForHome o q
+    → home_owns marker f s a p o ≡ home_owns marker (home_frames_after f q) (home_stocks_after s q) a p o
 same a p f s None q fit = refl
 same a p f s (Some home) (Start alloc boot) fit = absurd fit
 same a p f s (Some home) (Enter number) fit = refl
@@ -136,8 +137,8 @@ module _ {M : Type 1} {𝓤 : Ura M} (𝓛 : Logic 𝓤) (at_mem : Memory → SP
       let F₁ = home_owns marker g.frames g.stocks a p d.home in
       let PointerR = HomePointer.the_row marker g in
       let from : PointerR.Denot = record { ptr = p; alloc = a; home = d.home } in
-      qed 𝓛 ((‵ ftrue ⊛ ‵ (fsep (RawHome.the_row.own_val d z.0.4.0) (fsep (Request.the_row.own_val q z.0.4.1.0) ftrue))) ∷ raw (fact 𝓤 (IsFit d.home q)) ∷ []) ∵
-      split ! $ drop ! $ move ! (1 ∷ []) $ heard ! (IsFit d.home q) (λ fit. fsplit ! $
+      qed 𝓛 ((‵ ftrue ⊛ ‵ (fsep (RawHome.the_row.own_val d z.0.4.0) (fsep (Request.the_row.own_val q z.0.4.1.0) ftrue))) ∷ raw (fact 𝓤 (IsFitForHome d.home q)) ∷ []) ∵
+      split ! $ drop ! $ move ! (1 ∷ []) $ heard ! (IsFitForHome d.home q) (λ fit. fsplit ! $
       parts_out (shape RawHome.the_type) ! p a z.0.4.0 F₀ (λ hv ws fa. move ! (2 ∷ []) $ fsplit ! $
       row_tells Request.the_row request_laws.the_row_laws ! q z.0.4.1.0 (λ qv qs fq. move ! (1 ∷ []) $ drop ! $
       -- [the request; what the pointer owns; the handle]
@@ -154,14 +155,14 @@ module _ {M : Type 1} {𝓤 : Ura M} (𝓛 : Logic 𝓤) (at_mem : Memory → SP
       move ! (0 ∷ 3 ∷ []) $ parts_in (shape (HomePointer.the_type marker g)) ! hv p a F₁ $
       -- [the pointer; the token; the request]
       nothing ! $ move ! (3 ∷ 0 ∷ []) $ fjoin ! $ move ! (1 ∷ 0 ∷ []) $ fjoin ! $ nothing ! $ move ! (2 ∷ 0 ∷ []) $ join ! $ join ! $
-      use0 𝓛 (raw (fact 𝓤 (MayBeAsked g.frames g.stocks d.home q))) (fact_i 𝓤 (MayBeAsked g.frames g.stocks d.home q) (emp 𝓤) (fit, named d.frames d.stocks q)) $
+      use0 𝓛 (raw (fact 𝓤 (MayBeAskedOfHome g.frames g.stocks d.home q))) (fact_i 𝓤 (MayBeAskedOfHome g.frames g.stocks d.home q) (emp 𝓤) (fit, named d.frames d.stocks q)) $
       use0 𝓛 (raw (fact 𝓤 ((α ∷ []) ⊑ brand.lives))) (fact_i 𝓤 ((α ∷ []) ⊑ brand.lives) (emp 𝓤) (⊑_static (α ∷ []))) $ join ! $ move ! (1 ∷ 0 ∷ []) $ join ! $
       let y : (Served g).Ghost = (((α ∷ [], tt), (full_share, tt), tt, (from, (q, tt)), (word p hv ∷ [], (qv ∷ [], tt))), tt) in
       use1 𝓛 (raw ((Served g).pre y)) (id⊢ 𝓤 _) $
       calls_at ! (fm_of 𝓤 H 𝓛.laws 𝓣) (Served g) (kn g) y (and_then ! (get ! refl) (and_then ! (get ! refl) (no_more !))) (λ u.
       use1 𝓛 (later (some (λ (r : PointerR.Denot × RequestAnswer.the_row.Denot). ((‵ (flft (α ∷ []) full_share) ⊛ ‵ ftrue) ⊛ ‵ ((Tuple (PointerR ∷ RequestAnswer.the_row ∷ [])).own_val r (u ∷ []))) ⊛
-      some (λ ended. ‵ (lasts (S.ended brand g none) (α ∷ [], tt) (from, (q, tt)) ended) ⊛ raw (fact 𝓤 (Serves g.frames g.stocks d.home q r.0.home r.1)))))) (id⊢ 𝓤 _) $
-      await ! tt $ pick ! (λ r. split ! $ move ! (1 ∷ []) $ pick ! (λ ended. split ! $ drop ! $ heard ! (Serves g.frames g.stocks d.home q r.0.home r.1) (λ did. split ! $ drop ! $
+      some (λ ended. ‵ (lasts (S.ended brand g none) (α ∷ [], tt) (from, (q, tt)) ended) ⊛ raw (fact 𝓤 (ServesHomeRequest g.frames g.stocks d.home q r.0.home r.1)))))) (id⊢ 𝓤 _) $
+      await ! tt $ pick ! (λ r. split ! $ move ! (1 ∷ []) $ pick ! (λ ended. split ! $ drop ! $ heard ! (ServesHomeRequest g.frames g.stocks d.home q r.0.home r.1) (λ did. split ! $ drop ! $
       let p' = r.0.ptr in let a' = r.0.alloc in
       let F₂ = home_owns marker g.frames g.stocks a' p' r.0.home in
       let made : RawHome.the_row.Denot = record { ptr = p'; alloc = a'; frames = g.frames; stocks = g.stocks; home = r.0.home } in

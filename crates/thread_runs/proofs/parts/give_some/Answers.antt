@@ -3,14 +3,14 @@ use Rattle.std.proofs.lemmas.List.{get_or-replicate}
 use Rattle.frame_word.specs.declared.view.FrameNote.{FrameNote}
 use Rattle.frame_word.specs.declared.view.FrameView.{FrameView}
 use Rattle.frame_word.specs.Views.{blank, note_of}
-use Rattle.frame_word.specs.Seats.{KnownSeat, number_of, seat_with_visit}
+use Rattle.frame_word.specs.Seats.{KnownSeat, seat_number, seat_with_visit}
 use Rattle.frame_word.proofs.CallerLemmas.{put_here}
 use Rattle.cpu_part.specs.Cpus.{KnownCpu}
 use Rattle.thread_runs.proofs.parts.give_some.Goals as goal
 
 pub loop-n-init : goal.loop-n-init
 loop-n-init g c = let is = c.open.ensures.zone in let same = c.open.ensures.cpu in record {
-  zone = (ap (λ (s : KnownSeat). s.table) is ∙ c.requires.zone.0.0, ap (λ (s : KnownSeat). number_of s) is ∙ c.requires.zone.0.1);
+  zone = (ap (λ (s : KnownSeat). s.table) is ∙ c.requires.zone.0.0, ap (λ (s : KnownSeat). seat_number s) is ∙ c.requires.zone.0.1);
   opened = ap (λ (k : KnownCpu). get_or c.open.new.zone.view.opened k.number 0) same
       ∙ ap (λ (s : KnownSeat). get_or s.view.opened c.args.cpu.now.number 0) is ∙ put_here 0 c.args.zone.now.view.opened c.args.cpu.now.number 1;
   still = c.open.ensures.nothing_passes;

@@ -1,5 +1,5 @@
 use Rattle.std.proofs.Common.{◌≡◌, ℕ, ◌+◌, ◌-◌, ◌^◌, sym, subst, ap, refl, arith, List, Bool}
-use Rattle.zone_buddy.specs.Zone.{block_at, set_of, TakesFrames}
+use Rattle.zone_buddy.specs.Zone.{block_at, free_set_of, TakesFrames}
 use Rattle.zone_buddy.proofs.Halves.{double, size_is, half_is, upper_first, lower_first, half_ready}
 use Rattle.zone_buddy.proofs.Around.{HalvedAround, halved_more, one_frame}
 use Rattle.zone_buddy.proofs.frame.free_other_halves.Goals as goal
@@ -73,7 +73,7 @@ loop-exponent-preserved c =
 pub returns-clause-in_use : goal.returns-clause-in_use
 returns-clause-in_use c =
     let r = one_frame c.loop-exponent.at c.loop-exponent.exponent c.args.frame (omega arith) c.loop-exponent.invariant.has_frame in
-    let T : ℕ → ℕ → Type 0 = λ at k. (free : List Bool) → TakesFrames free c.args.block.now (set_of c.args.areas.now)
-    → TakesFrames free (block_at at k) (set_of c.loop-exponent.areas) in
+    let T : ℕ → ℕ → Type 0 = λ at k. (free : List Bool) → TakesFrames free c.args.block.now (free_set_of c.args.areas.now)
+    → TakesFrames free (block_at at k) (free_set_of c.loop-exponent.areas) in
     let U : ℕ → Type 0 = λ at. T at c.loop-exponent.exponent in
     subst (T c.args.frame) r.1 (subst U r.0 c.loop-exponent.invariant.taken)

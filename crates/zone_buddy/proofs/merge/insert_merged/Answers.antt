@@ -1,5 +1,5 @@
 use Rattle.std.proofs.Common.{◌∙◌}
-use Rattle.zone_buddy.specs.Zone.{set_of}
+use Rattle.zone_buddy.specs.Zone.{free_set_of}
 use Rattle.zone_buddy.proofs.Frames.{apart_from_use}
 use Rattle.zone_buddy.proofs.Merging.{not_there, merge_step, last_kept, last_given, halving_same, union_same, none_same}
 use Rattle.zone_buddy.proofs.merge.insert_merged.Goals as goal
@@ -13,7 +13,7 @@ loop-larger-preserved c =
     record {
       halving = r.0;
       frames = c.in-Some.ensures.same_frames ∙ c.loop-larger.invariant.frames;
-      union = r.1 (set_of c.args.areas.now) c.args.block c.loop-larger.invariant.union;
+      union = r.1 (free_set_of c.args.areas.now) c.args.block c.loop-larger.invariant.union;
     }
 
 pub insert-requires-clause-apart : goal.insert-requires-clause-apart
@@ -30,7 +30,7 @@ returns-clause-kept c =
 pub returns-clause-free : goal.returns-clause-free
 returns-clause-free c =
     let h = halving_same c.loop-larger.areas c.take_buddy.new.areas c.loop-larger.merged c.in_default.ensures c.loop-larger.invariant.halving in
-    let u = union_same (set_of c.args.areas.now) c.args.block c.loop-larger.areas c.take_buddy.new.areas c.loop-larger.merged c.in_default.ensures
+    let u = union_same (free_set_of c.args.areas.now) c.args.block c.loop-larger.areas c.take_buddy.new.areas c.loop-larger.merged c.in_default.ensures
     c.loop-larger.invariant.union in
-    last_given (set_of c.args.areas.now) c.args.block c.take_buddy.new.areas c.insert.new.self c.loop-larger.merged c.requires.in_use u h
+    last_given (free_set_of c.args.areas.now) c.args.block c.take_buddy.new.areas c.insert.new.self c.loop-larger.merged c.requires.in_use u h
     c.insert.ensures.blocks c.insert.ensures.frames

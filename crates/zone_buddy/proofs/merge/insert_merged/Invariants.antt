@@ -1,5 +1,5 @@
 use Rattle.std.proofs.Common.{◌≡◌, ◌-◌}
-use Rattle.zone_buddy.specs.Zone.{set_of}
+use Rattle.zone_buddy.specs.Zone.{free_set_of}
 use Rattle.zone_buddy.proofs.Halves.{Halving}
 use Rattle.zone_buddy.proofs.Merging.{SameUnion}
 use Rattle.zone_buddy.proofs.merge.insert_merged.Given as goal
@@ -8,7 +8,7 @@ abbrev pub invariant-loop-larger : goal.invariant-loop-larger
 invariant-loop-larger l = record {
   halving : Halving l.areas l.merged.at l.merged.order;
   frames : l.areas.frames ≡ l.initial.areas.frames;
-  union : SameUnion (set_of l.initial.areas) l.initial.merged (set_of l.areas) l.merged;
+  union : SameUnion (free_set_of l.initial.areas) l.initial.merged (free_set_of l.areas) l.merged;
 }
 
 abbrev pub decreases-loop-larger : goal.decreases-loop-larger

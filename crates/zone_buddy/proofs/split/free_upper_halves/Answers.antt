@@ -1,5 +1,5 @@
 use Rattle.std.proofs.Common.{◌≡◌, ℕ, ◌+◌, ◌-◌, ◌∙◌, refl, subst, arith, List, Bool}
-use Rattle.zone_buddy.specs.Zone.{block_at, set_of, TakesFrames}
+use Rattle.zone_buddy.specs.Zone.{block_at, free_set_of, TakesFrames}
 use Rattle.zone_buddy.proofs.Halves.{half_is, upper_first, half_ready, halve_at}
 use Rattle.zone_buddy.proofs.split.free_upper_halves.Goals as goal
 
@@ -39,6 +39,6 @@ loop-exponent-preserved c =
 pub returns-clause-in_use : goal.returns-clause-in_use
 returns-clause-in_use c =
     let same : c.loop-exponent.exponent ≡ c.args.order = omega (arith, c.loop-exponent.invariant.enough, c.exponent.ensures.exponent) in
-    let T : ℕ → Type 0 = λ k. (free : List Bool) → TakesFrames free c.args.block.now (set_of c.args.areas.now)
-    → TakesFrames free (block_at c.args.block.now.at k) (set_of c.loop-exponent.areas) in
+    let T : ℕ → Type 0 = λ k. (free : List Bool) → TakesFrames free c.args.block.now (free_set_of c.args.areas.now)
+    → TakesFrames free (block_at c.args.block.now.at k) (free_set_of c.loop-exponent.areas) in
     subst T same c.loop-exponent.invariant.taken

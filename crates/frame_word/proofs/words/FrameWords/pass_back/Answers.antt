@@ -1,5 +1,5 @@
 use Rattle.std.proofs.Common.{arith, ◌++◌, [], ◌∙◌, ap, sym, subst, ℕ}
-use Rattle.frame_word.specs.Seats.{KnownSeat, number_of, IsInHand, IsOpen}
+use Rattle.frame_word.specs.Seats.{KnownSeat, seat_number, IsInHand, IsOpen}
 use Rattle.frame_word.proofs.Joined.{passes_back_as}
 use Rattle.frame_word.proofs.words.FrameWords.pass_back.Goals as goal
 
@@ -9,14 +9,14 @@ store-requires c =
     let cpus = ap (λ t. t.cpus) c.self.view_is in
     let zone = c.zone.view_is in
     let cpu = c.cpu.view_is in
-    let number = ap number_of cpu in
+    let number = ap seat_number cpu in
     let numbered = c.cpu.invariant.numbered in
     let word = c.word_index-word.ensures in
     let from = c.from-mark.ensures in
     let both = c.join.ensures.views ∙ (λ i. ((c.zone.invariant.alone i).0 ++ (c.cpu.invariant.alone i).0, [])) in (
       c.join.ensures.table.0 ∙ (ap (λ s. s.table) zone ∙ c.requires.zone.0 ∙ sym (ap (λ t. t.table) c.self.view_is)),
       omega arith,
-      passes_back_as _ _ _ _ _ _ _ both (ap number_of zone ∙ c.requires.zone.1) (omega arith) (omega arith) _ (omega arith)
-          (subst (λ (s : KnownSeat × KnownSeat). IsOpen s.0 (number_of s.1)) (λ i. (sym zone i, sym cpu i)) c.requires.open)
+      passes_back_as _ _ _ _ _ _ _ both (ap seat_number zone ∙ c.requires.zone.1) (omega arith) (omega arith) _ (omega arith)
+          (subst (λ (s : KnownSeat × KnownSeat). IsOpen s.0 (seat_number s.1)) (λ i. (sym zone i, sym cpu i)) c.requires.open)
           (subst (λ (s : KnownSeat × ℕ). IsInHand s.0 s.1) (λ i. (sym cpu i, sym word i)) c.requires.hand) _ (omega arith),
     )

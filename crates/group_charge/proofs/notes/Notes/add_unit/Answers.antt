@@ -1,11 +1,11 @@
 use Rattle.std.proofs.Common.{◌≡◌, ℕ, ◌-◌, Some, slice_set, count_by, sym, ap, ◌∙◌, subst}
-use Rattle.group_charge.specs.Notes.{KnownNotes, is_span, joined, last_noted}
+use Rattle.group_charge.specs.Notes.{KnownNotes, is_span, joined_span, last_noted}
 use Rattle.group_charge.proofs.Counting.{spans_kept}
 use Rattle.group_charge.proofs.notes.Notes.add_unit.Goals as goal
 
 pub invariant_of-self : goal.invariant_of-self
 invariant_of-self c =
-    let joins = subst (λ (n : KnownNotes). joined (last_noted n) c.args.group c.args.first c.args.frames ≡ Some c.in-Some.span) (sym c.self.view_is)
+    let joins = subst (λ (n : KnownNotes). joined_span (last_noted n) c.args.group c.args.first c.args.frames ≡ Some c.in-Some.span) (sym c.self.view_is)
     (sym c.joined.ensures ∙ c.in-Some.is) in
     let kept = spans_kept (record { list = c.self.inside.notes.items; left_out = c.self.inside.left_out; notes_units = c.self.inside.notes_units }) c.args.group
     c.args.first c.args.frames c.in-Some.span joins in (

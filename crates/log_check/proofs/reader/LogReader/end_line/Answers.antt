@@ -1,7 +1,7 @@
 -- Serves the contract of `end_line`: the log goes on with the line, or it is known what it is.
 use Rattle.std.proofs.Common.{◌≡◌, ◌+◌, ap, inl, inr, subst, sym, List, ℕ}
 use Rattle.std.proofs.lemmas.Result.{IfOk-weaker}
-use Rattle.log_lines.specs.Line.{IsLineText}
+use Rattle.log_lines.specs.Line.{IsLogLineText}
 use Rattle.log_check.specs.declared.reader.LogReader.{LogReader}
 use Rattle.log_check.specs.declared.progress.Taken.{Taken}
 use Rattle.log_check.proofs.Bytes.{Judged, line_ended}
@@ -28,12 +28,12 @@ returns-clause-read c =
     ] in
     let judged : Judged r now.progress taken = elim c.match-parse_line.branch [
       | in-Some+in_ok-taken-in-Some w ↦
-          let has : IsLineText r.line.items w.in-Some.line = subst (λ (x : List ℕ). IsLineText x w.in-Some.line) c.deref.ensures.value w.in-Some.ensures in
+          let has : IsLogLineText r.line.items w.in-Some.line = subst (λ (x : List ℕ). IsLogLineText x w.in-Some.line) c.deref.ensures.value w.in-Some.ensures in
           subst (λ (t : Taken). Judged r now.progress t) (sym w.taken-is)
           (subst (λ (x : LogReader). Judged r x.progress w.in_ok-taken-in-Some.taken) (sym w.self-is)
           (inl (w.in-Some.line, has, w.in_ok-taken-in-Some.ensures.taken)))
       | in-None w ↦
-          inr (w.taken-is, λ l has. w.in-None.ensures l (subst (λ (x : List ℕ). IsLineText x l) (sym c.deref.ensures.value) has))
+          inr (w.taken-is, λ l has. w.in-None.ensures l (subst (λ (x : List ℕ). IsLogLineText x l) (sym c.deref.ensures.value) has))
     ] in
     IfOk-weaker c.conclude.result _ _ (λ known concluded before h.
     line_ended before r m c.conclude.new.self taken known h judged c.clear.ensures.items one all out c.conclude.ensures.line concluded)

@@ -1,7 +1,7 @@
 use Rattle.std.proofs.Common.{◌≡◌, ◌≢◌, ◌∙◌, ℕ, List, None, Some, Option, arith, rules, refl, sym}
 use Rattle.lru_lists.specs.declared.record.LruList.TheVariants.{Inactive, Active}
 use Rattle.lru_lists.specs.Queue.{link_at, units_of}
-use Rattle.lru_lists.specs.Lists.{home_of, list_of}
+use Rattle.lru_lists.specs.Lists.{home_in, list_of}
 use Rattle.lru_lists.proofs.Linking.{within}
 use Rattle.lru_lists.proofs.Pairs.{oldest_first, entries_first, some_oldest, list_at_home, other_lacks, homes_differ}
 use Rattle.std.specs.Option.{IsSome}
@@ -21,7 +21,7 @@ pub move_to-requires-clause-frame : goal.move_to-requires-clause-frame
 move_to-requires-clause-frame c =
     let l = c.requires.linked Active in
     let xs : List ℕ = units_of c.args.links.now c.args.self.now.active in
-    within c.args.links.now (home_of c.args.self.now Active) c.args.self.now.active xs c.unwrap-oldest.result l
+    within c.args.links.now (home_in c.args.self.now Active) c.args.self.now.active xs c.unwrap-oldest.result l
     ((oldest_first xs c.unwrap-oldest.result (sym l.oldest ∙ c.unwrap-oldest.ensures)).2)
 
 pub move_to-requires-clause-on : goal.move_to-requires-clause-on
@@ -42,9 +42,9 @@ returns-clause-inactive c =
     let i = (oldest_first xs c.unwrap-oldest.result first).2 in
     let there = l.homes c.unwrap-oldest.result i in
     let ne : Inactive ≢ Active = λ e. cc in
-    let away : (link_at c.args.links.now c.unwrap-oldest.result).home ≢ Some (home_of c.args.self.now Inactive) =
-    λ h. let k : Some (home_of c.args.self.now Active) ≡ Some (home_of c.args.self.now Inactive) = sym there ∙ h in
-    homes_differ c.args.self.now Active Inactive ne (let w : home_of c.args.self.now Active ≡ home_of c.args.self.now Inactive = cc in w) in
+    let away : (link_at c.args.links.now c.unwrap-oldest.result).home ≢ Some (home_in c.args.self.now Inactive) =
+    λ h. let k : Some (home_in c.args.self.now Active) ≡ Some (home_in c.args.self.now Inactive) = sym there ∙ h in
+    homes_differ c.args.self.now Active Inactive ne (let w : home_in c.args.self.now Active ≡ home_in c.args.self.now Inactive = cc in w) in
     rw (
       c.move_to.ensures.gained,
       other_lacks c.args.links.now c.args.self.now Inactive c.unwrap-oldest.result c.requires.linked away,

@@ -1,6 +1,6 @@
 use Rattle.std.proofs.Common.{◌∙◌}
 use Rattle.lru_lists.specs.Queue.{link_at, units_of}
-use Rattle.lru_lists.specs.Lists.{home_of, queue_of, list_of}
+use Rattle.lru_lists.specs.Lists.{home_in, queue_of, list_of}
 use Rattle.lru_lists.proofs.Records.{newer_frame}
 use Rattle.lru_lists.proofs.Pairs.{home_of_list, after_read, some_list}
 use Rattle.lru_lists.proofs.lru.Lru.newer.Goals as goal
@@ -9,7 +9,7 @@ pub entry-requires : goal.entry-requires
 entry-requires c =
     let p = some_list (list_of c.args.links.now c.args.self.now.owner c.args.unit) c.requires.on in
     rw c.link.ensures
-    (newer_frame c.args.links.now (home_of c.args.self.now p.0) (queue_of c.args.self.now p.0) c.args.unit (c.requires.linked p.0)
+    (newer_frame c.args.links.now (home_in c.args.self.now p.0) (queue_of c.args.self.now p.0) c.args.unit (c.requires.linked p.0)
     (home_of_list (link_at c.args.links.now c.args.unit).home c.args.self.now p.0 p.1))
 
 pub returns : goal.returns

@@ -7,7 +7,7 @@ use Rattle.step_rules.proofs.Homes.{IsHomed}
 use Rattle.step_rules.proofs.Keeping.{homed_run}
 use Rattle.mem_core.specs.Rows as rows
 use Rattle.mem_core.specs.Bounded.{IsBounded}
-use Rattle.mem_core.specs.Shown.{zone_of}
+use Rattle.mem_core.specs.Shown.{zone_of_config}
 use Rattle.mem_core.proofs.Linking.{rows_are}
 use Rattle.mem_core.proofs.Advancing.{bounded_boot}
 use Rattle.mem_core.proofs.checker.Checker.new.Goals as goal
@@ -15,7 +15,7 @@ use Rattle.mem_core.proofs.checker.Checker.new.Goals as goal
 pub invariant_of-result : goal.invariant_of-result
 invariant_of-result c =
     let s = rows.state_in c.in_ok-rows.rows in
-    let zone : Zone = zone_of c.args.config in
+    let zone : Zone = zone_of_config c.args.config in
     let boot : s ≡ at_boot zone = c.in_ok-rows.ensures.state in
     let frames : s.zone.frames ≡ c.args.config.frames = ap (λ (t : State). t.zone.frames) boot in
     record {

@@ -3,7 +3,7 @@ use Rattle.std.proofs.Common.{◌≡◌, ℕ, ◌<◌, ◌≤◌, List, length, 
 use Rattle.std.specs.Prelude.{slice_set}
 use Rattle.std.proofs.lemmas.List.{get_or_default, get_or-set_same}
 use Rattle.step_rules.specs.declared.phase.Phase.TheVariants.{InZone}
-use Rattle.mem_core.specs.Counted.{IsTally, class_in, keeper_class, moved, transit_class}
+use Rattle.mem_core.specs.Counted.{IsTally, class_in, keeper_class, moved_sizes, transit_class}
 use Rattle.mem_core.proofs.Tallying.{sizes_few, sizes_some, tally_set}
 use Rattle.mem_core.proofs.phase_table.PhaseTable.set.Goals as goal
 
@@ -62,11 +62,11 @@ invariant_of-self c =
       keepers = c.move_one.ensures.number ∙ c.self.invariant.keepers;
       kept =
           subst (λ (l : List ℕ). IsTally (length (slice_set xs f x)) (class_in keeper_class (slice_set xs f x)) l)
-          (sym (c.move_one.ensures.sizes ∙ (λ i. moved kept (keeper i) (new_keeper i))))
+          (sym (c.move_one.ensures.sizes ∙ (λ i. moved_sizes kept (keeper i) (new_keeper i))))
           (tally_set keeper_class xs kept f x c.self.invariant.kept here keeper_there);
       cpus = c.move_one-2.ensures.number ∙ c.self.invariant.cpus;
       in_transit =
           subst (λ (l : List ℕ). IsTally (length (slice_set xs f x)) (class_in transit_class (slice_set xs f x)) l)
-          (sym (c.move_one-2.ensures.sizes ∙ (λ i. moved in_transit (cpu i) (new_cpu i))))
+          (sym (c.move_one-2.ensures.sizes ∙ (λ i. moved_sizes in_transit (cpu i) (new_cpu i))))
           (tally_set transit_class xs in_transit f x c.self.invariant.in_transit here cpu_there);
     }

@@ -13,8 +13,8 @@ use Rattle.mem_core.proofs.Advancing.{bounded_boot}
 use Rattle.std.proofs.Common.{replicate}
 use Rattle.std.proofs.lemmas.List.{get_or-replicate, length-replicate}
 use Rattle.mem_core.proofs.Starting.{replicate_all}
-use Rattle.mem_core.specs.Shown.{zone_of}
-use Rattle.mem_core.specs.Accounts.{Account, new_account, account_of, HaveSmallPeaks}
+use Rattle.mem_core.specs.Shown.{zone_of_config}
+use Rattle.mem_core.specs.Accounts.{Account, new_account, account_in, HaveSmallPeaks}
 use Rattle.mem_core.proofs.Accounting.{tell_start}
 use Rattle.mem_core.proofs.reading_core.Core.new.Goals as goal
 
@@ -29,7 +29,7 @@ set_areas-requires-clause-frames c = c.in_ok-areas.ensures.frames ∙ sym (ap (�
 pub invariant_of-result : goal.invariant_of-result
 invariant_of-result c =
     let s = rows.state_in c.in_ok-rows.rows in
-    let zone : Zone = zone_of c.args.config in
+    let zone : Zone = zone_of_config c.args.config in
     let boot : s ≡ at_boot zone = c.in_ok-rows.ensures.state in
     let frames : s.zone.frames ≡ c.args.config.frames = ap (λ (t : State). t.zone.frames) boot in
     record {
@@ -56,13 +56,13 @@ returns-clause-empty c =
       areas = c.set_areas.new.areas;
       steps = 0;
     } in
-    let zone : Zone = zone_of c.args.config in
+    let zone : Zone = zone_of_config c.args.config in
     let boot : s ≡ at_boot zone = c.in_ok-rows.ensures.state in
     let same : s.zone ≡ zone = ap (λ (t : State). t.zone) boot in
     record {
       legal = λ k. tt;
       steps = refl;
       state = shown_is inside ∙ boot ∙ ap at_boot (sym same);
-      accounts = tell_start (s.zone) c.in_ok-accounts.accounts.items (λ m. ap (λ l. account_of l m) c.in_ok-accounts.ensures.items
+      accounts = tell_start (s.zone) c.in_ok-accounts.accounts.items (λ m. ap (λ l. account_in l m) c.in_ok-accounts.ensures.items
           ∙ replicate_all 64 new_account m);
     }

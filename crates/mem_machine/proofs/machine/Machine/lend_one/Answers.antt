@@ -1,5 +1,5 @@
 use Rattle.std.proofs.Common.{◌≡◌, ℕ, ◌<◌, ◌≤◌, rules, ap, subst, arith}
-use Rattle.zone_buddy.specs.Zone.{Zone}
+use Rattle.zone_buddy.specs.Zone.{BuddyZone}
 use Rattle.mem_machine.proofs.Lends.{lend_all, lent_to_none, block_inside, zone_hand, passes_to, lent_to_it}
 use Rattle.step_watch.specs.Watched.{Watches}
 use Rattle.step_watch.proofs.Watching.{watches_both}
@@ -11,7 +11,7 @@ use Rattle.mem_machine.proofs.machine.Machine.lend_one.Goals as goal
 pub returns-in_default-clause-lends : goal.returns-in_default-clause-lends
 returns-in_default-clause-lends g c =
     let k0 : c.unwrap.result ≡ 0 = search rules in
-    lent_to_none _ _ c.self.view_is _ _ c.unwrap.result k0 c.in_default.ensures.taken (ap (λ (z : Zone). z.blocks) c.in_default.ensures.none)
+    lent_to_none _ _ c.self.view_is _ _ c.unwrap.result k0 c.in_default.ensures.taken (ap (λ (z : BuddyZone). z.blocks) c.in_default.ensures.none)
 
 pub pass_out-requires-clause-hand : goal.pass_out-requires-clause-hand
 pass_out-requires-clause-hand g c =

@@ -6,7 +6,7 @@ use Rattle.mem_machine.specs.Machines.{KnownMachine}
 use Rattle.mem_machine.specs.Local.{visit_state}
 use Rattle.mem_machine.specs.Steps.{over_steps, zone_makes}
 use Rattle.mem_machine.proofs.Prepaying.{refused_all}
-use Rattle.zone_buddy.specs.Zone.{Zone}
+use Rattle.zone_buddy.specs.Zone.{BuddyZone}
 use Rattle.mem_machine.proofs.Usage.{usage_seen, balanced_alone}
 use Rattle.mem_machine.proofs.TakesBlocks.{taken_all, none_all, taken_inside, head_inside, head_free, free_in_hand}
 use Rattle.step_watch.specs.Watched.{Watches}
@@ -29,7 +29,7 @@ returns-in_default-take g c =
       there = c.requires.charges.there;
       alive = c.requires.charges.alive;
     }) (c.in_default.ensures.granted.0 refl) _ _ c.in_default.ensures.charged c.uncharge.ensures.uncharged _
-    (ap (λ (z : Zone). z.blocks) c.in_default-take.ensures.none) c.in_default-take.ensures.taken in
+    (ap (λ (z : BuddyZone). z.blocks) c.in_default-take.ensures.none) c.in_default-take.ensures.taken in
     let took = subst (λ (n : ℕ). Watches c.self.inside.watch
     (zone_makes (Grant c.args.group n) Granted ∷ zone_makes (PlaceBlock c.args.group c.args.order) NoFreeBlock ∷ zone_makes (Ungrant c.args.group n) Done ∷ [])
     c.ungranted.new.self) c.frames-pages.ensures.frames

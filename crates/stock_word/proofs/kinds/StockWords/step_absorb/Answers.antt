@@ -1,5 +1,5 @@
 use Rattle.std.proofs.Common.{rules, ℕ, ap, subst}
-use Rattle.stock_word.specs.Stock.{KnownRawSeat, first_of}
+use Rattle.stock_word.specs.Stock.{KnownRawSeat, first_stock_view}
 use Rattle.stock_word.specs.StockRule.{report_index}
 use Rattle.stock_word.specs.Kinds.{Absorbs}
 use Rattle.stock_word.proofs.RawSeats.{alone_me, after_alone, no_slots, told_alone}
@@ -23,5 +23,5 @@ returns-clause-kind c =
     let told = c.swap.ensures.2 in
     let views = ap (λ (raw : KnownRawSeat). raw.views) c.raw.view_is in
     told_alone (λ v w. Absorbs c.args.cpu (report_index c.args.cpu) c.swap.result 0 v w) _ _ _ _ views told.1
-    (subst (λ (y : ℕ). Absorbs c.args.cpu y c.swap.result 0 (first_of c.raw.inside.seat.me.0) told.0) c.report_index-at.ensures
+    (subst (λ (y : ℕ). Absorbs c.args.cpu y c.swap.result 0 (first_stock_view c.raw.inside.seat.me.0) told.0) c.report_index-at.ensures
     (told.2 c.args.cpu c.report_index-at.ensures))

@@ -1,7 +1,7 @@
 use Rattle.std.proofs.Common.{rules, ℕ, ◌+◌, ap, sym, ◌∙◌, subst}
 use Rattle.stock_word.specs.declared.view.Stock.TheVariants.{HeldBy}
 use Rattle.stock_word.specs.declared.view.StockView.{StockView}
-use Rattle.stock_word.specs.Stock.{KnownRawSeat, word_of, first_of}
+use Rattle.stock_word.specs.Stock.{KnownRawSeat, word_of, first_stock_view}
 use Rattle.stock_word.specs.StockRule.{stock_index}
 use Rattle.stock_word.specs.Kinds.{Credits, SeesDrained}
 use Rattle.stock_word.proofs.RawSeats.{alone_me, after_alone, no_slots, told_alone}
@@ -11,7 +11,7 @@ use Rattle.stock_word.proofs.kinds.StockWords.step_credit.Goals as goal
 pub compare_exchange-requires : goal.compare_exchange-requires
 compare_exchange-requires c =
     let views = ap (λ (raw : KnownRawSeat). raw.views) c.raw.view_is in
-    let first = ap first_of views in
+    let first = ap first_stock_view views in
     let last = ap (λ (v : StockView). v.last) first ∙ c.requires.last in
     let me = alone_me _ _ views c.raw.invariant c.requires.alone in (
       search rules,
@@ -32,7 +32,7 @@ returns-clause-back c = λ hit.
     let views = ap (λ (raw : KnownRawSeat). raw.views) c.raw.view_is in
     told_alone (λ v w. Credits (stock_index c.args.cpu) c.compare_exchange.result
     (word_of (HeldBy c.args.group (c.args.pages + 1))) v w) _ _ _ _ views told.1
-    (subst (λ (y : ℕ × ℕ). Credits y.0 c.compare_exchange.result y.1 (first_of c.raw.inside.seat.me.0) told.0)
+    (subst (λ (y : ℕ × ℕ). Credits y.0 c.compare_exchange.result y.1 (first_stock_view c.raw.inside.seat.me.0) told.0)
     (λ i. (c.stock_index-at.ensures i, c.word.ensures i))
     (told.2.0 (hit ∙ sym c.word-word.ensures)))
 
@@ -41,5 +41,5 @@ returns-clause-drained c = λ miss.
     let told = c.compare_exchange.ensures.2 in
     let views = ap (λ (raw : KnownRawSeat). raw.views) c.raw.view_is in
     told_alone (λ v w. SeesDrained (stock_index c.args.cpu) c.compare_exchange.result c.compare_exchange.result v w) _ _ _ _ views told.1
-    (subst (λ (y : ℕ). SeesDrained y c.compare_exchange.result c.compare_exchange.result (first_of c.raw.inside.seat.me.0) told.0) c.stock_index-at.ensures
+    (subst (λ (y : ℕ). SeesDrained y c.compare_exchange.result c.compare_exchange.result (first_stock_view c.raw.inside.seat.me.0) told.0) c.stock_index-at.ensures
     (told.2.1 (λ e. miss (e ∙ c.word-word.ensures))))

@@ -1,8 +1,8 @@
 use Rattle.std.proofs.Common.{rules, ℕ, ap, ◌∙◌, subst}
 use Rattle.stock_word.specs.declared.view.Stock.TheVariants.{HeldBy}
-use Rattle.stock_word.specs.Stock.{KnownRawSeat, word_of, first_of, second_of}
+use Rattle.stock_word.specs.Stock.{KnownRawSeat, word_of, first_stock_view, second_stock_view}
 use Rattle.stock_word.specs.StockRule.{stock_index}
-use Rattle.stock_word.specs.Kinds.{Fills}
+use Rattle.stock_word.specs.Kinds.{FillsWord}
 use Rattle.stock_word.proofs.RawSeats.{pair_me, after_pair, no_slots, told_pair}
 use Rattle.stock_word.proofs.Steps.{filling_allowed}
 use Rattle.stock_word.proofs.kinds.StockWords.step_fill.Goals as goal
@@ -28,7 +28,7 @@ pub returns-clause-kind : goal.returns-clause-kind
 returns-clause-kind c =
     let told = c.store.ensures.2 in
     let views = ap (λ (raw : KnownRawSeat). raw.views) c.raw.view_is in
-    told_pair (λ m v n w. Fills c.args.group c.args.pages (stock_index c.args.cpu) (word_of (HeldBy c.args.group c.args.pages))
+    told_pair (λ m v n w. FillsWord c.args.group c.args.pages (stock_index c.args.cpu) (word_of (HeldBy c.args.group c.args.pages))
     m v n w) _ _ _ _ _ views told.2
-    (subst (λ (y : ℕ × ℕ). Fills c.args.group c.args.pages y.0 y.1 (first_of c.raw.inside.seat.me.0) (second_of c.raw.inside.seat.me.0) told.0 told.1)
+    (subst (λ (y : ℕ × ℕ). FillsWord c.args.group c.args.pages y.0 y.1 (first_stock_view c.raw.inside.seat.me.0) (second_stock_view c.raw.inside.seat.me.0) told.0 told.1)
     (λ i. (c.stock_index-at.ensures i, c.word.ensures i)) (told.3 c.args.group c.args.pages (search rules) c.word.ensures))

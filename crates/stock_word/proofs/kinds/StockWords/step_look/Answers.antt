@@ -1,5 +1,5 @@
 use Rattle.std.proofs.Common.{rules, ℕ, ap, subst}
-use Rattle.stock_word.specs.Stock.{KnownRawSeat, first_of}
+use Rattle.stock_word.specs.Stock.{KnownRawSeat, first_stock_view}
 use Rattle.stock_word.specs.StockRule.{stock_index}
 use Rattle.stock_word.specs.Kinds.{DrainsNone, LooksAt}
 use Rattle.stock_word.proofs.RawSeats.{alone_me, after_alone, no_slots, told_alone}
@@ -23,7 +23,7 @@ returns-clause-none c = λ it.
     let told = c.load.ensures.2 in
     let views = ap (λ (raw : KnownRawSeat). raw.views) c.raw.view_is in
     told_alone (λ v w. DrainsNone c.args.cpu (stock_index c.args.cpu) c.load.result c.load.result v w) _ _ _ _ views told.1
-    (subst (λ (y : ℕ). DrainsNone c.args.cpu y c.load.result c.load.result (first_of c.raw.inside.seat.me.0) told.0) c.stock_index-at.ensures
+    (subst (λ (y : ℕ). DrainsNone c.args.cpu y c.load.result c.load.result (first_stock_view c.raw.inside.seat.me.0) told.0) c.stock_index-at.ensures
     ((told.2 c.args.cpu c.stock_index-at.ensures).0 it))
 
 pub returns-clause-some : goal.returns-clause-some
@@ -31,5 +31,5 @@ returns-clause-some c = λ it.
     let told = c.load.ensures.2 in
     let views = ap (λ (raw : KnownRawSeat). raw.views) c.raw.view_is in
     told_alone (λ v w. LooksAt c.args.cpu (stock_index c.args.cpu) c.load.result c.load.result v w) _ _ _ _ views told.1
-    (subst (λ (y : ℕ). LooksAt c.args.cpu y c.load.result c.load.result (first_of c.raw.inside.seat.me.0) told.0) c.stock_index-at.ensures
+    (subst (λ (y : ℕ). LooksAt c.args.cpu y c.load.result c.load.result (first_stock_view c.raw.inside.seat.me.0) told.0) c.stock_index-at.ensures
     ((told.2 c.args.cpu c.stock_index-at.ensures).1 it))

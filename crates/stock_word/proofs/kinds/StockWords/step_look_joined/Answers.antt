@@ -1,5 +1,5 @@
 use Rattle.std.proofs.Common.{rules, ℕ, ap, ◌∙◌, subst}
-use Rattle.stock_word.specs.Stock.{KnownRawSeat, first_of, second_of}
+use Rattle.stock_word.specs.Stock.{KnownRawSeat, first_stock_view, second_stock_view}
 use Rattle.stock_word.specs.StockRule.{stock_index}
 use Rattle.stock_word.specs.Kinds.{SeesStock}
 use Rattle.stock_word.proofs.RawSeats.{pair_me, after_pair, no_slots, told_pair}
@@ -27,5 +27,5 @@ returns-clause-kind c =
     let told = c.load.ensures.2 in
     let views = ap (λ (raw : KnownRawSeat). raw.views) c.raw.view_is in
     told_pair (λ m v n w. SeesStock (stock_index c.args.cpu) c.load.result c.load.result m v n w) _ _ _ _ _ views told.2
-    (subst (λ (y : ℕ). SeesStock y c.load.result c.load.result (first_of c.raw.inside.seat.me.0)
-    (second_of c.raw.inside.seat.me.0) told.0 told.1) c.stock_index-at.ensures told.3)
+    (subst (λ (y : ℕ). SeesStock y c.load.result c.load.result (first_stock_view c.raw.inside.seat.me.0)
+    (second_stock_view c.raw.inside.seat.me.0) told.0 told.1) c.stock_index-at.ensures told.3)

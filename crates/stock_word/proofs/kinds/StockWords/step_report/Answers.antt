@@ -1,5 +1,5 @@
 use Rattle.std.proofs.Common.{rules, ◌≡◌, ℕ, ◌+◌, ap, ◌∙◌, subst}
-use Rattle.stock_word.specs.Stock.{KnownRawSeat, first_of, second_of}
+use Rattle.stock_word.specs.Stock.{KnownRawSeat, first_stock_view, second_stock_view}
 use Rattle.stock_word.specs.StockRule.{report_index}
 use Rattle.stock_word.specs.Kinds.{Reports}
 use Rattle.stock_word.proofs.RawSeats.{pair_me, after_pair, no_slots, told_pair}
@@ -30,5 +30,5 @@ returns-clause-kind c =
     told_pair (λ m v n w. Reports c.args.pages (report_index c.args.cpu) c.fetch_add.result (c.fetch_add.result + c.args.pages) m v n w) _ _ _ _ _ views told.2
     (subst
     (λ (y : ℕ × ℕ).
-    Reports y.1 y.0 c.fetch_add.result (c.fetch_add.result + y.1) (first_of c.raw.inside.seat.me.0) (second_of c.raw.inside.seat.me.0) told.0 told.1)
+    Reports y.1 y.0 c.fetch_add.result (c.fetch_add.result + y.1) (first_stock_view c.raw.inside.seat.me.0) (second_stock_view c.raw.inside.seat.me.0) told.0 told.1)
     (λ i. (c.report_index-at.ensures i, pages i)) told.3)

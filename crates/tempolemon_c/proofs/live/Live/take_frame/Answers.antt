@@ -9,7 +9,7 @@ use Rattle.script_lines.specs.declared.line.Command.TheVariants as cmd
 use Rattle.script_replay.specs.Lines.{system_state}
 use Rattle.script_replay.specs.Terms.{boot_tables}
 use Rattle.script_replay.specs.ValueAnswers.{SaysCommand, answer_of}
-use Rattle.tempolemon_c.specs.HandleCalls.{Calls, IsCpu}
+use Rattle.tempolemon_c.specs.HandleCalls.{CallsLive, IsCpu}
 use Rattle.tempolemon_c.specs.Known.{KnownLive}
 use Rattle.tempolemon_c.specs.declared.calls.Call.TheVariants.{Alloc}
 use Rattle.tempolemon_c.specs.declared.calls.CallAnswer.TheVariants.{Served}
@@ -51,13 +51,13 @@ returns g c =
     let long : length cpus ≤ inside.cpus.len = search rules in
     let same : take inside.cpus.len (cpus ++ drop (length cpus) inside.cpus.items) ≡ cpus
     = take-append-le inside.cpus.len cpus (drop (length cpus) inside.cpus.items) short ∙ take_all inside.cpus.len cpus long in
-    subst (λ (from : KnownLive). Calls frames stocks c.args.cpu (Alloc group 0) from
+    subst (λ (from : KnownLive). CallsLive frames stocks c.args.cpu (Alloc group 0) from
     (record {
       sizes = inside.sizes;
       state = system_state c.alloc_value.new.locked (take inside.cpus.len (cpus ++ drop (length cpus) inside.cpus.items));
       unread_answer = inside.unread_answer.items;
     }) (Served c.alloc_value.result)) c.self.view_is
-    (subst (λ (l : List KnownCpu). Calls frames stocks c.args.cpu (Alloc group 0) live
+    (subst (λ (l : List KnownCpu). CallsLive frames stocks c.args.cpu (Alloc group 0) live
     (record { sizes = inside.sizes; state = system_state c.alloc_value.new.locked l; unread_answer = inside.unread_answer.items })
     (Served c.alloc_value.result)) (sym same)
     (frame_taken frames stocks c.args.cpu group live left c.alloc_value.result c.as_bytes-path.result exists

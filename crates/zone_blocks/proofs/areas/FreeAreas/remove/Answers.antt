@@ -1,7 +1,7 @@
 use Rattle.std.proofs.Common.{◌≡◌, ◌<◌, List, Bool, sym, subst, inl, arith, set}
 use Rattle.std.specs.List.{Contains}
 use Rattle.zone_blocks.specs.declared.block.Block.{Block}
-use Rattle.zone_blocks.specs.Areas.{FreeBlocks, Removes}
+use Rattle.zone_blocks.specs.Areas.{FreeBlocks, RemovesBlock}
 use Rattle.zone_blocks.specs.OrderLists.{blocks_of, AreOrderLists}
 use Rattle.zone_blocks.specs.PairBits.{ArePairBits}
 use Rattle.zone_blocks.proofs.OrderLists.{from_there}
@@ -80,7 +80,7 @@ returns-clause-blocks c =
     c.exponent-exponent.ensures.exponent c.index_mut.ensures.value c.set.ensures in
     let r = removed n bits c.self.inside.links c.join.new.self c.args.block c.prev-before.result c.next-after.result c.self.invariant.0 there
     c.prev-before.ensures c.next-after.ensures c.join.ensures in
-    let Q : List (List Bool) → Type 0 = λ new. Removes (blocks_of n bits) c.args.block (blocks_of n new) in
+    let Q : List (List Bool) → Type 0 = λ new. RemovesBlock (blocks_of n bits) c.args.block (blocks_of n new) in
     let after = blocks_of n (set bits c.exponent-exponent.result c.set.new.self) in
-    let P : FreeBlocks → Type 0 = λ v. Removes v.blocks c.args.block after in
+    let P : FreeBlocks → Type 0 = λ v. RemovesBlock v.blocks c.args.block after in
     subst P c.self.view_is (subst Q (sym same) r.1)

@@ -1,17 +1,17 @@
 use Rattle.std.proofs.Common.{◌≡◌, ℕ, true, replicate, sym, ◌∙◌, subst, arith}
 use Rattle.std.proofs.lemmas.List.{length-replicate}
 use Rattle.zone_blocks.specs.Areas.{FreeBlocks, AreMaximalBlocks}
-use Rattle.zone_buddy.specs.Zone.{set_of}
+use Rattle.zone_buddy.specs.Zone.{free_set_of}
 use Rattle.zone_buddy.proofs.Frames.{set_of_maximal}
 use Rattle.zone_buddy.proofs.buddy.Buddy.new.Goals as goal
 
 -- areas whose blocks are the maximal ones of a zone that is all free
 all_free : (n m : ℕ) (areas : FreeBlocks) → m ≡ n → areas.frames ≡ n → AreMaximalBlocks (replicate m true) areas.blocks
-    → (set_of areas ≡ replicate n true) × AreMaximalBlocks (set_of areas) areas.blocks
+    → (free_set_of areas ≡ replicate n true) × AreMaximalBlocks (free_set_of areas) areas.blocks
 all_free n m areas e same h =
     let P : ℕ → Type 0 = λ k. AreMaximalBlocks (replicate k true) areas.blocks in
     let h' = subst P e h in
-    let is : set_of areas ≡ replicate n true = set_of_maximal (replicate n true) areas (length-replicate n true ∙ sym same) h' in
+    let is : free_set_of areas ≡ replicate n true = set_of_maximal (replicate n true) areas (length-replicate n true ∙ sym same) h' in
     (is, rw is h')
 
 pub invariant_of-result : goal.invariant_of-result

@@ -3,7 +3,7 @@ use Rattle.std.specs.Option.{IsSome, MatchOption}
 use Rattle.zone_blocks.specs.declared.block.Block.{Block}
 use Rattle.zone_blocks.specs.Block.{IsBlock}
 use Rattle.zone_blocks.specs.Areas.{IsFree}
-use Rattle.zone_buddy.specs.Zone.{Zone, block_at, set_of, TakesFrames}
+use Rattle.zone_buddy.specs.Zone.{BuddyZone, block_at, free_set_of, TakesFrames}
 use Rattle.zone_buddy.proofs.Frames.{length-set_of, in_a_block, takes_frames, kept_less}
 use Rattle.zone_buddy.proofs.buddy.Buddy.take_frame.Goals as goal
 
@@ -13,7 +13,7 @@ some_there (Some b) P Q not h = search rules
 
 pub unwrap-block-requires : goal.unwrap-block-requires
 unwrap-block-requires c =
-    let F : Zone → Type 0 = λ z. IsFree z.free c.args.frame in
+    let F : BuddyZone → Type 0 = λ z. IsFree z.free c.args.frame in
     let r = (in_a_block c.self.inside.areas c.args.frame (subst F (sym c.self.view_is) c.requires)).1 in
     some_there c.block_with.result _ _ (λ none. none r.0 r.1 r.2) c.block_with.ensures
 
@@ -40,5 +40,5 @@ returns-clause-frames c =
     let found = rw c.unwrap-block.ensures at c.block_with.ensures in
     let taken = takes_frames c.self.inside.areas c.remove.new.self c.unwrap-block.result c.self.invariant.maximal found.0
     c.remove.ensures.blocks c.remove.ensures.frames in
-    let Q : Zone → Type 0 = λ z. TakesFrames z.free (block_at c.args.frame 0) (set_of c.free_other_halves.new.areas) in
-    subst Q c.self.view_is (c.free_other_halves.ensures.in_use (set_of c.self.inside.areas) taken)
+    let Q : BuddyZone → Type 0 = λ z. TakesFrames z.free (block_at c.args.frame 0) (free_set_of c.free_other_halves.new.areas) in
+    subst Q c.self.view_is (c.free_other_halves.ensures.in_use (free_set_of c.self.inside.areas) taken)
