@@ -71,7 +71,8 @@ unfreezes v f n stored w = (w ≡ changed v f (unfrozen n)) × ((note_of v f).re
 -- A pass by the zone's seat: the frame leaves its hand and is lent to the CPU whose mark is stored. It was lent to no
 -- CPU before, and the seat had no reference on it.
 abbrev pub stores_pass_out : FrameView → ℕ → ℕ → ℕ → FrameView → Type 0
-stores_pass_out v f mark stored w = (w ≡ changed v f (passed_out_to (mark - mark_base))) × ((note_of v f).references ≡ 0)
+stores_pass_out v f mark stored w = (w ≡ changed v f (passed_out_to (mark - mark_base)))
+    × ((note_of v f).references ≡ 0)
     × (in_hands (note_of v f) ≡ 1)
     × ((note_of v f).lent ≡ 0)
 
@@ -112,7 +113,8 @@ module _ {S : Type 0} where
   -- a step of this kind by a seat that has only its own view
   abbrev pub by_one : (FrameView → ℕ → ℕ → ℕ → FrameView → Type 0) → Step S → Me S (List FrameView) → ℕ
       → Me S (List FrameView) → Type 0
-  by_one kind st m found m' = (w : FrameView) × (m' ≡ (w ∷ [], [])) × kind (first_frame_view m.0) st.word st.first found w
+  by_one kind st m found m' = (w : FrameView) × (m' ≡ (w ∷ [], []))
+      × kind (first_frame_view m.0) st.word st.first found w
 
   -- a step of this kind by the zone's seat joined with a CPU's
   abbrev pub by_two : (FrameView → FrameView → ℕ → ℕ → FrameView → FrameView → Type 0) → Step S → Me S (List FrameView)

@@ -84,7 +84,8 @@ Passes zone cpu f = hand_overs_begun zone.view cpu.view f ≡ hand_overs_ended z
 
 -- no frame is in transit to or from the CPU: each hand-over that began has ended
 abbrev pub NothingPasses : KnownTable → KnownSeat → KnownSeat → Type 0
-NothingPasses t zone cpu = (f : ℕ) → f < t.frames → hand_overs_begun zone.view cpu.view f ≡ hand_overs_ended zone.view cpu.view f
+NothingPasses t zone cpu = (f : ℕ) → f < t.frames
+    → hand_overs_begun zone.view cpu.view f ≡ hand_overs_ended zone.view cpu.view f
 
 -- a frame is lent to the CPU exactly if the CPU has borrowed it
 abbrev pub LentIsBorrowed : KnownTable → KnownSeat → KnownSeat → Type 0

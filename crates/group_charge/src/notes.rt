@@ -102,7 +102,8 @@ impl Notes {
 
     // Notes a freed unit: it joins the last span, or is a new one.
     fn add_unit(&mut self, group: GroupId, first: u32, frames: u32)
-        ensures { self.new ≡ with_span (joined_span (last_noted self.old) group first frames) self.old group first frames }
+        ensures { self.new
+            ≡ with_span (joined_span (last_noted self.old) group first frames) self.old group first frames }
     {
         let Some(span) = self.joined(group, first, frames) else {
             self.add_span(group, first, frames);

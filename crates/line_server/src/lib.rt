@@ -21,6 +21,6 @@ pub use comments::add_answer;
 pub use fault::ServeFault;
 pub use form::SessionForm;
 pub use logging::{add_steps, log_line};
-pub use server::Server;
 pub use reading::{Found, ReadFault, read_line};
+pub use server::Server;
 pub use writing::{write_and_flush, write_whole};

@@ -67,7 +67,8 @@ phase_text f (Tail g) = said_two (codes "frame ") f (codes " is in a unit of gro
 -- what the stock is
 abbrev pub stock_state_text : ℕ → Option ℕ → Bool → List ℕ
 stock_state_text cpu None drained = said (codes "CPU ") cpu (codes "'s stock is of no group")
-stock_state_text cpu (Some g) true = said_two (codes "CPU ") cpu (codes "'s stock is of group ") g (codes " and was drained")
+stock_state_text cpu (Some g) true = said_two (codes "CPU ") cpu (codes "'s stock is of group ") g
+    (codes " and was drained")
 stock_state_text cpu (Some g) false = said_two (codes "CPU ") cpu (codes "'s stock is of group ") g []
 
 -- whose pages the book has

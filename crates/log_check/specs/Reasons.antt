@@ -50,7 +50,8 @@ ShowsUnmet s (IsZero what) (why.Number q k) = (q ≡ what) × (quantity_in s wha
 ShowsUnmet s (OneUp n) why.BadCount = Unit {0}
 ShowsUnmet s (UpTo255 n) why.BadCount = Unit {0}
 ShowsUnmet s (InPlace f test) (why.Place m phase) = (m ≡ f) × (s.phases f ≡ phase)
-ShowsUnmet s (InPlace f (Passable cpu)) (why.NotFirst m p) = (m ≡ f) × (p ≡ cpu) × (has_as ListFrame cpu (s.phases f) ≡ true)
+ShowsUnmet s (InPlace f (Passable cpu)) (why.NotFirst m p) = (m ≡ f) × (p ≡ cpu)
+    × (has_as ListFrame cpu (s.phases f) ≡ true)
     × (front_of (s.parts cpu).list ≢ f)
 ShowsUnmet s (InPlace f Returnable) (why.Unkilled m g) = (m ≡ f) × ((k : ℕ)
     × (s.phases f ≡ Head (record { group = g; order = k }) Collected)) × (s.killed g ≡ false)

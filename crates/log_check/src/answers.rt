@@ -17,11 +17,11 @@ ghost use Rattle.log_check.specs.declared.reason.Reason.{Reason};
 
 use crate::reason::{Quantity, Reason};
 use crate::showing::{number, place};
+use group_tree::group::GroupId;
+use group_tree::path::PathText;
 use mem_core::phases::is_free;
 use mem_core::rows::Rows;
 use mem_core::sums::is_of_group;
-use group_tree::group::GroupId;
-use group_tree::path::PathText;
 use step_rules::step::{Action, Answer, Step};
 use zone_blocks::block::Block;
 use zone_blocks::order::Order;

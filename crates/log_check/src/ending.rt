@@ -8,9 +8,9 @@ ghost use Rattle.mem_core.specs.Rooms.{FitsZone, IsBelowBounds};
 ghost use Rattle.log_check.specs.Ends.{IsEnd, holder_in, is_unreferenced};
 
 use crate::verdict::LogEnd;
+use group_tree::group::GroupId;
 use mem_core::phases::is_head;
 use mem_core::rows::Rows;
-use group_tree::group::GroupId;
 use step_rules::phase::Hold;
 
 /// What the state leaves.

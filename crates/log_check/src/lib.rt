@@ -19,7 +19,7 @@ mod showing;
 mod text;
 pub mod verdict;
 
-pub use reading::{check, check_log};
-pub use text::write_verdict;
 pub use finding::reason_of;
+pub use reading::{check, check_log};
 pub use reason_text::write_reason;
+pub use text::write_verdict;

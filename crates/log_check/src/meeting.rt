@@ -8,11 +8,11 @@ ghost use Rattle.log_check.specs.Conditions.{is_in_place, is_met, quantity_in};
 
 use crate::conditions::{Condition, PlaceTest};
 use crate::reason::Quantity;
+use group_tree::group::GroupId;
 use mem_core::holds::{is_held_by, is_unheld, may_zone_act, visits};
+use mem_core::legal::{is_passable, is_returnable, takes_fill};
 use mem_core::phases::{is_free, is_fresh_at, is_head, is_head_in_hand, passes_back, passes_out};
 use mem_core::rows::Rows;
-use mem_core::legal::{is_passable, is_returnable, takes_fill};
-use group_tree::group::GroupId;
 
 /// The number in the state.
 pub(crate) fn quantity(rows: &Rows, what: &Quantity) -> u128

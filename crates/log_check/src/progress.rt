@@ -8,13 +8,13 @@ ghost use Rattle.log_check.specs.Taking.{CountsSteps, HasZoneInRange, TakesAfter
 ghost use Rattle.log_check.specs.declared.verdict.LogFault.TheVariants.{NoMemory};
 
 use crate::line_fault::LineFault;
-use crate::verdict::LogFault;
-use mem_core::holds::is_unheld;
-use log_lines::line::LogLine;
-use mem_core::checker::Checker;
-use std::alloc::Global;
 use crate::reason::Reason;
 use crate::reason_of;
+use crate::verdict::LogFault;
+use log_lines::line::LogLine;
+use mem_core::checker::Checker;
+use mem_core::holds::is_unheld;
+use std::alloc::Global;
 use step_rules::phase::Hold;
 use step_rules::step::{Answer, Step};
 use zone_blocks::config::Config;

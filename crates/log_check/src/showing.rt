@@ -14,10 +14,10 @@ ghost use Rattle.log_check.specs.declared.reason.Reason.{Reason};
 use crate::conditions::{Condition, PlaceTest};
 use crate::meeting::quantity;
 use crate::reason::{Quantity, Reason};
-use mem_core::phases::{is_listed_at, is_passing, passes_back, passes_out};
-use mem_core::rows::Rows;
 use group_tree::group::GroupId;
 use group_tree::path::PathText;
+use mem_core::phases::{is_listed_at, is_passing, passes_back, passes_out};
+use mem_core::rows::Rows;
 use step_rules::phase::{Phase, Stage};
 
 /// Why a condition isn't met.

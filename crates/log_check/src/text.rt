@@ -7,11 +7,11 @@ ghost use Rattle.log_check.specs.Texts.{count_text, due_text, end_text, free_tex
 ghost use Rattle.log_check.specs.Texts.{step_place_text, legal_text, verdict_text};
 
 use crate::number::push_number;
+use crate::reason::Reason;
 use crate::verdict::{IllegalStep, LogEnd, LogVerdict};
+use crate::write_reason;
 use log_lines::write_answer;
 use std::alloc::AllocError;
-use crate::reason::Reason;
-use crate::write_reason;
 use step_rules::step::Answer;
 
 /// Appends the lines that say what a log is. It fails only if memory runs out.

@@ -120,7 +120,8 @@ arguments_at (Pages name) words = group_number_at words >>= λ g. u32_at g.1 >>=
     Some (action_of_pages name g.0 n.0, n.1)
 arguments_at Fill words = u32_at words >>= λ p. group_number_at p.1 >>= λ g. u32_at g.1 >>= λ n.
     Some (action.Fill p.0 g.0 n.0, n.1)
-arguments_at Place words = group_number_at words >>= λ g. block_order_at g.1 >>= λ k. Some (action.PlaceBlock g.0 k.0, k.1)
+arguments_at Place words =
+    group_number_at words >>= λ g. block_order_at g.1 >>= λ k. Some (action.PlaceBlock g.0 k.0, k.1)
 arguments_at Limit words = group_number_at words >>= λ g. limit_at g.1 >>= λ n. Some (action.SetMax g.0 n.0, n.1)
 arguments_at Flag words = group_number_at words >>= λ g. flag_at g.1 >>= λ f. Some (action.SetFlag g.0 f.0, f.1)
 arguments_at Make words = path_at words >>= λ p. Some (action.Make p.0, p.1)

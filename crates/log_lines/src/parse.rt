@@ -21,7 +21,8 @@ const MAX_LINE: usize = 1_024;
 /// The line that has this text, which has no line feed. None exactly if no line has it. That includes a text of more
 /// than 1,024 bytes, and a number with a sign, with a leading zero or out of its range.
 pub fn parse_line(text: &[u8]) -> Option<LogLine>
-    ensures { MatchOption result ((line : LogLine) → ¬ IsLogLineText text.now line) (λ line. IsLogLineText text.now line) }
+    ensures { MatchOption result ((line : LogLine) → ¬ IsLogLineText text.now line)
+        (λ line. IsLogLineText text.now line) }
 {
     line_of(text)
 }

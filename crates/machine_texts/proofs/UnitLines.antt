@@ -107,7 +107,6 @@ ahead_is next (e ∷ es) u is some = (es, let s : Some e ≡ Some u = sym is ∙
 
 module _ (t : KnownTable) (w : KnownStockTable) (g : ℕ) (fits : g < 64) (list : LruList) (before : KnownMachine) (i : ℕ) (next : Option Entry) (now : KnownMachine)
     (tells : List ℕ → Type 0) (ok : IsConsistent t w now) (s : MetSoFar g list before i next now tells) where
-
   same_entries : entries_in now g list ≡ entries_in before g list
   same_entries = ap (λ (x : KnownMachine). entries_in x g list) s.looks.machine
 

@@ -7,8 +7,8 @@ ghost use Rattle.machine_texts.specs.Explanation.{explanation_text, is_attempt, 
 
 use crate::lines::write_line;
 use crate::parts::push_count;
-use group_tree::tree::Tree;
 use group_charge::note::Note;
+use group_tree::tree::Tree;
 use std::alloc::AllocError;
 
 /// Adds the explanation of a command by its notes and by how many of the frames that it reclaimed they leave out. It

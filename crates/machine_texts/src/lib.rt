@@ -16,8 +16,8 @@ mod units;
 
 pub use blocks::write_blocks;
 pub use characters::push_characters;
+pub use explanation::write_explanation;
+pub use refused::write_refused;
 pub use show::write_show;
 pub use stock::write_stock;
 pub use units::write_units;
-pub use explanation::write_explanation;
-pub use refused::write_refused;

@@ -8,9 +8,9 @@ ghost use Rattle.machine_texts.specs.Lines.{reclaimed_text, round_text, stock_li
 use crate::parts::{
     push_bytes, push_candidate, push_count, push_ending, push_group, push_others, push_span,
 };
+use group_charge::note::{Candidate, Note};
 use group_tree::group::GroupId;
 use group_tree::tree::Tree;
-use group_charge::note::{Candidate, Note};
 use std::alloc::AllocError;
 
 // The line of a note. The usage is that under the limit whose stocks are drained; if it is None, no stock has a line. A

@@ -6,12 +6,12 @@ ghost use Rattle.std.specs.String.{string_bytes};
 ghost use Rattle.machine_texts.specs.Lines.{bytes_text, candidate_text, ending_text, group_text, next_text, others_text};
 ghost use Rattle.machine_texts.specs.Lines.{range_text};
 
+use crate::push_characters;
 use control_files::number::push_number;
 use control_files::text::PAGE_BYTES;
+use group_charge::note::Candidate;
 use group_tree::group::GroupId;
 use group_tree::tree::Tree;
-use group_charge::note::Candidate;
-use crate::push_characters;
 use std::alloc::AllocError;
 
 // Adds a word and a count.

@@ -8,8 +8,8 @@ ghost use Rattle.mem_alloc.specs.Stepping.{ByStepsOfAny};
 
 use cpu_part::{BootName, Tables};
 use group_charge::charges::Charges;
-use group_tree::group::GroupId;
 use group_charge::note::Note;
+use group_tree::group::GroupId;
 use mem_machine::Machine;
 use mem_reclaim::kill;
 

@@ -9,8 +9,8 @@ ghost use Rattle.mem_alloc.specs.Room.{IsRoomAnswer, ReclaimsFor, RelievesLimit,
 use crate::faults::AllocFault;
 use crate::kills::{has_room_at, kill_for_few_pages};
 use cpu_part::{BootName, Tables};
-use group_tree::group::GroupId;
 use group_charge::note::Note;
+use group_tree::group::GroupId;
 use mem_machine::Machine;
 use mem_reclaim::reclaim_to_limit;
 

@@ -12,10 +12,10 @@ ghost use Rattle.mem_core.specs.Shown.{state_shown, zone_of_config};
 ghost use Rattle.mem_core.specs.Checked.{Leads};
 ghost use Rattle.zone_blocks.specs.Config.{IsValidConfig};
 
-use crate::free_areas::set_areas;
-use crate::rows::Rows;
 use crate::claims::place_at;
 use crate::due::due_answer;
+use crate::free_areas::set_areas;
+use crate::rows::Rows;
 use crate::serve::{pages_asked, serve};
 use std::alloc::{AllocError, Global};
 use std::marker::Model;

@@ -58,7 +58,8 @@ pub fn run(alloc: Global, config: Config, steps: &[Step]) -> Result<Vec<Answer>,
     requires { IsValidConfig config }
     ensures one_each { IfOk result (λ answers. length answers.items ≡ length steps.now) }
     ensures legal { IfOk result (λ answers. IsLegalRun (zone_of_config config) (zip steps.now answers.items)) }
-    ensures promise { IfOk result (λ answers. AlwaysKeepsPromise (zone_of_config config) (zip steps.now answers.items)) }
+    ensures promise { IfOk result (λ answers. AlwaysKeepsPromise (zone_of_config config)
+        (zip steps.now answers.items)) }
     ensures first { IfOk result (λ answers. AlwaysPlacesFirst (zone_of_config config) (zip steps.now answers.items)) }
 {
     let Played { core: _, answers } = play(alloc, config, steps)?;

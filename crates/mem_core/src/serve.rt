@@ -15,8 +15,8 @@ use crate::hand_over::{collect, pass_back, pass_out, take_in};
 use crate::legal::is_legal;
 use crate::lock::{lock, open_visit, shut_visit, unlock};
 use crate::references::{freeze, get, publish, put, unfreeze};
-use crate::stocks::{absorb, consume, credit, drain_stock, fill, report};
 use crate::rows::Rows;
+use crate::stocks::{absorb, consume, credit, drain_stock, fill, report};
 use step_rules::step::{Action, Answer, Step};
 use zone_blocks::areas::FreeAreas;
 

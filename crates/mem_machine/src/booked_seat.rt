@@ -121,7 +121,8 @@ impl<N: BootName> BookedSeat<N> {
     /// The CPU's stock, as `Cpu::look` returns it.
     pub(crate) fn look(&mut self, tables: &Tables<N>, cpu: &mut Cpu<N>) -> Stock
         ensures balanced { (account_of self.old.view cpu.old.number).book
-            ≡ stock_pages_of result + cpu.old.stock_seat.view.fresh + (account_of self.old.view cpu.old.number).unabsorbed }
+            ≡ stock_pages_of result + cpu.old.stock_seat.view.fresh
+            + (account_of self.old.view cpu.old.number).unabsorbed }
         ensures bounded { (account_of self.old.view cpu.old.number).book < 65536 }
         ensures group { group_of result ≡ (account_of self.old.view cpu.old.number).group }
         ensures held { is_held result ≡ (account_of self.old.view cpu.old.number).filled }

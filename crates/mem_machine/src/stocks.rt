@@ -14,9 +14,9 @@ ghost use Rattle.mem_machine.specs.Steps.{drain_steps};
 use crate::machine::Machine;
 use cpu_part::{BootName, Cpu, Tables};
 use group_charge::charges::Over;
+use group_charge::note::Note;
 use group_tree::group::GroupId;
 use group_tree::tree::Tree;
-use group_charge::note::Note;
 
 // Whether `other` is `group` or a descendant of it. Another group that is no deeper is neither, and most stocks are of
 // such a group: the depths spare the walk up from it.

@@ -9,8 +9,8 @@ ghost use Rattle.mem_reclaim.specs.Staying.{Keeps, MissedAll};
 
 use crate::rounds::{MAX_ROUNDS, reclaim_round};
 use cpu_part::{BootName, Tables};
-use group_tree::group::GroupId;
 use group_charge::note::Note;
+use group_tree::group::GroupId;
 use mem_machine::Machine;
 
 // Reclaims `asked` pages from the subtree of `group` in rounds, as `reclaim_amount` does, without the note before them.

@@ -9,8 +9,8 @@ ghost use Rattle.mem_reclaim.specs.Sets.{group_kill_note};
 
 use crate::victims::{count_alive, count_candidates, next_after};
 use cpu_part::BootName;
-use group_tree::group::GroupId;
 use group_charge::note::{Candidate, Note};
+use group_tree::group::GroupId;
 use lru_lists::record::LruList;
 use mem_machine::Machine;
 

@@ -10,8 +10,8 @@ ghost use Rattle.mem_reclaim.specs.Staying.{Keeps, MissedAll};
 use crate::reclaiming::{Reclaimed, reclaim};
 use cpu_part::{BootName, Tables};
 use group_charge::charges::Charges;
-use group_tree::group::GroupId;
 use group_charge::note::Note;
+use group_tree::group::GroupId;
 use mem_machine::Machine;
 
 /// The greatest number of rounds of reclaim before a limit. Linux makes as many (`MAX_RECLAIM_RETRIES`), but counts

@@ -16,8 +16,8 @@ use group_tree::fault::Fault;
 use group_tree::group::GroupId;
 use mem_alloc::{AllocFault, alloc_block, alloc_frame};
 use mem_machine::Machine;
-use zone_blocks::order::Order;
 use zone_blocks::config::Config;
+use zone_blocks::order::Order;
 
 // The outcome of an allocation.
 pub(crate) fn outcome_of(answer: &Result<Frame, AllocFault>) -> Outcome

@@ -120,7 +120,8 @@ fn shape_place(shape: Shape, text: &[u8]) -> Option<usize>
 // The place from which on the text doesn't go on to a word of this kind, a space and any bytes. None if it is that.
 fn open_place(kind: Kind, text: &[u8]) -> Option<usize>
     requires { HasFullRange kind }
-    ensures { MatchOption result (BeginsWithWord kind text.now) (λ place. IsStuck (BeginsWithWord kind) text.now place) }
+    ensures { MatchOption result (BeginsWithWord kind text.now)
+        (λ place. IsStuck (BeginsWithWord kind) text.now place) }
 {
     match start_of(kind, text) {
         Start::Stuck(place) => Some(place),

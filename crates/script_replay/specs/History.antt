@@ -128,7 +128,8 @@ pub record ReplaysLegally (terms : Terms) (lines : List Line) (before after : Sy
 
 -- The last of so many lines is the first one with a step that the watch doesn't allow: it allowed all steps of the
 -- lines before it, which led to `between`.
-pub record IsFirstIllegalLine (terms : Terms) (lines : List Line) (number : ℕ) (before after : SystemState) : Type 0 where
+pub record IsFirstIllegalLine (terms : Terms) (lines : List Line) (number : ℕ) (before after : SystemState)
+    : Type 0 where
   pub between : SystemState
   pub earlier : List ℕ
   pub last : List ℕ

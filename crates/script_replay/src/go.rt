@@ -6,10 +6,10 @@ ghost use Rattle.script_replay.specs.Terms.{boot_tables};
 ghost use Rattle.script_replay.specs.Runs.{RunsLines, lines_before_go};
 
 use crate::each::run_each;
+use crate::replay_by_visits;
 use cpu_part::{BootName, Cpu};
 use mem_system::{Gate, System};
 use script_lines::line::Line;
-use crate::replay_by_visits;
 use std::alloc::{AllocError, Global};
 use std::sync::Wait;
 use std::thread::Threads;

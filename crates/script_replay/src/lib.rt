@@ -26,11 +26,11 @@ mod work;
 mod workers;
 
 pub use answer_value::AnswerValue;
+pub use each::run_each;
 pub use form::Form;
+pub use go::{before_go, run_lines};
 pub use owned_replay::{Stopped, replay, replay_checked, serve_line};
 pub use value_calls::{alloc_value, serve_value};
 pub use visit_answers::{Visitor, visit_line, visit_numbered_line};
 pub use visit_replay::replay_by_visits;
 pub use work::Work;
-pub use each::run_each;
-pub use go::{before_go, run_lines};

@@ -12,7 +12,8 @@ use Rattle.step_rules.specs.Returns.{counted_with_run, times_in}
 
 -- the pages that a step leaves unreported at the CPU: one, if the CPU passes back a fresh frame
 abbrev pub unreported_in : ℕ → Run → ℕ → Action → Answer → ℕ
-unreported_in cpu run seat (PassBack f) Done = if seat == cpu then one_if (is_some ((units_after_run run).fresh_for f)) else 0
+unreported_in cpu run seat (PassBack f) Done =
+    if seat == cpu then one_if (is_some ((units_after_run run).fresh_for f)) else 0
 unreported_in cpu run seat action answer = 0
 
 -- the pages that the CPU reports by a step

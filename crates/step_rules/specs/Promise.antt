@@ -120,13 +120,15 @@ abbrev pub ReturnsNoFrameTwice : Run → ℕ → Action → Answer → Type 0
 ReturnsNoFrameTwice run seat (Get f) Held = awaits_return run f ≡ false
 ReturnsNoFrameTwice run seat (Put f) Last = awaits_return run f ≡ false
 ReturnsNoFrameTwice run seat (Freeze f n) Done = awaits_return run f ≡ false
-ReturnsNoFrameTwice run seat (Unfreeze f n) Done = (is_some ((units_after_run run).unit f) ≡ true) × HasNoReference run f
+ReturnsNoFrameTwice run seat (Unfreeze f n) Done = (is_some ((units_after_run run).unit f) ≡ true)
+    × HasNoReference run f
 ReturnsNoFrameTwice run seat (Return f) Done = ((awaits_return run f ≡ true) ⊎ (is_killed_return run f ≡ true))
     × (is_some ((units_after_run run).unit f) ≡ true) × HasNoReference run f
 ReturnsNoFrameTwice run seat (Credit f) Stocked = (times_in f ((units_after_run run).hands seat).fresh ≡ 1)
     × HasNoReference run f
 ReturnsNoFrameTwice run seat (Consume g) Took =
-    (1 ≤ length ((units_after_run run).hands seat).list) × IsUnused run (front_of ((units_after_run run).hands seat).list)
+    (1 ≤ length ((units_after_run run).hands seat).list)
+    × IsUnused run (front_of ((units_after_run run).hands seat).list)
 ReturnsNoFrameTwice run seat (PlaceBlock g k) (Placed b) = (b.order ≡ k) × ((f : ℕ) → Covers b f → IsUnused run f)
 ReturnsNoFrameTwice run seat action answer = Unit {0}
 

@@ -69,7 +69,8 @@ pub fn notes_are_counted()
     ensures legal { IsLegalRun small_zone noted_events }
     ensures max { (events_in Max small_zone noted_events 0 ≡ 1) × (events_local_in Max small_zone noted_events 0 ≡ 1) }
     ensures oom { (events_in Oom small_zone noted_events 0 ≡ 2) × (events_local_in Oom small_zone noted_events 0 ≡ 2) }
-    ensures oom_kill { (events_in OomKill small_zone noted_events 0 ≡ 1) × (events_local_in OomKill small_zone noted_events 0 ≡ 1) }
+    ensures oom_kill { (events_in OomKill small_zone noted_events 0 ≡ 1)
+        × (events_local_in OomKill small_zone noted_events 0 ≡ 1) }
 {}
 
 /// The limit of the parent bounds the pages of a group: a grant over it names the parent, and it may be set below the

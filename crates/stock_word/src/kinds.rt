@@ -196,7 +196,8 @@ impl StockWords {
             → Consumes (index_of_stock cpu) result (word_of (HeldBy group (pages - 1))) (first_stock_view raw.old.views)
             (first_stock_view raw.new.views) }
         ensures drained { result ≢ word_of (HeldBy group pages)
-            → SeesDrained (index_of_stock cpu) result result (first_stock_view raw.old.views) (first_stock_view raw.new.views) }
+            → SeesDrained (index_of_stock cpu) result result (first_stock_view raw.old.views)
+            (first_stock_view raw.new.views) }
     {
         let word = Stock::HeldBy { group, pages }.word();
         let left = Stock::HeldBy {
@@ -224,7 +225,8 @@ impl StockWords {
             → Credits (index_of_stock cpu) result (word_of (HeldBy group (pages + 1))) (first_stock_view raw.old.views)
             (first_stock_view raw.new.views) }
         ensures drained { result ≢ word_of (HeldBy group pages)
-            → SeesDrained (index_of_stock cpu) result result (first_stock_view raw.old.views) (first_stock_view raw.new.views) }
+            → SeesDrained (index_of_stock cpu) result result (first_stock_view raw.old.views)
+            (first_stock_view raw.new.views) }
     {
         let word = Stock::HeldBy { group, pages }.word();
         let more = Stock::HeldBy {
@@ -268,7 +270,8 @@ impl StockWords {
         requires fits { group < 64 }
         ensures table { raw.new.table ≡ raw.old.table }
         ensures alone { IsAlone raw.new.views }
-        ensures kind { DrainsWord cpu group (index_of_stock cpu) result (word_of (DrainedOf group)) (first_stock_view raw.old.views)
+        ensures kind { DrainsWord cpu group (index_of_stock cpu) result (word_of (DrainedOf group))
+            (first_stock_view raw.old.views)
             (first_stock_view raw.new.views) }
     {
         let drained = Stock::DrainedOf { group };
@@ -286,7 +289,8 @@ impl StockWords {
         requires cpu { (0 < cpu) × (cpu ≤ self.now.cpus) }
         ensures table { raw.new.table ≡ raw.old.table }
         ensures alone { IsAlone raw.new.views }
-        ensures kind { Absorbs cpu (index_of_report cpu) result 0 (first_stock_view raw.old.views) (first_stock_view raw.new.views) }
+        ensures kind { Absorbs cpu (index_of_report cpu) result 0 (first_stock_view raw.old.views)
+            (first_stock_view raw.new.views) }
     {
         let at = report_index(cpu);
         self.table.shared.swap::<Absorbing>(&mut raw.seat, at, 0)
@@ -323,7 +327,8 @@ impl StockWords {
         requires number { cpu ≡ (second_stock_view raw.old.views).number }
         requires zone { IsZoneView (first_stock_view raw.old.views) }
         requires cpu { IsCpuView self.now (second_stock_view raw.old.views) }
-        requires group { (account_for (first_stock_view raw.old.views) (second_stock_view raw.old.views)).group ≡ Some group }
+        requires group { (account_for (first_stock_view raw.old.views) (second_stock_view raw.old.views)).group
+            ≡ Some group }
         requires page { 0 < stocked (first_stock_view raw.old.views) (second_stock_view raw.old.views) }
         ensures table { raw.new.table ≡ raw.old.table }
         ensures pair { IsPair raw.new.views }

@@ -160,7 +160,8 @@ pub record IsTooSmall (before after : Option LiveBoot) (status : ℕ) (out : Typ
 
 -- What a read of a file does. Whether the buffer has room for the longest text of a file is looked at first, whatever
 -- the handle and the call
-pub record ReadsIntoBuffer (path file : List ℕ) (cpu : ℕ) (before after : Option LiveBoot) (status : ℕ) (out : TypedResult)
+pub record ReadsIntoBuffer (path file : List ℕ) (cpu : ℕ) (before after : Option LiveBoot) (status : ℕ)
+    (out : TypedResult)
     (old new : List ℕ) : Type 0 where
   pub refused : length old < longest_text → IsTooSmall before after status out old new
   pub read : longest_text ≤ length old → ReadsBehind (IsRead path file) cpu before after status out old new

@@ -91,7 +91,8 @@ pub record EndsLive (frames : KnownTable) (stock_table : KnownStockTable) (befor
 abbrev pub ServesRequest : KnownTable → KnownStockTable
     → (before : Option KnownLive) (request : Request) (after : Option KnownLive)
     (answer : RequestAnswer) → Type 0
-ServesRequest frames stock_table before (Start alloc boot sizes) after returned.Done = StartsBoot frames stock_table sizes after
+ServesRequest frames stock_table before (Start alloc boot sizes) after returned.Done =
+    StartsBoot frames stock_table sizes after
 ServesRequest frames stock_table before (Start alloc boot sizes) after returned.NoMemory = after ≡ None
 ServesRequest frames stock_table before (Lines alloc text is_explained) after (returned.Text answers) =
     OnLive (AnswersScript frames stock_table text.items is_explained answers.items) before after
@@ -103,7 +104,8 @@ ServesRequest frames stock_table before (StoreUnread text) after returned.Done =
     OnLive (λ from to. to ≡ with_unread_answer from text.items) before after
 ServesRequest frames stock_table before (TakeUnread alloc) after (returned.Text text) =
     OnLive (λ from to. TakesUnreadAnswer from to text.items) before after
-ServesRequest frames stock_table before (End alloc) after (returned.Ended ended) = EndsLive frames stock_table before after ended
+ServesRequest frames stock_table before (End alloc) after (returned.Ended ended) =
+    EndsLive frames stock_table before after ended
 ServesRequest frames stock_table before request after answer = ⊥
 
 -- what a request does, with the tables before and after it

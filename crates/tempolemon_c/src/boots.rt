@@ -13,9 +13,9 @@ ghost use Rattle.tempolemon_c.specs.Statuses.{bad_config, bad_line, done, is_liv
 use crate::buffers::copy_answers;
 use crate::handle::Handle;
 use crate::report::Report;
+use crate::requests::{Request, RequestAnswer};
 use crate::sizes::Sizes;
 use crate::status::{BAD_CONFIG, BAD_LINE, DONE, IS_LIVE, NO_MEMORY, NOT_LIVE, SMALL_BUFFER};
-use crate::requests::{Request, RequestAnswer};
 use mem_system::{BootFault, boot};
 use std::alloc::Global;
 

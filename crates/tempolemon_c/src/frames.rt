@@ -6,9 +6,9 @@ ghost use Rattle.tempolemon_c.specs.Behind.{behind};
 ghost use Rattle.tempolemon_c.specs.Calls.{CallsBehind};
 
 use crate::calling::serve_call;
+use crate::calls::{Call, FrameCall};
 use crate::handle::Handle;
 use crate::typed_result::TypedResult;
-use crate::calls::{Call, FrameCall};
 use std::alloc::Global;
 
 /// Takes a block of 2^order frames, charged to the group of this number.

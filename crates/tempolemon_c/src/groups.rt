@@ -4,12 +4,12 @@ ghost use Rattle.tempolemon_c.specs.Behind.{behind};
 ghost use Rattle.tempolemon_c.specs.Calls.{CallsPath, IsMkdir, IsRead, IsRmdir, IsWrite, ReadsIntoBuffer};
 
 use crate::calling::{serve_call, serve_into};
+use crate::calls::Call;
 use crate::handle::Handle;
 use crate::kinds::NOTHING;
 use crate::status::SMALL_BUFFER;
 use crate::typed_result::TypedResult;
 use control_files::text::MAX_TEXT;
-use crate::calls::Call;
 use std::alloc::Global;
 
 /// Makes the group of this path.
@@ -70,7 +70,8 @@ pub extern "C" fn tempolemon_read(
     text: &mut [u8],
     out: &mut TypedResult,
 ) -> u8
-    ensures { ReadsIntoBuffer path.now file.now cpu (behind handle.old) (behind handle.new) result out.new text.old text.new }
+    ensures { ReadsIntoBuffer path.now file.now cpu (behind handle.old) (behind handle.new)
+        result out.new text.old text.new }
 {
     if text.len() < MAX_TEXT {
         *out = TypedResult {

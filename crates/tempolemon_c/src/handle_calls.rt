@@ -8,13 +8,13 @@ ghost use Rattle.tempolemon_c.specs.Asking.{AsksBehind, IsBetween};
 ghost use Rattle.tempolemon_c.specs.Calls.{HasFileBehind};
 ghost use Rattle.tempolemon_c.specs.Handles.{BootsNew, EndsBoot, OnBoot};
 
+use crate::calls::{Call, CallAnswer, FileText};
 use crate::handle::Handle;
+use crate::raw::{RawBoot, call_raw, serve_raw, show_raw};
 use crate::report::Report;
+use crate::requests::{Request, RequestAnswer};
 use control_files::file::File;
 use group_tree::group::GroupId;
-use crate::calls::{Call, CallAnswer, FileText};
-use crate::raw::{RawBoot, call_raw, serve_raw, show_raw};
-use crate::requests::{Request, RequestAnswer};
 use mem_system::Boot;
 use std::alloc::Global;
 use zone_blocks::config::Config;

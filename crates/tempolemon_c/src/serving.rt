@@ -97,7 +97,8 @@ fn answer_lines<N: BootName>(
     is_explained: bool,
 ) -> (LivePointer<N>, RequestAnswer)
     requires some { IsSome pointer.live }
-    ensures serves { ServesRequest N.frames N.stocks pointer.live (Lines alloc text is_explained) result.0.live result.1 }
+    ensures serves { ServesRequest N.frames N.stocks pointer.live
+        (Lines alloc text is_explained) result.0.live result.1 }
 {
     let mut live = pointer.into_box_parts().into_box();
     let answered = live.answer_lines(alloc, &text, is_explained);

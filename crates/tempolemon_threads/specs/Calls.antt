@@ -30,7 +30,8 @@ pub record IsNotLive (before after : Option Led) (status : ℕ) (out : TypedResu
   pub status_is : status ≡ not_live
   pub out_is : out ≡ no_result
 
--- the call was answered: `Calls` says what each answer means for the CPU, and `call_status_of` and `call_result_of` which status
+-- the call was answered: `Calls` says what each answer means for the CPU, and `call_status_of` and `call_result_of`
+-- which status
 -- and result go with it
 pub record AnswersPart (asked : Call) (before after : Option Led) (status : ℕ) (out : TypedResult) : Type 0 where
   pub answer : CallAnswer
@@ -48,7 +49,8 @@ AllocsPart group zero before after status out = CallsPart (AllocFrame group) bef
 AllocsPart group (suc less) before after status out = CallsPart (AllocBlock group (suc less)) before after status out
 
 -- a command with these texts was given
-pub record GivesCommand (is_asked : Cmd → Type 0) (before after : Option Led) (status : ℕ) (out : TypedResult) : Type 0 where
+pub record GivesCommand (is_asked : Cmd → Type 0) (before after : Option Led) (status : ℕ) (out : TypedResult)
+    : Type 0 where
   pub asked : Cmd
   pub is : is_asked asked
   pub calls : CallsPart (Visit asked) before after status out
@@ -92,7 +94,8 @@ pub record ReadsPart (path file : List ℕ) (before after : Option Led) (status 
   pub buffer : PutsRead answer old new
 
 -- the buffer is refused as too small, and nothing was done
-pub record RefusesSmallBuffer (before after : Option Led) (status : ℕ) (out : TypedResult) (old new : List ℕ) : Type 0 where
+pub record RefusesSmallBuffer (before after : Option Led) (status : ℕ) (out : TypedResult) (old new : List ℕ)
+    : Type 0 where
   pub status_is : status ≡ small_buffer
   pub stays : after ≡ before
   pub out_is : out ≡ no_result

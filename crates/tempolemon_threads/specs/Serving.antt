@@ -51,7 +51,8 @@ StartsHomeUnder frames stock_table (End alloc) = Unit {0}
 
 -- what may be asked under the name of these tables
 abbrev pub MayBeAskedOfHome : KnownTable → KnownStockTable → Option KnownHome → Request → Type 0
-MayBeAskedOfHome frames stock_table home request = IsFitForHome home request × StartsHomeUnder frames stock_table request
+MayBeAskedOfHome frames stock_table home request = IsFitForHome home request
+    × StartsHomeUnder frames stock_table request
 
 -- there is a home before and after, and `does` leads from one to the other
 pub record OnHome (does : (from to : KnownHome) → Type 0) (before after : Option KnownHome) : Type 0 where
@@ -62,7 +63,8 @@ pub record OnHome (does : (from to : KnownHome) → Type 0) (before after : Opti
   pub done : does from to
 
 -- the same, and the tables stay
-pub record OnRawHome (does : (from to : KnownHome) → Type 0) (old_frames : KnownTable) (old_stock_table : KnownStockTable)
+pub record OnRawHome (does : (from to : KnownHome) → Type 0) (old_frames : KnownTable)
+    (old_stock_table : KnownStockTable)
     (before : Option KnownHome) (frames : KnownTable) (stock_table : KnownStockTable) (after : Option KnownHome) :
     Type 0 where
   pub frames_are : frames ≡ old_frames
@@ -98,7 +100,8 @@ ServesHomeRequest frames stock_table before (Enter number) after returned.Entere
 ServesHomeRequest frames stock_table before (Enter number) after (returned.NotEntered reason) =
     OnHome (λ from to. IfNotEntered frames.cpus number from reason to) before after
 ServesHomeRequest frames stock_table before (Leave alloc) after returned.Left = LeavesHome before after
-ServesHomeRequest frames stock_table before (Leave alloc) after (returned.NotLeft not_left.NoCpu) = DropsHome before after
+ServesHomeRequest frames stock_table before (Leave alloc) after (returned.NotLeft not_left.NoCpu) =
+    DropsHome before after
 ServesHomeRequest frames stock_table before (Leave alloc) after (returned.NotLeft not_left.Busy) = after ≡ before
 ServesHomeRequest frames stock_table before (Text alloc asked) after (returned.Text text) =
     OnHome (ReadsText frames stock_table asked text) before after

@@ -156,7 +156,8 @@ impl CpuPart {
     pub(crate) fn text(&mut self, alloc: Global, asked: TextCall) -> Option<TextAnswer>
         requires live { IsSome (part_behind self.old) }
         ensures shown { IfSome result (λ answer.
-            OnPart (λ frames stocks. ReadsText frames stocks asked answer) (part_behind self.old) (part_behind self.new)) }
+            OnPart (λ frames stocks. ReadsText frames stocks asked answer) (part_behind self.old)
+            (part_behind self.new)) }
         ensures busy { IfNone result (part_behind self.new ≡ part_behind self.old) }
     {
         let raw = std::mem::replace(&mut self.raw, RawHome::none(alloc));

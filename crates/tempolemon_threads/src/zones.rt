@@ -9,11 +9,11 @@ ghost use Rattle.tempolemon_threads.specs.Zones.{BootsZone, EndsWith, HasNoSuchC
 
 use crate::handles::{CpuPart, Zone};
 use crate::report::Report;
+use crate::requests::{Forked, RequestAnswer};
 use crate::sizes::Sizes;
 use crate::status::{
     BAD_CONFIG, BAD_CPU, BUSY, CPU_OUT, CPUS_OUT, DONE, IS_LIVE, LOST, NO_MEMORY, NOT_LIVE,
 };
-use crate::requests::{Forked, RequestAnswer};
 use mem_system::{BootFault, boot};
 use std::alloc::Global;
 use zone_threads::home::NotEntered;

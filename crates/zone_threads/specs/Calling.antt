@@ -77,7 +77,8 @@ IfMissing frames stock_table group missed.Busy = Unit {0}
 -- a frame was asked for a number that no group has
 abbrev pub MissesGroup : KnownTable → KnownStockTable → (group : ℕ) → (from to : KnownHome) → Type 0
 MissesGroup frames stock_table group from to =
-    ((most_groups ≤ group) × (to ≡ from)) ⊎ (NoGroupBehindLock frames stock_table group × OnCpu (MissesFast group) from to)
+    ((most_groups ≤ group) × (to ≡ from))
+    ⊎ (NoGroupBehindLock frames stock_table group × OnCpu (MissesFast group) from to)
 
 -- What each call does, by its answer.
 abbrev pub Calls : KnownTable → KnownStockTable → Call → (from to : KnownHome) → CallAnswer → Type 0

@@ -99,7 +99,8 @@ impl Core {
     /// The references of a seat on a frame.
     pub fn references(&self, seat: u32, frame: u32) -> u32
         ensures now { result ≡ (state_shown self.now).references seat frame }
-        ensures run { (run : Run) → ShowsRun self.now run → result ≡ (state_of self.now.zone run).references seat frame }
+        ensures run { (run : Run) → ShowsRun self.now run
+            → result ≡ (state_of self.now.zone run).references seat frame }
     {
         self.rows.references(seat, frame)
     }
