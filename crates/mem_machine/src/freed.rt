@@ -2,7 +2,7 @@
 
 ghost use Rattle.std.specs.Prelude.{◌≡◌, ◌+◌, ◌^◌, ◌≤◌, length};
 ghost use Rattle.zone_blocks.specs.Areas.{AreMaximalBlocks};
-ghost use Rattle.zone_buddy.specs.Zone.{IsInUse, GivesFrames};
+ghost use Rattle.zone_blocks.specs.Zone.{IsInUse, GivesFrames};
 ghost use Rattle.group_charge.specs.Charges.{pages_of, with_uncharge, UsageRises};
 ghost use Rattle.mem_machine.specs.Freeing.{FreesFrames};
 
@@ -10,7 +10,7 @@ use crate::frame_state::FrameState;
 use group_charge::charges::Charges;
 use step_rules::phase::ChargedUnit;
 use zone_blocks::block::Block;
-use zone_buddy::buddy::Buddy;
+use zone_blocks::buddy::Buddy;
 
 // Records this many frames from `at` on as free.
 fn free_frames(frame_states: &mut Vec<FrameState>, at: u32, frames: u32)

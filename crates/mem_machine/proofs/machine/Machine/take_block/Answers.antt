@@ -6,7 +6,7 @@ use Rattle.mem_machine.specs.Machines.{KnownMachine}
 use Rattle.mem_machine.specs.Local.{visit_state}
 use Rattle.mem_machine.specs.Steps.{over_steps, zone_makes}
 use Rattle.mem_machine.proofs.Prepaying.{refused_all}
-use Rattle.zone_buddy.specs.Zone.{BuddyZone}
+use Rattle.zone_blocks.specs.Zone.{BuddyZone}
 use Rattle.mem_machine.proofs.Usage.{usage_seen, balanced_alone}
 use Rattle.mem_machine.proofs.TakesBlocks.{taken_all, none_all, taken_inside, head_inside, head_free, free_in_hand}
 use Rattle.step_watch.specs.Watched.{Watches}
