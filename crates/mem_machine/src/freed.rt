@@ -7,6 +7,7 @@ ghost use Rattle.group_charge.specs.Charges.{pages_of, with_uncharge, UsageRises
 ghost use Rattle.mem_machine.specs.Freeing.{FreesFrames};
 
 use crate::frame_state::FrameState;
+use crate::proving::prove_charges;
 use group_charge::charges::Charges;
 use step_rules::phase::ChargedUnit;
 use zone_blocks::block::Block;
@@ -39,7 +40,7 @@ pub(crate) fn free_unit(
     ensures charges { charges.new ≡ with_uncharge charges.old unit.group (2 ^ unit.order) }
     ensures usage { UsageRises charges.new charges.old unit.group (2 ^ unit.order) }
 {
-    let _tree = charges.tree(); // Called for its contract.
+    prove_charges(charges);
     let order = unit.order;
     free_frames(frame_states, at, order.frames());
     zone.give(Block { at, order });

@@ -1,11 +1,8 @@
 -- How a call is described by its steps.
-use Rattle.std.specs.Prelude.{◌≡◌, ℕ, ◌+◌, [], ◌++◌}
-use Rattle.frame_word.specs.Seats.{KnownTable, misses_of}
+use Rattle.std.specs.Prelude.{◌≡◌, [], ◌++◌}
+use Rattle.frame_word.specs.Seats.{KnownTable}
 use Rattle.step_rules.specs.After.{Run}
-use Rattle.cpu_part.specs.Cpus.{KnownCpu}
-use Rattle.mem_machine.specs.Machines.{KnownMachine}
-use Rattle.mem_machine.specs.Local.{VisitState, Makes, MakesForAny}
-use Rattle.mem_reclaim.specs.Moves.{missed_in}
+use Rattle.mem_machine.specs.Machines.{KnownMachine, VisitState}
 
 -- The transition of a call at a table: the state before, its steps with their answers, and the state after. The state
 -- is a visit state, or the machine alone.
@@ -48,26 +45,13 @@ pub record Finds {S : Type 0} (Is : S → Type 0) (Does : Transition S → Type 
   pub is : Is call.before
   pub does : Does call
 
--- a list of local steps with their answers leads from one visit state to another, and `Does` holds of that transition
-pub record BySteps (table : KnownTable) (Does : Transition VisitState → Type 0)
-    (before after : VisitState) : Type 0 where
+-- Some list of steps leads from one state to the other, as `AreMade` says: `Makes` of a visit state, `MakesForAny` of
+-- the machine alone. `Does` holds of that transition.
+pub record BySteps {S : Type 0} (AreMade : KnownTable → S → Run → S → Type 0) (table : KnownTable)
+    (Does : Transition S → Type 0) (before after : S) : Type 0 where
   pub steps : Run
   pub does : Does (transition table before steps after)
-  pub makes : Makes table before steps after
-
--- a list of local steps leads from one machine to another, whichever CPU holds the lock, and `Does` holds of that
--- transition
-pub record ByStepsOfAny (table : KnownTable) (Does : Transition KnownMachine → Type 0)
-    (before after : KnownMachine) : Type 0 where
-  pub steps : Run
-  pub does : Does (transition table before steps after)
-  pub makes : MakesForAny table before steps after
-
--- the misses that the zone's seat noted for each frame rose by the freezes of it that missed among the steps
-abbrev pub CountsMisses : Transition KnownMachine → Type 0
-CountsMisses call =
-    (frame : ℕ)
-    → misses_of call.after.frame_seat frame ≡ misses_of call.before.frame_seat frame + missed_in frame call.steps
+  pub makes : AreMade table before steps after
 
 -- nothing of the machine changed, and no step was made
 pub record MachineStays (call : Transition KnownMachine) : Type 0 where
@@ -79,7 +63,3 @@ pub record Stays (call : Transition VisitState) : Type 0 where
   pub machine : call.after.machine ≡ call.before.machine
   pub cpu : call.after.cpu ≡ call.before.cpu
   pub steps_are : call.steps ≡ []
-
--- the CPU has nothing to settle: none of its frames is fresh or back
-abbrev pub IsSettled : KnownCpu → Type 0
-IsSettled cpu = (cpu.fresh ≡ []) × (cpu.back ≡ [])
