@@ -3,4 +3,3 @@ pub mod Numbers
 pub mod Refusing
 pub mod Showing
 pub mod Finding
-pub mod Moves

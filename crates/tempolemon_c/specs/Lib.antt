@@ -1,6 +1,5 @@
 pub mod Asking
 pub mod Behind
-pub mod Buffers
 pub mod Calls
 pub mod Handles
 pub mod Kinds

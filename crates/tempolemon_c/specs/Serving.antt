@@ -42,18 +42,6 @@ IsFit (Some live) (StoreUnread text) = Unit {0}
 IsFit (Some live) (TakeUnread alloc) = Unit {0}
 IsFit (Some live) (End alloc) = Unit {0}
 
--- a boot that is started has these tables
-abbrev pub StartsUnder : KnownTable → KnownStockTable → Request → Type 0
-StartsUnder frames stock_table (Start alloc boot sizes) = (boot.frames ≡ frames) × (boot.stocks ≡ stock_table)
-StartsUnder frames stock_table (Lines alloc text is_explained) = Unit {0}
-StartsUnder frames stock_table (StoreUnread text) = Unit {0}
-StartsUnder frames stock_table (TakeUnread alloc) = Unit {0}
-StartsUnder frames stock_table (End alloc) = Unit {0}
-
--- what may be asked under the name of these tables
-abbrev pub MayBeAsked : KnownTable → KnownStockTable → Option KnownLive → Request → Type 0
-MayBeAsked frames stock_table live request = IsFit live request × StartsUnder frames stock_table request
-
 -- there is a boot before and after, and `does` leads from one to the other
 pub record OnLive (does : (from to : KnownLive) → Type 0) (before after : Option KnownLive) : Type 0 where
   pub from : KnownLive

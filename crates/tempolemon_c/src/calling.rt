@@ -6,7 +6,6 @@ ghost use Rattle.script_replay.specs.declared.answer_value.AnswerValue.TheVarian
 ghost use Rattle.tempolemon_c.specs.Behind.{behind};
 ghost use Rattle.tempolemon_c.specs.Calls.{CallsBehind, CallsInto, HasFileBehind, HasGroupsBehind, ReturnsValue};
 
-use crate::buffers::copy_answers;
 use crate::calls::{Call, CallAnswer, FileText};
 use crate::handle::Handle;
 use crate::kinds::{NOTHING, REFUSED, TEXT};
@@ -14,6 +13,7 @@ use crate::status::{BAD_CPU, BAD_FRAME, BAD_GROUP, DONE, NOT_LIVE};
 use crate::typed_result::{TypedResult, typed_answer_of};
 use control_files::file::File;
 use group_tree::group::GroupId;
+use host_memory::buffers::copy_answers;
 use mem_system::Outcome;
 use script_replay::AnswerValue;
 use std::alloc::Global;

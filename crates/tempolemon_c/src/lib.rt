@@ -1,9 +1,9 @@
 //! The controller for hosts in C, and in languages that call C. `include/tempolemon.h` declares each call.
 //!
 //! A boot lives behind a handle. Its parts carry the name of its tables (`BootName`), and a struct that crosses to C
-//! can't have such a name. So `RawBoot` is a pointer to the parts in a box, and remembers which tables they are of. Only
-//! `serve_raw`, `call_raw` and `show_raw` reach through it: each picks a name for those tables and calls plain code over
-//! the box.
+//! can't have such a name. So `RawBoot` is a pointer to the parts in a box, and remembers which tables they are of. Each
+//! of `serve_raw`, `call_raw` and `show_raw` picks a name that has those tables, and calls plain code over the box. Proved
+//! by hand are only the moves between that pointer, a pointer under a name (`LivePointer`), and the box.
 //!
 //! A call gets memory through pointers that the host promises to be good: never null, to as many bytes as it says, and
 //! no two of them to the same bytes. Everything else is tested, and each refusal has a status of its own.
@@ -12,16 +12,13 @@
 ghost use Rattle.std.specs.Prelude.{◌≡◌, ◌≢◌, ◌↔◌};
 ghost use Rattle.zone_blocks.specs.Config.{IsValidConfig};
 ghost use Rattle.script_lines.specs.Script.{IsFirstBadLine};
-ghost use Rattle.tempolemon_c.specs.Buffers.{FillsBuffer, ExceedsBuffer};
+ghost use Rattle.host_memory.specs.Buffers.{FillsBuffer, ExceedsBuffer};
 ghost use Rattle.tempolemon_c.specs.Replays.{IsReplayAnswer, config_of};
 ghost use Rattle.tempolemon_c.specs.Statuses.{IsReplayStatus, bad_config, bad_line, done, small_buffer};
 
 mod boots;
-pub mod box_parts;
-mod buffers;
 mod calling;
 pub mod calls;
-pub mod crossing;
 mod fault;
 mod frames;
 mod groups;
@@ -39,11 +36,11 @@ mod sizes;
 mod status;
 mod typed_result;
 
-use crate::buffers::copy_answers;
 use crate::fault::ReplayFault;
 use crate::replaying::answer_script;
 use crate::sizes::Sizes;
 use crate::status::{BAD_CONFIG, BAD_LINE, DONE, NO_MEMORY, SMALL_BUFFER};
+use host_memory::buffers::copy_answers;
 use std::alloc::Global;
 
 /// Boots a zone of these sizes, replays the script on it, and ends the boot. The answers are those of the program's

@@ -1,32 +1,37 @@
 //! A pointer to the parts of a boot under a name, or to nothing.
 
 ghost use Rattle.std.specs.Prelude.{◌≡◌, IsSome, None, Option, Some};
+ghost use Rattle.frame_word.specs.Seats.{KnownTable};
+ghost use Rattle.stock_word.specs.Stock.{KnownStockTable};
 ghost use Rattle.tempolemon_c.specs.Known.{KnownLive};
-ghost use Rattle.tempolemon_c.specs.Owned.{known_coded, live_owns};
+ghost use Rattle.tempolemon_c.specs.Owned.{frames_coded, known_coded, live_owns, stocks_coded};
 
-use crate::box_parts::BoxParts;
 use crate::live::Live;
 use cpu_part::BootName;
+use host_memory::box_parts::BoxParts;
 use std::alloc::Global;
 use std::marker::Model;
 
-/// A pointer to the parts of a boot, or to nothing. It has the fields of `RawBoot`, under a name. If it is dropped,
-/// what it points to stays in memory.
+/// A pointer to the parts of a boot, or to nothing, and the tables that the parts are of. It has the fields of
+/// `RawBoot`. Its type doesn't fix the tables, so a call may pick the name that has them. If it is dropped, what it
+/// points to stays in memory.
 #[derive(Drop)]
-pub struct LivePointer<N: BootName> {
-    pub(crate) ptr: *mut Live<N>,
+pub struct LivePointer<B> {
+    pub(crate) ptr: *mut B,
     pub(crate) alloc: Global,
+    pub ghost frames: { KnownTable } by { frames_coded },
+    pub ghost stocks: { KnownStockTable } by { stocks_coded },
     pub ghost live: { Option KnownLive } by { known_coded },
 }
 
-impl<N: BootName> Model for LivePointer<N> {
-    ghost also_owns = { λ h. live_owns N.row N.frames N.stocks h.alloc h.ptr h.live };
+impl<B> Model for LivePointer<B> {
+    ghost also_owns = { λ h. live_owns B.row h.frames h.stocks h.alloc h.ptr h.live };
 }
 
 impl<N: BootName> LivePointer<N> {
     /// A pointer to nothing.
     pub fn none(alloc: Global) -> LivePointer<N>
-        ensures { result.live ≡ None }
+        ensures { (result.frames ≡ N.frames) × (result.stocks ≡ N.stocks) × (result.live ≡ None) }
     {
         LivePointer {
             ptr: std::ptr::null_mut(),
@@ -36,18 +41,24 @@ impl<N: BootName> LivePointer<N> {
 
     /// A pointer to what is in this box.
     pub fn of(parts: BoxParts<Live<N>, Global>) -> LivePointer<N>
-        ensures { result.live ≡ Some parts.value }
+        ensures { (result.frames ≡ N.frames) × (result.stocks ≡ N.stocks) × (result.live ≡ Some parts.value) }
     {
         let BoxParts { ptr, alloc } = parts;
-        LivePointer { ptr, alloc }
+        LivePointer {
+            ptr: ptr as *mut N,
+            alloc,
+        }
     }
 
     /// The box with what it points to.
     pub fn into_box_parts(self) -> BoxParts<Live<N>, Global>
-        requires some { IsSome self.live }
+        requires { IsSome self.live × (self.frames ≡ N.frames) × (self.stocks ≡ N.stocks) }
         ensures { Some result.value ≡ self.live }
     {
         let LivePointer { ptr, alloc } = self;
-        BoxParts { ptr, alloc }
+        BoxParts {
+            ptr: ptr as *mut Live<N>,
+            alloc,
+        }
     }
 }

@@ -5,11 +5,10 @@ ghost use Rattle.frame_word.specs.Seats.{KnownTable};
 ghost use Rattle.stock_word.specs.Stock.{KnownStockTable};
 ghost use Rattle.tempolemon_c.specs.HandleCalls.{CallsLive, GroupHasFiles, ShowsFile};
 ghost use Rattle.tempolemon_c.specs.Known.{KnownLive};
-ghost use Rattle.tempolemon_c.specs.Owned.{frames_coded, known_coded, live_owns, marker, stocks_coded};
+ghost use Rattle.tempolemon_c.specs.Owned.{brand, frames_coded, known_coded, live_owns, stocks_coded};
 ghost use Rattle.tempolemon_c.specs.Serving.{IsFit, OnRaw, ServesRaw};
 
 use crate::calls::{Call, CallAnswer, FileText};
-use crate::live::Live;
 use crate::live_pointer::LivePointer;
 use crate::requests::{Request, RequestAnswer};
 use crate::serving::{serve, serve_call, show_file};
@@ -31,7 +30,7 @@ pub struct RawBoot {
 }
 
 impl Model for RawBoot {
-    ghost also_owns = { λ r. live_owns marker r.frames r.stocks r.alloc r.ptr r.live };
+    ghost also_owns = { λ r. live_owns brand r.frames r.stocks r.alloc r.ptr r.live };
 }
 
 unsafe impl Send for RawBoot {}
@@ -41,8 +40,27 @@ impl RawBoot {
     pub fn none(alloc: Global) -> RawBoot
         ensures { result.live ≡ None }
     {
+        RawBoot::of(LivePointer::none(alloc))
+    }
+
+    /// The same pointer, without a name.
+    pub fn of(pointer: LivePointer<Brand>) -> RawBoot
+        ensures { (result.frames ≡ pointer.frames) × (result.stocks ≡ pointer.stocks) × (result.live ≡ pointer.live) }
+    {
+        let LivePointer { ptr, alloc } = pointer;
         RawBoot {
-            ptr: std::ptr::null_mut(),
+            ptr: ptr as *mut u8,
+            alloc,
+        }
+    }
+
+    /// The same pointer, under a name.
+    pub fn into_pointer(self) -> LivePointer<Brand>
+        ensures { (result.frames ≡ self.frames) × (result.stocks ≡ self.stocks) × (result.live ≡ self.live) }
+    {
+        let RawBoot { ptr, alloc } = self;
+        LivePointer {
+            ptr: ptr as *mut Brand,
             alloc,
         }
     }
@@ -54,22 +72,8 @@ pub fn serve_raw(raw: RawBoot, request: Request) -> (RawBoot, RequestAnswer)
     ensures serves { ServesRaw raw.frames raw.stocks raw.live request
         result.0.frames result.0.stocks result.0.live result.1 }
 {
-    let RawBoot { ptr, alloc } = raw;
-    let (pointer, answer) = serve::<Brand>(
-        LivePointer {
-            ptr: ptr as *mut Live<Brand>,
-            alloc,
-        },
-        request,
-    );
-    let LivePointer { ptr, alloc } = pointer;
-    (
-        RawBoot {
-            ptr: ptr as *mut u8,
-            alloc,
-        },
-        answer,
-    )
+    let (pointer, answer) = serve::<Brand>(raw.into_pointer(), request);
+    (RawBoot::of(pointer), answer)
 }
 
 /// Serves a call of the CPU of this number, as `serve_call` does, under the name that it picks for the tables. Only a
@@ -82,23 +86,8 @@ pub fn call_raw(raw: RawBoot, cpu: u32, call: &Call<'_>) -> (RawBoot, CallAnswer
     ensures serves { OnRaw (λ from to. CallsLive raw.frames raw.stocks cpu call.now from to result.1)
         raw.frames raw.stocks raw.live result.0.frames result.0.stocks result.0.live }
 {
-    let RawBoot { ptr, alloc } = raw;
-    let (pointer, answer) = serve_call::<Brand>(
-        LivePointer {
-            ptr: ptr as *mut Live<Brand>,
-            alloc,
-        },
-        cpu,
-        call,
-    );
-    let LivePointer { ptr, alloc } = pointer;
-    (
-        RawBoot {
-            ptr: ptr as *mut u8,
-            alloc,
-        },
-        answer,
-    )
+    let (pointer, answer) = serve_call::<Brand>(raw.into_pointer(), cpu, call);
+    (RawBoot::of(pointer), answer)
 }
 
 /// Returns what a file of a group shows, as `show_file` does, under the name that it picks for the tables.
@@ -107,21 +96,15 @@ pub fn show_raw(raw: RawBoot, group: GroupId, file: File) -> (RawBoot, FileText)
     ensures shows { OnRaw (λ from to. ShowsFile group file from to result.1)
         raw.frames raw.stocks raw.live result.0.frames result.0.stocks result.0.live }
 {
-    let RawBoot { ptr, alloc } = raw;
-    let (pointer, shown) = show_file::<Brand>(
-        LivePointer {
-            ptr: ptr as *mut Live<Brand>,
-            alloc,
-        },
-        group,
-        file,
-    );
-    let LivePointer { ptr, alloc } = pointer;
-    (
-        RawBoot {
-            ptr: ptr as *mut u8,
-            alloc,
-        },
-        shown,
-    )
+    let (pointer, shown) = show_file::<Brand>(raw.into_pointer(), group, file);
+    (RawBoot::of(pointer), shown)
+}
+
+fn crosses<T: Send>(value: T) -> T {
+    value
+}
+
+/// Returns a pointer that may go to another thread: that its type is `Send` is proved here.
+pub fn pass_on(raw: RawBoot) -> RawBoot {
+    crosses(raw)
 }

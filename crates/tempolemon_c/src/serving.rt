@@ -2,10 +2,9 @@
 
 ghost use Rattle.std.specs.Prelude.{◌≡◌, IsSome, IsSomeAnd, None};
 ghost use Rattle.tempolemon_c.specs.HandleCalls.{CallsLive, GroupHasFiles, ShowsFile};
-ghost use Rattle.tempolemon_c.specs.Serving.{MayBeAsked, OnLive, ServesRequest};
+ghost use Rattle.tempolemon_c.specs.Serving.{IsFit, OnLive, ServesRequest, frames_after_request, stocks_after_request};
 ghost use Rattle.tempolemon_c.specs.declared.requests.Request.TheVariants.{End, Lines, Start, StoreUnread, TakeUnread};
 
-use crate::box_parts::BoxParts;
 use crate::calls::{Call, CallAnswer, FileText};
 use crate::live::Live;
 use crate::live_pointer::LivePointer;
@@ -13,6 +12,7 @@ use crate::requests::{Request, RequestAnswer};
 use control_files::file::File;
 use cpu_part::BootName;
 use group_tree::group::GroupId;
+use host_memory::box_parts::BoxParts;
 use mem_system::Boot;
 use script_lines::fault::ScriptFault;
 use std::alloc::Global;
@@ -23,7 +23,10 @@ pub fn serve<N: BootName>(
     pointer: LivePointer<N>,
     request: Request,
 ) -> (LivePointer<N>, RequestAnswer)
-    requires asked { MayBeAsked N.frames N.stocks pointer.live request }
+    requires fit { IsFit pointer.live request }
+    requires frames { frames_after_request pointer.frames request ≡ N.frames }
+    requires stocks { stocks_after_request pointer.stocks request ≡ N.stocks }
+    ensures named { (result.0.frames ≡ N.frames) × (result.0.stocks ≡ N.stocks) }
     ensures serves { ServesRequest N.frames N.stocks pointer.live request result.0.live result.1 }
 {
     match request {
@@ -47,6 +50,8 @@ pub fn serve_call<N: BootName>(
     call: &Call<'_>,
 ) -> (LivePointer<N>, CallAnswer)
     requires some { IsSome pointer.live }
+    requires named { (pointer.frames ≡ N.frames) × (pointer.stocks ≡ N.stocks) }
+    ensures named { (result.0.frames ≡ N.frames) × (result.0.stocks ≡ N.stocks) }
     ensures serves { OnLive (λ from to. CallsLive N.frames N.stocks cpu call.now from to result.1)
         pointer.live result.0.live }
 {
@@ -62,6 +67,8 @@ pub fn show_file<N: BootName>(
     file: File,
 ) -> (LivePointer<N>, FileText)
     requires there { IsSomeAnd pointer.live (GroupHasFiles group file) }
+    requires named { (pointer.frames ≡ N.frames) × (pointer.stocks ≡ N.stocks) }
+    ensures named { (result.0.frames ≡ N.frames) × (result.0.stocks ≡ N.stocks) }
     ensures shows { OnLive (λ from to. ShowsFile group file from to result.1) pointer.live result.0.live }
 {
     let live = pointer.into_box_parts().into_box();
@@ -70,23 +77,24 @@ pub fn show_file<N: BootName>(
 }
 
 fn start<N: BootName>(
-    pointer: LivePointer<N>,
+    _pointer: LivePointer<N>,
     alloc: Global,
     boot: Boot,
     sizes: Config,
 ) -> (LivePointer<N>, RequestAnswer)
-    requires none { pointer.live ≡ None }
+    requires none { _pointer.live ≡ None }
     requires frames { boot.frames ≡ N.frames }
     requires stocks { boot.stocks ≡ N.stocks }
     requires sizes { boot.sizes ≡ sizes }
-    ensures serves { ServesRequest N.frames N.stocks pointer.live (Start alloc boot sizes) result.0.live result.1 }
+    ensures named { (result.0.frames ≡ N.frames) × (result.0.stocks ≡ N.stocks) }
+    ensures serves { ServesRequest N.frames N.stocks _pointer.live (Start alloc boot sizes) result.0.live result.1 }
 {
     let Ok(live) = Live::<N>::start(alloc, boot, sizes) else {
-        return (pointer, RequestAnswer::NoMemory);
+        return (LivePointer::none(alloc), RequestAnswer::NoMemory);
     };
     match Box::new(alloc, live) {
         Ok(live) => (LivePointer::of(BoxParts::of(live)), RequestAnswer::Done),
-        Err(_) => (pointer, RequestAnswer::NoMemory),
+        Err(_) => (LivePointer::none(alloc), RequestAnswer::NoMemory),
     }
 }
 
@@ -97,6 +105,8 @@ fn answer_lines<N: BootName>(
     is_explained: bool,
 ) -> (LivePointer<N>, RequestAnswer)
     requires some { IsSome pointer.live }
+    requires named { (pointer.frames ≡ N.frames) × (pointer.stocks ≡ N.stocks) }
+    ensures named { (result.0.frames ≡ N.frames) × (result.0.stocks ≡ N.stocks) }
     ensures serves { ServesRequest N.frames N.stocks pointer.live
         (Lines alloc text is_explained) result.0.live result.1 }
 {
@@ -115,6 +125,8 @@ fn store_unread<N: BootName>(
     text: Vec<u8>,
 ) -> (LivePointer<N>, RequestAnswer)
     requires some { IsSome pointer.live }
+    requires named { (pointer.frames ≡ N.frames) × (pointer.stocks ≡ N.stocks) }
+    ensures named { (result.0.frames ≡ N.frames) × (result.0.stocks ≡ N.stocks) }
     ensures serves { ServesRequest N.frames N.stocks pointer.live (StoreUnread text) result.0.live result.1 }
 {
     let mut live = pointer.into_box_parts().into_box();
@@ -127,6 +139,8 @@ fn take_unread<N: BootName>(
     alloc: Global,
 ) -> (LivePointer<N>, RequestAnswer)
     requires some { IsSome pointer.live }
+    requires named { (pointer.frames ≡ N.frames) × (pointer.stocks ≡ N.stocks) }
+    ensures named { (result.0.frames ≡ N.frames) × (result.0.stocks ≡ N.stocks) }
     ensures serves { ServesRequest N.frames N.stocks pointer.live (TakeUnread alloc) result.0.live result.1 }
 {
     let mut live = pointer.into_box_parts().into_box();
@@ -139,6 +153,8 @@ fn take_unread<N: BootName>(
 
 fn finish<N: BootName>(pointer: LivePointer<N>, alloc: Global) -> (LivePointer<N>, RequestAnswer)
     requires some { IsSome pointer.live }
+    requires named { (pointer.frames ≡ N.frames) × (pointer.stocks ≡ N.stocks) }
+    ensures named { (result.0.frames ≡ N.frames) × (result.0.stocks ≡ N.stocks) }
     ensures serves { ServesRequest N.frames N.stocks pointer.live (End alloc) result.0.live result.1 }
 {
     let live = Box::into_inner(pointer.into_box_parts().into_box());

@@ -1,3 +1,2 @@
 pub mod Crossing
 pub mod Numbers
-pub mod Moves

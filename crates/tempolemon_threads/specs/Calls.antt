@@ -17,7 +17,7 @@ use Rattle.zone_threads.specs.declared.texts.TextAnswer.{TextAnswer}
 use Rattle.zone_threads.specs.declared.texts.TextAnswer.TheVariants as text
 use Rattle.zone_threads.specs.declared.texts.TextCall.{TextCall}
 use Rattle.zone_threads.specs.declared.texts.TextCall.TheVariants.{Units}
-use Rattle.tempolemon_threads.specs.Buffers.{ExceedsBuffer, FillsBuffer}
+use Rattle.host_memory.specs.Buffers.{ExceedsBuffer, FillsBuffer}
 use Rattle.tempolemon_threads.specs.Kinds.{no_result, read_result, read_status, call_result_of, call_status_of}
 use Rattle.tempolemon_threads.specs.Statuses.{busy, done, no_memory, not_live, small_buffer}
 use Rattle.tempolemon_threads.specs.Zones.{Led, OnPart}

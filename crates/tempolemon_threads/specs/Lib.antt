@@ -1,5 +1,4 @@
 pub mod Behind
-pub mod Buffers
 pub mod Calls
 pub mod Handling
 pub mod Kinds

@@ -2,11 +2,8 @@
 use Rattle.std.specs.Prelude.{Option, None, Some}
 use base.Fml.{Fml, ftrue}
 use base.Stored.{Coded}
-use denote.Exit.{no}
-use denote.Param.{arg, layout, param}
 use denote.RattleType.{RattleType}
 use denote.RawPtr.{Ptr}
-use mir.Raw.{raw}
 use Rattle.std.specs.Box.Ownership.{box_owns}
 use Rattle.std.specs.Coded.{coded_option}
 use Rattle.std.specs.Global.{Global}
@@ -28,13 +25,9 @@ frames_coded = FrameWords.the_row.coded
 abbrev pub stocks_coded : Coded KnownStockTable
 stocks_coded = StockWords.the_row.coded
 
--- the type that a call passes for a name
+-- the type that stands for a name in a type of C
 abbrev pub brand : RattleType
-brand = arg (raw (layout Brand.the_row)) no Brand.the_row
-
--- the same, as the called function sees it
-abbrev pub marker : RattleType
-marker = param 0 brand
+brand = Brand.the_row
 
 -- a home of these tables, under a name
 abbrev pub home_row : RattleType → KnownTable → KnownStockTable → RattleType

@@ -41,19 +41,6 @@ IsFitForHome (Some home) (Leave alloc) = Unit {0}
 IsFitForHome (Some home) (Text alloc asked) = HasCpu home
 IsFitForHome (Some home) (End alloc) = HasNoCpu home
 
--- a boot that is started has these tables
-abbrev pub StartsHomeUnder : KnownTable → KnownStockTable → Request → Type 0
-StartsHomeUnder frames stock_table (Start alloc boot) = (boot.frames ≡ frames) × (boot.stocks ≡ stock_table)
-StartsHomeUnder frames stock_table (Enter number) = Unit {0}
-StartsHomeUnder frames stock_table (Leave alloc) = Unit {0}
-StartsHomeUnder frames stock_table (Text alloc asked) = Unit {0}
-StartsHomeUnder frames stock_table (End alloc) = Unit {0}
-
--- what may be asked under the name of these tables
-abbrev pub MayBeAskedOfHome : KnownTable → KnownStockTable → Option KnownHome → Request → Type 0
-MayBeAskedOfHome frames stock_table home request = IsFitForHome home request
-    × StartsHomeUnder frames stock_table request
-
 -- there is a home before and after, and `does` leads from one to the other
 pub record OnHome (does : (from to : KnownHome) → Type 0) (before after : Option KnownHome) : Type 0 where
   pub from : KnownHome

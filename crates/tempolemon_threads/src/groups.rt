@@ -4,13 +4,13 @@
 ghost use Rattle.tempolemon_threads.specs.Behind.{part_behind};
 ghost use Rattle.tempolemon_threads.specs.Calls.{IsMkdirCmd, IsRmdirCmd, IsWriteCmd, ReadsInto, GivesCommand};
 
-use crate::buffers::copy_answers;
 use crate::calling::serve_call;
 use crate::handles::CpuPart;
 use crate::kinds::{NOTHING, REFUSED, TEXT};
 use crate::status::{BUSY, DONE, NOT_LIVE, SMALL_BUFFER};
 use crate::typed_result::TypedResult;
 use control_files::text::MAX_TEXT;
+use host_memory::buffers::copy_answers;
 use mem_system::Cmd;
 use std::alloc::Global;
 use zone_threads::calls::{Call, ReadAnswer, ReadCall};

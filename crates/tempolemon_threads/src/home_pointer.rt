@@ -1,32 +1,37 @@
 //! A pointer to a home under a name, or to nothing.
 
 ghost use Rattle.std.specs.Prelude.{◌≡◌, IsSome, None, Option, Some};
+ghost use Rattle.frame_word.specs.Seats.{KnownTable};
+ghost use Rattle.stock_word.specs.Stock.{KnownStockTable};
 ghost use Rattle.zone_threads.specs.Homes.{KnownHome};
-ghost use Rattle.tempolemon_threads.specs.Owned.{home_coded, home_owns};
+ghost use Rattle.tempolemon_threads.specs.Owned.{frames_coded, home_owns, home_coded, stocks_coded};
 
-use crate::box_parts::BoxParts;
 use cpu_part::BootName;
+use host_memory::box_parts::BoxParts;
 use std::alloc::Global;
 use std::marker::Model;
 use zone_threads::home::Home;
 
-/// A pointer to a home, or to nothing. It has the fields of `RawHome`, under a name. If it is dropped,
-/// what it points to stays in memory.
+/// A pointer to a home, or to nothing, and the tables that the home is of. It has the fields of `RawHome`. Its type
+/// doesn't fix the tables, so a call may pick the name that has them. If it is dropped, what it points to stays in
+/// memory.
 #[derive(Drop)]
-pub struct HomePointer<N: BootName> {
-    pub(crate) ptr: *mut Home<N>,
+pub struct HomePointer<B> {
+    pub(crate) ptr: *mut B,
     pub(crate) alloc: Global,
-    pub ghost home: { Option KnownHome } by { known_coded },
+    pub ghost frames: { KnownTable } by { frames_coded },
+    pub ghost stocks: { KnownStockTable } by { stocks_coded },
+    pub ghost home: { Option KnownHome } by { home_coded },
 }
 
-impl<N: BootName> Model for HomePointer<N> {
-    ghost also_owns = { λ h. home_owns N.row N.frames N.stocks h.alloc h.ptr h.home };
+impl<B> Model for HomePointer<B> {
+    ghost also_owns = { λ h. home_owns B.row h.frames h.stocks h.alloc h.ptr h.home };
 }
 
 impl<N: BootName> HomePointer<N> {
     /// A pointer to nothing.
     pub fn none(alloc: Global) -> HomePointer<N>
-        ensures { result.home ≡ None }
+        ensures { (result.frames ≡ N.frames) × (result.stocks ≡ N.stocks) × (result.home ≡ None) }
     {
         HomePointer {
             ptr: std::ptr::null_mut(),
@@ -36,18 +41,24 @@ impl<N: BootName> HomePointer<N> {
 
     /// A pointer to what is in this box.
     pub fn of(parts: BoxParts<Home<N>, Global>) -> HomePointer<N>
-        ensures { result.home ≡ Some parts.value }
+        ensures { (result.frames ≡ N.frames) × (result.stocks ≡ N.stocks) × (result.home ≡ Some parts.value) }
     {
         let BoxParts { ptr, alloc } = parts;
-        HomePointer { ptr, alloc }
+        HomePointer {
+            ptr: ptr as *mut N,
+            alloc,
+        }
     }
 
     /// The box with what it points to.
     pub fn into_box_parts(self) -> BoxParts<Home<N>, Global>
-        requires some { IsSome self.home }
+        requires { IsSome self.home × (self.frames ≡ N.frames) × (self.stocks ≡ N.stocks) }
         ensures { Some result.value ≡ self.home }
     {
         let HomePointer { ptr, alloc } = self;
-        BoxParts { ptr, alloc }
+        BoxParts {
+            ptr: ptr as *mut Home<N>,
+            alloc,
+        }
     }
 }

@@ -6,14 +6,12 @@
 //! has a status of its own. No call waits.
 //!
 //! A handle has a home of `zone_threads`, which carries the name of its boot's tables (`BootName`). A struct that crosses
-//! to C can't have such a name. So `RawHome` is a pointer to a home in a box, and remembers which tables it is of. Only
-//! `serve_raw`, `call_raw`, `read_raw` and `fork_raw` reach through it: each picks a name and calls plain code.
+//! to C can't have such a name. So `RawHome` is a pointer to a home in a box, and remembers which tables it is of. Each
+//! of `serve_raw`, `call_raw`, `read_raw` and `fork_raw` picks a name that has those tables, and calls plain code. Proved
+//! by hand are only the moves between that pointer, a pointer under a name (`HomePointer`), and the box.
 #![tactic(auto)]
 
-pub mod box_parts;
-mod buffers;
 mod calling;
-pub mod crossing;
 mod frames;
 mod groups;
 mod handle_calls;

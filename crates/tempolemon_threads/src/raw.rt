@@ -3,9 +3,9 @@
 ghost use Rattle.std.specs.Prelude.{◌≡◌, IsSome, IsSomeAnd, None, Option};
 ghost use Rattle.frame_word.specs.Seats.{KnownTable};
 ghost use Rattle.stock_word.specs.Stock.{KnownStockTable};
-ghost use Rattle.zone_threads.specs.Calling.{Calls, AnswersRead};
+ghost use Rattle.zone_threads.specs.Calling.{AnswersRead, Calls};
 ghost use Rattle.zone_threads.specs.Homes.{HasCpu, KnownHome};
-ghost use Rattle.tempolemon_threads.specs.Owned.{frames_coded, home_owns, home_coded, marker, stocks_coded};
+ghost use Rattle.tempolemon_threads.specs.Owned.{brand, frames_coded, home_owns, home_coded, stocks_coded};
 ghost use Rattle.tempolemon_threads.specs.Serving.{ForksRaw, IsFitForHome, OnRawHome, ServesRawHome};
 
 use crate::home_pointer::HomePointer;
@@ -14,10 +14,9 @@ use crate::serving::{fork, serve, serve_call, serve_read};
 use std::alloc::Global;
 use std::marker::{Brand, Model};
 use zone_threads::calls::{Call, CallAnswer, ReadAnswer, ReadCall};
-use zone_threads::home::Home;
 
-/// A pointer to a home, or to nothing, and the tables that the home is of. If it is dropped, what it points to stays in
-/// memory. It may go to another thread.
+/// A pointer to a home, or to nothing, and the tables that the home is of. If it is dropped, what it points to
+/// stays in memory. It may go to another thread.
 #[repr(C)]
 #[derive(Drop)]
 pub struct RawHome {
@@ -25,11 +24,11 @@ pub struct RawHome {
     alloc: Global,
     pub ghost frames: { KnownTable } by { frames_coded },
     pub ghost stocks: { KnownStockTable } by { stocks_coded },
-    pub ghost home: { Option KnownHome } by { known_coded },
+    pub ghost home: { Option KnownHome } by { home_coded },
 }
 
 impl Model for RawHome {
-    ghost also_owns = { λ r. home_owns marker r.frames r.stocks r.alloc r.ptr r.home };
+    ghost also_owns = { λ r. home_owns brand r.frames r.stocks r.alloc r.ptr r.home };
 }
 
 unsafe impl Send for RawHome {}
@@ -39,8 +38,27 @@ impl RawHome {
     pub fn none(alloc: Global) -> RawHome
         ensures { result.home ≡ None }
     {
+        RawHome::of(HomePointer::none(alloc))
+    }
+
+    /// The same pointer, without a name.
+    pub fn of(pointer: HomePointer<Brand>) -> RawHome
+        ensures { (result.frames ≡ pointer.frames) × (result.stocks ≡ pointer.stocks) × (result.home ≡ pointer.home) }
+    {
+        let HomePointer { ptr, alloc } = pointer;
         RawHome {
-            ptr: std::ptr::null_mut(),
+            ptr: ptr as *mut u8,
+            alloc,
+        }
+    }
+
+    /// The same pointer, under a name.
+    pub fn into_pointer(self) -> HomePointer<Brand>
+        ensures { (result.frames ≡ self.frames) × (result.stocks ≡ self.stocks) × (result.home ≡ self.home) }
+    {
+        let RawHome { ptr, alloc } = self;
+        HomePointer {
+            ptr: ptr as *mut Brand,
             alloc,
         }
     }
@@ -52,22 +70,8 @@ pub fn serve_raw(raw: RawHome, request: Request) -> (RawHome, RequestAnswer)
     ensures serves { ServesRawHome raw.frames raw.stocks raw.home request
         result.0.frames result.0.stocks result.0.home result.1 }
 {
-    let RawHome { ptr, alloc } = raw;
-    let (pointer, answer) = serve::<Brand>(
-        HomePointer {
-            ptr: ptr as *mut Home<Brand>,
-            alloc,
-        },
-        request,
-    );
-    let HomePointer { ptr, alloc } = pointer;
-    (
-        RawHome {
-            ptr: ptr as *mut u8,
-            alloc,
-        },
-        answer,
-    )
+    let (pointer, answer) = serve::<Brand>(raw.into_pointer(), request);
+    (RawHome::of(pointer), answer)
 }
 
 /// Serves a call of the home's CPU, as `serve_call` does, under the name that it picks. Only a pointer to the call
@@ -78,22 +82,8 @@ pub fn call_raw(raw: RawHome, call: &Call<'_>) -> (RawHome, CallAnswer)
     ensures serves { OnRawHome (λ from to. Calls raw.frames raw.stocks call.now from to result.1)
         raw.frames raw.stocks raw.home result.0.frames result.0.stocks result.0.home }
 {
-    let RawHome { ptr, alloc } = raw;
-    let (pointer, answer) = serve_call::<Brand>(
-        HomePointer {
-            ptr: ptr as *mut Home<Brand>,
-            alloc,
-        },
-        call,
-    );
-    let HomePointer { ptr, alloc } = pointer;
-    (
-        RawHome {
-            ptr: ptr as *mut u8,
-            alloc,
-        },
-        answer,
-    )
+    let (pointer, answer) = serve_call::<Brand>(raw.into_pointer(), call);
+    (RawHome::of(pointer), answer)
 }
 
 /// Serves a read of a file for the home's CPU, as `serve_read` does, under the name that it picks.
@@ -102,22 +92,8 @@ pub fn read_raw(raw: RawHome, asked: &ReadCall<'_>) -> (RawHome, ReadAnswer)
     ensures serves { OnRawHome (λ from to. AnswersRead raw.frames raw.stocks asked.now from to result.1)
         raw.frames raw.stocks raw.home result.0.frames result.0.stocks result.0.home }
 {
-    let RawHome { ptr, alloc } = raw;
-    let (pointer, answer) = serve_read::<Brand>(
-        HomePointer {
-            ptr: ptr as *mut Home<Brand>,
-            alloc,
-        },
-        asked,
-    );
-    let HomePointer { ptr, alloc } = pointer;
-    (
-        RawHome {
-            ptr: ptr as *mut u8,
-            alloc,
-        },
-        answer,
-    )
+    let (pointer, answer) = serve_read::<Brand>(raw.into_pointer(), asked);
+    (RawHome::of(pointer), answer)
 }
 
 /// A second pointer, to another home of the same zone, as `fork` returns it.
@@ -126,23 +102,15 @@ pub fn fork_raw(raw: RawHome, heap: Global) -> (RawHome, RawHome, Forked)
     ensures forks { ForksRaw raw.frames raw.stocks raw.home result.0.frames result.0.stocks result.0.home
         result.1.frames result.1.stocks result.1.home result.2 }
 {
-    let RawHome { ptr, alloc } = raw;
-    let (first, second, forked) = fork::<Brand>(
-        HomePointer {
-            ptr: ptr as *mut Home<Brand>,
-            alloc,
-        },
-        heap,
-    );
-    let HomePointer { ptr, alloc } = first;
-    let one = RawHome {
-        ptr: ptr as *mut u8,
-        alloc,
-    };
-    let HomePointer { ptr, alloc } = second;
-    let two = RawHome {
-        ptr: ptr as *mut u8,
-        alloc,
-    };
-    (one, two, forked)
+    let (first, second, forked) = fork::<Brand>(raw.into_pointer(), heap);
+    (RawHome::of(first), RawHome::of(second), forked)
+}
+
+fn crosses<T: Send>(value: T) -> T {
+    value
+}
+
+/// Returns a pointer that may go to another thread: that its type is `Send` is proved here.
+pub fn pass_on(raw: RawHome) -> RawHome {
+    crosses(raw)
 }

@@ -3,13 +3,14 @@
 ghost use Rattle.std.specs.Prelude.{◌≡◌, IsSome, IsSomeAnd, None};
 ghost use Rattle.zone_threads.specs.Calling.{Calls, AnswersRead};
 ghost use Rattle.zone_threads.specs.Homes.{HasCpu, HasNoCpu};
-ghost use Rattle.tempolemon_threads.specs.Serving.{Forks, MayBeAskedOfHome, OnHome, ServesHomeRequest};
+ghost use Rattle.tempolemon_threads.specs.Serving.{Forks, IsFitForHome, OnHome, ServesHomeRequest};
+ghost use Rattle.tempolemon_threads.specs.Serving.{home_frames_after, home_stocks_after};
 ghost use Rattle.tempolemon_threads.specs.declared.requests.Request.TheVariants.{End, Enter, Leave, Start, Text};
 
-use crate::box_parts::BoxParts;
 use crate::home_pointer::HomePointer;
 use crate::requests::{Forked, Request, RequestAnswer};
 use cpu_part::BootName;
+use host_memory::box_parts::BoxParts;
 use mem_system::Boot;
 use std::alloc::Global;
 use zone_threads::calls::{Call, CallAnswer, ReadAnswer, ReadCall};
@@ -21,7 +22,10 @@ pub fn serve<N: BootName>(
     pointer: HomePointer<N>,
     request: Request,
 ) -> (HomePointer<N>, RequestAnswer)
-    requires asked { MayBeAskedOfHome N.frames N.stocks pointer.home request }
+    requires fit { IsFitForHome pointer.home request }
+    requires frames { home_frames_after pointer.frames request ≡ N.frames }
+    requires stocks { home_stocks_after pointer.stocks request ≡ N.stocks }
+    ensures named { (result.0.frames ≡ N.frames) × (result.0.stocks ≡ N.stocks) }
     ensures serves { ServesHomeRequest N.frames N.stocks pointer.home request result.0.home result.1 }
 {
     match request {
@@ -40,6 +44,8 @@ pub fn serve_call<N: BootName>(
     call: &Call<'_>,
 ) -> (HomePointer<N>, CallAnswer)
     requires cpu { IsSomeAnd pointer.home HasCpu }
+    requires named { (pointer.frames ≡ N.frames) × (pointer.stocks ≡ N.stocks) }
+    ensures named { (result.0.frames ≡ N.frames) × (result.0.stocks ≡ N.stocks) }
     ensures serves { OnHome (λ from to. Calls N.frames N.stocks call.now from to result.1)
         pointer.home result.0.home }
 {
@@ -54,6 +60,8 @@ pub fn serve_read<N: BootName>(
     asked: &ReadCall<'_>,
 ) -> (HomePointer<N>, ReadAnswer)
     requires cpu { IsSomeAnd pointer.home HasCpu }
+    requires named { (pointer.frames ≡ N.frames) × (pointer.stocks ≡ N.stocks) }
+    ensures named { (result.0.frames ≡ N.frames) × (result.0.stocks ≡ N.stocks) }
     ensures serves { OnHome (λ from to. AnswersRead N.frames N.stocks asked.now from to result.1)
         pointer.home result.0.home }
 {
@@ -68,6 +76,9 @@ pub fn fork<N: BootName>(
     alloc: Global,
 ) -> (HomePointer<N>, HomePointer<N>, Forked)
     requires some { IsSome pointer.home }
+    requires named { (pointer.frames ≡ N.frames) × (pointer.stocks ≡ N.stocks) }
+    ensures named { (result.0.frames ≡ N.frames) × (result.0.stocks ≡ N.stocks) }
+    ensures second { (result.1.frames ≡ N.frames) × (result.1.stocks ≡ N.stocks) }
     ensures forks { Forks pointer.home result.0.home result.1.home result.2 }
 {
     let home = pointer.into_box_parts().into_box();
@@ -83,26 +94,29 @@ pub fn fork<N: BootName>(
 }
 
 fn start<N: BootName>(
-    pointer: HomePointer<N>,
+    _pointer: HomePointer<N>,
     alloc: Global,
     boot: Boot,
 ) -> (HomePointer<N>, RequestAnswer)
-    requires none { pointer.home ≡ None }
+    requires none { _pointer.home ≡ None }
     requires frames { boot.frames ≡ N.frames }
     requires stocks { boot.stocks ≡ N.stocks }
-    ensures serves { ServesHomeRequest N.frames N.stocks pointer.home (Start alloc boot) result.0.home result.1 }
+    ensures named { (result.0.frames ≡ N.frames) × (result.0.stocks ≡ N.stocks) }
+    ensures serves { ServesHomeRequest N.frames N.stocks _pointer.home (Start alloc boot) result.0.home result.1 }
 {
     let Ok(home) = Home::<N>::start(alloc, boot) else {
-        return (pointer, RequestAnswer::NoMemory);
+        return (HomePointer::none(alloc), RequestAnswer::NoMemory);
     };
     match Box::new(alloc, home) {
         Ok(home) => (HomePointer::of(BoxParts::of(home)), RequestAnswer::Started),
-        Err(_) => (pointer, RequestAnswer::NoMemory),
+        Err(_) => (HomePointer::none(alloc), RequestAnswer::NoMemory),
     }
 }
 
 fn enter<N: BootName>(pointer: HomePointer<N>, number: u32) -> (HomePointer<N>, RequestAnswer)
     requires some { IsSome pointer.home }
+    requires named { (pointer.frames ≡ N.frames) × (pointer.stocks ≡ N.stocks) }
+    ensures named { (result.0.frames ≡ N.frames) × (result.0.stocks ≡ N.stocks) }
     ensures serves { ServesHomeRequest N.frames N.stocks pointer.home (Enter number) result.0.home result.1 }
 {
     let mut home = pointer.into_box_parts().into_box();
@@ -117,6 +131,8 @@ fn enter<N: BootName>(pointer: HomePointer<N>, number: u32) -> (HomePointer<N>, 
 
 fn leave<N: BootName>(pointer: HomePointer<N>, alloc: Global) -> (HomePointer<N>, RequestAnswer)
     requires some { IsSome pointer.home }
+    requires named { (pointer.frames ≡ N.frames) × (pointer.stocks ≡ N.stocks) }
+    ensures named { (result.0.frames ≡ N.frames) × (result.0.stocks ≡ N.stocks) }
     ensures serves { ServesHomeRequest N.frames N.stocks pointer.home (Leave alloc) result.0.home result.1 }
 {
     let mut home = pointer.into_box_parts().into_box();
@@ -140,6 +156,8 @@ fn text<N: BootName>(
     asked: TextCall,
 ) -> (HomePointer<N>, RequestAnswer)
     requires cpu { IsSomeAnd pointer.home HasCpu }
+    requires named { (pointer.frames ≡ N.frames) × (pointer.stocks ≡ N.stocks) }
+    ensures named { (result.0.frames ≡ N.frames) × (result.0.stocks ≡ N.stocks) }
     ensures serves { ServesHomeRequest N.frames N.stocks pointer.home (Text alloc asked) result.0.home result.1 }
 {
     let mut home = pointer.into_box_parts().into_box();
@@ -153,6 +171,8 @@ fn text<N: BootName>(
 
 fn end<N: BootName>(pointer: HomePointer<N>, alloc: Global) -> (HomePointer<N>, RequestAnswer)
     requires some { IsSomeAnd pointer.home HasNoCpu }
+    requires named { (pointer.frames ≡ N.frames) × (pointer.stocks ≡ N.stocks) }
+    ensures named { (result.0.frames ≡ N.frames) × (result.0.stocks ≡ N.stocks) }
     ensures serves { ServesHomeRequest N.frames N.stocks pointer.home (End alloc) result.0.home result.1 }
 {
     let home = Box::into_inner(pointer.into_box_parts().into_box());

@@ -4,10 +4,10 @@ ghost use Rattle.zone_threads.specs.declared.texts.TextCall.TheVariants.{Blocks,
 ghost use Rattle.tempolemon_threads.specs.Behind.{part_behind};
 ghost use Rattle.tempolemon_threads.specs.Calls.{ShowsInto, ShowsUnits};
 
-use crate::buffers::copy_answers;
 use crate::handles::CpuPart;
 use crate::status::{BUSY, DONE, NO_MEMORY, NOT_LIVE, SMALL_BUFFER};
 use group_tree::fault::Fault;
+use host_memory::buffers::copy_answers;
 use std::alloc::Global;
 use zone_threads::texts::{TextAnswer, TextCall};
 

@@ -2,7 +2,7 @@
 use Rattle.std.specs.Prelude.{◌≡◌, ◌≤◌, ◌<◌, ℕ, List, length, [], ◌∷◌, ◌++◌, Option, Some, None, IsSome}
 use Rattle.std.specs.Global.{Box}
 use Rattle.std.specs.List.{HoldsAt, swap_remove}
-use Rattle.try_cell.specs.Cells.{KnownChange}
+use Rattle.host_memory.specs.Cells.{KnownChange}
 use Rattle.frame_word.specs.Seats.{KnownTable}
 use Rattle.stock_word.specs.Stock.{KnownStockTable}
 use Rattle.cpu_part.specs.Cpus.{KnownCpu}

@@ -6,12 +6,12 @@ ghost use Rattle.zone_threads.specs.Homes.{HasNoCpu, IfNotEntered, IfNotLeft, Pa
 use crate::behind::Behind;
 use crate::zone::Zone;
 use cpu_part::{BootName, Cpu};
+use host_memory::try_cell::PutBack;
 use mem_system::Boot;
 use std::alloc::{AllocError, Global};
 use std::marker::Model;
 use std::mem::ManuallyDrop;
 use std::sync::Arc;
-use try_cell::PutBack;
 
 /// What a thread has of a zone: the zone, and the part of a CPU, if it took one. All homes of a zone share it, so the CPU
 /// is of that zone.

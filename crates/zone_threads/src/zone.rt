@@ -6,9 +6,9 @@ ghost use Rattle.zone_threads.specs.Homes.{EndsZone};
 use crate::behind::Behind;
 use crate::zone_end::{ZoneEnd, end_parts};
 use cpu_part::{BootName, Tables};
+use host_memory::try_cell::TryCell;
 use mem_system::Boot;
 use std::alloc::{AllocError, Global};
-use try_cell::TryCell;
 
 /// What all threads share.
 pub struct Zone<N: BootName> {

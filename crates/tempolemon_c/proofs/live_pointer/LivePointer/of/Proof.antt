@@ -1,49 +1,13 @@
 -- `of` moves two fields, and the pointer owns what the box owned.
-use mathlib.Core.Path.{◌≡◌, refl, sym, subst}
-use Prim.Native.Nat.{ℕ}
-use mathlib.Core.List.{List, [], ◌∷◌, ◌++◌}
-use seplogic.Ra.Ura.{Ura}
-use mir.Syntax.{Fn, Args, Dict, a_type, dnil, dcons}
-use mir.MapTy.{inst_fn}
-use mir.Val.{Val}
-use base.Logic.{SProp, ent, emp}
-use base.Fml.{Fml, ftrue, fsep, flft}
-use contract.BorrowLft.{◌⊑◌}
-use prog.Memory.{Memory}
-use prog.Routine.{Routine}
-use prog.Wp.{WpFn, Tables}
-use types.Logic.{Logic}
-use contract.Monad.{Fun, fact}
-use contract.Running.{tables, tables_of}
-use sound.WpLaws.{WpFn-mono}
-use types.Kit.{Item, ‵, raw, ◌⊛◌, ◌$◌, ◌∵◌, !, qed, by, move, drop, join, split, rewrite, fsplit, fjoin, suffices, done}
-use types.Part.{whole, sub, agg}
-use types.Run.{stop, fld, no_more, and_then, of_opd, lit, returns, enter}
-use types.ByLocal.{alloc_all, pass_all, free_all, look_at, get, get_in, sets}
-use denote.RattleType.{RattleType}
-use denote.Exit.{yes, no, rest}
-use denote.Param.{bounded, param}
-use denote.RawPtr.{null_ptr}
-use denote.Signature.{plain}
-use denote.Steps.{heard, nothing}
-use denote.Struct.Owning.{shape}
-use denote.Triple.Clauses.{Ended, Clauses}
-use denote.Triple.Spec.{triple_of}
-use denote.Triple.Table.{entered}
-use denote.Triple.Walked.{says, Stays, stay_dropped, walk_of, ends_at, walk_Meets}
-use Rattle.std.specs.Prelude.{Option, None, Some, IsSome}
-use Rattle.std.specs.Box.Ownership.{box_owns}
-use Rattle.core.proofs.alloc.Calls.{Goes-blank, handle_tells}
+use Rattle.host_memory.proofs.Walks.{refl, sym, subst, List, [], ◌∷◌, ◌++◌, Ura, Fn, Args, Dict, a_type, dnil, dcons, inst_fn, Val, SProp, ent, Fml, ftrue, fsep, flft, ◌⊑◌, Memory, Routine, WpFn, Tables, Logic, Fun, fact, tables, tables_of}
+use Rattle.host_memory.proofs.Walks.{WpFn-mono, Item, ⋆, ‵, raw, ◌⊛◌, ◌$◌, ◌∵◌, !, qed, by, move, drop, join, split, fsplit, fjoin, suffices, done, whole, sub, agg, stop, fld, no_more, and_then, of_opd, returns, enter, alloc_all, pass_all}
+use Rattle.host_memory.proofs.Walks.{free_all, look_at, get, get_in, sets, RattleType, no, rest, bounded, param, plain, nothing, shape, Ended, Clauses, triple_of, entered, says, Stays, stay_dropped, walk_of, ends_at, walk_Meets, Some, box_owns}
+use Rattle.host_memory.proofs.Walks.{Goes-blank, ghosts, word, ptr_typed, word_typed, parts_out, parts_in}
 use Rattle.std_heap.specs.contracts.Global as Heap
-use Rattle.std_heap.specs.contracts.GlobalAllocator.TheImpl.{ghosts}
 use Rattle.cpu_part.specs.declared.boot_name.BootName.{Ghosts}
-use Rattle.tempolemon_c.proofs.Moves.{al, word, ptr_typed, word_typed, parts_out, parts_in}
-use Rattle.tempolemon_c.specs.Owned.{live_owns}
-use Rattle.tempolemon_c.specs.Known.{KnownLive}
 use Rattle.tempolemon_c.specs.contracts.live.Live as Live
-use Rattle.tempolemon_c.specs.contracts.box_parts.BoxParts as BoxParts
+use Rattle.host_memory.specs.contracts.box_parts.BoxParts as BoxParts
 use Rattle.tempolemon_c.specs.contracts.live_pointer.LivePointer as LivePointer
-use Rattle.tempolemon_c.specs.contracts.raw.RawBoot as RawBoot
 use Rattle.tempolemon_c.specs.contracts.live_pointer.LivePointer.of as F
 use Rattle.tempolemon_c.specs.contracts.live_pointer.LivePointer.of.Key.{name as #self}
 use Rattle.tempolemon_c.proofs.live_pointer.LivePointer.of.Statement as stated
@@ -63,7 +27,7 @@ module _ (N : RattleType) (g : Ghosts N.Denot) (d : Dict) where
   From = BoxParts.the_row (Live.the_row (param 0 N) g) Heap.the_row ghosts
 
   abbrev To : RattleType
-  To = LivePointer.the_row (param 0 N) g
+  To = LivePointer.the_row (param 0 N)
 
   abbrev stayed : Stays ended.signature.params ended.kept
   stayed = (stay_dropped (plain (λ _. From)) no, tt)
@@ -86,14 +50,15 @@ module _ (N : RattleType) (g : Ghosts N.Denot) (d : Dict) where
         (λ hv ws fa. move ! (2 ∷ []) $ drop ! $
         -- [what the pointer owns; the handle; the tokens]
         let Γ : List (Item 𝓤) = ‵ F₀ ∷ ‵ (Heap.the_row.own_val x.alloc (hv ∷ [])) ∷ ts ∷ [] in
-        by ! (subst (λ (us : List Val). ent 𝓤 (types.Kit.⋆ 𝓛 Γ) (WpFn 𝓤 H 𝓣.C 𝓣.Λ fn' (us ++ []) Post)) (sym ws)
+        by ! (subst (λ (us : List Val). ent 𝓤 (⋆ 𝓛 Γ) (WpFn 𝓤 H 𝓣.C 𝓣.Λ fn' (us ++ []) Post)) (sym ws)
         (qed 𝓛 Γ ∵ enter ! 𝓣.C 𝓣.Λ fn' (word x.ptr hv ∷ []) _ $ alloc_all ! (λ ls. pass_all ! refl (word_typed x.ptr hv fa, tt) $
         sets ! (of_opd ! (get_in ! (fld ! refl (stop !)) (sub ! 0 refl (whole !)))) refl (ptr_typed x.ptr) $
         sets ! (of_opd ! (get_in ! (fld ! refl (stop !)) (sub ! 1 refl (whole !)))) refl fa $
+        sets ! (of_opd ! (get ! refl)) refl (ptr_typed x.ptr) $
         sets ! (agg ! (and_then ! (get ! refl) (and_then ! (get ! refl) (no_more !)))) refl (word_typed x.ptr hv fa) $
         returns ! (look_at ! 0 refl) $ free_all ! refl $
-        parts_in (shape (LivePointer.the_type (param 0 N) g)) ! hv x.ptr x.alloc F₀ $
-        suffices ! _ (ends_at 𝓛 ended stayed held z (word x.ptr hv) (record { ptr = x.ptr; alloc = x.alloc; live = Some x.value }) (rest (From.exit no) x, tt) (tt, tt)) $ says ! refl $
+        parts_in (shape (LivePointer.the_type (param 0 N))) ! hv x.ptr x.alloc F₀ $
+        suffices ! _ (ends_at 𝓛 ended stayed held z (word x.ptr hv) (record { ptr = x.ptr; alloc = x.alloc; frames = g.frames; stocks = g.stocks; live = Some x.value }) (rest (From.exit no) x, tt) (tt, tt)) $ says ! (refl, refl, refl) $
         nothing ! $ nothing ! $ fjoin ! $ join ! $ move ! (1 ∷ 0 ∷ []) $ join ! $ done !))))
 
 pub of_spec : {M : Type 1} → stated.statement M

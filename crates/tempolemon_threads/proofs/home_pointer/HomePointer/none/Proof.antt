@@ -1,49 +1,11 @@
 -- `none` makes a null pointer, which owns nothing.
-use mathlib.Core.Path.{◌≡◌, refl, sym, subst}
-use Prim.Native.Nat.{ℕ}
-use mathlib.Core.List.{List, [], ◌∷◌, ◌++◌}
-use seplogic.Ra.Ura.{Ura}
-use mir.Syntax.{Fn, Args, Dict, a_type, dnil, dcons}
-use mir.MapTy.{inst_fn}
-use mir.Val.{Val}
-use base.Logic.{SProp, ent, emp}
-use base.Fml.{Fml, ftrue, fsep, flft}
-use contract.BorrowLft.{◌⊑◌}
-use prog.Memory.{Memory}
-use prog.Routine.{Routine}
-use prog.Wp.{WpFn, Tables}
-use types.Logic.{Logic}
-use contract.Monad.{Fun, fact}
-use contract.Running.{tables, tables_of}
-use sound.WpLaws.{WpFn-mono}
-use types.Kit.{Item, ‵, raw, ◌⊛◌, ◌$◌, ◌∵◌, !, qed, by, move, drop, join, split, rewrite, fsplit, fjoin, suffices, done}
-use types.Part.{whole, sub, agg}
-use types.Run.{stop, fld, no_more, and_then, of_opd, lit, returns, enter}
-use types.ByLocal.{alloc_all, pass_all, free_all, look_at, get, get_in, sets}
-use denote.RattleType.{RattleType}
-use denote.Exit.{yes, no, rest}
-use denote.Param.{bounded, param}
-use denote.RawPtr.{null_ptr}
-use denote.Signature.{plain}
-use denote.Steps.{heard, nothing}
-use denote.Struct.Owning.{shape}
-use denote.Triple.Clauses.{Ended, Clauses}
-use denote.Triple.Spec.{triple_of}
-use denote.Triple.Table.{entered}
-use denote.Triple.Walked.{says, Stays, stay_dropped, walk_of, ends_at, walk_Meets}
-use Rattle.std.specs.Prelude.{Option, None, Some, IsSome}
-use Rattle.std.specs.Box.Ownership.{box_owns}
-use Rattle.core.proofs.alloc.Calls.{Goes-blank, handle_tells}
+use Rattle.host_memory.proofs.Walks.{refl, sym, subst, List, [], ◌∷◌, ◌++◌, Ura, Fn, Args, Dict, a_type, dnil, dcons, inst_fn, Val, SProp, ent, ftrue, fsep, flft, ◌⊑◌, Memory, Routine, WpFn, Tables, Logic, Fun, fact, tables, tables_of}
+use Rattle.host_memory.proofs.Walks.{WpFn-mono, Item, ⋆, ‵, raw, ◌⊛◌, ◌$◌, ◌∵◌, !, qed, by, move, drop, join, split, fsplit, fjoin, suffices, done, agg, no_more, and_then, lit, returns, enter, alloc_all, pass_all, free_all, look_at, get, sets}
+use Rattle.host_memory.proofs.Walks.{RattleType, yes, rest, bounded, param, null_ptr, plain, nothing, shape, Ended, Clauses, triple_of, entered, says, Stays, stay_dropped, walk_of, ends_at, walk_Meets, None, Goes-blank, handle_tells, al, word}
+use Rattle.host_memory.proofs.Walks.{word_typed, parts_in}
 use Rattle.std_heap.specs.contracts.Global as Heap
-use Rattle.std_heap.specs.contracts.GlobalAllocator.TheImpl.{ghosts}
 use Rattle.cpu_part.specs.declared.boot_name.BootName.{Ghosts}
-use Rattle.tempolemon_threads.proofs.Moves.{al, word, ptr_typed, word_typed, parts_out, parts_in}
-use Rattle.tempolemon_threads.specs.Owned.{home_owns}
-use Rattle.zone_threads.specs.Homes.{KnownHome}
-use Rattle.zone_threads.specs.contracts.home.Home as Home
-use Rattle.tempolemon_threads.specs.contracts.box_parts.BoxParts as BoxParts
 use Rattle.tempolemon_threads.specs.contracts.home_pointer.HomePointer as HomePointer
-use Rattle.tempolemon_threads.specs.contracts.raw.RawHome as RawHome
 use Rattle.tempolemon_threads.specs.contracts.home_pointer.HomePointer.none as F
 use Rattle.tempolemon_threads.specs.contracts.home_pointer.HomePointer.none.Key.{name as #self}
 use Rattle.tempolemon_threads.proofs.home_pointer.HomePointer.none.Statement as stated
@@ -63,7 +25,7 @@ module _ (N : RattleType) (g : Ghosts N.Denot) (d : Dict) where
   From = Heap.the_row
 
   abbrev To : RattleType
-  To = HomePointer.the_row (param 0 N) g
+  To = HomePointer.the_row (param 0 N)
 
   abbrev stayed : Stays ended.signature.params ended.kept
   stayed = (stay_dropped (plain (λ _. From)) yes, tt)
@@ -83,12 +45,12 @@ module _ (N : RattleType) (g : Ghosts N.Denot) (d : Dict) where
         move ! (1 ∷ []) $ split ! $ drop ! $ drop ! $ split ! $ move ! (1 ∷ []) $ fsplit ! $
         handle_tells al ! x z.0.4.0 (λ hv ws fa. move ! (1 ∷ []) $ drop ! $
         let Γ : List (Item 𝓤) = ‵ (Heap.the_row.own_val x (hv ∷ [])) ∷ ts ∷ [] in
-        by ! (subst (λ (us : List Val). ent 𝓤 (types.Kit.⋆ 𝓛 Γ) (WpFn 𝓤 H 𝓣.C 𝓣.Λ fn' (us ++ []) Post)) (sym ws)
+        by ! (subst (λ (us : List Val). ent 𝓤 (⋆ 𝓛 Γ) (WpFn 𝓤 H 𝓣.C 𝓣.Λ fn' (us ++ []) Post)) (sym ws)
         (qed 𝓛 Γ ∵ enter ! 𝓣.C 𝓣.Λ fn' (hv ∷ []) _ $ alloc_all ! (λ ls. pass_all ! refl (fa, tt) $
         sets ! (agg ! (and_then ! (lit ! tt) (and_then ! (get ! refl) (no_more !)))) refl (word_typed null_ptr hv fa) $
         returns ! (look_at ! 0 refl) $ free_all ! refl $
-        nothing ! $ parts_in (shape (HomePointer.the_type (param 0 N) g)) ! hv null_ptr x ftrue $
-        suffices ! _ (ends_at 𝓛 ended stayed held z (word null_ptr hv) (record { ptr = null_ptr; alloc = x; home = None }) (rest (From.exit yes) x, tt) (tt, tt)) $ says ! refl $
+        nothing ! $ parts_in (shape (HomePointer.the_type (param 0 N))) ! hv null_ptr x ftrue $
+        suffices ! _ (ends_at 𝓛 ended stayed held z (word null_ptr hv) (record { ptr = null_ptr; alloc = x; frames = g.frames; stocks = g.stocks; home = None }) (rest (From.exit yes) x, tt) (tt, tt)) $ says ! (refl, refl, refl) $
         nothing ! $ nothing ! $ fjoin ! $ join ! $ move ! (1 ∷ 0 ∷ []) $ join ! $ done !))))
 
 pub none_spec : {M : Type 1} → stated.statement M

@@ -1,0 +1,3 @@
+pub mod Sends
+pub mod Walks
+mod Steps
