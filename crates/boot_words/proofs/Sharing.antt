@@ -9,7 +9,9 @@ use Rattle.frame_word.proofs.Swap.{rule_carries}
 use Rattle.stock_word.specs.declared.view.StockView.{StockView}
 use Rattle.stock_word.proofs.Keeps.{same_keeps}
 use Rattle.step_rules.specs.State.{Zone}
-use Rattle.boot_words.specs.Rule.{BootView, OfFrames, OfStocks, OfRun, AllOf, AllViews, BootRule, FitsRun, frames_in, past_of, stocks_in, words_in}
+use Rattle.boot_words.specs.declared.view.BootView.{BootView}
+use Rattle.boot_words.specs.declared.view.BootView.TheVariants.{OfFrames, OfStocks, OfRun}
+use Rattle.boot_words.specs.Rule.{AllOf, AllViews, BootRule, FitsRun, frames_in, past_of, stocks_in, words_in}
 use Rattle.boot_words.specs.Seating.{Deals, EndHasRun, JoinIsAllowed, SplitIsAllowed}
 use Rattle.boot_words.proofs.Seats.{all_at, all_set}
 

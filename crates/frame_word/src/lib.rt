@@ -26,4 +26,5 @@ pub use closed::ClosedWords;
 pub use frame::Frame;
 pub use kinds::{MARK_BASE, MAX_REFERENCES};
 pub use seat::FrameSeat;
+pub use view::{FrameNote, FrameView};
 pub use words::FrameWords;
