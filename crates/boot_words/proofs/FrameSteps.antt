@@ -5,7 +5,7 @@ use Rattle.std.proofs.lemmas.List.{set-get_or}
 use Rattle.std.proofs.lemmas.Bool.{true≢false}
 use mathlib.Core.Option.{some}
 use lib.ListN.{get_elem?}
-use Rattle.seat_sums.specs.Totals.{sum_over}
+use Rattle.frame_word.specs.Totals.{sum_over}
 use Rattle.frame_word.specs.ReferenceRule.{ReferenceRule}
 use Rattle.stock_word.specs.declared.view.StockView.{StockView}
 use Rattle.stock_word.specs.StockRule.{StockRule}

@@ -2,8 +2,8 @@
 use Rattle.std.proofs.Common.{◌≡◌, ◌≢◌, ℕ, ◌+◌, ◌≤◌, Bool, true, false, List, [], ◌∷◌, ◌++◌, cond, set, refl, ap, sym, ◌∙◌, arith, append_assoc, eq-eqb}
 use mathlib.Core.Option.{some}
 use lib.ListN.{get_elem?}
-use Rattle.seat_sums.specs.Totals.{sum_over, total_over}
-use Rattle.seat_sums.proofs.Totals.{sum_below, sum_plus, total_below, total_plus}
+use Rattle.frame_word.specs.Totals.{sum_over, total_over}
+use Rattle.frame_word.proofs.Totals.{sum_below, sum_plus, total_below, total_plus}
 use Rattle.step_rules.specs.declared.step.Step.{Step}
 use Rattle.step_rules.specs.declared.step.Answer.{Answer}
 use Rattle.step_rules.specs.After.{Run}

@@ -4,7 +4,7 @@ use Rattle.std.specs.Prelude.{slice_index}
 use Rattle.std.proofs.lemmas.Bool.{cases_eq, cond-false, cond-true, ne_eqb}
 use mathlib.Core.Option.{none}
 use Rattle.atomic_table.specs.Table.{Me, step}
-use Rattle.seat_sums.specs.Totals.{sum_over}
+use Rattle.frame_word.specs.Totals.{sum_over}
 use Rattle.frame_word.specs.declared.view.FrameView.{FrameView}
 use Rattle.frame_word.specs.Views.{note_of}
 use Rattle.frame_word.specs.Kinds.{by_one, puts, rule_of}

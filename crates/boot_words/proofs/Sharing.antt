@@ -2,8 +2,8 @@
 use Rattle.std.proofs.Common.{◌≡◌, ℕ, zero, suc, ◌+◌, ◌≤◌, List, [], ◌∷◌, ◌++◌, map, set, refl, ap, sym, ◌∙◌, subst, arith, inl, inr}
 use lib.ListN.{get_elem?}
 use Rattle.atomic_table.proofs.Lists.{at_map}
-use Rattle.seat_sums.specs.Totals.{SameTotals, join_of, split_of, sum_over, total_over}
-use Rattle.seat_sums.proofs.Totals.{join_totals, total_more, total_set}
+use Rattle.frame_word.specs.Totals.{SameTotals, join_of, split_of, sum_over, total_over}
+use Rattle.frame_word.proofs.Totals.{join_totals, total_more, total_set}
 use Rattle.frame_word.specs.declared.view.FrameView.{FrameView}
 use Rattle.frame_word.proofs.Swap.{rule_carries}
 use Rattle.stock_word.specs.declared.view.StockView.{StockView}

@@ -7,7 +7,7 @@ use Rattle.std.proofs.lemmas.Bool.{true≢false}
 use mathlib.Core.Option.{some}
 use lib.ListN.{get_elem?}
 use Rattle.atomic_table.proofs.Lists.{at_map, set_again}
-use Rattle.seat_sums.specs.Totals.{sum_over}
+use Rattle.frame_word.specs.Totals.{sum_over}
 use Rattle.frame_word.specs.declared.view.FrameView.{FrameView}
 use Rattle.frame_word.specs.ReferenceRule.{ReferenceRule}
 use Rattle.stock_word.specs.StockRule.{StockRule, report_index, stock_index}

@@ -1,6 +1,6 @@
 -- Views of one kind among those of a seat.
 use Rattle.std.proofs.Common.{◌≡◌, ℕ, ◌+◌, List, [], ◌∷◌, ◌++◌, map, refl, ap, sym, ◌∙◌}
-use Rattle.seat_sums.specs.Totals.{sum_over}
+use Rattle.frame_word.specs.Totals.{sum_over}
 use Rattle.frame_word.specs.declared.view.FrameView.{FrameView}
 use Rattle.stock_word.specs.declared.view.StockView.{StockView}
 use Rattle.step_rules.specs.After.{Run}

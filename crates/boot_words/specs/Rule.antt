@@ -1,7 +1,7 @@
 -- The rule of one table that has all words of a boot.
 use Rattle.std.specs.Prelude.{◌≡◌, ℕ, ◌+◌, ◌*◌, ◌≤◌, ◌==◌, cond, false, List, [], ◌∷◌, map, take, drop}
 use Rattle.atomic_table.specs.Table.{State}
-use Rattle.seat_sums.specs.Totals.{total_over}
+use Rattle.frame_word.specs.Totals.{total_over}
 use Rattle.frame_word.specs.declared.view.FrameView.{FrameView}
 use Rattle.frame_word.specs.ReferenceRule.{ReferenceRule}
 use Rattle.stock_word.specs.declared.view.StockView.{StockView}

@@ -18,6 +18,7 @@ pub mod laws;
 mod pairs;
 mod references;
 mod seat;
+pub mod totals;
 mod view;
 mod words;
 
