@@ -23,7 +23,7 @@ use Rattle.boot_words.specs.declared.view.Past.{Past}
 use Rattle.boot_words.specs.declared.view.BootView.{BootView}
 use Rattle.boot_words.specs.declared.view.BootView.TheVariants.{OfFrames, OfStocks, OfRun}
 use Rattle.boot_words.specs.Seating.{no_past}
-use Rattle.boot_words.specs.Seats.{zone_of}
+use Rattle.boot_words.specs.Seats.{zone_of_boot}
 use Rattle.boot_words.specs.Allowed.{GrewBy}
 use Rattle.boot_words.specs.Held.{HoldsLock, local_seen}
 
@@ -57,7 +57,7 @@ pub record IsCpuPast (t : KnownTable) (s : KnownPasts) : Type 0 where
 
 -- the step is legal at the CPU's own last step
 abbrev pub MayDo : KnownTable → KnownPasts → Action → Type 0
-MayDo t s action = is_legal (state_of (zone_of t) (own_past s).seen) (own_past s).number action ≡ true
+MayDo t s action = is_legal (state_of (zone_of_boot t) (own_past s).seen) (own_past s).number action ≡ true
 
 -- the CPU has made the step, with this answer
 pub record Does (s : KnownPasts) (action : Action) (answer : Answer) (s' : KnownPasts) : Type 0 where
@@ -113,25 +113,25 @@ abbrev pub cpu_past : KnownPasts → Past
 cpu_past s = second_past s.pasts
 
 -- what the lock's holder sees
-abbrev pub local_of : KnownTable → KnownPasts → State
-local_of t s = local_seen (zone_of t) (cpu_past s)
+abbrev pub local_by_pasts : KnownTable → KnownPasts → State
+local_by_pasts t s = local_seen (zone_of_boot t) (cpu_past s)
 
 -- the seat has the zone's past and that of the CPU that holds the lock
 pub record IsHeld (t : KnownTable) (s : KnownPasts) : Type 0 where
   pub table_is : s.table ≡ t.table
   pub both : s.pasts ≡ own_past s ∷ cpu_past s ∷ []
-  pub holds : HoldsLock (zone_of t) (own_past s) (cpu_past s) (local_of t s)
+  pub holds : HoldsLock (zone_of_boot t) (own_past s) (cpu_past s) (local_by_pasts t s)
 
 -- the step is legal in what the lock's holder sees
 abbrev pub MayMake : KnownTable → KnownPasts → ℕ → Action → Type 0
-MayMake t s seat action = is_legal (local_of t s) seat action ≡ true
+MayMake t s seat action = is_legal (local_by_pasts t s) seat action ≡ true
 
 -- the step was made under the lock, with this answer
-pub record Makes (t : KnownTable) (s : KnownPasts) (seat : ℕ) (action : Action) (answer : Answer) (s' : KnownPasts) : Type 0 where
+pub record MakesStep (t : KnownTable) (s : KnownPasts) (seat : ℕ) (action : Action) (answer : Answer) (s' : KnownPasts) : Type 0 where
   pub zone_grew : GrewBy (own_past s) (record { seat = seat; action = action }) answer (own_past s')
   pub cpu_grew : GrewBy (cpu_past s) (record { seat = seat; action = action }) answer (cpu_past s')
   pub held : IsHeld t s'
-  pub local_is : local_of t s' ≡ after (local_of t s) seat action answer
+  pub local_is : local_by_pasts t s' ≡ after (local_by_pasts t s) seat action answer
 
 -- the seat is that of the CPU that holds the lock, by its number
 abbrev pub IsHolder : KnownPasts → ℕ → Type 0

@@ -18,7 +18,7 @@ pub mod laws;
 mod pairs;
 mod references;
 mod seat;
-pub mod totals;
+pub mod seat_totals;
 mod view;
 mod words;
 
