@@ -9,7 +9,7 @@ use std::process::Abort;
 use zone_blocks::areas::FreeAreas;
 use zone_blocks::block::Block;
 use zone_blocks::order::Order;
-use zone_buddy::buddy::Buddy;
+use zone_blocks::buddy::Buddy;
 
 // The calls that the README shows.
 #[test]

@@ -16,10 +16,10 @@ use Rattle.step_rules.specs.declared.step.Answer.TheVariants.{Done, Missed}
 use Rattle.step_rules.specs.State.{Zone}
 use Rattle.run_words.specs.Words.{Words, with_frame_word}
 use Rattle.run_words.specs.Steps.{ChangesWords, frame_word_at}
-use Rattle.boot_words.specs.Rule.{words_in}
+use Rattle.boot_words.specs.Rule.{frame_base, words_in}
 use Rattle.boot_words.specs.Allowed.{put_answer_at}
 use Rattle.boot_words.specs.Held.{FreezeIsAllowed, HeldPutIsAllowed, freeze_answer}
-use Rattle.boot_words.proofs.Parts.{count_low, frame_reads}
+use Rattle.boot_words.proofs.Parts.{frame_reads}
 use Rattle.boot_words.proofs.Putting.{at_least_one, less_one, put_changes}
 use Rattle.boot_words.proofs.Storing.{frame_under_lock}
 
@@ -36,19 +36,19 @@ freeze_changes zone words seat f count n is =
 pub freeze_is_allowed : {S : Type 0} → FreezeIsAllowed S
 freeze_is_allowed {S} zone slots id f count z c local v holds legal inside low high =
     frame_under_lock zone slots id f (λ n. either (eqb n count) 0 n) z c local (v ∷ []) _ (freeze_answer count) (by_one freezes (step slots f count 0 none) (v ∷ [], []))
-    holds (inl refl) refl legal (count_low zone f inside)
-    (λ s k at small m told. freeze_changes zone (words_in zone s.words) 0 f count (slice_index s.words f) (frame_reads zone f (count_low zone f inside) s.words))
+    holds (inl refl) refl legal
+    (λ s k at small m told. freeze_changes zone (words_in zone s.words) 0 f count (slice_index s.words (frame_base zone + f)) (frame_reads zone f s.words))
     (λ found m told. ap (λ (x : Me S (List FrameView)). x.1) told.1)
     (freezes_at zone.frames zone.cpus slots id v f inside count low high)
 
 pub held_put_is_allowed : {S : Type 0} → HeldPutIsAllowed S
 held_put_is_allowed {S} zone slots id f seat z c local v holds own legal inside some =
     frame_under_lock zone slots id f (λ n. (n + (2 ^ 64 - 1)) % 2 ^ 64) z c local (v ∷ []) _ put_answer_at (by_one puts (step slots f 1 0 none) (v ∷ [], []))
-    holds own refl legal (count_low zone f inside)
+    holds own refl legal
     (λ s k at small m told.
-    let n = slice_index s.words f in
+    let n = slice_index s.words (frame_base zone + f) in
     let positive : 1 ≤ n = at_least_one (note_of v f).references n some told.2.0 in
     subst (λ x. ChangesWords zone (words_in zone s.words) seat (Put f) (put_answer_at n) (with_frame_word (words_in zone s.words) f x)) (sym (less_one n positive small))
-    (put_changes zone (words_in zone s.words) seat f n (frame_reads zone f (count_low zone f inside) s.words) positive))
+    (put_changes zone (words_in zone s.words) seat f n (frame_reads zone f s.words) positive))
     (λ found m told. ap (λ (x : Me S (List FrameView)). x.1) told.1)
     (puts_at zone.frames zone.cpus slots id v f inside some)

@@ -1,5 +1,5 @@
 -- The two atomic steps of a get are allowed by the rule of the one table.
-use Rattle.std.proofs.Common.{◌≡◌, ℕ, eqb, ◌+◌, ◌<◌, ◌≤◌, ◌==◌, ◌&&◌, Bool, true, false, List, [], ◌∷◌, ◌++◌, cond, take, refl, ap, sym, ◌∙◌, subst, set}
+use Rattle.std.proofs.Common.{◌≡◌, ℕ, eqb, ◌+◌, ◌<◌, ◌≤◌, ◌==◌, ◌&&◌, Bool, true, false, List, [], ◌∷◌, ◌++◌, cond, refl, ap, sym, ◌∙◌, subst, set, drop}
 use Rattle.std.specs.Prelude.{nat_le, slice_index}
 use mathlib.Core.Option.{none}
 use prog.Atomic.{either}
@@ -20,12 +20,14 @@ use Rattle.run_words.specs.Words.{Words, IsRunOf, with_frame_word}
 use Rattle.run_words.specs.Steps.{ChangesWords, frame_word_at}
 use Rattle.run_words.proofs.Lasting.{fast_legality_lasts}
 use Rattle.run_words.proofs.Stepping.{words_follow}
-use Rattle.boot_words.specs.Rule.{BootView, OfFrames, OfRun, AllOf, BootRule, FitsRun, frame_count, frames_in, words_in}
+use Rattle.boot_words.specs.declared.view.BootView.{BootView}
+use Rattle.boot_words.specs.declared.view.BootView.TheVariants.{OfFrames, OfRun}
+use Rattle.boot_words.specs.Rule.{AllOf, BootRule, FitsRun, frame_base, frames_in, words_in}
 use Rattle.boot_words.specs.Allowed.{AddIsAllowed, LookIsAllowed, AddsByOne, LooksByOne}
 use Rattle.boot_words.proofs.Growing.{grown, grown_fits}
 use Rattle.boot_words.proofs.FrameSteps.{frame_kept, frame_step}
 use Rattle.boot_words.proofs.Lifting.{lift}
-use Rattle.boot_words.proofs.Parts.{count_low, frame_is_at, frame_reads, frame_same}
+use Rattle.boot_words.proofs.Parts.{frame_is_at, frame_reads, frame_same}
 use Rattle.boot_words.proofs.Putting.{own_past}
 use Rattle.boot_words.proofs.Seats.{all_at}
 
@@ -54,21 +56,21 @@ held_not_full e = cc
 
 pub look_is_allowed : {S : Type 0} → LookIsAllowed S
 look_is_allowed {S} zone slots id f v p ne inside legal s k homes at small =
-    let n = slice_index s.words f in
+    let n = slice_index s.words (frame_base zone + f) in
     let q = p.number in
     let old : List BootView = OfRun p ∷ OfFrames v ∷ [] in
-    let lifted = lift (rule_of {S = S} zone.frames zone.cpus) (take (frame_count zone)) frames_in slots id f f old (λ m. m)
-    (by_one looks (step slots f 0 0 none) (v ∷ [], [])) (looks_at zone.frames zone.cpus slots id v f inside) (frame_is_at zone f (count_low zone f inside)) s k.frames homes at small in
+    let lifted = lift (rule_of {S = S} zone.frames zone.cpus) (drop (frame_base zone)) frames_in slots id f (frame_base zone + f) old (λ m. m)
+    (by_one looks (step slots f 0 0 none) (v ∷ [], [])) (looks_at zone.frames zone.cpus slots id v f inside) (frame_is_at zone f) s k.frames homes at small in
     let made = lifted.4 in
     let known = (all_at (AllOf (FitsRun k.run)) s.views id old at k.fits).0 in
     let fits : OthersFollow q p.seen k.run = known.goes in
     let legal_now : is_legal (state_of zone k.run) q (Get f) ≡ true = fast_legality_lasts zone p.seen k.run q (Get f) ne k.is.legal fits tt ∙ legal in
     let words = words_in zone s.words in
-    let is : frame_word_at words f ≡ n = frame_reads zone f (count_low zone f inside) s.words in
+    let is : frame_word_at words f ≡ n = frame_reads zone f s.words in
     let made_step : Step = record { seat = q; action = Get f } in
-    let same : with_frame_word words f n ≡ words = frame_same zone f (count_low zone f inside) s.words in
+    let same : with_frame_word words f n ≡ words = frame_same zone f s.words in
     let refused : (answer : Answer) → get_answer n ≡ answer → (answer ≡ Held → ⊥) → ChangesWords zone words q (Get f) answer words
-    → (w : List BootView) × (a : Act S) × Valid s.homes [] a × BootRule zone (set s.words f n) (set s.views id w) × LooksByOne S v p f n (w, carried_after [] a)
+    → (w : List BootView) × (a : Act S) × Valid s.homes [] a × BootRule zone (set s.words (frame_base zone + f) n) (set s.views id w) × LooksByOne S v p f n (w, carried_after [] a)
     = λ answer says other changes.
     let e : Step × Answer = (made_step, answer) in
     let now = words_follow zone words words k.run made_step answer k.is legal_now changes in
@@ -77,7 +79,7 @@ look_is_allowed {S} zone slots id f v p ne inside legal s k homes at small =
       new,
       lifted.1,
       lifted.2,
-      frame_step zone s.words s.views k id f n old new e (count_low zone f inside) at refl (λ m. refl) (own_past p (OfFrames v)) refl (grown_fits k.run p e fits, (tt, tt))
+      frame_step zone s.words s.views k id f n old new e at refl (λ m. refl) (own_past p (OfFrames v)) refl (grown_fits k.run p e fits, (tt, tt))
           (lifted.3 new (sym (ap (λ (m : Me S (List FrameView)). m.0) made.1)))
           (subst (λ (w : Words). IsRunOf zone w (k.run ++ e ∷ [])) (sym same) now),
       record {
@@ -112,24 +114,24 @@ look_is_allowed {S} zone slots id f v p ne inside legal s k homes at small =
 
 pub add_is_allowed : {S : Type 0} → AddIsAllowed S
 add_is_allowed {S} zone slots id f seen v p ne inside low high saw legal s k homes at small =
-    let n = slice_index s.words f in
+    let n = slice_index s.words (frame_base zone + f) in
     let q = p.number in
     let old : List BootView = OfRun p ∷ OfFrames v ∷ [] in
     let x = either (eqb n seen) (seen + 1) n in
-    let lifted = lift (rule_of {S = S} zone.frames zone.cpus) (take (frame_count zone)) frames_in slots id f f old (λ m. either (eqb m seen) (seen + 1) m)
-    (by_one adds (step slots f seen (seen + 1) none) (v ∷ [], [])) (adds_at zone.frames zone.cpus slots id v f inside seen low high saw) (frame_is_at zone f (count_low zone f inside)) s k.frames homes at small in
+    let lifted = lift (rule_of {S = S} zone.frames zone.cpus) (drop (frame_base zone)) frames_in slots id f (frame_base zone + f) old (λ m. either (eqb m seen) (seen + 1) m)
+    (by_one adds (step slots f seen (seen + 1) none) (v ∷ [], [])) (adds_at zone.frames zone.cpus slots id v f inside seen low high saw) (frame_is_at zone f) s k.frames homes at small in
     let made = lifted.4 in
     let known = (all_at (AllOf (FitsRun k.run)) s.views id old at k.fits).0 in
     let fits : OthersFollow q p.seen k.run = known.goes in
     let legal_now : is_legal (state_of zone k.run) q (Get f) ≡ true = fast_legality_lasts zone p.seen k.run q (Get f) ne k.is.legal fits tt ∙ legal in
     let words = words_in zone s.words in
-    let is : frame_word_at words f ≡ n = frame_reads zone f (count_low zone f inside) s.words in
+    let is : frame_word_at words f ≡ n = frame_reads zone f s.words in
     let made_step : Step = record { seat = q; action = Get f } in
     let e : Step × Answer = (made_step, Held) in
     let past = grown p fits.rest e in
     let grew : List BootView = OfRun past ∷ OfFrames made.0 ∷ [] in
     let stays : List BootView = OfRun p ∷ OfFrames made.0 ∷ [] in
-    let F : ℕ → Type 0 = λ word. word ≡ x → (w : List BootView) × (a : Act S) × Valid s.homes [] a × BootRule zone (set s.words f x) (set s.views id w)
+    let F : ℕ → Type 0 = λ word. word ≡ x → (w : List BootView) × (a : Act S) × Valid s.homes [] a × BootRule zone (set s.words (frame_base zone + f) x) (set s.views id w)
     × AddsByOne S v p f seen n (w, carried_after [] a) in
     exchanged n seen (seen + 1) F
     (λ hit word.
@@ -139,7 +141,7 @@ add_is_allowed {S} zone slots id f seen v p ne inside low high saw legal s k hom
       grew,
       lifted.1,
       lifted.2,
-      frame_step zone s.words s.views k id f x old grew e (count_low zone f inside) at refl (λ m. refl) (own_past p (OfFrames v)) refl (grown_fits k.run p e fits, (tt, tt))
+      frame_step zone s.words s.views k id f x old grew e at refl (λ m. refl) (own_past p (OfFrames v)) refl (grown_fits k.run p e fits, (tt, tt))
           (lifted.3 grew (sym (ap (λ (m : Me S (List FrameView)). m.0) made.1)))
           (subst (λ (m : ℕ). IsRunOf zone (with_frame_word words f m) (k.run ++ e ∷ [])) (ap (λ m. m + 1) found ∙ word) now),
       record {

@@ -2,16 +2,18 @@
 use Rattle.std.proofs.Common.{◌≡◌, ◌≢◌, ℕ, ◌+◌, ◌≤◌, Bool, true, false, List, [], ◌∷◌, ◌++◌, cond, set, refl, ap, sym, ◌∙◌, arith, append_assoc, eq-eqb}
 use mathlib.Core.Option.{some}
 use lib.ListN.{get_elem?}
-use Rattle.seat_sums.specs.Totals.{sum_over, total_over}
-use Rattle.seat_sums.proofs.Totals.{sum_below, sum_plus, total_below, total_plus}
+use Rattle.frame_word.specs.Totals.{sum_over, total_over}
+use Rattle.frame_word.proofs.Totals.{sum_below, sum_plus, total_below, total_plus}
 use Rattle.step_rules.specs.declared.step.Step.{Step}
 use Rattle.step_rules.specs.declared.step.Answer.{Answer}
 use Rattle.step_rules.specs.After.{Run}
 use Rattle.step_rules.specs.Laws.{is_of_lock}
 use Rattle.run_words.specs.Runs.{HasNoStepOf, OthersFollow}
 use Rattle.run_words.proofs.Holding.{append_none}
-use Rattle.boot_words.specs.Rule.{SeatPast, BootView, OfFrames, OfStocks, OfRun, AllOf, AllViews, FitsRun, LeavesLock}
-use Rattle.boot_words.specs.Rule.{past_of}
+use Rattle.boot_words.specs.declared.view.Past.{Past}
+use Rattle.boot_words.specs.declared.view.BootView.{BootView}
+use Rattle.boot_words.specs.declared.view.BootView.TheVariants.{OfFrames, OfStocks, OfRun}
+use Rattle.boot_words.specs.Rule.{AllOf, AllViews, FitsRun, LeavesLock, past_of}
 use Rattle.boot_words.proofs.Seats.{seats_set}
 
 none_more : (seat : ℕ) (rest : Run) (e : Step × Answer) → HasNoStepOf seat rest → e.0.seat ≢ seat → HasNoStepOf seat (rest ++ e ∷ [])
@@ -29,7 +31,7 @@ none_locks (x ∷ xs) e all free = (all.0, none_locks xs e all.1 free)
 abbrev pub notes : Bool → ℕ → BootView → ℕ
 notes locks seat u = past_of seat u + cond locks (past_of 0 u) 0
 
-not_of : (seat : ℕ) (p : SeatPast) → past_of seat (OfRun p) ≡ 0 → seat ≢ p.number
+not_of : (seat : ℕ) (p : Past) → past_of seat (OfRun p) ≡ 0 → seat ≢ p.number
 not_of seat p away same = one_not_none (sym (ap (λ b. cond b 1 0) (eq-eqb p.number seat (sym same))) ∙ away)
 
 left_none : (a b : ℕ) → a + b ≡ 0 → a ≡ 0
@@ -38,7 +40,7 @@ left_none a b e = omega arith
 right_none : (a b : ℕ) → a + b ≡ 0 → b ≡ 0
 right_none a b e = omega arith
 
-free_by : (b : Bool) (p : SeatPast) → cond b (past_of 0 (OfRun p)) 0 ≡ 0 → p.number ≡ 0 → b ≡ false
+free_by : (b : Bool) (p : Past) → cond b (past_of 0 (OfRun p)) 0 ≡ 0 → p.number ≡ 0 → b ≡ false
 free_by true p away zone = absurd (not_of 0 p away (sym zone))
 free_by false p away zone = refl
 
@@ -59,10 +61,10 @@ other_fits run e (OfFrames v) away g = tt
 other_fits run e (OfStocks v) away g = tt
 
 -- the past that has noted the step
-abbrev pub grown : SeatPast → Run → Step × Answer → SeatPast
+abbrev pub grown : Past → Run → Step × Answer → Past
 grown p between e = record { number = p.number; seen = (p.seen ++ between) ++ e ∷ [] }
 
-pub grown_fits : (run : Run) (p : SeatPast) (e : Step × Answer) (fits : OthersFollow p.number p.seen run) → FitsRun (run ++ e ∷ []) (OfRun (grown p fits.rest e))
+pub grown_fits : (run : Run) (p : Past) (e : Step × Answer) (fits : OthersFollow p.number p.seen run) → FitsRun (run ++ e ∷ []) (OfRun (grown p fits.rest e))
 grown_fits run p e fits = record {
   goes = record {
     rest = [];

@@ -19,3 +19,8 @@ pub mod Resting
 pub mod Locking
 pub mod Sharing
 pub mod Beginning
+pub mod Parting
+pub mod Told
+pub mod Joining
+pub mod HeldTold
+pub mod StockTold

@@ -22,7 +22,8 @@ use Rattle.run_words.specs.Runs.{OthersFollow}
 use Rattle.run_words.specs.Hidden.{hide, hide_phase, zone_references}
 use Rattle.run_words.specs.Sight.{HasSameLists}
 use Rattle.run_words.proofs.Owning.{lists_are_own}
-use Rattle.boot_words.specs.Rule.{OfFrames, AllOf, FitsRun}
+use Rattle.boot_words.specs.declared.view.BootView.TheVariants.{OfFrames}
+use Rattle.boot_words.specs.Rule.{AllOf, FitsRun}
 use Rattle.boot_words.specs.Held.{joined}
 use Rattle.boot_words.specs.Locks.{LockIsAllowed, UnlockIsAllowed}
 use Rattle.boot_words.proofs.Growing.{grown}

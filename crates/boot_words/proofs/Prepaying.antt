@@ -1,5 +1,5 @@
 -- The exchanges of a consume and of a credit are allowed by the rule of the one table.
-use Rattle.std.proofs.Common.{◌≡◌, ◌≢◌, ℕ, eqb, ◌+◌, ◌<◌, ◌≤◌, true, List, [], ◌∷◌, ◌++◌, drop, map, set, refl, ap, sym, ◌∙◌, subst, arith}
+use Rattle.std.proofs.Common.{◌≡◌, ◌≢◌, ℕ, eqb, ◌+◌, ◌<◌, ◌≤◌, true, List, [], ◌∷◌, ◌++◌, map, set, refl, ap, sym, ◌∙◌, subst, arith, take}
 use Rattle.std.specs.Prelude.{slice_index}
 use mathlib.Core.Option.{none}
 use prog.Atomic.{either}
@@ -24,13 +24,15 @@ use Rattle.run_words.specs.Words.{Words, IsRunOf}
 use Rattle.run_words.specs.Steps.{stock_word_at}
 use Rattle.run_words.proofs.Lasting.{fast_legality_lasts}
 use Rattle.run_words.proofs.Stepping.{words_follow}
-use Rattle.boot_words.specs.Rule.{BootView, OfStocks, OfRun, AllOf, BootRule, FitsRun, stock_base, stocks_in, words_in}
+use Rattle.boot_words.specs.declared.view.BootView.{BootView}
+use Rattle.boot_words.specs.declared.view.BootView.TheVariants.{OfStocks, OfRun}
+use Rattle.boot_words.specs.Rule.{AllOf, BootRule, FitsRun, frame_base, stocks_in, words_in}
 use Rattle.boot_words.specs.Allowed.{BacksByOne, ConsumeIsAllowed, CreditIsAllowed, GrewBy, TakesByOne}
 use Rattle.boot_words.proofs.Growing.{grown, grown_fits}
 use Rattle.boot_words.proofs.Lifting.{lift}
 use Rattle.boot_words.proofs.Putting.{own_past}
 use Rattle.boot_words.proofs.Seats.{all_at}
-use Rattle.boot_words.proofs.StockSteps.{stock_is_at, stock_same, stock_step, with_stocks_at}
+use Rattle.boot_words.proofs.StockSteps.{stock_low, stock_is_at, stock_same, stock_step, with_stocks_at}
 
 above_zero : (a b : ℕ) → a ≢ 0 → a ≡ b → 0 < b
 above_zero a b ne e = omega (arith, ne, e)
@@ -48,32 +50,32 @@ pub consume_is_allowed : {S : Type 0} → ConsumeIsAllowed S
 consume_is_allowed {S} zone slots id g n v p ne same high last legal s k homes at small =
     let q = p.number in
     let i = stock_index q in
-    let j = stock_base zone + i in
-    let found = slice_index s.words j in
+    let low_word = stock_low zone q high in
+    let found = slice_index s.words i in
     let before = word_of (HeldBy g (n + 1)) in
     let after = word_of (HeldBy g n) in
     let x = either (eqb found before) after found in
     let old : List BootView = OfRun p ∷ OfStocks v ∷ [] in
     let low : 0 < v.number = above_zero q v.number ne same in
     let most : v.number ≤ zone.cpus = subst (λ m. m ≤ zone.cpus) same high in
-    let lifted = lift (λ (t : State S (List StockView)). StockRule zone.cpus t.words t.views) (drop (stock_base zone)) stocks_in slots id i j old
+    let lifted = lift (λ (t : State S (List StockView)). StockRule zone.cpus t.words t.views) (take (frame_base zone)) stocks_in slots id i i old
     (λ m. either (eqb m before) after m) (Alone consuming_step (step slots i before after none) (v ∷ [], []))
     (consume_allowed zone.cpus slots id (v ∷ [], []) g n refl low most last i before after (ap stock_index same) refl refl)
-    (stock_is_at zone i) s k.stocks homes at small in
+    (stock_is_at zone i low_word) s k.stocks homes at small in
     let made = lifted.4 in
     let words = words_in zone s.words in
     let fits : OthersFollow q p.seen k.run = (all_at (AllOf (FitsRun k.run)) s.views id old at k.fits).0.goes in
     let legal_now : is_legal (state_of zone k.run) q (Consume g) ≡ true = fast_legality_lasts zone p.seen k.run q (Consume g) ne k.is.legal fits tt ∙ legal in
     let stock = cpu_stock zone.cpus words.stocks (map stocks_in s.views) k.stocks words.stocks id v (at_map stocks_in s.views id old at) low most in
     let fit : HasWord (HeldBy g (n + 1)) = subst HasWord last stock.last_word in
-    let is : stock_word_at words q ≡ found = (stock_is_at zone i).reads s.words in
+    let is : stock_word_at words q ≡ found = (stock_is_at zone i low_word).reads s.words in
     let made_step : Step = record { seat = q; action = Consume g } in
     let new : Answer → List BootView = λ answer. OfRun (grown p fits.rest (made_step, answer)) ∷ OfStocks made.0 ∷ [] in
     let grew : (answer : Answer) → GrewBy p made_step answer (grown p fits.rest (made_step, answer)) = λ answer. record { between = fits.rest; others = fits.others; number = refl; seen = refl } in
-    let rule : (answer : Answer) → IsRunOf zone (with_stocks_at words i x) (k.run ++ (made_step, answer) ∷ []) → BootRule zone (set s.words j x) (set s.views id (new answer))
-    = λ answer now. stock_step zone s.words s.views k id i x old (new answer) (made_step, answer) at refl (λ m. refl) (own_past p (OfStocks v)) refl
+    let rule : (answer : Answer) → IsRunOf zone (with_stocks_at words i x) (k.run ++ (made_step, answer) ∷ []) → BootRule zone (set s.words i x) (set s.views id (new answer))
+    = λ answer now. stock_step zone s.words s.views k id i x old (new answer) (made_step, answer) low_word at refl (λ m. refl) (own_past p (OfStocks v)) refl
     (grown_fits k.run p (made_step, answer) fits, (tt, tt)) (lifted.3 (new answer) (sym (ap (λ (m : Me S (List StockView)). m.0) made.1))) now in
-    let F : ℕ → Type 0 = λ word. word ≡ x → (w : List BootView) × (a : Act S) × Valid s.homes [] a × BootRule zone (set s.words j x) (set s.views id w)
+    let F : ℕ → Type 0 = λ word. word ≡ x → (w : List BootView) × (a : Act S) × Valid s.homes [] a × BootRule zone (set s.words i x) (set s.views id w)
     × TakesByOne S v p g n found (w, carried_after [] a) in
     exchanged found before after F
     (λ hit word.
@@ -112,32 +114,32 @@ pub credit_is_allowed : {S : Type 0} → CreditIsAllowed S
 credit_is_allowed {S} zone slots id f g n v p ne same high last fresh legal s k homes at small =
     let q = p.number in
     let i = stock_index q in
-    let j = stock_base zone + i in
-    let found = slice_index s.words j in
+    let low_word = stock_low zone q high in
+    let found = slice_index s.words i in
     let before = word_of (HeldBy g n) in
     let after = word_of (HeldBy g (n + 1)) in
     let x = either (eqb found before) after found in
     let old : List BootView = OfRun p ∷ OfStocks v ∷ [] in
     let low : 0 < v.number = above_zero q v.number ne same in
     let most : v.number ≤ zone.cpus = subst (λ m. m ≤ zone.cpus) same high in
-    let lifted = lift (λ (t : State S (List StockView)). StockRule zone.cpus t.words t.views) (drop (stock_base zone)) stocks_in slots id i j old
+    let lifted = lift (λ (t : State S (List StockView)). StockRule zone.cpus t.words t.views) (take (frame_base zone)) stocks_in slots id i i old
     (λ m. either (eqb m before) after m) (Alone crediting_step (step slots i before after none) (v ∷ [], []))
     (credit_allowed zone.cpus slots id (v ∷ [], []) g n refl low most last fresh i before after (ap stock_index same) refl refl)
-    (stock_is_at zone i) s k.stocks homes at small in
+    (stock_is_at zone i low_word) s k.stocks homes at small in
     let made = lifted.4 in
     let words = words_in zone s.words in
     let fits : OthersFollow q p.seen k.run = (all_at (AllOf (FitsRun k.run)) s.views id old at k.fits).0.goes in
     let legal_now : is_legal (state_of zone k.run) q (Credit f) ≡ true = fast_legality_lasts zone p.seen k.run q (Credit f) ne k.is.legal fits tt ∙ legal in
     let stock = cpu_stock zone.cpus words.stocks (map stocks_in s.views) k.stocks words.stocks id v (at_map stocks_in s.views id old at) low most in
     let fit : HasWord (HeldBy g n) = subst HasWord last stock.last_word in
-    let is : stock_word_at words q ≡ found = (stock_is_at zone i).reads s.words in
+    let is : stock_word_at words q ≡ found = (stock_is_at zone i low_word).reads s.words in
     let made_step : Step = record { seat = q; action = Credit f } in
     let new : Answer → List BootView = λ answer. OfRun (grown p fits.rest (made_step, answer)) ∷ OfStocks made.0 ∷ [] in
     let grew : (answer : Answer) → GrewBy p made_step answer (grown p fits.rest (made_step, answer)) = λ answer. record { between = fits.rest; others = fits.others; number = refl; seen = refl } in
-    let rule : (answer : Answer) → IsRunOf zone (with_stocks_at words i x) (k.run ++ (made_step, answer) ∷ []) → BootRule zone (set s.words j x) (set s.views id (new answer))
-    = λ answer now. stock_step zone s.words s.views k id i x old (new answer) (made_step, answer) at refl (λ m. refl) (own_past p (OfStocks v)) refl
+    let rule : (answer : Answer) → IsRunOf zone (with_stocks_at words i x) (k.run ++ (made_step, answer) ∷ []) → BootRule zone (set s.words i x) (set s.views id (new answer))
+    = λ answer now. stock_step zone s.words s.views k id i x old (new answer) (made_step, answer) low_word at refl (λ m. refl) (own_past p (OfStocks v)) refl
     (grown_fits k.run p (made_step, answer) fits, (tt, tt)) (lifted.3 (new answer) (sym (ap (λ (m : Me S (List StockView)). m.0) made.1))) now in
-    let F : ℕ → Type 0 = λ word. word ≡ x → (w : List BootView) × (a : Act S) × Valid s.homes [] a × BootRule zone (set s.words j x) (set s.views id w)
+    let F : ℕ → Type 0 = λ word. word ≡ x → (w : List BootView) × (a : Act S) × Valid s.homes [] a × BootRule zone (set s.words i x) (set s.views id w)
     × BacksByOne S v p f g n found (w, carried_after [] a) in
     exchanged found before after F
     (λ hit word.

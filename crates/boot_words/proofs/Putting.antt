@@ -1,10 +1,10 @@
 -- A put is allowed by the rule of the one table.
-use Rattle.std.proofs.Common.{◌≡◌, ◌≢◌, ℕ, ◌+◌, ◌-◌, ◌%◌, ◌^◌, ◌<◌, ◌≤◌, ◌==◌, true, List, [], ◌∷◌, ◌++◌, cond, take, refl, ap, sym, ◌∙◌, subst, arith, inl, inr, eq-eqb}
+use Rattle.std.proofs.Common.{◌≡◌, ◌≢◌, ℕ, ◌+◌, ◌-◌, ◌%◌, ◌^◌, ◌<◌, ◌≤◌, ◌==◌, true, List, [], ◌∷◌, ◌++◌, cond, drop, refl, ap, sym, ◌∙◌, subst, arith, inl, inr, eq-eqb}
 use Rattle.std.specs.Prelude.{slice_index}
 use Rattle.std.proofs.lemmas.Bool.{cases_eq, cond-false, cond-true, ne_eqb}
 use mathlib.Core.Option.{none}
 use Rattle.atomic_table.specs.Table.{Me, step}
-use Rattle.seat_sums.specs.Totals.{sum_over}
+use Rattle.frame_word.specs.Totals.{sum_over}
 use Rattle.frame_word.specs.declared.view.FrameView.{FrameView}
 use Rattle.frame_word.specs.Views.{note_of}
 use Rattle.frame_word.specs.Kinds.{by_one, puts, rule_of}
@@ -21,12 +21,15 @@ use Rattle.run_words.specs.Words.{Words, IsRunOf, with_frame_word}
 use Rattle.run_words.specs.Steps.{ChangesWords, frame_word_at}
 use Rattle.run_words.proofs.Lasting.{fast_legality_lasts}
 use Rattle.run_words.proofs.Stepping.{words_follow}
-use Rattle.boot_words.specs.Rule.{SeatPast, BootView, OfFrames, OfRun, AllOf, FitsRun, frame_count, frames_in, past_of, words_in}
+use Rattle.boot_words.specs.declared.view.Past.{Past}
+use Rattle.boot_words.specs.declared.view.BootView.{BootView}
+use Rattle.boot_words.specs.declared.view.BootView.TheVariants.{OfFrames, OfRun}
+use Rattle.boot_words.specs.Rule.{AllOf, FitsRun, frame_base, frames_in, past_of, words_in}
 use Rattle.boot_words.specs.Allowed.{PutIsAllowed, put_answer_at}
 use Rattle.boot_words.proofs.Growing.{grown, grown_fits}
 use Rattle.boot_words.proofs.FrameSteps.{frame_step}
 use Rattle.boot_words.proofs.Lifting.{lift}
-use Rattle.boot_words.proofs.Parts.{count_low, frame_is_at, frame_reads}
+use Rattle.boot_words.proofs.Parts.{frame_is_at, frame_reads}
 use Rattle.boot_words.proofs.Seats.{all_at}
 
 -- ---- the answer by the word
@@ -61,16 +64,16 @@ own_sum : (a b : ℕ) → a ≡ 1 → 1 ≤ a + (b + 0)
 own_sum a b e = omega arith
 
 -- a seat has its own past
-pub own_past : (p : SeatPast) (u : BootView) → 1 ≤ sum_over (past_of p.number) (OfRun p ∷ u ∷ [])
+pub own_past : (p : Past) (u : BootView) → 1 ≤ sum_over (past_of p.number) (OfRun p ∷ u ∷ [])
 own_past p u = own_sum (past_of p.number (OfRun p)) (past_of p.number u) (ap (λ b. cond b 1 0) (eq-eqb p.number p.number refl))
 
 pub put_is_allowed : {S : Type 0} → PutIsAllowed S
 put_is_allowed {S} zone slots id f v p ne inside some legal s k homes at small =
-    let n = slice_index s.words f in
+    let n = slice_index s.words (frame_base zone + f) in
     let q = p.number in
     let old : List BootView = OfRun p ∷ OfFrames v ∷ [] in
-    let lifted = lift (rule_of {S = S} zone.frames zone.cpus) (take (frame_count zone)) frames_in slots id f f old (λ m. (m + (2 ^ 64 - 1)) % 2 ^ 64)
-    (by_one puts (step slots f 1 0 none) (v ∷ [], [])) (puts_at zone.frames zone.cpus slots id v f inside some) (frame_is_at zone f (count_low zone f inside)) s k.frames homes at small in
+    let lifted = lift (rule_of {S = S} zone.frames zone.cpus) (drop (frame_base zone)) frames_in slots id f (frame_base zone + f) old (λ m. (m + (2 ^ 64 - 1)) % 2 ^ 64)
+    (by_one puts (step slots f 1 0 none) (v ∷ [], [])) (puts_at zone.frames zone.cpus slots id v f inside some) (frame_is_at zone f) s k.frames homes at small in
     let made = lifted.4 in
     let positive : 1 ≤ n = at_least_one (note_of v f).references n some made.2.0 in
     let fits : OthersFollow q p.seen k.run = (all_at (AllOf (FitsRun k.run)) s.views id old at k.fits).0.goes in
@@ -80,13 +83,13 @@ put_is_allowed {S} zone slots id f v p ne inside some legal s k homes at small =
     let e : Step × Answer = (made_step, put_answer_at n) in
     let x = (n + (2 ^ 64 - 1)) % 2 ^ 64 in
     let now = words_follow zone words (with_frame_word words f (n - 1)) k.run made_step (put_answer_at n) k.is legal_now
-    (put_changes zone words q f n (frame_reads zone f (count_low zone f inside) s.words) positive) in
+    (put_changes zone words q f n (frame_reads zone f s.words) positive) in
     let past = grown p fits.rest e in
     let new : List BootView = OfRun past ∷ OfFrames made.0 ∷ [] in (
       new,
       lifted.1,
       lifted.2,
-      frame_step zone s.words s.views k id f x old new e (count_low zone f inside) at refl (λ m. refl) (own_past p (OfFrames v)) refl (grown_fits k.run p e fits, (tt, tt))
+      frame_step zone s.words s.views k id f x old new e at refl (λ m. refl) (own_past p (OfFrames v)) refl (grown_fits k.run p e fits, (tt, tt))
           (lifted.3 new (sym (ap (λ (m : Me S (List FrameView)). m.0) made.1)))
           (subst (λ (m : ℕ). IsRunOf zone (with_frame_word words f m) (k.run ++ e ∷ [])) (sym (less_one n positive small)) now),
       record {

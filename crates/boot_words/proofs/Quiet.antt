@@ -19,18 +19,20 @@ use Rattle.step_rules.specs.Legal.{Allows, IsAnswer, IsCounted}
 use Rattle.step_rules.specs.After.{state_of}
 use Rattle.step_rules.proofs.LocalLaws.{made_allows}
 use Rattle.step_rules.proofs.Own.{own_answer}
-use Rattle.step_rules.proofs.Runs.{sound_run}
+use Rattle.step_rules.proofs.Runs.{legal_more, sound_run}
 use Rattle.run_words.specs.Runs.{OthersFollow}
 use Rattle.run_words.specs.Steps.{IsPlain}
 use Rattle.run_words.proofs.Plain.{plain_steps_keep_words}
-use Rattle.boot_words.specs.Rule.{SeatPast, BootView, OfFrames, AllOf, BootRule, FitsRun, boot_rule, stock_base}
-use Rattle.boot_words.specs.Rule.{words_in}
+use Rattle.boot_words.specs.declared.view.Past.{Past}
+use Rattle.boot_words.specs.declared.view.BootView.{BootView}
+use Rattle.boot_words.specs.declared.view.BootView.TheVariants.{OfFrames}
+use Rattle.boot_words.specs.Rule.{AllOf, BootRule, FitsRun, boot_rule, words_in}
 use Rattle.boot_words.specs.Held.{PlainIsAllowed, joined}
 use Rattle.boot_words.proofs.Growing.{all_fit_later, grown, grown_fits}
 use Rattle.boot_words.proofs.Parts.{stocks_stay}
 use Rattle.boot_words.proofs.Seats.{all_at, counts_same}
 use Rattle.boot_words.proofs.StockSteps.{frames_stay}
-use Rattle.boot_words.proofs.UnderLock.{has_past, legal_now, same_seen, shows_now}
+use Rattle.boot_words.proofs.UnderLock.{has_past, legal_now, next_holds, shows_now}
 
 plain_counted : (s : State) (action : Action) (answer : Answer) → IsPlain action → IsCounted s action answer
 plain_counted s Lock answer plain = tt
@@ -51,14 +53,13 @@ plain_counted s (Kill g) answer plain = tt
 plain_counted s action answer plain = absurd plain
 
 -- A seat with both pasts makes an allowed plain step behind the run, and both pasts note it.
-pub plain_step : {S : Type 0} (zone : Zone) (s : Board S (List BootView)) (k : boot_rule zone s) (id : ℕ) (z c : SeatPast) (made_step : Step) (answer : Answer)
+pub plain_step : {S : Type 0} (zone : Zone) (s : Board S (List BootView)) (k : boot_rule zone s) (id : ℕ) (z c : Past) (made_step : Step) (answer : Answer)
     → z.number ≡ 0 → (made_step.seat ≡ 0) ⊎ (made_step.seat ≡ c.number) → get_elem? s.views id ≡ some (joined OfFrames z c [])
     → (zone_fits : OthersFollow z.number z.seen k.run) → (fits : OthersFollow c.number c.seen k.run)
     → IsPlain made_step.action → Allows (state_of zone k.run) made_step.seat made_step.action answer
-    → BootRule zone (set s.words (stock_base zone) (slice_index s.words (stock_base zone)))
+    → BootRule zone (set s.words 0 (slice_index s.words 0))
     (set s.views id (joined OfFrames (grown z zone_fits.rest (made_step, answer)) (grown c fits.rest (made_step, answer)) []))
 plain_step zone s k id z c made_step answer zone_is own at zone_fits fits plain ok =
-    let j = stock_base zone in
     let e : Step × Answer = (made_step, answer) in
     let old = joined OfFrames z c [] in
     let new = joined OfFrames (grown z zone_fits.rest e) (grown c fits.rest e) [] in
@@ -71,7 +72,7 @@ plain_step zone s k id z c made_step answer zone_is own at zone_fits fits plain 
       fits = all_fit_later k.run s.views id old new e at k.one_past (has_past z c made_step.seat [] zone_is own) (λ locks. has_past z c 0 [] zone_is (inl refl)) k.fits
           (grown_fits k.run z e zone_fits, (grown_fits k.run c e fits, tt));
     } in
-    subst (λ (l : List ℕ). BootRule zone l (set s.views id new)) (sym (set-get_or s.words j 0)) later
+    subst (λ (l : List ℕ). BootRule zone l (set s.views id new)) (sym (set-get_or s.words 0 0)) later
 
 pub plain_is_allowed : {S : Type 0} → PlainIsAllowed S
 plain_is_allowed {S} zone slots id z c local made_step answer holds plain is_step s k homes at small =
@@ -86,7 +87,9 @@ plain_is_allowed {S} zone slots id z c local made_step answer holds plain is_ste
     own_answer state c.number made_step.seat made_step.action answer (sound_run zone k.run k.is.legal) is_step.own legal
     (subst (λ (l : State). IsAnswer l made_step.seat made_step.action answer) shows.sees is_step.answered) in
     let ok : Allows state made_step.seat made_step.action answer = made_allows state made_step.seat made_step.action answer
-    (record { legal = legal; answered = answered; counted = plain_counted state made_step.action answer plain }) in (
+    (record { legal = legal; answered = answered; counted = plain_counted state made_step.action answer plain }) in
+    let next = next_holds zone k.run z c local made_step answer holds zone_fits fits shows is_step.own is_step.inside
+    (legal_more zone k.run made_step answer k.is.legal ok) in (
       joined OfFrames (grown z zone_fits.rest e) (grown c fits.rest e) [],
       keeps,
       tt,
@@ -99,6 +102,7 @@ plain_is_allowed {S} zone slots id z c local made_step answer holds plain is_ste
         made = tt;
         zone_grew = record { between = zone_fits.rest; others = zone_fits.others; number = refl; seen = refl };
         cpu_grew = record { between = fits.rest; others = fits.others; number = refl; seen = refl };
-        same = same_seen z c k.run e zone_fits fits;
+        holds = next.holds;
+        local_is = next.local_is;
       },
     )

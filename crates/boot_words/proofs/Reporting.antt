@@ -14,14 +14,17 @@ use Rattle.stock_word.proofs.Keeps.{joined_stock}
 use Rattle.stock_word.proofs.Steps.{consuming_held_allowed, reporting_allowed}
 use Rattle.step_rules.specs.declared.step.Answer.TheVariants.{Done, Took}
 use Rattle.step_rules.specs.State.{Zone}
-use Rattle.boot_words.specs.Rule.{SeatPast, BootView, OfStocks, boot_rule, stock_base, stocks_in, words_in}
+use Rattle.boot_words.specs.declared.view.Past.{Past}
+use Rattle.boot_words.specs.declared.view.BootView.{BootView}
+use Rattle.boot_words.specs.declared.view.BootView.TheVariants.{OfStocks}
+use Rattle.boot_words.specs.Rule.{boot_rule, stocks_in, words_in}
 use Rattle.boot_words.specs.Held.{AreViewsOf, joined}
 use Rattle.boot_words.specs.StockHeld.{HeldConsumeIsAllowed, ReportIsAllowed}
-use Rattle.boot_words.proofs.Banking.{stock_under_lock}
-use Rattle.boot_words.proofs.StockSteps.{stock_is_at, with_stocks_at}
+use Rattle.boot_words.proofs.Banking.{stock_under_lock, within}
+use Rattle.boot_words.proofs.StockSteps.{report_low, stock_is_at, stock_low, with_stocks_at}
 
 -- the stock rule's facts of the CPU whose view is joined with the zone's
-stock_of : {S : Type 0} (zone : Zone) (id : ℕ) (z c : SeatPast) (m v : StockView) → AreViewsOf zone c m.number v.number
+stock_of : {S : Type 0} (zone : Zone) (id : ℕ) (z c : Past) (m v : StockView) → AreViewsOf zone c m.number v.number
     → (s : Board S (List BootView)) (k : boot_rule zone s) → get_elem? s.views id ≡ some (joined OfStocks z c (m ∷ v ∷ []))
     → IsStock (slice_index (words_in zone s.words).stocks (stock_index v.number)) (slice_index (words_in zone s.words).stocks (report_index v.number)) (account_of m v.number) v
 stock_of zone id z c m v are s k at =
@@ -34,12 +37,13 @@ small_sum report n fresh pages book balanced bounded few = omega arith
 pub report_is_allowed : {S : Type 0} → ReportIsAllowed S
 report_is_allowed {S} zone slots id n z c local m v holds legal are few =
     let i = report_index c.number in
-    stock_under_lock zone slots id i (λ x. (x + n) % 2 ^ 64) z c local (m ∷ v ∷ []) _ (λ found. Done) (Joined reporting_step (step slots i n 0 none) (m ∷ v ∷ [], []))
+    let low = report_low zone c.number (within zone c m.number v.number are) in
+    stock_under_lock zone slots id i low (λ x. (x + n) % 2 ^ 64) z c local (m ∷ v ∷ []) _ (λ found. Done) (Joined reporting_step (step slots i n 0 none) (m ∷ v ∷ [], []))
     holds (inr refl) refl legal
     (λ s k at small x told.
     let words = words_in zone s.words in
-    let found = slice_index s.words (stock_base zone + i) in
-    let is : slice_index words.stocks i ≡ found = (stock_is_at zone i).reads s.words in
+    let found = slice_index s.words i in
+    let is : slice_index words.stocks i ≡ found = (stock_is_at zone i low).reads s.words in
     let stock = stock_of zone id z c m v are s k at in
     let report : slice_index words.stocks (report_index v.number) ≡ found = ap (λ q. slice_index words.stocks (report_index q)) are.cpu_is ∙ is in
     let balanced : (account_of m v.number).book ≡ stock_pages_of stock.stock + v.fresh + found = stock.balanced ∙ ap (λ r. stock_pages_of stock.stock + v.fresh + r) report in
@@ -56,12 +60,13 @@ held_more g n = omega arith
 pub held_consume_is_allowed : {S : Type 0} → HeldConsumeIsAllowed S
 held_consume_is_allowed {S} zone slots id g z c local m v holds legal are group more =
     let i = stock_index c.number in
-    stock_under_lock zone slots id i (λ x. (x + (2 ^ 64 - 1)) % 2 ^ 64) z c local (m ∷ v ∷ []) _ (λ found. Took)
+    let low = stock_low zone c.number (within zone c m.number v.number are) in
+    stock_under_lock zone slots id i low (λ x. (x + (2 ^ 64 - 1)) % 2 ^ 64) z c local (m ∷ v ∷ []) _ (λ found. Took)
     (Joined consuming_held_step (step slots i 1 0 none) (m ∷ v ∷ [], [])) holds (inr refl) refl legal
     (λ s k at small x told.
     let words = words_in zone s.words in
-    let found = slice_index s.words (stock_base zone + i) in
-    let is : slice_index words.stocks i ≡ found = (stock_is_at zone i).reads s.words in
+    let found = slice_index s.words i in
+    let is : slice_index words.stocks i ≡ found = (stock_is_at zone i low).reads s.words in
     let stock = stock_of zone id z c m v are s k at in
     let held = told.3 in
     let takes = held.consumes in

@@ -2,9 +2,10 @@
 use Rattle.std.proofs.Common.{◌≡◌, ℕ, zero, suc, ◌≤◌, List, [], ◌∷◌, set, ap, sym, subst, arith}
 use mathlib.Core.Option.{some, some-injective, some-ne-none}
 use lib.ListN.{get_elem?}
-use Rattle.seat_sums.specs.Totals.{sum_over, total_over}
-use Rattle.seat_sums.proofs.Totals.{total_member, total_set}
-use Rattle.boot_words.specs.Rule.{BootView, AllOf, AllViews, past_of}
+use Rattle.frame_word.specs.Totals.{sum_over, total_over}
+use Rattle.frame_word.proofs.Totals.{total_member, total_set}
+use Rattle.boot_words.specs.declared.view.BootView.{BootView}
+use Rattle.boot_words.specs.Rule.{AllOf, AllViews, past_of}
 
 pub all_at : {A : Type 0} (P : A → Type 0) (xs : List A) (i : ℕ) (x : A) → get_elem? xs i ≡ some x → AllOf P xs → P x
 all_at P [] i x at all = absurd (some-ne-none x (sym at))

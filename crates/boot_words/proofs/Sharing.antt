@@ -2,14 +2,16 @@
 use Rattle.std.proofs.Common.{◌≡◌, ℕ, zero, suc, ◌+◌, ◌≤◌, List, [], ◌∷◌, ◌++◌, map, set, refl, ap, sym, ◌∙◌, subst, arith, inl, inr}
 use lib.ListN.{get_elem?}
 use Rattle.atomic_table.proofs.Lists.{at_map}
-use Rattle.seat_sums.specs.Totals.{SameTotals, join_of, split_of, sum_over, total_over}
-use Rattle.seat_sums.proofs.Totals.{join_totals, total_more, total_set}
+use Rattle.frame_word.specs.Totals.{SameTotals, join_of, split_of, sum_over, total_over}
+use Rattle.frame_word.proofs.Totals.{join_totals, total_more, total_set}
 use Rattle.frame_word.specs.declared.view.FrameView.{FrameView}
 use Rattle.frame_word.proofs.Swap.{rule_carries}
 use Rattle.stock_word.specs.declared.view.StockView.{StockView}
 use Rattle.stock_word.proofs.Keeps.{same_keeps}
 use Rattle.step_rules.specs.State.{Zone}
-use Rattle.boot_words.specs.Rule.{BootView, OfFrames, OfStocks, OfRun, AllOf, AllViews, BootRule, FitsRun, frames_in, past_of, stocks_in, words_in}
+use Rattle.boot_words.specs.declared.view.BootView.{BootView}
+use Rattle.boot_words.specs.declared.view.BootView.TheVariants.{OfFrames, OfStocks, OfRun}
+use Rattle.boot_words.specs.Rule.{AllOf, AllViews, BootRule, FitsRun, frames_in, past_of, stocks_in, words_in}
 use Rattle.boot_words.specs.Seating.{Deals, EndHasRun, JoinIsAllowed, SplitIsAllowed}
 use Rattle.boot_words.proofs.Seats.{all_at, all_set}
 

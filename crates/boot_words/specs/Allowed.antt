@@ -19,10 +19,13 @@ use Rattle.step_rules.specs.State.{Zone}
 use Rattle.step_rules.specs.Legal.{is_legal, get_answer}
 use Rattle.step_rules.specs.After.{Run, state_of}
 use Rattle.run_words.specs.Runs.{HasNoStepOf}
-use Rattle.boot_words.specs.Rule.{SeatPast, BootView, OfFrames, OfStocks, OfRun, boot_rule, stock_base}
+use Rattle.boot_words.specs.declared.view.Past.{Past}
+use Rattle.boot_words.specs.declared.view.BootView.{BootView}
+use Rattle.boot_words.specs.declared.view.BootView.TheVariants.{OfFrames, OfStocks, OfRun}
+use Rattle.boot_words.specs.Rule.{boot_rule, frame_base}
 
 -- the past has grown by the step with its answer, behind steps of others
-pub record GrewBy (before : SeatPast) (step : Step) (answer : Answer) (later : SeatPast) : Type 0 where
+pub record GrewBy (before : Past) (step : Step) (answer : Answer) (later : Past) : Type 0 where
   pub between : Run
   pub others : HasNoStepOf before.number between
   pub number : later.number ≡ before.number
@@ -33,10 +36,10 @@ abbrev pub put_answer_at : ℕ → Answer
 put_answer_at found = if found == 1 then Last else Left (found - 1)
 
 -- a seat with a view of the frames and its past makes a step of this kind on word f, which is this step of the run
-pub record MadeByOne (S : Type 0) (kind : FrameView → ℕ → ℕ → ℕ → FrameView → Type 0) (v : FrameView) (p : SeatPast) (f : ℕ)
+pub record MadeByOne (S : Type 0) (kind : FrameView → ℕ → ℕ → ℕ → FrameView → Type 0) (v : FrameView) (p : Past) (f : ℕ)
     (step : Step) (answer : Answer) (found : ℕ) (later : Me S (List BootView)) : Type 0 where
   pub view : FrameView
-  pub past : SeatPast
+  pub past : Past
   pub later_is : later ≡ (OfRun past ∷ OfFrames view ∷ [], [])
   pub made : kind v f 1 found view
   pub grew : GrewBy p step answer past
@@ -44,16 +47,16 @@ pub record MadeByOne (S : Type 0) (kind : FrameView → ℕ → ℕ → ℕ → 
 -- A CPU that has a reference by its view takes one off the word by a subtraction. If the put was legal at its own last
 -- step, the table allows it, whatever others did since: the run grows by the put and the answer that the word decides.
 abbrev pub PutIsAllowed : Type 0 → Type 0
-PutIsAllowed S = (zone : Zone) (slots id f : ℕ) (v : FrameView) (p : SeatPast) → p.number ≢ 0 → f < zone.frames
+PutIsAllowed S = (zone : Zone) (slots id f : ℕ) (v : FrameView) (p : Past) → p.number ≢ 0 → f < zone.frames
     → 1 ≤ (note_of v f).references
     → is_legal (state_of zone p.seen) p.number (Put f) ≡ true
-    → Allows {S = S} (boot_rule zone) slots id (OfRun p ∷ OfFrames v ∷ [], []) f (λ n. (n + (2 ^ 64 - 1)) % 2 ^ 64)
+    → Allows {S = S} (boot_rule zone) slots id (OfRun p ∷ OfFrames v ∷ [], []) (frame_base zone + f) (λ n. (n + (2 ^ 64 - 1)) % 2 ^ 64)
     (λ found later. MadeByOne S puts v p f (record { seat = p.number; action = Put f }) (put_answer_at found) found later)
 
 -- a seat loads word f for a get: a word that refuses the get is that step of the run, with the answer that it decides
-pub record LooksByOne (S : Type 0) (v : FrameView) (p : SeatPast) (f found : ℕ) (later : Me S (List BootView)) : Type 0 where
+pub record LooksByOne (S : Type 0) (v : FrameView) (p : Past) (f found : ℕ) (later : Me S (List BootView)) : Type 0 where
   pub view : FrameView
-  pub past : SeatPast
+  pub past : Past
   pub later_is : later ≡ (OfRun past ∷ OfFrames view ∷ [], [])
   pub made : looks v f 0 found view
   pub refused : get_answer found ≢ Held
@@ -62,15 +65,15 @@ pub record LooksByOne (S : Type 0) (v : FrameView) (p : SeatPast) (f found : ℕ
 
 -- The load of a get. If the get was legal at the CPU's own last step, the table allows it, whatever others did since.
 abbrev pub LookIsAllowed : Type 0 → Type 0
-LookIsAllowed S = (zone : Zone) (slots id f : ℕ) (v : FrameView) (p : SeatPast) → p.number ≢ 0 → f < zone.frames
+LookIsAllowed S = (zone : Zone) (slots id f : ℕ) (v : FrameView) (p : Past) → p.number ≢ 0 → f < zone.frames
     → is_legal (state_of zone p.seen) p.number (Get f) ≡ true
-    → Allows {S = S} (boot_rule zone) slots id (OfRun p ∷ OfFrames v ∷ [], []) f (λ n. n) (λ found later. LooksByOne S v p f found later)
+    → Allows {S = S} (boot_rule zone) slots id (OfRun p ∷ OfFrames v ∷ [], []) (frame_base zone + f) (λ n. n) (λ found later. LooksByOne S v p f found later)
 
 -- a seat exchanges word f for a get, from the word that its load saw to one more: that is a get answered Held, or the
 -- exchange found another word, and no step
-pub record AddsByOne (S : Type 0) (v : FrameView) (p : SeatPast) (f seen found : ℕ) (later : Me S (List BootView)) : Type 0 where
+pub record AddsByOne (S : Type 0) (v : FrameView) (p : Past) (f seen found : ℕ) (later : Me S (List BootView)) : Type 0 where
   pub view : FrameView
-  pub past : SeatPast
+  pub past : Past
   pub later_is : later ≡ (OfRun past ∷ OfFrames view ∷ [], [])
   pub made : adds v f seen found view
   pub held : found ≡ seen → GrewBy p (record { seat = p.number; action = Get f }) Held past
@@ -78,17 +81,17 @@ pub record AddsByOne (S : Type 0) (v : FrameView) (p : SeatPast) (f seen found :
 
 -- The exchange of a get. If the get was legal at the CPU's own last step, the table allows it, whatever others did since.
 abbrev pub AddIsAllowed : Type 0 → Type 0
-AddIsAllowed S = (zone : Zone) (slots id f seen : ℕ) (v : FrameView) (p : SeatPast) → p.number ≢ 0 → f < zone.frames
+AddIsAllowed S = (zone : Zone) (slots id f seen : ℕ) (v : FrameView) (p : Past) → p.number ≢ 0 → f < zone.frames
     → 1 ≤ seen → seen < most_references → (note_of v f).seen ≡ seen
     → is_legal (state_of zone p.seen) p.number (Get f) ≡ true
-    → Allows {S = S} (boot_rule zone) slots id (OfRun p ∷ OfFrames v ∷ [], []) f (λ n. either (n == seen) (seen + 1) n)
+    → Allows {S = S} (boot_rule zone) slots id (OfRun p ∷ OfFrames v ∷ [], []) (frame_base zone + f) (λ n. either (n == seen) (seen + 1) n)
     (λ found later. AddsByOne S v p f seen found later)
 
 -- a CPU's seat exchanges its stock word for a consume for g, from n + 1 pages to n: that is a consume answered Took, or, if
 -- the stock is found drained, one answered Drained
-pub record TakesByOne (S : Type 0) (v : StockView) (p : SeatPast) (g n found : ℕ) (later : Me S (List BootView)) : Type 0 where
+pub record TakesByOne (S : Type 0) (v : StockView) (p : Past) (g n found : ℕ) (later : Me S (List BootView)) : Type 0 where
   pub view : StockView
-  pub past : SeatPast
+  pub past : Past
   pub later_is : later ≡ (OfRun past ∷ OfStocks view ∷ [], [])
   pub took : found ≡ word_of (HeldBy g (n + 1)) → Consumes (stock_index p.number) found (word_of (HeldBy g n)) v view
       × GrewBy p (record { seat = p.number; action = Consume g }) Took past
@@ -97,17 +100,17 @@ pub record TakesByOne (S : Type 0) (v : StockView) (p : SeatPast) (g n found : �
 
 -- The exchange of a consume. If it was legal at the CPU's own last step, the table allows it, whatever others did since.
 abbrev pub ConsumeIsAllowed : Type 0 → Type 0
-ConsumeIsAllowed S = (zone : Zone) (slots id g n : ℕ) (v : StockView) (p : SeatPast) → p.number ≢ 0 → p.number ≡ v.number
+ConsumeIsAllowed S = (zone : Zone) (slots id g n : ℕ) (v : StockView) (p : Past) → p.number ≢ 0 → p.number ≡ v.number
     → p.number ≤ zone.cpus → v.last ≡ HeldBy g (n + 1)
     → is_legal (state_of zone p.seen) p.number (Consume g) ≡ true
-    → Allows {S = S} (boot_rule zone) slots id (OfRun p ∷ OfStocks v ∷ [], []) (stock_base zone + stock_index p.number)
+    → Allows {S = S} (boot_rule zone) slots id (OfRun p ∷ OfStocks v ∷ [], []) (stock_index p.number)
     (λ x. either (x == word_of (HeldBy g (n + 1))) (word_of (HeldBy g n)) x) (λ found later. TakesByOne S v p g n found later)
 
 -- a CPU's seat exchanges its stock word for a credit of frame f, from n pages of g to n + 1: that is a credit answered
 -- Stocked, or, if the stock is found drained, one answered Drained
-pub record BacksByOne (S : Type 0) (v : StockView) (p : SeatPast) (f g n found : ℕ) (later : Me S (List BootView)) : Type 0 where
+pub record BacksByOne (S : Type 0) (v : StockView) (p : Past) (f g n found : ℕ) (later : Me S (List BootView)) : Type 0 where
   pub view : StockView
-  pub past : SeatPast
+  pub past : Past
   pub later_is : later ≡ (OfRun past ∷ OfStocks view ∷ [], [])
   pub stocked : found ≡ word_of (HeldBy g n) → Credits (stock_index p.number) found (word_of (HeldBy g (n + 1))) v view
       × GrewBy p (record { seat = p.number; action = Credit f }) Stocked past
@@ -116,8 +119,8 @@ pub record BacksByOne (S : Type 0) (v : StockView) (p : SeatPast) (f g n found :
 
 -- The exchange of a credit. If it was legal at the CPU's own last step, the table allows it, whatever others did since.
 abbrev pub CreditIsAllowed : Type 0 → Type 0
-CreditIsAllowed S = (zone : Zone) (slots id f g n : ℕ) (v : StockView) (p : SeatPast) → p.number ≢ 0 → p.number ≡ v.number
+CreditIsAllowed S = (zone : Zone) (slots id f g n : ℕ) (v : StockView) (p : Past) → p.number ≢ 0 → p.number ≡ v.number
     → p.number ≤ zone.cpus → v.last ≡ HeldBy g n → 0 < v.fresh
     → is_legal (state_of zone p.seen) p.number (Credit f) ≡ true
-    → Allows {S = S} (boot_rule zone) slots id (OfRun p ∷ OfStocks v ∷ [], []) (stock_base zone + stock_index p.number)
+    → Allows {S = S} (boot_rule zone) slots id (OfRun p ∷ OfStocks v ∷ [], []) (stock_index p.number)
     (λ x. either (x == word_of (HeldBy g n)) (word_of (HeldBy g (n + 1))) x) (λ found later. BacksByOne S v p f g n found later)

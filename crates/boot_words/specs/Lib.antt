@@ -5,3 +5,6 @@ pub mod StockHeld
 pub mod Looks
 pub mod Locks
 pub mod Seating
+pub mod Seats
+pub mod Sitting
+pub mod Pasts

@@ -7,47 +7,49 @@ use Rattle.step_rules.specs.declared.step.Answer.TheVariants.{Done}
 use Rattle.step_rules.specs.State.{Zone, State, is_cpu, is_unheld}
 use Rattle.step_rules.specs.Legal.{is_legal}
 use Rattle.step_rules.specs.After.{Run, state_of, IsLegalRun}
-use Rattle.step_rules.specs.Views.{seen_by}
 use Rattle.run_words.specs.Hidden.{hide}
 use Rattle.run_words.specs.Sight.{HasSameLists}
-use Rattle.boot_words.specs.Rule.{SeatPast, BootView, OfFrames, IsPastOf, boot_rule, stock_base}
+use Rattle.boot_words.specs.declared.view.Past.{Past}
+use Rattle.boot_words.specs.declared.view.BootView.{BootView}
+use Rattle.boot_words.specs.declared.view.BootView.TheVariants.{OfFrames}
+use Rattle.boot_words.specs.Rule.{IsPastOf, boot_rule}
 use Rattle.boot_words.specs.Allowed.{GrewBy}
-use Rattle.boot_words.specs.Held.{HoldsLock, joined}
+use Rattle.boot_words.specs.Held.{HoldsLock, joined, local_seen}
 
 -- by this past the lock is free
-abbrev pub LeavesFree : Zone → SeatPast → Type 0
+abbrev pub LeavesFree : Zone → Past → Type 0
 LeavesFree zone z = is_unheld (state_of zone z.seen).hold ≡ true
 
 -- While nobody holds the lock, all steps are fast ones of CPUs. So what is left if every CPU's own part is hidden is as
 -- the zone's past left it.
 abbrev pub ZoneRests : Type 0
-ZoneRests = (zone : Zone) (run : Run) (z : SeatPast) → IsLegalRun zone run → IsPastOf run z → z.number ≡ 0 → LeavesFree zone z
+ZoneRests = (zone : Zone) (run : Run) (z : Past) → IsLegalRun zone run → IsPastOf run z → z.number ≡ 0 → LeavesFree zone z
     → hide (state_of zone run) ≡ hide (state_of zone z.seen)
 
 -- A CPU has taken the lock: both pasts have grown by the step. Hidden parts apart, it finds what the zone's past left, and
 -- its own lists and references are those that its own past left.
-pub record TakesLock (S : Type 0) (zone : Zone) (z c : SeatPast) (later : Me S (List BootView)) : Type 0 where
-  pub zone_past : SeatPast
-  pub cpu_past : SeatPast
+pub record TakesLock (S : Type 0) (zone : Zone) (z c : Past) (later : Me S (List BootView)) : Type 0 where
+  pub zone_past : Past
+  pub cpu_past : Past
   pub later_is : later ≡ (joined OfFrames zone_past cpu_past [], [])
   pub zone_grew : GrewBy z (record { seat = c.number; action = Lock }) Done zone_past
   pub cpu_grew : GrewBy c (record { seat = c.number; action = Lock }) Done cpu_past
-  pub holds : HoldsLock zone zone_past cpu_past (seen_by c.number (state_of zone cpu_past.seen))
+  pub holds : HoldsLock zone zone_past cpu_past (local_seen zone cpu_past)
   pub found : hide (state_of zone zone_past.seen) ≡ record (hide (state_of zone z.seen)) { hold = HeldBy c.number }
   pub own : HasSameLists c.number (state_of zone c.seen) (state_of zone cpu_past.seen)
 
 -- A CPU's past is joined with the zone's, by which the lock is free: the CPU may take the lock, by a load of the word that
 -- nobody writes.
 abbrev pub LockIsAllowed : Type 0 → Type 0
-LockIsAllowed S = (zone : Zone) (slots id : ℕ) (z c : SeatPast) → z.number ≡ 0 → is_cpu zone c.number ≡ true → LeavesFree zone z
-    → Allows {S = S} (boot_rule zone) slots id (joined OfFrames z c [], []) (stock_base zone) (λ n. n)
+LockIsAllowed S = (zone : Zone) (slots id : ℕ) (z c : Past) → z.number ≡ 0 → is_cpu zone c.number ≡ true → LeavesFree zone z
+    → Allows {S = S} (boot_rule zone) slots id (joined OfFrames z c [], []) 0 (λ n. n)
     (λ found later. TakesLock S zone z c later)
 
 -- A CPU has released the lock: both pasts have grown by the step. The lock is free by the zone's past, which leaves what
 -- the CPU saw.
-pub record ReleasesLock (S : Type 0) (zone : Zone) (z c : SeatPast) (local : State) (later : Me S (List BootView)) : Type 0 where
-  pub zone_past : SeatPast
-  pub cpu_past : SeatPast
+pub record ReleasesLock (S : Type 0) (zone : Zone) (z c : Past) (local : State) (later : Me S (List BootView)) : Type 0 where
+  pub zone_past : Past
+  pub cpu_past : Past
   pub later_is : later ≡ (joined OfFrames zone_past cpu_past [], [])
   pub zone_grew : GrewBy z (record { seat = c.number; action = Unlock }) Done zone_past
   pub cpu_grew : GrewBy c (record { seat = c.number; action = Unlock }) Done cpu_past
@@ -57,7 +59,7 @@ pub record ReleasesLock (S : Type 0) (zone : Zone) (z c : SeatPast) (local : Sta
 
 -- An unlock that is legal in what the lock's holder sees, by a load of the word that nobody writes.
 abbrev pub UnlockIsAllowed : Type 0 → Type 0
-UnlockIsAllowed S = (zone : Zone) (slots id : ℕ) (z c : SeatPast) (local : State) → HoldsLock zone z c local
+UnlockIsAllowed S = (zone : Zone) (slots id : ℕ) (z c : Past) (local : State) → HoldsLock zone z c local
     → is_legal local c.number Unlock ≡ true
-    → Allows {S = S} (boot_rule zone) slots id (joined OfFrames z c [], []) (stock_base zone) (λ n. n)
+    → Allows {S = S} (boot_rule zone) slots id (joined OfFrames z c [], []) 0 (λ n. n)
     (λ found later. ReleasesLock S zone z c local later)

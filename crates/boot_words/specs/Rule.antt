@@ -1,7 +1,7 @@
 -- The rule of one table that has all words of a boot.
-use Rattle.std.specs.Prelude.{◌≡◌, ℕ, ◌+◌, ◌*◌, ◌/◌, ◌≤◌, ◌==◌, cond, false, List, [], ◌∷◌, map, take, drop}
+use Rattle.std.specs.Prelude.{◌≡◌, ℕ, ◌+◌, ◌*◌, ◌≤◌, ◌==◌, cond, false, List, [], ◌∷◌, map, take, drop}
 use Rattle.atomic_table.specs.Table.{State}
-use Rattle.seat_sums.specs.Totals.{total_over}
+use Rattle.frame_word.specs.Totals.{total_over}
 use Rattle.frame_word.specs.declared.view.FrameView.{FrameView}
 use Rattle.frame_word.specs.ReferenceRule.{ReferenceRule}
 use Rattle.stock_word.specs.declared.view.StockView.{StockView}
@@ -11,31 +11,18 @@ use Rattle.step_rules.specs.After.{Run}
 use Rattle.step_rules.specs.Laws.{is_of_lock}
 use Rattle.run_words.specs.Runs.{OthersFollow}
 use Rattle.run_words.specs.Words.{Words, IsRunOf}
+use Rattle.boot_words.specs.declared.view.Past.{Past}
+use Rattle.boot_words.specs.declared.view.BootView.{BootView}
+use Rattle.boot_words.specs.declared.view.BootView.TheVariants.{OfFrames, OfStocks, OfRun}
 
--- what a seat knows of the run: the run up to the last step that it noted
-pub record SeatPast : Type 0 where
-  pub number : ℕ
-  pub seen : Run
-
--- A seat's view of the frames, of the stocks, or of the run. A seat has a list of views; those of several seats while they
--- are joined.
-pub data BootView : Type 0 where
-  OfFrames : FrameView → BootView
-  OfStocks : StockView → BootView
-  OfRun : SeatPast → BootView
-
--- the words of frames and visits come first
-abbrev pub frame_count : Zone → ℕ
-frame_count zone = zone.frames + zone.cpus
-
--- the rows of the stocks begin at the next multiple of 16, so that no two CPUs' rows share a cache line. The first word of
--- row 0 is one that nobody writes.
-abbrev pub stock_base : Zone → ℕ
-stock_base zone = 16 * ((frame_count zone + 15) / 16)
+-- The rows of the stocks come first. The first word of row 0 is one that nobody writes: seats that are parted or joined
+-- load it. The words of frames and visits follow.
+abbrev pub frame_base : Zone → ℕ
+frame_base zone = 16 * (zone.cpus + 1)
 
 -- the words of the table, as `run_words` has them
 abbrev pub words_in : Zone → List ℕ → Words
-words_in zone words = record { frames = take (frame_count zone) words; stocks = drop (stock_base zone) words }
+words_in zone words = record { frames = drop (frame_base zone) words; stocks = take (frame_base zone) words }
 
 -- the views of frames alone
 abbrev pub frames_in : List BootView → List FrameView
@@ -64,7 +51,7 @@ LeavesLock (e ∷ run) = (is_of_lock e.0.action ≡ false) × LeavesLock run
 
 -- A past is a beginning of the run, behind which no step of its number follows. Behind the zone's past nobody takes or
 -- releases the lock, so that the zone's past ends with each of these steps.
-pub record IsPastOf (run : Run) (p : SeatPast) : Type 0 where
+pub record IsPastOf (run : Run) (p : Past) : Type 0 where
   pub goes : OthersFollow p.number p.seen run
   pub leaves_lock : p.number ≡ 0 → LeavesLock goes.rest
 

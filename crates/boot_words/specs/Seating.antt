@@ -1,31 +1,34 @@
 -- How the table begins and ends, and how seats are parted and joined.
-use Rattle.std.specs.Prelude.{◌≡◌, ◌⊎◌, ℕ, zero, suc, ◌+◌, ◌*◌, List, [], ◌∷◌, ◌++◌, map, replicate}
+use Rattle.std.specs.Prelude.{◌≡◌, ◌⊎◌, ℕ, zero, suc, ◌+◌, List, [], ◌∷◌, ◌++◌, replicate}
 use Rattle.atomic_table.specs.Table.{Final, Joins, Seen, Splits}
-use Rattle.frame_word.specs.Kinds.{AreFinalFrameWords, first_views}
-use Rattle.stock_word.specs.Stock.{first_cpu_stock_views, first_zone_stock_view}
+use Rattle.frame_word.specs.Kinds.{AreFinalFrameWords}
+use Rattle.frame_word.specs.Seats.{first_cpu_view, first_zone_view}
+use Rattle.stock_word.specs.Stock.{first_cpu_stock_view, first_zone_stock_view}
 use Rattle.stock_word.specs.Kinds.{AreFinalStockWords}
 use Rattle.step_rules.specs.State.{Zone}
 use Rattle.step_rules.specs.After.{Run}
 use Rattle.run_words.specs.Words.{IsRunOf}
-use Rattle.boot_words.specs.Rule.{SeatPast, BootView, OfFrames, OfStocks, OfRun, AllOf, BootRule, FitsRun, boot_rule, frames_in, stock_base, stocks_in, words_in}
+use Rattle.boot_words.specs.declared.view.Past.{Past}
+use Rattle.boot_words.specs.declared.view.BootView.{BootView}
+use Rattle.boot_words.specs.declared.view.BootView.TheVariants.{OfFrames, OfStocks, OfRun}
+use Rattle.boot_words.specs.Rule.{AllOf, BootRule, FitsRun, boot_rule, frame_base, frames_in, stocks_in, words_in}
 
 -- the past of a seat that has noted no step
-abbrev pub no_past : ℕ → SeatPast
+abbrev pub no_past : ℕ → Past
 no_past number = record { number = number; seen = [] }
 
--- n of these, from this number on
-abbrev pub first_pasts : ℕ → ℕ → List SeatPast
-first_pasts number zero = []
-first_pasts number (suc n) = no_past number ∷ first_pasts (number + 1) n
+-- the views of n CPUs at first, from this number on
+abbrev pub cpus_views : ℕ → ℕ → List BootView
+cpus_views cpu zero = []
+cpus_views cpu (suc n) = OfRun (no_past cpu) ∷ OfFrames (first_cpu_view cpu) ∷ OfStocks (first_cpu_stock_view cpu) ∷ cpus_views (cpu + 1) n
 
--- all views at first, which one seat has: a past for the zone and each CPU, and the views of frames and of stocks
+-- all views at first, which one seat has: of the run, the frames and the stocks, for the zone and each CPU
 abbrev pub all_views : Zone → List BootView
-all_views zone = map OfRun (first_pasts 0 (zone.cpus + 1)) ++ (map OfFrames (first_views zone.frames zone.cpus)
-    ++ map OfStocks (first_zone_stock_view ∷ first_cpu_stock_views 1 zone.cpus))
+all_views zone = OfRun (no_past 0) ∷ OfFrames (first_zone_view zone.frames) ∷ OfStocks first_zone_stock_view ∷ cpus_views 1 zone.cpus
 
 -- how many words the table has
 abbrev pub word_count : Zone → ℕ
-word_count zone = stock_base zone + 16 * (zone.cpus + 1)
+word_count zone = frame_base zone + (zone.frames + zone.cpus)
 
 -- The rule holds of words that are all 0 and of one seat with all views. The run has no step.
 abbrev pub RuleOpens : Type 0

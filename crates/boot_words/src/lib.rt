@@ -1,8 +1,21 @@
 //! One table for all words of a boot: its rule holds a legal run of steps between any two atomic steps.
 #![tactic(auto)]
 
+mod hand_over;
 pub mod held;
 pub mod laws;
 pub mod locks;
 pub mod looks;
+mod raw;
+mod references;
+mod seat;
 pub mod seating;
+mod stocks;
+mod view;
+mod word;
+mod zone_frames;
+mod zone_stocks;
+
+pub use raw::BootWords;
+pub use seat::{FrameSeat, PastSeat, StockSeat};
+pub use view::{BootView, Past};

@@ -2,8 +2,8 @@
 use Rattle.std.proofs.Common.{◌≡◌, ◌≢◌, ℕ, ◌+◌, ◌<◌, ◌≤◌, List, get_or, sym, refl, ◌∙◌, inl, inr, arith}
 use mathlib.Core.Logic.{dite}
 use native.Mathlib.Decide.{ℕ_discrete}
-use Rattle.seat_sums.specs.Totals.{total_over}
-use Rattle.seat_sums.proofs.Totals.{total_view, total_below, total_plus}
+use Rattle.frame_word.specs.Totals.{total_over}
+use Rattle.frame_word.proofs.Totals.{total_view, total_below, total_plus}
 use Rattle.frame_word.specs.declared.view.FrameView.{FrameView}
 use Rattle.frame_word.specs.Views.{note_of, in_hands, lent_count}
 use Rattle.frame_word.specs.ReferenceRule.{only, hands_in, lent_in, lent_number, borrowed_in}

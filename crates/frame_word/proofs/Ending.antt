@@ -1,8 +1,8 @@
 -- Serves `close`. The table at the end: one seat has all views, and the rule speaks of these alone.
 use Rattle.std.proofs.Common.{◌≡◌, ℕ, List, [], ◌∷◌, length, map, refl, ap, subst, arith}
 use Rattle.atomic_table.specs.Table.{Final, Seen}
-use Rattle.seat_sums.specs.Totals.{sum_over}
-use Rattle.seat_sums.proofs.Totals.{total_whole}
+use Rattle.frame_word.specs.Totals.{sum_over}
+use Rattle.frame_word.proofs.Totals.{total_whole}
 use Rattle.frame_word.specs.declared.view.FrameView.{FrameView}
 use Rattle.frame_word.specs.ReferenceRule.{ReferenceRule}
 use Rattle.frame_word.specs.Kinds.{rule_of}

@@ -6,8 +6,8 @@ use mathlib.Core.Option.{some}
 use mathlib.Core.Logic.{dite}
 use native.Mathlib.Decide.{ℕ_discrete}
 use lib.ListN.{get_elem?}
-use Rattle.seat_sums.specs.Totals.{total_over}
-use Rattle.seat_sums.proofs.Totals.{total_swap, total_view, total_below, total_plus}
+use Rattle.frame_word.specs.Totals.{total_over}
+use Rattle.frame_word.proofs.Totals.{total_swap, total_view, total_below, total_plus}
 use Rattle.frame_word.specs.declared.view.FrameNote.{FrameNote}
 use Rattle.frame_word.specs.declared.view.FrameView.{FrameView}
 use Rattle.frame_word.specs.Views.{note_of, changed, with_visit, in_hands, lent_count, HasNone, IsHandedOverAt, hand_overs_begun, hand_overs_ended, passed_out_to, took_in}

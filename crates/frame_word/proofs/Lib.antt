@@ -10,3 +10,4 @@ pub mod Seating
 pub mod Opening
 pub mod Ending
 pub mod CallerLemmas
+pub mod Totals

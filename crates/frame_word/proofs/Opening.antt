@@ -5,7 +5,7 @@ use mathlib.Core.Logic.{dite}
 use native.Mathlib.Decide.{ℕ_discrete}
 use Rattle.std.proofs.lemmas.List.{length-replicate, get_or-replicate}
 use Rattle.atomic_table.specs.Seated.{TableId}
-use Rattle.seat_sums.specs.Totals.{sum_over, total_over}
+use Rattle.frame_word.specs.Totals.{sum_over, total_over}
 use Rattle.frame_word.specs.declared.view.FrameNote.{FrameNote}
 use Rattle.frame_word.specs.declared.view.FrameView.{FrameView}
 use Rattle.frame_word.specs.Views.{blank, note_of, in_hands, lent_count}

@@ -2,7 +2,7 @@
 use Rattle.std.proofs.Common.{◌≡◌, ℕ, List, [], ◌∷◌, ◌++◌, refl, ap, ◌∙◌}
 use mathlib.Core.Option.{some}
 use Rattle.atomic_table.specs.Table.{Splits, Joins}
-use Rattle.seat_sums.proofs.Totals.{split_totals, join_totals}
+use Rattle.frame_word.proofs.Totals.{split_totals, join_totals}
 use Rattle.frame_word.specs.declared.view.FrameView.{FrameView}
 use Rattle.frame_word.specs.Kinds.{rule_of, first_alone, but_first}
 use Rattle.frame_word.proofs.Swap.{rule_carries}

@@ -7,8 +7,8 @@ use prog.Atomic.{either}
 use lib.ListN.{get_elem?}
 use Rattle.atomic_table.specs.Table.{step, keeps, Act, Valid, stepped, carried_after, Allows}
 use Rattle.atomic_table.proofs.Lists.{exchanged}
-use Rattle.seat_sums.specs.Totals.{total_over}
-use Rattle.seat_sums.proofs.Totals.{total_swap, total_view}
+use Rattle.frame_word.specs.Totals.{total_over}
+use Rattle.frame_word.proofs.Totals.{total_swap, total_view}
 use Rattle.frame_word.specs.declared.view.FrameNote.{FrameNote}
 use Rattle.frame_word.specs.declared.view.FrameView.{FrameView}
 use Rattle.frame_word.specs.Views.{note_of, changed, in_hands, lent_count, looked, held, raced, put_left, put_last, frozen, missed, unfrozen}

@@ -5,8 +5,8 @@ use mathlib.Core.Option.{some}
 use mathlib.Core.Logic.{dite}
 use native.Mathlib.Decide.{ℕ_discrete}
 use lib.ListN.{get_elem?}
-use Rattle.seat_sums.specs.Totals.{total_over, SameTotals}
-use Rattle.seat_sums.proofs.Totals.{total_swap, total_absent}
+use Rattle.frame_word.specs.Totals.{total_over, SameTotals}
+use Rattle.frame_word.proofs.Totals.{total_swap, total_absent}
 use Rattle.frame_word.specs.declared.view.FrameNote.{FrameNote}
 use Rattle.frame_word.specs.declared.view.FrameView.{FrameView}
 use Rattle.frame_word.specs.Views.{changed, in_hands, lent_count}

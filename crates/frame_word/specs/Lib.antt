@@ -4,3 +4,4 @@ pub mod Seats
 pub mod Kinds
 pub mod Sitting
 pub mod Laws
+pub mod Totals

@@ -2,7 +2,7 @@
 -- f is frame f's: 0, 1 to 255 references, or 256 + cpu while the frame is in transit to or from CPU `cpu`. The visit
 -- word of that CPU is word frames + cpu - 1: 1 while its visit is open, else 0.
 use Rattle.std.specs.Prelude.{◌≡◌, ◌≢◌, ◌⊎◌, ℕ, ◌+◌, ◌-◌, ◌<◌, ◌≤◌, ◌==◌, cond, List, length, slice_index}
-use Rattle.seat_sums.specs.Totals.{total_over}
+use Rattle.frame_word.specs.Totals.{total_over}
 use Rattle.frame_word.specs.declared.view.FrameView.{FrameView}
 use Rattle.frame_word.specs.Views.{note_of, in_hands, lent_count}
 

@@ -21,7 +21,7 @@ impl Frame {
     ghost use Rattle.std.specs.Prelude.{◌≡◌};
 
     /// The frame of this number. The caller sees to it that the zone has it.
-    pub(crate) fn new(number: u32) -> Frame
+    pub fn new(number: u32) -> Frame
         ensures { result ≡ number }
     {
         Frame { number }

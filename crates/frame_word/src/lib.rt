@@ -18,6 +18,7 @@ pub mod laws;
 mod pairs;
 mod references;
 mod seat;
+pub mod totals;
 mod view;
 mod words;
 
@@ -26,4 +27,5 @@ pub use closed::ClosedWords;
 pub use frame::Frame;
 pub use kinds::{MARK_BASE, MAX_REFERENCES};
 pub use seat::FrameSeat;
+pub use view::{FrameNote, FrameView};
 pub use words::FrameWords;

@@ -3,7 +3,7 @@
 
 ghost use Rattle.std.specs.Prelude.{◌≡◌, ◌^◌, IfNone, IfSome, IsTrue};
 ghost use Rattle.std.specs.Bool.{OnFalse, OnTrue};
-ghost use Rattle.zone_buddy.specs.Zone.{GivesFrames, TakesFrames};
+ghost use Rattle.zone_blocks.specs.Zone.{GivesFrames, TakesFrames};
 ghost use Rattle.group_tree.specs.Groups.{has_group};
 ghost use Rattle.group_tree.specs.Room.{PathHasRoom};
 ghost use Rattle.group_charge.specs.Charges.{current_of, with_charge, with_uncharge};
@@ -13,7 +13,7 @@ use group_charge::charges::Charges;
 use group_tree::group::GroupId;
 use zone_blocks::block::Block;
 use zone_blocks::order::Order;
-use zone_buddy::buddy::Buddy;
+use zone_blocks::buddy::Buddy;
 
 fn main(rt: HostRuntime) -> Result<()> {
     let mut charges = Charges::new(rt.alloc())?;

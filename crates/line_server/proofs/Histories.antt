@@ -3,28 +3,20 @@ use Rattle.std.proofs.Common.{◌≡◌, ◌∙◌, ℕ, ◌+◌, ◌-◌, ◌�
 use Rattle.std.specs.Prelude.{unwrap_or}
 use Rattle.frame_word.specs.Seats.{KnownTable}
 use Rattle.stock_word.specs.Stock.{KnownStockTable}
-use Rattle.cpu_part.specs.Cpus.{KnownCpu}
 use Rattle.zone_blocks.specs.declared.config.Config.{Config}
 use Rattle.step_rules.specs.After.{Run, IsLegalRun}
 use Rattle.mem_machine.specs.Interleaving.{zone_of}
 use Rattle.mem_history.specs.Whole.{ShowsAll}
 use Rattle.mem_history.specs.Kept.{AreTied}
-use Rattle.mem_machine.specs.Agreeing.{AgreesWithRun}
 use Rattle.mem_history.proofs.Deciding.{legal_front}
 use Rattle.mem_history.proofs.Promised.{the_whole_is_promised}
-use Rattle.mem_system.specs.Locked.{IsQuiet, KnownLocked}
 use Rattle.std.proofs.lemmas.Option.{none-some}
-use Rattle.mem_system.specs.Visits.{transition, locked_state}
 use Rattle.script_lines.specs.declared.line.Line.{Line}
-use Rattle.script_lines.specs.declared.line.Line.TheVariants.{Go, At}
-use Rattle.script_replay.specs.Answers.{WritesWork}
 use Rattle.script_replay.specs.History.{HoldsPromise, Past, ServesAndKeeps, past, past_line}
-use Rattle.script_replay.specs.Lines.{AtPart, SystemState}
+use Rattle.script_replay.specs.Lines.{SystemState}
 use Rattle.script_replay.specs.Terms.{Terms, terms}
-use Rattle.script_replay.specs.Works.{work_of}
-use Rattle.script_replay.proofs.Following.{shows_watched, work_follows}
-use Rattle.script_replay.proofs.Going.{ServesAllAndKeeps, all_replayed}
-use Rattle.script_replay.proofs.InRange.{work_in_range}
+use Rattle.script_replay.proofs.Following.{shows_watched}
+use Rattle.script_replay.proofs.Going.{ServesAllAndKeeps, all_replayed, line_follows, some_cpu}
 use Rattle.line_server.specs.declared.form.SessionForm.{SessionForm}
 use Rattle.line_server.specs.declared.form.SessionForm.TheVariants.{Answers, Steps}
 use Rattle.line_server.specs.Forms.{session_terms}
@@ -63,29 +55,6 @@ all_kept t w is_explained sizes number (turn ∷ turns) s e all =
     (kept_one t w is_explained sizes number turn.text turn.served s all.0 turn.answer all.1) (all_kept t w is_explained sizes (number + 1) turns all.0 e all.2)
 
 -- ---- parts of a log
-
--- a run shows the state; if the ledger before had the counts of the run before, the ledger now has those of this run
-abbrev Follows : KnownTable → Run → SystemState → Run → SystemState → Type 0
-Follows t earlier s run e = ShowsAll t run e.locked.machine e.cpus × (AgreesWithRun t earlier s.locked.machine.ledger → AgreesWithRun t run e.locked.machine.ledger)
-
--- a run that shows the state before a line shows the state after it
-line_follows : (on : Terms) (run : Run) (line : Line) (s e : SystemState) (text : List ℕ) → ShowsAll on.frames run s.locked.machine s.cpus
-    → AreTied on.frames on.stocks s.cpus → (keeps : ServesAndKeeps on line s e text) → IsLegalRun (zone_of on.frames) (run ++ keeps.serves.steps)
-    → Follows on.frames run s (run ++ keeps.serves.steps) e
-line_follows on run Go s e text shows tied keeps legal =
-    subst (λ (r : Run). Follows on.frames run s r e) (sym (ap (λ (r : Run). run ++ r) keeps.serves.tells.so.steps_are ∙ append-nil run))
-    (subst (λ (x : SystemState). Follows on.frames run s run x) (sym keeps.serves.tells.so.stays) (shows, λ told. told))
-line_follows on run (At number cpu command) s e text shows tied keeps legal =
-    let steps = keeps.serves.steps in
-    let is : AtPart cpu (λ part left. WritesWork on.is_explained (work_of command)
-    (transition on.frames (locked_state s.locked part) steps (locked_state e.locked left)) keeps.serves.tells.plain) s.cpus e.cpus = keeps.serves.tells.so in
-    subst (λ (cpus : List KnownCpu). ShowsAll on.frames (run ++ steps) e.locked.machine cpus
-    × (AgreesWithRun on.frames run s.locked.machine.ledger → AgreesWithRun on.frames (run ++ steps) e.locked.machine.ledger)) (sym is.cpus)
-    (work_follows on.frames on.stocks run s.locked s.cpus (cpu - 1) is.part shows is.is_part tied on.is_explained (work_of command) steps (locked_state e.locked is.left)
-    keeps.serves.tells.plain (work_in_range on.frames.frames command keeps.there.names) is.done keeps.keeps.holds.quiet.shut legal)
-
-some_cpu : (t : KnownTable) (w : KnownStockTable) (locked : KnownLocked) → IsQuiet t w locked → 1 ≤ t.cpus
-some_cpu t w locked quiet = let sized = quiet.sized.cpus in let low = quiet.valid.cpus_low in omega arith
 
 -- the promise holds after a line
 line_kept : (on : Terms) (run : Run) (line : Line) (s e : SystemState) (text : List ℕ) → ShowsAll on.frames run s.locked.machine s.cpus

@@ -10,6 +10,7 @@ use control_files::text::PAGE_BYTES;
 use cpu_part::{BootName, Cpu};
 use group_tree::group::GroupId;
 use group_tree::tree::Tree;
+use mem_machine::prove_groups;
 use std::alloc::AllocError;
 use stock_word::Stock;
 
@@ -65,7 +66,7 @@ fn group_of(tree: &Tree, number: u32) -> Option<GroupId>
     ensures { MatchOption result (path_of tree.now number ≡ None)
         (λ group. (group ≡ number) × IsTrue (has_group tree.now group)) }
 {
-    let _groups = tree.groups(); // Called for its contract.
+    prove_groups(tree);
     let Some(group) = GroupId::of(number) else {
         return None;
     };

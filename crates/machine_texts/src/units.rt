@@ -60,7 +60,7 @@ fn write_list<N: BootName>(
     let mut next = machine.oldest(group, list);
     let mut written = Ok(());
     for _seen in 0..count {
-        let _frame_states = machine.frame_states(); // Called for its contract.
+        machine.prove_consistent();
         let Some(entry) = next else { unreachable!() };
         let Some(head) = tables.frames.frame(entry.number) else {
             unreachable!()

@@ -15,7 +15,7 @@ use Rattle.mem_alloc.specs.Blocks.{AllocatesBlock}
 use Rattle.mem_alloc.proofs.Lowering.{lowered_there}
 use Rattle.mem_alloc.proofs.Filling.{refused_lowers}
 use Rattle.mem_machine.specs.Local.{visit_state}
-use Rattle.mem_alloc.specs.Stepping.{transition}
+use Rattle.mem_machine.specs.Transitions.{transition}
 
 over_there : (t : KnownTable) (g pages over : ℕ) (m n : KnownMachine) (c d : KnownCpu) (steps : Run)
     → IsRefusedFor g pages (Over over) (transition t (visit_state m c) steps (visit_state n d)) → has_group n.ledger.groups over ≡ true

@@ -16,7 +16,7 @@ use Rattle.zone_blocks.specs.Config.{IsValidConfig}
 use Rattle.step_rules.specs.After.{Run}
 use Rattle.group_charge.specs.declared.note.Note.TheVariants.{Zone}
 use Rattle.mem_machine.specs.Machines.{KnownMachine, Visits, is_killed, with_note, with_watch}
-use Rattle.mem_machine.specs.Local.{VisitState, visit_state, MakesAs}
+use Rattle.mem_machine.specs.Local.{VisitState, visit_state, MakesAs, Makes}
 use Rattle.mem_machine.specs.Lending.{LendsMany, Refills}
 use Rattle.mem_machine.specs.Paying.{HoldsPage, PaysForFront}
 use Rattle.mem_machine.specs.Stocks.{Drains, Fills, stock_group, with_look}
@@ -24,7 +24,7 @@ use Rattle.mem_machine.specs.Steps.{drain_steps, fill_steps, over_steps, refill_
 use Rattle.mem_machine.proofs.Prepaying.{filled_account, filled_at}
 use Rattle.mem_alloc.specs.declared.faults.AllocFault.{AllocFault}
 use Rattle.mem_alloc.specs.declared.faults.AllocFault.TheVariants.{Over, NoFrames, RequesterKilled}
-use Rattle.mem_alloc.specs.Stepping.{BySteps, Finds, InTurn, OfMachineAlone, Transition, transition}
+use Rattle.mem_machine.specs.Transitions.{BySteps, Finds, InTurn, OfMachineAlone, Transition, transition}
 use Rattle.mem_alloc.specs.Room.{AfterRoom, IsRefusedAt, IsRefusedFor, IsRefusedAtSome, MakesRoom}
 use Rattle.mem_alloc.specs.Charging.{ChargesAfterDrain, FillsDrainedStock, ChargesOne, DrainsStock, FillsStock, AfterBatchRefused, PaysForFrame}
 use Rattle.mem_alloc.specs.Rounds.{FailsInRounds}
@@ -162,7 +162,7 @@ module _ (t : KnownTable) (m n : KnownMachine) (c d : KnownCpu) (seen : n ≡ wi
       (record { group = page.group; held = page.held; some = page.some })
 
   -- it shows a page of the group
-  pub pays_none : (sizes : Config) (g : ℕ) → HoldsPage (visit_state m c) g → BySteps t (PaysForFrame sizes g (Ok tt)) (visit_state m c) (visit_state n d)
+  pub pays_none : (sizes : Config) (g : ℕ) → HoldsPage (visit_state m c) g → BySteps Makes t (PaysForFrame sizes g (Ok tt)) (visit_state m c) (visit_state n d)
   pays_none sizes g page = record {
     steps = [];
     does = inl (record { is = page; does = record { machine = seen; cpu = mine; steps_are = refl } });
@@ -219,17 +219,17 @@ lent_page frames g m n c d lends page =
 -- the batch fits
 pub batch_fits : (t : KnownTable) (sizes : Config) (g : ℕ) (m n : KnownMachine) (c d : KnownCpu) → Fills g sizes.stock (visit_state m c) (visit_state n d)
     → MakesAs t c.number (visit_state m c) (fill_steps c.number g sizes.stock) (visit_state n d)
-    → BySteps t (FillsDrainedStock sizes g (Ok tt)) (visit_state m c) (visit_state n d)
+    → BySteps Makes t (FillsDrainedStock sizes g (Ok tt)) (visit_state m c) (visit_state n d)
 batch_fits t sizes g m n c d fills steps = record { steps = fill_steps c.number g sizes.stock; does = inl (record { fills = fills; steps_are = refl }); makes = steps }
 
 -- the batch doesn't fit, and then one page is charged, or is refused
 module _ (t : KnownTable) (sizes : Config) (g over : ℕ) (m x n : KnownMachine) (c y d : KnownCpu) (stays : x ≡ with_watch m x.watch) (its : y ≡ c)
     (lowest : IsLowestOver m.ledger.groups (current_of m.ledger) g sizes.stock over)
     (refused : MakesAs t c.number (visit_state m c) (over_steps g sizes.stock over) (visit_state x y)) where
-  lacks : (r : Result (Unit {0}) AllocFault) → BySteps t (ChargesOne g r) (visit_state x y) (visit_state n d)
-      → BySteps t (AfterBatchRefused sizes g (ChargesOne g r)) (visit_state m c) (visit_state n d)
+  lacks : (r : Result (Unit {0}) AllocFault) → BySteps Makes t (ChargesOne g r) (visit_state x y) (visit_state n d)
+      → BySteps Makes t (AfterBatchRefused sizes g (ChargesOne g r)) (visit_state m c) (visit_state n d)
   lacks r b =
-      let here = subst (λ (z : KnownMachine × KnownCpu). BySteps t (ChargesOne g r) (visit_state z.0 z.1) (visit_state n d)) (λ i. (stays i, its i)) b in record {
+      let here = subst (λ (z : KnownMachine × KnownCpu). BySteps Makes t (ChargesOne g r) (visit_state z.0 z.1) (visit_state n d)) (λ i. (stays i, its i)) b in record {
         steps = over_steps g sizes.stock over ++ here.steps;
         does = record { over = over; batch = lowest; later = here.steps; seen = x.watch; does = here.does; steps_are = refl };
         makes = makes_both t c.number (over_steps g sizes.stock over) here.steps (visit_state m c) (visit_state (with_watch m x.watch) c) (visit_state n d)
@@ -237,8 +237,8 @@ module _ (t : KnownTable) (sizes : Config) (g over : ℕ) (m x n : KnownMachine)
             (λ i. (stays i, its i)) refused) here.makes;
       }
 
-  pub one_charged : (r : Result (Unit {0}) AllocFault) → BySteps t (ChargesOne g r) (visit_state x y) (visit_state n d)
-      → BySteps t (FillsDrainedStock sizes g r) (visit_state m c) (visit_state n d)
+  pub one_charged : (r : Result (Unit {0}) AllocFault) → BySteps Makes t (ChargesOne g r) (visit_state x y) (visit_state n d)
+      → BySteps Makes t (FillsDrainedStock sizes g r) (visit_state m c) (visit_state n d)
   one_charged (Ok v) b = let l = lacks (Ok v) b in record { steps = l.steps; does = inr l.does; makes = l.makes }
   one_charged (Err e) b = lacks (Err e) b
 
@@ -265,16 +265,16 @@ module _ (t : KnownTable) (pages q : ℕ) (m k x : KnownMachine) (c e : KnownCpu
     steps_are = refl;
   }
 
-  pub drained_own : BySteps t DrainsStock (visit_state m c) (visit_state x c)
+  pub drained_own : BySteps Makes t DrainsStock (visit_state m c) (visit_state x c)
   drained_own = record { steps = own_steps; does = drains_own; makes = by_drain }
 
   -- after a look, which showed no page of the group
   module _ (sizes : Config) (g : ℕ) (n : KnownMachine) (d : KnownCpu) (start : KnownMachine) (seen : m ≡ with_look start)
       (lacks : ¬ HoldsPage (visit_state start c) g) where
-    charges_anew : (r : Result (Unit {0}) AllocFault) → BySteps t (FillsDrainedStock sizes g r) (visit_state x e) (visit_state n d)
-        → BySteps t (ChargesAfterDrain sizes g r) (visit_state start c) (visit_state n d)
+    charges_anew : (r : Result (Unit {0}) AllocFault) → BySteps Makes t (FillsDrainedStock sizes g r) (visit_state x e) (visit_state n d)
+        → BySteps Makes t (ChargesAfterDrain sizes g r) (visit_state start c) (visit_state n d)
     charges_anew r b =
-        let here = subst (λ (z : KnownCpu). BySteps t (FillsDrainedStock sizes g r) (visit_state x z) (visit_state n d)) mine b in
+        let here = subst (λ (z : KnownCpu). BySteps Makes t (FillsDrainedStock sizes g r) (visit_state x z) (visit_state n d)) mine b in
         let all = own_steps ++ here.steps in
         let made = makes_both t c.number own_steps here.steps (visit_state m c) (visit_state x c) (visit_state n d) by_drain here.makes in
         let looked : MakesAs t c.number (visit_state (with_look start) c) all (visit_state n d) =
@@ -295,8 +295,8 @@ module _ (t : KnownTable) (pages q : ℕ) (m k x : KnownMachine) (c e : KnownCpu
           makes = record { leads = looked.leads; follows = looked.follows; counts = looked.counts; watched = looked.watched };
         }
 
-    pub pays_anew : (r : Result (Unit {0}) AllocFault) → BySteps t (FillsDrainedStock sizes g r) (visit_state x e) (visit_state n d)
-        → BySteps t (PaysForFrame sizes g r) (visit_state start c) (visit_state n d)
+    pub pays_anew : (r : Result (Unit {0}) AllocFault) → BySteps Makes t (FillsDrainedStock sizes g r) (visit_state x e) (visit_state n d)
+        → BySteps Makes t (PaysForFrame sizes g r) (visit_state start c) (visit_state n d)
     pays_anew (Ok v) b = let h = charges_anew (Ok v) b in record { steps = h.steps; does = inr h.does; makes = h.makes }
     pays_anew (Err cause) b = charges_anew (Err cause) b
 
@@ -314,7 +314,7 @@ no_steps t [] m n c d none run = run
 no_steps t (f ∷ frames) m n c d none run = absurd (omega (arith, none))
 
 pub lent_none : (t : KnownTable) (count batch : ℕ) (m n : KnownMachine) (c d : KnownCpu) → Refills t count (visit_state m c) (visit_state n d)
-    → count ≤ 0 → (count < batch → HasNoneFrom n.blocks 0) → 1 ≤ batch → BySteps t LendsNoFrame (visit_state m c) (visit_state n d)
+    → count ≤ 0 → (count < batch → HasNoneFrom n.blocks 0) → 1 ≤ batch → BySteps Makes t LendsNoFrame (visit_state m c) (visit_state n d)
 lent_none t count batch m n c d refills few fewer some =
     let all = refills.all in
     let none : length refills.frames ≡ 0 = omega (arith, few, all) in
@@ -358,15 +358,15 @@ none_after t (suc more) m n c d steps none (inr h) =
 
 -- no frame is free, also after rounds of reclaim, and the stock is drained
 module _ (t : KnownTable) (sizes : Config) (m k x n : KnownMachine) (c e y : KnownCpu) (empty : c.list ≡ [])
-    (first : BySteps t LendsNoFrame (visit_state m c) (visit_state k e)) where
+    (first : BySteps Makes t LendsNoFrame (visit_state m c) (visit_state k e)) where
   from_first : (P : KnownMachine → KnownCpu → Type 0) → P k e → P m c
   from_first P p = subst (λ (z : KnownMachine × KnownCpu). P z.0 z.1) (λ i. (first.does.does.machine i, first.does.does.cpu i)) p
 
-  pub no_frame : (pages q : ℕ) → BySteps t (RefillsInRounds sizes.batch false) (visit_state k e) (visit_state x y) → q ≡ y.number → Drains q pages x n
+  pub no_frame : (pages q : ℕ) → BySteps Makes t (RefillsInRounds sizes.batch false) (visit_state k e) (visit_state x y) → q ≡ y.number → Drains q pages x n
       → ((h : KnownCpu) → MakesAs t h.number (visit_state x h) (drain_steps q (stock_group x q) pages) (visit_state n h))
-      → BySteps t (FillsList sizes (Err NoFrames)) (visit_state m c) (visit_state n y)
+      → BySteps Makes t (FillsList sizes (Err NoFrames)) (visit_state m c) (visit_state n y)
   no_frame pages q rounds named drains steps =
-      let there = from_first (λ u v. BySteps t (RefillsInRounds sizes.batch false) (visit_state u v) (visit_state x y)) rounds in
+      let there = from_first (λ u v. BySteps Makes t (RefillsInRounds sizes.batch false) (visit_state u v) (visit_state x y)) rounds in
       let cpu : y ≡ c = (noted_fails_spare t 1 LendsNoFrame (no_frame_spares t) 0 m x c y there.steps there.does).cpu in
       let last = drained_own t pages q x x n y y refl refl named drains steps in
       let number = ap (λ (h : KnownCpu). h.number) cpu in record {
@@ -390,10 +390,10 @@ module _ (t : KnownTable) (sizes : Config) (m k x n : KnownMachine) (c e y : Kno
       }
 
   -- or free frames come to the list after rounds
-  pub reclaims_for : BySteps t (RefillsInRounds sizes.batch true) (visit_state k e) (visit_state x y)
-      → BySteps t (Finds HasNoFreeFrame (RefillsInRounds sizes.batch true)) (visit_state m c) (visit_state x y)
+  pub reclaims_for : BySteps Makes t (RefillsInRounds sizes.batch true) (visit_state k e) (visit_state x y)
+      → BySteps Makes t (Finds HasNoFreeFrame (RefillsInRounds sizes.batch true)) (visit_state m c) (visit_state x y)
   reclaims_for rounds =
-      let here = from_first (λ u v. BySteps t (RefillsInRounds sizes.batch true) (visit_state u v) (visit_state x y)) rounds in record {
+      let here = from_first (λ u v. BySteps Makes t (RefillsInRounds sizes.batch true) (visit_state u v) (visit_state x y)) rounds in record {
         steps = here.steps;
         does = record { is = first.does.is; does = here.does };
         makes = here.makes;
@@ -495,23 +495,23 @@ filled_part t sizes m n c d steps valid (inr h) = refilled_part t sizes m n c d 
 
 module _ (t : KnownTable) (sizes : Config) (g : ℕ) (m : KnownMachine) (c : KnownCpu) (alive : is_killed m.killed g ≡ false) where
   -- a charge is refused for good
-  refused_for : (x : AllocFault) (n : KnownMachine) (d : KnownCpu) → BySteps t (PaysForFrame sizes g (Err x)) (visit_state m c) (visit_state n d)
-      → BySteps t (AllocatesFrame sizes g (Err x)) (visit_state m c) (visit_state n d)
+  refused_for : (x : AllocFault) (n : KnownMachine) (d : KnownCpu) → BySteps Makes t (PaysForFrame sizes g (Err x)) (visit_state m c) (visit_state n d)
+      → BySteps Makes t (AllocatesFrame sizes g (Err x)) (visit_state m c) (visit_state n d)
   refused_for (Over over) n d b = record { steps = b.steps; does = record { is = alive; does = b.does }; makes = b.makes }
   refused_for NoFrames n d b = absurd b.does.does.second.does.does.does.1.room
   refused_for RequesterKilled n d b = record { steps = b.steps; does = inr (record { is = alive; does = b.does }); makes = b.makes }
 
   pub not_paid : (r : Result ℕ AllocFault) (x : AllocFault) (n : KnownMachine) (d : KnownCpu) → IsErr r → IfErr r (λ e. e ≡ x)
-      → BySteps t (PaysForFrame sizes g (Err x)) (visit_state m c) (visit_state n d) → BySteps t (AllocatesFrame sizes g r) (visit_state m c) (visit_state n d)
+      → BySteps Makes t (PaysForFrame sizes g (Err x)) (visit_state m c) (visit_state n d) → BySteps Makes t (AllocatesFrame sizes g r) (visit_state m c) (visit_state n d)
   not_paid r x n d not is b =
-      subst (λ (z : Result ℕ AllocFault). BySteps t (AllocatesFrame sizes g z) (visit_state m c) (visit_state n d))
+      subst (λ (z : Result ℕ AllocFault). BySteps Makes t (AllocatesFrame sizes g z) (visit_state m c) (visit_state n d))
       (sym (answer_is r x not is))
       (refused_for x n d b)
 
-  module _ (k : KnownMachine) (y : KnownCpu) (number : y.number ≡ c.number) (pays : BySteps t (PaysForFrame sizes g (Ok tt)) (visit_state m c) (visit_state k y)) where
+  module _ (k : KnownMachine) (y : KnownCpu) (number : y.number ≡ c.number) (pays : BySteps Makes t (PaysForFrame sizes g (Ok tt)) (visit_state m c) (visit_state k y)) where
     -- no frame is free
-    none_found : (x : AllocFault) (n : KnownMachine) (d : KnownCpu) → BySteps t (FillsList sizes (Err x)) (visit_state k y) (visit_state n d)
-        → BySteps t (AllocatesFrame sizes g (Err x)) (visit_state m c) (visit_state n d)
+    none_found : (x : AllocFault) (n : KnownMachine) (d : KnownCpu) → BySteps Makes t (FillsList sizes (Err x)) (visit_state k y) (visit_state n d)
+        → BySteps Makes t (AllocatesFrame sizes g (Err x)) (visit_state m c) (visit_state n d)
     none_found (Over over) n d b = absurd b.does
     none_found RequesterKilled n d b = absurd b.does
     none_found NoFrames n d b = record {
@@ -525,16 +525,16 @@ module _ (t : KnownTable) (sizes : Config) (g : ℕ) (m : KnownMachine) (c : Kno
     }
 
     pub not_found : (r : Result ℕ AllocFault) (x : AllocFault) (n : KnownMachine) (d : KnownCpu) → IsErr r → IfErr r (λ e. e ≡ x)
-        → BySteps t (FillsList sizes (Err x)) (visit_state k y) (visit_state n d) → BySteps t (AllocatesFrame sizes g r) (visit_state m c) (visit_state n d)
+        → BySteps Makes t (FillsList sizes (Err x)) (visit_state k y) (visit_state n d) → BySteps Makes t (AllocatesFrame sizes g r) (visit_state m c) (visit_state n d)
     not_found r x n d not is b =
-        subst (λ (z : Result ℕ AllocFault). BySteps t (AllocatesFrame sizes g z) (visit_state m c) (visit_state n d))
+        subst (λ (z : Result ℕ AllocFault). BySteps Makes t (AllocatesFrame sizes g z) (visit_state m c) (visit_state n d))
         (sym (answer_is r x not is))
         (none_found x n d b)
 
     -- the front of the list is paid for
-    pub gets_frame : (f : ℕ) (l n : KnownMachine) (z d : KnownCpu) → z.number ≡ y.number → BySteps t (FillsList sizes (Ok tt)) (visit_state k y) (visit_state l z)
+    pub gets_frame : (f : ℕ) (l n : KnownMachine) (z d : KnownCpu) → z.number ≡ y.number → BySteps Makes t (FillsList sizes (Ok tt)) (visit_state k y) (visit_state l z)
         → PaysForFront g f (visit_state l z) (visit_state n d) → MakesAs t z.number (visit_state l z) (take_front_steps z.number g) (visit_state n d)
-        → BySteps t (AllocatesFrame sizes g (Ok f)) (visit_state m c) (visit_state n d)
+        → BySteps Makes t (AllocatesFrame sizes g (Ok f)) (visit_state m c) (visit_state n d)
     gets_frame f l n z d named fills takes steps =
         let last : MakesAs t c.number (visit_state l z) (take_front_steps c.number g) (visit_state n d) =
         subst (λ (p : ℕ). MakesAs t p (visit_state l z) (take_front_steps p g) (visit_state n d)) (named ∙ number) steps in

@@ -26,7 +26,7 @@ use Rattle.mem_reclaim.specs.Sets.{IsKilledRoot, kill_set}
 use Rattle.mem_reclaim.specs.Victim.{IsVictim}
 use Rattle.mem_reclaim.proofs.Choosing.{chosen_there}
 use Rattle.mem_reclaim.proofs.Dying.{victims_die}
-use Rattle.mem_alloc.specs.Stepping.{ByStepsOfAny, MachineStays, transition}
+use Rattle.mem_machine.specs.Transitions.{BySteps, MachineStays, transition}
 use Rattle.mem_alloc.specs.Kills.{NeedsRoom, KillsVictims, KillsForRoom, KillsOneVictim, has_room_at, with_oom_noted_at}
 use Rattle.mem_alloc.specs.Room.{KillsForFewPages, RelievesLimit}
 use Rattle.mem_alloc.proofs.Lowering.{Lowers, lowers_none, lowers_both, same_visit, clears_lower, keeps_lower, sum_less}
@@ -107,7 +107,7 @@ relieves_lower t r g pages m n steps h =
     lowers_both t m x n (clears_lower t g pages m x h.earlier h.first)
     (lowers_both t x y n (keeps_lower t x y h.second.first.keeps) (few_lower t r g pages y n h.second.later h.second.second))
 
-pub relieving_lowers : (t : KnownTable) (r g pages : ℕ) (m n : KnownMachine) → ByStepsOfAny t (RelievesLimit r g pages) m n → Lowers t m n
+pub relieving_lowers : (t : KnownTable) (r g pages : ℕ) (m n : KnownMachine) → BySteps MakesForAny t (RelievesLimit r g pages) m n → Lowers t m n
 relieving_lowers t r g pages m n b = relieves_lower t r g pages m n b.steps b.does
 
 -- ---- the loop of kills
@@ -241,7 +241,7 @@ so_far_there r t g pages m n so_far there =
 
 -- the kills are over
 pub kills_end : (r : Option ℕ) (t : KnownTable) (g pages : ℕ) (m n : KnownMachine) → has_room_at m.ledger g pages ≡ false
-    → KillsSoFar r t g pages m n → (NeedsRoom r g pages n → IsVictim n g None) → ByStepsOfAny t (KillsForRoom r g pages) m n
+    → KillsSoFar r t g pages m n → (NeedsRoom r g pages n → IsVictim n g None) → BySteps MakesForAny t (KillsForRoom r g pages) m n
 kills_end r t g pages m n over so_far ended = record {
   steps = note_oom_steps g ++ so_far.killing;
   does = record {
@@ -262,11 +262,11 @@ kills_end r t g pages m n over so_far ended = record {
 
 -- ---- kills for a few pages alone
 
-pub few_kills : (t : KnownTable) (r g pages : ℕ) (m n : KnownMachine) → pages ≤ 8 → ByStepsOfAny t (KillsForRoom (Some r) g pages) m n
-    → ByStepsOfAny t (KillsForFewPages r g pages) m n
+pub few_kills : (t : KnownTable) (r g pages : ℕ) (m n : KnownMachine) → pages ≤ 8 → BySteps MakesForAny t (KillsForRoom (Some r) g pages) m n
+    → BySteps MakesForAny t (KillsForFewPages r g pages) m n
 few_kills t r g pages m n few kills = record { steps = kills.steps; does = record { few = λ _. kills.does; many = λ many. absurd (omega (arith, few, many)) }; makes = kills.makes }
 
-pub many_rest : (t : KnownTable) (r g pages : ℕ) (m : KnownMachine) → 8 < pages → ByStepsOfAny t (KillsForFewPages r g pages) m m
+pub many_rest : (t : KnownTable) (r g pages : ℕ) (m : KnownMachine) → 8 < pages → BySteps MakesForAny t (KillsForFewPages r g pages) m m
 many_rest t r g pages m many = record {
   steps = [];
   does = record { few = λ few. absurd (omega (arith, few, many)); many = λ _. record { machine = refl; steps_are = refl } };
@@ -276,7 +276,7 @@ many_rest t r g pages m many = record {
 -- ---- no kill at all
 
 pub enough_room : (r : Option ℕ) (t : KnownTable) (g pages : ℕ) (m : KnownMachine) → has_room_at m.ledger g pages ≡ true
-    → ByStepsOfAny t (KillsForRoom r g pages) m m
+    → BySteps MakesForAny t (KillsForRoom r g pages) m m
 enough_room r t g pages m room = record {
   steps = [];
   does = record { room = λ _. record { machine = refl; steps_are = refl }; over = λ over. absurd (false≢true (sym over ∙ room)) };

@@ -27,7 +27,7 @@ use Rattle.mem_machine.specs.Stocks.{Drains, DrainsBelow, DrainsAllBelow, stock_
 use Rattle.mem_machine.proofs.Draining.{groups_stay, drained_at, drained_else}
 use Rattle.mem_machine.proofs.Prepaying.{current_falls}
 use Rattle.mem_reclaim.specs.Staying.{Keeps}
-use Rattle.mem_alloc.specs.Stepping.{transition}
+use Rattle.mem_machine.specs.Transitions.{transition}
 use Rattle.mem_alloc.specs.Room.{ClearsBelow, has_room_at, with_max_noted_at}
 use Rattle.mem_machine.specs.Local.{visit_state}
 use Rattle.step_watch.specs.Watched.{KnownWatch}

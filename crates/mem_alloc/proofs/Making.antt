@@ -10,10 +10,10 @@ use Rattle.group_charge.specs.Charges.{current_of, with_max_noted}
 use Rattle.cpu_part.specs.Cpus.{KnownCpu}
 use Rattle.step_rules.specs.After.{Run}
 use Rattle.mem_machine.specs.Machines.{KnownMachine, is_killed, with_watch}
-use Rattle.mem_machine.specs.Local.{MakesForAny, VisitState, visit_state, MakesAs}
+use Rattle.mem_machine.specs.Local.{MakesForAny, VisitState, visit_state, MakesAs, Makes}
 use Rattle.mem_machine.specs.Steps.{over_steps, note_max_steps, drain_stocks_steps, fill_steps}
 use Rattle.mem_machine.specs.Stocks.{Fills, DrainsSubtree, DrainsAllBelow, AreDrained}
-use Rattle.mem_alloc.specs.Stepping.{BySteps, ByStepsOfAny, Transition, transition}
+use Rattle.mem_machine.specs.Transitions.{BySteps, Transition, transition}
 use Rattle.mem_reclaim.specs.Wanted.{progress}
 use Rattle.mem_reclaim.proofs.Keeping.{keeps_none}
 use Rattle.mem_reclaim.proofs.Moving.{moves_rest}
@@ -33,7 +33,7 @@ note_then_drains t g pages m x n noting drains c =
 
 -- the notes, and then the drains. Serves `make_room`
 pub clears_by : (t : KnownTable) (g pages back : ℕ) (m y x n : KnownMachine) → y ≡ with_limit_noted m g pages → x ≡ record y { ledger = with_max_noted y.ledger g; watch = x.watch }
-    → MakesForAny t y (note_max_steps g) x → DrainsSubtree t g back x n → AreDrained g t.cpus n → ByStepsOfAny t (ClearsBelow g pages) m n
+    → MakesForAny t y (note_max_steps g) x → DrainsSubtree t g back x n → AreDrained g t.cpus n → BySteps MakesForAny t (ClearsBelow g pages) m n
 clears_by t g pages back m y x n told noted noting_y drains drained =
     let both : x ≡ with_watch (with_max_noted_at m g pages) x.watch =
     noted ∙ ap (λ (k : KnownMachine). record k { ledger = with_max_noted k.ledger g; watch = x.watch }) told in
@@ -53,8 +53,8 @@ clears_by t g pages back m y x n told noted noting_y drains drained =
     }
 
 -- and then the rounds, and the kills
-pub relieves_by : (t : KnownTable) (r g pages : ℕ) (m x y n : KnownMachine) → ByStepsOfAny t (ClearsBelow g pages) m x → ByStepsOfAny t (ReclaimsFor g pages) x y
-    → ByStepsOfAny t (KillsForFewPages r g pages) y n → ByStepsOfAny t (RelievesLimit r g pages) m n
+pub relieves_by : (t : KnownTable) (r g pages : ℕ) (m x y n : KnownMachine) → BySteps MakesForAny t (ClearsBelow g pages) m x → BySteps MakesForAny t (ReclaimsFor g pages) x y
+    → BySteps MakesForAny t (KillsForFewPages r g pages) y n → BySteps MakesForAny t (RelievesLimit r g pages) m n
 relieves_by t r g pages m x y n first next last = record {
   steps = first.steps ++ (next.steps ++ last.steps);
   does = record {
@@ -70,7 +70,7 @@ relieves_by t r g pages m x y n first next last = record {
 }
 
 -- there is no limit
-pub no_rounds : (t : KnownTable) (g pages : ℕ) (m : KnownMachine) → limit_of m.ledger.groups g ≡ None → ByStepsOfAny t (ReclaimsFor g pages) m m
+pub no_rounds : (t : KnownTable) (g pages : ℕ) (m : KnownMachine) → limit_of m.ledger.groups g ≡ None → BySteps MakesForAny t (ReclaimsFor g pages) m m
 no_rounds t g pages m none = record {
   steps = [];
   does = record {
@@ -126,7 +126,7 @@ module _ (t : KnownTable) (g pages : ℕ) (c : KnownCpu) (m x : KnownMachine) (s
   -- one more charge was refused, by its steps
   module _ (y z n : KnownMachine) (d e : KnownCpu) (over : ℕ) (same : y ≡ with_watch x y.watch) (mine : d ≡ c) (mine_after : e ≡ c)
       (low : IsLowestOver z.ledger.groups (current_of z.ledger) g pages over) (before_it : z ≡ x)
-      (refusing : MakesAs t d.number (visit_state z d) (over_steps g pages over) (visit_state y e)) (relieves : ByStepsOfAny t (RelievesLimit g over pages) y n) where
+      (refusing : MakesAs t d.number (visit_state z d) (over_steps g pages over) (visit_state y e)) (relieves : BySteps MakesForAny t (RelievesLimit g over pages) y n) where
     refused : (answer : Result (Unit {0}) AllocFault) → IsRoomAnswer g over pages answer n
         → IsRefusedAt g over pages answer (transition t x (over_steps g pages over ++ relieves.steps) n)
     refused answer room = record {
@@ -164,7 +164,7 @@ module _ (t : KnownTable) (g pages : ℕ) (c : KnownCpu) (m x : KnownMachine) (s
     }
 
     -- or it is refused for good
-    pub so_far_over : (cause : AllocFault) → IsRoomAnswer g over pages (Err cause) n → BySteps t (IsRefusedFor g pages cause) (visit_state m c) (visit_state n c)
+    pub so_far_over : (cause : AllocFault) → IsRoomAnswer g over pages (Err cause) n → BySteps Makes t (IsRefusedFor g pages cause) (visit_state m c) (visit_state n c)
     so_far_over cause is = record {
       steps = so_far.making ++ (over_steps g pages over ++ relieves.steps);
       does = record {
@@ -180,8 +180,8 @@ module _ (t : KnownTable) (g pages : ℕ) (c : KnownCpu) (m x : KnownMachine) (s
     }
 
   -- this is done by steps of its own, now that there is room
-  pub so_far_does : (Does : Transition VisitState → Type 0) (n : KnownMachine) (d : KnownCpu) → BySteps t Does (visit_state x c) (visit_state n d)
-      → BySteps t (AfterRoom g pages Does) (visit_state m c) (visit_state n d)
+  pub so_far_does : (Does : Transition VisitState → Type 0) (n : KnownMachine) (d : KnownCpu) → BySteps Makes t Does (visit_state x c) (visit_state n d)
+      → BySteps Makes t (AfterRoom g pages Does) (visit_state m c) (visit_state n d)
   so_far_does Does n d b = record {
     steps = so_far.making ++ b.steps;
     does = record {
@@ -199,11 +199,11 @@ module _ (t : KnownTable) (g pages : ℕ) (c : KnownCpu) (m x : KnownMachine) (s
   -- the pages are granted, and fill the stock
   pub so_far_fills : (y : KnownCpu) → y ≡ c → (n : KnownMachine) (d : KnownCpu) → Fills g pages (visit_state x y) (visit_state n d)
       → MakesAs t y.number (visit_state x y) (fill_steps y.number g pages) (visit_state n d)
-      → BySteps t (AfterRoom g pages (FillsStock g pages)) (visit_state m c) (visit_state n d)
+      → BySteps Makes t (AfterRoom g pages (FillsStock g pages)) (visit_state m c) (visit_state n d)
   so_far_fills y mine n d fills steps =
-      let there : BySteps t (FillsStock g pages) (visit_state x y) (visit_state n d) =
+      let there : BySteps Makes t (FillsStock g pages) (visit_state x y) (visit_state n d) =
       record { steps = fill_steps y.number g pages; does = record { fills = fills; steps_are = refl }; makes = steps } in
-      so_far_does (FillsStock g pages) n d (subst (λ (k : KnownCpu). BySteps t (FillsStock g pages) (visit_state x k) (visit_state n d)) mine there)
+      so_far_does (FillsStock g pages) n d (subst (λ (k : KnownCpu). BySteps Makes t (FillsStock g pages) (visit_state x k) (visit_state n d)) mine there)
 
 -- an answer that is a refusal, of this cause
 pub refused_with : {T E : Type 0} (r : Result T E) (x : E) (P : T → Type 0) (Q : E → Type 0) → IsErr r → IfErr r (λ e. e ≡ x)
@@ -218,9 +218,9 @@ answer_is (Err e) x not is = ap (λ (z : AllocFault). Err z) is
 
 -- a refusal for good of a charge of one page
 pub refuses_one : (t : KnownTable) (g : ℕ) (r : Result (Unit {0}) AllocFault) (cause : AllocFault) (m : KnownMachine) (c : KnownCpu) (n : KnownMachine) (d : KnownCpu)
-    → r ≡ Err cause → d ≡ c → BySteps t (IsRefusedFor g 1 cause) (visit_state m c) (visit_state n c) → BySteps t (ChargesOne g r) (visit_state m c) (visit_state n d)
+    → r ≡ Err cause → d ≡ c → BySteps Makes t (IsRefusedFor g 1 cause) (visit_state m c) (visit_state n c) → BySteps Makes t (ChargesOne g r) (visit_state m c) (visit_state n d)
 refuses_one t g r cause m c n d is cpu b =
-    subst (λ (z : KnownCpu × Result (Unit {0}) AllocFault). BySteps t (ChargesOne g z.1) (visit_state m c) (visit_state n z.0))
+    subst (λ (z : KnownCpu × Result (Unit {0}) AllocFault). BySteps Makes t (ChargesOne g z.1) (visit_state m c) (visit_state n z.0))
     (λ i. (sym cpu i, sym is i)) b
 
 pub if_ok_none : {T E : Type 0} (r : Result T E) (P : T → Type 0) → IsErr r → IfOk r P

@@ -18,7 +18,8 @@ use Rattle.mem_reclaim.proofs.KillSets.{missed_both}
 use Rattle.mem_reclaim.proofs.LettingGo.{AreQuiet, misses_put, quiet_both, quiet_drain, quiet_drains}
 use Rattle.mem_alloc.specs.declared.faults.AllocFault.{AllocFault}
 use Rattle.mem_alloc.specs.declared.faults.AllocFault.TheVariants.{Over, NoFrames, RequesterKilled}
-use Rattle.mem_alloc.specs.Stepping.{CountsMisses, Finds, InTurn, OfMachineAlone, Stays, Transition, of_machine, transition}
+use Rattle.mem_machine.specs.Transitions.{Finds, InTurn, OfMachineAlone, Stays, Transition, of_machine, transition}
+use Rattle.mem_reclaim.specs.Moves.{CountsMisses}
 use Rattle.mem_alloc.specs.Kills.{KillsVictims, KillsForRoom, KillsOneVictim, has_room_at, with_oom_noted_at}
 use Rattle.mem_alloc.specs.Room.{AfterRoom, ClearsBelow, IsRefusedAt, IsRefusedFor, IsRefusedAtSome, KillsForFewPages, MakesRoom, RelievesLimit, with_max_noted_at}
 use Rattle.mem_alloc.specs.Charging.{ChargesAfterDrain, FillsDrainedStock, ChargesOne, DrainsStock, FillsStock, AfterBatchRefused, PaysForFrame}

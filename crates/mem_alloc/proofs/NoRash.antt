@@ -34,7 +34,7 @@ use Rattle.mem_reclaim.specs.Sets.{alive_in_subtree, group_kill_note, kill_set}
 use Rattle.mem_reclaim.specs.Victim.{victim_note}
 use Rattle.mem_reclaim.proofs.KillSets.{kills_both, missed_both}
 use Rattle.mem_reclaim.proofs.LettingGo.{AreQuiet, quiet_both, quiet_drains}
-use Rattle.mem_alloc.specs.Stepping.{MachineStays, OfMachineAlone, Transition, transition}
+use Rattle.mem_machine.specs.Transitions.{MachineStays, OfMachineAlone, Transition, transition}
 use Rattle.mem_alloc.specs.Kills.{KillsVictims, KillsForRoom, KillsOneVictim, KillsUntilRoom, has_room_at, with_oom_noted_at}
 use Rattle.mem_alloc.specs.Room.{AfterRoom, ClearsBelow, IsRefusedAt, IsRefusedFor, IsRefusedAtSome, KillsForFewPages, MakesRoom, ReclaimsFor, RelievesLimit}
 use Rattle.mem_alloc.specs.Room.{with_max_noted_at}

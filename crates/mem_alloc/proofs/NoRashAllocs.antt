@@ -21,7 +21,7 @@ use Rattle.mem_reclaim.specs.Moves.{has_kill, is_kill}
 use Rattle.mem_reclaim.proofs.LettingGo.{quiet_drain}
 use Rattle.mem_alloc.specs.declared.faults.AllocFault.{AllocFault}
 use Rattle.mem_alloc.specs.declared.faults.AllocFault.TheVariants.{Over, NoFrames, RequesterKilled}
-use Rattle.mem_alloc.specs.Stepping.{Finds, InTurn, Transition, transition}
+use Rattle.mem_machine.specs.Transitions.{Finds, InTurn, Transition, transition}
 use Rattle.mem_alloc.specs.Charging.{ChargesAfterDrain, FillsDrainedStock, ChargesOne, DrainsStock, FillsStock, AfterBatchRefused, PaysForFrame}
 use Rattle.mem_alloc.specs.Rounds.{AfterZoneNote, FailsInRounds, FreesInRound, MakesRound, SucceedsInRounds}
 use Rattle.mem_alloc.specs.Frames.{AllocatesFrame, FillsList, HasNoFreeFrame, LendsBatch, LendsNoFrame, MakesRefillRounds, RefillsInRounds}

@@ -1,5 +1,5 @@
 -- Rounds of reclaim with one more try each, as far as they were made, and what they keep. Serves `refill_in_rounds`,
--- `note_and_reclaim_until_taken`, and those who call them.
+-- `take_after_drain`, and those who call them.
 use Rattle.std.proofs.Common.{◌≡◌, ◌≢◌, ℕ, zero, suc, ◌+◌, ◌-◌, ◌<◌, ◌≤◌, [], ◌++◌, refl, sym, ap, ◌∙◌, subst, inl, inr, arith}
 use Rattle.std.proofs.lemmas.List.{append_assoc, append-nil}
 use Rattle.frame_word.specs.Seats.{KnownTable}
@@ -8,12 +8,12 @@ use Rattle.step_rules.specs.After.{Run}
 use Rattle.group_charge.specs.declared.note.Note.{Note}
 use Rattle.group_charge.specs.declared.note.Note.TheVariants.{Zone}
 use Rattle.mem_machine.specs.Machines.{KnownMachine, Visits, with_note}
-use Rattle.mem_machine.specs.Local.{VisitState, visit_state, MakesAs}
+use Rattle.mem_machine.specs.Local.{VisitState, visit_state, MakesAs, Makes}
 use Rattle.mem_reclaim.specs.Wanted.{progress}
 use Rattle.mem_reclaim.specs.Moves.{FreesBySteps}
 use Rattle.mem_reclaim.specs.Rounds.{ReclaimsRound}
 use Rattle.mem_reclaim.specs.Staying.{Keeps, MissedAll}
-use Rattle.mem_alloc.specs.Stepping.{BySteps, Transition, transition}
+use Rattle.mem_machine.specs.Transitions.{BySteps, Transition, transition}
 use Rattle.mem_alloc.specs.Rounds.{AfterZoneNote, FailsInRounds, FreesInRound, MakesRound, SucceedsInRounds}
 use Rattle.mem_alloc.proofs.Lowering.{Lowers, lowers_none, lowers_both, keeps_lower}
 use Rattle.mem_machine.proofs.Followed.{makes_both, makes_none}
@@ -127,9 +127,9 @@ noted_visit t m c note v = record { is_open = v.is_open; still = v.still; lent =
 
 -- a note of the zone, and then what follows it
 pub zone_noted : (t : KnownTable) (order : ℕ) (Does : Transition VisitState → Type 0) (m x : KnownMachine) (c : KnownCpu) (n : VisitState)
-    → x ≡ with_note m (Zone order) → BySteps t Does (visit_state x c) n → BySteps t (AfterZoneNote order Does) (visit_state m c) n
+    → x ≡ with_note m (Zone order) → BySteps Makes t Does (visit_state x c) n → BySteps Makes t (AfterZoneNote order Does) (visit_state m c) n
 zone_noted t order Does m x c n noted by =
-    let here = subst (λ (y : KnownMachine). BySteps t Does (visit_state y c) n) noted by in
+    let here = subst (λ (y : KnownMachine). BySteps Makes t Does (visit_state y c) n) noted by in
     let k = here.makes in
     record {
       steps = here.steps;
@@ -184,7 +184,7 @@ module _ (t : KnownTable) (want : ℕ) (Fails : Transition VisitState → Type 0
 
   module _ (made : ℕ) (now : KnownMachine) (d : KnownCpu) (so : RoundsSoFar t want Fails Succeeds m c made now d) where
     -- it failed in all rounds
-    pub rounds_done : 16 ≤ made → BySteps t (FailsInRounds 16 want Fails) (visit_state m c) (visit_state now d)
+    pub rounds_done : 16 ≤ made → BySteps Makes t (FailsInRounds 16 want Fails) (visit_state m c) (visit_state now d)
     rounds_done all =
         let e : 0 ≡ 16 - made = omega (arith, all) in
         let none : FailsInRounds 0 want Fails (transition t (visit_state now d) [] (visit_state now d)) =
@@ -231,7 +231,7 @@ module _ (t : KnownTable) (want : ℕ) (Fails : Transition VisitState → Type 0
 
       -- in which it succeeded
       pub rounds_succeed : (k : ℕ) → Succeeds k (transition t (visit_state x d) trying (visit_state then e))
-          → BySteps t (SucceedsInRounds 16 want (Succeeds k) Fails) (visit_state m c) (visit_state then e)
+          → BySteps Makes t (SucceedsInRounds 16 want (Succeeds k) Fails) (visit_state m c) (visit_state then e)
       rounds_succeed k does = record {
         steps = so.steps ++ first;
         does = so.succeeds k first (visit_state then e)
@@ -242,7 +242,7 @@ module _ (t : KnownTable) (want : ℕ) (Fails : Transition VisitState → Type 0
 
       module _ (does : Fails (transition t (visit_state x d) trying (visit_state then e))) where
         -- the try failed, and no page was freed
-        pub rounds_end : freed ≡ 0 → BySteps t (FailsInRounds 16 want Fails) (visit_state m c) (visit_state then e)
+        pub rounds_end : freed ≡ 0 → BySteps Makes t (FailsInRounds 16 want Fails) (visit_state m c) (visit_state then e)
         rounds_end none =
             let last : FailsInRounds (suc (16 - (made + 1))) want Fails (transition t (visit_state now d) first (visit_state then e)) =
             inl (subst (λ (k : ℕ). MakesRound (16 - (16 - (made + 1))) want k Fails (transition t (visit_state now d) first (visit_state then e))) none (round Fails does)) in record {

@@ -16,14 +16,14 @@ use Rattle.mem_machine.specs.declared.blocks.TakeFault.{TakeFault}
 use Rattle.mem_machine.specs.declared.blocks.TakeFault.TheVariants as fault
 use Rattle.group_charge.specs.declared.note.Note.{Note}
 use Rattle.mem_machine.specs.Machines.{KnownMachine, is_killed, with_note, with_watch}
-use Rattle.mem_machine.specs.Local.{visit_state, MakesAs, VisitState}
+use Rattle.mem_machine.specs.Local.{visit_state, MakesAs, VisitState, Makes}
 use Rattle.mem_machine.specs.Lending.{UnlistsMany}
 use Rattle.mem_machine.specs.Blocks.{TakesBlock, TakesNoBlock, RefusesBlock, block_steps, taken_steps, unplaced_steps}
 use Rattle.mem_machine.specs.Paying.{HasRoomFor}
 use Rattle.mem_machine.specs.Steps.{over_steps, drain_list_steps}
 use Rattle.mem_alloc.specs.declared.faults.AllocFault.{AllocFault}
 use Rattle.mem_alloc.specs.declared.faults.AllocFault.TheVariants.{Over, NoFrames, RequesterKilled}
-use Rattle.mem_alloc.specs.Stepping.{BySteps, Transition, transition}
+use Rattle.mem_machine.specs.Transitions.{BySteps, Transition, transition}
 use Rattle.mem_alloc.specs.Room.{AfterRoom, IsRefusedFor, IsRoomAnswer}
 use Rattle.mem_alloc.specs.Blocks.{AllocatesBlock, ChargesBlock, FindsNoBlock, MayHaveBlock, RetriesBlock}
 use Rattle.mem_alloc.specs.Blocks.{TakesAfterDrain, TakesFreeBlock, TakesInRounds, TakesOrReclaims}
@@ -55,17 +55,17 @@ by_none {t = t} p g k a b e is steps = subst (λ (x : TakeFault). MakesAs t p a 
 
 module _ (t : KnownTable) (g k : ℕ) (c : KnownCpu) (m x : KnownMachine) (so_far : RoomSoFar t g (2 ^ k) c m x) (y : KnownCpu) (mine : y ≡ c)
     (n : KnownMachine) (d : KnownCpu) where
-  does_here : (Does : Transition VisitState → Type 0) → BySteps t Does (visit_state x y) (visit_state n d) → BySteps t (AfterRoom g (2 ^ k) Does) (visit_state m c) (visit_state n d)
-  does_here Does b = so_far_does t g (2 ^ k) c m x so_far Does n d (subst (λ (e : KnownCpu). BySteps t Does (visit_state x e) (visit_state n d)) mine b)
+  does_here : (Does : Transition VisitState → Type 0) → BySteps Makes t Does (visit_state x y) (visit_state n d) → BySteps Makes t (AfterRoom g (2 ^ k) Does) (visit_state m c) (visit_state n d)
+  does_here Does b = so_far_does t g (2 ^ k) c m x so_far Does n d (subst (λ (e : KnownCpu). BySteps Makes t Does (visit_state x e) (visit_state n d)) mine b)
 
   pub so_far_takes : (head : ℕ) → TakesBlock g k head x n → d ≡ y → MakesAs t y.number (visit_state x y) (taken_steps g k head) (visit_state n d)
-      → BySteps t (AfterRoom g (2 ^ k) (TakesFreeBlock g k head)) (visit_state m c) (visit_state n d)
+      → BySteps Makes t (AfterRoom g (2 ^ k) (TakesFreeBlock g k head)) (visit_state m c) (visit_state n d)
   so_far_takes head takes cpu run =
       does_here (TakesFreeBlock g k head)
       (record { steps = taken_steps g k head; does = record { takes = takes; cpu = cpu; steps_are = refl }; makes = run })
 
   pub so_far_no_block : TakesNoBlock g k x n → d ≡ y → MakesAs t y.number (visit_state x y) (unplaced_steps g k) (visit_state n d)
-      → BySteps t (AfterRoom g (2 ^ k) (FindsNoBlock g k)) (visit_state m c) (visit_state n d)
+      → BySteps Makes t (AfterRoom g (2 ^ k) (FindsNoBlock g k)) (visit_state m c) (visit_state n d)
   so_far_no_block none cpu run =
       does_here (FindsNoBlock g k)
       (record { steps = unplaced_steps g k; does = record { none = none; cpu = cpu; steps_are = refl }; makes = run })
@@ -91,15 +91,15 @@ module _ (t : KnownTable) (g k : ℕ) (c : KnownCpu) (m x : KnownMachine) (so_fa
 
 -- a charge is refused for good
 charges_refused : (t : KnownTable) (g k : ℕ) (e : AllocFault) (a b : VisitState)
-    → BySteps t (IsRefusedFor g (2 ^ k) e) a b → BySteps t (ChargesBlock g k (Err e)) a b
+    → BySteps Makes t (IsRefusedFor g (2 ^ k) e) a b → BySteps Makes t (ChargesBlock g k (Err e)) a b
 charges_refused t g k (Over over) a b by = by
 charges_refused t g k NoFrames a b by = absurd by.does.does.does.1.room
 charges_refused t g k RequesterKilled a b by = by
 
 pub over_charges : (t : KnownTable) (g k : ℕ) (r : Result ℕ AllocFault) (x : AllocFault) (m n : KnownMachine) (c d : KnownCpu) → r ≡ Err x
-    → d ≡ c → BySteps t (IsRefusedFor g (2 ^ k) x) (visit_state m c) (visit_state n c) → BySteps t (ChargesBlock g k r) (visit_state m c) (visit_state n d)
+    → d ≡ c → BySteps Makes t (IsRefusedFor g (2 ^ k) x) (visit_state m c) (visit_state n c) → BySteps Makes t (ChargesBlock g k r) (visit_state m c) (visit_state n d)
 over_charges t g k r x m n c d is cpu by =
-    subst (λ (z : KnownCpu × Result ℕ AllocFault). BySteps t (ChargesBlock g k z.1) (visit_state m c) (visit_state n z.0)) (λ i. (sym cpu i, sym is i))
+    subst (λ (z : KnownCpu × Result ℕ AllocFault). BySteps Makes t (ChargesBlock g k z.1) (visit_state m c) (visit_state n z.0)) (λ i. (sym cpu i, sym is i))
     (charges_refused t g k x (visit_state m c) (visit_state n c) by)
 
 abbrev fault_of : Result ℕ AllocFault → AllocFault
@@ -227,8 +227,8 @@ module _ (t : KnownTable) (g k : ℕ) (m x n : KnownMachine) (c y d : KnownCpu) 
   then steps run = makes_both t c.number (drain_list_steps c.number c.list) steps (visit_state m c) (visit_state x y) (visit_state n d) by_giving
       (subst (λ (p : ℕ). MakesAs t p (visit_state x y) steps (visit_state n d)) part.number run)
 
-  takes_drained : (r : Result ℕ AllocFault) → BySteps t (TakesOrReclaims g k r) (visit_state x y) (visit_state n d)
-      → BySteps t (TakesAfterDrain g k r) (visit_state m c) (visit_state n d)
+  takes_drained : (r : Result ℕ AllocFault) → BySteps Makes t (TakesOrReclaims g k r) (visit_state x y) (visit_state n d)
+      → BySteps Makes t (TakesAfterDrain g k r) (visit_state m c) (visit_state n d)
   takes_drained r b = record {
     steps = drain_list_steps c.number c.list ++ b.steps;
     does = record {
@@ -243,7 +243,7 @@ module _ (t : KnownTable) (g k : ℕ) (m x n : KnownMachine) (c y d : KnownCpu) 
 
   -- it takes the block
   pub takes_after : (head : ℕ) → TakesBlock g k head x n → MakesAs t y.number (visit_state x y) (taken_steps g k head) (visit_state n d)
-      → BySteps t (TakesAfterDrain g k (Ok head)) (visit_state m c) (visit_state n d)
+      → BySteps Makes t (TakesAfterDrain g k (Ok head)) (visit_state m c) (visit_state n d)
   takes_after head takes run =
       takes_drained (Ok head)
       (record { steps = taken_steps g k head; does = inl (record { takes = takes; cpu = stays; steps_are = refl }); makes = run })
@@ -251,9 +251,9 @@ module _ (t : KnownTable) (g k : ℕ) (m x n : KnownMachine) (c y d : KnownCpu) 
   -- or finds none, and rounds of reclaim follow
   module _ (w : KnownMachine) (z : KnownCpu) (none : TakesNoBlock g k x w) (same : z ≡ y)
       (vain : MakesAs t y.number (visit_state x y) (unplaced_steps g k) (visit_state w z)) where
-    in_rounds : (r : Result ℕ AllocFault) → BySteps t (TakesInRounds g k r) (visit_state w z) (visit_state n d) → BySteps t (TakesOrReclaims g k r) (visit_state x y) (visit_state n d)
+    in_rounds : (r : Result ℕ AllocFault) → BySteps Makes t (TakesInRounds g k r) (visit_state w z) (visit_state n d) → BySteps Makes t (TakesOrReclaims g k r) (visit_state x y) (visit_state n d)
     in_rounds r there =
-        let rounds = subst (λ (u : KnownCpu). BySteps t (TakesInRounds g k r) (visit_state w u) (visit_state n d)) same there in
+        let rounds = subst (λ (u : KnownCpu). BySteps Makes t (TakesInRounds g k r) (visit_state w u) (visit_state n d)) same there in
         let first = subst (λ (u : KnownCpu). MakesAs t y.number (visit_state x y) (unplaced_steps g k) (visit_state w u)) same vain in record {
           steps = unplaced_steps g k ++ rounds.steps;
           does = inr (record {
@@ -267,10 +267,10 @@ module _ (t : KnownTable) (g k : ℕ) (m x n : KnownMachine) (c y d : KnownCpu) 
           makes = makes_both t y.number (unplaced_steps g k) rounds.steps (visit_state x y) (visit_state w y) (visit_state n d) first rounds.makes;
         }
 
-    pub reclaims_after : (r : Result ℕ AllocFault) → BySteps t (TakesInRounds g k r) (visit_state w z) (visit_state n d) → BySteps t (TakesAfterDrain g k r) (visit_state m c) (visit_state n d)
+    pub reclaims_after : (r : Result ℕ AllocFault) → BySteps Makes t (TakesInRounds g k r) (visit_state w z) (visit_state n d) → BySteps Makes t (TakesAfterDrain g k r) (visit_state m c) (visit_state n d)
     reclaims_after r there = takes_drained r (in_rounds r there)
 
-    pub reclaims_open : (r : Result ℕ AllocFault) → BySteps t (TakesInRounds g k r) (visit_state w z) (visit_state n d) → n.frame_seat.view.opened ≡ m.frame_seat.view.opened
+    pub reclaims_open : (r : Result ℕ AllocFault) → BySteps Makes t (TakesInRounds g k r) (visit_state w z) (visit_state n d) → n.frame_seat.view.opened ≡ m.frame_seat.view.opened
     reclaims_open r there =
         rounds_open t g k r w n z d there.steps there.does ∙ ap (λ (u : KnownMachine). u.frame_seat.view.opened) none.machine ∙ part.opened
 
@@ -296,7 +296,7 @@ no_kill g k call h = elim h.takes [
 ]
 
 module _ (t : KnownTable) (g k : ℕ) (m : KnownMachine) (c : KnownCpu) (alive : is_killed m.killed g ≡ false) where
-  by_answer : (r : Result ℕ AllocFault) (n : VisitState) → BySteps t (RetriesBlock g k r) (visit_state m c) n → BySteps t (AllocatesBlock g k r) (visit_state m c) n
+  by_answer : (r : Result ℕ AllocFault) (n : VisitState) → BySteps Makes t (RetriesBlock g k r) (visit_state m c) n → BySteps Makes t (AllocatesBlock g k r) (visit_state m c) n
   by_answer (Ok head) n b = record { steps = b.steps; does = inr (record { is = alive; does = b.does }); makes = b.makes }
   by_answer (Err NoFrames) n b = record { steps = b.steps; does = record { is = alive; does = b.does }; makes = b.makes }
   by_answer (Err (Over over)) n b = absurd (no_over g k over _ b.does.second)
@@ -304,10 +304,10 @@ module _ (t : KnownTable) (g k : ℕ) (m : KnownMachine) (c : KnownCpu) (alive :
 
   -- no block is free at first, and what comes of the drained list decides
   pub decides_drained : (r : Result ℕ AllocFault) (cause : AllocFault) (x n : KnownMachine) (y d : KnownCpu) → cause ≡ NoFrames → y ≡ c
-      → BySteps t (ChargesBlock g k (Err cause)) (visit_state m c) (visit_state x y)
-      → BySteps t (TakesAfterDrain g k r) (visit_state x y) (visit_state n d) → BySteps t (AllocatesBlock g k r) (visit_state m c) (visit_state n d)
+      → BySteps Makes t (ChargesBlock g k (Err cause)) (visit_state m c) (visit_state x y)
+      → BySteps Makes t (TakesAfterDrain g k r) (visit_state x y) (visit_state n d) → BySteps Makes t (AllocatesBlock g k r) (visit_state m c) (visit_state n d)
   decides_drained r cause x n y d named mine charged drained =
-      let first = subst (λ (f : AllocFault). BySteps t (ChargesBlock g k (Err f)) (visit_state m c) (visit_state x y)) named charged in
+      let first = subst (λ (f : AllocFault). BySteps Makes t (ChargesBlock g k (Err f)) (visit_state m c) (visit_state x y)) named charged in
       let number = ap (λ (z : KnownCpu). z.number) mine in
       by_answer r (visit_state n d) (record {
         steps = first.steps ++ drained.steps;

@@ -12,7 +12,7 @@ use Rattle.mem_machine.specs.Steps.{drain_list_steps}
 use Rattle.mem_reclaim.specs.Rounds.{max_rounds}
 use Rattle.mem_alloc.specs.declared.faults.AllocFault.{AllocFault}
 use Rattle.mem_alloc.specs.declared.faults.AllocFault.TheVariants.{Over, NoFrames, RequesterKilled}
-use Rattle.mem_alloc.specs.Stepping.{InTurn, Transition, transition}
+use Rattle.mem_machine.specs.Transitions.{InTurn, Transition, transition}
 use Rattle.mem_alloc.specs.Room.{AfterRoom, IsRefusedFor}
 use Rattle.mem_alloc.specs.Rounds.{AfterZoneNote, FailsInRounds, SucceedsInRounds}
 use Rattle.mem_alloc.specs.Frames.{RefusesKilled, UnlessKilled}

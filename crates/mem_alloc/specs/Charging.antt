@@ -8,7 +8,7 @@ use Rattle.mem_machine.specs.Steps.{drain_steps, fill_steps, over_steps}
 use Rattle.mem_machine.specs.Paying.{HoldsPage}
 use Rattle.mem_machine.specs.Local.{Makes, VisitState, visit_state}
 use Rattle.mem_alloc.specs.declared.faults.AllocFault.{AllocFault}
-use Rattle.mem_alloc.specs.Stepping.{Finds, InTurn, Stays, Transition, transition}
+use Rattle.mem_machine.specs.Transitions.{Finds, InTurn, Stays, Transition, transition}
 use Rattle.mem_alloc.specs.Room.{AfterRoom, IsRefusedFor}
 use Rattle.step_watch.specs.Watched.{KnownWatch}
 

@@ -12,7 +12,7 @@ use Rattle.mem_machine.specs.Steps.{refill_steps, take_front_steps}
 use Rattle.mem_reclaim.specs.Rounds.{max_rounds}
 use Rattle.mem_alloc.specs.declared.faults.AllocFault.{AllocFault}
 use Rattle.mem_alloc.specs.declared.faults.AllocFault.TheVariants.{Over, NoFrames, RequesterKilled}
-use Rattle.mem_alloc.specs.Stepping.{Finds, InTurn, Stays, Transition, transition}
+use Rattle.mem_machine.specs.Transitions.{Finds, InTurn, Stays, Transition, transition}
 use Rattle.mem_alloc.specs.Charging.{DrainsStock, PaysForFrame}
 use Rattle.mem_alloc.specs.Rounds.{AfterZoneNote, FailsInRounds, SucceedsInRounds}
 

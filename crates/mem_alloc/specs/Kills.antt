@@ -13,7 +13,7 @@ use Rattle.mem_reclaim.specs.declared.sets.Killed.{Killed}
 use Rattle.mem_reclaim.specs.Killing.{IsKilledBy, OnlyDrains, OnlyReleases, with_all_killed}
 use Rattle.mem_reclaim.specs.Sets.{kill_set}
 use Rattle.mem_reclaim.specs.Victim.{IsVictim}
-use Rattle.mem_alloc.specs.Stepping.{InTurn, MachineStays, Transition, transition}
+use Rattle.mem_machine.specs.Transitions.{InTurn, MachineStays, Transition, transition}
 use Rattle.step_watch.specs.Watched.{KnownWatch}
 
 -- the most pages of one charge for which groups are killed: those of an order of 3

@@ -22,7 +22,7 @@ use Rattle.mem_reclaim.specs.Victim.{IsVictim}
 use Rattle.mem_alloc.specs.Frames.{HasNoFreeFrame, LendsBatch}
 use Rattle.mem_alloc.specs.Kills.{IsAlive, KillsForRoom, has_room_at}
 use Rattle.mem_alloc.specs.NoRash.{IsChargedBelow, NoRashKill, has_oom_note}
-use Rattle.mem_alloc.specs.Stepping.{Transition}
+use Rattle.mem_machine.specs.Transitions.{Transition}
 
 -- By these first steps of a call, everything else was tried for the limit of the group `limited`, which has no room.
 -- The steps lead to a consistent machine. One of them notes `oom` there, and each stock of the subtree is drained. For

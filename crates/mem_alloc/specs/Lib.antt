@@ -1,4 +1,3 @@
-pub mod Stepping
 pub mod Kills
 pub mod Room
 pub mod Charging

@@ -24,7 +24,8 @@ use Rattle.mem_reclaim.specs.Sets.{IsKilledRoot, kill_set}
 use Rattle.mem_reclaim.specs.Staying.{MissedAll}
 use Rattle.mem_reclaim.specs.Victim.{IsVictim}
 use Rattle.mem_alloc.specs.Kills.{has_room_at, most_killed_for}
-use Rattle.mem_alloc.specs.Stepping.{CountsMisses, Transition, transition}
+use Rattle.mem_machine.specs.Transitions.{Transition, transition}
+use Rattle.mem_reclaim.specs.Moves.{CountsMisses}
 
 -- the step notes that only kills are left at the group's limit (`oom`)
 abbrev pub is_oom_note : ℕ → Action → Bool

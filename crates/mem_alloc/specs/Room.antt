@@ -16,7 +16,7 @@ use Rattle.mem_reclaim.specs.Rounds.{ReclaimsRounds, max_rounds, pages_missing}
 use Rattle.mem_reclaim.specs.Staying.{Keeps, MissedAll}
 use Rattle.mem_alloc.specs.declared.faults.AllocFault.{AllocFault}
 use Rattle.mem_alloc.specs.declared.faults.AllocFault.TheVariants.{Over, NoFrames, RequesterKilled}
-use Rattle.mem_alloc.specs.Stepping.{InTurn, MachineStays, OfMachineAlone, Transition, transition}
+use Rattle.mem_machine.specs.Transitions.{InTurn, MachineStays, OfMachineAlone, Transition, transition}
 use Rattle.step_watch.specs.Watched.{KnownWatch}
 -- what is killed, and whether there is room
 pub use Rattle.mem_alloc.specs.Kills.{KillsForRoom, NeedsRoom, has_room_at, most_killed_for}

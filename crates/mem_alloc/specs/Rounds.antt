@@ -8,7 +8,7 @@ use Rattle.mem_reclaim.specs.Wanted.{progress}
 use Rattle.mem_reclaim.specs.Moves.{FreesPages}
 use Rattle.mem_reclaim.specs.Rounds.{ReclaimsRound, max_rounds}
 use Rattle.mem_reclaim.specs.Staying.{Keeps, MissedAll}
-use Rattle.mem_alloc.specs.Stepping.{InTurn, Stays, Transition, transition}
+use Rattle.mem_machine.specs.Transitions.{InTurn, Stays, Transition, transition}
 
 -- The round of this number: `want` pages are wanted from the root's subtree, which is all groups, and `freed` pages are
 -- freed. The round is noted. If they are fewer than wanted, each clean unit that is still kept was tried and missed.

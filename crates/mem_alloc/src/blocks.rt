@@ -5,10 +5,11 @@ ghost use Rattle.group_tree.specs.Groups.{has_group};
 ghost use Rattle.mem_machine.specs.Machines.{KeepsVisit, Visits};
 ghost use Rattle.mem_machine.specs.Paying.{IsOfSize, MayCharge};
 ghost use Rattle.mem_alloc.specs.declared.faults.AllocFault.TheVariants.{NoFrames};
-ghost use Rattle.mem_alloc.specs.Stepping.{BySteps, IsSettled};
+ghost use Rattle.mem_machine.specs.Transitions.{BySteps};
+ghost use Rattle.mem_machine.specs.Settling.{IsSettled};
 ghost use Rattle.mem_alloc.specs.Blocks.{AllocatesBlock, ChargesBlock, MayHaveBlock};
-ghost use Rattle.mem_alloc.specs.Blocks.{MakesTakeRounds, TakesAfterDrain, TakesInRounds};
-ghost use Rattle.mem_machine.specs.Local.{visit_state};
+ghost use Rattle.mem_alloc.specs.Blocks.{MakesTakeRounds, TakesAfterDrain};
+ghost use Rattle.mem_machine.specs.Local.{visit_state, Makes};
 
 use crate::faults::AllocFault;
 use crate::reclaims::reclaim_anywhere;
@@ -17,7 +18,7 @@ use cpu_part::{BootName, Cpu, Tables};
 use frame_word::Frame;
 use group_charge::note::Note;
 use group_tree::group::GroupId;
-use mem_machine::{Machine, TakeFault};
+use mem_machine::{Machine, TakeFault, prove_order};
 use mem_reclaim::MAX_ROUNDS;
 use zone_blocks::order::Order;
 
@@ -32,7 +33,7 @@ fn charge_block<N: BootName>(
     requires visit { Visits N.frames (visit_state machine.old cpu.old) }
     requires may_charge { MayCharge machine.old group (2 ^ order) }
     requires settled { IsSettled cpu.old }
-    ensures charges { BySteps N.frames (ChargesBlock group order result)
+    ensures charges { BySteps Makes N.frames (ChargesBlock group order result)
         (visit_state machine.old cpu.old) (visit_state machine.new cpu.new) }
     ensures cpu { cpu.new ≡ cpu.old }
     ensures visit { Visits N.frames (visit_state machine.new cpu.new) }
@@ -61,7 +62,7 @@ fn reclaim_until_taken<N: BootName>(
     requires visit { Visits N.frames (visit_state machine.old cpu.old) }
     requires room { MayHaveBlock machine.old group order }
     requires settled { IsSettled cpu.old }
-    ensures takes { BySteps N.frames (MakesTakeRounds group order result)
+    ensures takes { BySteps Makes N.frames (MakesTakeRounds group order result)
         (visit_state machine.old cpu.old) (visit_state machine.new cpu.new) }
     ensures cpu { cpu.new ≡ cpu.old }
     ensures visit { Visits N.frames (visit_state machine.new cpu.new) }
@@ -79,30 +80,8 @@ fn reclaim_until_taken<N: BootName>(
     Err(AllocFault::NoFrames)
 }
 
-// No block is free: notes that, and reclaims in rounds, until the block is taken.
-fn note_and_reclaim_until_taken<N: BootName>(
-    machine: &mut Machine<N>,
-    tables: &Tables<N>,
-    cpu: &mut Cpu<N>,
-    group: GroupId,
-    order: Order,
-) -> Result<Frame, AllocFault>
-    requires visit { Visits N.frames (visit_state machine.old cpu.old) }
-    requires room { MayHaveBlock machine.old group order }
-    requires settled { IsSettled cpu.old }
-    ensures takes { BySteps N.frames (TakesInRounds group order result)
-        (visit_state machine.old cpu.old) (visit_state machine.new cpu.new) }
-    ensures cpu { cpu.new ≡ cpu.old }
-    ensures visit { Visits N.frames (visit_state machine.new cpu.new) }
-{
-    machine.note(Note::Zone {
-        order: order.exponent(),
-    });
-    reclaim_until_taken(machine, tables, cpu, group, order)
-}
-
 // Returns the CPU's list to the zone, and then takes the block, for which every limit has room. If still no block is
-// free, its pages are reclaimed in rounds.
+// free, that is noted, and its pages are reclaimed in rounds.
 fn take_after_drain<N: BootName>(
     machine: &mut Machine<N>,
     tables: &Tables<N>,
@@ -113,7 +92,7 @@ fn take_after_drain<N: BootName>(
     requires visit { Visits N.frames (visit_state machine.old cpu.old) }
     requires room { MayHaveBlock machine.old group order }
     requires settled { IsSettled cpu.old }
-    ensures takes { BySteps N.frames (TakesAfterDrain group order result)
+    ensures takes { BySteps Makes N.frames (TakesAfterDrain group order result)
         (visit_state machine.old cpu.old) (visit_state machine.new cpu.new) }
     ensures stays { KeepsVisit N.frames (visit_state machine.old cpu.old) (visit_state machine.new cpu.new) }
     ensures fresh { cpu.new.fresh ≡ [] }
@@ -123,7 +102,12 @@ fn take_after_drain<N: BootName>(
     machine.drain_list(tables, cpu, listed);
     match machine.take_block(tables, cpu, group, order) {
         Ok(head) => Ok(head),
-        Err(TakeFault::NoBlock) => note_and_reclaim_until_taken(machine, tables, cpu, group, order),
+        Err(TakeFault::NoBlock) => {
+            machine.note(Note::Zone {
+                order: order.exponent(),
+            });
+            reclaim_until_taken(machine, tables, cpu, group, order)
+        }
         Err(TakeFault::Over(_)) => unreachable!(),
     }
 }
@@ -150,7 +134,7 @@ pub fn alloc_block<N: BootName>(
     requires size { IsOfSize N.frames }
     requires there { IsTrue (has_group machine.old.ledger.groups group) }
     requires settled { IsSettled cpu.old }
-    ensures allocates { BySteps N.frames (AllocatesBlock group order result)
+    ensures allocates { BySteps Makes N.frames (AllocatesBlock group order result)
         (visit_state machine.old cpu.old) (visit_state machine.new cpu.new) }
     ensures stays { KeepsVisit N.frames (visit_state machine.old cpu.old) (visit_state machine.new cpu.new) }
     ensures fresh { cpu.new.fresh ≡ [] }
@@ -159,7 +143,7 @@ pub fn alloc_block<N: BootName>(
     if machine.is_killed(group) {
         return Err(AllocFault::RequesterKilled);
     }
-    let _pages = order.frames(); // Called for its contract.
+    prove_order(order);
     machine.prove_room();
     match charge_block(machine, tables, cpu, group, order) {
         Ok(head) => Ok(head),

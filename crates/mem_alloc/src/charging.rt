@@ -6,9 +6,9 @@ ghost use Rattle.group_tree.specs.Groups.{has_group};
 ghost use Rattle.mem_machine.specs.Machines.{Visits, is_killed};
 ghost use Rattle.mem_machine.specs.Paying.{HoldsPage, IsOfSize, MayCharge};
 ghost use Rattle.mem_machine.specs.Stocks.{IsDrained, with_look};
-ghost use Rattle.mem_alloc.specs.Stepping.{BySteps};
+ghost use Rattle.mem_machine.specs.Transitions.{BySteps};
 ghost use Rattle.mem_alloc.specs.Charging.{ChargesOne, FillsDrainedStock, PaysForFrame};
-ghost use Rattle.mem_machine.specs.Local.{visit_state};
+ghost use Rattle.mem_machine.specs.Local.{visit_state, Makes};
 
 use crate::faults::AllocFault;
 use crate::room::make_room;
@@ -47,7 +47,7 @@ fn fill_one<N: BootName>(
     requires may_charge { MayCharge machine.old group 1 }
     requires none_fresh { cpu.old.fresh ≡ [] }
     requires drained { IsDrained machine.old cpu.old.number }
-    ensures charges { BySteps N.frames (ChargesOne group result)
+    ensures charges { BySteps Makes N.frames (ChargesOne group result)
         (visit_state machine.old cpu.old) (visit_state machine.new cpu.new) }
     ensures visit { Visits N.frames (visit_state machine.new cpu.new) }
 {
@@ -75,7 +75,7 @@ fn fill_drained_stock<N: BootName>(
     requires alive { is_killed machine.old.killed group ≡ false }
     requires none_fresh { cpu.old.fresh ≡ [] }
     requires drained { IsDrained machine.old cpu.old.number }
-    ensures charges { BySteps N.frames (FillsDrainedStock sizes group result)
+    ensures charges { BySteps Makes N.frames (FillsDrainedStock sizes group result)
         (visit_state machine.old cpu.old) (visit_state machine.new cpu.new) }
     ensures visit { Visits N.frames (visit_state machine.new cpu.new) }
 {
@@ -100,7 +100,7 @@ pub(crate) fn pay_for_frame<N: BootName>(
     requires there { IsTrue (has_group machine.old.ledger.groups group) }
     requires alive { is_killed machine.old.killed group ≡ false }
     requires none_fresh { cpu.old.fresh ≡ [] }
-    ensures pays { BySteps N.frames (PaysForFrame sizes group result)
+    ensures pays { BySteps Makes N.frames (PaysForFrame sizes group result)
         (visit_state machine.old cpu.old) (visit_state machine.new cpu.new) }
     ensures visit { Visits N.frames (visit_state machine.new cpu.new) }
     ensures page { OnOk result (HoldsPage (visit_state machine.new cpu.new) group) }

@@ -4,13 +4,14 @@ ghost use Rattle.std.specs.Prelude.{◌≡◌, ◌↔◌, IsTrue};
 ghost use Rattle.group_tree.specs.Groups.{has_group};
 ghost use Rattle.mem_alloc.specs.Kills.{KillsForRoom, NeedsRoom, has_room_at};
 ghost use Rattle.mem_alloc.specs.Room.{KillsForFewPages};
-ghost use Rattle.mem_alloc.specs.Stepping.{ByStepsOfAny};
+ghost use Rattle.mem_machine.specs.Local.{MakesForAny};
+ghost use Rattle.mem_machine.specs.Transitions.{BySteps};
 
 use cpu_part::{BootName, Tables};
 use group_charge::charges::Charges;
 use group_charge::note::Note;
 use group_tree::group::GroupId;
-use mem_machine::Machine;
+use mem_machine::{Machine, prove_charges};
 use mem_reclaim::kill;
 
 // The most pages for which groups are killed: those of an order of 3. Linux kills nobody for more either
@@ -59,7 +60,7 @@ pub fn kill_for<N: BootName>(
     pages: u32,
 )
     requires { IsTrue (has_group machine.old.ledger.groups limited) }
-    ensures { ByStepsOfAny N.frames (KillsForRoom requester limited pages) machine.old machine.new }
+    ensures { BySteps MakesForAny N.frames (KillsForRoom requester limited pages) machine.old machine.new }
 {
     if has_room_at(machine.charges(), limited, pages) {
         return;
@@ -67,9 +68,9 @@ pub fn kill_for<N: BootName>(
     machine.note_oom(limited);
     machine.note(Note::Oom { group: limited });
     'kills: loop {
-        let _frame_states = machine.frame_states(); // Called for its contract.
+        machine.prove_consistent();
         let charges = machine.charges();
-        let _tree = charges.tree(); // Called for its contract.
+        prove_charges(charges);
         if !needs_room(machine, &requester, limited, pages) {
             return;
         }
@@ -88,7 +89,7 @@ pub(crate) fn kill_for_few_pages<N: BootName>(
     pages: u32,
 )
     requires { IsTrue (has_group machine.old.ledger.groups limited) }
-    ensures { ByStepsOfAny N.frames (KillsForFewPages requester limited pages) machine.old machine.new }
+    ensures { BySteps MakesForAny N.frames (KillsForFewPages requester limited pages) machine.old machine.new }
 {
     if pages <= MAX_KILLED_FOR {
         kill_for(machine, tables, Some(requester), limited, pages);

@@ -1,8 +1,7 @@
 //! Allocations that a CPU makes under the zone's lock: pages are charged to a group, and frames are taken for it. A
 //! refused allocation takes no frame and charges no page; what was noted, drained, reclaimed and killed for it stays.
 //!
-//! A line that ends in 'Called for its contract' calls a reader and changes nothing. A proof knows the invariant of a
-//! type only from the contract of such a call.
+//! A call of a function `prove_..` does nothing: a proof needs its contract.
 #![tactic(auto)]
 
 mod blocks;

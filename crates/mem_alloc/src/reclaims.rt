@@ -7,7 +7,7 @@ ghost use Rattle.mem_reclaim.specs.Staying.{Keeps, MissedAll};
 
 use cpu_part::{BootName, Tables};
 use group_tree::group::GroupId;
-use mem_machine::Machine;
+use mem_machine::{Machine, prove_charges};
 use mem_reclaim::reclaim_round;
 
 // Makes the round of this number, from 1, in which `want` pages are wanted from the units of all groups, and returns
@@ -22,6 +22,6 @@ pub(crate) fn reclaim_anywhere<N: BootName>(
     ensures missed { result < want → MissedAll 0 machine.old machine.new }
     ensures keeps { Keeps N.frames machine.old machine.new }
 {
-    let _tree = machine.charges().tree(); // Called for its contract.
+    prove_charges(machine.charges());
     reclaim_round(machine, tables, GroupId::root(), number, want).pages
 }

@@ -3,7 +3,8 @@
 ghost use Rattle.std.specs.Prelude.{◌≡◌, ◌<◌, IsTrue};
 ghost use Rattle.group_tree.specs.Bounds.{most_groups};
 ghost use Rattle.group_tree.specs.Groups.{has_group};
-ghost use Rattle.mem_alloc.specs.Stepping.{ByStepsOfAny};
+ghost use Rattle.mem_machine.specs.Local.{MakesForAny};
+ghost use Rattle.mem_machine.specs.Transitions.{BySteps};
 ghost use Rattle.mem_alloc.specs.Room.{IsRoomAnswer, ReclaimsFor, RelievesLimit, with_limit_noted};
 
 use crate::faults::AllocFault;
@@ -11,7 +12,7 @@ use crate::kills::{has_room_at, kill_for_few_pages};
 use cpu_part::{BootName, Tables};
 use group_charge::note::Note;
 use group_tree::group::GroupId;
-use mem_machine::Machine;
+use mem_machine::{Machine, prove_number};
 use mem_reclaim::reclaim_to_limit;
 
 // Reclaims in rounds from the subtree of the group, until its limit has room for this many pages.
@@ -22,7 +23,7 @@ fn reclaim_for<N: BootName>(
     pages: u32,
 )
     requires { IsTrue (has_group machine.old.ledger.groups limited) }
-    ensures reclaims { ByStepsOfAny N.frames (ReclaimsFor limited pages) machine.old machine.new }
+    ensures reclaims { BySteps MakesForAny N.frames (ReclaimsFor limited pages) machine.old machine.new }
 {
     if let Some(limit) = machine.charges().max(limited) {
         reclaim_to_limit(machine, tables, limited, pages, limit);
@@ -65,11 +66,11 @@ pub(crate) fn make_room<N: BootName>(
     pages: u32,
 ) -> Result<(), AllocFault>
     requires { IsTrue (has_group machine.old.ledger.groups limited) }
-    ensures relieves { ByStepsOfAny N.frames (RelievesLimit requester limited pages) machine.old machine.new }
+    ensures relieves { BySteps MakesForAny N.frames (RelievesLimit requester limited pages) machine.old machine.new }
     ensures room { IsRoomAnswer requester limited pages result machine.new }
     ensures below { limited < most_groups }
 {
-    let _number = limited.number(); // Called for its contract.
+    prove_number(limited);
     note_limit(machine, limited, pages);
     machine.note_max(limited);
     machine.drain_stocks(tables, limited);

@@ -5,7 +5,7 @@ use Rattle.std.specs.Prelude.{is_some, IfSome}
 use Rattle.std.proofs.lemmas.List.{get_or_default}
 use Rattle.zone_blocks.specs.declared.block.Block.{Block}
 use Rattle.zone_blocks.specs.Areas.{AreMaximalBlocks}
-use Rattle.zone_buddy.specs.Zone.{GivesFrames, IsInUse}
+use Rattle.zone_blocks.specs.Zone.{GivesFrames, IsInUse}
 use Rattle.frame_word.specs.declared.view.FrameNote.{FrameNote}
 use Rattle.frame_word.specs.Views.{note_of, collected_from}
 use Rattle.frame_word.specs.Seats.{KnownTable, KnownSeat, seat_with, HasNothingOf, IsLentToNone, Passes, NothingPasses}

@@ -9,7 +9,7 @@ use Rattle.frame_word.specs.declared.view.FrameNote.{FrameNote}
 use Rattle.frame_word.specs.Views.{note_of, frozen, missed}
 use Rattle.frame_word.specs.Seats.{KnownTable, KnownSeat, seat_with, seat_references, FreezeAnswers}
 use Rattle.stock_word.specs.Stock.{KnownStockTable}
-use Rattle.zone_buddy.specs.Zone.{GivesFrames}
+use Rattle.zone_blocks.specs.Zone.{GivesFrames}
 use Rattle.group_charge.specs.Charges.{Ledger, UsageRises, with_uncharge}
 use Rattle.lru_lists.specs.declared.record.Link.{Link}
 use Rattle.lru_lists.specs.declared.record.Home.{Home}

@@ -11,7 +11,7 @@ use Rattle.std.proofs.lemmas.List.{get_or-set_same, get_or-set_other, length-set
 use Rattle.zone_blocks.specs.declared.block.Block.{Block}
 use Rattle.zone_blocks.specs.Block.{IsBlock}
 use Rattle.zone_blocks.specs.Areas.{AreMaximalBlocks}
-use Rattle.zone_buddy.specs.Zone.{GivesFrames, IsInUse}
+use Rattle.zone_blocks.specs.Zone.{GivesFrames, IsInUse}
 use Rattle.frame_word.specs.Views.{note_of}
 use Rattle.frame_word.specs.Seats.{KnownTable, KnownSeat, IsZoneSeat}
 use Rattle.stock_word.specs.Stock.{KnownStockTable}

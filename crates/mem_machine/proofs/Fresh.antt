@@ -6,7 +6,7 @@ use Rattle.std.proofs.lemmas.Bool.{cases_eq, cond-true, false≢true}
 use Rattle.std.proofs.lemmas.List.{get_or-set_same, get_or-set_other, length-set, ext_get_or}
 use Rattle.zone_blocks.specs.declared.block.Block.{Block}
 use Rattle.zone_blocks.specs.Areas.{AreMaximalBlocks}
-use Rattle.zone_buddy.specs.Zone.{GivesFrames, IsInUse}
+use Rattle.zone_blocks.specs.Zone.{GivesFrames, IsInUse}
 use Rattle.frame_word.specs.declared.view.FrameNote.{FrameNote}
 use Rattle.frame_word.specs.Views.{note_of, collected_from, unfrozen}
 use Rattle.frame_word.specs.Seats.{KnownTable, KnownSeat, seat_with, HasNothingOf, IsLent, IsInOwnHand}

@@ -3,7 +3,7 @@ use Rattle.std.proofs.Common.{◌≡◌, ℕ, ◌<◌, Bool, false, List, [], �
 use Rattle.std.specs.Prelude.{slice_set}
 use Rattle.zone_blocks.specs.declared.block.Block.{Block}
 use Rattle.zone_blocks.specs.Areas.{IsFree, AreMaximalBlocks}
-use Rattle.zone_buddy.specs.Zone.{TakesFrames}
+use Rattle.zone_blocks.specs.Zone.{TakesFrames}
 use Rattle.frame_word.specs.Views.{note_of, in_hands, passed_out_to, took_in}
 use Rattle.frame_word.specs.Seats.{KnownTable, KnownSeat, seat_with, IsInOwnHand}
 use Rattle.stock_word.specs.Stock.{KnownStockTable}

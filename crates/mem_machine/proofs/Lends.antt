@@ -7,7 +7,7 @@ use Rattle.std.proofs.lemmas.Bool.{cases_eq, ne_eqb, and_from, cond-true, lt-ltb
 use Rattle.std.proofs.lemmas.List.{get_or-set_same, get_or-set_other, length-set}
 use Rattle.zone_blocks.specs.declared.block.Block.{Block}
 use Rattle.zone_blocks.specs.Areas.{IsFree, AreMaximalBlocks, HasNoneFrom, IsFrontOfSmallest}
-use Rattle.zone_buddy.specs.Zone.{TakesFrames}
+use Rattle.zone_blocks.specs.Zone.{TakesFrames}
 use Rattle.frame_word.specs.declared.view.FrameNote.{FrameNote}
 use Rattle.frame_word.specs.Views.{note_of, in_hands, passed_out_to, took_in}
 use Rattle.frame_word.specs.Seats.{KnownTable, KnownSeat, seat_number, seat_references, seat_with, IsInOwnHand, IsLent}

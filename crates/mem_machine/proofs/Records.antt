@@ -9,7 +9,7 @@ use Rattle.std.proofs.lemmas.Option.{none-some}
 use Rattle.std.proofs.lemmas.List.{get_or-set_same, get_or-set_other, length-set, ext_get_or}
 use Rattle.zone_blocks.specs.Block.{IsBlock, Covers}
 use Rattle.zone_blocks.specs.Areas.{IsFree}
-use Rattle.zone_buddy.specs.Zone.{TakesFrames}
+use Rattle.zone_blocks.specs.Zone.{TakesFrames}
 use Rattle.frame_word.specs.declared.view.FrameNote.{FrameNote}
 use Rattle.frame_word.specs.Views.{note_of}
 use Rattle.frame_word.specs.Seats.{KnownSeat, seat_with, seat_references}

@@ -13,7 +13,7 @@ use Rattle.frame_word.specs.Views.{note_of, put_left, put_last}
 use Rattle.frame_word.specs.Seats.{KnownTable, KnownSeat, seat_number, seat_with, seat_references, IsBorrowed}
 use Rattle.frame_word.proofs.Notes.{note_here, note_else}
 use Rattle.stock_word.specs.Stock.{KnownStockTable}
-use Rattle.zone_buddy.specs.Zone.{GivesFrames}
+use Rattle.zone_blocks.specs.Zone.{GivesFrames}
 use Rattle.group_charge.specs.Charges.{Ledger, with_uncharge}
 use Rattle.lru_lists.specs.declared.record.Link.{Link}
 use Rattle.lru_lists.specs.declared.record.Home.{Home}

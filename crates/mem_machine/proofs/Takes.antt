@@ -6,7 +6,7 @@ use Rattle.std.proofs.lemmas.Bool.{cases_eq, ne_eqb, and_from, cond-true, lt-ltb
 use Rattle.std.proofs.lemmas.List.{length-set}
 use Rattle.zone_blocks.specs.declared.block.Block.{Block}
 use Rattle.zone_blocks.specs.Areas.{AreMaximalBlocks}
-use Rattle.zone_buddy.specs.Zone.{GivesFrames, IsInUse}
+use Rattle.zone_blocks.specs.Zone.{GivesFrames, IsInUse}
 use Rattle.frame_word.specs.declared.view.FrameNote.{FrameNote}
 use Rattle.frame_word.specs.Views.{note_of, passed_back_by_cpu, collected_from}
 use Rattle.frame_word.specs.Seats.{KnownTable, KnownSeat, seat_number, seat_with, IsLent, IsBorrowed, Passes, NothingPasses}

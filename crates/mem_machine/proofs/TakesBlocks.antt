@@ -10,8 +10,8 @@ use Rattle.std.proofs.lemmas.Nat.{pow_pos}
 use Rattle.zone_blocks.specs.declared.block.Block.{Block}
 use Rattle.zone_blocks.specs.Block.{IsBlock}
 use Rattle.zone_blocks.specs.Areas.{IsFree, IsFreeBlock, AreMaximalBlocks, HasNoneFrom, IsFrontOfSmallest}
-use Rattle.zone_buddy.specs.Zone.{TakesFrames, block_at}
-use Rattle.zone_buddy.proofs.Halves.{lower_half}
+use Rattle.zone_blocks.specs.Zone.{TakesFrames, block_at}
+use Rattle.zone_blocks.proofs.Halves.{lower_half}
 use Rattle.frame_word.specs.declared.view.FrameNote.{FrameNote}
 use Rattle.frame_word.specs.Views.{note_of, unfrozen}
 use Rattle.frame_word.specs.Seats.{KnownTable, KnownSeat, seat_with, seat_references, IsInOwnHand, NothingPasses}

@@ -5,6 +5,7 @@ pub mod Kept
 pub mod Following
 pub mod Counting
 pub mod Local
+pub mod Transitions
 pub mod Start
 pub mod Steps
 pub mod Lending

@@ -114,11 +114,6 @@ pub record MakesAs (table : KnownTable) (cpu_number : ℕ) (before : VisitState)
 abbrev pub Makes : KnownTable → VisitState → Run → VisitState → Type 0
 Makes table before steps after = MakesAs table before.cpu.number before steps after
 
--- the steps that a function gives for the visit state before lead the CPU that holds the lock from that visit state to
--- the other
-abbrev pub MakesBy : KnownTable → (VisitState → Run) → VisitState → VisitState → Type 0
-MakesBy table steps before after = Makes table before (steps before) after
-
 -- for each CPU that may hold the lock, these steps lead from one machine to the other, and its part stays the same
 abbrev pub MakesForAny : KnownTable → KnownMachine → Run → KnownMachine → Type 0
 MakesForAny table before steps after = (cpu : KnownCpu)

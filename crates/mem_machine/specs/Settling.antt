@@ -151,6 +151,10 @@ pub record LeavesOthers (before after : KnownCpu) : Type 0 where
   pub list : after.list ≡ before.list
   pub pins : after.pins ≡ before.pins
 
+-- the CPU has nothing to settle: none of its frames is fresh or back
+abbrev pub IsSettled : KnownCpu → Type 0
+IsSettled cpu = (cpu.fresh ≡ []) × (cpu.back ≡ [])
+
 -- all fresh frames are settled, in the order in which they were taken; then the units of all back frames are freed, in
 -- the order of their last puts
 pub record Settles (before after : VisitState) : Type 0 where

@@ -176,10 +176,6 @@ pub record Fills (group pages : ℕ) (before after : VisitState) : Type 0 where
     stock_seat = with_view before.cpu.stock_seat (after_fill before.cpu.stock_seat.view group pages);
   }
 
--- the steps that charge pages to the group and fill the CPU's stock with them
-abbrev pub own_fill_steps : ℕ → ℕ → VisitState → Run
-own_fill_steps group pages now = fill_steps now.cpu.number group pages
-
 -- the charge is refused at the group that the error names
 abbrev pub RefusesGrant : KnownTable → ℕ → ℕ → Over → VisitState → VisitState → Type 0
 RefusesGrant table group pages over before after = Makes table before (over_steps group pages over.group) after

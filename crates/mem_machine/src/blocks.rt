@@ -9,6 +9,7 @@ ghost use Rattle.mem_machine.specs.Local.{Makes, visit_state};
 use crate::frame_state::FrameState;
 use crate::lists::join_list;
 use crate::machine::Machine;
+use crate::proving::{prove_charges, prove_tied};
 use cpu_part::{BootName, Cpu, Tables};
 use frame_word::Frame;
 use group_charge::charges::Over;
@@ -65,8 +66,8 @@ impl<N: BootName> Machine<N> {
             (block_steps group order result) (visit_state self.new cpu.new) }
     {
         let pages = order.frames();
-        let _cpu_number = cpu.number(); // Called for its contract.
-        let _tree = self.charges.tree(); // Called for its contract.
+        prove_tied(cpu);
+        prove_charges(&self.charges);
         if let Err(over) = self.charges.try_charge(group, pages) {
             let lowest = over.group;
             self.watch.refused(group, pages, lowest);

@@ -14,6 +14,7 @@ ghost use Rattle.mem_machine.specs.Machines.{IsCpuOf, pages_booked};
 ghost use Rattle.mem_machine.specs.Settling.{IsVisitedAt, KnowsFresh, with_page_absorbed};
 ghost use Rattle.mem_machine.specs.Stocks.{FitsStock};
 
+use crate::proving::prove_tied;
 use cpu_part::{BootName, Cpu, Tables};
 use frame_word::{Frame, FrameSeat};
 use group_tree::group::{GroupId, MAX_GROUPS};
@@ -112,7 +113,7 @@ impl<N: BootName> BookedSeat<N> {
           stock_seat = with_view cpu.old.stock_seat (after_fill cpu.old.stock_seat.view group pages);
         } }
     {
-        let _cpu_number = cpu.number(); // Called for its contract.
+        prove_tied(cpu);
         let owner = group.number();
         cpu.fill(tables, &mut self.seat, owner, pages);
         self.sums[owner as usize] += pages;

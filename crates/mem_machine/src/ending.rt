@@ -5,6 +5,7 @@ ghost use Rattle.frame_word.specs.Seats.{LentIsBorrowed};
 ghost use Rattle.mem_machine.specs.Places.{frames_in_groups, NoneLentTo};
 
 use crate::machine::Machine;
+use crate::proving::{prove_charges, prove_sizes, prove_tied};
 use cpu_part::{BootName, Cpu, Tables};
 use group_tree::group::{GroupId, MAX_GROUPS};
 
@@ -15,8 +16,8 @@ impl<N: BootName> Machine<N> {
         ensures charged { result ≡ frames_in_groups self.now.frame_states }
         ensures at_most { result ≤ N.frames.frames }
     {
-        let _frames = tables.frames.frames(); // Called for its contract.
-        let _charges = self.charges.tree(); // Called for its contract.
+        prove_sizes(tables);
+        prove_charges(&self.charges);
         let mut charged = 0;
         for number in 0..MAX_GROUPS as u32 {
             charged += self.frames_of(GroupId::of(number).unwrap());
@@ -31,7 +32,7 @@ impl<N: BootName> Machine<N> {
         requires none_fresh { cpu.now.fresh ≡ [] }
         ensures { NoneLentTo cpu.now.number self.now.frame_states }
     {
-        let _ = &self.frame_seat; // Borrowed for the invariant.
-        let _cpu_number = cpu.number(); // Called for its contract.
+        self.prove_consistent();
+        prove_tied(cpu);
     }
 }

@@ -2,15 +2,16 @@
 
 ghost use Rattle.std.specs.Prelude.{◌≡◌, ◌+◌, ◌^◌, ◌≤◌, length};
 ghost use Rattle.zone_blocks.specs.Areas.{AreMaximalBlocks};
-ghost use Rattle.zone_buddy.specs.Zone.{IsInUse, GivesFrames};
+ghost use Rattle.zone_blocks.specs.Zone.{IsInUse, GivesFrames};
 ghost use Rattle.group_charge.specs.Charges.{pages_of, with_uncharge, UsageRises};
 ghost use Rattle.mem_machine.specs.Freeing.{FreesFrames};
 
 use crate::frame_state::FrameState;
+use crate::proving::prove_charges;
 use group_charge::charges::Charges;
 use step_rules::phase::ChargedUnit;
 use zone_blocks::block::Block;
-use zone_buddy::buddy::Buddy;
+use zone_blocks::buddy::Buddy;
 
 // Records this many frames from `at` on as free.
 fn free_frames(frame_states: &mut Vec<FrameState>, at: u32, frames: u32)
@@ -39,7 +40,7 @@ pub(crate) fn free_unit(
     ensures charges { charges.new ≡ with_uncharge charges.old unit.group (2 ^ unit.order) }
     ensures usage { UsageRises charges.new charges.old unit.group (2 ^ unit.order) }
 {
-    let _tree = charges.tree(); // Called for its contract.
+    prove_charges(charges);
     let order = unit.order;
     free_frames(frame_states, at, order.frames());
     zone.give(Block { at, order });

@@ -12,6 +12,7 @@ ghost use Rattle.mem_machine.specs.Steps.{kill_steps, note_group_kill_steps, not
 ghost use Rattle.mem_machine.specs.Steps.{make_steps, remove_steps, set_max_steps, set_oom_group_steps};
 
 use crate::machine::Machine;
+use crate::proving::{prove_charges, prove_tied};
 use cpu_part::{BootName, Cpu};
 use group_tree::fault::Fault;
 use group_tree::group::GroupId;
@@ -92,7 +93,7 @@ impl<N: BootName> Machine<N> {
         ensures unchanged { OnErr result (self.new ≡ self.old) }
         ensures steps { IfOk result (λ number. MakesForAny N.frames self.old (make_steps path.now number) self.new) }
     {
-        let _tree = self.charges.tree(); // Called for its contract.
+        prove_charges(&self.charges);
         let group = self.charges.make(path)?;
         let number = group.number();
         self.killed[number as usize] = false;
@@ -116,8 +117,8 @@ impl<N: BootName> Machine<N> {
         ensures steps { Makes N.frames (visit_state self.old cpu.now) (remove_steps group)
             (visit_state self.new cpu.now) }
     {
-        let _cpu_number = cpu.number(); // Called for its contract.
-        let _tree = self.charges.tree(); // Called for its contract.
+        prove_tied(cpu);
+        prove_charges(&self.charges);
         self.charges.remove(group);
         self.watch.zone_made(Action::Remove { group }, Answer::Done);
     }

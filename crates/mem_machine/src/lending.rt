@@ -7,11 +7,12 @@ ghost use Rattle.mem_machine.specs.FrameStates.{frame_state_at};
 ghost use Rattle.mem_machine.specs.Machines.{Visits};
 ghost use Rattle.mem_machine.specs.Lending.{HasListRoom, LendsIfFree, LendsFrame, Refills};
 ghost use Rattle.mem_machine.specs.Lending.{UnlistsIfListed, UnlistsMany, unlist_front_steps};
-ghost use Rattle.mem_machine.specs.Local.{Makes, MakesBy, visit_state};
+ghost use Rattle.mem_machine.specs.Local.{Makes, visit_state};
 ghost use Rattle.mem_machine.specs.Steps.{lend_steps};
 
 use crate::frame_state::FrameState;
 use crate::machine::Machine;
+use crate::proving::prove_sizes;
 use cpu_part::{BootName, Cpu, Tables};
 use frame_word::Frame;
 use zone_blocks::block::Block;
@@ -26,7 +27,7 @@ impl<N: BootName> Machine<N> {
         ensures visit { Visits N.frames (visit_state self.new cpu.new) }
     {
         let cpu_number = cpu.number();
-        let _few = tables.stocks.cpus(); // Its contract bounds CPU numbers, so one fits a byte.
+        prove_sizes(tables); // A CPU's number fits a byte.
         let Some(block) = self.zone.take(Order::of(0).unwrap()) else {
             return false;
         };
@@ -75,7 +76,7 @@ impl<N: BootName> Machine<N> {
             (lend_steps cpu.old.number frame) (visit_state self.new cpu.new) }
     {
         let cpu_number = cpu.number();
-        let _few = tables.stocks.cpus(); // Its contract bounds CPU numbers, so one fits a byte.
+        prove_sizes(tables); // A CPU's number fits a byte.
         let given = frame.number();
         self.zone.take_frame(given);
         tables
@@ -120,8 +121,8 @@ impl<N: BootName> Machine<N> {
             (visit_state self.new cpu.new) }
         ensures fewer_only_at_the_end { result < count → cpu.new.list ≡ [] }
         ensures visit { Visits N.frames (visit_state self.new cpu.new) }
-        ensures steps { MakesBy N.frames (unlist_front_steps result) (visit_state self.old cpu.old)
-            (visit_state self.new cpu.new) }
+        ensures steps { let before = visit_state self.old cpu.old in
+            Makes N.frames before (unlist_front_steps result before) (visit_state self.new cpu.new) }
     {
         for taken in 0..count {
             if !self.unlist_one(tables, cpu) {

@@ -18,8 +18,7 @@
 //!   one visit state to another.
 //! - The watch takes each of these steps right behind it, if it is on. `Watches`, a part of `Makes`, says so.
 //!
-//! A line that ends in 'Called for its contract' calls a reader and changes nothing. A proof knows the invariant of a
-//! type only from the contract of such a call. The calls of `list_laws` are made for the same reason.
+//! A call of a function `prove_..`, or of `list_laws`, does nothing: a proof needs its contract.
 #![tactic(auto)]
 
 mod ageing;
@@ -38,6 +37,7 @@ mod machine;
 mod marks;
 mod noting;
 mod paying;
+mod proving;
 mod readers;
 mod releasing;
 mod settling;
@@ -51,5 +51,8 @@ pub use blocks::TakeFault;
 pub use counts::Counts;
 pub use frame_state::{FrameState, Place};
 pub use machine::Machine;
+pub use proving::{
+    prove_charges, prove_groups, prove_number, prove_order, prove_sizes, prove_tied,
+};
 pub use releasing::Released;
 pub use step_rules::laws::{other_step, own_step};

@@ -20,7 +20,7 @@ use std::alloc::{AllocError, Global};
 use std::marker::{Model, PhantomData};
 use step_watch::Watch;
 use stock_word::StockSeat;
-use zone_buddy::buddy::Buddy;
+use zone_blocks::buddy::Buddy;
 
 /// All that lies behind the zone's lock. `IsConsistent` says what always holds of its parts together.
 #[derive(Drop)]

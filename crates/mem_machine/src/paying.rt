@@ -9,6 +9,7 @@ ghost use Rattle.mem_machine.specs.Local.{Makes, visit_state};
 ghost use Rattle.mem_machine.specs.Steps.{take_front_steps};
 
 use crate::machine::Machine;
+use crate::proving::{prove_charges, prove_tied};
 use cpu_part::{BootName, Cpu, Tables};
 use frame_word::Frame;
 use group_tree::group::GroupId;
@@ -24,7 +25,7 @@ impl<N: BootName> Machine<N> {
         ensures machine { self.new ≡ with_look self.old }
         ensures cpu { cpu.new ≡ cpu.old }
     {
-        let _cpu_number = cpu.number(); // Called for its contract.
+        prove_tied(cpu);
         self.stock_seat.look(tables, cpu)
     }
 
@@ -34,7 +35,7 @@ impl<N: BootName> Machine<N> {
         requires size { IsOfSize N.frames }
         ensures room { (pages : ℕ) → pages < 65536 → HasRoomFor self.now pages }
     {
-        let _tree = self.charges.tree(); // Called for its contract.
+        prove_charges(&self.charges);
     }
 
     /// Takes the front of the visited CPU's list for `group`, and pays with a page of the CPU's stock, which is of that

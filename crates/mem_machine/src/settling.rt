@@ -3,7 +3,7 @@
 ghost use Rattle.std.specs.Prelude.{◌≡◌, ◌≢◌, ◌<◌, [], true, Some};
 ghost use Rattle.stock_word.specs.Stock.{group_of};
 ghost use Rattle.mem_machine.specs.Machines.{Visits, is_killed};
-ghost use Rattle.mem_machine.specs.Local.{Makes, MakesBy, visit_state};
+ghost use Rattle.mem_machine.specs.Local.{Makes, visit_state};
 ghost use Rattle.mem_machine.specs.Settling.{KeepsFresh, DropsFresh, SettlesNext, SettlesAllFresh, Settles};
 ghost use Rattle.mem_machine.specs.Settling.{ReturnsNext, ReturnsAllBack, LeavesOthers};
 ghost use Rattle.mem_machine.specs.Settling.{MakesFreshSteps, MakesReturnSteps, keep_steps, drop_steps};
@@ -147,7 +147,8 @@ impl<N: BootName> Machine<N> {
         ensures back { cpu.new.back ≡ cpu.old.back }
         ensures none_fresh { cpu.new.fresh ≡ [] }
         ensures visit { Visits N.frames (visit_state self.new cpu.new) }
-        ensures steps { MakesBy N.frames all_fresh_steps (visit_state self.old cpu.old) (visit_state self.new cpu.new) }
+        ensures steps { let before = visit_state self.old cpu.old in
+            Makes N.frames before (all_fresh_steps before) (visit_state self.new cpu.new) }
     {
         while let Some(_frame) = self.settle_one(tables, cpu) {}
     }
@@ -160,8 +161,8 @@ impl<N: BootName> Machine<N> {
         ensures fresh { cpu.new.fresh ≡ cpu.old.fresh }
         ensures none_back { cpu.new.back ≡ [] }
         ensures visit { Visits N.frames (visit_state self.new cpu.new) }
-        ensures steps { MakesBy N.frames return_all_steps (visit_state self.old cpu.old)
-            (visit_state self.new cpu.new) }
+        ensures steps { let before = visit_state self.old cpu.old in
+            Makes N.frames before (return_all_steps before) (visit_state self.new cpu.new) }
     {
         while let Some(_frame) = self.return_one(tables, cpu) {}
     }
@@ -176,7 +177,8 @@ impl<N: BootName> Machine<N> {
         ensures none_fresh { cpu.new.fresh ≡ [] }
         ensures none_back { cpu.new.back ≡ [] }
         ensures visit { Visits N.frames (visit_state self.new cpu.new) }
-        ensures steps { MakesBy N.frames settle_steps (visit_state self.old cpu.old) (visit_state self.new cpu.new) }
+        ensures steps { let before = visit_state self.old cpu.old in
+            Makes N.frames before (settle_steps before) (visit_state self.new cpu.new) }
     {
         self.settle_fresh(tables, cpu);
         self.settle_back(tables, cpu);

@@ -14,7 +14,7 @@ use group_tree::group::MAX_GROUPS;
 use lru_lists::links::Links;
 use lru_lists::lru::Lru;
 use std::alloc::{AllocError, Global};
-use zone_buddy::buddy::Buddy;
+use zone_blocks::buddy::Buddy;
 
 /// The parts that have a place for each frame: the zone, the records and the links. All frames are free and on no list.
 pub(crate) fn frame_parts(

@@ -6,12 +6,13 @@ ghost use Rattle.mem_machine.specs.Machines.{IsCpuOf, LacksRoom, OnlyWatches, Vi
 ghost use Rattle.mem_machine.specs.Stocks.{IsDrained, AreDrained, AreOwnDrained, FitsStock, stock_group, of_group};
 ghost use Rattle.mem_machine.specs.Stocks.{of_subtree, Drains, DrainsBy, DrainsIf, DrainsBySteps, DrainsNoted};
 ghost use Rattle.mem_machine.specs.Stocks.{DrainsGroup, DrainsSubtree, Fills, Prepays, IsOver, RefusesGrant};
-ghost use Rattle.mem_machine.specs.Stocks.{own_fill_steps, prepay_steps, refused_prepay_steps};
+ghost use Rattle.mem_machine.specs.Stocks.{prepay_steps, refused_prepay_steps};
 ghost use Rattle.mem_machine.specs.Paying.{MayCharge};
-ghost use Rattle.mem_machine.specs.Local.{MakesBy, MakesForAny, visit_state};
-ghost use Rattle.mem_machine.specs.Steps.{drain_steps};
+ghost use Rattle.mem_machine.specs.Local.{Makes, MakesForAny, visit_state};
+ghost use Rattle.mem_machine.specs.Steps.{drain_steps, fill_steps};
 
 use crate::machine::Machine;
+use crate::proving::{prove_charges, prove_groups};
 use cpu_part::{BootName, Cpu, Tables};
 use group_charge::charges::Over;
 use group_charge::note::Note;
@@ -26,7 +27,7 @@ fn is_at_or_below(tree: &Tree, group: GroupId, other: GroupId) -> bool
     requires other { IsTrue (has_group tree.now other) }
     ensures { result ≡ in_subtree tree.now group other }
 {
-    let _groups = tree.groups(); // Called for its contract.
+    prove_groups(tree);
     if other.number() == group.number() {
         return true;
     }
@@ -45,7 +46,7 @@ impl<N: BootName> Machine<N> {
         ensures steps { MakesForAny N.frames self.old
             (drain_steps cpu (stock_group self.old cpu) result) self.new }
     {
-        let _tree = self.charges.tree(); // Called for its contract.
+        prove_charges(&self.charges);
         let pages = self.stock_seat.drain(tables, cpu, group);
         self.watch.drained(cpu, pages as u128);
         if pages > 0 {
@@ -172,14 +173,13 @@ impl<N: BootName> Machine<N> {
         ensures over { IfErr result (λ over. LacksRoom self.old group pages over.group) }
         ensures unchanged { OnErr result (OnlyWatches (visit_state self.old cpu.old) (visit_state self.new cpu.new)) }
         ensures visit { Visits N.frames (visit_state self.new cpu.new) }
-        ensures steps { OnOk result
-            (MakesBy N.frames (own_fill_steps group pages) (visit_state self.old cpu.old)
-            (visit_state self.new cpu.new)) }
+        ensures steps { OnOk result (Makes N.frames (visit_state self.old cpu.old)
+            (fill_steps cpu.old.number group pages) (visit_state self.new cpu.new)) }
         ensures refused { IfErr result (λ over. RefusesGrant N.frames group pages over
             (visit_state self.old cpu.old) (visit_state self.new cpu.new)) }
     {
         let cpu_number = cpu.number();
-        let _tree = self.charges.tree(); // Called for its contract.
+        prove_charges(&self.charges);
         if let Err(over) = self.charges.try_charge(group, pages) {
             let lowest = over.group;
             self.watch.refused(group, pages, lowest);
@@ -211,12 +211,10 @@ impl<N: BootName> Machine<N> {
         ensures over { IfErr result
             (λ over. IsOver group pages over.group (visit_state self.old cpu.old) (visit_state self.new cpu.new)) }
         ensures visit { Visits N.frames (visit_state self.new cpu.new) }
-        ensures steps { OnOk result
-            (MakesBy N.frames (prepay_steps group pages) (visit_state self.old cpu.old)
-            (visit_state self.new cpu.new)) }
-        ensures refused { IfErr result (λ over. MakesBy N.frames
-            (refused_prepay_steps group pages over.group) (visit_state self.old cpu.old)
-            (visit_state self.new cpu.new)) }
+        ensures steps { let before = visit_state self.old cpu.old in
+            OnOk result (Makes N.frames before (prepay_steps group pages before) (visit_state self.new cpu.new)) }
+        ensures refused { let before = visit_state self.old cpu.old in IfErr result (λ over. Makes N.frames before
+            (refused_prepay_steps group pages over.group before) (visit_state self.new cpu.new)) }
     {
         let cpu_number = cpu.number();
         self.drain_stock(tables, cpu_number);

@@ -13,6 +13,7 @@ use Rattle.step_rules.specs.State.{State}
 use Rattle.step_rules.specs.After.{Run, after, unit_size}
 use Rattle.mem_machine.specs.Machines.{KnownMachine}
 use Rattle.mem_machine.specs.Local.{MakesForAny, local_of}
+use Rattle.mem_machine.specs.Transitions.{Transition, transition}
 use Rattle.mem_reclaim.specs.Wanted.{Reclaiming, progress}
 
 -- how many pages this step frees: those of the unit that it returns to the zone
@@ -34,6 +35,12 @@ is_miss frame action answer = false
 -- how many of the steps are freezes of the frame that missed
 abbrev pub missed_in : ℕ → Run → ℕ
 missed_in frame steps = count_by (λ entry. is_miss frame entry.0.action entry.1) steps
+
+-- the misses that the zone's seat noted for each frame rose by the freezes of it that missed among the steps
+abbrev pub CountsMisses : Transition KnownMachine → Type 0
+CountsMisses call =
+    (frame : ℕ)
+    → misses_of call.after.frame_seat frame ≡ misses_of call.before.frame_seat frame + missed_in frame call.steps
 
 -- the step is a freeze, of any frame, that missed
 abbrev pub is_any_miss : Action → Answer → Bool
@@ -84,8 +91,7 @@ pub record FreesPages (table : KnownTable) (before : KnownMachine) (freed : ℕ)
   pub runs : MakesForAny table before steps after
   pub pages : (cpu : KnownCpu) → pages_returned (local_of table before cpu) steps ≡ freed
   pub no_kill : has_kill steps ≡ false
-  pub misses : (frame : ℕ)
-      → misses_of after.frame_seat frame ≡ misses_of before.frame_seat frame + missed_in frame steps
+  pub misses : CountsMisses (transition table before steps after)
   pub returned : Rises before.counts.freezes (returned_in steps) after.counts.freezes
   pub missed : Rises before.counts.misses (all_missed_in steps) after.counts.misses
 

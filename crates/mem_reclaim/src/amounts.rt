@@ -26,7 +26,7 @@ fn make_reclaim_rounds<N: BootName>(
     ensures usage { current_of machine.new.ledger group + result ≡ current_of machine.old.ledger group }
     ensures keeps { Keeps N.frames machine.old machine.new }
 {
-    let _usage = machine.current(group); // At most this much is freed, so no sum overflows.
+    machine.prove_usage(group); // At most this much is freed, so no sum overflows.
     let mut freed = 0;
     for round in 0..MAX_ROUNDS {
         if asked <= freed {

@@ -33,7 +33,7 @@ fn release_units<N: BootName>(
     ensures stocks { KeepsStocks machine.old machine.new }
 {
     for _unit in 0..machine.list_len(group, list) {
-        let _frame_states = machine.frame_states(); // Called for its contract.
+        machine.prove_consistent();
         let Some(unit) = machine.oldest(group, list) else {
             unreachable!()
         };
@@ -58,9 +58,9 @@ fn kill_group<N: BootName>(machine: &mut Machine<N>, tables: &Tables<N>, group: 
     machine.mark_killed(group);
     machine.drain_group_stocks(tables, group);
     release_units(machine, tables, group, LruList::Inactive);
-    let _frame_states = machine.frame_states(); // Called for its contract.
+    machine.prove_consistent();
     release_units(machine, tables, group, LruList::Active);
-    let _frame_states = machine.frame_states(); // Called for its contract.
+    machine.prove_consistent();
 }
 
 // Kills a group that isn't killed for the group `limited`, and notes what became of its units.

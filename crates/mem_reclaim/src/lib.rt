@@ -2,8 +2,7 @@
 //! groups of a subtree. Modelled on the shrinking of a group's lists in Linux (cgroup-v2.rst, memory.max; Gorman,
 //! "Understanding the Linux Virtual Memory Manager", chapter 10).
 //!
-//! A line that ends in 'Called for its contract' calls a reader and changes nothing. A proof knows the invariant of a
-//! type only from the contract of such a call.
+//! A call of a function `prove_..` does nothing: a proof needs its contract.
 #![tactic(auto)]
 
 mod amounts;

@@ -47,7 +47,7 @@ fn scan_both<N: BootName>(
     ensures leaves { OnlyLeave machine.old machine.new }
     ensures missed { result < want → MissedOfGroup group machine.old machine.new }
 {
-    let _usage = machine.current(group); // At most this many pages are freed.
+    machine.prove_usage(group); // At most this many pages are freed.
     let inactive = scan(machine, tables, group, LruList::Inactive, want, false);
     if want <= inactive {
         return inactive;
@@ -118,7 +118,7 @@ pub(crate) fn reclaim_pass<N: BootName>(
     ensures leaves { is_first ≡ false → OnlyLeave machine.old machine.new }
     ensures missed { is_first ≡ false → result < want → MissedAll group machine.old machine.new }
 {
-    let _usage = machine.current(group); // At most this many pages are freed.
+    machine.prove_usage(group); // At most this many pages are freed.
     let mut freed = 0;
     for number in 0..MAX_GROUPS as u32 {
         if want <= freed {
@@ -129,6 +129,6 @@ pub(crate) fn reclaim_pass<N: BootName>(
         };
         freed += reclaim_group(machine, tables, group, turn, want - freed, is_first);
     }
-    let _frame_states = machine.frame_states(); // Called for its contract.
+    machine.prove_consistent();
     freed
 }

@@ -46,7 +46,7 @@ pub fn reclaim<N: BootName>(
             tried_all: false,
         };
     }
-    let _usage = machine.current(group); // At most this many pages are freed.
+    machine.prove_usage(group); // At most this many pages are freed.
     let first = reclaim_pass(machine, tables, group, want, true);
     if want <= first {
         return Reclaimed {

@@ -32,8 +32,8 @@ pub(crate) fn scan<N: BootName>(
     ensures leaves { spares_marked ≡ false → OnlyLeave machine.old machine.new }
     ensures missed { spares_marked ≡ false → result < want → MissedOnList group list machine.old machine.new }
 {
-    let _frame_states = machine.frame_states(); // Called for its contract.
-    let _usage = machine.current(group); // At most this much is freed, so no sum overflows.
+    machine.prove_consistent();
+    machine.prove_usage(group); // At most this much is freed, so no sum overflows.
     let units = machine.list_len(group, list);
     let mut next = machine.oldest(group, list);
     let mut freed = 0;
@@ -41,7 +41,7 @@ pub(crate) fn scan<N: BootName>(
         if want <= freed {
             return freed;
         }
-        let _frame_states = machine.frame_states(); // Called for its contract.
+        machine.prove_consistent();
         let Some(unit) = next else { unreachable!() };
         let Some(frame) = tables.frames.frame(unit.number) else {
             unreachable!()

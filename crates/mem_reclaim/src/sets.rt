@@ -7,6 +7,7 @@ ghost use Rattle.mem_reclaim.specs.Sets.{IsFlaggedAbove};
 
 use group_tree::group::GroupId;
 use group_tree::tree::Tree;
+use mem_machine::prove_groups;
 
 /// What was killed for a limit.
 #[derive(Clone, Copy, Debug, PartialEq, Eq)]
@@ -24,7 +25,7 @@ pub(crate) fn highest_flagged(tree: &Tree, limited: GroupId, victim: GroupId) ->
     ensures highest { IsFlaggedAbove tree.now limited victim result }
     ensures below_root { IfSome result (λ killed_root. killed_root ≢ 0) }
 {
-    let _groups = tree.groups(); // Called for its contract.
+    prove_groups(tree);
     let mut killed_root = None;
     for above in tree.ancestors(victim) {
         if tree.is_oom_group(above) {

@@ -10,7 +10,7 @@ ghost use Rattle.mem_reclaim.specs.Sets.{alive_in_subtree};
 use crate::passes::is_in_subtree;
 use cpu_part::BootName;
 use group_tree::group::{GroupId, MAX_GROUPS};
-use mem_machine::Machine;
+use mem_machine::{Machine, prove_charges};
 
 /// Whether the other group is the group or a descendant of it, and isn't killed.
 pub(crate) fn may_be_killed<N: BootName>(
@@ -57,7 +57,7 @@ fn most_charged<N: BootName>(
     requires { IsTrue (has_group machine.now.ledger.groups group) }
     ensures { IsMost machine.now (may_be_chosen machine.now group excluded.now) result }
 {
-    let _tree = machine.charges().tree(); // Called for its contract.
+    prove_charges(machine.charges());
     let mut best = None;
     let mut most = 0;
     for number in 0..MAX_GROUPS as u32 {

@@ -5,7 +5,7 @@ use Rattle.std.specs.Prelude.{All, is_some, min, slice_index}
 use Rattle.group_tree.specs.Room.{max_count}
 use Rattle.std.proofs.lemmas.Bool.{cond-true, cond-false, ne_eqb, false≢true}
 use Rattle.std.proofs.lemmas.List.{take_all, drop_all}
-use Rattle.seat_sums.specs.Totals.{sum_over}
+use Rattle.frame_word.specs.Totals.{sum_over}
 use Rattle.frame_word.specs.declared.view.FrameView.{FrameView}
 use Rattle.frame_word.specs.Views.{note_of}
 use Rattle.frame_word.specs.ReferenceRule.{mark_base, only, references_in}

@@ -16,7 +16,7 @@ use Rattle.mem_reclaim.specs.Rounds.{ReclaimsRounds, pages_missing}
 use Rattle.mem_reclaim.specs.Staying.{Keeps, MissedAll}
 use Rattle.step_rules.specs.After.{Run}
 use Rattle.mem_alloc.specs.Kills.{KillsForRoom}
-use Rattle.mem_alloc.specs.Stepping.{ByStepsOfAny, transition}
+use Rattle.mem_machine.specs.Transitions.{BySteps, transition}
 use Rattle.mem_alloc.proofs.Killing.{kills_lower}
 use Rattle.mem_alloc.proofs.NoRash.{all_same}
 use Rattle.mem_system.specs.Leaves.{IsLeafAt}
@@ -50,7 +50,7 @@ visit_both t m x n c a b = record { visit = b.visit; opened = b.opened ∙ a.ope
 
 -- ---- a usage that is lowered
 
-pub lowered_groups : (t : KnownTable) (g limit : ℕ) (m n : KnownMachine) → ByStepsOfAny t (LowersUsage g limit) m n
+pub lowered_groups : (t : KnownTable) (g limit : ℕ) (m n : KnownMachine) → BySteps MakesForAny t (LowersUsage g limit) m n
     → n.ledger.groups ≡ m.ledger.groups
 lowered_groups t g limit m n b = b.does.keeps.groups ∙ (all_same g t.cpus m b.does.drained b.does.drains b.does.drains_all).groups
 
@@ -62,13 +62,13 @@ usage_visit t g limit m n c steps h v =
     record { visit = h.keeps.visit c first.visit; opened = h.keeps.opened ∙ first.opened; number = refl; back = refl }
 
 pub lowered_visit : (t : KnownTable) (g limit : ℕ) (m n : KnownMachine) (c : KnownCpu)
-    → ByStepsOfAny t (LowersUsage g limit) m n → Visits t (visit_state m c)
+    → BySteps MakesForAny t (LowersUsage g limit) m n → Visits t (visit_state m c)
     → KeepsVisit t (visit_state m c) (visit_state n c)
 lowered_visit t g limit m n c b v = usage_visit t g limit m n c b.steps b.does v
 
 -- the same if usage is lowered only when it is above
 pub above_visit : (t : KnownTable) (g limit : ℕ) (m n : KnownMachine) (c : KnownCpu)
-    → ByStepsOfAny t (LowersAbove g limit) m n → Visits t (visit_state m c)
+    → BySteps MakesForAny t (LowersAbove g limit) m n → Visits t (visit_state m c)
     → KeepsVisit t (visit_state m c) (visit_state n c)
 above_visit t g limit m n c b v = elim (cases_lt limit (current_of m.ledger g)) [
   | inl over ↦
@@ -85,7 +85,7 @@ above_visit t g limit m n c b v = elim (cases_lt limit (current_of m.ledger g)) 
 pub lowered_by : (t : KnownTable) (g limit pages freed : ℕ) (m x n : KnownMachine) → DrainsSubtree t g pages m x
     → AreDrained g t.cpus x
     → FreesBySteps t freed x n (ReclaimsRounds g (pages_missing g 0 limit) 16)
-    → (limit < current_of n.ledger g + 0 → MissedAll g x n) → Keeps t x n → ByStepsOfAny t (LowersUsage g limit) m n
+    → (limit < current_of n.ledger g + 0 → MissedAll g x n) → Keeps t x n → BySteps MakesForAny t (LowersUsage g limit) m n
 lowered_by t g limit pages freed m x n sub none leads missed keeps = record {
   steps = drain_stocks_steps sub.drains ++ leads.steps;
   does = record {
@@ -108,10 +108,10 @@ lowered_by t g limit pages freed m x n sub none leads missed keeps = record {
 
 -- the usage is above it
 pub lowered_above : (t : KnownTable) (g limit : ℕ) (m y x n : KnownMachine) → limit < current_of m.ledger g → y ≡ with_limit_noted m g 0
-    → ByStepsOfAny t (LowersUsage g limit) y x → ByStepsOfAny t (KillsForRoom None g 0) x n
-    → ByStepsOfAny t (LowersAbove g limit) m n
+    → BySteps MakesForAny t (LowersUsage g limit) y x → BySteps MakesForAny t (KillsForRoom None g 0) x n
+    → BySteps MakesForAny t (LowersAbove g limit) m n
 lowered_above t g limit m y x n over told of_y k =
-    let b = subst (λ (z : KnownMachine). ByStepsOfAny t (LowersUsage g limit) z x) told of_y in record {
+    let b = subst (λ (z : KnownMachine). BySteps MakesForAny t (LowersUsage g limit) z x) told of_y in record {
       steps = b.steps ++ k.steps;
       does = record {
         above = λ more. record { lowered = x; lowering = b.steps; killing = k.steps; lowers = b.does; kills = k.does; steps_are = refl };
@@ -123,7 +123,7 @@ lowered_above t g limit m y x n over told of_y k =
 
 -- the usage is within it
 pub lowered_none : (t : KnownTable) (g limit : ℕ) (m : KnownMachine) → current_of m.ledger g ≤ limit
-    → ByStepsOfAny t (LowersAbove g limit) m m
+    → BySteps MakesForAny t (LowersAbove g limit) m m
 lowered_none t g limit m within = record {
   steps = [];
   does = record {
@@ -136,7 +136,7 @@ lowered_none t g limit m within = record {
 -- the limit is set, and then the usage is kept to it
 limited_by : (t : KnownTable) (g : ℕ) (of : Option ℕ) (m x n : KnownMachine) → x ≡ with_watch (with_limit_of m g of) x.watch
     → MakesForAny t m (set_max_steps g of) x
-    → ByStepsOfAny t (KeepsToLimit g of) x n → ByStepsOfAny t (SetsLimit g of) m n
+    → BySteps MakesForAny t (KeepsToLimit g of) x n → BySteps MakesForAny t (SetsLimit g of) m n
 limited_by t g of m x n is first last = record {
   steps = set_max_steps g of ++ last.steps;
   does = record {
@@ -152,15 +152,15 @@ limited_by t g of m x n is first last = record {
 -- there is one
 pub limited_to : (t : KnownTable) (g limit : ℕ) (of : Option ℕ) (m x n : KnownMachine) → of ≡ Some limit
     → x ≡ with_watch (with_limit_of m g of) x.watch
-    → MakesForAny t m (set_max_steps g of) x → ByStepsOfAny t (LowersAbove g limit) x n
-    → ByStepsOfAny t (SetsLimit g of) m n
+    → MakesForAny t m (set_max_steps g of) x → BySteps MakesForAny t (LowersAbove g limit) x n
+    → BySteps MakesForAny t (SetsLimit g of) m n
 limited_to t g limit of m x n some is first last =
     let keeps = subst (λ (o : Option ℕ). KeepsToLimit g o (transition t x last.steps n)) (sym some) last.does in
     limited_by t g of m x n is first (record { steps = last.steps; does = keeps; makes = last.makes })
 
 -- there is none
 pub limited_none : (t : KnownTable) (g : ℕ) (of : Option ℕ) (m x : KnownMachine) → of ≡ None → x ≡ with_watch (with_limit_of m g of) x.watch
-    → MakesForAny t m (set_max_steps g of) x → ByStepsOfAny t (SetsLimit g of) m x
+    → MakesForAny t m (set_max_steps g of) x → BySteps MakesForAny t (SetsLimit g of) m x
 limited_none t g of m x none is first =
     let keeps = subst (λ (o : Option ℕ). KeepsToLimit g o (transition t x [] x)) (sym none) (record { machine = refl; steps_are = refl }) in
     limited_by t g of m x x is first (record { steps = []; does = keeps; makes = λ c. makes_none t c.number (visit_state x c) })

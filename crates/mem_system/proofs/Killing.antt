@@ -27,7 +27,7 @@ use Rattle.mem_reclaim.proofs.LettingGo.{quiet_drains}
 use Rattle.mem_alloc.specs.declared.faults.AllocFault.{AllocFault}
 use Rattle.mem_alloc.specs.declared.faults.AllocFault.TheVariants.{Over, NoFrames, RequesterKilled}
 use Rattle.mem_alloc.specs.Kills.{has_room_at}
-use Rattle.mem_alloc.specs.Stepping.{Transition, transition}
+use Rattle.mem_machine.specs.Transitions.{Transition, transition}
 use Rattle.mem_alloc.specs.NoRash.{NoRashKill}
 use Rattle.mem_alloc.proofs.NoRash.{Passes, all_same, RashFree, drained_on, drains_pass, keeps_pass, missed_since, passes_both, passes_same, rash_both, rash_quiet, tame_kills}
 use Rattle.mem_alloc.proofs.Missing.{back_calm}

@@ -12,7 +12,7 @@ use Rattle.mem_machine.specs.declared.releasing.Released.TheVariants.{Returned}
 use Rattle.mem_machine.specs.FrameStates.{frame_state_at}
 use Rattle.mem_machine.specs.Machines.{KnownMachine}
 use Rattle.mem_machine.specs.Lending.{UnlistsMany}
-use Rattle.mem_machine.specs.Local.{visit_state, MakesAs}
+use Rattle.mem_machine.specs.Local.{visit_state, MakesAs, Makes}
 use Rattle.mem_machine.specs.Releasing.{ReturnsUnit, release_steps}
 use Rattle.mem_system.specs.Commands.{BySteps}
 use Rattle.mem_system.specs.Releases.{ListsFrame, ReturnsFrames}
@@ -76,7 +76,7 @@ left_over k list left listed split =
 -- a single frame was freed and added to the list
 pub returned_single : (t : KnownTable) (sizes : Config) (f : ℕ) (m freed n : KnownMachine) (c d : KnownCpu) (returns : ReturnsUnit f m freed)
     → returns.unit.order ≡ 0 → MakesAs t c.number (visit_state m c) (release_steps f Returned) (visit_state freed c)
-    → BySteps t (ListsFrame sizes f) (visit_state freed c) (visit_state n d) → BySteps t (ReturnsFrames sizes f) (visit_state m c) (visit_state n d)
+    → BySteps Makes t (ListsFrame sizes f) (visit_state freed c) (visit_state n d) → BySteps Makes t (ReturnsFrames sizes f) (visit_state m c) (visit_state n d)
 returned_single t sizes f m freed n c d returns single first lists = record {
   steps = release_steps f Returned ++ lists.steps;
   does = record {
@@ -93,7 +93,7 @@ returned_single t sizes f m freed n c d returns single first lists = record {
 -- a block was freed
 pub returned_block : (t : KnownTable) (sizes : Config) (f : ℕ) (m freed : KnownMachine) (c : KnownCpu) (returns : ReturnsUnit f m freed)
     → returns.unit.order ≢ 0 → MakesAs t c.number (visit_state m c) (release_steps f Returned) (visit_state freed c)
-    → BySteps t (ReturnsFrames sizes f) (visit_state m c) (visit_state freed c)
+    → BySteps Makes t (ReturnsFrames sizes f) (visit_state m c) (visit_state freed c)
 returned_block t sizes f m freed c returns more first = record {
   steps = release_steps f Returned;
   does = record {

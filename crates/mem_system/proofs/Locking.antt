@@ -8,7 +8,7 @@ use Rattle.step_rules.specs.declared.step.Answer.TheVariants.{Done}
 use Rattle.step_watch.specs.Watched.{KnownWatch, Watches}
 use Rattle.step_watch.proofs.Watching.{watches_none, watches_both}
 use Rattle.mem_machine.specs.Machines.{KnownMachine, with_watch}
-use Rattle.mem_machine.specs.Local.{VisitState, visit_state}
+use Rattle.mem_machine.specs.Local.{VisitState, visit_state, Makes}
 use Rattle.mem_machine.specs.Steps.{cpu_makes}
 use Rattle.mem_system.specs.Commands.{Transition, BySteps}
 use Rattle.mem_system.specs.Locked.{AllShut}
@@ -17,14 +17,14 @@ use Rattle.mem_system.specs.Ends.{ForEachCpu, IsEmptied, LendsAndFillsNone, Visi
 -- a visit between the Lock and the Unlock that the watch takes
 pub locked_visit : (t : KnownTable) (Does : Transition VisitState → Type 0) (m m1 n1 n : KnownMachine) (c d : KnownCpu) (p : ℕ) → p ≡ c.number
     → m1 ≡ with_watch m m1.watch → Watches m.watch (cpu_makes p Lock Done ∷ []) m1.watch
-    → BySteps t Does (visit_state m1 c) (visit_state n1 d)
+    → BySteps Makes t Does (visit_state m1 c) (visit_state n1 d)
     → n ≡ with_watch n1 n.watch → Watches n1.watch (cpu_makes p Unlock Done ∷ []) n.watch
     → VisitsUnderLock t Does (visit_state m c) (visit_state n d)
 locked_visit t Does m m1 n1 n c d p named found lock visit left unlock = record {
   found = m1.watch;
   left = n1;
   lock = subst (λ (q : ℕ). Watches m.watch (cpu_makes q Lock Done ∷ []) m1.watch) named lock;
-  visit = subst (λ (k : KnownMachine). BySteps t Does (visit_state k c) (visit_state n1 d)) found visit;
+  visit = subst (λ (k : KnownMachine). BySteps Makes t Does (visit_state k c) (visit_state n1 d)) found visit;
   unlock = subst (λ (q : ℕ). Watches n1.watch (cpu_makes q Unlock Done ∷ []) n.watch) named unlock;
   machine = left;
 }

@@ -17,7 +17,8 @@ use Rattle.mem_machine.specs.Steps.{drain_list_steps, drain_stocks_steps, lend_s
 use Rattle.mem_reclaim.proofs.LettingGo.{misses_put}
 use Rattle.mem_alloc.specs.declared.faults.AllocFault.{AllocFault}
 use Rattle.mem_alloc.specs.declared.faults.AllocFault.TheVariants.{Over, NoFrames, RequesterKilled}
-use Rattle.mem_alloc.specs.Stepping.{CountsMisses, Transition, transition, of_machine}
+use Rattle.mem_machine.specs.Transitions.{Transition, transition, of_machine}
+use Rattle.mem_reclaim.specs.Moves.{CountsMisses}
 use Rattle.mem_alloc.proofs.Missing.{back_calm, back_same, block_counts, counts_as, counts_both, counts_drains, counts_kills, counts_none, counts_rest, counts_same, frame_counts}
 use Rattle.mem_system.specs.declared.command.Cmd.{Cmd}
 use Rattle.mem_system.specs.declared.command.Cmd.TheVariants.{Mkdir, Rmdir, Write, Read, Settle, Owner, Touch, Dirty, Clean, Release, Alloc}

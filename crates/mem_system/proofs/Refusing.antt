@@ -5,9 +5,9 @@ use Rattle.group_tree.specs.declared.fault.Fault.{Fault}
 use Rattle.group_tree.specs.declared.fault.Fault.TheVariants.{BadName, HasChildren, NoGroup}
 use Rattle.cpu_part.specs.Cpus.{KnownCpu}
 use Rattle.mem_machine.specs.Machines.{KnownMachine}
-use Rattle.mem_machine.specs.Local.{visit_state}
+use Rattle.mem_machine.specs.Local.{visit_state, Makes, MakesForAny}
 use Rattle.mem_machine.proofs.Followed.{makes_none}
-use Rattle.mem_alloc.specs.Stepping.{ByStepsOfAny, transition}
+use Rattle.mem_machine.specs.Transitions.{BySteps, transition}
 use Rattle.mem_system.specs.declared.command.Reply.TheVariants.{Refused}
 use Rattle.mem_system.specs.Commands.{BySteps, OfMachine}
 use Rattle.mem_system.specs.Files.{HasNoFile, Writes}
@@ -16,7 +16,7 @@ use Rattle.mem_system.specs.Leaves.{HasNoLeaf}
 
 -- there is no group to remove
 pub none_removed : (t : KnownTable) (path : List ℕ) (fault : Fault) (m : KnownMachine) (c : KnownCpu) → HasNoLeaf m.ledger.groups path fault
-    → BySteps t (OfMachine (Removes path (Refused fault))) (visit_state m c) (visit_state m c)
+    → BySteps Makes t (OfMachine (Removes path (Refused fault))) (visit_state m c) (visit_state m c)
 none_removed t path fault m c none = record { steps = []; does = stays fault none; makes = makes_none t c.number (visit_state m c) }
   where
     stays : (f : Fault) → HasNoLeaf m.ledger.groups path f → Removes path (Refused f) (transition t m [] m)
@@ -27,7 +27,7 @@ none_removed t path fault m c none = record { steps = []; does = stays fault non
 
 -- there is no file to write
 pub none_written : (t : KnownTable) (path name value : List ℕ) (fault : Fault) (m : KnownMachine) → HasNoFile m.ledger.groups path name fault
-    → ByStepsOfAny t (Writes path name value (Refused fault)) m m
+    → BySteps MakesForAny t (Writes path name value (Refused fault)) m m
 none_written t path name value fault m none = record {
   steps = [];
   does = inl (inl none, record { machine = refl; steps_are = refl });

@@ -14,7 +14,7 @@ use Rattle.mem_machine.specs.FrameStates.{frame_state_at}
 use Rattle.mem_machine.specs.Machines.{KnownMachine, with_watch}
 use Rattle.mem_machine.specs.Lending.{UnlistsMany}
 use Rattle.mem_machine.specs.Stocks.{Drains, stock_group}
-use Rattle.mem_machine.specs.Local.{visit_state, MakesAs}
+use Rattle.mem_machine.specs.Local.{visit_state, MakesAs, Makes}
 use Rattle.mem_machine.specs.Settling.{Settles, settle_steps}
 use Rattle.mem_machine.specs.Steps.{open_steps, shut_steps, drain_list_steps, drain_steps}
 use Rattle.mem_machine.proofs.Draining.{drained_at, drained_else}
@@ -32,7 +32,7 @@ pub rested : (t : KnownTable) (m n : KnownMachine) (c d : KnownCpu) (entered x :
     → MakesAs t c.number (visit_state m c) (open_steps c.number) (visit_state entered c1)
     → Settles (visit_state entered c1) (visit_state x c2) → MakesAs t c1.number (visit_state entered c1) (settle_steps (visit_state entered c1)) (visit_state x c2)
     → MakesAs t c2.number (visit_state x c2) (shut_steps c2.number) (visit_state n d)
-    → BySteps t SettlesInVisit (visit_state m c) (visit_state n d)
+    → BySteps Makes t SettlesInVisit (visit_state m c) (visit_state n d)
 rested t m n c d entered x c1 c2 opened same second shut after first settles rests last =
     let p = c.number in
     let begins = with_watch (with_visit_of m p 1) entered.watch in
@@ -140,7 +140,7 @@ pub emptied : (t : KnownTable) (m n : KnownMachine) (c d : KnownCpu) (entered x 
     → Drains q pages x y
     → ((e : KnownCpu) → MakesAs t e.number (visit_state x e) (drain_steps q (stock_group x q) pages) (visit_state y e))
     → MakesAs t c2.number (visit_state y c2) (shut_steps c2.number) (visit_state n d)
-    → BySteps t Empties (visit_state m c) (visit_state n d)
+    → BySteps Makes t Empties (visit_state m c) (visit_state n d)
 emptied t m n c d entered x y c1 c2 k q pages opened same second named shut after whole first takes gives drains drips last =
     let p = c.number in
     let begins = with_watch (with_visit_of m p 1) entered.watch in

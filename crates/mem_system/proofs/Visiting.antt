@@ -7,7 +7,7 @@ use Rattle.frame_word.specs.Seats.{KnownTable}
 use Rattle.frame_word.proofs.Notes.{put_here, put_else}
 use Rattle.cpu_part.specs.Cpus.{KnownCpu}
 use Rattle.mem_machine.specs.Machines.{KnownMachine, is_killed, with_watch, without_notes}
-use Rattle.mem_machine.specs.Local.{local_of, group_of_fresh, visit_state, MakesAs}
+use Rattle.mem_machine.specs.Local.{local_of, group_of_fresh, visit_state, MakesAs, Makes}
 use Rattle.mem_machine.specs.Settling.{SettlesFresh, SettlesAllFresh, ReturnsAllBack, Settles, settle_steps}
 use Rattle.mem_machine.specs.Steps.{open_steps, shut_steps}
 use Rattle.mem_system.specs.declared.command.Cmd.{Cmd}
@@ -61,7 +61,7 @@ pub served : (t : KnownTable) (cmd : Cmd) (l k : KnownLocked) (c d : KnownCpu) (
     → k.machine ≡ with_watch (with_visit_of x c3.number 0) k.machine.watch → d ≡ c3 → k.sizes ≡ l.sizes
     → MakesAs t c.number (visit_state (without_notes l.machine) c) (open_steps c.number) (visit_state entered c1)
     → Settles (visit_state entered c1) (visit_state mid c2) → MakesAs t c1.number (visit_state entered c1) (settle_steps (visit_state entered c1)) (visit_state mid c2)
-    → BySteps t (Executes l.sizes cmd reply) (visit_state mid c2) (visit_state x c3)
+    → BySteps Makes t (Executes l.sizes cmd reply) (visit_state mid c2) (visit_state x c3)
     → MakesAs t c3.number (visit_state x c3) (shut_steps c3.number) (visit_state k.machine d)
     → IsServed t cmd reply (locked_state l c) (locked_state k d)
 served t cmd l k c d reply entered mid x c1 c2 c3 opened same second third shut after sizes first settles rests executed last =

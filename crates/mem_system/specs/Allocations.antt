@@ -6,7 +6,7 @@ use Rattle.zone_blocks.specs.declared.config.Config.{Config}
 use Rattle.mem_machine.specs.Local.{VisitState}
 use Rattle.mem_alloc.specs.declared.faults.AllocFault.{AllocFault}
 use Rattle.mem_alloc.specs.declared.faults.AllocFault.TheVariants.{Over, NoFrames, RequesterKilled}
-use Rattle.mem_alloc.specs.Stepping.{Transition, Stays}
+use Rattle.mem_machine.specs.Transitions.{Transition, Stays}
 use Rattle.mem_alloc.specs.Frames.{AllocatesFrame}
 use Rattle.mem_alloc.specs.Blocks.{AllocatesBlock}
 use Rattle.mem_system.specs.declared.outcome.Outcome.{Outcome}

@@ -8,9 +8,10 @@ use Rattle.zone_blocks.specs.Config.{IsValidConfig}
 use Rattle.mem_machine.specs.Machines.{Visits}
 use Rattle.mem_machine.specs.Local.{VisitState}
 -- a call, described by the state before it, its steps and the state after it
-pub use Rattle.mem_alloc.specs.Stepping.{Transition, transition, of_machine, OfMachine, OfMachineAlone, BySteps}
-pub use Rattle.mem_alloc.specs.Stepping.{MachineStays, Stays}
-pub use Rattle.mem_alloc.specs.Stepping.{CountsMisses, IsSettled}
+pub use Rattle.mem_machine.specs.Transitions.{Transition, transition, of_machine, OfMachine, OfMachineAlone, BySteps}
+pub use Rattle.mem_machine.specs.Transitions.{MachineStays, Stays}
+pub use Rattle.mem_machine.specs.Settling.{IsSettled}
+pub use Rattle.mem_reclaim.specs.Moves.{CountsMisses}
 use Rattle.mem_system.specs.declared.command.Cmd.{Cmd}
 use Rattle.mem_system.specs.declared.command.Cmd.TheVariants.{Mkdir, Rmdir, Write, Read, Settle, Owner}
 use Rattle.mem_system.specs.declared.command.Cmd.TheVariants.{Touch, Dirty, Clean, Release, Alloc}

@@ -21,7 +21,7 @@ use Rattle.mem_machine.specs.Steps.{cpu_makes, open_steps, shut_steps, drain_lis
 use Rattle.mem_machine.specs.Places.{frames_free, frames_in_groups, NoneLentTo}
 use Rattle.mem_system.specs.declared.audit.Audit.{Audit}
 use Rattle.mem_system.specs.Locked.{KnownLocked, IsQuiet}
-use Rattle.mem_machine.specs.Local.{VisitState, visit_state}
+use Rattle.mem_machine.specs.Local.{VisitState, visit_state, Makes}
 use Rattle.mem_system.specs.Commands.{Transition, BySteps}
 use Rattle.mem_system.specs.Visits.{with_visit_of, with_watch_at, visited, visit_steps}
 use Rattle.step_watch.specs.Watched.{KnownWatch, Watches}
@@ -65,7 +65,7 @@ pub record VisitsUnderLock (table : KnownTable) (Does : Transition VisitState �
   pub found : KnownWatch
   pub left : KnownMachine
   pub lock : Watches before.machine.watch (cpu_makes before.cpu.number Lock Done ∷ []) found
-  pub visit : BySteps table Does (with_watch_at before found) (visit_state left after.cpu)
+  pub visit : BySteps Makes table Does (with_watch_at before found) (visit_state left after.cpu)
   pub unlock : Watches left.watch (cpu_makes before.cpu.number Unlock Done ∷ []) after.machine.watch
   pub machine : after.machine ≡ with_watch left after.machine.watch
 

@@ -6,7 +6,7 @@ use Rattle.group_charge.specs.Charges.{current_of, with_group_removed}
 use Rattle.step_rules.specs.After.{Run}
 use Rattle.mem_machine.specs.Machines.{KnownMachine, AddsGroup}
 use Rattle.mem_machine.specs.Steps.{make_steps, remove_steps}
-use Rattle.mem_alloc.specs.Stepping.{Transition, MachineStays, transition}
+use Rattle.mem_machine.specs.Transitions.{Transition, MachineStays, transition}
 use Rattle.mem_system.specs.declared.command.Reply.{Reply}
 use Rattle.mem_system.specs.declared.command.Reply.TheVariants.{Group, Done, Refused}
 use Rattle.mem_system.specs.Leaves.{IsLeafAt, HasNoLeaf}

@@ -1,6 +1,6 @@
 -- That no unit is lost: each charged unit is on a list of its group, fresh or back at a CPU, or has references.
 use Rattle.std.specs.Prelude.{◌≡◌, ◌⊎◌, ℕ, ◌≤◌, Some, List, [], ◌∷◌, map, slice_get}
-use Rattle.seat_sums.specs.Totals.{SameTotals}
+use Rattle.frame_word.specs.Totals.{SameTotals}
 use Rattle.frame_word.specs.declared.view.FrameView.{FrameView}
 use Rattle.frame_word.specs.ReferenceRule.{ReferenceRule}
 use Rattle.frame_word.specs.Seats.{KnownTable}

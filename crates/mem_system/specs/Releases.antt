@@ -9,7 +9,7 @@ use Rattle.mem_machine.specs.Local.{VisitState, visit_state}
 use Rattle.mem_machine.specs.Releasing.{LeavesReferences, ReturnsUnit, release_steps}
 use Rattle.mem_machine.specs.Lending.{LendsFrame, UnlistsMany}
 use Rattle.mem_machine.specs.Steps.{lend_steps, drain_list_steps}
-use Rattle.mem_alloc.specs.Stepping.{Transition, OfMachineAlone, Stays, transition}
+use Rattle.mem_machine.specs.Transitions.{Transition, OfMachineAlone, Stays, transition}
 use Rattle.mem_system.specs.declared.command.Reply.{Reply}
 use Rattle.mem_system.specs.declared.command.Reply.TheVariants.{Left, Returned, Refused}
 use Rattle.mem_system.specs.Units.{HeadsNoUnit}

@@ -4,7 +4,7 @@ use Rattle.group_tree.specs.declared.fault.Fault.TheVariants.{NotKept}
 use Rattle.lru_lists.specs.declared.lru.Touched.TheVariants as touched
 use Rattle.mem_machine.specs.Machines.{KnownMachine, HeadsKeptUnit, home_of}
 use Rattle.mem_machine.specs.Marks.{TouchesUnit, Dirties}
-use Rattle.mem_alloc.specs.Stepping.{Transition, MachineStays}
+use Rattle.mem_machine.specs.Transitions.{Transition, MachineStays}
 use Rattle.mem_system.specs.declared.command.Reply.{Reply}
 use Rattle.mem_system.specs.declared.command.Reply.TheVariants.{Done, Marked, Active, Refused}
 

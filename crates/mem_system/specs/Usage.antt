@@ -11,7 +11,7 @@ use Rattle.mem_reclaim.specs.Rounds.{ReclaimsRounds, max_rounds, pages_missing}
 use Rattle.mem_reclaim.specs.Staying.{Keeps, MissedAll}
 use Rattle.mem_alloc.specs.Room.{with_limit_noted}
 use Rattle.mem_alloc.specs.Kills.{KillsForRoom}
-use Rattle.mem_alloc.specs.Stepping.{Transition, transition, MachineStays}
+use Rattle.mem_machine.specs.Transitions.{Transition, transition, MachineStays}
 
 -- The stocks of the group's subtree are drained. Then its units are reclaimed, in at most 16 rounds, while its usage is
 -- above the limit. If the usage is above the limit even after that, each clean unit that the subtree still keeps was

@@ -12,8 +12,8 @@ use Rattle.mem_machine.specs.Settling.{Settles, settle_steps}
 use Rattle.mem_machine.specs.Steps.{open_steps, shut_steps}
 use Rattle.mem_reclaim.specs.Moves.{has_kill}
 -- a call, described by the state before it, its steps and the state after it
-pub use Rattle.mem_alloc.specs.Stepping.{Transition, transition}
-use Rattle.mem_alloc.specs.Stepping.{CountsMisses}
+pub use Rattle.mem_machine.specs.Transitions.{Transition, transition}
+use Rattle.mem_reclaim.specs.Moves.{CountsMisses}
 use Rattle.mem_alloc.specs.NoRash.{NoRashKill}
 use Rattle.mem_system.specs.declared.command.Cmd.{Cmd}
 use Rattle.mem_system.specs.declared.command.Cmd.TheVariants.{Alloc}

@@ -30,7 +30,7 @@ pub struct Audit {
 pub(crate) fn take_audit<N: BootName>(machine: &Machine<N>, tables: &Tables<N>, drops: u64) -> Audit
     ensures { ((cpu : ℕ) → NoneLentTo cpu machine.now.frame_states) → IsAuditOf N.frames machine.now drops result }
 {
-    let _frame_states = machine.frame_states(); // Called for its contract.
+    machine.prove_consistent();
     let frames = tables.frames.frames();
     let charged = machine.count_charged(tables);
     let counts = machine.counts();

@@ -9,6 +9,7 @@ use crate::emptied_boot::EmptiedBoot;
 use crate::last_visits::{empty_all, settle_all};
 use crate::lock::Locked;
 use cpu_part::{BootName, Cpu, Tables};
+use mem_machine::prove_sizes;
 
 /// The parts of a boot, returned unchanged because pins remain.
 pub struct Pinned<N: BootName> {
@@ -59,7 +60,7 @@ pub fn make_last_visits<N: BootName>(
     ensures tables { IfErr result (λ pinned. pinned.tables ≡ tables) }
     ensures cpus { IfErr result (λ pinned. pinned.cpus.items ≡ cpus.items) }
 {
-    let _few = tables.frames.cpus(); // Called for its contract.
+    prove_sizes(&tables);
     let pins = count_pins(&cpus);
     if pins > 0 {
         return Err(Pinned {

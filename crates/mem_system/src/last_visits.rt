@@ -6,7 +6,7 @@ ghost use Rattle.mem_system.specs.Locked.{AllShut};
 ghost use Rattle.mem_system.specs.Commands.{BySteps};
 ghost use Rattle.mem_system.specs.Ends.{Empties, ForEachCpu, SettlesInVisit, VisitsUnderLock};
 ghost use Rattle.mem_system.specs.Ends.{IsEmptied, IsSettledUnpinned, LendsAndFillsNone, pins_of_all};
-ghost use Rattle.mem_machine.specs.Local.{visit_state};
+ghost use Rattle.mem_machine.specs.Local.{visit_state, Makes};
 
 use cpu_part::{BootName, Cpu, Tables};
 use mem_machine::Machine;
@@ -16,7 +16,7 @@ use step_rules::step::{Action, Answer};
 fn settle_cpu<N: BootName>(machine: &mut Machine<N>, tables: &Tables<N>, cpu: &mut Cpu<N>)
     requires shut { AllShut machine.old }
     requires no_pin { cpu.old.pins ≡ [] }
-    ensures settles { BySteps N.frames SettlesInVisit (visit_state machine.old cpu.old)
+    ensures settles { BySteps Makes N.frames SettlesInVisit (visit_state machine.old cpu.old)
         (visit_state machine.new cpu.new) }
     ensures shut { AllShut machine.new }
     ensures settled { IsSettledUnpinned cpu.new }
@@ -30,7 +30,8 @@ fn settle_cpu<N: BootName>(machine: &mut Machine<N>, tables: &Tables<N>, cpu: &m
 fn empty_cpu<N: BootName>(machine: &mut Machine<N>, tables: &Tables<N>, cpu: &mut Cpu<N>)
     requires shut { AllShut machine.old }
     requires settled { IsSettledUnpinned cpu.old }
-    ensures empties { BySteps N.frames Empties (visit_state machine.old cpu.old) (visit_state machine.new cpu.new) }
+    ensures empties { BySteps Makes N.frames Empties (visit_state machine.old cpu.old)
+        (visit_state machine.new cpu.new) }
     ensures shut { AllShut machine.new }
     ensures emptied { IsEmptied N.frames N.stocks machine.new cpu.new }
     ensures others { LendsAndFillsNone machine.old machine.new }

@@ -2,8 +2,7 @@
 //! gives under that lock. Each command is served in a visit, as a list of steps of the rules, and no visit is open
 //! while the lock is free.
 //!
-//! A line that ends in 'Called for its contract' calls a reader and changes nothing. A proof knows the invariant of a
-//! type only from the contract of such a call.
+//! A call of a function `prove_..` does nothing: a proof needs its contract.
 #![tactic(auto)]
 
 mod allocations;

@@ -12,7 +12,7 @@ use cpu_part::BootName;
 use frame_word::FrameSeat;
 use group_charge::charges::Charges;
 use group_tree::group::GroupId;
-use mem_machine::Machine;
+use mem_machine::{Machine, prove_charges};
 use std::marker::Model;
 use step_rules::step::{Action, Answer};
 use step_watch::Watch;
@@ -48,8 +48,8 @@ impl<N: BootName> Locked<N> {
         ensures consistent { IsConsistent N.frames N.stocks self.now.machine }
         ensures charges { AreCharges self.now.machine.ledger }
     {
-        let _frame_states = self.machine.frame_states(); // Called for its contract.
-        let _tree = self.machine.charges().tree(); // Called for its contract.
+        self.machine.prove_consistent();
+        prove_charges(self.machine.charges());
     }
 
     /// The machine, which is consistent.
@@ -57,7 +57,7 @@ impl<N: BootName> Locked<N> {
         ensures machine { result.now ≡ self.now.machine }
         ensures consistent { IsConsistent N.frames N.stocks self.now.machine }
     {
-        let _frame_states = self.machine.frame_states(); // Called for its contract.
+        self.machine.prove_consistent();
         &self.machine
     }
 

@@ -6,7 +6,7 @@ ghost use Rattle.mem_system.specs.Owners.{ReportsPlace};
 
 use crate::outcome::Outcome;
 use cpu_part::{BootName, Tables};
-use mem_machine::{Machine, Place};
+use mem_machine::{Machine, Place, prove_charges};
 
 // The place of the frame: free, lent to a CPU, or charged to a group.
 pub(crate) fn report_place<N: BootName>(
@@ -23,7 +23,7 @@ pub(crate) fn report_place<N: BootName>(
         Place::Free => Outcome::Free,
         Place::Lent(cpu) => Outcome::Lent(cpu),
         Place::Charged(group) => {
-            let _groups = machine.charges().tree(); // Called for its contract.
+            prove_charges(machine.charges());
             Outcome::Charged(group)
         }
     }

@@ -2,7 +2,8 @@
 
 ghost use Rattle.std.specs.Prelude.{IsTrue};
 ghost use Rattle.group_tree.specs.Groups.{has_group};
-ghost use Rattle.mem_alloc.specs.Stepping.{ByStepsOfAny};
+ghost use Rattle.mem_machine.specs.Local.{MakesForAny};
+ghost use Rattle.mem_machine.specs.Transitions.{BySteps};
 ghost use Rattle.mem_system.specs.Usage.{LowersAbove, LowersUsage};
 
 use cpu_part::{BootName, Tables};
@@ -20,7 +21,7 @@ pub(crate) fn lower_usage<N: BootName>(
     limit: u32,
 )
     requires { IsTrue (has_group machine.old.ledger.groups group) }
-    ensures { ByStepsOfAny N.frames (LowersUsage group limit) machine.old machine.new }
+    ensures { BySteps MakesForAny N.frames (LowersUsage group limit) machine.old machine.new }
 {
     machine.drain_stocks(tables, group);
     reclaim_to_limit(machine, tables, group, 0, limit);
@@ -35,7 +36,7 @@ pub(crate) fn keep_to_limit<N: BootName>(
     limit: u32,
 )
     requires { IsTrue (has_group machine.old.ledger.groups group) }
-    ensures { ByStepsOfAny N.frames (LowersAbove group limit) machine.old machine.new }
+    ensures { BySteps MakesForAny N.frames (LowersAbove group limit) machine.old machine.new }
 {
     if limit < machine.current(group) {
         note_limit(machine, group, 0);

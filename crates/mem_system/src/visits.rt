@@ -42,7 +42,7 @@ pub fn serve_outcome<N: BootName>(
     locked.machine.settle(tables, cpu);
     let outcome = execute(&mut locked.machine, tables, cpu, locked.sizes, cmd);
     locked.machine.shut(tables, cpu);
-    let _frame_states = locked.machine.frame_states(); // Called for its contract.
+    locked.machine.prove_consistent();
     outcome
 }
 
@@ -110,7 +110,7 @@ pub fn serve_frame_outcome<N: BootName>(
     machine.settle(tables, cpu);
     let answer = alloc_frame(machine, tables, cpu, sizes, group);
     machine.shut(tables, cpu);
-    let _frame_states = machine.frame_states(); // Called for its contract.
+    machine.prove_consistent();
     outcome_of(&answer)
 }
 

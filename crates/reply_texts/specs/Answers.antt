@@ -9,7 +9,9 @@ use Rattle.frame_word.specs.declared.answers.Put as word
 use Rattle.frame_word.specs.declared.answers.Put.TheVariants.{Left, Last}
 use Rattle.reply_texts.specs.LineAnswer.{LineAnswer}
 use Rattle.reply_texts.specs.LineAnswer as answer
-use Rattle.reply_texts.specs.Replies.{reply_text}
+use Rattle.reply_texts.specs.Replies.{refusal_text, reply_text}
+use Rattle.reply_texts.specs.declared.steps.UnlockedAnswer.{UnlockedAnswer}
+use Rattle.reply_texts.specs.declared.steps.UnlockedAnswer.TheVariants as unlocked
 
 -- what is written for a frame asked for without the lock
 abbrev pub fast_text : cpu.Fast → List ℕ
@@ -32,11 +34,16 @@ abbrev pub put_text : word.Put → List ℕ
 put_text (Left references) = codes "left " ++ decimal references ++ codes "\n"
 put_text Last = codes "last\n"
 
+-- what is written for an answer that needed no lock
+abbrev pub unlocked_text : UnlockedAnswer → List ℕ
+unlocked_text (unlocked.Fast fast) = fast_text fast
+unlocked_text (unlocked.Got get) = get_text get
+unlocked_text (unlocked.Put put) = put_text put
+unlocked_text unlocked.Listed = codes "listed\n"
+unlocked_text (unlocked.Refused reason) = refusal_text reason
+
 -- what is written for the answer to a line
 abbrev pub answer_text : LineAnswer → List ℕ
 answer_text (answer.Served reply) = reply_text reply
 answer_text answer.Settled = codes "settled\n"
-answer_text (answer.Fast fast) = fast_text fast
-answer_text (answer.Got get) = get_text get
-answer_text (answer.Put put) = put_text put
-answer_text answer.Listed = codes "listed\n"
+answer_text (answer.Unlocked said) = unlocked_text said

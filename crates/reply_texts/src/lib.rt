@@ -8,4 +8,4 @@ mod steps;
 
 pub use refusals::write_refusal;
 pub use replies::{write_outcome, write_reply};
-pub use steps::{write_fast, write_get, write_listed, write_put, write_settled};
+pub use steps::{UnlockedAnswer, write_fast, write_get, write_put, write_settled, write_unlocked};

@@ -2,13 +2,30 @@
 
 ghost use Rattle.std.specs.Prelude.{◌≡◌, ◌++◌, IfOk};
 ghost use Rattle.std.specs.String.{string_bytes};
-ghost use Rattle.reply_texts.specs.LineAnswer.{Listed, Settled};
-ghost use Rattle.reply_texts.specs.Answers.{answer_text, fast_text, get_text, put_text};
+ghost use Rattle.reply_texts.specs.LineAnswer.{Settled};
+ghost use Rattle.reply_texts.specs.Answers.{answer_text, fast_text, get_text, put_text, unlocked_text};
 
 use crate::numbers::write_number;
+use crate::refusals::write_refusal;
 use cpu_part::Fast;
 use frame_word::{Get, Put};
+use group_tree::fault::Fault;
 use std::alloc::AllocError;
+
+/// What a command is answered that needs no lock.
+#[derive(Clone, Copy, PartialEq, Eq)]
+pub enum UnlockedAnswer {
+    /// What became of a frame that was asked for.
+    Fast(Fast),
+    /// What became of a pin that was asked for.
+    Got(Get),
+    /// A pin was put.
+    Put(Put),
+    /// A fresh frame is at the end of the list again.
+    Listed,
+    /// The command is refused, for this reason.
+    Refused(Fault),
+}
 
 /// Adds the line for a frame asked for without the lock. It fails only if memory runs out.
 pub fn write_fast(fast: &Fast, text: &mut String) -> Result<(), AllocError>
@@ -46,11 +63,17 @@ pub fn write_put(put: &Put, text: &mut String) -> Result<(), AllocError>
     }
 }
 
-/// Adds the line for a fresh frame that is at the end of the list again. It fails only if memory runs out.
-pub fn write_listed(text: &mut String) -> Result<(), AllocError>
-    ensures { IfOk result (λ _. string_bytes text.new ≡ string_bytes text.old ++ answer_text Listed) }
+/// Adds what is written for an answer that needed no lock. It fails only if memory runs out.
+pub fn write_unlocked(answer: &UnlockedAnswer, text: &mut String) -> Result<(), AllocError>
+    ensures { IfOk result (λ _. string_bytes text.new ≡ string_bytes text.old ++ unlocked_text answer.now) }
 {
-    text.push_str("listed\n")
+    match answer {
+        UnlockedAnswer::Fast(fast) => write_fast(fast, text),
+        UnlockedAnswer::Got(get) => write_get(get, text),
+        UnlockedAnswer::Put(put) => write_put(put, text),
+        UnlockedAnswer::Listed => text.push_str("listed\n"),
+        UnlockedAnswer::Refused(fault) => write_refusal(fault, text),
+    }
 }
 
 /// Adds the line for a CPU that was settled, and nothing else. It fails only if memory runs out.

@@ -1,8 +1,7 @@
 -- A line carries the whole on. Serves `replay`.
-use Rattle.std.proofs.Common.{Bool, true, false, ◌≡◌, ◌≢◌, ℕ, ◌<◌, ◌==◌, ◌&&◌, ◌++◌, cond, Some, List, [], ◌∷◌, refl, sym, ◌∙◌, ap, subst, inl, inr, suc}
+use Rattle.std.proofs.Common.{Bool, true, false, ◌≡◌, ◌≢◌, ℕ, ◌<◌, ◌==◌, ◌&&◌, ◌++◌, cond, Some, List, [], ◌∷◌, refl, sym, ◌∙◌, ap, subst, inl, inr, suc, zero}
 use Rattle.std.specs.Prelude.{nat_le, slice_set}
 use Rattle.std.specs.List.{slice_get}
-use Rattle.std.specs.Borrow.{Bor}
 use Rattle.std.proofs.lemmas.Bool.{cases_eq}
 use Rattle.std.proofs.lemmas.List.{append-nil, length-set}
 use Rattle.std.proofs.lemmas.Option.{slice_get_within}
@@ -16,7 +15,7 @@ use Rattle.stock_word.specs.declared.view.Stock.{Stock}
 use Rattle.stock_word.specs.declared.view.Stock.TheVariants as stock_is
 use Rattle.stock_word.specs.Stock.{KnownStockTable, KnownStockSeat, drained_of, group_of}
 use Rattle.stock_word.specs.Calls.{with_view}
-use Rattle.group_tree.specs.declared.fault.Fault.TheVariants.{PinsFull, NotPinned}
+use Rattle.group_tree.specs.declared.fault.Fault.TheVariants.{NoGroup, PinsFull, NotPinned}
 use Rattle.cpu_part.specs.declared.answers.Fast.{Fast as FastAnswer}
 use Rattle.cpu_part.specs.declared.answers.Fast.TheVariants.{FreshFull, ListEmpty, OtherGroup, Drained, NoStock, Got}
 use Rattle.cpu_part.specs.declared.answers.Dropped.TheVariants.{NeedVisit}
@@ -54,18 +53,19 @@ use Rattle.mem_history.proofs.Leading.{fast_calls_lead}
 use Rattle.mem_system.specs.declared.command.Cmd.{Cmd}
 use Rattle.mem_system.specs.declared.command.Cmd.TheVariants as cmd
 use Rattle.mem_system.specs.declared.command.Reply.{Reply}
-use Rattle.mem_system.specs.declared.command.Reply.TheVariants.{Refused, Done}
+use Rattle.mem_system.specs.declared.command.Reply.TheVariants.{Done}
 use Rattle.mem_system.specs.Locked.{KnownLocked, AllShut}
 use Rattle.mem_system.specs.Visits.{transition, LockedState, locked_state, IsServed}
 use Rattle.reply_texts.specs.LineAnswer.{LineAnswer}
 use Rattle.reply_texts.specs.LineAnswer as answer
-use Rattle.script_replay.specs.declared.work.Work.{Work}
-use Rattle.script_replay.specs.declared.work.Work.TheVariants as work
-use Rattle.script_replay.specs.Answers.{RepliesServed, GetsPin, PutsPin, CanNotList, AnswersRelease, AnswersFrame, IsServedUnderLock, SettlesUnderLock}
-use Rattle.script_replay.specs.Answers.{AnswersWork, OnlyWatched, WritesWork, fast_steps, get_steps, put_steps}
-use Rattle.script_replay.specs.Answers.{locked_with_unit_notes, locked_with_watch}
-use Rattle.script_replay.specs.Ranges.{WorkInRange}
-use Rattle.script_replay.proofs.Looking.{IsLookedAt, shut_before, stock_looked, units_looked}
+use Rattle.reply_texts.specs.declared.steps.UnlockedAnswer.{UnlockedAnswer}
+use Rattle.reply_texts.specs.declared.steps.UnlockedAnswer.TheVariants as unlocked
+use Rattle.script_lines.specs.declared.line.Command.{Command}
+use Rattle.script_lines.specs.declared.line.Command.TheVariants as command
+use Rattle.script_replay.specs.Answers.{AnswersAlone, AnswersCommand, AnswersUnlocked, CanNotList, IsServedUnderLock, IsTriedInVain, OnlyWatched, WritesCommand}
+use Rattle.script_replay.specs.Answers.{locked_with_unit_notes, locked_with_watch, steps_alone}
+use Rattle.script_replay.specs.Ranges.{CommandInRange}
+use Rattle.script_replay.proofs.Looking.{IsLookedAt, answer_looked, shut_before}
 use Rattle.group_charge.specs.Charges.{Ledger}
 use Rattle.mem_machine.specs.Counting.{counts_along}
 use Rattle.mem_machine.specs.Following.{FollowsSteps}
@@ -113,7 +113,7 @@ module _ (t : KnownTable) (m : KnownMachine) (c : KnownCpu) where
     };
   })
 
-  pub fast_unseen : (g : ℕ) (answer : FastAnswer) (d : KnownCpu) → FastAnswers g answer c d → ((f : ℕ) → answer ≢ Got f) → IsUnseen t m c d
+  fast_unseen : (g : ℕ) (answer : FastAnswer) (d : KnownCpu) → FastAnswers g answer c d → ((f : ℕ) → answer ≢ Got f) → IsUnseen t m c d
   fast_unseen g FreshFull d is none = unseen_same d is.1
   fast_unseen g ListEmpty d is none = unseen_same d is.2
   fast_unseen g OtherGroup d is none = unseen_stock d (with_view c.stock_seat is.1.0) is.1.2 (ap (λ v. group_of v.last) is.1.1.1)
@@ -125,9 +125,18 @@ module _ (t : KnownTable) (m : KnownMachine) (c : KnownCpu) where
   drop_unseen : (f : ℕ) (d : KnownCpu) → DropAnswers f NeedVisit c d → IsUnseen t m c d
   drop_unseen f d is = unseen_stock d (with_view c.stock_seat is.0) is.2 (ap (λ v. group_of v.last) is.1.2 ∙ drained_group c.stock_seat.view.last)
 
-  pub list_unseen : (f : ℕ) (d : KnownCpu) → CanNotList f c d → IsUnseen t m c d
+  list_unseen : (f : ℕ) (d : KnownCpu) → CanNotList f c d → IsUnseen t m c d
   list_unseen f d (inl is) = unseen_same d is.stays
   list_unseen f d (inr is) = drop_unseen f d is.drained
+
+  -- what was tried in vain without the lock
+  pub vain_unseen : (command : Command) (l : KnownLocked) (d : KnownCpu) → IsTriedInVain command (locked_state l c) d → IsUnseen t m c d
+  vain_unseen (command.Alloc path zero) l d is = fast_unseen is.group is.fast d is.answers is.none
+  vain_unseen (command.Release f) l d is = list_unseen f d is
+  vain_unseen (command.Fast g) l d is = absurd is
+  vain_unseen (command.Get f) l d is = absurd is
+  vain_unseen (command.Put f) l d is = absurd is
+  vain_unseen command l d is = unseen_same d is
 
 -- ---- the watch is seen by no one
 
@@ -277,42 +286,34 @@ module _ (t : KnownTable) (w : KnownStockTable) (run : Run) (locked : KnownLocke
   as_made : (steps made : Run) (after : LockedState) → steps ≡ made → (GoesOn made → Follows made after) → GoesOn steps → Follows steps after
   as_made steps made after are follows legal = subst (λ (r : Run). Follows r after) (sym are) (follows (subst GoesOn are legal))
 
-  got_follows : (g f : ℕ) (after : LockedState) → FastAnswers g (Got f) c after.cpu → OnlyWatched (fast_steps p g (Got f)) locked after.locked → GoesOn (fast_steps p g (Got f)) →
-      Follows (fast_steps p g (Got f)) after
+  got_follows : (g f : ℕ) (after : LockedState) → FastAnswers g (Got f) c after.cpu → OnlyWatched (cpu_makes p (step.Consume g) step_answer.Took ∷ []) locked after.locked
+      → GoesOn (cpu_makes p (step.Consume g) step_answer.Took ∷ []) → Follows (cpu_makes p (step.Consume g) step_answer.Took ∷ []) after
   got_follows g f after is kept legal =
       step_follows (step.Consume g) step_answer.Took after kept (ap (λ (x : KnownCpu). x.number) is.5) refl (λ e. cc)
       (fast_calls_lead.got t w run m cpus k c after.cpu this_part g f is
       (legal_fast_steps_are_decided t run cpus k m c (step.Consume g) step_answer.Took shows is_part refl (λ e. cc) legal)
       after.locked.machine.watch kept.watched) legal
 
-  fast_follows : (g : ℕ) (answer : FastAnswer) (after : LockedState) → FastAnswers g answer c after.cpu → OnlyWatched (fast_steps p g answer) locked after.locked → GoesOn (fast_steps p g answer) →
-      Follows (fast_steps p g answer) after
-  fast_follows g FreshFull after is kept legal = unseen_follows after kept (fast_unseen t m c g FreshFull after.cpu is (λ f e. cc))
-  fast_follows g ListEmpty after is kept legal = unseen_follows after kept (fast_unseen t m c g ListEmpty after.cpu is (λ f e. cc))
-  fast_follows g OtherGroup after is kept legal = unseen_follows after kept (fast_unseen t m c g OtherGroup after.cpu is (λ f e. cc))
-  fast_follows g Drained after is kept legal = unseen_follows after kept (fast_unseen t m c g Drained after.cpu is (λ f e. cc))
-  fast_follows g NoStock after is kept legal = unseen_follows after kept (fast_unseen t m c g NoStock after.cpu is (λ f e. cc))
-  fast_follows g (Got f) after is kept legal = got_follows g f after is kept legal
-
-  get_follows : (f : ℕ) (after : LockedState) (answer : LineAnswer) → f < t.frames → GetsPin f c after.cpu answer
-      → OnlyWatched (get_steps p f answer) locked after.locked → GoesOn (get_steps p f answer) →
-      Follows (get_steps p f answer) after
-  get_follows f after (answer.Got Held) inside is kept legal =
+  -- without the lock
+  alone_follows : (command : Command) (said : UnlockedAnswer) (after : LockedState) → CommandInRange t.frames command → AnswersAlone command c after.cpu said
+      → OnlyWatched (steps_alone p command said) locked after.locked → GoesOn (steps_alone p command said) → Follows (steps_alone p command said) after
+  alone_follows (command.Fast g) (unlocked.Fast FreshFull) after names is kept legal = unseen_follows after kept (fast_unseen t m c g FreshFull after.cpu is (λ f e. cc))
+  alone_follows (command.Fast g) (unlocked.Fast ListEmpty) after names is kept legal = unseen_follows after kept (fast_unseen t m c g ListEmpty after.cpu is (λ f e. cc))
+  alone_follows (command.Fast g) (unlocked.Fast OtherGroup) after names is kept legal = unseen_follows after kept (fast_unseen t m c g OtherGroup after.cpu is (λ f e. cc))
+  alone_follows (command.Fast g) (unlocked.Fast Drained) after names is kept legal = unseen_follows after kept (fast_unseen t m c g Drained after.cpu is (λ f e. cc))
+  alone_follows (command.Fast g) (unlocked.Fast NoStock) after names is kept legal = unseen_follows after kept (fast_unseen t m c g NoStock after.cpu is (λ f e. cc))
+  alone_follows (command.Fast g) (unlocked.Fast (Got f)) after names is kept legal = got_follows g f after is kept legal
+  alone_follows (command.Get f) (unlocked.Got Held) after inside is kept legal =
       step_follows (step.Get f) step_answer.Held after kept (ap (λ (x : KnownCpu). x.number) is.1.2) refl (λ e. cc)
       (fast_calls_lead.held t w run m cpus k c after.cpu this_part f inside is.0 is.1 after.locked.machine.watch kept.watched) legal
-  get_follows f after (answer.Got Zero) inside is kept legal =
+  alone_follows (command.Get f) (unlocked.Got Zero) after inside is kept legal =
       unseen_follows after kept (unseen_seat t m c after.cpu is.1.0 f (looked is.1.1.0) is.1.2 is.1.1.2 (λ x. refl))
-  get_follows f after (answer.Got (Raced found)) inside is kept legal =
+  alone_follows (command.Get f) (unlocked.Got (Raced found)) after inside is kept legal =
       unseen_follows after kept (unseen_seat t m c after.cpu is.1.0 f (λ x. raced found (looked is.1.1.0 x)) is.1.2 is.1.1.4 (λ x. refl))
-  get_follows f after (answer.Got Full) inside is kept legal =
+  alone_follows (command.Get f) (unlocked.Got Full) after inside is kept legal =
       unseen_follows after kept (unseen_seat t m c after.cpu is.1.0 f (looked 255) is.1.2 is.1.1 (λ x. refl))
-  get_follows f after (answer.Served (Refused PinsFull)) inside is kept legal = unseen_follows after kept (unseen_same t m c after.cpu is.1)
-  get_follows f after answer inside is kept legal = absurd is
-
-  put_follows : (f : ℕ) (after : LockedState) (answer : LineAnswer) → PutsPin f c after.cpu answer → OnlyWatched (put_steps p f answer) locked after.locked
-      → GoesOn (put_steps p f answer) →
-      Follows (put_steps p f answer) after
-  put_follows f after (answer.Put putted) is kept legal =
+  alone_follows (command.Get f) (unlocked.Refused PinsFull) after inside is kept legal = unseen_follows after kept (unseen_same t m c after.cpu is.1)
+  alone_follows (command.Put f) (unlocked.Put putted) after inside is kept legal =
       step_follows (step.Put f) (put_answer putted) after kept (put_number putted is.1) refl (put_made putted)
       (fast_calls_lead.is_put t w run m cpus k c after.cpu this_part f putted is.1 after.locked.machine.watch kept.watched) legal
     where
@@ -323,8 +324,24 @@ module _ (t : KnownTable) (w : KnownStockTable) (run : Run) (locked : KnownLocke
       put_made : (x : Putted) → put_answer x ≢ step_answer.Illegal
       put_made (put.Left n) = λ e. cc
       put_made put.Last = λ e. cc
-  put_follows f after (answer.Served (Refused NotPinned)) is kept legal = unseen_follows after kept (unseen_same t m c after.cpu is.1)
-  put_follows f after answer is kept legal = absurd is
+  alone_follows (command.Put f) (unlocked.Refused NotPinned) after inside is kept legal = unseen_follows after kept (unseen_same t m c after.cpu is.1)
+  alone_follows (command.Release f) unlocked.Listed after inside is kept legal =
+      step_follows (step.Credit f) step_answer.Stocked after kept (ap (λ (x : KnownCpu). x.number) is.listed.5) refl (λ e. cc)
+      (fast_calls_lead.listed t w run m cpus k c after.cpu this_part f is.fresh is.listed
+      (legal_fast_steps_are_decided t run cpus k m c (step.Credit f) step_answer.Stocked shows is_part refl (λ e. cc) legal)
+      after.locked.machine.watch kept.watched) legal
+  alone_follows command said after names is kept legal = absurd is
+
+  unlocked_follows : (command : Command) (steps : Run) (after : LockedState) (said : UnlockedAnswer) → CommandInRange t.frames command
+      → AnswersUnlocked command (transition t before steps after) said → GoesOn steps → Follows steps after
+  unlocked_follows (command.Alloc path zero) steps after (unlocked.Fast (Got f)) names is legal =
+      as_made steps _ after is.alone.steps_are (λ all. got_follows is.gets.group f after is.gets.got is.alone.locked all) legal
+  unlocked_follows (command.Alloc path zero) steps after (unlocked.Refused NoGroup) names none legal =
+      as_made steps [] after none.1 (λ all. unseen_follows after (not_watched locked after.locked none.0.same_locked)
+      (unseen_same t m c after.cpu none.0.same_cpu)) legal
+  unlocked_follows (command.Alloc path zero) steps after said names is legal = absurd is.0
+  unlocked_follows command steps after said names is legal =
+      as_made steps (steps_alone p command said) after is.1.steps_are (λ all. alone_follows command said after names is.0 is.1.locked all) legal
 
   -- served under the lock
   locked_follows : (is_explained : Bool) (seen : KnownCpu) → IsUnseen t m c seen → (cmd : Cmd) (reply : Reply) (steps : Run) (after : LockedState) →
@@ -335,80 +352,23 @@ module _ (t : KnownTable) (w : KnownStockTable) (run : Run) (locked : KnownLocke
       (λ all. watched_follows (under_lock p is.served.steps) (cpu_makes seen.number step.Unlock step_answer.Done ∷ []) is.left after is.unlock
       (served_follows seen unseen is.found is_explained is.found.machine.watch is.lock.locked cmd reply (locked_state is.left after.cpu) is.served left_shut all)) legal
 
-  replied_follows : (is_explained : Bool) (cmd : Cmd) (steps : Run) (after : LockedState) (answer : LineAnswer)
-      → RepliesServed is_explained cmd (transition t before steps after) answer → AllShut after.locked.machine →
-      GoesOn steps → Follows steps after
-  replied_follows is_explained cmd steps after (answer.Served reply) is shut legal =
-      locked_follows is_explained c (unseen_same t m c c refl) cmd reply steps after is shut legal
-  replied_follows is_explained cmd steps after answer is shut legal = absurd is
+  answer_follows : (is_explained : Bool) (command : Command) (steps : Run) (after : LockedState) (answer : LineAnswer) → CommandInRange t.frames command
+      → AnswersCommand is_explained command (transition t before steps after) answer → AllShut after.locked.machine → GoesOn steps → Follows steps after
+  answer_follows is_explained command steps after (answer.Served reply) names is shut legal =
+      locked_follows is_explained is.seen (vain_unseen t m c command locked is.seen is.tried) is.cmd reply steps after is.served shut legal
+  answer_follows is_explained command steps after answer.Settled names is shut legal =
+      locked_follows false c (unseen_same t m c c refl) cmd.Settle Done steps after is.1 shut legal
+  answer_follows is_explained command steps after (answer.Unlocked said) names is shut legal = unlocked_follows command steps after said names is legal
 
-  frame_follows : (is_explained : Bool) (path : Bor (List ℕ)) (steps : Run) (after : LockedState) (answer : LineAnswer) (is_noted : Bool)
-      → AnswersFrame is_explained path (transition t before steps after) answer is_noted →
-      AllShut after.locked.machine → GoesOn steps → Follows steps after
-  frame_follows is_explained path steps after (answer.Fast (Got f)) false is shut legal =
-      as_made steps (fast_steps p is.gets.group (Got f)) after is.alone.steps_are
-      (λ all. got_follows is.gets.group f after is.gets.got is.alone.locked all) legal
-  frame_follows is_explained path steps after (answer.Served reply) false none shut legal =
-      as_made steps [] after none.1 (λ all. unseen_follows after (not_watched locked after.locked none.0.same_locked)
-      (unseen_same t m c after.cpu none.0.same_cpu)) legal
-  frame_follows is_explained path steps after (answer.Served reply) true served shut legal =
-      let none = served.none in
-      locked_follows is_explained served.seen (fast_unseen t m c none.group none.fast served.seen none.answers none.none) (cmd.Alloc path 0) reply steps after served.served
-      shut legal
-  frame_follows is_explained path steps after answer is_noted is shut legal = absurd is
-
-  release_follows : (is_explained : Bool) (f : ℕ) (steps : Run) (after : LockedState) (answer : LineAnswer) (is_noted : Bool)
-      → AnswersRelease is_explained f (transition t before steps after) answer is_noted →
-      AllShut after.locked.machine → GoesOn steps → Follows steps after
-  release_follows is_explained f steps after answer.Listed false is shut legal =
-      as_made steps (cpu_makes p (step.Credit f) step_answer.Stocked ∷ []) after is.1.steps_are
-      (λ all. step_follows (step.Credit f) step_answer.Stocked after is.1.locked (ap (λ (x : KnownCpu). x.number) is.0.listed.5) refl (λ e. cc)
-      (fast_calls_lead.listed t w run m cpus k c after.cpu this_part f is.0.fresh is.0.listed
-      (legal_fast_steps_are_decided t run cpus k m c (step.Credit f) step_answer.Stocked shows is_part refl (λ e. cc) all)
-      after.locked.machine.watch is.1.locked.watched) all) legal
-  release_follows is_explained f steps after (answer.Served reply) true is shut legal =
-      locked_follows is_explained is.seen (list_unseen t m c f is.seen is.not_listed) (cmd.Release f) reply steps after is.served shut legal
-  release_follows is_explained f steps after answer is_noted is shut legal = absurd is
-
-  settle_follows : (steps : Run) (after : LockedState) → SettlesUnderLock (transition t before steps after) → AllShut after.locked.machine → GoesOn steps → Follows steps after
-  settle_follows steps after is shut legal = locked_follows false c (unseen_same t m c c refl) cmd.Settle Done steps after is shut legal
-
-  answer_follows : (is_explained : Bool) (asked : Work) (steps : Run) (after : LockedState) (answer : LineAnswer) (is_noted : Bool) → WorkInRange t.frames asked
-      →
-      AnswersWork is_explained asked (transition t before steps after) answer is_noted → AllShut after.locked.machine → GoesOn steps → Follows steps after
-  answer_follows is_explained (work.Visit cmd) steps after answer true names is shut legal = replied_follows is_explained cmd steps after answer is shut legal
-  answer_follows is_explained (work.AllocFrame path) steps after answer is_noted names is shut legal = frame_follows is_explained path steps after answer
-      is_noted is shut legal
-  answer_follows is_explained (work.Fast g) steps after (answer.Fast taken) false names is shut legal =
-      as_made steps (fast_steps p g taken) after is.1.steps_are (λ all. fast_follows g taken after is.0 is.1.locked all) legal
-  answer_follows is_explained (work.Release f) steps after answer is_noted names is shut legal = release_follows is_explained f steps after answer is_noted is shut legal
-  answer_follows is_explained (work.Get f) steps after answer false names is shut legal =
-      as_made steps (get_steps p f answer) after is.1.steps_are (λ all. get_follows f after answer names is.0 is.1.locked all) legal
-  answer_follows is_explained (work.Put f) steps after answer false names is shut legal =
-      as_made steps (put_steps p f answer) after is.1.steps_are (λ all. put_follows f after answer is.0 is.1.locked all) legal
-  answer_follows is_explained work.Settle steps after answer.Settled false names is shut legal = settle_follows steps after is shut legal
-  answer_follows is_explained asked steps after answer true names is shut legal = absurd is
-  answer_follows is_explained asked steps after answer false names is shut legal = absurd is
-
-  -- settled, and then looks at words
-  looked_follows : (steps : Run) (settled after : LockedState) → SettlesUnderLock (transition t before steps settled)
-      → IsLookedAt t settled.locked.machine after.locked.machine → after.cpu ≡ settled.cpu → AllShut after.locked.machine → GoesOn steps → Follows steps after
-  looked_follows steps settled after is looked same shut legal =
+  -- served, and then written by looks at words
+  pub command_follows : (is_explained : Bool) (command : Command) (steps : Run) (after : LockedState) (text : List ℕ) → CommandInRange t.frames command
+      → WritesCommand is_explained command (transition t before steps after) text → AllShut after.locked.machine → GoesOn steps → Follows steps after
+  command_follows is_explained command steps after text names is shut legal =
       let n : KnownMachine = after.locked.machine in
-      let was = settle_follows steps settled is (shut_before t settled.locked.machine n looked shut) legal in (
-        subst (λ (d : KnownCpu). ShowsAll t (run ++ steps) n (slice_set cpus k d)) (sym same)
-            (shows_looked t (run ++ steps) settled.locked.machine n (slice_set cpus k settled.cpu) looked was.0),
+      let left : LockedState = is.left in
+      let looked : IsLookedAt t left.locked.machine n = answer_looked t is_explained command is.answer text left n is.writes.told in
+      let was = answer_follows is_explained command steps left is.answer names is.answered (shut_before t left.locked.machine n looked shut) legal in (
+        subst (λ (d : KnownCpu). ShowsAll t (run ++ steps) n (slice_set cpus k d)) (sym is.writes.cpu)
+            (shows_looked t (run ++ steps) left.locked.machine n (slice_set cpus k left.cpu) looked was.0),
         λ told. subst (λ (l : Ledger). AgreesWithRun t (run ++ steps) l) (sym looked.ledger) (was.1 told),
       )
-
-  pub work_follows : (is_explained : Bool) (asked : Work) (steps : Run) (after : LockedState) (text : List ℕ) → WorkInRange t.frames asked
-      → WritesWork is_explained asked (transition t before steps after) text → AllShut after.locked.machine → GoesOn steps → Follows steps after
-  work_follows is_explained work.Blocks steps after text names is shut legal = settle_follows steps after is.settles shut legal
-  work_follows is_explained work.Show steps after text names is shut legal = settle_follows steps after is.settles shut legal
-  work_follows is_explained work.Stock steps after text names is shut legal =
-      looked_follows steps is.settled after is.settles (stock_looked t is.settled.locked.machine after.locked.machine is.told.look) is.cpu shut legal
-  work_follows is_explained (work.Units path) steps after text names is shut legal =
-      looked_follows steps is.settled after is.settles
-      (units_looked t _ _ _ is.settled.locked.machine after.locked.machine is.told) is.cpu shut legal
-  work_follows is_explained asked steps after text names is shut legal =
-      answer_follows is_explained asked steps after is.answer is.is_noted names is.answered shut legal

@@ -11,7 +11,7 @@ use Rattle.frame_word.specs.Seats.{KnownTable}
 use Rattle.stock_word.specs.declared.view.Stock.{Stock}
 use Rattle.stock_word.specs.declared.view.Stock.TheVariants as stock_is
 use Rattle.stock_word.specs.Stock.{KnownStockTable, group_of}
-use Rattle.cpu_part.specs.Cpus.{KnownCpu, IsTied}
+use Rattle.cpu_part.specs.Cpus.{KnownCpu}
 use Rattle.step_rules.specs.After.{Run, IsLegalRun}
 use Rattle.step_watch.specs.Watched.{has_legal_steps}
 use Rattle.mem_machine.specs.Interleaving.{zone_of}
@@ -21,24 +21,22 @@ use Rattle.mem_history.specs.Kept.{AreTied, IsTiedPart}
 use Rattle.mem_history.proofs.Wholes.{set_here, set_else}
 use Rattle.mem_history.proofs.Promised.{the_whole_is_promised}
 use Rattle.mem_history.proofs.Deciding.{legal_front}
-use Rattle.mem_system.specs.Locked.{KnownLocked, IsQuiet}
+use Rattle.mem_system.specs.Locked.{KnownLocked, IsQuiet, IsSound}
 use Rattle.mem_system.specs.Visits.{transition, locked_state}
 use Rattle.script_lines.specs.declared.line.Command.{Command}
 use Rattle.script_lines.specs.declared.line.Line.{Line}
 use Rattle.script_lines.specs.declared.line.Line.TheVariants.{Go, At}
-use Rattle.script_replay.specs.Answers.{AddsText, ServesCommand, WritesWork}
+use Rattle.script_replay.specs.Answers.{AddsText, ServesCommand, WritesCommand}
 use Rattle.script_replay.specs.Lines.{SystemState, system_state, AtPart, InOrder, ServesLine, ServesAll, StopsAt, number_in_script}
 use Rattle.script_replay.specs.History.{Past, past, past_line, HasHistory, Replays, ReplaysLegally, ServesAndKeeps}
-use Rattle.script_replay.specs.History.{StopsFor, HoldsInvariants}
+use Rattle.script_replay.specs.History.{StopsFor, HoldsAt}
 use Rattle.script_replay.specs.declared.owned_replay.Stopped.TheVariants.{NotLegal}
 use Rattle.script_replay.specs.Ranges.{LineInRange}
 use Rattle.script_replay.specs.declared.form.Form.{Form}
 use Rattle.script_replay.specs.Numbers.{numbered_text, text_with_number}
 use Rattle.script_replay.specs.Terms.{Terms, form_terms, numbered_terms, terms}
-use Rattle.script_replay.specs.Works.{work_of}
 use Rattle.script_replay.proofs.InOrder.{in_order_line}
-use Rattle.script_replay.proofs.InRange.{work_in_range}
-use Rattle.script_replay.proofs.Following.{work_follows}
+use Rattle.script_replay.proofs.Following.{command_follows}
 use Rattle.script_replay.proofs.Seeing.{legal_history, line_seen}
 use Rattle.script_replay.proofs.Telling.{at_ok}
 
@@ -50,60 +48,49 @@ no_group (stock_is.HeldBy h n) e = absurd (none-some h (sym e))
 no_group (stock_is.DrainedOf h) e = absurd (none-some h (sym e))
 
 -- the other parts stay what their seats know
-pub tied_still : (t : KnownTable) (w : KnownStockTable) (cpus : List KnownCpu) (k : ℕ) (c d : KnownCpu) → slice_get cpus k ≡ Some c → IsTied t w d →
-    (d.stock_seat.view.last ≡ stock_is.NoGroup → d.fresh ≡ []) → AreTied t w cpus → AreTied t w (slice_set cpus k d)
-tied_still t w cpus k c d is_part tied none all j e at = elim (cases_eq j k) [
+pub tied_still : {locked : KnownLocked} (t : KnownTable) (w : KnownStockTable) (cpus : List KnownCpu) (k : ℕ) (c d : KnownCpu) → slice_get cpus k ≡ Some c
+    → HoldsAt t w locked d → AreTied t w cpus → AreTied t w (slice_set cpus k d)
+tied_still t w cpus k c d is_part held all j e at = elim (cases_eq j k) [
   | inl here ↦
       let is : e ≡ d = set_here cpus k d e (slice_get_within cpus k c is_part) (subst (λ (i : ℕ). slice_get (slice_set cpus k d) i ≡ Some e) here at) in
-      subst (IsTiedPart t w) (sym is) (record { tied = tied; none_fresh = λ z. ap length (none (no_group d.stock_seat.view.last z)) })
+      subst (IsTiedPart t w) (sym is) (record { tied = held.tied; none_fresh = λ z. ap length (held.none_fresh (no_group d.stock_seat.view.last z)) })
   | inr ne ↦ all j e (set_else cpus k j d e ne at)
 ]
 
--- a command that was served at its part
-pub part_keeps : (on : Terms) (before after : KnownLocked) (cpus : List KnownCpu) (line : Line) (cpu : ℕ) (command : Command) (c d : KnownCpu)
-    {number : ℕ} {Z U E : Type 0} (r : Result U E) (old new : String Z) → on.is_numbered ≡ false → line ≡ At number cpu command →
-    LineInRange on.frames.frames (length cpus) line → slice_get cpus (cpu - 1) ≡ Some c →
-    AddsText r old new (ServesCommand on command (locked_state before c) (locked_state after d)) →
-    HoldsInvariants on.frames on.stocks after → IsTied on.frames on.stocks d → (d.stock_seat.view.last ≡ stock_is.NoGroup → d.fresh ≡ []) →
-    AddsText r old new (ServesAndKeeps on line (system_state before cpus) (system_state after (slice_set cpus (cpu - 1) d)))
-part_keeps on before after cpus line cpu command c d {number = number} r old new plain is there is_part answered holds tied none = record {
-  text = answered.text;
-  so = record {
-    there = there;
-    serves = subst (λ (x : Line). ServesLine on x (system_state before cpus) (system_state after (slice_set cpus (cpu - 1) d)) answered.text) (sym is)
-        (record {
-          steps = answered.so.steps;
-          tells = record {
-            plain = answered.text;
-            so = record { part = c; left = d; is_part = is_part; done = answered.so.writes; cpus = refl };
-            text_is = sym (ap (λ (b : Bool). text_with_number b number answered.text) plain);
-          };
-        });
-    keeps = record {
-      holds = holds;
-      tied = λ all. tied_still on.frames on.stocks cpus (cpu - 1) c d is_part tied none all;
-    };
-  };
-  added = answered.added;
-}
-
--- the same, of the part that was read
+-- a command that was served at the part that was read
 pub part_read : (on : Terms) (before after : KnownLocked) (cpus : List KnownCpu) (line : Line) (cpu : ℕ) (command : Command) (c d : KnownCpu)
     {number : ℕ} {Z U E : Type 0} (r : Result U E) (old new : String Z) → on.is_numbered ≡ false → line ≡ At number cpu command →
     LineInRange on.frames.frames (length cpus) line → c ≡ get_or cpus (cpu - 1) c →
-    AddsText r old new (ServesCommand on command (locked_state before c) (locked_state after d)) →
-    HoldsInvariants on.frames on.stocks after → IsTied on.frames on.stocks d → (d.stock_seat.view.last ≡ stock_is.NoGroup → d.fresh ≡ []) →
+    AddsText r old new (ServesCommand on command (locked_state before c) (locked_state after d)) → HoldsAt on.frames on.stocks after d →
     AddsText r old new (ServesAndKeeps on line (system_state before cpus) (system_state after (slice_set cpus (cpu - 1) d)))
-part_read on before after cpus line cpu command c d {number = number} r old new plain is there read answered holds tied none =
+part_read on before after cpus line cpu command c d {number = number} r old new plain is there read answered held =
     let named : LineInRange on.frames.frames (length cpus) (At number cpu command) = subst (LineInRange on.frames.frames (length cpus)) is there in
     let low = named.low in
     let high = named.high in
-    part_keeps on before after cpus line cpu command c d r old new plain is there
-    (slice_get_read cpus (length cpus) (cpu - 1) c refl (omega arith) read) answered holds tied none
+    let is_part : slice_get cpus (cpu - 1) ≡ Some c = slice_get_read cpus (length cpus) (cpu - 1) c refl (omega arith) read in record {
+      text = answered.text;
+      so = record {
+        there = there;
+        serves = subst (λ (x : Line). ServesLine on x (system_state before cpus) (system_state after (slice_set cpus (cpu - 1) d)) answered.text) (sym is)
+            (record {
+              steps = answered.so.steps;
+              tells = record {
+                plain = answered.text;
+                so = record { part = c; left = d; is_part = is_part; done = answered.so.writes; cpus = refl };
+                text_is = sym (ap (λ (b : Bool). text_with_number b number answered.text) plain);
+              };
+            });
+        keeps = record {
+          holds = held.sound;
+          tied = λ all. tied_still on.frames on.stocks cpus (cpu - 1) c d is_part held all;
+        };
+      };
+      added = answered.added;
+    }
 
 -- nothing is done for `go`, and nothing is added
 pub go_keeps : (t : KnownTable) (w : KnownStockTable) (is_explained : Bool) (before : KnownLocked) (cpus : List KnownCpu) {Z U E : Type 0} (r : Result U E)
-    (answers : String Z) (line : Line) → line ≡ Go → HoldsInvariants t w before
+    (answers : String Z) (line : Line) → line ≡ Go → IsSound t w before
     → AddsText r answers answers (ServesAndKeeps (terms t w is_explained) line (system_state before cpus) (system_state before cpus))
 go_keeps t w is_explained before cpus r answers line is holds = record {
   text = [];
@@ -172,7 +159,7 @@ all_served on (line ∷ lines) s e text all = record {
 
 -- ---- their history
 
-some_cpu : (t : KnownTable) (w : KnownStockTable) (locked : KnownLocked) → IsQuiet t w locked → 1 ≤ t.cpus
+pub some_cpu : (t : KnownTable) (w : KnownStockTable) (locked : KnownLocked) → IsQuiet t w locked → 1 ≤ t.cpus
 some_cpu t w locked quiet = let sized = quiet.sized.cpus in let low = quiet.valid.cpus_low in omega arith
 
 -- a run shows the state; if the ledger before had the peaks and event counts of the run before, the ledger now has
@@ -180,7 +167,7 @@ some_cpu t w locked quiet = let sized = quiet.sized.cpus in let low = quiet.vali
 abbrev Follows : KnownTable → Run → SystemState → Run → SystemState → Type 0
 Follows t earlier s run e = ShowsAll t run e.locked.machine e.cpus × (AgreesWithRun t earlier s.locked.machine.ledger → AgreesWithRun t run e.locked.machine.ledger)
 
-line_follows : (on : Terms) (run : Run) (line : Line) (s e : SystemState) (text : List ℕ) → ShowsAll on.frames run s.locked.machine s.cpus →
+pub line_follows : (on : Terms) (run : Run) (line : Line) (s e : SystemState) (text : List ℕ) → ShowsAll on.frames run s.locked.machine s.cpus →
     AreTied on.frames on.stocks s.cpus → (keeps : ServesAndKeeps on line s e text) →
     IsLegalRun (zone_of on.frames) (run ++ keeps.serves.steps) →
     Follows on.frames run s (run ++ keeps.serves.steps) e
@@ -189,12 +176,12 @@ line_follows on run Go s e text shows tied keeps legal =
     (subst (λ (x : SystemState). Follows on.frames run s run x) (sym keeps.serves.tells.so.stays) (shows, λ told. told))
 line_follows on run (At number cpu command) s e text shows tied keeps legal =
     let steps = keeps.serves.steps in
-    let is : AtPart cpu (λ part left. WritesWork on.is_explained (work_of command)
+    let is : AtPart cpu (λ part left. WritesCommand on.is_explained command
     (transition on.frames (locked_state s.locked part) steps (locked_state e.locked left)) keeps.serves.tells.plain) s.cpus e.cpus = keeps.serves.tells.so in
     subst (λ (cpus : List KnownCpu). ShowsAll on.frames (run ++ steps) e.locked.machine cpus
     × (AgreesWithRun on.frames run s.locked.machine.ledger → AgreesWithRun on.frames (run ++ steps) e.locked.machine.ledger)) (sym is.cpus)
-    (work_follows on.frames on.stocks run s.locked s.cpus (cpu - 1) is.part shows is.is_part tied on.is_explained (work_of command) steps (locked_state e.locked is.left) keeps.serves.tells.plain
-    (work_in_range on.frames.frames command keeps.there.names) is.done keeps.keeps.holds.quiet.shut legal)
+    (command_follows on.frames on.stocks run s.locked s.cpus (cpu - 1) is.part shows is.is_part tied on.is_explained command steps (locked_state e.locked is.left) keeps.serves.tells.plain
+    keeps.there.names is.done keeps.keeps.holds.quiet.shut legal)
 
 pub keeps_history : (on : Terms) (lines : List Line) (before : Past) (e : SystemState) (text : List ℕ) →
     (IsLegalRun (zone_of on.frames) before.run → ShowsAll on.frames before.run before.now.locked.machine before.now.cpus) → AreTied on.frames on.stocks before.now.cpus →

@@ -1,20 +1,18 @@
 -- What the lines of a script name is there, by the sizes that it was read with.
-use Rattle.std.proofs.Common.{ℕ, zero, suc, List, [], ◌∷◌, All, ◌<◌, arith}
+use Rattle.std.proofs.Common.{◌≡◌, ℕ, zero, suc, List, [], ◌∷◌, All, Option, Some, ◌<◌, arith, subst}
 use Rattle.std.specs.Prelude.{IfSome}
 use Rattle.std.specs.List.{AllZip}
 use Rattle.zone_blocks.specs.declared.config.Config.{Config}
 use Rattle.mem_system.specs.Commands.{NamesFrameBelow}
 use Rattle.mem_system.specs.declared.command.Cmd.{Cmd}
-use Rattle.mem_system.specs.declared.command.Cmd.TheVariants as cmd
 use Rattle.script_lines.specs.declared.line.Command.{Command}
-use Rattle.script_lines.specs.declared.line.Command.TheVariants.{Alloc, Fast, Release, Get, Put, Touch}
+use Rattle.script_lines.specs.declared.line.Command.TheVariants.{Fast, Release, Get, Put, Touch}
 use Rattle.script_lines.specs.declared.line.Command.TheVariants.{Dirty, Clean, Owner}
 use Rattle.script_lines.specs.declared.line.Line.{Line}
 use Rattle.script_lines.specs.declared.line.Line.TheVariants.{Go, At}
 use Rattle.script_lines.specs.Script.{IsCommandText, IsLineText, IsScript, asking_texts, texts_of}
-use Rattle.script_replay.specs.Reasons.{head_named}
-use Rattle.script_replay.specs.Ranges.{CommandInRange, LineInRange, WorkInRange}
-use Rattle.script_replay.specs.Works.{work_of}
+use Rattle.script_replay.specs.Commands.{cmd_of, head_named}
+use Rattle.script_replay.specs.Ranges.{CommandInRange, LineInRange}
 
 -- what the command's text names is in range
 named_in_range : (sizes : Config) (command : Command) (text : List ℕ) → IsCommandText sizes command text → CommandInRange sizes.frames command
@@ -28,18 +26,24 @@ named_in_range sizes (Clean frame) text is = is.2.in_zone
 named_in_range sizes (Owner frame) text is = is.2.in_zone
 named_in_range sizes command text is = tt
 
--- what is done for it names nothing else
-pub work_in_range : (frames : ℕ) (command : Command) → CommandInRange frames command → WorkInRange frames (work_of command)
-work_in_range frames (Alloc path zero) named = tt
-work_in_range frames (Alloc path (suc order)) named = tt
-work_in_range frames command named = named
+named_below : (frames : ℕ) (command : Command) → CommandInRange frames command → IfSome (cmd_of command) (NamesFrameBelow frames)
+named_below frames (Release frame) named = named
+named_below frames (Touch frame) named = named
+named_below frames (Dirty frame) named = named
+named_below frames (Clean frame) named = named
+named_below frames (Owner frame) named = named
+named_below frames command named = tt
+
+-- and what the machine's command names is in the zone
+pub cmd_in_zone : (frames : ℕ) (command : Command) (cmd : Cmd) → cmd_of command ≡ Some cmd → CommandInRange frames command → NamesFrameBelow frames cmd
+cmd_in_zone frames command cmd is named = subst (λ (found : Option Cmd). IfSome found (NamesFrameBelow frames)) is (named_below frames command named)
 
 -- a frame that has to be the head of a kept unit is one of the zone
-pub head_in_zone : (frames : ℕ) (command : Cmd) → NamesFrameBelow frames command → IfSome (head_named command) (λ frame. frame < frames)
-head_in_zone frames (cmd.Release frame) named = named
-head_in_zone frames (cmd.Touch frame) named = named
-head_in_zone frames (cmd.Dirty frame) named = named
-head_in_zone frames (cmd.Clean frame) named = named
+pub head_in_zone : (frames : ℕ) (command : Command) → CommandInRange frames command → IfSome (head_named command) (λ frame. frame < frames)
+head_in_zone frames (Release frame) named = named
+head_in_zone frames (Touch frame) named = named
+head_in_zone frames (Dirty frame) named = named
+head_in_zone frames (Clean frame) named = named
 head_in_zone frames command named = tt
 
 -- the same of a line

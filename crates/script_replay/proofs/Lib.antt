@@ -1,10 +1,10 @@
-pub mod Fronts
 pub mod InOrder
 pub mod InRange
 pub mod Going
 pub mod Taking
 pub mod Numbering
 pub mod Saying
+pub mod Serving
 pub mod Telling
 pub mod Following
 pub mod Seeing

@@ -1,4 +1,4 @@
--- Looks at words, which no CPU sees. Serves `answer_stock`, `answer_units`, `visit_stock`, `visit_units`, and what follows from a line.
+-- Looks at words, which no CPU sees. Serves `write_units_or_refusal`, `visit_units`, and what follows from a line.
 use Rattle.std.proofs.Common.{◌≡◌, ◌∙◌, ◌++◌, ℕ, Bool, true, false, Option, Some, None, Result, Ok, Err, IfOk, List, get_or, refl, sym, ap, subst}
 use Rattle.std.specs.declared.string.String.{String}
 use Rattle.std.specs.String.{string_bytes}
@@ -12,6 +12,12 @@ use Rattle.mem_machine.specs.Stocks.{with_look}
 use Rattle.mem_machine.proofs.Looks.{looks_opened, looks_unseen}
 use Rattle.mem_system.specs.Locked.{AllShut}
 use Rattle.mem_system.specs.Shown.{UnitsAt}
+use Rattle.mem_system.specs.Visits.{LockedState}
+use Rattle.reply_texts.specs.LineAnswer.{LineAnswer, Served, Settled, Unlocked}
+use Rattle.script_lines.specs.declared.line.Command.{Command}
+use Rattle.script_lines.specs.declared.line.Command.TheVariants.{Settle, Blocks, Show, Stock, Units}
+use Rattle.script_replay.specs.Answers.{AddsText, IsAnswerText, IsSettledText}
+use Rattle.script_replay.proofs.Telling.{at_ok}
 
 -- ---- a change that no CPU sees
 
@@ -29,10 +35,10 @@ looked_none t m n is = record {
   opened = ap (λ (x : KnownMachine). x.frame_seat.view.opened) is;
 }
 
-pub stock_looked : (t : KnownTable) (m n : KnownMachine) → n ≡ with_look m → IsLookedAt t m n
+stock_looked : (t : KnownTable) (m n : KnownMachine) → n ≡ with_look m → IsLookedAt t m n
 stock_looked t m n is = subst (IsLookedAt t m) (sym is) (record { same = λ c. refl; ledger = refl; watch = refl; opened = refl })
 
-pub units_looked : (t : KnownTable) (o : Option ℕ) (none : Type 0) (tells : List ℕ → Type 0) (m n : KnownMachine) → UnitsAt o none tells m n → IsLookedAt t m n
+units_looked : (t : KnownTable) (o : Option ℕ) (none : Type 0) (tells : List ℕ → Type 0) (m n : KnownMachine) → UnitsAt o none tells m n → IsLookedAt t m n
 units_looked t None none tells m n is = looked_none t m n is.1
 units_looked t (Some g) none tells m n is = subst (IsLookedAt t m) (sym is.looks.machine) (record {
   same = λ c. looks_unseen t (units_in m g) is.pins m c;
@@ -40,6 +46,22 @@ units_looked t (Some g) none tells m n is = subst (IsLookedAt t m) (sym is.looks
   watch = refl;
   opened = looks_opened (units_in m g) is.pins m.frame_seat;
 })
+
+settled_looked : (t : KnownTable) (is_explained : Bool) (command : Command) (text : List ℕ) (settled : LockedState) (n : KnownMachine)
+    → IsSettledText is_explained command text settled n → IsLookedAt t settled.locked.machine n
+settled_looked t is_explained Settle text settled n is = looked_none t settled.locked.machine n is.1
+settled_looked t is_explained Blocks text settled n is = looked_none t settled.locked.machine n is.1
+settled_looked t is_explained Show text settled n is = looked_none t settled.locked.machine n is.1
+settled_looked t is_explained Stock text settled n is = stock_looked t settled.locked.machine n is.look
+settled_looked t is_explained (Units path) text settled n is = units_looked t _ _ _ settled.locked.machine n is
+settled_looked t is_explained command text settled n is = absurd is
+
+-- the text of an answer is written by looks at most
+pub answer_looked : (t : KnownTable) (is_explained : Bool) (command : Command) (answer : LineAnswer) (text : List ℕ) (left : LockedState) (n : KnownMachine)
+    → IsAnswerText is_explained command answer text left n → IsLookedAt t left.locked.machine n
+answer_looked t is_explained command Settled text left n is = settled_looked t is_explained command text left n is
+answer_looked t is_explained command (Served reply) text left n is = looked_none t left.locked.machine n is.1
+answer_looked t is_explained command (Unlocked said) text left n is = looked_none t left.locked.machine n is.1
 
 -- no visit is open before, if none is after
 pub shut_before : (t : KnownTable) (m n : KnownMachine) → IsLookedAt t m n → AllShut n → AllShut m
@@ -57,35 +79,40 @@ SaysUnits o r old new before after =
 abbrev pub IsUnitsText : Option ℕ → (refusal text : List ℕ) → (before after : KnownMachine) → Type 0
 IsUnitsText o refusal text before after = UnitsAt o (text ≡ refusal) (λ shown. text ≡ shown) before after
 
--- the text that was to be added
-pub record HasText {Z : Type 0} (o : Option ℕ) (refusal : List ℕ) (old new : String Z) (before after : KnownMachine) : Type 0 where
-  pub text : List ℕ
-  pub is : IsUnitsText o refusal text before after
-  pub added : string_bytes new ≡ string_bytes old ++ text
-
 its_text : (g : ℕ) (tells : List ℕ → Type 0) (m n : KnownMachine) → (is : ReadsUnits g tells m n) → ReadsUnits g (λ shown. units_text m (units_in m g) is.pins ≡ shown) m n
 its_text g tells m n is = record { pins = is.pins; looks = is.looks; told = refl }
 
--- memory ran out: there is a text, which was not added
-pub failed_text : {Z E : Type 0} (o : Option ℕ) (refusal : List ℕ) (r : Result Bool E) (old new : String Z) (m n : KnownMachine) → SaysUnits o r old new m n
-    → (e : E) → r ≡ Err e → (text : List ℕ) × IsUnitsText o refusal text m n
-failed_text None refusal r old new m n is e failed = absurd (let k : Ok false ≡ Err e = sym is.0.0 ∙ failed in cc)
-failed_text (Some g) refusal r old new m n is e failed = (units_text m (units_in m g) is.pins, its_text g _ m n is)
+-- what is said of a text of the units, or of the refusal
+abbrev pub Turn : (refusal : List ℕ) (m n : KnownMachine) (is_said : List ℕ → Type 0) → Option ℕ → Type 0
+Turn refusal m n is_said o = (text : List ℕ) → IsUnitsText o refusal text m n → is_said text
 
--- there is such a group
-pub there_text : {Z E : Type 0} (o : Option ℕ) (refusal : List ℕ) (r : Result Bool E) (old new : String Z) (m n : KnownMachine) → SaysUnits o r old new m n
-    → r ≡ Ok true → HasText o refusal old new m n
-there_text None refusal r old new m n is there = absurd (let k : Ok false ≡ Ok true = sym is.0.0 ∙ there in cc)
-there_text (Some g) refusal r old new m n is there = record {
-  text = units_text m (units_in m g) is.pins;
-  is = its_text g _ m n is;
-  added = (subst (λ (x : Result Bool _). IfOk x (λ is_there. (is_there ≡ true) × (string_bytes new ≡ string_bytes old ++ units_text m (units_in m g) is.pins))) there is.told).1;
-}
+-- what is added by way of such a call
+module _ {Z U E F : Type 0} (refusal : List ℕ) (old mid new : String Z) (m n : KnownMachine) (is_said : List ℕ → Type 0) (r : Result U F) where
+  -- memory ran out: there is a text, which was not added
+  pub units_failed : (o : Option ℕ) → Turn refusal m n is_said o → (called : Result Bool E) → SaysUnits o called old mid m n → (e : E) → called ≡ Err e
+      → ((text : List ℕ) → IfOk r (λ _. string_bytes new ≡ string_bytes old ++ text)) → AddsText r old new is_said
+  units_failed None turn called is e failed added = absurd (let k : Ok false ≡ Err e = sym is.0.0 ∙ failed in cc)
+  units_failed (Some g) turn called is e failed added =
+      let text = units_text m (units_in m g) is.pins in record { text = text; so = turn text (its_text g _ m n is); added = added text }
 
--- there is none
-pub none_text : {Z E : Type 0} (o : Option ℕ) (refusal : List ℕ) (r : Result Bool E) (old new : String Z) (m n : KnownMachine) → SaysUnits o r old new m n
-    → r ≡ Ok false → IsUnitsText o refusal refusal m n × (new ≡ old)
-none_text None refusal r old new m n is none = ((refl, is.1), is.0.1)
-none_text (Some g) refusal r old new m n is none =
-    absurd (let k : false ≡ true = (subst (λ (x : Result Bool _). IfOk x (λ is_there. (is_there ≡ true)
-    × (string_bytes new ≡ string_bytes old ++ units_text m (units_in m g) is.pins))) none is.told).0 in cc)
+  -- there is such a group
+  pub units_there : (o : Option ℕ) → Turn refusal m n is_said o → (called : Result Bool E) → SaysUnits o called old new m n → called ≡ Ok true → AddsText r old new is_said
+  units_there None turn called is there = absurd (let k : Ok false ≡ Ok true = sym is.0.0 ∙ there in cc)
+  units_there (Some g) turn called is there =
+      let text = units_text m (units_in m g) is.pins in record {
+        text = text;
+        so = turn text (its_text g _ m n is);
+        added = at_ok r (subst (λ (x : Result Bool _). IfOk x (λ is_there. (is_there ≡ true) × (string_bytes new ≡ string_bytes old ++ text))) there is.told).1;
+      }
+
+  -- there is none, and the refusal was added
+  pub units_none : (o : Option ℕ) → Turn refusal m n is_said o → (called : Result Bool E) → SaysUnits o called old mid m n → called ≡ Ok false
+      → IfOk r (λ _. string_bytes new ≡ string_bytes mid ++ refusal) → AddsText r old new is_said
+  units_none None turn called is none added = record {
+    text = refusal;
+    so = turn refusal (refl, is.1);
+    added = subst (λ (x : String Z). IfOk r (λ _. string_bytes new ≡ string_bytes x ++ refusal)) is.0.1 added;
+  }
+  units_none (Some g) turn called is none added =
+      absurd (let k : false ≡ true = (subst (λ (x : Result Bool _). IfOk x (λ is_there. (is_there ≡ true)
+      × (string_bytes mid ≡ string_bytes old ++ units_text m (units_in m g) is.pins))) none is.told).0 in cc)

@@ -1,92 +1,59 @@
--- What a command says as a value. Serves `value_answers` and `value_calls`.
-use Rattle.std.proofs.Common.{◌≡◌, ◌-◌, ℕ, Bool, true, false, Some, List, [], ◌∷◌, append-nil, arith, get_or, refl, subst, sym}
-use Rattle.std.specs.Prelude.{Option, Result, length, slice_set}
+-- What a command says as a value. Serves `value_calls`.
+use Rattle.std.proofs.Common.{◌≡◌, ◌-◌, ℕ, false, Some, List, [], ◌∷◌, append-nil, arith, get_or, refl, sym}
+use Rattle.std.specs.Prelude.{length, slice_set}
 use Rattle.std.specs.List.{slice_get}
 use Rattle.std.proofs.lemmas.Option.{slice_get_read}
-use Rattle.frame_word.specs.declared.answers.Get.{Get as GetAnswer}
-use Rattle.frame_word.specs.declared.answers.Put.{Put as PutAnswer}
-use Rattle.frame_word.specs.Seats.{KnownTable}
-use Rattle.group_tree.specs.declared.fault.Fault.{Fault}
-use Rattle.stock_word.specs.declared.view.Stock.TheVariants as stock_is
-use Rattle.cpu_part.specs.Cpus.{KnownCpu, IsTied}
+use Rattle.cpu_part.specs.Cpus.{KnownCpu}
+use Rattle.mem_system.specs.Boots.{KnownSystem}
 use Rattle.mem_system.specs.Locked.{KnownLocked}
 use Rattle.mem_system.specs.Visits.{LockedState, Transition, locked_state, transition}
 use Rattle.reply_texts.specs.LineAnswer.{LineAnswer}
+use Rattle.reply_texts.specs.LineAnswer as answer
 use Rattle.reply_texts.specs.Answers.{answer_text}
 use Rattle.script_lines.specs.declared.line.Command.{Command}
+use Rattle.script_lines.specs.declared.line.Command.TheVariants.{Settle, Blocks, Show, Stock, Units}
 use Rattle.script_lines.specs.declared.line.Line.TheVariants.{At}
-use Rattle.script_replay.specs.declared.work.Work.{Work}
-use Rattle.script_replay.specs.declared.work.Work.TheVariants.{Visit, AllocFrame, Fast, Release, Get, Put, Settle, Blocks, Show, Stock, Units}
-use Rattle.script_replay.specs.Answers.{AnswersWork, GetsPin, OnlyWatched, PutsPin}
-use Rattle.script_replay.specs.Answers.{WritesAnswer, WritesWork, get_steps, pin_answer, put_steps}
-use Rattle.script_replay.specs.Answers.{unpin_answer}
-use Rattle.script_replay.specs.History.{HoldsInvariants, ServesAndKeeps}
+use Rattle.script_replay.specs.Answers.{AnswersCommand, IsAnswerText, IsSettledText, ServesAnswer, WritesCommand}
+use Rattle.script_replay.specs.Commands.{HasValueAnswer, OnlySettles}
+use Rattle.script_replay.specs.History.{HoldsAt, ServesAndKeeps}
 use Rattle.script_replay.specs.Lines.{SystemState, system_state}
 use Rattle.script_replay.specs.Ranges.{CpuCommandInRange}
-use Rattle.script_replay.specs.Terms.{BootTables, Terms, terms}
-use Rattle.script_replay.specs.ValueAnswers.{SaysCommand, SaysWork}
-use Rattle.script_replay.specs.Works.{work_of}
+use Rattle.script_replay.specs.Terms.{Terms, terms}
+use Rattle.script_replay.specs.ValueAnswers.{SaysCommand}
 use Rattle.script_replay.proofs.Going.{all_replayed, tied_still}
-
--- ---- what is said without the lock
-
-module _ (table : KnownTable) (f n : ℕ) (l m : KnownLocked) (c d : KnownCpu) (is : n ≡ c.number) (answer : LineAnswer) where
-  pub got : (r : Result GetAnswer Fault) → GetsPin f c d (pin_answer r) → OnlyWatched (get_steps n f (pin_answer r)) l m
-      → pin_answer r ≡ answer → SaysWork table (Get f) (locked_state l c) (locked_state m d) answer
-  got r pins watched says =
-      subst (SaysWork table (Get f) (locked_state l c) (locked_state m d)) says (record {
-        steps = get_steps c.number f (pin_answer r);
-        is_noted = false;
-        answered = (
-          pins,
-          record {
-            locked = subst (λ (k : ℕ). OnlyWatched (get_steps k f (pin_answer r)) l m) is watched;
-            steps_are = refl;
-          },
-        );
-      })
-
-  pub put : (r : Option PutAnswer) → PutsPin f c d (unpin_answer r) → OnlyWatched (put_steps n f (unpin_answer r)) l m
-      → unpin_answer r ≡ answer → SaysWork table (Put f) (locked_state l c) (locked_state m d) answer
-  put r pins watched says =
-      subst (SaysWork table (Put f) (locked_state l c) (locked_state m d)) says (record {
-        steps = put_steps c.number f (unpin_answer r);
-        is_noted = false;
-        answered = (
-          pins,
-          record {
-            locked = subst (λ (k : ℕ). OnlyWatched (put_steps k f (unpin_answer r)) l m) is watched;
-            steps_are = refl;
-          },
-        );
-      })
 
 -- ---- the text of what is said
 
-module _ (call : Transition LockedState) (answer : LineAnswer) where
-  as_answer : (work : Work) (is_noted : Bool) → AnswersWork false work call answer is_noted → WritesAnswer false work call (answer_text answer)
-  as_answer work true so = record { answer = answer; is_noted = true; answered = so; text_is = sym (append-nil (answer_text answer)) }
-  as_answer work false so = record { answer = answer; is_noted = false; answered = so; text_is = sym (append-nil (answer_text answer)) }
+settled_text : (command : Command) (left : LockedState) → HasValueAnswer command → OnlySettles command
+    → IsSettledText false command (answer_text answer.Settled) left left.locked.machine
+settled_text Settle left has settles = (refl, refl)
+settled_text Blocks left has settles = absurd has
+settled_text Show left has settles = absurd has
+settled_text Stock left has settles = absurd has
+settled_text (Units path) left has settles = absurd has
+settled_text command left has settles = absurd settles
 
-  pub as_text : (work : Work) (is_noted : Bool) → AnswersWork false work call answer is_noted → WritesWork false work call (answer_text answer)
-  as_text (Visit cmd) is_noted so = as_answer (Visit cmd) is_noted so
-  as_text (AllocFrame path) is_noted so = as_answer (AllocFrame path) is_noted so
-  as_text (Fast group) is_noted so = as_answer (Fast group) is_noted so
-  as_text (Release frame) is_noted so = as_answer (Release frame) is_noted so
-  as_text (Get frame) is_noted so = as_answer (Get frame) is_noted so
-  as_text (Put frame) is_noted so = as_answer (Put frame) is_noted so
-  as_text Settle is_noted so = as_answer Settle is_noted so
-  as_text Blocks is_noted so = absurd so
-  as_text Show is_noted so = absurd so
-  as_text Stock is_noted so = absurd so
-  as_text (Units path) is_noted so = absurd so
+said_text : (command : Command) (call : Transition LockedState) (answer : LineAnswer) → HasValueAnswer command
+    → AnswersCommand false command call answer → IsAnswerText false command answer (answer_text answer) call.after call.after.locked.machine
+said_text command call (answer.Served reply) has so = (sym (append-nil (answer_text (answer.Served reply))), refl)
+said_text command call answer.Settled has so = settled_text command call.after has so.0
+said_text command call (answer.Unlocked said) has so = (sym (append-nil (answer_text (answer.Unlocked said))), refl)
+
+as_text : (command : Command) (call : Transition LockedState) (answer : LineAnswer) → HasValueAnswer command → AnswersCommand false command call answer
+    → WritesCommand false command call (answer_text answer)
+as_text command call answer has so = record {
+  left = call.after;
+  answer = answer;
+  answered = so;
+  writes = record { told = said_text command call answer has so; sizes = refl; cpu = refl };
+}
 
 -- ---- a command at its part
 
-module _ (tables : BootTables) (l m : KnownLocked) (cpus : List KnownCpu) (cpu : ℕ) (command : Command) (c d : KnownCpu) (answer : LineAnswer)
-    (there : CpuCommandInRange tables.frames.frames (length cpus) cpu command) (is_part : slice_get cpus (cpu - 1) ≡ Some c)
-    (says : SaysWork tables.frames (work_of command) (locked_state l c) (locked_state m d) answer) (holds : HoldsInvariants tables.frames tables.stocks m)
-    (tied : IsTied tables.frames tables.stocks d) (none : d.stock_seat.view.last ≡ stock_is.NoGroup → d.fresh ≡ []) where
+module _ (tables : KnownSystem) (l m : KnownLocked) (cpus : List KnownCpu) (cpu : ℕ) (command : Command) (c d : KnownCpu) (answer : LineAnswer)
+    (there : CpuCommandInRange tables.frames.frames (length cpus) cpu command) (has : HasValueAnswer command) (is_part : slice_get cpus (cpu - 1) ≡ Some c)
+    (says : ServesAnswer (terms tables.frames tables.stocks false) command (locked_state l c) (locked_state m d) answer)
+    (held : HoldsAt tables.frames tables.stocks m d) where
   abbrev on : Terms
   on = terms tables.frames tables.stocks false
 
@@ -107,15 +74,15 @@ module _ (tables : BootTables) (l m : KnownLocked) (cpus : List KnownCpu) (cpu :
           part = c;
           left = d;
           is_part = is_part;
-          done = as_text (transition tables.frames (locked_state l c) says.steps (locked_state m d)) answer (work_of command) says.is_noted says.answered;
+          done = as_text command (transition tables.frames (locked_state l c) says.steps (locked_state m d)) answer has says.answered;
           cpus = refl;
         };
         text_is = refl;
       };
     };
     keeps = record {
-      holds = holds;
-      tied = λ all. tied_still tables.frames tables.stocks cpus (cpu - 1) c d is_part tied none all;
+      holds = held.sound;
+      tied = λ all. tied_still tables.frames tables.stocks cpus (cpu - 1) c d is_part held all;
     };
   }
 

@@ -1,10 +1,10 @@
 -- The watch took the steps of each line, and so of all lines. Serves `replay`, `replay_checked`.
-use Rattle.std.proofs.Common.{◌≡◌, ◌∙◌, ◌++◌, ℕ, Bool, true, false, List, [], ◌∷◌, refl, sym, ap, subst}
+use Rattle.std.proofs.Common.{◌≡◌, ◌∙◌, ◌++◌, ℕ, zero, Bool, true, false, List, [], ◌∷◌, refl, sym, ap, subst}
 use Rattle.std.proofs.lemmas.List.{append_assoc, append-nil}
-use Rattle.std.specs.Borrow.{Bor}
 use Rattle.frame_word.specs.Seats.{KnownTable}
 use Rattle.cpu_part.specs.declared.answers.Fast.TheVariants.{Got}
 use Rattle.cpu_part.specs.Cpus.{KnownCpu}
+use Rattle.group_tree.specs.declared.fault.Fault.TheVariants.{NoGroup}
 use Rattle.step_rules.specs.declared.step.Action.TheVariants as step
 use Rattle.step_rules.specs.declared.step.Answer.TheVariants as step_answer
 use Rattle.step_rules.specs.After.{Run, IsLegalRun}
@@ -20,12 +20,14 @@ use Rattle.mem_system.specs.Locked.{KnownLocked}
 use Rattle.mem_system.specs.Visits.{transition, LockedState}
 use Rattle.reply_texts.specs.LineAnswer.{LineAnswer}
 use Rattle.reply_texts.specs.LineAnswer as answer
+use Rattle.reply_texts.specs.declared.steps.UnlockedAnswer.{UnlockedAnswer}
+use Rattle.reply_texts.specs.declared.steps.UnlockedAnswer.TheVariants as unlocked
+use Rattle.script_lines.specs.declared.line.Command.{Command}
+use Rattle.script_lines.specs.declared.line.Command.TheVariants as command
 use Rattle.script_lines.specs.declared.line.Line.{Line}
 use Rattle.script_lines.specs.declared.line.Line.TheVariants.{Go, At}
-use Rattle.script_replay.specs.declared.work.Work.{Work}
-use Rattle.script_replay.specs.declared.work.Work.TheVariants as work
-use Rattle.script_replay.specs.Answers.{AnswersFrame, AnswersRelease, AnswersWork, IsServedUnderLock, OnlyWatched, RepliesServed, SettlesUnderLock, WritesWork}
-use Rattle.script_replay.proofs.Looking.{IsLookedAt, stock_looked, units_looked}
+use Rattle.script_replay.specs.Answers.{AnswersCommand, AnswersUnlocked, IsServedUnderLock, OnlyWatched, WritesCommand}
+use Rattle.script_replay.proofs.Looking.{answer_looked}
 use Rattle.script_replay.specs.History.{Past, past, past_line, KeepsHistory, HasHistory, HasLegalHistory}
 use Rattle.script_replay.specs.Lines.{SystemState, WritesLine}
 use Rattle.script_replay.specs.Terms.{Terms}
@@ -63,50 +65,25 @@ module _ (t : KnownTable) (before : LockedState) (steps : Run) (after : LockedSt
       subst (λ (r : Run). Watches a r e) (sym is.steps_are)
       (watches_both a first b (is.served.steps ++ last) e is.lock.watched rest)
 
-  replied_seen : (is_explained : Bool) (cmd : Cmd) (answer : LineAnswer) → RepliesServed is_explained cmd (transition t before steps after) answer → SeesAll
-  replied_seen is_explained cmd (answer.Served reply) is = locked_seen is_explained cmd before.cpu reply is
-  replied_seen is_explained cmd answer is = absurd is
+  unlocked_seen : (command : Command) (said : UnlockedAnswer) → AnswersUnlocked command (transition t before steps after) said → SeesAll
+  unlocked_seen (command.Alloc path zero) (unlocked.Fast (Got f)) is = alone_seen _ is.alone.steps_are is.alone.locked
+  unlocked_seen (command.Alloc path zero) (unlocked.Refused NoGroup) none = stays_seen steps before.locked after.locked none.1 none.0.same_locked
+  unlocked_seen (command.Alloc path zero) said is = absurd is.0
+  unlocked_seen command said is = alone_seen _ is.1.steps_are is.1.locked
 
-  frame_seen : (is_explained : Bool) (path : Bor (List ℕ)) (answer : LineAnswer) (is_noted : Bool)
-      → AnswersFrame is_explained path (transition t before steps after) answer is_noted → SeesAll
-  frame_seen is_explained path (answer.Fast (Got f)) false is = alone_seen _ is.alone.steps_are is.alone.locked
-  frame_seen is_explained path (answer.Served reply) false none = stays_seen steps before.locked after.locked none.1 none.0.same_locked
-  frame_seen is_explained path (answer.Served reply) true is = locked_seen is_explained _ is.seen reply is.served
-  frame_seen is_explained path answer is_noted is = absurd is
+  answer_seen : (is_explained : Bool) (command : Command) (answer : LineAnswer)
+      → AnswersCommand is_explained command (transition t before steps after) answer → SeesAll
+  answer_seen is_explained command (answer.Served reply) is = locked_seen is_explained is.cmd is.seen reply is.served
+  answer_seen is_explained command answer.Settled is = locked_seen false _ before.cpu _ is.1
+  answer_seen is_explained command (answer.Unlocked said) is = unlocked_seen command said is
 
-  release_seen : (is_explained : Bool) (f : ℕ) (answer : LineAnswer) (is_noted : Bool) → AnswersRelease is_explained f (transition t before steps after) answer
-      is_noted → SeesAll
-  release_seen is_explained f answer.Listed false is = alone_seen _ is.1.steps_are is.1.locked
-  release_seen is_explained f (answer.Served reply) true is = locked_seen is_explained _ is.seen reply is.served
-  release_seen is_explained f answer is_noted is = absurd is
-
-  answer_seen : (is_explained : Bool) (asked : Work) (answer : LineAnswer) (is_noted : Bool)
-      → AnswersWork is_explained asked (transition t before steps after) answer is_noted → SeesAll
-  answer_seen is_explained (work.Visit cmd) answer true is = replied_seen is_explained cmd answer is
-  answer_seen is_explained (work.AllocFrame path) answer is_noted is = frame_seen is_explained path answer is_noted is
-  answer_seen is_explained (work.Fast g) (answer.Fast taken) false is = alone_seen _ is.1.steps_are is.1.locked
-  answer_seen is_explained (work.Release f) answer is_noted is = release_seen is_explained f answer is_noted is
-  answer_seen is_explained (work.Get f) answer false is = alone_seen _ is.1.steps_are is.1.locked
-  answer_seen is_explained (work.Put f) answer false is = alone_seen _ is.1.steps_are is.1.locked
-  answer_seen is_explained work.Settle answer.Settled false is = locked_seen false _ before.cpu _ is
-  answer_seen is_explained asked answer true is = absurd is
-  answer_seen is_explained asked answer false is = absurd is
-
--- the watch took nothing at a look
-looked_seen : (t : KnownTable) (before : LockedState) (steps : Run) (settled after : LockedState) → SettlesUnderLock (transition t before steps settled)
-    → IsLookedAt t settled.locked.machine after.locked.machine → Sees steps before.locked after.locked
-looked_seen t before steps settled after is looked = subst (λ (w : KnownWatch). Watches before.locked.machine.watch steps w) (sym looked.watch)
-    (locked_seen t before steps settled false _ before.cpu _ is)
-
-work_seen : (t : KnownTable) (before : LockedState) (steps : Run) (after : LockedState) (is_explained : Bool) (asked : Work) (text : List ℕ)
-    → WritesWork is_explained asked (transition t before steps after) text → Sees steps before.locked after.locked
-work_seen t before steps after is_explained work.Blocks text is = locked_seen t before steps after false _ before.cpu _ is.settles
-work_seen t before steps after is_explained work.Show text is = locked_seen t before steps after false _ before.cpu _ is.settles
-work_seen t before steps after is_explained work.Stock text is =
-    looked_seen t before steps is.settled after is.settles (stock_looked t is.settled.locked.machine after.locked.machine is.told.look)
-work_seen t before steps after is_explained (work.Units path) text is =
-    looked_seen t before steps is.settled after is.settles (units_looked t _ _ _ is.settled.locked.machine after.locked.machine is.told)
-work_seen t before steps after is_explained asked text is = answer_seen t before steps after is_explained asked is.answer is.is_noted is.answered
+-- the watch took nothing at the looks by which the answer is written
+command_seen : (t : KnownTable) (before : LockedState) (steps : Run) (after : LockedState) (is_explained : Bool) (command : Command) (text : List ℕ)
+    → WritesCommand is_explained command (transition t before steps after) text → Sees steps before.locked after.locked
+command_seen t before steps after is_explained command text is =
+    let looked = answer_looked t is_explained command is.answer text is.left after.locked.machine is.writes.told in
+    subst (λ (w : KnownWatch). Watches before.locked.machine.watch steps w) (sym looked.watch)
+    (answer_seen t before steps is.left is_explained command is.answer is.answered)
 
 -- ---- a line, and all lines
 
@@ -115,7 +92,7 @@ pub line_seen : (t : KnownTable) (is_explained : Bool) (line : Line) (before : S
 line_seen t is_explained Go before steps after text is =
     stays_seen steps before.locked after.locked is.steps_are (ap (λ (s : SystemState). s.locked) is.stays)
 line_seen t is_explained (At number cpu command) before steps after text is =
-    work_seen t _ steps _ is_explained _ text is.done
+    command_seen t _ steps _ is_explained command text is.done
 
 -- the steps of all lines of a history, which the watch took
 record SawAll (begins : Past) (end : SystemState) : Type 0 where

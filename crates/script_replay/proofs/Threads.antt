@@ -3,7 +3,7 @@ use Rattle.std.proofs.Common.{Result, Ok, Err, IfOk, ◌≡◌, ℕ, Bool, ◌+�
 use Rattle.std.proofs.lemmas.List.{take_more, length-take-le}
 use Rattle.cpu_part.specs.Cpus.{KnownCpu}
 use Rattle.script_lines.specs.declared.line.Line.{Line}
-use Rattle.script_replay.specs.Terms.{BootTables}
+use Rattle.mem_system.specs.Boots.{KnownSystem}
 use Rattle.script_replay.specs.Own.{KnownWorker, ServesOwn, worker}
 use Rattle.script_replay.specs.Each.{workers_from, AreAllAnswers, AreOwnAnswers}
 
@@ -30,7 +30,7 @@ started_more cs i default lines numbered inside =
     ∙ ap (λ (n : ℕ). workers_from 1 (take i cs) lines numbered ++ worker n (get_or cs i default) lines numbered ∷ []) e
 
 -- a worker's text, behind its heading
-pub joined : {T E : Type 0} (on : BootTables) (p : ℕ) (c d : KnownCpu) (lines : List Line) (numbered : Bool) (before head mid own new : List ℕ) (r : Result T E) →
+pub joined : {T E : Type 0} (on : KnownSystem) (p : ℕ) (c d : KnownCpu) (lines : List Line) (numbered : Bool) (before head mid own new : List ℕ) (r : Result T E) →
     ServesOwn on (worker p c lines numbered) d own → mid ≡ before ++ head → IfOk r (λ _. new ≡ mid ++ own) →
     IfOk r (λ _. (said : List ℕ) × AreOwnAnswers on (worker p c lines numbered) said × (new ≡ before ++ (head ++ said)))
 joined on p c d lines numbered before head mid own new (Ok x) serves first second =
@@ -38,7 +38,7 @@ joined on p c d lines numbered before head mid own new (Ok x) serves first secon
 joined on p c d lines numbered before head mid own new (Err e) serves first second = tt
 
 -- no worker is left
-pub all_told : (on : BootTables) (ws all : List KnownWorker) (text items : List ℕ) → length ws ≡ 0 →
+pub all_told : (on : KnownSystem) (ws all : List KnownWorker) (text items : List ℕ) → length ws ≡ 0 →
     ((rest : List ℕ) → AreAllAnswers on ws rest → AreAllAnswers on all (text ++ rest)) → items ≡ text → AreAllAnswers on all items
 all_told on [] all text items none tells is =
     subst (λ (x : List ℕ). AreAllAnswers on all x) (append-nil text ∙ sym is) (tells [] refl)

@@ -3,7 +3,7 @@ use Rattle.std.specs.Prelude.{◌≡◌, ℕ, ◌+◌, Bool, List, [], ◌∷◌
 use Rattle.std.specs.Fmt.{decimal}
 use Rattle.cpu_part.specs.Cpus.{KnownCpu}
 use Rattle.script_lines.specs.declared.line.Line.{Line}
-use Rattle.script_replay.specs.Terms.{BootTables}
+use Rattle.mem_system.specs.Boots.{KnownSystem}
 use Rattle.script_replay.specs.Own.{KnownWorker, ServesOwn, worker}
 
 -- a worker for each of these parts, whose CPUs are numbered from this number on
@@ -17,12 +17,12 @@ abbrev pub heading : ℕ → List ℕ
 heading cpu_number = codes "cpu " ++ decimal cpu_number ++ codes "\n"
 
 -- the text is the answers of the worker's own lines, from its part at the start to some part that it left
-pub record AreOwnAnswers (tables : BootTables) (worker : KnownWorker) (text : List ℕ) : Type 0 where
+pub record AreOwnAnswers (tables : KnownSystem) (worker : KnownWorker) (text : List ℕ) : Type 0 where
   pub after : KnownCpu
   pub serves : ServesOwn tables worker after text
 
 -- for each worker a heading, followed by the answers of its own lines
-abbrev pub AreAllAnswers : BootTables → List KnownWorker → (text : List ℕ) → Type 0
+abbrev pub AreAllAnswers : KnownSystem → List KnownWorker → (text : List ℕ) → Type 0
 AreAllAnswers tables [] text = text ≡ []
 AreAllAnswers tables (worker ∷ workers) text =
     (own : List ℕ) × (others : List ℕ) × AreOwnAnswers tables worker own × AreAllAnswers tables workers others

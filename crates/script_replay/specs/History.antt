@@ -3,16 +3,16 @@ use Rattle.std.specs.Prelude.{◌≡◌, ℕ, ◌-◌, true, false, List, [], �
 use Rattle.std.specs.Prelude.{get_or, length, take, ⊤}
 use Rattle.frame_word.specs.Seats.{KnownTable}
 use Rattle.stock_word.specs.Stock.{KnownStockTable}
-use Rattle.group_charge.specs.Charges.{AreCharges}
+use Rattle.stock_word.specs.declared.view.Stock.TheVariants.{NoGroup}
+use Rattle.cpu_part.specs.Cpus.{KnownCpu, IsTied}
 use Rattle.step_rules.specs.After.{Run, IsLegalRun}
 use Rattle.step_rules.specs.Promise.{Promise}
 use Rattle.step_watch.specs.Watched.{IsNewWatch, SawRun, Watches, has_legal_steps}
-use Rattle.mem_machine.specs.Machines.{IsConsistent}
 use Rattle.mem_machine.specs.Interleaving.{zone_of}
 use Rattle.mem_machine.specs.Agreeing.{AgreesWithRun}
 use Rattle.mem_history.specs.Whole.{ShowsAll}
 use Rattle.mem_history.specs.Kept.{AreTied, shown_of}
-use Rattle.mem_system.specs.Locked.{IsQuiet, KnownLocked}
+use Rattle.mem_system.specs.Locked.{IsSound, KnownLocked}
 use Rattle.mem_system.specs.Visits.{transition}
 use Rattle.script_lines.specs.declared.line.Line.{Line}
 use Rattle.script_lines.specs.declared.line.Line.TheVariants.{Go}
@@ -158,16 +158,17 @@ pub record ReplaysCheckedOrStops {Z : Type 0} (terms : Terms) (lines : List Line
   pub stopped : IfErr result (StopsFor terms lines before after)
 
 -- ---- what else is known of a line
--- what always holds behind the lock: no visit is open, the machine is consistent, and the groups make up a tree
-pub record HoldsInvariants (table : KnownTable) (stock_table : KnownStockTable) (locked : KnownLocked) : Type 0 where
-  pub quiet : IsQuiet table stock_table locked
-  pub consistent : IsConsistent table stock_table locked.machine
-  pub charges : AreCharges locked.machine.ledger
+-- what always holds behind the lock, and of the part of a CPU that is settled or was served
+pub record HoldsAt (table : KnownTable) (stock_table : KnownStockTable) (locked : KnownLocked) (part : KnownCpu)
+    : Type 0 where
+  pub sound : IsSound table stock_table locked
+  pub tied : IsTied table stock_table part
+  pub none_fresh : part.stock_seat.view.last ≡ NoGroup → part.fresh ≡ []
 
 -- the invariants hold behind the lock; if each CPU's part before agreed with its seats, so does each part after
 pub record KeepsInvariants (table : KnownTable) (stock_table : KnownStockTable)
     (before after : SystemState) : Type 0 where
-  pub holds : HoldsInvariants table stock_table after.locked
+  pub holds : IsSound table stock_table after.locked
   pub tied : AreTied table stock_table before.cpus → AreTied table stock_table after.cpus
 
 -- what the line names exists, the line is served, and the invariants are kept

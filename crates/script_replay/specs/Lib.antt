@@ -1,4 +1,5 @@
 pub mod Answers
+pub mod Commands
 pub mod History
 pub mod Lines
 pub mod Numbers
@@ -7,7 +8,6 @@ pub mod Reasons
 pub mod Terms
 pub mod ValueAnswers
 pub mod Visits
-pub mod Works
 pub mod Each
 pub mod Own
 pub mod Runs

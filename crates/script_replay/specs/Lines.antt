@@ -8,9 +8,8 @@ use Rattle.mem_system.specs.Visits.{Transition, transition, locked_state}
 use Rattle.script_lines.specs.declared.line.Line.{Line}
 use Rattle.script_lines.specs.declared.line.Line.TheVariants.{Go, At}
 use Rattle.script_replay.specs.Terms.{Terms}
-use Rattle.script_replay.specs.Answers.{WritesWork}
+use Rattle.script_replay.specs.Answers.{WritesCommand}
 use Rattle.script_replay.specs.Numbers.{SaysNumbered}
-use Rattle.script_replay.specs.Works.{work_of}
 
 -- what lies behind the lock, and the parts of all CPUs, from CPU 1 on
 pub record SystemState : Type 0 where
@@ -45,7 +44,7 @@ pub record WritesNothing (call : Transition SystemState) (text : List ℕ) : Typ
 abbrev pub WritesLine : (is_explained : Bool) → Line → Transition SystemState → (text : List ℕ) → Type 0
 WritesLine is_explained Go call text = WritesNothing call text
 WritesLine is_explained (At number cpu command) call text =
-    AtPart cpu (λ part left. WritesWork is_explained (work_of command)
+    AtPart cpu (λ part left. WritesCommand is_explained command
     (transition call.table (locked_state call.before.locked part) call.steps (locked_state call.after.locked left))
     text) call.before.cpus call.after.cpus
 

@@ -6,7 +6,7 @@ use Rattle.script_lines.specs.declared.line.Line.TheVariants.{Go, At}
 use Rattle.script_replay.specs.Lines.{InOrder}
 use Rattle.script_replay.specs.Numbers.{SaysNumbered}
 use Rattle.script_replay.specs.Ranges.{CommandInRange}
-use Rattle.script_replay.specs.Terms.{BootTables}
+use Rattle.mem_system.specs.Boots.{KnownSystem}
 use Rattle.script_replay.specs.Visits.{VisitsCommand}
 
 -- the frames and groups that a line names are in range, whichever its CPU; `go` names nothing
@@ -16,7 +16,7 @@ LineCommandInRange frames (At number cpu command) = CommandInRange frames comman
 
 -- a line of the CPU of this number is answered with this text on its part, with its number if that is asked for; any
 -- other line is skipped
-abbrev pub ServesOwnLine : BootTables → (is_numbered : Bool) (own : ℕ) → Line → (before after : KnownCpu)
+abbrev pub ServesOwnLine : KnownSystem → (is_numbered : Bool) (own : ℕ) → Line → (before after : KnownCpu)
     (text : List ℕ) → Type 0
 ServesOwnLine tables is_numbered own Go before after text = (text ≡ []) × (after ≡ before)
 ServesOwnLine tables is_numbered own (At number cpu command) before after text =
@@ -41,6 +41,6 @@ worker cpu_number before lines is_numbered = record {
 }
 
 -- the worker's own lines are answered one after another, from its part at the start to the part that it left
-abbrev pub ServesOwn : BootTables → KnownWorker → (after : KnownCpu) (text : List ℕ) → Type 0
+abbrev pub ServesOwn : KnownSystem → KnownWorker → (after : KnownCpu) (text : List ℕ) → Type 0
 ServesOwn tables worker after text =
     InOrder (ServesOwnLine tables worker.is_numbered worker.cpu_number) worker.lines worker.before after text

@@ -1,28 +1,22 @@
 -- What a line names is in range.
 use Rattle.std.specs.Prelude.{ℕ, ◌≤◌, ◌<◌}
 use Rattle.group_tree.specs.Bounds.{most_groups}
-use Rattle.mem_system.specs.Commands.{NamesFrameBelow}
 use Rattle.script_lines.specs.declared.line.Command.{Command}
-use Rattle.script_lines.specs.declared.line.Command.TheVariants.{Alloc}
+use Rattle.script_lines.specs.declared.line.Command.TheVariants.{Fast, Release, Get, Put, Touch, Dirty, Clean, Owner}
 use Rattle.script_lines.specs.declared.line.Line.{Line}
 use Rattle.script_lines.specs.declared.line.Line.TheVariants.{Go, At}
-use Rattle.script_replay.specs.declared.work.Work.{Work}
-use Rattle.script_replay.specs.declared.work.Work.TheVariants.{Visit, Fast, Release, Get, Put}
-use Rattle.script_replay.specs.Works.{work_of}
 
 -- a frame that is named has a number below `frames`, and a group that is named has a possible number
-abbrev pub WorkInRange : ℕ → Work → Type 0
-WorkInRange frames (Visit cmd) = NamesFrameBelow frames cmd
-WorkInRange frames (Fast group) = group < most_groups
-WorkInRange frames (Release frame) = frame < frames
-WorkInRange frames (Get frame) = frame < frames
-WorkInRange frames (Put frame) = frame < frames
-WorkInRange frames other = Unit {0}
-
--- the frame and the group that a command names are in range; an Alloc names neither by number
-abbrev pub CommandInRange : ℕ → Command → Type 0
-CommandInRange frames (Alloc path order) = Unit {0}
-CommandInRange frames command = WorkInRange frames (work_of command)
+abbrev pub CommandInRange : (frames : ℕ) → Command → Type 0
+CommandInRange frames (Fast group) = group < most_groups
+CommandInRange frames (Release frame) = frame < frames
+CommandInRange frames (Get frame) = frame < frames
+CommandInRange frames (Put frame) = frame < frames
+CommandInRange frames (Touch frame) = frame < frames
+CommandInRange frames (Dirty frame) = frame < frames
+CommandInRange frames (Clean frame) = frame < frames
+CommandInRange frames (Owner frame) = frame < frames
+CommandInRange frames other = Unit {0}
 
 -- the CPU is one of this many, and all that the command names is in range
 pub record CpuCommandInRange (frames cpus cpu : ℕ) (command : Command) : Type 0 where

@@ -7,34 +7,18 @@ use Rattle.mem_machine.specs.FrameStates.{frame_state_at, place_of}
 use Rattle.mem_machine.specs.Machines.{KnownMachine}
 use Rattle.mem_machine.specs.declared.frame_state.Place.{Place}
 use Rattle.mem_machine.specs.declared.frame_state.Place.TheVariants as place
-use Rattle.mem_system.specs.declared.command.Cmd.{Cmd}
-use Rattle.mem_system.specs.declared.command.Cmd.TheVariants.{Release, Touch, Dirty, Clean}
 use Rattle.mem_system.specs.declared.command.Reply.TheVariants.{OverLimit, Refused}
 use Rattle.reply_texts.specs.LineAnswer.{LineAnswer}
 use Rattle.reply_texts.specs.LineAnswer as answer
 use Rattle.reply_texts.specs.Answers.{answer_text}
-use Rattle.script_replay.specs.declared.work.Work.{Work}
-use Rattle.script_replay.specs.declared.work.Work.TheVariants as work
+use Rattle.reply_texts.specs.declared.steps.UnlockedAnswer.TheVariants as unlocked
 
 -- the refusal that an answer is, if it is one
 abbrev pub fault_in : LineAnswer → Option Fault
 fault_in (answer.Served (Refused reason)) = Some reason
 fault_in (answer.Served (OverLimit group path)) = Some (fault.OverLimit group)
+fault_in (answer.Unlocked (unlocked.Refused reason)) = Some reason
 fault_in other = None
-
--- the frame that has to be the head of a kept unit for the command, if there is one
-abbrev pub head_named : Cmd → Option ℕ
-head_named (Release frame) = Some frame
-head_named (Touch frame) = Some frame
-head_named (Dirty frame) = Some frame
-head_named (Clean frame) = Some frame
-head_named other = None
-
--- the same of what a command of a script asks for
-abbrev pub head_named_by : Work → Option ℕ
-head_named_by (work.Visit cmd) = head_named cmd
-head_named_by (work.Release frame) = Some frame
-head_named_by other = None
 
 -- the CPU that a frame at this place is lent to, if it is lent
 abbrev pub borrower_at : Place → Option ℕ

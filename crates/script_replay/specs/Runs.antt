@@ -3,7 +3,7 @@ use Rattle.std.specs.Prelude.{◌≡◌, ℕ, ◌+◌, false, List, [], ◌∷�
 use Rattle.cpu_part.specs.Cpus.{KnownCpu}
 use Rattle.script_lines.specs.declared.line.Line.{Line}
 use Rattle.script_lines.specs.declared.line.Line.TheVariants.{Go, At}
-use Rattle.script_replay.specs.Terms.{BootTables}
+use Rattle.mem_system.specs.Boots.{KnownSystem}
 use Rattle.script_replay.specs.Visits.{VisitsAll}
 use Rattle.script_replay.specs.Each.{AreAllAnswers, workers_from}
 
@@ -19,7 +19,7 @@ lines_before_go lines = go_or 0 0 lines
 
 -- The lines before `go` are answered one after another. Then a worker for each part, as it was left, answers those
 -- from `go` on. The answers of the early lines come first.
-pub record RunsLines (tables : BootTables) (lines : List Line) (cpus : List KnownCpu) (text : List ℕ) : Type 0 where
+pub record RunsLines (tables : KnownSystem) (lines : List Line) (cpus : List KnownCpu) (text : List ℕ) : Type 0 where
   pub early : List ℕ
   pub later : List ℕ
   pub parts : List KnownCpu

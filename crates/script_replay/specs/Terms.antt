@@ -2,15 +2,11 @@
 use Rattle.std.specs.Prelude.{Bool, false}
 use Rattle.frame_word.specs.Seats.{KnownTable}
 use Rattle.stock_word.specs.Stock.{KnownStockTable}
+use Rattle.mem_system.specs.Boots.{KnownSystem}
 use Rattle.script_replay.specs.declared.form.Form.{Form}
 
--- the tables of a boot: those of the frames' words and of the stocks' words
-pub record BootTables : Type 0 where
-  pub frames : KnownTable
-  pub stocks : KnownStockTable
-
--- the boot tables with these two tables
-abbrev pub boot_tables : KnownTable → KnownStockTable → BootTables
+-- what CPUs share of a boot with these two tables
+abbrev pub boot_tables : KnownTable → KnownStockTable → KnownSystem
 boot_tables frames stock_table = record { frames = frames; stocks = stock_table }
 
 -- the terms of a replay: the tables of its boot, whether answers are explained, and whether each line of an answer

@@ -1,23 +1,16 @@
 //! What a command is answered, as a value.
 
-use cpu_part::Fast;
-use frame_word::{Get, Put};
 use mem_system::Outcome;
+use reply_texts::UnlockedAnswer;
 
-/// What a command of a script is answered, without texts. `show`, `blocks`, `stock` and `units`, whose answers are
-/// texts of any length, have none.
+/// What a command of a script is answered, without texts.
 #[derive(Clone, Copy, PartialEq, Eq)]
 pub enum AnswerValue {
-    /// The outcome of what was served under the lock, or refused before.
+    /// The outcome of what was served under the lock.
     Served(Outcome),
-    /// The CPU was settled, and nothing else.
+    /// The CPU was settled, and nothing else was done. The answers to `show`, `blocks`, `stock` and `units` are texts,
+    /// which are then written from what the command left.
     Settled,
-    /// What became of a frame that was asked for without the lock.
-    Fast(Fast),
-    /// What became of a pin that was asked for.
-    Got(Get),
-    /// A pin was put.
-    Put(Put),
-    /// A fresh frame is at the end of the list again.
-    Listed,
+    /// What needed no lock.
+    Unlocked(UnlockedAnswer),
 }

@@ -2,13 +2,10 @@
 //! lock. Each line is served once, for the CPU that it names, and its answer is written as text. If memory runs out for
 //! that text, no later line is served. Or one thread for each CPU serves that CPU's lines in order, concurrently with the
 //! others.
-//!
-//! A line that ends in 'Called for its contract' calls a reader and changes nothing. A proof knows the invariant of a
-//! type only from the contract of such a call.
 #![tactic(auto)]
 
 mod answer_value;
-mod command_answers;
+mod commands;
 mod each;
 mod form;
 mod go;
@@ -16,14 +13,13 @@ mod locked_calls;
 mod own_lines;
 mod owned_replay;
 mod reasons;
+mod server;
 mod unlocked_calls;
-mod value_answers;
 mod value_calls;
 mod visit_answers;
 mod visit_replay;
-mod watched_steps;
-mod work;
 mod workers;
+mod writer;
 
 pub use answer_value::AnswerValue;
 pub use each::run_each;
@@ -33,4 +29,3 @@ pub use owned_replay::{Stopped, replay, replay_checked, serve_line};
 pub use value_calls::{alloc_value, serve_value};
 pub use visit_answers::{Visitor, visit_line, visit_numbered_line};
 pub use visit_replay::replay_by_visits;
-pub use work::Work;

@@ -1,19 +1,19 @@
 //! Serving lines one after the other, by value of what lies behind the lock.
 
-ghost use Rattle.std.specs.Prelude.{◌≡◌, [], All, length, true};
-ghost use Rattle.stock_word.specs.declared.view.Stock.TheVariants.{NoGroup};
-ghost use Rattle.cpu_part.specs.Cpus.{IsTied};
+ghost use Rattle.std.specs.Prelude.{◌≡◌, All, length, true};
+ghost use Rattle.mem_system.specs.Locked.{IsSound};
 ghost use Rattle.mem_system.specs.Visits.{locked_state};
 ghost use Rattle.step_watch.specs.Watched.{has_legal_steps};
 ghost use Rattle.script_replay.specs.declared.owned_replay.Stopped.TheVariants.{NoMemory};
 ghost use Rattle.script_replay.specs.Answers.{AddsText, ServesCommand};
-ghost use Rattle.script_replay.specs.History.{HoldsInvariants, ReplaysCheckedOrStops, ReplaysOrStops, ServesAndKeeps};
+ghost use Rattle.script_replay.specs.History.{HoldsAt, ReplaysCheckedOrStops, ReplaysOrStops, ServesAndKeeps};
 ghost use Rattle.script_replay.specs.Lines.{number_in_script, system_state};
 ghost use Rattle.script_replay.specs.Ranges.{CommandInRange, LineInRange};
 ghost use Rattle.script_replay.specs.Terms.{form_terms, numbered_terms, terms};
 
-use crate::command_answers::serve_and_write;
 use crate::form::{Form, write_numbered};
+use crate::server::serve_command;
+use crate::writer::write_answer;
 use cpu_part::{BootName, Cpu, Tables};
 use mem_system::Locked;
 use script_lines::line::{Command, Line};
@@ -162,7 +162,7 @@ pub fn serve_line<N: BootName>(
 {
     match line {
         Line::Go => {
-            prove_invariants(locked);
+            prove_sound(locked);
             Ok(())
         }
         Line::At { cpu, command, .. } => {
@@ -179,7 +179,7 @@ pub fn serve_line<N: BootName>(
     }
 }
 
-// Serves a command at this part and adds its answer.
+// Serves a command at this part and adds its answer. If memory runs out, the command was served all the same.
 fn serve_at_cpu<N: BootName>(
     locked: &mut Locked<N>,
     tables: &Tables<N>,
@@ -192,21 +192,26 @@ fn serve_at_cpu<N: BootName>(
     ensures answered { AddsText result answers.old answers.new
         (ServesCommand (terms N.frames N.stocks is_explained) command.now
         (locked_state locked.old cpu.old) (locked_state locked.new cpu.new)) }
-    ensures invariants { HoldsInvariants N.frames N.stocks locked.new }
-    ensures tied { IsTied N.frames N.stocks cpu.new }
-    ensures none_fresh { cpu.new.stock_seat.view.last ≡ NoGroup → cpu.new.fresh ≡ [] }
+    ensures held { HoldsAt N.frames N.stocks locked.new cpu.new }
 {
-    let served = serve_and_write(locked, tables, cpu, command, is_explained, answers);
-    let _cpu_number = cpu.number(); // Called for its contract: `tied`.
-    let _last = cpu.last_stock(); // Called for its contract: `none_fresh`.
-    prove_invariants(locked);
-    served
+    let value = serve_command(locked, tables, cpu, command, is_explained);
+    let written = write_answer(locked, tables, cpu, command, &value, is_explained, answers);
+    prove_held(locked, cpu);
+    written
 }
 
 // Shows what always holds behind the lock. It does nothing.
-pub(crate) fn prove_invariants<N: BootName>(locked: &Locked<N>)
-    ensures { HoldsInvariants N.frames N.stocks locked.now }
+fn prove_sound<N: BootName>(locked: &Locked<N>)
+    ensures { IsSound N.frames N.stocks locked.now }
 {
     locked.prove_quiet();
-    let _tree = locked.charges().tree(); // Called for its contract: the charges are those of a tree.
+}
+
+// Shows what always holds behind the lock, and of a CPU's part. It does nothing.
+pub(crate) fn prove_held<N: BootName>(locked: &Locked<N>, cpu: &Cpu<N>)
+    ensures { HoldsAt N.frames N.stocks locked.now cpu.now }
+{
+    let _number = cpu.number();
+    let _last = cpu.last_stock();
+    locked.prove_quiet();
 }

@@ -1,66 +1,63 @@
-//! The texts of answers, which in an explained replay say why a command is refused.
+//! Why a command is refused, as an explained answer says it.
 
-ghost use Rattle.std.specs.Prelude.{◌≡◌, ◌<◌, ◌++◌, IfSome, None, OnOk};
+ghost use Rattle.std.specs.Prelude.{◌≡◌, ◌<◌, ◌++◌, IfOk, IfSome};
 ghost use Rattle.std.specs.String.{string_bytes};
-ghost use Rattle.mem_system.specs.declared.command.Reply.TheVariants as reply;
 ghost use Rattle.mem_system.specs.Outcomes.{HasItsGroups, reply_of};
 ghost use Rattle.reply_texts.specs.LineAnswer.{Served};
-ghost use Rattle.script_replay.specs.Reasons.{borrower_of, fault_in, head_named, reasoned_text};
+ghost use Rattle.script_replay.specs.Commands.{head_named};
+ghost use Rattle.script_replay.specs.Ranges.{CommandInRange};
+ghost use Rattle.script_replay.specs.Reasons.{borrower_of, fault_in, refusal_reason_text};
+ghost use Rattle.script_replay.specs.ValueAnswers.{NamesItsGroups, answer_of};
 
+use crate::answer_value::AnswerValue;
+use crate::commands::head_named;
 use control_files::file::file_text;
 use cpu_part::{BootName, Tables};
 use group_charge::charges::Charges;
 use group_tree::fault::Fault;
 use machine_texts::write_refused;
 use mem_machine::{Machine, Place};
-use mem_system::{Cmd, Locked, Outcome};
-use reply_texts::{write_outcome, write_refusal};
+use mem_system::{Locked, Outcome};
+use reply_texts::UnlockedAnswer;
+use script_lines::line::Command;
 use std::alloc::AllocError;
 
-// Adds the reply of a command. If it is explained and a refusal, its reason follows. `head` is the frame that has to be
-// the head of a kept unit for the command, if there is one.
-pub(crate) fn write_reasoned_outcome<N: BootName>(
+// Adds the reason of a refusal. It adds nothing if the answer is none.
+#[tactic(auto, using(crate::proofs::InRange::head_in_zone))]
+pub(crate) fn write_reason<N: BootName>(
     locked: &Locked<N>,
     tables: &Tables<N>,
-    outcome: &Outcome,
-    head: Option<u32>,
-    is_explained: bool,
+    command: &Command<'_>,
+    value: &AnswerValue,
     text: &mut String,
 ) -> Result<(), AllocError>
-    requires in_zone { IfSome head (λ frame. frame < N.frames.frames) }
-    requires groups { HasItsGroups locked.now.machine.ledger outcome.now }
-    ensures { OnOk result (string_bytes text.new ≡ string_bytes text.old
-        ++ reasoned_text is_explained (Served (reply_of locked.now.machine.ledger outcome.now))
-        (borrower_of head locked.now.machine)) }
+    requires in_range { CommandInRange N.frames.frames command.now }
+    requires groups { NamesItsGroups locked.now.machine.ledger value.now }
+    ensures { IfOk result (λ _. string_bytes text.new ≡ string_bytes text.old
+        ++ refusal_reason_text (fault_in (answer_of locked.now.machine.ledger value.now))
+        (borrower_of (head_named command.now) locked.now.machine)) }
 {
-    write_outcome(locked.charges(), outcome, text)?;
-    if !is_explained {
+    let Some(fault) = fault_in(locked.charges(), value) else {
         return Ok(());
-    }
-    match fault_in(locked.charges(), outcome) {
-        Some(fault) => write_refused(&fault, borrower_of(locked.machine(), tables, head), text),
-        None => Ok(()),
-    }
+    };
+    let borrower = borrower_of(locked.machine(), tables, head_named(command));
+    write_refused(&fault, borrower, text)
 }
 
-// Adds a refusal. If it is explained, its reason follows.
-pub(crate) fn write_reasoned_refusal(
-    fault: &Fault,
-    is_explained: bool,
-    text: &mut String,
-) -> Result<(), AllocError>
-    ensures { OnOk result (string_bytes text.new ≡ string_bytes text.old
-        ++ reasoned_text is_explained (Served (reply.Refused fault.now)) None) }
+// The refusal that an answer is, if it is one.
+fn fault_in(charges: &Charges, value: &AnswerValue) -> Option<Fault>
+    requires { NamesItsGroups charges.now value.now }
+    ensures { result ≡ fault_in (answer_of charges.now value.now) }
 {
-    write_refusal(fault, text)?;
-    if !is_explained {
-        return Ok(());
+    match value {
+        AnswerValue::Served(outcome) => fault_of(charges, outcome),
+        AnswerValue::Unlocked(UnlockedAnswer::Refused(fault)) => Some(*fault),
+        _ => None,
     }
-    write_refused(fault, None, text)
 }
 
 // The refusal that an outcome is, if it is one.
-fn fault_in(charges: &Charges, outcome: &Outcome) -> Option<Fault>
+fn fault_of(charges: &Charges, outcome: &Outcome) -> Option<Fault>
     requires { HasItsGroups charges.now outcome.now }
     ensures { result ≡ fault_in (Served (reply_of charges.now outcome.now)) }
 {
@@ -71,17 +68,6 @@ fn fault_in(charges: &Charges, outcome: &Outcome) -> Option<Fault>
             Ok(_) => None,
             Err(fault) => Some(fault),
         },
-        _ => None,
-    }
-}
-
-// The frame that has to be the head of a kept unit for the command, if there is one.
-pub(crate) fn head_named(cmd: &Cmd<'_>) -> Option<u32>
-    ensures { result ≡ head_named cmd.now }
-{
-    match *cmd {
-        Cmd::Release { frame } | Cmd::Touch { frame } => Some(frame),
-        Cmd::Dirty { frame } | Cmd::Clean { frame } => Some(frame),
         _ => None,
     }
 }

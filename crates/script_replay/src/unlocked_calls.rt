@@ -1,27 +1,77 @@
-//! The commands that take no lock.
+//! The commands that the CPU carries out without the lock, and their steps, which the machine's watch takes by value.
 
-ghost use Rattle.std.specs.Prelude.{◌≡◌, ◌<◌, ◌^◌, ◌++◌, MatchBool, None, OnOk, ℕ};
-ghost use Rattle.std.specs.String.{string_bytes};
+ghost use Rattle.std.specs.Prelude.{◌≡◌, ◌<◌, ◌^◌, IfNone, IfSome, MatchBool, ℕ};
 ghost use Rattle.frame_word.specs.declared.answers.Put.TheVariants.{Left};
-ghost use Rattle.reply_texts.specs.LineAnswer as answer;
-ghost use Rattle.script_replay.specs.Answers.{AddsAnswer, CanNotList, GetsPin, ListsAgain, PutsPin};
-ghost use Rattle.script_replay.specs.Answers.{pin_answer, unpin_answer};
-ghost use Rattle.script_replay.specs.Reasons.{reasoned_text};
+ghost use Rattle.reply_texts.specs.declared.steps.UnlockedAnswer.TheVariants as unlocked;
+ghost use Rattle.script_lines.specs.declared.line.Command.TheVariants as command;
+ghost use Rattle.script_replay.specs.Answers.{AnswersAlone, CanNotList, ListsAgain, NeedsLock, OnlyWatched};
+ghost use Rattle.script_replay.specs.Answers.{steps_alone};
+ghost use Rattle.script_replay.specs.Ranges.{CommandInRange};
 
-use crate::reasons::write_reasoned_refusal;
-use cpu_part::{BootName, Cpu, Dropped, Tables};
+use cpu_part::{BootName, Cpu, Dropped, Fast, Tables};
 use frame_word::{Get, Put};
 use group_tree::fault::Fault;
-use reply_texts::{write_get, write_put};
-use std::alloc::AllocError;
+use group_tree::group::GroupId;
+use mem_system::Locked;
+use reply_texts::UnlockedAnswer;
+use script_lines::line::Command;
+use step_rules::step::{Action, Answer};
 
-// Lists the frame again without the lock, if it is fresh at the CPU and its page can be credited. Returns whether it
-// did.
-pub(crate) fn try_relist<N: BootName>(
+// Answers a command without the lock, if that is possible. It is inlined, so that a caller that names a Get or a Put
+// has its steps alone.
+#[inline(always)]
+pub(crate) fn try_unlocked<N: BootName>(
     tables: &Tables<N>,
     cpu: &mut Cpu<N>,
-    frame_number: u32,
-) -> bool
+    command: &Command<'_>,
+) -> Option<UnlockedAnswer>
+    requires in_range { CommandInRange N.frames.frames command.now }
+    ensures answered { IfSome result (AnswersAlone command.now cpu.old cpu.new) }
+    ensures needs_lock { IfNone result (NeedsLock command.now cpu.old cpu.new) }
+{
+    match *command {
+        Command::Fast { group } => Some(UnlockedAnswer::Fast(cpu.alloc_fast(tables, group))),
+        Command::Get { frame } => Some(pin(tables, cpu, frame)),
+        Command::Put { frame } => Some(unpin(tables, cpu, frame)),
+        Command::Release { frame } => {
+            if try_relist(tables, cpu, frame) {
+                Some(UnlockedAnswer::Listed)
+            } else {
+                None
+            }
+        }
+        _ => None,
+    }
+}
+
+// Pins the frame.
+#[inline(always)]
+fn pin<N: BootName>(tables: &Tables<N>, cpu: &mut Cpu<N>, frame_number: u32) -> UnlockedAnswer
+    requires in_zone { frame_number < N.frames.frames }
+    ensures { AnswersAlone (command.Get frame_number) cpu.old cpu.new result }
+{
+    let frame = tables.frames.frame(frame_number).unwrap();
+    match cpu.get(tables, frame) {
+        Ok(got) => UnlockedAnswer::Got(got),
+        Err(fault) => UnlockedAnswer::Refused(fault),
+    }
+}
+
+// Puts a pin of the frame. The CPU may have none on it.
+#[inline(always)]
+fn unpin<N: BootName>(tables: &Tables<N>, cpu: &mut Cpu<N>, frame_number: u32) -> UnlockedAnswer
+    requires in_zone { frame_number < N.frames.frames }
+    ensures { AnswersAlone (command.Put frame_number) cpu.old cpu.new result }
+{
+    let frame = tables.frames.frame(frame_number).unwrap();
+    if !cpu.has_pin(frame) {
+        return UnlockedAnswer::Refused(Fault::NotPinned);
+    }
+    UnlockedAnswer::Put(cpu.put(tables, frame))
+}
+
+// Lists the frame again, if it is fresh at the CPU and its page can be credited. Returns whether it did.
+fn try_relist<N: BootName>(tables: &Tables<N>, cpu: &mut Cpu<N>, frame_number: u32) -> bool
     requires in_zone { frame_number < N.frames.frames }
     ensures listed { MatchBool result (ListsAgain frame_number cpu.old cpu.new)
         (CanNotList frame_number cpu.old cpu.new) }
@@ -36,92 +86,52 @@ pub(crate) fn try_relist<N: BootName>(
     }
 }
 
-// Pins the frame, without the lock.
+// The watch takes the step of this answer, if one was made. It is asked first whether it is on, because an action has
+// room for a path, and building one for each line costs.
 #[inline(always)]
-pub(crate) fn pin<N: BootName>(
-    tables: &Tables<N>,
-    cpu: &mut Cpu<N>,
-    frame_number: u32,
-) -> Result<Get, Fault>
-    requires in_zone { frame_number < N.frames.frames }
-    ensures { GetsPin frame_number cpu.old cpu.new (pin_answer result) }
+#[tactic(auto, using(crate::proofs::Taking::unwatched))]
+pub(crate) fn watch_unlocked<N: BootName>(
+    locked: &mut Locked<N>,
+    cpu: u32,
+    command: &Command<'_>,
+    said: &UnlockedAnswer,
+)
+    requires in_range { CommandInRange N.frames.frames command.now }
+    requires few { (left : ℕ) → said.now ≡ unlocked.Put (Left left) → left < 2 ^ 32 }
+    ensures { OnlyWatched (steps_alone cpu command.now said.now) locked.old locked.new }
 {
-    let frame = tables.frames.frame(frame_number).unwrap();
-    cpu.get(tables, frame)
-}
-
-// Adds the answer to a Get, and if it is explained and a refusal, its reason.
-pub(crate) fn write_pin(
-    got: &Result<Get, Fault>,
-    is_explained: bool,
-    text: &mut String,
-) -> Result<(), AllocError>
-    ensures { OnOk result (string_bytes text.new
-        ≡ string_bytes text.old ++ reasoned_text is_explained (pin_answer got.now) None) }
-{
-    match got {
-        Ok(got) => write_get(got, text),
-        Err(fault) => write_reasoned_refusal(fault, is_explained, text),
+    if !locked.watch().is_on() {
+        return;
     }
-}
-
-// Puts a pin of the frame, without the lock. Returns None if the CPU has no pin on it.
-#[inline(always)]
-pub(crate) fn unpin<N: BootName>(
-    tables: &Tables<N>,
-    cpu: &mut Cpu<N>,
-    frame_number: u32,
-) -> Option<Put>
-    requires in_zone { frame_number < N.frames.frames }
-    ensures put { PutsPin frame_number cpu.old cpu.new (unpin_answer result) }
-    ensures few { (left : ℕ) → unpin_answer result ≡ answer.Put (Left left) → left < 2 ^ 32 }
-{
-    let frame = tables.frames.frame(frame_number).unwrap();
-    if !cpu.has_pin(frame) {
-        return None;
+    match *command {
+        Command::Fast { group } => match *said {
+            UnlockedAnswer::Fast(Fast::Got(_)) => {
+                let group = GroupId::of(group).unwrap();
+                locked.take_step(cpu, Action::Consume { group }, Answer::Took);
+            }
+            _ => {}
+        },
+        Command::Get { frame } => match *said {
+            UnlockedAnswer::Got(Get::Held) => {
+                locked.take_step(cpu, Action::Get { frame }, Answer::Held);
+            }
+            _ => {}
+        },
+        Command::Put { frame } => match *said {
+            UnlockedAnswer::Put(Put::Left(left)) => {
+                locked.take_step(cpu, Action::Put { frame }, Answer::Left(left as u32));
+            }
+            UnlockedAnswer::Put(Put::Last) => {
+                locked.take_step(cpu, Action::Put { frame }, Answer::Last);
+            }
+            _ => {}
+        },
+        Command::Release { frame } => match *said {
+            UnlockedAnswer::Listed => {
+                locked.take_step(cpu, Action::Credit { frame }, Answer::Stocked);
+            }
+            _ => {}
+        },
+        _ => {}
     }
-    Some(cpu.put(tables, frame))
-}
-
-// Adds the answer to a Put, and if it is explained and a refusal, its reason.
-pub(crate) fn write_unpin(
-    put: &Option<Put>,
-    is_explained: bool,
-    text: &mut String,
-) -> Result<(), AllocError>
-    ensures { OnOk result (string_bytes text.new
-        ≡ string_bytes text.old ++ reasoned_text is_explained (unpin_answer put.now) None) }
-{
-    match put {
-        Some(put) => write_put(put, text),
-        None => write_reasoned_refusal(&Fault::NotPinned, is_explained, text),
-    }
-}
-
-// Pins the frame, without the lock, and adds the answer.
-pub(crate) fn answer_pin<N: BootName>(
-    tables: &Tables<N>,
-    cpu: &mut Cpu<N>,
-    frame: u32,
-    text: &mut String,
-) -> Result<(), AllocError>
-    requires in_zone { frame < N.frames.frames }
-    ensures answered { AddsAnswer result text.old text.new (GetsPin frame cpu.old cpu.new) }
-{
-    let got = pin(tables, cpu, frame);
-    write_pin(&got, false, text)
-}
-
-// Puts a pin of the frame, without the lock, and adds the answer.
-pub(crate) fn answer_unpin<N: BootName>(
-    tables: &Tables<N>,
-    cpu: &mut Cpu<N>,
-    frame: u32,
-    text: &mut String,
-) -> Result<(), AllocError>
-    requires in_zone { frame < N.frames.frames }
-    ensures answered { AddsAnswer result text.old text.new (PutsPin frame cpu.old cpu.new) }
-{
-    let put = unpin(tables, cpu, frame);
-    write_unpin(&put, false, text)
 }

@@ -1,24 +1,21 @@
 //! Serving one command for the CPU of a number, by value of what lies behind the lock, with its answer as a value.
 
-ghost use Rattle.std.specs.Prelude.{◌≡◌, ◌≤◌, [], IsTrue, List, Some, length, ℕ};
+ghost use Rattle.std.specs.Prelude.{◌≡◌, ◌≤◌, IsTrue, List, Some, false, length, ℕ};
 ghost use Rattle.std.specs.Borrow.{Bor};
 ghost use Rattle.group_tree.specs.Groups.{has_group, number_at};
-ghost use Rattle.stock_word.specs.declared.view.Stock.TheVariants.{NoGroup};
-ghost use Rattle.cpu_part.specs.Cpus.{IsTied};
 ghost use Rattle.mem_system.specs.Visits.{locked_state};
 ghost use Rattle.script_lines.specs.declared.line.Command.TheVariants.{Alloc};
-ghost use Rattle.script_replay.specs.declared.work.Work.TheVariants as work;
-ghost use Rattle.script_replay.specs.History.{HoldsInvariants};
+ghost use Rattle.script_replay.specs.Answers.{ServesAnswer};
+ghost use Rattle.script_replay.specs.Commands.{HasValueAnswer};
+ghost use Rattle.script_replay.specs.History.{HoldsAt};
 ghost use Rattle.script_replay.specs.Lines.{system_state};
 ghost use Rattle.script_replay.specs.Ranges.{CommandInRange, CpuCommandInRange};
-ghost use Rattle.script_replay.specs.Terms.{boot_tables};
-ghost use Rattle.script_replay.specs.ValueAnswers.{HasValueAnswer, NamesItsGroups, SaysCommand, SaysWork, answer_of};
-ghost use Rattle.script_replay.specs.Works.{work_of};
+ghost use Rattle.script_replay.specs.Terms.{boot_tables, terms};
+ghost use Rattle.script_replay.specs.ValueAnswers.{NamesItsGroups, SaysCommand, answer_of};
 
 use crate::answer_value::AnswerValue;
-use crate::owned_replay::prove_invariants;
-use crate::value_answers::{serve_value_alloc, serve_value_work};
-use crate::work::work_of;
+use crate::owned_replay::prove_held;
+use crate::server::{serve_command, serve_frame_of};
 use cpu_part::{BootName, Cpu, Tables};
 use group_tree::group::GroupId;
 use mem_system::Locked;
@@ -38,7 +35,7 @@ pub fn serve_value<N: BootName>(
     command: &Command<'_>,
 ) -> AnswerValue
     requires there { CpuCommandInRange N.frames.frames (length cpus.old) cpu command.now }
-    requires has_value { HasValueAnswer (work_of command.now) }
+    requires has_value { HasValueAnswer command.now }
     ensures answer { SaysCommand (boot_tables N.frames N.stocks) cpu command.now
         (system_state locked.old cpus.old) (system_state locked.new cpus.new)
         (answer_of locked.new.machine.ledger result) }
@@ -81,23 +78,19 @@ fn alloc_value_at_cpu<N: BootName>(
 ) -> AnswerValue
     requires there { IsTrue (has_group locked.old.machine.ledger.groups group) }
     ensures answer { (path : Bor (List ℕ)) → number_at locked.old.machine.ledger.groups path.now ≡ Some group
-        → SaysWork N.frames (work.AllocFrame path) (locked_state locked.old cpu.old)
-        (locked_state locked.new cpu.new) (answer_of locked.new.machine.ledger result) }
+        → ServesAnswer (terms N.frames N.stocks false) (Alloc path 0)
+        (locked_state locked.old cpu.old) (locked_state locked.new cpu.new)
+        (answer_of locked.new.machine.ledger result) }
     ensures groups { NamesItsGroups locked.new.machine.ledger result }
-    ensures invariants { HoldsInvariants N.frames N.stocks locked.new }
-    ensures tied { IsTied N.frames N.stocks cpu.new }
-    ensures none_fresh { cpu.new.stock_seat.view.last ≡ NoGroup → cpu.new.fresh ≡ [] }
+    ensures held { HoldsAt N.frames N.stocks locked.new cpu.new }
 {
-    let answer = serve_value_alloc(locked, tables, cpu, group);
-    let _cpu_number = cpu.number(); // Called for its contract: `tied`.
-    let _last = cpu.last_stock(); // Called for its contract: `none_fresh`.
-    prove_invariants(locked);
-    answer
+    let value = serve_frame_of(locked, tables, cpu, group, false);
+    prove_held(locked, cpu);
+    value
 }
 
 // Serves a command at this part.
 #[inline(always)]
-#[tactic(auto, using(crate::proofs::InRange::work_in_range))]
 fn serve_value_at_cpu<N: BootName>(
     locked: &mut Locked<N>,
     tables: &Tables<N>,
@@ -105,18 +98,13 @@ fn serve_value_at_cpu<N: BootName>(
     command: &Command<'_>,
 ) -> AnswerValue
     requires in_range { CommandInRange N.frames.frames command.now }
-    requires has_value { HasValueAnswer (work_of command.now) }
-    ensures answer { SaysWork N.frames (work_of command.now) (locked_state locked.old cpu.old)
-        (locked_state locked.new cpu.new) (answer_of locked.new.machine.ledger result) }
+    ensures answer { ServesAnswer (terms N.frames N.stocks false) command.now
+        (locked_state locked.old cpu.old) (locked_state locked.new cpu.new)
+        (answer_of locked.new.machine.ledger result) }
     ensures groups { NamesItsGroups locked.new.machine.ledger result }
-    ensures invariants { HoldsInvariants N.frames N.stocks locked.new }
-    ensures tied { IsTied N.frames N.stocks cpu.new }
-    ensures none_fresh { cpu.new.stock_seat.view.last ≡ NoGroup → cpu.new.fresh ≡ [] }
+    ensures held { HoldsAt N.frames N.stocks locked.new cpu.new }
 {
-    let work = work_of(command);
-    let answer = serve_value_work(locked, tables, cpu, &work);
-    let _cpu_number = cpu.number(); // Called for its contract: `tied`.
-    let _last = cpu.last_stock(); // Called for its contract: `none_fresh`.
-    prove_invariants(locked);
-    answer
+    let value = serve_command(locked, tables, cpu, command, false);
+    prove_held(locked, cpu);
+    value
 }

@@ -1,22 +1,22 @@
 //! Serving one command of a CPU by visits, each of which takes the zone's lock by itself.
 
-ghost use Rattle.std.specs.Prelude.{◌<◌, true};
+ghost use Rattle.std.specs.Prelude.{◌≡◌, None, true};
 ghost use Rattle.mem_system.specs.Commands.{IsOfZone};
-ghost use Rattle.script_replay.specs.Answers.{AddsAnswer, AddsText};
+ghost use Rattle.script_lines.specs.declared.line.Command.TheVariants.{Alloc, Units};
+ghost use Rattle.script_replay.specs.Answers.{AddsText};
+ghost use Rattle.script_replay.specs.Commands.{OnlySettles, frame_path};
 ghost use Rattle.script_replay.specs.Numbers.{SaysNumbered};
-ghost use Rattle.script_replay.specs.declared.work.Work.TheVariants.{Blocks, Show, Stock, Units};
-ghost use Rattle.script_replay.specs.Ranges.{CommandInRange, WorkInRange};
+ghost use Rattle.script_replay.specs.Ranges.{CommandInRange};
 ghost use Rattle.script_replay.specs.Terms.{boot_tables};
-ghost use Rattle.script_replay.specs.Visits.{AnswersFrameByVisit, AnswersReleaseByVisit, AnswersSettleByVisit};
-ghost use Rattle.script_replay.specs.Visits.{RepliesVisited, VisitsCommand, VisitsWork};
+ghost use Rattle.script_replay.specs.Visits.{IsReplyVisited, VisitsCommand};
 
+use crate::commands::{cmd_of, frame_path};
 use crate::form::write_numbered;
-use crate::unlocked_calls::{answer_pin, answer_unpin, try_relist};
-use crate::work::{Work, work_of};
+use crate::unlocked_calls::try_unlocked;
 use cpu_part::{BootName, Cpu, Fast};
 use group_tree::fault::Fault;
 use mem_system::{Cmd, Gate, Reply, System};
-use reply_texts::{write_fast, write_listed, write_refusal, write_reply, write_settled};
+use reply_texts::{write_fast, write_refusal, write_reply, write_settled, write_unlocked};
 use script_lines::line::Command;
 use std::alloc::{AllocError, Global};
 use std::sync::Wait;
@@ -73,7 +73,6 @@ pub fn visit_numbered_line<N: BootName, R: Wait, G: Gate>(
 }
 
 // Serves a command of the script and adds its answer. If memory runs out, the command was served all the same.
-#[tactic(auto, using(crate::proofs::InRange::work_in_range))]
 pub(crate) fn visit_text<N: BootName, R: Wait, G: Gate>(
     visitor: &Visitor<'_, N, R, G>,
     cpu: &mut Cpu<N>,
@@ -84,34 +83,31 @@ pub(crate) fn visit_text<N: BootName, R: Wait, G: Gate>(
     ensures answered { AddsText result text.old text.new
         (VisitsCommand (boot_tables N.frames N.stocks) command.now cpu.old cpu.new) }
 {
-    let work = work_of(command);
-    visit_work(visitor, cpu, &work, text)
+    match frame_path(command) {
+        Some(path) => visit_frame(visitor, cpu, path, text),
+        None => visit_other(visitor, cpu, command, text),
+    }
 }
 
-// Does what a command asks for, by a visit if it needs the lock, and adds its answer.
-fn visit_work<N: BootName, R: Wait, G: Gate>(
+// Serves another command than an Alloc of a single frame. It is tried without a visit first.
+#[tactic(auto, using(crate::proofs::InRange::cmd_in_zone))]
+fn visit_other<N: BootName, R: Wait, G: Gate>(
     visitor: &Visitor<'_, N, R, G>,
     cpu: &mut Cpu<N>,
-    work: &Work<'_>,
+    command: &Command<'_>,
     text: &mut String,
 ) -> Result<(), AllocError>
-    requires in_range { WorkInRange N.frames.frames work.now }
+    requires in_range { CommandInRange N.frames.frames command.now }
+    requires other { frame_path command.now ≡ None }
     ensures answered { AddsText result text.old text.new
-        (VisitsWork (boot_tables N.frames N.stocks) work.now cpu.old cpu.new) }
+        (VisitsCommand (boot_tables N.frames N.stocks) command.now cpu.old cpu.new) }
 {
-    let tables = visitor.system.tables();
-    match *work {
-        Work::Visit(cmd) => visit_and_reply(visitor, cpu, &cmd, text),
-        Work::AllocFrame { path } => visit_frame(visitor, cpu, path, text),
-        Work::Fast { group } => write_fast(&cpu.alloc_fast(tables, group), text),
-        Work::Release { frame } => visit_release(visitor, cpu, frame, text),
-        Work::Get { frame } => answer_pin(tables, cpu, frame, text),
-        Work::Put { frame } => answer_unpin(tables, cpu, frame, text),
-        Work::Settle => visit_settle(visitor, cpu, text),
-        Work::Blocks => visit_blocks(visitor, cpu, text),
-        Work::Show => visit_show(visitor, cpu, text),
-        Work::Stock => visit_stock(visitor, cpu, text),
-        Work::Units { path } => visit_units(visitor, cpu, path, text),
+    if let Some(said) = try_unlocked(visitor.system.tables(), cpu, command) {
+        return write_unlocked(&said, text);
+    }
+    match cmd_of(command) {
+        Some(cmd) => visit_and_reply(visitor, cpu, &cmd, text),
+        None => visit_settling(visitor, cpu, command, text),
     }
 }
 
@@ -123,8 +119,8 @@ fn visit_and_reply<N: BootName, R: Wait, G: Gate>(
     text: &mut String,
 ) -> Result<(), AllocError>
     requires of_zone { IsOfZone N.frames cmd.now }
-    ensures answered { AddsAnswer result text.old text.new
-        (RepliesVisited (boot_tables N.frames N.stocks) cmd.now cpu.old cpu.new) }
+    ensures answered { AddsText result text.old text.new
+        (IsReplyVisited (boot_tables N.frames N.stocks) cmd.now cpu.old cpu.new) }
 {
     let mut reply = Reply::Done;
     visitor
@@ -133,19 +129,29 @@ fn visit_and_reply<N: BootName, R: Wait, G: Gate>(
     write_reply(&reply, text)
 }
 
-// Settles the CPU by a visit, and adds the answer.
-fn visit_settle<N: BootName, R: Wait, G: Gate>(
+// Settles the CPU by a visit, and adds what the command writes of it.
+fn visit_settling<N: BootName, R: Wait, G: Gate>(
     visitor: &Visitor<'_, N, R, G>,
     cpu: &mut Cpu<N>,
+    command: &Command<'_>,
     text: &mut String,
 ) -> Result<(), AllocError>
-    ensures { AddsAnswer result text.old text.new
-        (AnswersSettleByVisit (boot_tables N.frames N.stocks) cpu.old cpu.new) }
+    requires settles { OnlySettles command.now }
+    ensures answered { AddsText result text.old text.new
+        (VisitsCommand (boot_tables N.frames N.stocks) command.now cpu.old cpu.new) }
 {
-    let _done = visitor
-        .system
-        .visit_with(visitor.rt, cpu, &Cmd::Settle, visitor.gate);
-    write_settled(text)
+    match *command {
+        Command::Blocks => visitor.system.blocks_into(visitor.rt, cpu, text),
+        Command::Show => visitor.system.show_into(visitor.rt, cpu, text),
+        Command::Stock => visitor.system.stock_into(visitor.rt, cpu, text),
+        Command::Units { path } => visit_units(visitor, cpu, path, text),
+        _ => {
+            let _done = visitor
+                .system
+                .visit_with(visitor.rt, cpu, &Cmd::Settle, visitor.gate);
+            write_settled(text)
+        }
+    }
 }
 
 // Takes a frame, if possible without the lock, and adds the answer.
@@ -155,8 +161,8 @@ fn visit_frame<N: BootName, R: Wait, G: Gate>(
     path: &[u8],
     text: &mut String,
 ) -> Result<(), AllocError>
-    ensures { AddsAnswer result text.old text.new
-        (AnswersFrameByVisit (boot_tables N.frames N.stocks) path.entry cpu.old cpu.new) }
+    ensures { AddsText result text.old text.new
+        (VisitsCommand (boot_tables N.frames N.stocks) (Alloc path.entry 0) cpu.old cpu.new) }
 {
     let Some(group) = visitor.system.find(visitor.rt, path) else {
         return write_refusal(&Fault::NoGroup, text);
@@ -167,56 +173,6 @@ fn visit_frame<N: BootName, R: Wait, G: Gate>(
     }
 }
 
-// Lists a fresh frame again, if possible without the lock, and adds the answer.
-fn visit_release<N: BootName, R: Wait, G: Gate>(
-    visitor: &Visitor<'_, N, R, G>,
-    cpu: &mut Cpu<N>,
-    frame: u32,
-    text: &mut String,
-) -> Result<(), AllocError>
-    requires in_zone { frame < N.frames.frames }
-    ensures answered { AddsAnswer result text.old text.new
-        (AnswersReleaseByVisit (boot_tables N.frames N.stocks) frame cpu.old cpu.new) }
-{
-    if try_relist(visitor.system.tables(), cpu, frame) {
-        return write_listed(text);
-    }
-    visit_and_reply(visitor, cpu, &Cmd::Release { frame }, text)
-}
-
-// Settles the CPU, and adds the free blocks.
-fn visit_blocks<N: BootName, R: Wait, G: Gate>(
-    visitor: &Visitor<'_, N, R, G>,
-    cpu: &mut Cpu<N>,
-    text: &mut String,
-) -> Result<(), AllocError>
-    ensures { AddsText result text.old text.new (VisitsWork (boot_tables N.frames N.stocks) Blocks cpu.old cpu.new) }
-{
-    visitor.system.blocks_into(visitor.rt, cpu, text)
-}
-
-// Settles the CPU, and adds the place of each frame and the usage of each group.
-fn visit_show<N: BootName, R: Wait, G: Gate>(
-    visitor: &Visitor<'_, N, R, G>,
-    cpu: &mut Cpu<N>,
-    text: &mut String,
-) -> Result<(), AllocError>
-    ensures { AddsText result text.old text.new (VisitsWork (boot_tables N.frames N.stocks) Show cpu.old cpu.new) }
-{
-    visitor.system.show_into(visitor.rt, cpu, text)
-}
-
-// Settles the CPU, and adds the line about its stock, and how many frames and pins it has.
-fn visit_stock<N: BootName, R: Wait, G: Gate>(
-    visitor: &Visitor<'_, N, R, G>,
-    cpu: &mut Cpu<N>,
-    text: &mut String,
-) -> Result<(), AllocError>
-    ensures { AddsText result text.old text.new (VisitsWork (boot_tables N.frames N.stocks) Stock cpu.old cpu.new) }
-{
-    visitor.system.stock_into(visitor.rt, cpu, text)
-}
-
 // Settles the CPU, and adds the kept units of the group of this path.
 fn visit_units<N: BootName, R: Wait, G: Gate>(
     visitor: &Visitor<'_, N, R, G>,
@@ -225,7 +181,7 @@ fn visit_units<N: BootName, R: Wait, G: Gate>(
     text: &mut String,
 ) -> Result<(), AllocError>
     ensures { AddsText result text.old text.new
-        (VisitsWork (boot_tables N.frames N.stocks) (Units path.entry) cpu.old cpu.new) }
+        (VisitsCommand (boot_tables N.frames N.stocks) (Units path.entry) cpu.old cpu.new) }
 {
     let is_there = visitor.system.units_into(visitor.rt, cpu, path, text)?;
     if is_there {

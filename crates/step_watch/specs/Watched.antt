@@ -1,5 +1,5 @@
 -- What a watch says of the steps that it took.
-use Rattle.std.specs.Prelude.{◌≡◌, ℕ, ◌+◌, ◌++◌, ◌&&◌, not, Bool, true, false, Option, Some, None, is_some}
+use Rattle.std.specs.Prelude.{◌≡◌, ℕ, ◌+◌, ◌++◌, ◌&&◌, Bool, true, false, Option, Some, None, is_some}
 use Rattle.std.specs.Prelude.{List, Vec, [], ◌∷◌, flat_map, length, option_map, ⊤}
 use Rattle.step_rules.specs.declared.step.Action.{Action}
 use Rattle.step_rules.specs.declared.step.Answer.{Answer}
@@ -30,10 +30,6 @@ has_legal_steps watch = watch.is_on && is_some watch.core
 -- the watch writes a log, and the log has each step so far
 abbrev pub has_whole_log : KnownWatch → Bool
 has_whole_log watch = watch.is_on && is_some watch.log
-
--- the watch checks steps, and has stopped at one
-abbrev pub has_failed : KnownWatch → Bool
-has_failed watch = is_some watch.core && not watch.is_on
 
 -- the state of the rules that a checker has reached; without a checker, that of a zone without frames and CPUs
 abbrev pub state_reached : Option CoreState → State

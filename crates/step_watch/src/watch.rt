@@ -6,7 +6,7 @@ ghost use Rattle.step_rules.specs.declared.step.Answer.TheVariants.{Number};
 ghost use Rattle.log_lines.specs.Line.{entry_text};
 ghost use Rattle.mem_core.specs.Shown.{state_shown, zone_of_config};
 ghost use Rattle.mem_core.specs.Checked.{Leads};
-ghost use Rattle.step_watch.specs.Watched.{Accepts, Adds, IsNewLog, IsNewWatch, Watches, has_failed, has_legal_steps};
+ghost use Rattle.step_watch.specs.Watched.{Accepts, Adds, IsNewLog, IsNewWatch, Watches, has_legal_steps};
 ghost use Rattle.step_watch.specs.Watched.{has_whole_log, known_log, log_text, steps_seen, watch_off, zone_makes};
 ghost use Rattle.zone_blocks.specs.Config.{IsValidConfig};
 
@@ -130,13 +130,6 @@ impl Watch {
         ensures { result ≡ has_legal_steps self.now }
     {
         self.is_on && self.checker.is_some()
-    }
-
-    /// Whether the watch stopped at a step that the rules don't allow.
-    pub fn has_failed(&self) -> bool
-        ensures { result ≡ has_failed self.now }
-    {
-        self.checker.is_some() && !self.is_on
     }
 
     /// How many steps the watch checked and found legal.

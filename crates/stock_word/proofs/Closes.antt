@@ -5,8 +5,8 @@ use mathlib.Core.Logic.{dite}
 use native.Mathlib.Decide.{ℕ_discrete}
 use Rattle.std.proofs.Math.Decide.{dec_lt}
 use lib.ListN.{get_elem?}
-use Rattle.seat_sums.specs.Totals.{sum_over, total_over}
-use Rattle.seat_sums.proofs.Totals.{sum_same, sum_plus, sum_one, total_whole}
+use Rattle.frame_word.specs.Totals.{sum_over, total_over}
+use Rattle.frame_word.proofs.Totals.{sum_same, sum_plus, sum_one, total_whole}
 use Rattle.stock_word.specs.declared.view.StockView.{StockView}
 use Rattle.stock_word.specs.Stock.{KnownStockSeat, Gathers, view_in, views_of}
 use Rattle.stock_word.specs.StockRule.{at_seat, IsOnly, IsStockOf, StockRule}

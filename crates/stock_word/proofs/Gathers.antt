@@ -1,8 +1,8 @@
 -- The zone's seat takes in the CPUs' seats, from the last to the first. Serves close and gather.
 use Rattle.std.proofs.Common.{◌≡◌, ℕ, ◌+◌, List, [], ◌∷◌, ◌++◌, length, refl, ap, subst, arith}
 use Rattle.atomic_table.specs.Seated.{TableId}
-use Rattle.seat_sums.specs.Totals.{sum_over}
-use Rattle.seat_sums.proofs.Totals.{sum_append}
+use Rattle.frame_word.specs.Totals.{sum_over}
+use Rattle.frame_word.proofs.Totals.{sum_append}
 use Rattle.stock_word.specs.declared.view.StockView.{StockView}
 use Rattle.stock_word.specs.Kinds.{IsAlone}
 use Rattle.stock_word.specs.Stock.{KnownStockSeat, AreOf, first_stock_view, views_of}

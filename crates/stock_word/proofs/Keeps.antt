@@ -7,8 +7,8 @@ use mathlib.Core.Logic.{dite}
 use native.Mathlib.Decide.{ℕ_discrete}
 use lib.ListN.{get_elem?}
 use Rattle.atomic_table.specs.Table.{Splits, Joins}
-use Rattle.seat_sums.specs.Totals.{sum_over, SameTotals, join_of}
-use Rattle.seat_sums.proofs.Totals.{total_set, total_more, join_totals}
+use Rattle.frame_word.specs.Totals.{sum_over, SameTotals, join_of}
+use Rattle.frame_word.proofs.Totals.{total_set, total_more, join_totals}
 use Rattle.stock_word.specs.declared.view.StockAccount.{StockAccount}
 use Rattle.stock_word.specs.declared.view.StockView.{StockView}
 use Rattle.stock_word.specs.Stock.{account_of}

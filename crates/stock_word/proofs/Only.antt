@@ -2,8 +2,8 @@
 use Rattle.std.proofs.Common.{◌≡◌, ◌≢◌, ℕ, List, [], ◌∷◌, set, Bool, cond, true, false, eqb, eq-eqb, ne_eqb, refl, ap, ◌∙◌, arith}
 use mathlib.Core.Option.{some}
 use lib.ListN.{get_elem?}
-use Rattle.seat_sums.specs.Totals.{sum_over, total_over, SameTotals}
-use Rattle.seat_sums.proofs.Totals.{total_set}
+use Rattle.frame_word.specs.Totals.{sum_over, total_over, SameTotals}
+use Rattle.frame_word.proofs.Totals.{total_set}
 use Rattle.stock_word.specs.declared.view.StockView.{StockView}
 use Rattle.stock_word.specs.StockRule.{at_seat, IsOnly}
 use Rattle.stock_word.proofs.Alike.{alike_view}

@@ -5,7 +5,7 @@ use mathlib.Core.Option.{some, some-injective, some-ne-none}
 use mathlib.Core.Logic.{dite}
 use native.Mathlib.Decide.{ℕ_discrete}
 use lib.ListN.{get_elem?}
-use Rattle.seat_sums.specs.Totals.{sum_over}
+use Rattle.frame_word.specs.Totals.{sum_over}
 use Rattle.stock_word.specs.declared.view.Stock.TheVariants.{NoGroup}
 use Rattle.stock_word.specs.declared.view.StockView.{StockView}
 use Rattle.stock_word.specs.Stock.{no_account, first_zone_stock_view, first_cpu_stock_view, first_cpu_stock_views}

@@ -7,7 +7,7 @@ use native.Mathlib.Decide.{ℕ_discrete}
 use lib.ListN.{get_elem?}
 use prog.Atomic.{either}
 use Rattle.atomic_table.specs.Table.{State, Me, Act, keeps, step, stepped, Valid, carried_after, Allows, Splits}
-use Rattle.seat_sums.specs.Totals.{sum_over}
+use Rattle.frame_word.specs.Totals.{sum_over}
 use Rattle.atomic_table.proofs.Lists.{exchanged}
 use Rattle.stock_word.specs.declared.view.Stock.TheVariants.{HeldBy, DrainedOf}
 use Rattle.stock_word.specs.declared.view.StockAccount.{StockAccount}

@@ -2,7 +2,7 @@
 use Rattle.std.specs.Prelude.{◌≡◌, ℕ, zero, suc, ◌+◌, ◌-◌, ◌*◌, ◌<◌, ◌≤◌, Bool, true, false, List, [], ◌∷◌, Option}
 use Rattle.std.specs.Prelude.{Some, None}
 use Rattle.atomic_table.specs.Seated.{TableId}
-use Rattle.seat_sums.specs.Totals.{sum_over}
+use Rattle.frame_word.specs.Totals.{sum_over}
 use Rattle.stock_word.specs.declared.view.Stock.{Stock}
 use Rattle.stock_word.specs.declared.view.Stock.TheVariants.{NoGroup, HeldBy, DrainedOf}
 use Rattle.stock_word.specs.declared.view.StockAccount.{StockAccount}

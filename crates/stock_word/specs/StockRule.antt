@@ -1,6 +1,6 @@
 -- The stock rule: what holds of the words and of all seats' views between any two atomic steps.
 use Rattle.std.specs.Prelude.{◌≡◌, ℕ, ◌+◌, ◌*◌, ◌<◌, ◌≤◌, ◌⊎◌, List, ◌==◌, cond, None, length, slice_index}
-use Rattle.seat_sums.specs.Totals.{total_over}
+use Rattle.frame_word.specs.Totals.{total_over}
 use Rattle.stock_word.specs.declared.view.Stock.{Stock}
 use Rattle.stock_word.specs.declared.view.StockAccount.{StockAccount}
 use Rattle.stock_word.specs.declared.view.StockView.{StockView}

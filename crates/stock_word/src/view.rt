@@ -21,7 +21,7 @@ impl Stock {
     ghost use Rattle.stock_word.specs.Stock.{word_of, HasWord, stock_pages_of, group_of};
 
     /// The word that encodes this stock in the table.
-    pub(crate) fn word(self) -> u64
+    pub fn word(self) -> u64
         ensures { result ≡ word_of self }
     {
         match self {
@@ -32,7 +32,7 @@ impl Stock {
     }
 
     /// The stock that a word encodes. The contract says nothing of a word that encodes no stock.
-    pub(crate) fn of_word(word: u64) -> Stock
+    pub fn of_word(word: u64) -> Stock
         ensures { (stock : Stock) → HasWord stock → word ≡ word_of stock → result ≡ stock }
     {
         let code = (word % DRAINED) / 65_536;

@@ -8,6 +8,7 @@ use Rattle.mem_system.specs.declared.command.Reply.{Reply}
 use Rattle.mem_system.specs.declared.command.Reply.TheVariants as reply
 use Rattle.reply_texts.specs.LineAnswer.{LineAnswer}
 use Rattle.reply_texts.specs.LineAnswer as answer
+use Rattle.reply_texts.specs.declared.steps.UnlockedAnswer.TheVariants as unlocked
 use Rattle.tempolemon_c.specs.Statuses.{most_refusal}
 use Rattle.tempolemon_c.specs.Kinds.{reply_status, status_of}
 
@@ -44,4 +45,5 @@ reply_low reply = omega arith
 -- the status of an answer
 pub status_low : (answer : LineAnswer) → status_of answer ≤ most_refusal
 status_low (answer.Served reply) = reply_low reply
+status_low (answer.Unlocked (unlocked.Refused fault)) = number_low fault
 status_low answer = omega arith

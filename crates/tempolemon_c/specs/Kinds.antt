@@ -11,6 +11,8 @@ use Rattle.mem_system.specs.declared.command.Reply.{Reply}
 use Rattle.mem_system.specs.declared.command.Reply.TheVariants as reply
 use Rattle.reply_texts.specs.LineAnswer.{LineAnswer}
 use Rattle.reply_texts.specs.LineAnswer as answer
+use Rattle.reply_texts.specs.declared.steps.UnlockedAnswer.{UnlockedAnswer}
+use Rattle.reply_texts.specs.declared.steps.UnlockedAnswer.TheVariants as unlocked
 use Rattle.tempolemon_c.specs.Statuses.{done, over_limit}
 use Rattle.tempolemon_c.specs.declared.typed_result.TypedResult.{TypedResult}
 
@@ -59,14 +61,19 @@ abbrev pub put_result : word.Put → TypedResult
 put_result (put.Left references) = result_with 10 references
 put_result put.Last = result_with 18 0
 
+-- the result of an answer that needed no lock
+abbrev pub unlocked_result : UnlockedAnswer → TypedResult
+unlocked_result (unlocked.Fast fast) = fast_result fast
+unlocked_result (unlocked.Got got) = get_result got
+unlocked_result (unlocked.Put put) = put_result put
+unlocked_result unlocked.Listed = result_with 13 0
+unlocked_result (unlocked.Refused fault) = result_with 20 0
+
 -- the result of an answer
 abbrev pub result_of : LineAnswer → TypedResult
 result_of (answer.Served reply) = reply_result reply
 result_of answer.Settled = result_with 12 0
-result_of (answer.Fast fast) = fast_result fast
-result_of (answer.Got get) = get_result get
-result_of (answer.Put put) = put_result put
-result_of answer.Listed = result_with 13 0
+result_of (answer.Unlocked said) = unlocked_result said
 
 -- the status of a reply: a refusal's number, or 0
 abbrev pub reply_status : Reply → ℕ
@@ -77,4 +84,5 @@ reply_status other = done
 -- the status of an answer
 abbrev pub status_of : LineAnswer → ℕ
 status_of (answer.Served reply) = reply_status reply
+status_of (answer.Unlocked (unlocked.Refused fault)) = number_of fault
 status_of other = done

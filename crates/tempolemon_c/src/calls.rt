@@ -85,8 +85,7 @@ pub enum FileText {
 impl FrameCall {
     ghost use Rattle.std.specs.Prelude.{◌≡◌, ◌<◌, ℕ};
     ghost use Rattle.script_replay.specs.Ranges.{CommandInRange};
-    ghost use Rattle.script_replay.specs.ValueAnswers.{HasValueAnswer};
-    ghost use Rattle.script_replay.specs.Works.{work_of};
+    ghost use Rattle.script_replay.specs.Commands.{HasValueAnswer};
     ghost use Rattle.tempolemon_c.specs.HandleCalls.{frame_command};
 
     /// The script's command that does this.
@@ -94,7 +93,7 @@ impl FrameCall {
     pub fn command(self, frame: u32) -> Command<'static>
         ensures value { result ≡ frame_command self frame }
         ensures in_zone { (frames : ℕ) → frame < frames → CommandInRange frames result }
-        ensures has_value { HasValueAnswer (work_of result) }
+        ensures has_value { HasValueAnswer result }
     {
         match self {
             FrameCall::Release => Command::Release { frame },

@@ -8,8 +8,7 @@ ghost use Rattle.mem_system.specs.Outcomes.{HasItsGroups, reply_of};
 ghost use Rattle.script_replay.specs.Lines.{system_state};
 ghost use Rattle.script_replay.specs.Ranges.{CpuCommandInRange};
 ghost use Rattle.script_replay.specs.Terms.{terms};
-ghost use Rattle.script_replay.specs.ValueAnswers.{HasValueAnswer};
-ghost use Rattle.script_replay.specs.Works.{work_of};
+ghost use Rattle.script_replay.specs.Commands.{HasValueAnswer};
 ghost use Rattle.load_run.specs.Answers.{IsNewBootState};
 ghost use Rattle.load_run.specs.Ending.{EndsHeld};
 ghost use Rattle.tempolemon_c.specs.HandleCalls.{CallsLive, HasNoGroup, IsCpu, ReturnsCommandAnswer, file_reply};
@@ -130,7 +129,7 @@ impl<N: BootName> Live<N> {
     #[inline(never)]
     fn serve(&mut self, cpu: u32, command: &Command<'_>) -> CallAnswer
         requires there { CpuCommandInRange N.frames.frames (length self.old.state.cpus) cpu command.now }
-        requires has_value { HasValueAnswer (work_of command.now) }
+        requires has_value { HasValueAnswer command.now }
         ensures { ReturnsCommandAnswer N.frames N.stocks cpu command.now self.old self.new result }
     {
         CallAnswer::Served(serve_value(
@@ -146,7 +145,7 @@ impl<N: BootName> Live<N> {
     #[inline(always)]
     fn serve_inlined(&mut self, cpu: u32, command: &Command<'_>) -> CallAnswer
         requires there { CpuCommandInRange N.frames.frames (length self.old.state.cpus) cpu command.now }
-        requires has_value { HasValueAnswer (work_of command.now) }
+        requires has_value { HasValueAnswer command.now }
         ensures { ReturnsCommandAnswer N.frames N.stocks cpu command.now self.old self.new result }
     {
         CallAnswer::Served(serve_value(

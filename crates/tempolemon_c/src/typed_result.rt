@@ -2,11 +2,13 @@
 
 ghost use Rattle.std.specs.Prelude.{◌≡◌, List, ℕ};
 ghost use Rattle.group_charge.specs.Charges.{Ledger};
+ghost use Rattle.group_tree.specs.Faults.{number_of};
 ghost use Rattle.mem_system.specs.Outcomes.{reply_of};
+ghost use Rattle.reply_texts.specs.LineAnswer as answer;
 ghost use Rattle.script_replay.specs.ValueAnswers.{answer_of};
 ghost use Rattle.tempolemon_c.specs.Calls.{HasNoText, IsPlainOutcome, PutsAnswer, PutsReply};
 ghost use Rattle.tempolemon_c.specs.Kinds.{fast_result, get_result, put_result, reply_result, reply_status};
-ghost use Rattle.tempolemon_c.specs.Kinds.{result_of, result_with, status_of};
+ghost use Rattle.tempolemon_c.specs.Kinds.{result_of, result_with, status_of, unlocked_result};
 
 use crate::kinds::{
     ACTIVE, CHARGED, CPU, FRAME, FREE, FULL, GROUP, HELD, LAST, LEFT, LISTED, MARKED, NOT_FAST, OK,
@@ -15,7 +17,9 @@ use crate::kinds::{
 use crate::status::{DONE, OVER_LIMIT};
 use cpu_part::Fast;
 use frame_word::{Get, Put};
+use group_tree::fault::Fault;
 use mem_system::Outcome;
+use reply_texts::UnlockedAnswer;
 use script_replay::AnswerValue;
 
 /// What a typed call gives its host: a kind, and the number that goes with it.
@@ -59,16 +63,43 @@ pub(crate) fn typed_answer_of(value: &AnswerValue) -> TypedAnswer
     match value {
         AnswerValue::Served(outcome) => answer_of_outcome(outcome),
         AnswerValue::Settled => with_number(SETTLED, 0),
-        AnswerValue::Fast(fast) => answer_of_fast(fast),
-        AnswerValue::Got(got) => answer_of_get(got),
-        AnswerValue::Put(put) => answer_of_put(put),
-        AnswerValue::Listed => with_number(LISTED, 0),
+        AnswerValue::Unlocked(said) => answer_of_unlocked(said),
+    }
+}
+
+// The result of an answer that needed no lock.
+#[inline(always)]
+fn answer_of_unlocked(said: &UnlockedAnswer) -> TypedAnswer
+    ensures status { result.status ≡ status_of (answer.Unlocked said.now) }
+    ensures typed { result.typed ≡ unlocked_result said.now }
+{
+    match said {
+        UnlockedAnswer::Fast(fast) => answer_of_fast(fast),
+        UnlockedAnswer::Got(got) => answer_of_get(got),
+        UnlockedAnswer::Put(put) => answer_of_put(put),
+        UnlockedAnswer::Listed => with_number(LISTED, 0),
+        UnlockedAnswer::Refused(fault) => refused(fault),
+    }
+}
+
+// The result of a refusal.
+#[inline(always)]
+#[tactic(auto, using(crate::proofs::Numbers::number_low))]
+fn refused(fault: &Fault) -> TypedAnswer
+    ensures status { result.status ≡ number_of fault.now }
+    ensures typed { result.typed ≡ result_with 20 0 }
+{
+    TypedAnswer {
+        status: fault.number() as u8,
+        typed: TypedResult {
+            number: 0,
+            kind: REFUSED,
+        },
     }
 }
 
 // The result of an outcome that isn't a text.
 #[inline(always)]
-#[tactic(auto, using(crate::proofs::Numbers::number_low))]
 fn answer_of_outcome(outcome: &Outcome) -> TypedAnswer
     requires { IsPlainOutcome outcome.now }
     ensures status { (ledger : Ledger) → result.status ≡ reply_status (reply_of ledger outcome.now) }
@@ -94,13 +125,7 @@ fn answer_of_outcome(outcome: &Outcome) -> TypedAnswer
                 kind: REFUSED,
             },
         },
-        Outcome::Refused(fault) => TypedAnswer {
-            status: fault.number() as u8,
-            typed: TypedResult {
-                number: 0,
-                kind: REFUSED,
-            },
-        },
+        Outcome::Refused(fault) => refused(&fault),
     }
 }
 

@@ -11,3 +11,8 @@ pub mod Pairing
 pub mod Neighbours
 pub mod Walking
 pub mod Maximals
+pub mod Around
+pub mod BuddyFrames
+pub mod Halves
+pub mod Merging
+pub mod Sets

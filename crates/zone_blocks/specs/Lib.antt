@@ -5,3 +5,4 @@ pub mod Links
 pub mod OrderLists
 pub mod PairBits
 pub mod Config
+pub mod Zone

@@ -4,11 +4,15 @@
 
 pub mod areas;
 pub mod block;
+pub mod buddy;
 pub mod config;
+mod frame;
 pub mod laws;
 mod links;
 mod maximal;
+mod merge;
 pub mod order;
 mod pairs;
 mod rings;
+mod split;
 pub mod walk;

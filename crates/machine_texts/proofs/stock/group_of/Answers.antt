@@ -7,7 +7,7 @@ use Rattle.machine_texts.proofs.stock.group_of.Goals as goal
 
 pub returns-in_default : goal.returns-in_default
 returns-in_default c = no_group c.args.tree.now c.args.number
-    (λ there. c.in_default.ensures {u = tt} (number_below c.args.tree.now c.args.number c.groups-groups.ensures.legal there))
+    (λ there. c.in_default.ensures {u = tt} (number_below c.args.tree.now c.args.number c.prove_groups.ensures.legal there))
 
 pub returns-else-contains : goal.returns-else-contains
 returns-else-contains c = no_group c.args.tree.now c.args.number

@@ -5,12 +5,11 @@ use Rattle.mem_alloc.proofs.blocks.alloc_block.Goals as goal
 
 pub charge_block-requires-clause-may_charge : goal.charge_block-requires-clause-may_charge
 charge_block-requires-clause-may_charge g c =
-    let few = c.frames-pages.ensures.at_most in
-    let is = c.frames-pages.ensures.frames in
+    let few = c.prove_order.ensures in
     record {
       there = c.requires.there;
       alive = sym c.is_killed.ensures ∙ c.if-is_killed.false;
-      fits = c.prove_room.ensures.room (2 ^ c.args.order) (omega (arith, few, is));
+      fits = c.prove_room.ensures.room (2 ^ c.args.order) (omega (arith, few));
     }
 
 pub returns-in-Err-NoFrames-clause-allocates : goal.returns-in-Err-NoFrames-clause-allocates

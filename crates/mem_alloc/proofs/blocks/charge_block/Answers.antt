@@ -3,7 +3,8 @@ use Rattle.std.specs.Prelude.{Err, IfErr}
 use Rattle.group_tree.specs.Groups.{has_group}
 use Rattle.group_tree.proofs.CallerLemmas.{in_subtree-above}
 use Rattle.mem_machine.specs.Machines.{KnownMachine}
-use Rattle.mem_alloc.specs.Stepping.{ByStepsOfAny}
+use Rattle.mem_machine.specs.Local.{MakesForAny}
+use Rattle.mem_machine.specs.Transitions.{BySteps}
 use Rattle.mem_alloc.specs.Room.{HasMadeRoom, IsRoomAnswer, RelievesLimit, has_room_at}
 use Rattle.mem_alloc.proofs.Lowering.{Lowers, lowered_visit, lowers_both, usages_fall, watched_lowers}
 use Rattle.mem_alloc.proofs.Killing.{relieving_lowers}
@@ -56,7 +57,7 @@ tries-smaller g c =
 pub tries-preserved : goal.tries-preserved
 tries-preserved g c =
     let t = g.N.BootName.frames in
-    let relieves = subst (λ (n : ℕ). ByStepsOfAny g.N.BootName.frames (RelievesLimit c.args.group c.in-Err-Over.over.group n)
+    let relieves = subst (λ (n : ℕ). BySteps MakesForAny g.N.BootName.frames (RelievesLimit c.args.group c.in-Err-Over.over.group n)
     c.take_block.new.self c.make_room.new.machine) c.frames-pages.ensures.frames c.make_room.ensures.relieves in
     let r = is_refused _ _ c.args.group c.args.order c.in-Err-Over.field-0 c.in-Err-Over.over c.in-Err-Over.field-0-is c.in-Err-Over.ensures.refuses in
     let run = by_refusal c.tries.cpu.number c.args.group c.args.order _ _ c.in-Err-Over.field-0 c.in-Err-Over.over c.in-Err-Over.field-0-is
@@ -72,7 +73,7 @@ tries-preserved g c =
 pub returns-in_err-make_room-in-Err-Over-clause-charges : goal.returns-in_err-make_room-in-Err-Over-clause-charges
 returns-in_err-make_room-in-Err-Over-clause-charges g c =
     let t = g.N.BootName.frames in
-    let relieves = subst (λ (n : ℕ). ByStepsOfAny g.N.BootName.frames (RelievesLimit c.args.group c.in-Err-Over.over.group n)
+    let relieves = subst (λ (n : ℕ). BySteps MakesForAny g.N.BootName.frames (RelievesLimit c.args.group c.in-Err-Over.over.group n)
     c.take_block.new.self c.make_room.new.machine) c.frames-pages.ensures.frames c.make_room.ensures.relieves in
     let r = is_refused _ _ c.args.group c.args.order c.in-Err-Over.field-0 c.in-Err-Over.over c.in-Err-Over.field-0-is c.in-Err-Over.ensures.refuses in
     let run = by_refusal c.tries.cpu.number c.args.group c.args.order _ _ c.in-Err-Over.field-0 c.in-Err-Over.over c.in-Err-Over.field-0-is

@@ -3,8 +3,12 @@ use Rattle.group_tree.specs.Groups.{has_group}
 use Rattle.group_tree.specs.Room.{PathHasRoom}
 use Rattle.group_charge.specs.Charges.{current_of}
 use Rattle.cpu_part.specs.Cpus.{KnownCpu}
-use Rattle.mem_machine.specs.Machines.{KnownMachine, is_killed}
-use Rattle.mem_alloc.proofs.Taking.{is_refused, is_none, by_none, back_part, never_over}
+use Rattle.group_charge.specs.declared.note.Note.TheVariants.{Zone}
+use Rattle.mem_machine.specs.Machines.{KnownMachine, Visits, is_killed, with_note}
+use Rattle.mem_machine.specs.Local.{visit_state}
+use Rattle.mem_alloc.specs.Blocks.{MakesTakeRounds, MayHaveBlock}
+use Rattle.mem_alloc.proofs.Rounding.{noted_visit, zone_noted}
+use Rattle.mem_alloc.proofs.Taking.{is_refused, is_none, by_none, back_part, never_over, noted_room}
 use Rattle.mem_alloc.proofs.Taking.{none_leaves, takes_after, reclaims_after, reclaims_open, list_shrinks}
 use Rattle.mem_alloc.proofs.blocks.take_after_drain.Goals as goal
 
@@ -57,17 +61,24 @@ returns-in-Ok-clause-list g c =
     c.list_len-listed.ensures.count
     c.drain_list.ensures.at_most c.drain_list.ensures.takes c.drain_list.ensures.fewer_only_at_the_end c.in-Ok.ensures.cpu c.drain_list.ensures.steps
 
-pub note_and_reclaim_until_taken-requires-clause-room : goal.note_and_reclaim_until_taken-requires-clause-room
-note_and_reclaim_until_taken-requires-clause-room g c =
+pub reclaim_until_taken-requires-clause-visit : goal.reclaim_until_taken-requires-clause-visit
+reclaim_until_taken-requires-clause-visit g c =
+    subst (λ (x : KnownMachine). Visits g.N.BootName.frames (visit_state x c.take_block.new.cpu)) (sym c.note.ensures)
+    (noted_visit g.N.BootName.frames c.take_block.new.self c.take_block.new.cpu _ c.take_block.ensures.visit)
+
+pub reclaim_until_taken-requires-clause-room : goal.reclaim_until_taken-requires-clause-room
+reclaim_until_taken-requires-clause-room g c =
     let none = is_none _ _ c.args.group c.args.order c.in-Err-NoBlock.field-0 c.in-Err-NoBlock.field-0-is c.in-Err-NoBlock.ensures.refuses in
     let part = back_part _ _ _ _ _ c.drain_list.ensures.takes in
     let there = ap (λ l. has_group l.groups c.args.group) part.ledger ∙ c.requires.room.charges.there in
     let fits = subst (λ l. current_of l 0 + 2 ^ c.args.order < 2 ^ 32) (sym part.ledger) c.requires.room.charges.fits in
-    none_leaves g.N.BootName.frames c.args.group c.args.order c.drain_list.new.self c.take_block.new.self c.drain_list.new.cpu
-    c.take_block.new.cpu none (ap (λ l. is_killed l c.args.group) part.killed ∙ c.requires.room.charges.alive) there fits
+    subst (λ (x : KnownMachine). MayHaveBlock x c.args.group c.args.order) (sym c.note.ensures)
+    (noted_room c.take_block.new.self _ c.args.group c.args.order
+    (none_leaves g.N.BootName.frames c.args.group c.args.order c.drain_list.new.self c.take_block.new.self c.drain_list.new.cpu
+    c.take_block.new.cpu none (ap (λ l. is_killed l c.args.group) part.killed ∙ c.requires.room.charges.alive) there fits))
 
-pub note_and_reclaim_until_taken-requires-clause-settled : goal.note_and_reclaim_until_taken-requires-clause-settled
-note_and_reclaim_until_taken-requires-clause-settled g c =
+pub reclaim_until_taken-requires-clause-settled : goal.reclaim_until_taken-requires-clause-settled
+reclaim_until_taken-requires-clause-settled g c =
     let part = back_part _ _ _ _ _ c.drain_list.ensures.takes in (
       ap (λ (e : KnownCpu). e.fresh) c.in-Err-NoBlock.ensures.cpu ∙ part.fresh ∙ c.requires.settled.0,
       ap (λ (e : KnownCpu). e.back) c.in-Err-NoBlock.ensures.cpu ∙ part.back ∙ c.requires.settled.1,
@@ -75,35 +86,41 @@ note_and_reclaim_until_taken-requires-clause-settled g c =
 
 pub returns-in-Err-NoBlock-clause-takes : goal.returns-in-Err-NoBlock-clause-takes
 returns-in-Err-NoBlock-clause-takes g c =
+    let rounds = zone_noted g.N.BootName.frames c.args.order (MakesTakeRounds c.args.group c.args.order c.reclaim_until_taken.result)
+    c.take_block.new.self c.note.new.self c.take_block.new.cpu (visit_state c.reclaim_until_taken.new.machine c.reclaim_until_taken.new.cpu)
+    (c.note.ensures ∙ ap (λ k. with_note c.take_block.new.self (Zone k)) c.exponent.ensures.exponent) c.reclaim_until_taken.ensures.takes in
     let none = is_none _ _ c.args.group c.args.order c.in-Err-NoBlock.field-0 c.in-Err-NoBlock.field-0-is c.in-Err-NoBlock.ensures.refuses in
     let vain = by_none _ c.args.group c.args.order _ _ c.in-Err-NoBlock.field-0 c.in-Err-NoBlock.field-0-is c.in-Err-NoBlock.ensures.steps in
     reclaims_after g.N.BootName.frames c.args.group c.args.order _ _ _ _ _ _ c.drain_list.result c.list_len-listed.result
     c.list_len-listed.ensures.count c.drain_list.ensures.at_most c.drain_list.ensures.takes c.drain_list.ensures.fewer_only_at_the_end
-    (c.note_and_reclaim_until_taken.ensures.cpu ∙ c.in-Err-NoBlock.ensures.cpu) c.drain_list.ensures.steps _ _ none c.in-Err-NoBlock.ensures.cpu vain
-    c.note_and_reclaim_until_taken.result c.note_and_reclaim_until_taken.ensures.takes
+    (c.reclaim_until_taken.ensures.cpu ∙ c.in-Err-NoBlock.ensures.cpu) c.drain_list.ensures.steps _ _ none c.in-Err-NoBlock.ensures.cpu vain
+    c.reclaim_until_taken.result rounds
 
 pub returns-in-Err-NoBlock-clause-stays : goal.returns-in-Err-NoBlock-clause-stays
 returns-in-Err-NoBlock-clause-stays g c =
+    let rounds = zone_noted g.N.BootName.frames c.args.order (MakesTakeRounds c.args.group c.args.order c.reclaim_until_taken.result)
+    c.take_block.new.self c.note.new.self c.take_block.new.cpu (visit_state c.reclaim_until_taken.new.machine c.reclaim_until_taken.new.cpu)
+    (c.note.ensures ∙ ap (λ k. with_note c.take_block.new.self (Zone k)) c.exponent.ensures.exponent) c.reclaim_until_taken.ensures.takes in
     let none = is_none _ _ c.args.group c.args.order c.in-Err-NoBlock.field-0 c.in-Err-NoBlock.field-0-is c.in-Err-NoBlock.ensures.refuses in
     let vain = by_none _ c.args.group c.args.order _ _ c.in-Err-NoBlock.field-0 c.in-Err-NoBlock.field-0-is c.in-Err-NoBlock.ensures.steps in
     let part = back_part _ _ _ _ _ c.drain_list.ensures.takes in
-    let cpu = c.note_and_reclaim_until_taken.ensures.cpu ∙ c.in-Err-NoBlock.ensures.cpu in
+    let cpu = c.reclaim_until_taken.ensures.cpu ∙ c.in-Err-NoBlock.ensures.cpu in
     record {
-      visit = c.note_and_reclaim_until_taken.ensures.visit;
+      visit = c.reclaim_until_taken.ensures.visit;
       opened = reclaims_open g.N.BootName.frames c.args.group c.args.order _ _ _ _ _ _ c.drain_list.result c.list_len-listed.result
           c.list_len-listed.ensures.count c.drain_list.ensures.at_most c.drain_list.ensures.takes c.drain_list.ensures.fewer_only_at_the_end
-          cpu c.drain_list.ensures.steps _ _ none c.in-Err-NoBlock.ensures.cpu vain c.note_and_reclaim_until_taken.result c.note_and_reclaim_until_taken.ensures.takes;
+          cpu c.drain_list.ensures.steps _ _ none c.in-Err-NoBlock.ensures.cpu vain c.reclaim_until_taken.result rounds;
       number = ap (λ (e : KnownCpu). e.number) cpu ∙ part.number;
       back = ap (λ (e : KnownCpu). e.back) cpu ∙ part.back;
     }
 
 pub returns-in-Err-NoBlock-clause-fresh : goal.returns-in-Err-NoBlock-clause-fresh
 returns-in-Err-NoBlock-clause-fresh g c =
-    ap (λ (e : KnownCpu). e.fresh) (c.note_and_reclaim_until_taken.ensures.cpu ∙ c.in-Err-NoBlock.ensures.cpu)
+    ap (λ (e : KnownCpu). e.fresh) (c.reclaim_until_taken.ensures.cpu ∙ c.in-Err-NoBlock.ensures.cpu)
     ∙ (back_part _ _ _ _ _ c.drain_list.ensures.takes).fresh ∙ c.requires.settled.0
 
 pub returns-in-Err-NoBlock-clause-list : goal.returns-in-Err-NoBlock-clause-list
 returns-in-Err-NoBlock-clause-list g c =
-    list_shrinks g.N.BootName.frames c.args.group c.args.order _ _ c.note_and_reclaim_until_taken.new.machine _ _ _ c.drain_list.result
+    list_shrinks g.N.BootName.frames c.args.group c.args.order _ _ c.reclaim_until_taken.new.machine _ _ _ c.drain_list.result
     c.list_len-listed.result c.list_len-listed.ensures.count c.drain_list.ensures.at_most c.drain_list.ensures.takes
-    c.drain_list.ensures.fewer_only_at_the_end (c.note_and_reclaim_until_taken.ensures.cpu ∙ c.in-Err-NoBlock.ensures.cpu) c.drain_list.ensures.steps
+    c.drain_list.ensures.fewer_only_at_the_end (c.reclaim_until_taken.ensures.cpu ∙ c.in-Err-NoBlock.ensures.cpu) c.drain_list.ensures.steps

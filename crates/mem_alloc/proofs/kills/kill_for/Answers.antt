@@ -8,7 +8,8 @@ use Rattle.mem_reclaim.specs.Killing.{IsKilledBy, KillsVictim, victim_of, with_a
 use Rattle.mem_reclaim.specs.Sets.{kill_set}
 use Rattle.mem_reclaim.specs.Victim.{IsVictim}
 use Rattle.mem_alloc.specs.Kills.{KillsForRoom, has_room_at}
-use Rattle.mem_alloc.specs.Stepping.{ByStepsOfAny}
+use Rattle.mem_machine.specs.Local.{MakesForAny}
+use Rattle.mem_machine.specs.Transitions.{BySteps}
 use Rattle.mem_alloc.proofs.Killing.{enough_room, fewer_alive, kills_end, so_far_killed, so_far_nobody, so_far_there}
 use Rattle.mem_alloc.proofs.kills.kill_for.Goals as goal
 
@@ -42,7 +43,7 @@ returns-in_default g c =
     let none = subst (λ (o : Option Killed). IsVictim c.kills.machine c.args.limited (victim_of o)) c.in_default.is c.kill.ensures.victim in
     let same : c.kill.new.machine ≡ c.kills.machine =
     subst (λ (o : Option Killed). KillsVictim t c.args.limited o c.kills.machine c.kill.new.machine) c.in_default.is c.kill.ensures.kills in
-    subst (λ (y : KnownMachine). ByStepsOfAny t (KillsForRoom c.args.requester c.args.limited c.args.pages) c.args.machine.now y) (sym same)
+    subst (λ (y : KnownMachine). BySteps MakesForAny t (KillsForRoom c.args.requester c.args.limited c.args.pages) c.args.machine.now y) (sym same)
     (kills_end c.args.requester t c.args.limited c.args.pages c.args.machine.now c.kills.machine over c.kills.invariant (λ needs_room. none))
 
 pub kills-smaller : goal.kills-smaller
@@ -51,13 +52,13 @@ kills-smaller g c =
     let x = c.kills.machine in
     let n = c.kill.new.machine in
     let killed = c.in-Some._killed in
-    let charges : AreCharges x.ledger = subst (λ (l : Ledger). AreCharges l) c.charges-charges.ensures c.tree-tree.ensures.legal in
+    let charges : AreCharges x.ledger = subst (λ (l : Ledger). AreCharges l) c.charges-charges.ensures c.prove_charges.ensures.legal in
     let most : IsVictim x c.args.limited (Some killed.victim) =
     subst (λ (o : Option Killed). IsVictim x c.args.limited (victim_of o)) c.in-Some.is c.kill.ensures.victim in
     let kills : IsKilledBy t c.args.limited killed x n = subst (λ (o : Option Killed). KillsVictim t c.args.limited o x n) c.in-Some.is c.kill.ensures.kills in
     let marked : n.killed ≡ with_all_killed x.killed (kill_set x killed) =
     subst (λ (o : Option Killed). IfSome o (λ k. n.killed ≡ with_all_killed x.killed (kill_set x k))) c.in-Some.is c.kill.ensures.marked in
-    fewer_alive t g.N.BootName.stocks x n c.args.limited killed c.frame_states-frame_states.ensures.consistent charges most kills.killed_root_is marked
+    fewer_alive t g.N.BootName.stocks x n c.args.limited killed c.prove_consistent.ensures charges most kills.killed_root_is marked
 
 pub kills-preserved : goal.kills-preserved
 kills-preserved g c =
@@ -65,14 +66,14 @@ kills-preserved g c =
     let x = c.kills.machine in
     let n = c.kill.new.machine in
     let killed = c.in-Some._killed in
-    let charges : AreCharges x.ledger = subst (λ (l : Ledger). AreCharges l) c.charges-charges.ensures c.tree-tree.ensures.legal in
+    let charges : AreCharges x.ledger = subst (λ (l : Ledger). AreCharges l) c.charges-charges.ensures c.prove_charges.ensures.legal in
     let most : IsVictim x c.args.limited (Some killed.victim) =
     subst (λ (o : Option Killed). IsVictim x c.args.limited (victim_of o)) c.in-Some.is c.kill.ensures.victim in
     let kills : IsKilledBy t c.args.limited killed x n = subst (λ (o : Option Killed). KillsVictim t c.args.limited o x n) c.in-Some.is c.kill.ensures.kills in
     let marked : n.killed ≡ with_all_killed x.killed (kill_set x killed) =
     subst (λ (o : Option Killed). IfSome o (λ k. n.killed ≡ with_all_killed x.killed (kill_set x k))) c.in-Some.is c.kill.ensures.marked in
     so_far_killed c.args.requester t g.N.BootName.stocks c.args.limited c.args.pages killed c.args.machine.now
-    x n c.kills.invariant (c.needs_room.ensures.0 c.if-not-needs_room.false) c.frame_states-frame_states.ensures.consistent charges most kills
+    x n c.kills.invariant (c.needs_room.ensures.0 c.if-not-needs_room.false) c.prove_consistent.ensures charges most kills
     marked c.kill.ensures.stocks c.kill.ensures.keeps
 
 pub returns-then-has_room_at : goal.returns-then-has_room_at

@@ -48,9 +48,8 @@ loop-round-preserved g c =
     let more = c.if-asked-freed.false in
     let wants : want ≡ pages_missing c.args.group c.args.asked start c.loop-round.machine.ledger = omega (arith, before, more) in
     let wanted : want ≢ 0 = λ none. omega (arith, more, none) in
-    let is = c.current-usage.ensures in
-    let fits = c.current-usage.type_inv in
-    let low : current_of c.loop-round.machine.ledger c.args.group < 2 ^ 32 = omega (arith, is, fits, before) in
+    let fits = c.prove_usage.ensures in
+    let low : current_of c.loop-round.machine.ledger c.args.group < 2 ^ 32 = omega (arith, fits, before) in
     rounds_more g.N.BootName.frames c.args.group c.args.asked start c.args.machine.now c.loop-round.round
     c.loop-round.freed c.loop-round.machine c.loop-round.invariant c.loop-round-test.true want
     c.reclaim_round-pages.result.pages c.reclaim_round-pages.new.machine c.reclaim_round-pages.result.tried_all wants wanted e.makes

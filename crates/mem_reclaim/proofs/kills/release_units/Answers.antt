@@ -10,7 +10,7 @@ loop-unit-init g c = let_go_first g.N.BootName.frames c.args.group c.args.list c
 pub unreachable-requires-in_default-frame : goal.unreachable-requires-in_default-frame
 unreachable-requires-in_default-frame g c =
     let fits : c.args.group < 64 = search rules in
-    let o = oldest_is g.N.BootName.frames g.N.BootName.stocks c.args.group fits c.args.list c.loop-unit.machine c.frame_states-frame_states.ensures.consistent
+    let o = oldest_is g.N.BootName.frames g.N.BootName.stocks c.args.group fits c.args.list c.loop-unit.machine c.prove_consistent.ensures
     c.in-Some.unit c.oldest.result c.oldest.ensures c.in-Some.is in
     let lt = o.inside in
     let le : c.args.tables.now.frames.frames ≤ c.in-Some.unit.number = c.in_default-frame.ensures {u = tt} in
@@ -20,7 +20,7 @@ unreachable-requires-in_default-frame g c =
 pub loop-unit-preserved : goal.loop-unit-preserved
 loop-unit-preserved g c =
     let fits : c.args.group < 64 = search rules in
-    let o = oldest_is g.N.BootName.frames g.N.BootName.stocks c.args.group fits c.args.list c.loop-unit.machine c.frame_states-frame_states.ensures.consistent
+    let o = oldest_is g.N.BootName.frames g.N.BootName.stocks c.args.group fits c.args.list c.loop-unit.machine c.prove_consistent.ensures
     c.in-Some.unit c.oldest.result c.oldest.ensures c.in-Some.is in
     let_go_more g.N.BootName.frames c.args.group c.args.list c.args.machine.now c.loop-unit._unit c.loop-unit.machine c.loop-unit.invariant c.in-Some.unit o
     c.in-Some-frame.frame c.in-Some-frame.ensures.0 c.put_zone_reference.result c.put_zone_reference.new.self c.put_zone_reference.ensures.releases c.put_zone_reference.ensures.visit c.put_zone_reference.ensures.steps

@@ -20,7 +20,7 @@ loop-number-preserved g c =
 pub returns : goal.returns
 returns g c =
     let all = pass_done g.N.BootName.frames g.N.BootName.stocks c.args.is_first c.args.group c.args.want c.args.machine.now c.loop-number.number c.loop-number.freed
-    c.loop-number.machine c.frame_states-frame_states.ensures.consistent c.loop-number.invariant c.loop-number-test.false in
+    c.loop-number.machine c.prove_consistent.ensures c.loop-number.invariant c.loop-number-test.false in
     record { passes = all.passes; keeps = search rules; usage = search rules; few = search rules; leaves = search rules; missed = all.missed }
 
 pub returns-then-want-freed-clause-few : goal.returns-then-want-freed-clause-few

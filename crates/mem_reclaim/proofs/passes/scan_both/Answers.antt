@@ -50,6 +50,5 @@ overflow_add-result g c =
     let first = c.scan-inactive.ensures.usage c.args.group own in
     let second = c.scan-active.ensures.usage c.args.group
     (ap (λ (groups : List Group). in_subtree groups c.args.group c.args.group) c.scan-inactive.ensures.keeps.groups ∙ own) in
-    let is = c.current-usage.ensures in
-    let fits = c.current-usage.type_inv in
-    omega (arith, first, second, is, fits)
+    let fits = c.prove_usage.ensures in
+    omega (arith, first, second, fits)

@@ -9,7 +9,7 @@ use Rattle.mem_reclaim.proofs.scan.scan.Goals as goal
 pub loop-met-init : goal.loop-met-init
 loop-met-init g c =
     let fits : c.args.group < 64 = search rules in
-    scan_first g.N.BootName.frames g.N.BootName.stocks c.args.machine.now c.frame_states-frame_states.ensures.consistent c.args.spares_marked c.args.group fits
+    scan_first g.N.BootName.frames g.N.BootName.stocks c.args.machine.now c.prove_consistent.ensures c.args.spares_marked c.args.group fits
     c.args.list
     c.args.want c.oldest-next.result c.oldest-next.ensures
 
@@ -23,7 +23,7 @@ pub unreachable-requires-in_default-frame : goal.unreachable-requires-in_default
 unreachable-requires-in_default-frame g c =
     let fits : c.args.group < 64 = search rules in
     let h = scan_here g.N.BootName.frames g.N.BootName.stocks c.args.spares_marked c.args.group fits c.args.list c.args.want c.args.machine.now
-    c.loop-met._met c.loop-met.freed c.loop-met.next c.loop-met.machine c.frame_states-frame_states-in-loop-met.ensures.consistent c.loop-met.invariant c.list_len-units.result
+    c.loop-met._met c.loop-met.freed c.loop-met.next c.loop-met.machine c.prove_consistent-in-loop-met.ensures c.loop-met.invariant c.list_len-units.result
     c.list_len-units.ensures c.loop-met-test.true c.in-Some.unit c.in-Some.is in
     let lt = h.inside in
     let le : c.args.tables.now.frames.frames ≤ c.in-Some.unit.number = c.in_default-frame.ensures {u = tt} in
@@ -34,7 +34,7 @@ pub newer-next-requires-clause-home : goal.newer-next-requires-clause-home
 newer-next-requires-clause-home g c =
     let fits : c.args.group < 64 = search rules in
     let h = scan_here g.N.BootName.frames g.N.BootName.stocks c.args.spares_marked c.args.group fits c.args.list c.args.want c.args.machine.now
-    c.loop-met._met c.loop-met.freed c.loop-met.next c.loop-met.machine c.frame_states-frame_states-in-loop-met.ensures.consistent c.loop-met.invariant c.list_len-units.result
+    c.loop-met._met c.loop-met.freed c.loop-met.next c.loop-met.machine c.prove_consistent-in-loop-met.ensures c.loop-met.invariant c.list_len-units.result
     c.list_len-units.ensures c.loop-met-test.true c.in-Some.unit c.in-Some.is in
     ap (home_of c.loop-met.machine.links) c.in-Some-frame.ensures.0 ∙ h.home
 
@@ -42,7 +42,7 @@ pub try_reclaim-requires-clause-unit : goal.try_reclaim-requires-clause-unit
 try_reclaim-requires-clause-unit g c =
     let fits : c.args.group < 64 = search rules in
     let h = scan_here g.N.BootName.frames g.N.BootName.stocks c.args.spares_marked c.args.group fits c.args.list c.args.want c.args.machine.now
-    c.loop-met._met c.loop-met.freed c.loop-met.next c.loop-met.machine c.frame_states-frame_states-in-loop-met.ensures.consistent c.loop-met.invariant c.list_len-units.result
+    c.loop-met._met c.loop-met.freed c.loop-met.next c.loop-met.machine c.prove_consistent-in-loop-met.ensures c.loop-met.invariant c.list_len-units.result
     c.list_len-units.ensures c.loop-met-test.true c.in-Some.unit c.in-Some.is in
     h.read ∙ ap (entry_of c.loop-met.machine.links) (sym c.in-Some-frame.ensures.0)
 
@@ -50,7 +50,7 @@ pub try_reclaim-requires-clause-home : goal.try_reclaim-requires-clause-home
 try_reclaim-requires-clause-home g c =
     let fits : c.args.group < 64 = search rules in
     let h = scan_here g.N.BootName.frames g.N.BootName.stocks c.args.spares_marked c.args.group fits c.args.list c.args.want c.args.machine.now
-    c.loop-met._met c.loop-met.freed c.loop-met.next c.loop-met.machine c.frame_states-frame_states-in-loop-met.ensures.consistent c.loop-met.invariant c.list_len-units.result
+    c.loop-met._met c.loop-met.freed c.loop-met.next c.loop-met.machine c.prove_consistent-in-loop-met.ensures c.loop-met.invariant c.list_len-units.result
     c.list_len-units.ensures c.loop-met-test.true c.in-Some.unit c.in-Some.is in
     ap (home_of c.loop-met.machine.links) c.in-Some-frame.ensures.0 ∙ h.home
 
@@ -61,7 +61,7 @@ loop-met-preserved g c =
     let e = c.from-freed.ensures in
     rw e
     (scan_more g.N.BootName.frames g.N.BootName.stocks c.args.spares_marked c.args.group fits c.args.list c.args.want c.args.machine.now
-    c.loop-met._met c.loop-met.freed c.loop-met.next c.loop-met.machine c.frame_states-frame_states-in-loop-met.ensures.consistent c.loop-met.invariant c.list_len-units.result
+    c.loop-met._met c.loop-met.freed c.loop-met.next c.loop-met.machine c.prove_consistent-in-loop-met.ensures c.loop-met.invariant c.list_len-units.result
     c.list_len-units.ensures c.loop-met-test.true c.in-Some.unit c.in-Some.is c.try_reclaim.result c.try_reclaim.new.machine c.requires.inactive c.if-want-freed.false
     (omega (arith, small)) c.try_reclaim.ensures.attempts c.try_reclaim.ensures.keeps c.try_reclaim.ensures.usage c.newer-next.result c.in-Some-frame.frame c.in-Some-frame.ensures.0
     c.newer-next.ensures)
@@ -82,8 +82,7 @@ returns-then-want-freed-clause-missed g c = search rules
 pub overflow_add-freed : goal.overflow_add-freed
 overflow_add-freed g c =
     let usage = c.loop-met.invariant.usage c.args.group (in_subtree-refl c.args.machine.now.ledger.groups c.args.group c.requires.there) in
-    let is = c.current-usage.ensures in
-    let fits = c.current-usage.type_inv in
+    let fits = c.prove_usage.ensures in
     let more = c.from-freed.ensures in
     let small = c.try_reclaim.type_inv in
-    omega (arith, usage, is, fits, more, small)
+    omega (arith, usage, fits, more, small)

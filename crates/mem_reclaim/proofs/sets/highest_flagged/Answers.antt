@@ -17,13 +17,13 @@ loop-above-init c =
 
 pub is_oom_group-requires : goal.is_oom_group-requires
 is_oom_group-requires c =
-    (root_turn c.args.tree.now c.groups-groups.ensures.legal c.args.limited c.args.victim c.in-Some.above c.loop-above.killed_root c.loop-above.above-iterator
+    (root_turn c.args.tree.now c.prove_groups.ensures.legal c.args.limited c.args.victim c.in-Some.above c.loop-above.killed_root c.loop-above.above-iterator
     c.next.new.self c.loop-above.invariant c.in-Some.ensures.steps).turn.there
 
 pub loop-above-preserved : goal.loop-above-preserved
 loop-above-preserved c =
     let groups = c.args.tree.now in
-    let facts = c.groups-groups.ensures.legal in
+    let facts = c.prove_groups.ensures.legal in
     let m = c.in-Some.above in
     let t = root_turn groups facts c.args.limited c.args.victim m c.loop-above.killed_root c.loop-above.above-iterator c.next.new.self c.loop-above.invariant
     c.in-Some.ensures.steps in
@@ -38,7 +38,7 @@ loop-above-preserved c =
 pub returns-then-eq : goal.returns-then-eq
 returns-then-eq c =
     let groups = c.args.tree.now in
-    let facts = c.groups-groups.ensures.legal in
+    let facts = c.prove_groups.ensures.legal in
     let m = c.in-Some.above in
     let t = root_turn groups facts c.args.limited c.args.victim m c.loop-above.killed_root c.loop-above.above-iterator c.next.new.self c.loop-above.invariant
     c.in-Some.ensures.steps in
@@ -54,6 +54,6 @@ returns-then-eq c =
 
 pub returns : goal.returns
 returns c =
-    absurd (never_past c.args.tree.now c.groups-groups.ensures.legal c.args.limited c.args.victim c.loop-above.killed_root c.loop-above.above-iterator
+    absurd (never_past c.args.tree.now c.prove_groups.ensures.legal c.args.limited c.args.victim c.loop-above.killed_root c.loop-above.above-iterator
     c.loop-above.invariant
     c.in-None.ensures.steps.0 c.requires)

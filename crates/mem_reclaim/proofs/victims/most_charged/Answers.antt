@@ -5,7 +5,7 @@ use Rattle.mem_reclaim.proofs.victims.most_charged.Goals as goal
 
 pub returns : goal.returns
 returns g c =
-    let charges : AreCharges c.args.machine.now.ledger = subst (λ (l : Ledger). AreCharges l) c.charges.ensures c.tree-tree.ensures.legal in
+    let charges : AreCharges c.args.machine.now.ledger = subst (λ (l : Ledger). AreCharges l) c.charges.ensures c.prove_charges.ensures.legal in
     best_end c.args.machine.now charges.groups c.args.group c.args.excluded.now c.loop-number.number c.loop-number.best c.loop-number.most c.loop-number.invariant
     c.loop-number-test.false
 

@@ -5,7 +5,7 @@ use Rattle.mem_system.proofs.audit.take_audit.Goals as goal
 pub returns : goal.returns
 returns g c = λ none.
     let placed = each_is_placed c.args.machine.now.frame_states (λ f p is. none p f is) in
-    let sized = c.frame_states-frame_states.ensures.consistent.sizes.frame_states in
+    let sized = c.prove_consistent.ensures.sizes.frame_states in
     let size : c.frames-frames.result ≡ g.N.BootName.frames.frames = search rules in
     let charged = c.count_charged-charged.ensures.charged in
     record {

@@ -9,7 +9,7 @@ use Rattle.mem_system.proofs.owners.report_place.Goals as goal
 pub returns-in-Charged-clause-place : goal.returns-in-Charged-clause-place
 returns-in-Charged-clause-place g c =
     let inside : c.unwrap-frame.result < g.N.BootName.frames.frames = search rules in
-    let legal = subst AreCharges c.charges.ensures c.tree-groups.ensures.legal in
+    let legal = subst AreCharges c.charges.ensures c.prove_charges.ensures.legal in
     let there = keeper_there g.N.BootName.frames g.N.BootName.stocks c.args.machine.now c.unwrap-frame.result c.in-Charged.group
     c.in-Charged.ensures.consistent legal inside (sym c.in-Charged.ensures.place) in
     let same : c.unwrap-frame.result ≡ c.args.frame = search rules in (
@@ -20,7 +20,7 @@ returns-in-Charged-clause-place g c =
 pub returns-in-Charged-clause-groups : goal.returns-in-Charged-clause-groups
 returns-in-Charged-clause-groups g c =
     let inside : c.unwrap-frame.result < g.N.BootName.frames.frames = search rules in
-    let legal = subst AreCharges c.charges.ensures c.tree-groups.ensures.legal in
+    let legal = subst AreCharges c.charges.ensures c.prove_charges.ensures.legal in
     keeper_there g.N.BootName.frames g.N.BootName.stocks c.args.machine.now c.unwrap-frame.result c.in-Charged.group c.in-Charged.ensures.consistent legal
     inside (sym c.in-Charged.ensures.place)
 

@@ -5,7 +5,7 @@ use Rattle.mem_system.specs.Releases.{ReturnsFrames}
 use Rattle.mem_system.proofs.Listing.{returned_single, returned_block}
 use Rattle.mem_system.proofs.releases.release_frame.Goals.{then-is_single, else-is_single}
 use Rattle.mem_machine.specs.Machines.{KeepsVisit, KnownMachine}
-use Rattle.mem_machine.specs.Local.{visit_state}
+use Rattle.mem_machine.specs.Local.{visit_state, Makes}
 use Rattle.mem_system.proofs.releases.release_frame.Goals as goal
 
 pub returns-after-is_single-clause-released : goal.returns-after-is_single-clause-released
@@ -17,7 +17,7 @@ returns-after-is_single-clause-released g c =
     let f = c.in-Some.frame in
     let done = c.in-Returned.ensures in
     let told = c.is_single-is_single.ensures done.releases.unit done.releases.heads in
-    subst (λ (x : ℕ). BySteps t (ReturnsFrames sizes x) (visit_state m before) (visit_state c.if-is_single.machine c.if-is_single.cpu)) c.in-Some.ensures.found.same (elim c.if-is_single.branch [
+    subst (λ (x : ℕ). BySteps Makes t (ReturnsFrames sizes x) (visit_state m before) (visit_state c.if-is_single.machine c.if-is_single.cpu)) c.in-Some.ensures.found.same (elim c.if-is_single.branch [
       | then-is_single w ↦ rw (w.machine-is, w.cpu-is) (returned_single t sizes f m c.release.new.self w.list_frame.new.machine before
           w.list_frame.new.cpu done.releases (told.0 w.if-is_single.true) done.steps w.list_frame.ensures.lists)
       | else-is_single w ↦ rw (w.machine-is, w.cpu-is) (returned_block t sizes f m c.release.new.self before done.releases

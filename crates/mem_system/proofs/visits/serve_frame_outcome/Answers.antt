@@ -81,7 +81,7 @@ returns-clause-groups g c =
 pub returns-clause-lost : goal.returns-clause-lost
 returns-clause-lost g c =
     let stays = c.alloc_frame-answer.ensures.stays in
-    no_unit_is_lost g.N.BootName.frames g.N.BootName.stocks c.shut.new.self c.frame_states-frame_states.ensures.consistent
+    no_unit_is_lost g.N.BootName.frames g.N.BootName.stocks c.shut.new.self c.prove_consistent.ensures
     (command_shuts c.locked.inside.machine c.open.new.self c.settle.new.self c.alloc_frame-answer.new.machine c.shut.new.self c.args.cpu.now
     c.open.new.cpu c.settle.new.cpu c.alloc_frame-answer.new.cpu c.locked.invariant.quiet.shut
     (c.open.ensures.machine ∙ ap (λ (y : KnownMachine). with_watch (with_visit_of y c.args.cpu.now.number 1) c.open.new.self.watch) c.forget_notes.ensures)

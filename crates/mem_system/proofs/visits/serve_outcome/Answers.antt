@@ -64,7 +64,7 @@ returns g c =
         still = c.shut.ensures.still;
         lent = c.shut.ensures.lent;
       };
-      lost = no_unit_is_lost t g.N.BootName.stocks c.shut.new.self c.frame_states-frame_states.ensures.consistent
+      lost = no_unit_is_lost t g.N.BootName.stocks c.shut.new.self c.prove_consistent.ensures
           (command_shuts c.locked.inside.machine c.open.new.self c.settle.new.self x c.shut.new.self c.args.cpu.now c.open.new.cpu c.settle.new.cpu
           c.execute-outcome.new.cpu c.locked.invariant.quiet.shut opened c.open.ensures.cpu c.settle.ensures.others.number stays.number
           c.settle.ensures.settles stays.opened c.shut.ensures.machine);

@@ -15,7 +15,6 @@ returns-clause-answer g c path is =
     let frames = g.N.BootName.frames.frames in
     let there : CpuCommandInRange frames (length cpus) c.args.cpu (Alloc path 0) = record { low = c.requires.low; high = c.requires.high; names = tt } in
     command_said (boot_tables g.N.BootName.frames g.N.BootName.stocks) c.args.locked.now c.alloc_value_at_cpu.new.locked cpus c.args.cpu (Alloc path 0)
-    part c.alloc_value_at_cpu.new.cpu _ there
+    part c.alloc_value_at_cpu.new.cpu _ there tt
     (part_of cpus frames c.args.cpu (Alloc path 0) part there (ap (λ (d : KnownCpu). get_or cpus at d) c.index-cpus-at.is))
-    (c.alloc_value_at_cpu.ensures.answer path is) c.alloc_value_at_cpu.ensures.invariants c.alloc_value_at_cpu.ensures.tied
-    c.alloc_value_at_cpu.ensures.none_fresh
+    (c.alloc_value_at_cpu.ensures.answer path is) c.alloc_value_at_cpu.ensures.held

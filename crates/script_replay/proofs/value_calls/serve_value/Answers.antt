@@ -10,6 +10,6 @@ returns-clause-answer g c =
     let at = c.args.cpu - 1 in
     let part : KnownCpu = get_or cpus at c.index-cpus-at.result in
     command_said (boot_tables g.N.BootName.frames g.N.BootName.stocks) c.args.locked.now c.serve_value_at_cpu.new.locked cpus c.args.cpu c.args.command.now
-    part c.serve_value_at_cpu.new.cpu _ c.requires.there
+    part c.serve_value_at_cpu.new.cpu _ c.requires.there c.requires.has_value
     (part_of cpus _ c.args.cpu c.args.command.now part c.requires.there (ap (λ (d : KnownCpu). get_or cpus at d) c.index-cpus-at.is))
-    c.serve_value_at_cpu.ensures.answer c.serve_value_at_cpu.ensures.invariants c.serve_value_at_cpu.ensures.tied c.serve_value_at_cpu.ensures.none_fresh
+    c.serve_value_at_cpu.ensures.answer c.serve_value_at_cpu.ensures.held

@@ -1,74 +1,37 @@
-use Rattle.std.proofs.Common.{◌≡◌, ◌++◌, ◌∙◌, IfOk, Ok, ap, rules, subst}
-use Rattle.std.specs.declared.string.String.{String}
-use Rattle.std.specs.String.{string_bytes}
-use Rattle.group_tree.specs.declared.fault.Fault.TheVariants.{NoGroup}
+use Rattle.std.proofs.Common.{◌∙◌, Ok, ap, rules}
 use Rattle.group_tree.specs.Groups.{number_at}
-use Rattle.mem_system.specs.declared.command.Reply.TheVariants.{Refused}
-use Rattle.reply_texts.specs.LineAnswer.{Served}
-use Rattle.reply_texts.specs.Answers.{answer_text}
-use Rattle.script_replay.proofs.Looking.{failed_text, none_text, there_text}
+use Rattle.group_tree.specs.declared.fault.Fault.TheVariants.{NoGroup}
+use Rattle.reply_texts.specs.Replies.{refusal_text}
+use Rattle.script_lines.specs.declared.line.Command.TheVariants.{Units}
+use Rattle.script_replay.specs.Terms.{boot_tables}
+use Rattle.script_replay.specs.Visits.{VisitsCommand}
+use Rattle.script_replay.proofs.Looking.{units_failed, units_none, units_there}
+use Rattle.script_replay.proofs.Visiting.{units_visited}
 use Rattle.script_replay.proofs.visit_answers.visit_units.Goals as goal
 
 pub returns-in_err-is_there : goal.returns-in_err-is_there
 returns-in_err-is_there g c =
-    let told = c.units_into.ensures.text in
+    let on = boot_tables g.N.BootName.frames g.N.BootName.stocks in
     let seen = c.units_into in
-    let o = number_at told.settled.machine.ledger.groups c.args.path.now in
-    let refusal = answer_text (Served (Refused NoGroup)) in
-    let has = failed_text o refusal seen.result c.args.text.now seen.new.text told.settled.machine told.left.machine told.told
-    c.in_err-is_there.field-0.0 c.in_err-is_there.was in record {
-      text = has.0;
-      so = record {
-        found = told.found;
-        settled = told.settled;
-        left = told.left;
-        sound_before = told.sound_before;
-        settles = told.settles;
-        sound_after = told.sound_after;
-        told = has.1;
-      };
-      added = search rules;
-    }
+    let told = seen.ensures.text in
+    units_failed (refusal_text NoGroup) c.args.text.now seen.new.text seen.new.text told.settled.machine told.left.machine
+    (VisitsCommand on (Units c.args.path) c.args.cpu.now seen.new.cpu) c.from_residual.result (number_at told.settled.machine.ledger.groups c.args.path.now)
+    (units_visited on c.args.path c.args.cpu.now seen.new.cpu told) seen.result told.told c.in_err-is_there.field-0.0 c.in_err-is_there.was (λ text. search rules)
 
 pub returns-then-is_there : goal.returns-then-is_there
 returns-then-is_there g c =
-    let told = c.units_into.ensures.text in
+    let on = boot_tables g.N.BootName.frames g.N.BootName.stocks in
     let seen = c.units_into in
-    let o = number_at told.settled.machine.ledger.groups c.args.path.now in
-    let refusal = answer_text (Served (Refused NoGroup)) in
-    let has = there_text o refusal seen.result c.args.text.now seen.new.text told.settled.machine told.left.machine told.told
-    (c.in_ok-is_there.was ∙ ap Ok c.if-is_there.true) in record {
-      text = has.text;
-      so = record {
-        found = told.found;
-        settled = told.settled;
-        left = told.left;
-        sound_before = told.sound_before;
-        settles = told.settles;
-        sound_after = told.sound_after;
-        told = has.is;
-      };
-      added = has.added;
-    }
+    let told = seen.ensures.text in
+    units_there (refusal_text NoGroup) c.args.text.now seen.new.text seen.new.text told.settled.machine told.left.machine
+    (VisitsCommand on (Units c.args.path) c.args.cpu.now seen.new.cpu) (Ok tt) (number_at told.settled.machine.ledger.groups c.args.path.now)
+    (units_visited on c.args.path c.args.cpu.now seen.new.cpu told) seen.result told.told (c.in_ok-is_there.was ∙ ap Ok c.if-is_there.true)
 
 pub returns : goal.returns
 returns g c =
-    let told = c.units_into.ensures.text in
+    let on = boot_tables g.N.BootName.frames g.N.BootName.stocks in
     let seen = c.units_into in
-    let o = number_at told.settled.machine.ledger.groups c.args.path.now in
-    let refusal = answer_text (Served (Refused NoGroup)) in
-    let has = none_text o refusal seen.result c.args.text.now seen.new.text told.settled.machine told.left.machine told.told
-    (c.in_ok-is_there.was ∙ ap Ok c.if-is_there.false) in record {
-      text = refusal;
-      so = record {
-        found = told.found;
-        settled = told.settled;
-        left = told.left;
-        sound_before = told.sound_before;
-        settles = told.settles;
-        sound_after = told.sound_after;
-        told = has.0;
-      };
-      added = subst (λ (x : String _). IfOk c.write_refusal.result (λ _. string_bytes c.write_refusal.new.text ≡ string_bytes x ++ refusal)) has.1
-          c.write_refusal.ensures;
-    }
+    let told = seen.ensures.text in
+    units_none (refusal_text NoGroup) c.args.text.now seen.new.text c.write_refusal.new.text told.settled.machine told.left.machine
+    (VisitsCommand on (Units c.args.path) c.args.cpu.now seen.new.cpu) c.write_refusal.result (number_at told.settled.machine.ledger.groups c.args.path.now)
+    (units_visited on c.args.path c.args.cpu.now seen.new.cpu told) seen.result told.told (c.in_ok-is_there.was ∙ ap Ok c.if-is_there.false) c.write_refusal.ensures

@@ -10,20 +10,19 @@ loop-number-init g c = refl
 
 pub overflow_add-charged : goal.overflow_add-charged
 overflow_add-charged g c =
-    let few = c.frames-frames.type_inv in
-    let size : c.frames-frames.result ≡ g.N.BootName.frames.frames = search rules in
-    let counted = are_counted g.N.BootName.frames g.N.BootName.stocks _ _ c.self.view_is c.self.invariant.consistent c.tree-charges.ensures.legal in
+    let few = c.prove_sizes.ensures.frames in
+    let counted = are_counted g.N.BootName.frames g.N.BootName.stocks _ _ c.self.view_is c.self.invariant.consistent c.prove_charges.ensures.legal in
     let number : c.unwrap.result ≡ c.loop-number.number = search rules in
     let next = counted.next c.loop-number.number in
     let same = c.frames_of-charged.ensures ∙ ap (frames_charged c.args.self.now.frame_states) number in
     let below = c.loop-number-test.true in
     let within = counted.within (c.loop-number.number + 1) (omega arith) in
     let so_far = c.loop-number.invariant in
-    omega (arith, few, size, next, same, within, so_far)
+    omega (arith, few, next, same, within, so_far)
 
 pub loop-number-preserved : goal.loop-number-preserved
 loop-number-preserved g c =
-    let counted = are_counted g.N.BootName.frames g.N.BootName.stocks _ _ c.self.view_is c.self.invariant.consistent c.tree-charges.ensures.legal in
+    let counted = are_counted g.N.BootName.frames g.N.BootName.stocks _ _ c.self.view_is c.self.invariant.consistent c.prove_charges.ensures.legal in
     let number : c.unwrap.result ≡ c.loop-number.number = search rules in
     let next = counted.next c.loop-number.number in
     let same = c.frames_of-charged.ensures ∙ ap (frames_charged c.args.self.now.frame_states) number in
@@ -32,23 +31,22 @@ loop-number-preserved g c =
 
 pub overflow_cast-result : goal.overflow_cast-result
 overflow_cast-result g c =
-    let few = c.frames-frames.type_inv in
-    let size : c.frames-frames.result ≡ g.N.BootName.frames.frames = search rules in
-    let counted = are_counted g.N.BootName.frames g.N.BootName.stocks _ _ c.self.view_is c.self.invariant.consistent c.tree-charges.ensures.legal in
+    let few = c.prove_sizes.ensures.frames in
+    let counted = are_counted g.N.BootName.frames g.N.BootName.stocks _ _ c.self.view_is c.self.invariant.consistent c.prove_charges.ensures.legal in
     let end : c.loop-number.number ≡ 64 = omega (arith, c.loop-number.auto.number-end) in
     let within = counted.within c.loop-number.number (omega arith) in
     let so_far = c.loop-number.invariant in
-    omega (arith, few, size, within, so_far)
+    omega (arith, few, within, so_far)
 
 pub returns-clause-charged : goal.returns-clause-charged
 returns-clause-charged g c =
-    let counted = are_counted g.N.BootName.frames g.N.BootName.stocks _ _ c.self.view_is c.self.invariant.consistent c.tree-charges.ensures.legal in
+    let counted = are_counted g.N.BootName.frames g.N.BootName.stocks _ _ c.self.view_is c.self.invariant.consistent c.prove_charges.ensures.legal in
     let end : c.loop-number.number ≡ 64 = omega (arith, c.loop-number.auto.number-end) in
     c.loop-number.invariant ∙ ap (λ (k : ℕ). sum_to k (frames_charged c.args.self.now.frame_states)) end ∙ counted.all
 
 pub returns-clause-at_most : goal.returns-clause-at_most
 returns-clause-at_most g c =
-    let counted = are_counted g.N.BootName.frames g.N.BootName.stocks _ _ c.self.view_is c.self.invariant.consistent c.tree-charges.ensures.legal in
+    let counted = are_counted g.N.BootName.frames g.N.BootName.stocks _ _ c.self.view_is c.self.invariant.consistent c.prove_charges.ensures.legal in
     let end : c.loop-number.number ≡ 64 = omega (arith, c.loop-number.auto.number-end) in
     let within = counted.within c.loop-number.number (omega arith) in
     let so_far = c.loop-number.invariant in

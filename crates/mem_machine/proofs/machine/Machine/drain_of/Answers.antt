@@ -13,21 +13,21 @@ use Rattle.mem_machine.proofs.machine.Machine.drain_of.Goals as goal
 pub uncharge-requires-clause-there : goal.uncharge-requires-clause-there
 uncharge-requires-clause-there g c =
     let some : 1 ≤ c.drain-pages.result = search rules in
-    (drained_within g.N.BootName.frames g.N.BootName.stocks _ _ c.self.view_is c.self.invariant.consistent c.tree-tree.ensures.legal _ _
+    (drained_within g.N.BootName.frames g.N.BootName.stocks _ _ c.self.view_is c.self.invariant.consistent c.prove_charges.ensures.legal _ _
     c.requires.cpu.1 c.drain-pages.ensures.booked
     _ c.requires.group some _ refl).0
 
 pub uncharge-requires-clause-charged : goal.uncharge-requires-clause-charged
 uncharge-requires-clause-charged g c =
     let some : 1 ≤ c.drain-pages.result = search rules in
-    (drained_within g.N.BootName.frames g.N.BootName.stocks _ _ c.self.view_is c.self.invariant.consistent c.tree-tree.ensures.legal _ _
+    (drained_within g.N.BootName.frames g.N.BootName.stocks _ _ c.self.view_is c.self.invariant.consistent c.prove_charges.ensures.legal _ _
     c.requires.cpu.1 c.drain-pages.ensures.booked
     _ c.requires.group some _ refl).1
 
 pub invariant_of-self : goal.invariant_of-self
 invariant_of-self g c = record {
   consistent = consistent_still _ _ _ _ (drained_all g.N.BootName.frames g.N.BootName.stocks _ _ 2 _ _ c.self.view_is c.self.invariant.consistent
-      (λ some. c.tree-tree.ensures.legal) c.requires.cpu.0 c.requires.cpu.1
+      (λ some. c.prove_charges.ensures.legal) c.requires.cpu.0 c.requires.cpu.1
       c.drain-pages.ensures.booked c.drain-pages.ensures.drained_before (Some c.args.group) c.requires.group (some_not_none _ _) _ _
       c.uncharge.ensures.uncharged
       c.drain-pages.ensures.seat).consistent;
@@ -38,7 +38,7 @@ pub invariant_of-self-else-pages-gt0 : goal.invariant_of-self-else-pages-gt0
 invariant_of-self-else-pages-gt0 g c =
     let none : c.drain-pages.result ≡ 0 = search rules in record {
       consistent = consistent_still _ _ _ _ (drained_all g.N.BootName.frames g.N.BootName.stocks _ _ 2 _ _ c.self.view_is c.self.invariant.consistent
-          (λ some. c.tree-tree.ensures.legal) c.requires.cpu.0 c.requires.cpu.1
+          (λ some. c.prove_charges.ensures.legal) c.requires.cpu.0 c.requires.cpu.1
           c.drain-pages.ensures.booked c.drain-pages.ensures.drained_before (Some c.args.group) c.requires.group (some_not_none _ _) _ _
           (drained_none c.self.inside.charges (Some c.args.group) _ none) c.drain-pages.ensures.seat).consistent;
       free = c.self.invariant.free;
@@ -51,7 +51,7 @@ returns-then-pages-gt0-clause-steps g c =
     (sym (ungrants_some c.args.group c.drain-pages.result some))
     (watches_both _ _ _ _ _ c.drained.ensures c.ungranted.ensures) in
     let all = drained_all g.N.BootName.frames g.N.BootName.stocks _ _ 2 _ _ c.self.view_is c.self.invariant.consistent
-    (λ some. c.tree-tree.ensures.legal) c.requires.cpu.0 c.requires.cpu.1
+    (λ some. c.prove_charges.ensures.legal) c.requires.cpu.0 c.requires.cpu.1
     c.drain-pages.ensures.booked c.drain-pages.ensures.drained_before (Some c.args.group) c.requires.group (some_not_none _ _) _ _
     c.uncharge.ensures.uncharged c.drain-pages.ensures.seat in
     λ cpu. makes_watched _ _ _ _ c.self.view_is cpu cpu _ _ (all.steps cpu) _
@@ -61,7 +61,7 @@ pub returns-else-pages-gt0 : goal.returns-else-pages-gt0
 returns-else-pages-gt0 g c =
     let none : c.drain-pages.result ≡ 0 = search rules in
     let all = drained_all g.N.BootName.frames g.N.BootName.stocks _ _ 2 _ _ c.self.view_is c.self.invariant.consistent
-    (λ some. c.tree-tree.ensures.legal) c.requires.cpu.0 c.requires.cpu.1
+    (λ some. c.prove_charges.ensures.legal) c.requires.cpu.0 c.requires.cpu.1
     c.drain-pages.ensures.booked c.drain-pages.ensures.drained_before (Some c.args.group) c.requires.group (some_not_none _ _) _ _
     (drained_none c.self.inside.charges (Some c.args.group) _ none) c.drain-pages.ensures.seat in
     let took = subst (λ (r : Run). Watches c.self.inside.watch (zone_makes (DrainStock c.args.cpu) (Pages c.drain-pages.result) ∷ r) c.drained.new.self)

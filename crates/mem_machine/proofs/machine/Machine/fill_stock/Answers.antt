@@ -15,12 +15,12 @@ use Rattle.mem_machine.proofs.machine.Machine.fill_stock.Goals as goal
 
 pub fill-requires-clause-fits : goal.fill-requires-clause-fits
 fill-requires-clause-fits g c =
-    room_booked g.N.BootName.frames g.N.BootName.stocks _ _ c.self.view_is c.self.invariant.consistent c.tree-tree.ensures.legal c.args.group c.args.pages
+    room_booked g.N.BootName.frames g.N.BootName.stocks _ _ c.self.view_is c.self.invariant.consistent c.prove_charges.ensures.legal c.args.group c.args.pages
     c.requires.charges.there c.requires.charges.fits _ refl
 
 pub invariant_of-self-2 : goal.invariant_of-self-2
 invariant_of-self-2 g c = record {
-  consistent = consistent_still _ _ _ _ (filled_all g.N.BootName.frames g.N.BootName.stocks _ _ c.args.cpu.now c.args.group c.args.pages c.self.view_is c.self.invariant.consistent c.tree-tree.ensures.legal
+  consistent = consistent_still _ _ _ _ (filled_all g.N.BootName.frames g.N.BootName.stocks _ _ c.args.cpu.now c.args.group c.args.pages c.self.view_is c.self.invariant.consistent c.prove_charges.ensures.legal
       c.number-cpu_number.ensures.tied c.requires.visit c.requires.none_fresh c.requires.pages.1 c.requires.charges.there c.requires.charges.alive
       c.fill.ensures.nothing_booked (c.in_default.ensures.granted.0 refl)
       _ _ _ _ refl c.in_default.ensures.charged c.fill.ensures.seat c.fill.ensures.cpu).consistent;
@@ -29,7 +29,7 @@ invariant_of-self-2 g c = record {
 
 pub returns-clause-steps : goal.returns-clause-steps
 returns-clause-steps g c =
-    let all = filled_all g.N.BootName.frames g.N.BootName.stocks _ _ c.args.cpu.now c.args.group c.args.pages c.self.view_is c.self.invariant.consistent c.tree-tree.ensures.legal
+    let all = filled_all g.N.BootName.frames g.N.BootName.stocks _ _ c.args.cpu.now c.args.group c.args.pages c.self.view_is c.self.invariant.consistent c.prove_charges.ensures.legal
     c.number-cpu_number.ensures.tied c.requires.visit c.requires.none_fresh c.requires.pages.1 c.requires.charges.there c.requires.charges.alive
     c.fill.ensures.nothing_booked (c.in_default.ensures.granted.0 refl)
     _ _ _ _ refl c.in_default.ensures.charged c.fill.ensures.seat c.fill.ensures.cpu in
@@ -46,7 +46,7 @@ returns-in-Err-clause-refused g c =
     let same = (λ i. record (machine_of c.self.inside) { ledger = c.in-Err.ensures.unchanged i }) ∙ c.self.view_is in
     let refused = subst (λ (x : KnownMachine). LeadsAs t c.args.cpu.now.number (visit_state m c.args.cpu.now) (over_steps c.args.group c.args.pages over)
     (visit_state x c.args.cpu.now)) (sym same)
-    (refused_all t g.N.BootName.stocks _ _ c.self.view_is c.args.cpu.now c.args.group c.args.pages over c.self.invariant.consistent c.tree-tree.ensures.legal
+    (refused_all t g.N.BootName.stocks _ _ c.self.view_is c.args.cpu.now c.args.group c.args.pages over c.self.invariant.consistent c.prove_charges.ensures.legal
     c.number-cpu_number.ensures.tied c.requires.visit c.requires.none_fresh c.requires.charges.there c.requires.charges.alive low) in
     makes_watched _ _ _ _ c.self.view_is _ _ _ _ refused _ c.refused.ensures
 

@@ -5,7 +5,7 @@ use Rattle.mem_machine.proofs.machine.Machine.look_at_stock.Goals as goal
 
 pub returns-clause-stock : goal.returns-clause-stock
 returns-clause-stock g c =
-    own_is g.N.BootName.frames g.N.BootName.stocks _ _ c.self.view_is c.args.cpu.now c.look.result c.number-cpu_number.ensures.tied c.self.invariant.consistent
+    own_is g.N.BootName.frames g.N.BootName.stocks _ _ c.self.view_is c.args.cpu.now c.look.result c.prove_tied.ensures c.self.invariant.consistent
     c.look.ensures.balanced c.look.ensures.group c.look.ensures.held
 
 pub returns-clause-now : goal.returns-clause-now

@@ -12,7 +12,7 @@ returns-clause-steps g c =
     let inside : c.in_ok-group.group < length c.self.inside.killed.items = omega (arith, value, below, sized) in
     λ cpu. makes_watched _ _ _ _ c.self.view_is cpu cpu _ _
     (made_runs g.N.BootName.frames _ _ c.self.view_is _ _ c.in_ok-group.group c.args.path.now inside c.in_ok-group.ensures.refused
-    c.tree-tree.ensures.legal c.in_ok-group.ensures.least
+    c.prove_charges.ensures.legal c.in_ok-group.ensures.least
     c.in_ok-group.ensures.made (ap (λ (n : ℕ). slice_set c.self.inside.killed.items n false) value) cpu) _ c.group_made.ensures
 
 pub invariant_of-self : goal.invariant_of-self

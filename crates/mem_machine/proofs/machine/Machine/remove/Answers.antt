@@ -9,8 +9,8 @@ returns-clause-steps g c =
     makes_watched _ _ _ _ c.self.view_is _ _ _ _
     (removes g.N.BootName.frames _ _ c.self.view_is c.args.cpu.now _ refl c.args.group c.requires.there
     c.requires.leaf c.requires.below_root c.requires.empty
-    (usage_seen g.N.BootName.frames g.N.BootName.stocks _ _ c.self.view_is c.args.cpu.now c.self.invariant.consistent c.tree-tree.ensures.legal
-    c.requires.visit.lent c.number-cpu_number.ensures.tied (balanced_alone _ _ c.requires.none_fresh) c.args.group) _ c.remove.ensures.removed) _ c.zone_made.ensures
+    (usage_seen g.N.BootName.frames g.N.BootName.stocks _ _ c.self.view_is c.args.cpu.now c.self.invariant.consistent c.prove_charges.ensures.legal
+    c.requires.visit.lent c.prove_tied.ensures (balanced_alone _ _ c.requires.none_fresh) c.args.group) _ c.remove.ensures.removed) _ c.zone_made.ensures
 
 pub invariant_of-self : goal.invariant_of-self
 invariant_of-self g c = search rules

@@ -6,7 +6,7 @@ use Rattle.mem_machine.specs.Machines.{KnownMachine}
 use Rattle.mem_machine.specs.Local.{visit_state}
 use Rattle.mem_machine.specs.Steps.{over_steps, zone_makes}
 use Rattle.mem_machine.proofs.Prepaying.{refused_all}
-use Rattle.zone_buddy.specs.Zone.{BuddyZone}
+use Rattle.zone_blocks.specs.Zone.{BuddyZone}
 use Rattle.mem_machine.proofs.Usage.{usage_seen, balanced_alone}
 use Rattle.mem_machine.proofs.TakesBlocks.{taken_all, none_all, taken_inside, head_inside, head_free, free_in_hand}
 use Rattle.step_watch.specs.Watched.{Watches}
@@ -20,12 +20,12 @@ use Rattle.mem_machine.proofs.machine.Machine.take_block.Goals as goal
 pub returns-in_default-take : goal.returns-in_default-take
 returns-in_default-take g c =
     let all = none_all g.N.BootName.frames g.N.BootName.stocks _ _ c.self.view_is c.args.cpu.now _ refl
-    c.self.invariant.consistent c.tree-tree.ensures.legal c.args.group c.args.order _ c.frames-pages.ensures.frames
+    c.self.invariant.consistent c.prove_charges.ensures.legal c.args.group c.args.order _ c.frames-pages.ensures.frames
     (record {
       visit = c.requires.visit;
       none_back = c.requires.none_back;
-      usage = usage_seen g.N.BootName.frames g.N.BootName.stocks _ _ c.self.view_is c.args.cpu.now c.self.invariant.consistent c.tree-tree.ensures.legal
-          c.requires.visit.lent c.number-cpu_number.ensures.tied (balanced_alone _ _ c.requires.none_fresh);
+      usage = usage_seen g.N.BootName.frames g.N.BootName.stocks _ _ c.self.view_is c.args.cpu.now c.self.invariant.consistent c.prove_charges.ensures.legal
+          c.requires.visit.lent c.prove_tied.ensures (balanced_alone _ _ c.requires.none_fresh);
       there = c.requires.charges.there;
       alive = c.requires.charges.alive;
     }) (c.in_default.ensures.granted.0 refl) _ _ c.in_default.ensures.charged c.uncharge.ensures.uncharged _
@@ -65,12 +65,12 @@ invariant_of-self-2 g c =
     let fits : c.args.group < 64 = search rules in
     let j = c.join_list.ensures in
     let all = taken_all g.N.BootName.frames g.N.BootName.stocks _ _ c.self.view_is c.args.cpu.now _ refl
-    c.self.invariant.consistent c.tree-tree.ensures.legal c.args.group fits c.args.order _ c.frames-pages.ensures.frames
+    c.self.invariant.consistent c.prove_charges.ensures.legal c.args.group fits c.args.order _ c.frames-pages.ensures.frames
     (record {
       visit = c.requires.visit;
       none_back = c.requires.none_back;
-      usage = usage_seen g.N.BootName.frames g.N.BootName.stocks _ _ c.self.view_is c.args.cpu.now c.self.invariant.consistent c.tree-tree.ensures.legal
-          c.requires.visit.lent c.number-cpu_number.ensures.tied (balanced_alone _ _ c.requires.none_fresh);
+      usage = usage_seen g.N.BootName.frames g.N.BootName.stocks _ _ c.self.view_is c.args.cpu.now c.self.invariant.consistent c.prove_charges.ensures.legal
+          c.requires.visit.lent c.prove_tied.ensures (balanced_alone _ _ c.requires.none_fresh);
       there = c.requires.charges.there;
       alive = c.requires.charges.alive;
     }) (c.in_default.ensures.granted.0 refl) _ c.in_default.ensures.charged c.in_default.ensures.pages _ _ c.in-Some.block _ c.self.invariant.free
@@ -84,12 +84,12 @@ returns g c =
     let fits : c.args.group < 64 = search rules in
     let j = c.join_list.ensures in
     let all = taken_all g.N.BootName.frames g.N.BootName.stocks _ _ c.self.view_is c.args.cpu.now _ refl
-    c.self.invariant.consistent c.tree-tree.ensures.legal c.args.group fits c.args.order _ c.frames-pages.ensures.frames
+    c.self.invariant.consistent c.prove_charges.ensures.legal c.args.group fits c.args.order _ c.frames-pages.ensures.frames
     (record {
       visit = c.requires.visit;
       none_back = c.requires.none_back;
-      usage = usage_seen g.N.BootName.frames g.N.BootName.stocks _ _ c.self.view_is c.args.cpu.now c.self.invariant.consistent c.tree-tree.ensures.legal
-          c.requires.visit.lent c.number-cpu_number.ensures.tied (balanced_alone _ _ c.requires.none_fresh);
+      usage = usage_seen g.N.BootName.frames g.N.BootName.stocks _ _ c.self.view_is c.args.cpu.now c.self.invariant.consistent c.prove_charges.ensures.legal
+          c.requires.visit.lent c.prove_tied.ensures (balanced_alone _ _ c.requires.none_fresh);
       there = c.requires.charges.there;
       alive = c.requires.charges.alive;
     }) (c.in_default.ensures.granted.0 refl) _ c.in_default.ensures.charged c.in_default.ensures.pages _ _ c.in-Some.block _ c.self.invariant.free
@@ -125,8 +125,8 @@ returns-in-Err-clause-steps g c =
     let same = (λ i. record (machine_of c.self.inside) { ledger = c.in-Err.ensures.unchanged i }) ∙ c.self.view_is in
     let refused = subst (λ (x : KnownMachine). LeadsAs t c.args.cpu.now.number (visit_state m c.args.cpu.now) (over_steps c.args.group (2 ^ c.args.order) over)
     (visit_state x c.args.cpu.now)) (sym same)
-    (refused_all t g.N.BootName.stocks _ _ c.self.view_is c.args.cpu.now c.args.group (2 ^ c.args.order) over c.self.invariant.consistent c.tree-tree.ensures.legal
-    c.number-cpu_number.ensures.tied c.requires.visit c.requires.none_fresh c.requires.charges.there c.requires.charges.alive
+    (refused_all t g.N.BootName.stocks _ _ c.self.view_is c.args.cpu.now c.args.group (2 ^ c.args.order) over c.self.invariant.consistent c.prove_charges.ensures.legal
+    c.prove_tied.ensures c.requires.visit c.requires.none_fresh c.requires.charges.there c.requires.charges.alive
     (subst (λ (n : ℕ). IsLowestOver m.ledger.groups (current_of m.ledger) c.args.group n over) c.frames-pages.ensures.frames low)) in
     makes_watched _ _ _ _ c.self.view_is _ _ _ _ refused _
     (subst (λ (n : ℕ). Watches c.self.inside.watch (over_steps c.args.group n over) c.refused.new.self) c.frames-pages.ensures.frames c.refused.ensures)

@@ -1,0 +1,142 @@
+-- What contracts see of a seat's pasts, and how they grow.
+use Rattle.std.specs.Prelude.{◌≡◌, ◌≢◌, ℕ, ◌≤◌, Bool, true, false, List, [], ◌∷◌, MatchBool}
+use Rattle.atomic_table.specs.Seated.{TableId}
+use Rattle.frame_word.specs.declared.answers.Get.{Get}
+use Rattle.frame_word.specs.declared.answers.Get.TheVariants as gets
+use Rattle.frame_word.specs.declared.answers.Put.{Put}
+use Rattle.frame_word.specs.declared.answers.Put.TheVariants as puts
+use Rattle.frame_word.specs.Seats.{KnownTable}
+use Rattle.stock_word.specs.declared.view.StockView.{StockView}
+use Rattle.stock_word.specs.declared.words.Consume.{Consume}
+use Rattle.stock_word.specs.declared.words.Consume.TheVariants as consumes
+use Rattle.stock_word.specs.declared.words.Credit.{Credit}
+use Rattle.stock_word.specs.declared.words.Credit.TheVariants as credits
+use Rattle.stock_word.specs.Stock.{is_held}
+use Rattle.step_rules.specs.declared.step.Action.{Action}
+use Rattle.step_rules.specs.declared.step.Action.TheVariants.{Get as GetOf, Consume as ConsumeOf, Credit as CreditOf}
+use Rattle.step_rules.specs.declared.step.Answer.{Answer}
+use Rattle.step_rules.specs.declared.step.Answer.TheVariants.{Done, Drained, Full, Held, Last, Left, Missed, Stocked, Took, Zero}
+use Rattle.step_rules.specs.State.{State}
+use Rattle.step_rules.specs.Legal.{get_answer, is_legal}
+use Rattle.step_rules.specs.After.{after, state_of}
+use Rattle.boot_words.specs.declared.view.Past.{Past}
+use Rattle.boot_words.specs.declared.view.BootView.{BootView}
+use Rattle.boot_words.specs.declared.view.BootView.TheVariants.{OfFrames, OfStocks, OfRun}
+use Rattle.boot_words.specs.Seating.{no_past}
+use Rattle.boot_words.specs.Seats.{zone_of}
+use Rattle.boot_words.specs.Allowed.{GrewBy}
+use Rattle.boot_words.specs.Held.{HoldsLock, local_seen}
+
+-- a seat's pasts: its own, or the zone's and then that of the CPU that holds the lock, or none while the zone's has it
+pub record KnownPasts : Type 0 where
+  pub table : TableId
+  pub pasts : List Past
+
+-- the pasts alone
+abbrev pub pasts_in : List BootView → List Past
+pasts_in [] = []
+pasts_in (OfFrames v ∷ views) = pasts_in views
+pasts_in (OfStocks v ∷ views) = pasts_in views
+pasts_in (OfRun p ∷ views) = p ∷ pasts_in views
+
+-- the first past; without one, that of number 0 without steps
+abbrev pub first_past : List Past → Past
+first_past [] = no_past 0
+first_past (p ∷ pasts) = p
+
+-- the past of a seat that has one
+abbrev pub own_past : KnownPasts → Past
+own_past s = first_past s.pasts
+
+-- the seat has the past of one of this table's CPUs
+pub record IsCpuPast (t : KnownTable) (s : KnownPasts) : Type 0 where
+  pub table_is : s.table ≡ t.table
+  pub alone : s.pasts ≡ own_past s ∷ []
+  pub low : 1 ≤ (own_past s).number
+  pub high : (own_past s).number ≤ t.cpus
+
+-- the step is legal at the CPU's own last step
+abbrev pub MayDo : KnownTable → KnownPasts → Action → Type 0
+MayDo t s action = is_legal (state_of (zone_of t) (own_past s).seen) (own_past s).number action ≡ true
+
+-- the CPU has made the step, with this answer
+pub record Does (s : KnownPasts) (action : Action) (answer : Answer) (s' : KnownPasts) : Type 0 where
+  pub table_is : s'.table ≡ s.table
+  pub alone : s'.pasts ≡ own_past s' ∷ []
+  pub grew : GrewBy (own_past s) (record { seat = (own_past s).number; action = action }) answer (own_past s')
+
+-- the answer of the run's step
+abbrev pub put_said : Put → Answer
+put_said (puts.Left n) = Left n
+put_said puts.Last = Last
+
+abbrev pub get_said : Get → Answer
+get_said gets.Held = Held
+get_said gets.Zero = Zero
+get_said gets.Full = Full
+get_said (gets.Raced n) = Held
+
+-- the run after the load of a get that found this word: a word that refuses the get is that step
+abbrev pub LooksRun : KnownPasts → ℕ → ℕ → KnownPasts → Type 0
+LooksRun s f found s' = (get_answer found ≢ Held → Does s (GetOf f) (get_answer found) s') × (get_answer found ≡ Held → s' ≡ s)
+
+-- the run after the exchange of a get, from the word `seen`, that found this word
+abbrev pub AddsRun : KnownPasts → ℕ → ℕ → ℕ → KnownPasts → Type 0
+AddsRun s f seen found s' = (found ≡ seen → Does s (GetOf f) Held s') × (found ≢ seen → s' ≡ s)
+
+-- the run after a get: the step with its answer, but for a race, which is no step
+abbrev pub Gets : KnownPasts → ℕ → Get → KnownPasts → Type 0
+Gets s f (gets.Raced n) s' = s' ≡ s
+Gets s f answer s' = Does s (GetOf f) (get_said answer) s'
+
+-- The run after a consume for g by a CPU that knew v: the step with its answer, if the CPU made an exchange. That it did
+-- if the answer is Took, or Drained of a stock that it saw held last.
+abbrev pub ConsumesRun : KnownPasts → ℕ → StockView → Consume → KnownPasts → Type 0
+ConsumesRun s g v consumes.Took s' = Does s (ConsumeOf g) Took s'
+ConsumesRun s g v consumes.Empty s' = s' ≡ s
+ConsumesRun s g v consumes.OtherGroup s' = s' ≡ s
+ConsumesRun s g v consumes.Drained s' = MatchBool (is_held v.last) (Does s (ConsumeOf g) Drained s') (s' ≡ s)
+
+-- the run after a credit of frame f by a CPU that knew v
+abbrev pub CreditsRun : KnownPasts → ℕ → StockView → Credit → KnownPasts → Type 0
+CreditsRun s f v credits.Stocked s' = Does s (CreditOf f) Stocked s'
+CreditsRun s f v credits.Drained s' = MatchBool (is_held v.last) (Does s (CreditOf f) Drained s') (s' ≡ s)
+
+-- ---- under the lock
+
+-- the zone's past, and that of the CPU that holds the lock
+abbrev pub second_past : List Past → Past
+second_past [] = no_past 0
+second_past (p ∷ pasts) = first_past pasts
+
+abbrev pub cpu_past : KnownPasts → Past
+cpu_past s = second_past s.pasts
+
+-- what the lock's holder sees
+abbrev pub local_of : KnownTable → KnownPasts → State
+local_of t s = local_seen (zone_of t) (cpu_past s)
+
+-- the seat has the zone's past and that of the CPU that holds the lock
+pub record IsHeld (t : KnownTable) (s : KnownPasts) : Type 0 where
+  pub table_is : s.table ≡ t.table
+  pub both : s.pasts ≡ own_past s ∷ cpu_past s ∷ []
+  pub holds : HoldsLock (zone_of t) (own_past s) (cpu_past s) (local_of t s)
+
+-- the step is legal in what the lock's holder sees
+abbrev pub MayMake : KnownTable → KnownPasts → ℕ → Action → Type 0
+MayMake t s seat action = is_legal (local_of t s) seat action ≡ true
+
+-- the step was made under the lock, with this answer
+pub record Makes (t : KnownTable) (s : KnownPasts) (seat : ℕ) (action : Action) (answer : Answer) (s' : KnownPasts) : Type 0 where
+  pub zone_grew : GrewBy (own_past s) (record { seat = seat; action = action }) answer (own_past s')
+  pub cpu_grew : GrewBy (cpu_past s) (record { seat = seat; action = action }) answer (cpu_past s')
+  pub held : IsHeld t s'
+  pub local_is : local_of t s' ≡ after (local_of t s) seat action answer
+
+-- the seat is that of the CPU that holds the lock, by its number
+abbrev pub IsHolder : KnownPasts → ℕ → Type 0
+IsHolder s number = number ≡ (cpu_past s).number
+
+abbrev pub freeze_said : Bool → Answer
+freeze_said true = Done
+freeze_said false = Missed

@@ -1,0 +1,91 @@
+//! What always holds. A proof knows the invariant of a type only from the contract of a call. Each of these calls has
+//! such a contract, and does nothing.
+
+ghost use Rattle.std.specs.Prelude.{◌≡◌, ◌^◌, ◌<◌, ◌≤◌, IsTrue};
+ghost use Rattle.group_tree.specs.Bounds.{most_groups};
+ghost use Rattle.group_tree.specs.Groups.{AreGroups, has_group};
+ghost use Rattle.group_charge.specs.Charges.{AreCharges, current_of, total_pages};
+ghost use Rattle.cpu_part.specs.Cpus.{IsTied};
+ghost use Rattle.mem_machine.specs.Machines.{IsConsistent};
+
+use crate::machine::Machine;
+use cpu_part::{BootName, Cpu, Tables};
+use group_charge::charges::Charges;
+use group_tree::group::GroupId;
+use group_tree::tree::Tree;
+use zone_blocks::order::Order;
+
+/// Shows that there are at most 64 CPUs, and fewer than 2^32 frames.
+#[inline(always)]
+pub fn prove_sizes<N: BootName>(tables: &Tables<N>)
+    ensures frames { N.frames.frames < 2 ^ 32 }
+    ensures cpus { N.frames.cpus < 2 ^ 32 }
+    ensures few { N.stocks.cpus ≤ 64 }
+{
+    let _frames = tables.frames.frames();
+    let _cpus = tables.frames.cpus();
+    let _few = tables.stocks.cpus();
+}
+
+/// Shows that a group's number is below 64.
+#[inline(always)]
+pub fn prove_number(group: GroupId)
+    ensures { group < most_groups }
+{
+    let _number = group.number();
+}
+
+/// Shows that a block has at most 1,024 frames.
+#[inline(always)]
+pub fn prove_order(order: Order)
+    ensures { 2 ^ order ≤ 1024 }
+{
+    let _frames = order.frames();
+}
+
+/// Shows that the CPU's lists and pins are what its seats know.
+#[inline(always)]
+pub fn prove_tied<N: BootName>(cpu: &Cpu<N>)
+    ensures { IsTied N.frames N.stocks cpu.now }
+{
+    let _number = cpu.number();
+}
+
+/// Shows that the groups make up a tree.
+#[inline(always)]
+pub fn prove_groups(tree: &Tree)
+    ensures legal { AreGroups tree.now }
+    ensures root { IsTrue (has_group tree.now 0) }
+{
+    let _groups = tree.groups();
+}
+
+/// Shows that the charges are those of a tree, and that the root's are all of them.
+#[inline(always)]
+pub fn prove_charges(charges: &Charges)
+    ensures legal { AreCharges charges.now }
+    ensures root { IsTrue (has_group charges.now.groups 0) }
+    ensures total { current_of charges.now 0 ≡ total_pages charges.now.accounts }
+    ensures fits { current_of charges.now 0 < 2 ^ 32 }
+{
+    let _tree = charges.tree();
+}
+
+impl<N: BootName> Machine<N> {
+    /// Shows that the machine is consistent.
+    #[inline(always)]
+    pub fn prove_consistent(&self)
+        ensures { IsConsistent N.frames N.stocks self.now }
+    {
+        let _ = &self.frame_seat;
+    }
+
+    /// Shows that a group's usage is below 2^32 pages.
+    #[inline(always)]
+    pub fn prove_usage(&self, group: GroupId)
+        requires { IsTrue (has_group self.now.ledger.groups group) }
+        ensures { current_of self.now.ledger group < 2 ^ 32 }
+    {
+        let _usage = self.current(group);
+    }
+}

@@ -1,0 +1,161 @@
+-- How one command is served, and how its answer is written. Serves `server`, `writer`, `serve_at_cpu`.
+use Rattle.std.proofs.Common.{◌≡◌, ◌≢◌, ◌∙◌, ℕ, zero, Bool, true, false, ◌&&◌, Option, Some, None, List, [], ◌++◌, Result, Ok, Err, IfOk, append_assoc, append-nil, ap, refl, subst, sym}
+use Rattle.std.proofs.lemmas.Option.{none-some}
+use Rattle.std.specs.Borrow.{Bor}
+use Rattle.std.specs.declared.string.String.{String}
+use Rattle.std.specs.String.{string_bytes}
+use Rattle.group_charge.specs.Charges.{Ledger}
+use Rattle.cpu_part.specs.Cpus.{KnownCpu}
+use Rattle.mem_machine.specs.Machines.{KnownMachine}
+use Rattle.mem_system.specs.declared.command.Cmd.{Cmd}
+use Rattle.mem_system.specs.declared.command.Cmd.TheVariants as cmd
+use Rattle.mem_system.specs.declared.command.Reply.{Reply}
+use Rattle.mem_system.specs.declared.command.Reply.TheVariants.{Done}
+use Rattle.mem_system.specs.Locked.{KnownLocked}
+use Rattle.mem_system.specs.Visits.{LockedState, Transition, locked_state, transition}
+use Rattle.reply_texts.specs.LineAnswer.{LineAnswer}
+use Rattle.reply_texts.specs.LineAnswer as answer
+use Rattle.reply_texts.specs.Answers.{answer_text}
+use Rattle.reply_texts.specs.declared.steps.UnlockedAnswer.{UnlockedAnswer}
+use Rattle.script_lines.specs.declared.line.Command.{Command}
+use Rattle.script_lines.specs.declared.line.Command.TheVariants.{Alloc, Fast, Get, Put, Settle, Blocks, Show, Stock, Units}
+use Rattle.script_replay.specs.declared.answer_value.AnswerValue.{AnswerValue}
+use Rattle.script_replay.specs.declared.answer_value.AnswerValue.TheVariants as value
+use Rattle.script_replay.specs.Answers.{AddsText, AnswersAlone, AnswersCommand, AnswersUnlocked, IsAnswerText, IsSettledText, IsTriedInVain, NeedsLock}
+use Rattle.script_replay.specs.Answers.{OnlyWatched, ServesAnswer, ServesUnderLock, TakesNoLock, WritesAnswer, explanation_if, is_noted, steps_alone}
+use Rattle.script_replay.specs.Commands.{OnlySettles, cmd_of, frame_path, head_named, path_removed}
+use Rattle.script_replay.specs.Reasons.{borrower_of, fault_in, refusal_reason_text, reasoned_text}
+use Rattle.script_replay.specs.Terms.{Terms}
+use Rattle.script_replay.specs.ValueAnswers.{answer_of}
+
+-- ---- served
+
+unlocked_is : (command : Command) (call : Transition LockedState) (said : UnlockedAnswer) → AnswersAlone command call.before.cpu call.after.cpu said
+    → TakesNoLock (steps_alone call.before.cpu.number command said) call → AnswersUnlocked command call said
+unlocked_is (Alloc path order) call said is alone = absurd is
+unlocked_is command call said is alone = (is, alone)
+
+module _ (on : Terms) (command : Command) (l m : KnownLocked) (c d : KnownCpu) where
+  -- without the lock
+  pub unlocked_served : (cpu : ℕ) (said : UnlockedAnswer) → cpu ≡ c.number → AnswersAlone command c d said → OnlyWatched (steps_alone cpu command said) l m
+      → ServesAnswer on command (locked_state l c) (locked_state m d) (answer.Unlocked said)
+  unlocked_served cpu said is alone watched = record {
+    steps = steps_alone c.number command said;
+    answered = unlocked_is command (transition on.frames (locked_state l c) (steps_alone c.number command said) (locked_state m d)) said alone
+        (record { locked = subst (λ (n : ℕ). OnlyWatched (steps_alone n command said) l m) is watched; steps_are = refl });
+  }
+
+  -- under the lock, after it was tried in vain
+  pub lock_served : (cmd : Cmd) (seen : KnownCpu) (reply : Reply) → cmd_of command ≡ Some cmd → IsTriedInVain command (locked_state l c) seen
+      → ServesUnderLock on.frames on.is_explained cmd reply (locked_state l seen) (locked_state m d)
+      → ServesAnswer on command (locked_state l c) (locked_state m d) (answer.Served reply)
+  lock_served cmd seen reply named tried under = let is = under.served in record {
+    steps = under.steps;
+    answered = record {
+      cmd = cmd;
+      named = named;
+      seen = seen;
+      tried = tried;
+      served = record { found = is.found; left = is.left; lock = is.lock; served = is.served; unlock = is.unlock; steps_are = is.steps_are };
+    };
+  }
+
+  -- by settling the CPU alone
+  pub settle_served : OnlySettles command → ServesUnderLock on.frames false cmd.Settle Done (locked_state l c) (locked_state m d)
+      → ServesAnswer on command (locked_state l c) (locked_state m d) answer.Settled
+  settle_served settles under = record { steps = under.steps; answered = (settles, under.served) }
+
+-- a command that isn't one under the lock, and needs the lock, only settles its CPU
+pub only_settles : (command : Command) (c d : KnownCpu) → cmd_of command ≡ None → NeedsLock command c d → OnlySettles command × (d ≡ c)
+only_settles (Fast group) c d none is = absurd is
+only_settles (Get frame) c d none is = absurd is
+only_settles (Put frame) c d none is = absurd is
+only_settles Settle c d none is = (tt, is)
+only_settles Blocks c d none is = (tt, is)
+only_settles Show c d none is = (tt, is)
+only_settles Stock c d none is = (tt, is)
+only_settles (Units path) c d none is = (tt, is)
+only_settles command c d none is = absurd (none-some _ (sym none))
+
+-- an Alloc of a single frame, by its path
+pub frame_is : (command : Command) (path : Bor (List ℕ)) → frame_path command ≡ Some path → command ≡ Alloc path 0
+frame_is (Alloc path zero) found is = let same : path ≡ found = cc in ap (λ (p : Bor (List ℕ)). Alloc p 0) same
+frame_is command found is = absurd (none-some found is)
+
+-- what was tried of another command depends on nothing behind the lock
+pub vain_is : (command : Command) (l : KnownLocked) (c seen : KnownCpu) → frame_path command ≡ None → NeedsLock command c seen
+    → IsTriedInVain command (locked_state l c) seen
+vain_is (Alloc path zero) l c seen none is = absurd (none-some path (sym none))
+vain_is command l c seen none is = is
+
+-- of those that only settle, a Settle is the one that writes no text of any length
+pub is_settle : (command : Command) → OnlySettles command → command ≢ Blocks → command ≢ Show → command ≢ Stock → ((path : Bor (List ℕ)) → command ≢ Units path)
+    → command ≡ Settle
+is_settle Settle settles blocks show stock units = refl
+is_settle Blocks settles blocks show stock units = absurd (blocks refl)
+is_settle Show settles blocks show stock units = absurd (show refl)
+is_settle Stock settles blocks show stock units = absurd (stock refl)
+is_settle (Units path) settles blocks show stock units = absurd (units path refl)
+is_settle command settles blocks show stock units = absurd settles
+
+-- a command that was answered by settling only settles
+pub value_settles : (on : Terms) (command : Command) (before after : LockedState) (ledger : Ledger) (said : AnswerValue)
+    → ServesAnswer on command before after (answer_of ledger said) → said ≡ value.Settled → OnlySettles command
+value_settles on command before after ledger said serves is =
+    (subst (λ (v : AnswerValue). AnswersCommand on.is_explained command (transition on.frames before serves.steps after) (answer_of ledger v)) is serves.answered).0
+
+-- ---- written
+
+-- what is written of a value that isn't Settled
+pub value_text : (is_explained : Bool) (command : Command) (ledger : Ledger) (said : AnswerValue) (left : LockedState) → said ≢ value.Settled
+    → IsAnswerText is_explained command (answer_of ledger said)
+    (reasoned_text is_explained (answer_of ledger said) (borrower_of (head_named command) left.locked.machine)
+    ++ explanation_if (is_noted (answer_of ledger said) && is_explained) (path_removed command) left.locked.machine) left left.locked.machine
+value_text is_explained command ledger (value.Served outcome) left other = (refl, refl)
+value_text is_explained command ledger value.Settled left other = absurd (other refl)
+value_text is_explained command ledger (value.Unlocked said) left other = (refl, refl)
+
+-- what a command writes that only settled its CPU, by which command it is
+pub settled_written : {Z T E : Type 0} (is_explained : Bool) (command named : Command) (left after : LockedState) (r : Result T E) (old new : String Z)
+    (text : List ℕ) → command ≡ named → IsSettledText is_explained named text left after.locked.machine → after.locked.sizes ≡ left.locked.sizes
+    → after.cpu ≡ left.cpu → IfOk r (λ _. string_bytes new ≡ string_bytes old ++ text)
+    → AddsText r old new (WritesAnswer is_explained command answer.Settled left after)
+settled_written is_explained command named left after r old new text is told sizes cpu added = record {
+  text = text;
+  so = record {
+    told = subst (λ (x : Command). IsSettledText is_explained x text left after.locked.machine) (sym is) told;
+    sizes = sizes;
+    cpu = cpu;
+  };
+  added = added;
+}
+
+module _ (answer : LineAnswer) (lent : Option ℕ) (removed : List ℕ) (machine : KnownMachine) (before : List ℕ) where
+  -- without a reason and an explanation
+  pub plainly : (noted : Bool) (after : List ℕ) → after ≡ before ++ answer_text answer
+      → after ≡ before ++ (reasoned_text false answer lent ++ explanation_if (noted && false) removed machine)
+  plainly true after is = is ∙ ap (λ (l : List ℕ). before ++ l) (sym (append-nil (answer_text answer)))
+  plainly false after is = is ∙ ap (λ (l : List ℕ). before ++ l) (sym (append-nil (answer_text answer)))
+
+  -- with both
+  pub with_both : {T E : Type 0} (r : Result T E) (noted : Bool) (mid more after : List ℕ) → mid ≡ before ++ answer_text answer
+      → more ≡ mid ++ refusal_reason_text (fault_in answer) lent → IfOk r (λ _. after ≡ more ++ explanation_if noted removed machine)
+      → IfOk r (λ _. after ≡ before ++ (reasoned_text true answer lent ++ explanation_if (noted && true) removed machine))
+  with_both (Ok x) noted mid more after first second third =
+      let told = explanation_if noted removed machine in
+      let said = answer_text answer in
+      let why = refusal_reason_text (fault_in answer) lent in
+      third ∙ (ap (λ (l : List ℕ). l ++ told) (second ∙ ap (λ (l : List ℕ). l ++ why) first ∙ append_assoc before said why)
+      ∙ append_assoc before (said ++ why) told) ∙ all noted
+    where
+      all : (n : Bool) → before ++ ((answer_text answer ++ refusal_reason_text (fault_in answer) lent) ++ explanation_if n removed machine)
+          ≡ before ++ (reasoned_text true answer lent ++ explanation_if (n && true) removed machine)
+      all true = refl
+      all false = refl
+  with_both (Err e) noted mid more after first second third = tt
+
+-- a refusal without the lock has no explanation
+pub not_noted : {T E : Type 0} (r : Result T E) (before said after : List ℕ)
+    → IfOk r (λ _. after ≡ before ++ (said ++ [])) → IfOk r (λ _. after ≡ before ++ said)
+not_noted (Ok x) before said after is = is ∙ ap (λ (l : List ℕ). before ++ l) (append-nil said)
+not_noted (Err e) before said after is = tt

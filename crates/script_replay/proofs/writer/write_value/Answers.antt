@@ -1,0 +1,37 @@
+use Rattle.std.proofs.Common.{◌≡◌, ◌&&◌, ◌++◌, ◌∙◌, ap, Bool, false, true, IfOk, rules, subst, sym}
+use Rattle.std.specs.String.{string_bytes}
+use Rattle.group_charge.specs.Charges.{Ledger}
+use Rattle.reply_texts.specs.Answers.{answer_text}
+use Rattle.script_replay.specs.Answers.{explanation_if, is_noted}
+use Rattle.script_replay.specs.Commands.{head_named, path_removed}
+use Rattle.script_replay.specs.Reasons.{borrower_of, reasoned_text}
+use Rattle.script_replay.specs.ValueAnswers.{answer_of}
+use Rattle.script_replay.proofs.Serving.{plainly, with_both}
+use Rattle.script_replay.proofs.writer.write_value.Goals as goal
+
+pub returns-then-not-is_explained : goal.returns-then-not-is_explained
+returns-then-not-is_explained g c =
+    let machine = c.args.locked.now.machine in
+    let said = answer_of machine.ledger c.args.value.now in
+    let lent = borrower_of (head_named c.args.command.now) machine in
+    let removed = path_removed c.args.command.now in
+    let first : string_bytes c.write_plainly.new.text ≡ string_bytes c.args.text.now ++ answer_text said =
+    c.in_ok-write_plainly.ensures ∙ ap (λ (l : Ledger). string_bytes c.args.text.now ++ answer_text (answer_of l c.args.value.now)) c.charges.ensures in
+    let off : c.args.is_explained ≡ false = search rules in
+    subst (λ (b : Bool). string_bytes c.write_plainly.new.text
+    ≡ string_bytes c.args.text.now ++ (reasoned_text b said lent ++ explanation_if (is_noted said && b) removed machine)) (sym off)
+    (plainly said lent removed machine (string_bytes c.args.text.now) (is_noted said) (string_bytes c.write_plainly.new.text) first)
+
+pub returns : goal.returns
+returns g c =
+    let machine = c.args.locked.now.machine in
+    let said = answer_of machine.ledger c.args.value.now in
+    let lent = borrower_of (head_named c.args.command.now) machine in
+    let removed = path_removed c.args.command.now in
+    let first : string_bytes c.write_plainly.new.text ≡ string_bytes c.args.text.now ++ answer_text said =
+    c.in_ok-write_plainly.ensures ∙ ap (λ (l : Ledger). string_bytes c.args.text.now ++ answer_text (answer_of l c.args.value.now)) c.charges.ensures in
+    let on : c.args.is_explained ≡ true = search rules in
+    subst (λ (b : Bool). IfOk c.explain.result (λ _. string_bytes c.explain.new.text
+    ≡ string_bytes c.args.text.now ++ (reasoned_text b said lent ++ explanation_if (is_noted said && b) removed machine))) (sym on)
+    (with_both said lent removed machine (string_bytes c.args.text.now) c.explain.result (is_noted said) (string_bytes c.write_plainly.new.text)
+    (string_bytes c.write_reason.new.text) (string_bytes c.explain.new.text) first c.in_ok-write_reason.ensures c.explain.ensures)

@@ -1,0 +1,59 @@
+-- What a command of a script is under the lock, and what it names.
+use Rattle.std.specs.Prelude.{ℕ, zero, List, [], Option, Some, None}
+use Rattle.std.specs.Borrow.{Bor}
+use Rattle.mem_system.specs.declared.command.Cmd.{Cmd}
+use Rattle.mem_system.specs.declared.command.Cmd.TheVariants as cmd
+use Rattle.script_lines.specs.declared.line.Command.{Command}
+use Rattle.script_lines.specs.declared.line.Command.TheVariants.{Mkdir, Rmdir, Write, Read, Alloc, Release}
+use Rattle.script_lines.specs.declared.line.Command.TheVariants.{Touch, Dirty, Clean, Owner}
+use Rattle.script_lines.specs.declared.line.Command.TheVariants.{Settle, Blocks, Show, Stock, Units}
+
+-- The command of the machine that is served under the lock, and whose reply is the answer. An Alloc of a single frame
+-- and a Release are tried without the lock before. All others need no lock, or only settle their CPU.
+abbrev pub cmd_of : Command → Option Cmd
+cmd_of (Mkdir path) = Some (cmd.Mkdir path)
+cmd_of (Rmdir path) = Some (cmd.Rmdir path)
+cmd_of (Write path file value) = Some (cmd.Write path file value)
+cmd_of (Read path file) = Some (cmd.Read path file)
+cmd_of (Alloc path order) = Some (cmd.Alloc path order)
+cmd_of (Release frame) = Some (cmd.Release frame)
+cmd_of (Touch frame) = Some (cmd.Touch frame)
+cmd_of (Dirty frame) = Some (cmd.Dirty frame)
+cmd_of (Clean frame) = Some (cmd.Clean frame)
+cmd_of (Owner frame) = Some (cmd.Owner frame)
+cmd_of other = None
+
+-- the path of the group, if the command allocates a single frame
+abbrev pub frame_path : Command → Option (Bor (List ℕ))
+frame_path (Alloc path zero) = Some path
+frame_path other = None
+
+-- the command settles its CPU, and does nothing else
+abbrev pub OnlySettles : Command → Type 0
+OnlySettles Settle = Unit {0}
+OnlySettles Blocks = Unit {0}
+OnlySettles Show = Unit {0}
+OnlySettles Stock = Unit {0}
+OnlySettles (Units path) = Unit {0}
+OnlySettles other = ⊥
+
+-- the answer is a value: it has no text of any length
+abbrev pub HasValueAnswer : Command → Type 0
+HasValueAnswer Blocks = ⊥
+HasValueAnswer Show = ⊥
+HasValueAnswer Stock = ⊥
+HasValueAnswer (Units path) = ⊥
+HasValueAnswer other = Unit {0}
+
+-- the frame that has to be the head of a kept unit for the command, if there is one
+abbrev pub head_named : Command → Option ℕ
+head_named (Release frame) = Some frame
+head_named (Touch frame) = Some frame
+head_named (Dirty frame) = Some frame
+head_named (Clean frame) = Some frame
+head_named other = None
+
+-- the path of the group that the command removes, if it is to remove one
+abbrev pub path_removed : Command → List ℕ
+path_removed (Rmdir path) = path.now
+path_removed other = []

@@ -1,0 +1,61 @@
+//! What a command of a script is under the lock, and what it names.
+
+ghost use Rattle.std.specs.Prelude.{◌≡◌};
+ghost use Rattle.script_replay.specs.Commands.{cmd_of, frame_path, head_named, path_removed};
+
+use mem_system::Cmd;
+use script_lines::line::Command;
+
+// The command of the machine that is served under the lock. None if the command needs no lock, or only settles its CPU.
+// It is inlined, so that a caller that names the command builds nothing for it.
+#[inline(always)]
+pub(crate) fn cmd_of<'a>(command: &Command<'a>) -> Option<Cmd<'a>>
+    ensures { result ≡ cmd_of command.now }
+{
+    match *command {
+        Command::Mkdir { path } => Some(Cmd::Mkdir { path }),
+        Command::Rmdir { path } => Some(Cmd::Rmdir { path }),
+        Command::Write { path, file, value } => Some(Cmd::Write { path, file, value }),
+        Command::Read { path, file } => Some(Cmd::Read { path, file }),
+        Command::Alloc { path, order } => Some(Cmd::Alloc { path, order }),
+        Command::Release { frame } => Some(Cmd::Release { frame }),
+        Command::Touch { frame } => Some(Cmd::Touch { frame }),
+        Command::Dirty { frame } => Some(Cmd::Dirty { frame }),
+        Command::Clean { frame } => Some(Cmd::Clean { frame }),
+        Command::Owner { frame } => Some(Cmd::Owner { frame }),
+        _ => None,
+    }
+}
+
+// The path of the group, if the command allocates a single frame.
+#[inline(always)]
+pub(crate) fn frame_path<'a>(command: &Command<'a>) -> Option<&'a [u8]>
+    ensures { result ≡ frame_path command.now }
+{
+    match *command {
+        Command::Alloc { path, order: 0 } => Some(path),
+        Command::Alloc { path: _, order: _ } => None,
+        _ => None,
+    }
+}
+
+// The frame that has to be the head of a kept unit for the command, if there is one.
+pub(crate) fn head_named(command: &Command<'_>) -> Option<u32>
+    ensures { result ≡ head_named command.now }
+{
+    match *command {
+        Command::Release { frame } | Command::Touch { frame } => Some(frame),
+        Command::Dirty { frame } | Command::Clean { frame } => Some(frame),
+        _ => None,
+    }
+}
+
+// The path of the group that the command removes, if it is to remove one.
+pub(crate) fn path_removed<'a>(command: &Command<'a>) -> &'a [u8]
+    ensures { result.now ≡ path_removed command.now }
+{
+    match *command {
+        Command::Rmdir { path } => path,
+        _ => &[],
+    }
+}

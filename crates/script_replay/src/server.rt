@@ -1,0 +1,123 @@
+//! Serving one command of a CPU, by value of what lies behind the lock. The answer is a value.
+
+ghost use Rattle.std.specs.Prelude.{◌≡◌, IsTrue, List, None, Some, ℕ};
+ghost use Rattle.std.specs.Borrow.{Bor};
+ghost use Rattle.group_tree.specs.Groups.{has_group, number_at};
+ghost use Rattle.mem_system.specs.Visits.{locked_state};
+ghost use Rattle.script_lines.specs.declared.line.Command.TheVariants.{Alloc};
+ghost use Rattle.script_replay.specs.Answers.{ServesAnswer};
+ghost use Rattle.script_replay.specs.Commands.{frame_path};
+ghost use Rattle.script_replay.specs.Ranges.{CommandInRange};
+ghost use Rattle.script_replay.specs.Terms.{terms};
+ghost use Rattle.script_replay.specs.ValueAnswers.{NamesItsGroups, answer_of};
+
+use crate::answer_value::AnswerValue;
+use crate::commands::{cmd_of, frame_path};
+use crate::locked_calls::{serve_frame_under_lock, serve_under_lock, settle_under_lock};
+use crate::unlocked_calls::{try_unlocked, watch_unlocked};
+use cpu_part::{BootName, Cpu, Fast, Tables};
+use group_tree::fault::Fault;
+use group_tree::group::GroupId;
+use mem_system::Locked;
+use reply_texts::UnlockedAnswer;
+use script_lines::line::Command;
+
+// Serves a command.
+#[inline(always)]
+pub(crate) fn serve_command<N: BootName>(
+    locked: &mut Locked<N>,
+    tables: &Tables<N>,
+    cpu: &mut Cpu<N>,
+    command: &Command<'_>,
+    is_explained: bool,
+) -> AnswerValue
+    requires in_range { CommandInRange N.frames.frames command.now }
+    ensures answer { ServesAnswer (terms N.frames N.stocks is_explained) command.now
+        (locked_state locked.old cpu.old) (locked_state locked.new cpu.new)
+        (answer_of locked.new.machine.ledger result) }
+    ensures groups { NamesItsGroups locked.new.machine.ledger result }
+{
+    match frame_path(command) {
+        Some(path) => serve_frame(locked, tables, cpu, path, is_explained),
+        None => serve_other(locked, tables, cpu, command, is_explained),
+    }
+}
+
+// Serves another command than an Alloc of a single frame. It is tried without the lock first.
+#[inline(always)]
+#[tactic(auto, using(crate::proofs::InRange::cmd_in_zone))]
+fn serve_other<N: BootName>(
+    locked: &mut Locked<N>,
+    tables: &Tables<N>,
+    cpu: &mut Cpu<N>,
+    command: &Command<'_>,
+    is_explained: bool,
+) -> AnswerValue
+    requires in_range { CommandInRange N.frames.frames command.now }
+    requires other { frame_path command.now ≡ None }
+    ensures answer { ServesAnswer (terms N.frames N.stocks is_explained) command.now
+        (locked_state locked.old cpu.old) (locked_state locked.new cpu.new)
+        (answer_of locked.new.machine.ledger result) }
+    ensures groups { NamesItsGroups locked.new.machine.ledger result }
+{
+    let cpu_number = cpu.number();
+    if let Some(said) = try_unlocked(tables, cpu, command) {
+        watch_unlocked(locked, cpu_number, command, &said);
+        return AnswerValue::Unlocked(said);
+    }
+    match cmd_of(command) {
+        Some(cmd) => AnswerValue::Served(serve_under_lock(locked, tables, cpu, &cmd, is_explained)),
+        None => {
+            settle_under_lock(locked, tables, cpu);
+            AnswerValue::Settled
+        }
+    }
+}
+
+// Takes a single frame for the group of this path.
+fn serve_frame<N: BootName>(
+    locked: &mut Locked<N>,
+    tables: &Tables<N>,
+    cpu: &mut Cpu<N>,
+    path: &[u8],
+    is_explained: bool,
+) -> AnswerValue
+    ensures answer { ServesAnswer (terms N.frames N.stocks is_explained) (Alloc path.entry 0)
+        (locked_state locked.old cpu.old) (locked_state locked.new cpu.new)
+        (answer_of locked.new.machine.ledger result) }
+    ensures groups { NamesItsGroups locked.new.machine.ledger result }
+{
+    let Some(group) = locked.find(path) else {
+        return AnswerValue::Unlocked(UnlockedAnswer::Refused(Fault::NoGroup));
+    };
+    serve_frame_of(locked, tables, cpu, group, is_explained)
+}
+
+// Takes a single frame for an existing group, if possible without the lock. It looks up no path.
+pub(crate) fn serve_frame_of<N: BootName>(
+    locked: &mut Locked<N>,
+    tables: &Tables<N>,
+    cpu: &mut Cpu<N>,
+    group: GroupId,
+    is_explained: bool,
+) -> AnswerValue
+    requires there { IsTrue (has_group locked.old.machine.ledger.groups group) }
+    ensures answer { (path : Bor (List ℕ)) → number_at locked.old.machine.ledger.groups path.now ≡ Some group
+        → ServesAnswer (terms N.frames N.stocks is_explained) (Alloc path 0)
+        (locked_state locked.old cpu.old) (locked_state locked.new cpu.new)
+        (answer_of locked.new.machine.ledger result) }
+    ensures groups { NamesItsGroups locked.new.machine.ledger result }
+{
+    let cpu_number = cpu.number();
+    let fast = Command::Fast {
+        group: group.number(),
+    };
+    match cpu.alloc_fast(tables, group.number()) {
+        Fast::Got(frame) => {
+            let said = UnlockedAnswer::Fast(Fast::Got(frame));
+            watch_unlocked(locked, cpu_number, &fast, &said);
+            AnswerValue::Unlocked(said)
+        }
+        _ => AnswerValue::Served(serve_frame_under_lock(locked, tables, cpu, group, is_explained)),
+    }
+}

@@ -1,0 +1,165 @@
+//! The text of a command's answer, written from what the command left.
+
+ghost use Rattle.std.specs.Prelude.{◌≡◌, ◌++◌, ◌&&◌, IfOk};
+ghost use Rattle.std.specs.String.{string_bytes};
+ghost use Rattle.cpu_part.specs.Cpus.{KnownCpu};
+ghost use Rattle.mem_system.specs.Visits.{locked_state};
+ghost use Rattle.reply_texts.specs.Answers.{answer_text};
+ghost use Rattle.reply_texts.specs.LineAnswer as answer;
+ghost use Rattle.script_lines.specs.declared.line.Command.TheVariants.{Units};
+ghost use Rattle.script_replay.specs.declared.answer_value.AnswerValue.TheVariants.{Settled};
+ghost use Rattle.script_replay.specs.Answers.{AddsText, WritesAnswer, explanation_if, is_noted};
+ghost use Rattle.script_replay.specs.Commands.{OnlySettles, head_named, path_removed};
+ghost use Rattle.script_replay.specs.Ranges.{CommandInRange};
+ghost use Rattle.script_replay.specs.Reasons.{borrower_of, reasoned_text};
+ghost use Rattle.script_replay.specs.ValueAnswers.{NamesItsGroups, answer_of};
+
+use crate::answer_value::AnswerValue;
+use crate::commands::path_removed;
+use crate::reasons::write_reason;
+use cpu_part::{BootName, Cpu, Tables};
+use group_charge::charges::Charges;
+use group_tree::fault::Fault;
+use machine_texts::{write_blocks, write_explanation, write_show};
+use mem_system::{Locked, write_own_stock, write_units_at};
+use reply_texts::{UnlockedAnswer, write_outcome, write_settled, write_unlocked};
+use script_lines::line::Command;
+use std::alloc::AllocError;
+
+// Adds the text of a command's answer. If `is_explained` is true, a refusal is followed by its reason, and what was
+// drained, reclaimed and killed for the command comes last.
+pub(crate) fn write_answer<N: BootName>(
+    locked: &mut Locked<N>,
+    tables: &Tables<N>,
+    cpu: &mut Cpu<N>,
+    command: &Command<'_>,
+    value: &AnswerValue,
+    is_explained: bool,
+    text: &mut String,
+) -> Result<(), AllocError>
+    requires in_range { CommandInRange N.frames.frames command.now }
+    requires groups { NamesItsGroups locked.old.machine.ledger value.now }
+    requires settles { value.now ≡ Settled → OnlySettles command.now }
+    ensures written { AddsText result text.old text.new
+        (WritesAnswer is_explained command.now (answer_of locked.old.machine.ledger value.now)
+        (locked_state locked.old cpu.old) (locked_state locked.new cpu.new)) }
+{
+    match value {
+        AnswerValue::Settled => write_settled_cpu(locked, tables, cpu, command, is_explained, text),
+        _ => write_value(locked, tables, command, value, is_explained, text),
+    }
+}
+
+// Adds what a command writes that only settled its CPU.
+fn write_settled_cpu<N: BootName>(
+    locked: &mut Locked<N>,
+    tables: &Tables<N>,
+    cpu: &mut Cpu<N>,
+    command: &Command<'_>,
+    is_explained: bool,
+    text: &mut String,
+) -> Result<(), AllocError>
+    requires settles { OnlySettles command.now }
+    ensures written { AddsText result text.old text.new (WritesAnswer is_explained command.now answer.Settled
+        (locked_state locked.old cpu.old) (locked_state locked.new cpu.new)) }
+{
+    match *command {
+        Command::Blocks => write_blocks(locked.machine(), text),
+        Command::Show => write_show(locked.machine(), text),
+        Command::Stock => write_own_stock(locked, tables, cpu, text),
+        Command::Units { path } => write_units_or_refusal(locked, tables, path, is_explained, text),
+        _ => write_settled(text),
+    }
+}
+
+// Adds the kept units of the group of this path, or the refusal if no group has it.
+fn write_units_or_refusal<N: BootName>(
+    locked: &mut Locked<N>,
+    tables: &Tables<N>,
+    path: &[u8],
+    is_explained: bool,
+    text: &mut String,
+) -> Result<(), AllocError>
+    ensures written { (part : KnownCpu) → AddsText result text.old text.new
+        (WritesAnswer is_explained (Units path.entry) answer.Settled
+        (locked_state locked.old part) (locked_state locked.new part)) }
+{
+    let is_there = write_units_at(locked, tables, path, text)?;
+    if is_there {
+        return Ok(());
+    }
+    let refused = AnswerValue::Unlocked(UnlockedAnswer::Refused(Fault::NoGroup));
+    write_value(
+        locked,
+        tables,
+        &Command::Units { path },
+        &refused,
+        is_explained,
+        text,
+    )
+}
+
+// Adds the text of an answer, with its reason and its explanation.
+fn write_value<N: BootName>(
+    locked: &Locked<N>,
+    tables: &Tables<N>,
+    command: &Command<'_>,
+    value: &AnswerValue,
+    is_explained: bool,
+    text: &mut String,
+) -> Result<(), AllocError>
+    requires in_range { CommandInRange N.frames.frames command.now }
+    requires groups { NamesItsGroups locked.now.machine.ledger value.now }
+    ensures { IfOk result (λ _. string_bytes text.new ≡ string_bytes text.old
+        ++ (reasoned_text is_explained (answer_of locked.now.machine.ledger value.now)
+        (borrower_of (head_named command.now) locked.now.machine)
+        ++ explanation_if (is_noted (answer_of locked.now.machine.ledger value.now) && is_explained)
+        (path_removed command.now) locked.now.machine)) }
+{
+    write_plainly(locked.charges(), value, text)?;
+    if !is_explained {
+        return Ok(());
+    }
+    write_reason(locked, tables, command, value, text)?;
+    explain(locked, command, value, text)
+}
+
+// Adds the text of an answer alone.
+fn write_plainly(
+    charges: &Charges,
+    value: &AnswerValue,
+    text: &mut String,
+) -> Result<(), AllocError>
+    requires { NamesItsGroups charges.now value.now }
+    ensures { IfOk result (λ _.
+        string_bytes text.new ≡ string_bytes text.old ++ answer_text (answer_of charges.now value.now)) }
+{
+    match value {
+        AnswerValue::Served(outcome) => write_outcome(charges, outcome, text),
+        AnswerValue::Settled => write_settled(text),
+        AnswerValue::Unlocked(said) => write_unlocked(said, text),
+    }
+}
+
+// Adds what a command that was served under the lock drained, reclaimed and killed.
+fn explain<N: BootName>(
+    locked: &Locked<N>,
+    command: &Command<'_>,
+    value: &AnswerValue,
+    text: &mut String,
+) -> Result<(), AllocError>
+    ensures { IfOk result (λ _. string_bytes text.new ≡ string_bytes text.old
+        ++ explanation_if (is_noted (answer_of locked.now.machine.ledger value.now))
+        (path_removed command.now) locked.now.machine) }
+{
+    match value {
+        AnswerValue::Served(_) => {
+            let machine = locked.machine();
+            let (notes, left_out) = (machine.notes(), machine.notes_left_out());
+            let tree = machine.charges().tree();
+            write_explanation(tree, path_removed(command), notes, left_out, text)
+        }
+        AnswerValue::Settled => Ok(()),
+        AnswerValue::Unlocked(_) => Ok(()),
+    }
+}
