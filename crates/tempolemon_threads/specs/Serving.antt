@@ -1,5 +1,5 @@
 -- What each request does to what a handle leads to.
-use Rattle.std.specs.Prelude.{◌≡◌, Option, None, Some, IsSome}
+use Rattle.std.specs.Prelude.{◌≡◌, Option, None, Some}
 use Rattle.frame_word.specs.Seats.{KnownTable}
 use Rattle.stock_word.specs.Stock.{KnownStockTable}
 use Rattle.zone_threads.specs.Homes.{EndsZone, GetsCpu, HasCpu, HasNoCpu, IfNotEntered, KnownHome}
