@@ -24,7 +24,7 @@ use Rattle.boot_words.specs.Rule.{boot_rule, frame_base}
 use Rattle.boot_words.specs.Allowed.{put_answer_at}
 use Rattle.boot_words.specs.Held.{AreViewsOf, HoldsLock, MadeUnderLock, StoresUnderLock, freeze_answer, joined, local_seen}
 use Rattle.boot_words.specs.Seats.{MayStep, index_of}
-use Rattle.boot_words.specs.Sitting.{frame_view, second_frame_view}
+use Rattle.boot_words.specs.Sitting.{frame_view, second_view_of_frames}
 use Rattle.boot_words.specs.Pasts.{pasts_in, second_past}
 use Rattle.boot_words.proofs.Told.{may_step, none_carried, past_at}
 use Rattle.boot_words.proofs.Freezing.{freeze_is_allowed, held_put_is_allowed}
@@ -122,7 +122,7 @@ module _ (zone : Zone) where
   -- a store of this kind, which is this step of this seat
   abbrev pub stores_told : (FrameView → FrameView → ℕ → ℕ → FrameView → FrameView → Type 0) → List BootView → ℕ → ℕ → Step → ℕ → List BootView → Type 0
   stores_told kind before at word made_step stored = held_told OfFrames zone before made_step Done
-      (by_two kind (step 0 at word 0 none) (frame_view before ∷ second_frame_view before ∷ [], []) word)
+      (by_two kind (step 0 at word 0 none) (frame_view before ∷ second_view_of_frames before ∷ [], []) word)
 
   -- the law, of what the code has in place of its numbers
   may_store : (kind : FrameView → FrameView → ℕ → ℕ → FrameView → FrameView → Type 0) (before : List BootView) (place : Word) (at word : ℕ) (z c : Past) (m v : FrameView)
@@ -144,29 +144,29 @@ module _ (zone : Zone) where
   pub may_take_in : (before : List BootView) (f : ℕ) (z c : Past) (m v : FrameView) → before ≡ joined OfFrames z c (m ∷ v ∷ []) → HoldsLock zone z c (local_seen zone c)
       → AreViewsOf zone c m.number v.number → f < zone.frames → hand_overs_begun m v f ≡ hand_overs_ended m v f + 1 → (note_of m f).lent ≡ v.number
       → is_legal (local_seen zone c) v.number (TakeIn f) ≡ true
-      → MayStep zone before (OfFrame f) (λ n. 0) (λ found. stores_told takes_in before f 0 (record { seat = (second_frame_view before).number; action = TakeIn f }) 0)
+      → MayStep zone before (OfFrame f) (λ n. 0) (λ found. stores_told takes_in before f 0 (record { seat = (second_view_of_frames before).number; action = TakeIn f }) 0)
   may_take_in before f z c m v is holds are inside passes lent legal =
       subst (λ (y : ℕ). MayStep zone before (OfFrame f) (λ n. 0) (λ found. stores_told takes_in before f 0 (record { seat = y; action = TakeIn f }) 0))
-      (sym are.cpu_is ∙ sym (ap (λ l. (second_frame_view l).number) is))
+      (sym are.cpu_is ∙ sym (ap (λ l. (second_view_of_frames l).number) is))
       (may_store takes_in before (OfFrame f) f 0 z c m v (record { seat = c.number; action = TakeIn f }) is
       (λ id. take_in_is_allowed zone 0 id f z c (local_seen zone c) m v holds (by_holder c v.number (λ q. TakeIn f) are.cpu_is legal) inside are passes lent) refl)
 
   pub may_pass_back : (before : List BootView) (f word : ℕ) (z c : Past) (m v : FrameView) → before ≡ joined OfFrames z c (m ∷ v ∷ []) → word ≡ mark v.number
       → HoldsLock zone z c (local_seen zone c) → AreViewsOf zone c m.number v.number → f < zone.frames → slice_index m.opened v.number ≡ 1 → in_hands (note_of v f) ≡ 1
       → is_legal (local_seen zone c) v.number (PassBack f) ≡ true
-      → MayStep zone before (OfFrame f) (λ n. word) (λ found. stores_told stores_pass_back before f word (record { seat = (second_frame_view before).number; action = PassBack f }) word)
+      → MayStep zone before (OfFrame f) (λ n. word) (λ found. stores_told stores_pass_back before f word (record { seat = (second_view_of_frames before).number; action = PassBack f }) word)
   may_pass_back before f word z c m v is stored holds are inside visiting hand legal =
       subst (λ (y : ℕ × ℕ). MayStep zone before (OfFrame f) (λ n. y.1) (λ found. stores_told stores_pass_back before f y.1 (record { seat = y.0; action = PassBack f }) y.1))
-      (λ i. ((sym are.cpu_is ∙ sym (ap (λ l. (second_frame_view l).number) is)) i, (ap mark (sym are.cpu_is) ∙ sym stored) i))
+      (λ i. ((sym are.cpu_is ∙ sym (ap (λ l. (second_view_of_frames l).number) is)) i, (ap mark (sym are.cpu_is) ∙ sym stored) i))
       (may_store stores_pass_back before (OfFrame f) f (mark c.number) z c m v (record { seat = c.number; action = PassBack f }) is
       (λ id. pass_back_is_allowed zone 0 id f z c (local_seen zone c) m v holds (by_holder c v.number (λ q. PassBack f) are.cpu_is legal) inside are visiting hand) refl)
 
   pub may_collect : (before : List BootView) (f : ℕ) (z c : Past) (m v : FrameView) → before ≡ joined OfFrames z c (m ∷ v ∷ []) → HoldsLock zone z c (local_seen zone c)
       → AreViewsOf zone c m.number v.number → f < zone.frames → hand_overs_begun m v f ≡ hand_overs_ended m v f + 1 → is_legal (local_seen zone c) 0 (Collect f v.number) ≡ true
-      → MayStep zone before (OfFrame f) (λ n. 0) (λ found. stores_told collects before f 0 (record { seat = 0; action = Collect f (second_frame_view before).number }) 0)
+      → MayStep zone before (OfFrame f) (λ n. 0) (λ found. stores_told collects before f 0 (record { seat = 0; action = Collect f (second_view_of_frames before).number }) 0)
   may_collect before f z c m v is holds are inside passes legal =
       subst (λ (y : ℕ). MayStep zone before (OfFrame f) (λ n. 0) (λ found. stores_told collects before f 0 (record { seat = 0; action = Collect f y }) 0))
-      (sym are.cpu_is ∙ sym (ap (λ l. (second_frame_view l).number) is))
+      (sym are.cpu_is ∙ sym (ap (λ l. (second_view_of_frames l).number) is))
       (may_store collects before (OfFrame f) f 0 z c m v (record { seat = 0; action = Collect f c.number }) is
       (λ id. collect_is_allowed zone 0 id f z c (local_seen zone c) m v holds (subst (λ (q : ℕ). is_legal (local_seen zone c) 0 (Collect f q) ≡ true) are.cpu_is legal) inside are passes) refl)
 

@@ -2,13 +2,13 @@
 use Rattle.std.proofs.Common.{◌≡◌, ℕ, ◌<◌, List, [], ◌∷◌, refl, arith, inl, inr}
 use Rattle.boot_words.specs.declared.view.BootView.{BootView}
 use Rattle.boot_words.specs.Seating.{Deals, word_count}
-use Rattle.boot_words.specs.Seats.{but_first, but_last, first_alone, last_alone}
+use Rattle.boot_words.specs.Seats.{rest_of_views, but_last, first_view_alone, last_alone}
 
 pub deals_none : (views : List BootView) → Deals views views []
 deals_none [] = (refl, refl)
 deals_none (v ∷ views) = inl (views, refl, deals_none views)
 
-pub deals_first : (views : List BootView) → Deals views (but_first views) (first_alone views)
+pub deals_first : (views : List BootView) → Deals views (rest_of_views views) (first_view_alone views)
 deals_first [] = (refl, refl)
 deals_first (v ∷ views) = inr ([], refl, deals_none views)
 

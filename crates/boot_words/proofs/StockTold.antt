@@ -26,7 +26,7 @@ use Rattle.boot_words.specs.Held.{AreViewsOf, HoldsLock, local_seen}
 use Rattle.boot_words.specs.StockHeld.{pages_said}
 use Rattle.boot_words.specs.Looks.{Looks, LooksToDrain}
 use Rattle.boot_words.specs.Seats.{MayStep}
-use Rattle.boot_words.specs.Sitting.{second_stock_view, stock_view}
+use Rattle.boot_words.specs.Sitting.{second_view_of_stocks, stock_view}
 use Rattle.boot_words.proofs.Banking.{absorb_is_allowed, drain_is_allowed, fill_is_allowed}
 use Rattle.boot_words.proofs.HeldTold.{held_told, holder_at, may_held, with_kind}
 use Rattle.boot_words.proofs.Looking.{joined_look_is_allowed, look_to_drain_is_allowed, stock_look_is_allowed}
@@ -63,8 +63,8 @@ may_credit zone before cpu f g n v p is at ne same high last fresh legal =
 
 -- ---- loads that are no steps of the run
 abbrev pub sees_stock_told : List BootView → ℕ → List BootView → Type 0
-sees_stock_told before found views = Looks OfStocks (Unit {0}) [] (Joined seeing_stock_step (step 0 (stock_index (second_stock_view before).number) 0 0 none)
-    (stock_view before ∷ second_stock_view before ∷ [], []) found) (views, [])
+sees_stock_told before found views = Looks OfStocks (Unit {0}) [] (Joined seeing_stock_step (step 0 (stock_index (second_view_of_stocks before).number) 0 0 none)
+    (stock_view before ∷ second_view_of_stocks before ∷ [], []) found) (views, [])
 
 pub may_see_stock : (zone : Zone) (before : List BootView) (cpu : ℕ) (m v : StockView) → before ≡ OfStocks m ∷ OfStocks v ∷ [] → cpu ≡ v.number → m.number ≡ 0
     → 1 ≤ v.number → v.number ≤ zone.cpus → MayStep zone before (StockOf cpu) (λ n. n) (sees_stock_told before)
@@ -199,15 +199,15 @@ may_absorb zone before cpu z c m is holds zone_is low high legal =
 module _ (zone : Zone) (before : List BootView) (q : ℕ) where
   abbrev pub reports_told : ℕ → ℕ → List BootView → Type 0
   reports_told n found = held_told OfStocks zone before (record { seat = q; action = Report n }) Done
-      (Joined reporting_step (step 0 (report_index q) n 0 none) (stock_view before ∷ second_stock_view before ∷ [], []) found)
+      (Joined reporting_step (step 0 (report_index q) n 0 none) (stock_view before ∷ second_view_of_stocks before ∷ [], []) found)
 
   abbrev pub takes_held_told : ℕ → ℕ → List BootView → Type 0
   takes_held_told g found = held_told OfStocks zone before (record { seat = q; action = Consume g }) Took
-      (Joined consuming_held_step (step 0 (stock_index q) 1 0 none) (stock_view before ∷ second_stock_view before ∷ [], []) found)
+      (Joined consuming_held_step (step 0 (stock_index q) 1 0 none) (stock_view before ∷ second_view_of_stocks before ∷ [], []) found)
 
   abbrev pub fills_told : ℕ → ℕ → ℕ → List BootView → Type 0
   fills_told g n stored = held_told OfStocks zone before (record { seat = 0; action = Fill q g n }) Done
-      (λ x. (y : StockView) × (w : StockView) × (x ≡ (y ∷ w ∷ [], [])) × FillsWord g n (stock_index q) (word_of (HeldBy g n)) (stock_view before) (second_stock_view before) y w)
+      (λ x. (y : StockView) × (w : StockView) × (x ≡ (y ∷ w ∷ [], [])) × FillsWord g n (stock_index q) (word_of (HeldBy g n)) (stock_view before) (second_view_of_stocks before) y w)
 
 module _ (zone : Zone) (before : List BootView) (q : ℕ) (z c : Past) (m v : StockView) (is : before ≡ OfRun z ∷ OfRun c ∷ OfStocks m ∷ OfStocks v ∷ []) (at : q ≡ c.number)
     (holds : HoldsLock zone z c (local_seen zone c)) (are : AreViewsOf zone c m.number v.number) where

@@ -13,16 +13,16 @@ use Rattle.boot_words.specs.Rule.{boot_rule, frame_base}
 use Rattle.boot_words.specs.Seating.{word_count}
 
 -- the zone of a table
-abbrev pub zone_of : KnownTable → Zone
-zone_of t = record { frames = t.frames; cpus = t.cpus }
+abbrev pub zone_of_boot : KnownTable → Zone
+zone_of_boot t = record { frames = t.frames; cpus = t.cpus }
 
 -- a raw seat: its table, and its views
-pub record KnownRawSeat : Type 0 where
+pub record KnownBootSeat : Type 0 where
   pub table : TableId
   pub views : List BootView
 
 -- the table has all words of these frames and CPUs, and no slot; its rule counts them; there is a frame and a CPU
-pub record IsLaidOut (table : TableId) (rule_frames rule_cpus frames cpus : ℕ) : Type 0 where
+pub record HasBootLayout (table : TableId) (rule_frames rule_cpus frames cpus : ℕ) : Type 0 where
   pub words_are : table.words ≡ word_count (record { frames = frames; cpus = cpus })
   pub slots_are : table.slots ≡ 0
   pub frames_are : rule_frames ≡ frames
@@ -69,13 +69,13 @@ MayStep zone views word change told = (id : ℕ) → Allows {S = Unit {0}} (boot
 
 -- ---- lists of views
 
-abbrev pub but_first : List BootView → List BootView
-but_first [] = []
-but_first (v ∷ views) = views
+abbrev pub rest_of_views : List BootView → List BootView
+rest_of_views [] = []
+rest_of_views (v ∷ views) = views
 
-abbrev pub first_alone : List BootView → List BootView
-first_alone [] = []
-first_alone (v ∷ views) = v ∷ []
+abbrev pub first_view_alone : List BootView → List BootView
+first_view_alone [] = []
+first_view_alone (v ∷ views) = v ∷ []
 
 abbrev pub but_last : List BootView → List BootView
 but_last [] = []

@@ -16,16 +16,16 @@ abbrev pub frame_view : List BootView → FrameView
 frame_view views = frames.first_frame_view (frames_in views)
 
 -- the second view of the frames of joined seats
-abbrev pub second_frame_view : List BootView → FrameView
-second_frame_view views = frames.second_frame_view (frames_in views)
+abbrev pub second_view_of_frames : List BootView → FrameView
+second_view_of_frames views = frames.second_frame_view (frames_in views)
 
 -- the view of the stocks of a seat that has one
 abbrev pub stock_view : List BootView → StockView
 stock_view views = stocks.first_stock_view (stocks_in views)
 
 -- the second view of the stocks of joined seats
-abbrev pub second_stock_view : List BootView → StockView
-second_stock_view views = stocks.second_stock_view (stocks_in views)
+abbrev pub second_view_of_stocks : List BootView → StockView
+second_view_of_stocks views = stocks.second_stock_view (stocks_in views)
 
 -- the seat has only a view of the frames, which has its number
 pub record SitsAtFrames (views : List BootView) (number : ℕ) : Type 0 where

@@ -7,7 +7,7 @@ ghost use Rattle.frame_word.specs.Seats.{HasNothingOf, IsBorrowed, IsCpuSeat, Is
 ghost use Rattle.frame_word.specs.Seats.{IsOpen, IsShut, IsZoneSeat, LentIsBorrowed, NothingPasses, Passes};
 ghost use Rattle.step_rules.specs.declared.step.Action.TheVariants as step;
 ghost use Rattle.step_rules.specs.declared.step.Answer.TheVariants.{Done};
-ghost use Rattle.boot_words.specs.Pasts.{IsHeld, IsHolder, Makes, MayMake};
+ghost use Rattle.boot_words.specs.Pasts.{IsHeld, IsHolder, MakesStep, MayMake};
 
 use crate::raw::BootWords;
 use crate::seat::{FrameSeat, PastSeat};
@@ -36,7 +36,7 @@ impl BootWords {
         ensures cpu { cpu.new ≡ seat_with cpu.old frame took_in }
         ensures zone { zone.new ≡ zone.old }
         ensures nothing { HasNothingOf zone.old frame × HasNothingOf cpu.old frame }
-        ensures run { Makes self.now held.old (seat_number cpu.old) (step.TakeIn frame) Done held.new }
+        ensures run { MakesStep self.now held.old (seat_number cpu.old) (step.TakeIn frame) Done held.new }
     {
         self.join(&mut held.raw, &mut zone.raw);
         self.join(&mut held.raw, &mut cpu.raw);
@@ -69,7 +69,7 @@ impl BootWords {
         ensures no_reference { seat_references cpu.old frame ≡ 0 }
         ensures own { IsInOwnHand cpu.old frame → IsLentToNone zone.old frame }
         ensures borrowed { IsBorrowed cpu.old frame → IsLent zone.old frame (seat_number cpu.old) }
-        ensures run { Makes self.now held.old (seat_number cpu.old) (step.PassBack frame) Done held.new }
+        ensures run { MakesStep self.now held.old (seat_number cpu.old) (step.PassBack frame) Done held.new }
     {
         let mark = MARK_BASE + u64::from(cpu.number);
         self.join(&mut held.raw, &mut zone.raw);
@@ -99,7 +99,7 @@ impl BootWords {
         ensures cpu { cpu.new ≡ cpu.old }
         ensures nothing { HasNothingOf zone.old frame × HasNothingOf cpu.old frame }
         ensures lent { IsLentToNone zone.old frame ⊎ IsLent zone.old frame (seat_number cpu.old) }
-        ensures run { Makes self.now held.old 0 (step.Collect frame (seat_number cpu.old)) Done held.new }
+        ensures run { MakesStep self.now held.old 0 (step.Collect frame (seat_number cpu.old)) Done held.new }
     {
         self.join(&mut held.raw, &mut zone.raw);
         self.join(&mut held.raw, &mut cpu.raw);
@@ -122,7 +122,7 @@ impl BootWords {
         ensures nothing_passes { NothingPasses self.now zone.new cpu.new }
         ensures lent_is_borrowed { LentIsBorrowed self.now zone.new cpu.new }
         ensures hands_apart { HandsAreApart self.now zone.new cpu.new }
-        ensures run { Makes self.now held.old 0 (step.OpenVisit (seat_number cpu.old)) Done held.new }
+        ensures run { MakesStep self.now held.old 0 (step.OpenVisit (seat_number cpu.old)) Done held.new }
     {
         let word = Word::VisitOf(cpu.number);
         self.join(&mut held.raw, &mut zone.raw);
@@ -147,7 +147,7 @@ impl BootWords {
         ensures nothing_passes { NothingPasses self.now zone.new cpu.new }
         ensures lent_is_borrowed { LentIsBorrowed self.now zone.new cpu.new }
         ensures hands_apart { HandsAreApart self.now zone.new cpu.new }
-        ensures run { Makes self.now held.old 0 (step.ShutVisit (seat_number cpu.old)) Done held.new }
+        ensures run { MakesStep self.now held.old 0 (step.ShutVisit (seat_number cpu.old)) Done held.new }
     {
         let word = Word::VisitOf(cpu.number);
         self.join(&mut held.raw, &mut zone.raw);

@@ -4,8 +4,9 @@ ghost use Rattle.std.specs.Prelude.{◌≡◌, ◌≤◌, ◌+◌, ◌-◌, ◌%
 ghost use Rattle.std.specs.Mem.Slots.{slots_items, slots_len, IsFull};
 ghost use prog.Atomic.{either};
 ghost use Rattle.boot_words.specs.Rule.{boot_rule};
-ghost use Rattle.boot_words.specs.Seating.{all_views, word_count, IsFinalTable};
-ghost use Rattle.boot_words.specs.Seats.{zone_of, index_of, HasPlace, MayStep, but_first, first_alone, but_last};
+ghost use Rattle.boot_words.specs.Seating.{all_views, word_count, IsEndOf};
+ghost use Rattle.boot_words.specs.Seats.{zone_of_boot, index_of, HasPlace, MayStep, rest_of_views, first_view_alone};
+ghost use Rattle.boot_words.specs.Seats.{but_last};
 ghost use Rattle.boot_words.specs.Seats.{last_alone};
 
 use crate::view::BootView;
@@ -59,9 +60,9 @@ impl<M: Telling> Play<(), Views> for Tells<M> {
 struct First;
 
 impl Split<Views> for First {
-    ghost left = { but_first };
+    ghost left = { rest_of_views };
 
-    ghost right = { first_alone };
+    ghost right = { first_view_alone };
 }
 
 // The last view goes to a seat of its own.
@@ -105,11 +106,11 @@ impl Model for BootWords {
 
     ghost Value = { KnownTable };
 
-    ghost use Rattle.boot_words.specs.Seats.{IsLaidOut};
+    ghost use Rattle.boot_words.specs.Seats.{HasBootLayout};
 
     ghost view = { λ w. record { table = w.table.shared.table_id; frames = w.frames; cpus = w.cpus } };
 
-    ghost invariant = { λ w. IsLaidOut w.table.shared.table_id w.table.shared.key.frames w.table.shared.key.cpus w.frames
+    ghost invariant = { λ w. HasBootLayout w.table.shared.table_id w.table.shared.key.frames w.table.shared.key.cpus w.frames
         w.cpus };
 }
 
@@ -121,9 +122,9 @@ pub(crate) struct RawSeat {
 
 impl Model for RawSeat {
     ghost use Rattle.std.specs.Prelude.{◌≡◌, []};
-    ghost use Rattle.boot_words.specs.Seats.{KnownRawSeat};
+    ghost use Rattle.boot_words.specs.Seats.{KnownBootSeat};
 
-    ghost Value = { KnownRawSeat };
+    ghost Value = { KnownBootSeat };
 
     ghost view = { λ raw. record { table = raw.seat.table_id; views = raw.seat.me.0 } };
 
@@ -148,8 +149,8 @@ impl BootWords {
 
     // The place of a word in the table. A CPU's row has sixteen words, so that no two CPUs' share a cache line.
     fn index(&self, word: Word) -> usize
-        requires { HasPlace (zone_of self.now) word }
-        ensures { result ≡ index_of (zone_of self.now) word }
+        requires { HasPlace (zone_of_boot self.now) word }
+        ensures { result ≡ index_of (zone_of_boot self.now) word }
     {
         let base = 16 * (self.cpus as usize + 1);
         match word {
@@ -164,8 +165,8 @@ impl BootWords {
     /// Reads a word.
     pub(crate) fn load<M: Telling>(&self, raw: &mut RawSeat, word: Word) -> u64
         requires table { raw.old.table ≡ self.now.table }
-        requires place { HasPlace (zone_of self.now) word }
-        requires may { MayStep (zone_of self.now) raw.old.views word (λ n. n) M.told }
+        requires place { HasPlace (zone_of_boot self.now) word }
+        requires may { MayStep (zone_of_boot self.now) raw.old.views word (λ n. n) M.told }
         ensures table { raw.new.table ≡ raw.old.table }
         ensures told { M.told result raw.new.views }
     {
@@ -176,8 +177,8 @@ impl BootWords {
     /// Stores a word.
     pub(crate) fn store<M: Telling>(&self, raw: &mut RawSeat, word: Word, new: u64)
         requires table { raw.old.table ≡ self.now.table }
-        requires place { HasPlace (zone_of self.now) word }
-        requires may { MayStep (zone_of self.now) raw.old.views word (λ n. new) (λ found. M.told new) }
+        requires place { HasPlace (zone_of_boot self.now) word }
+        requires may { MayStep (zone_of_boot self.now) raw.old.views word (λ n. new) (λ found. M.told new) }
         ensures table { raw.new.table ≡ raw.old.table }
         ensures told { M.told new raw.new.views }
     {
@@ -188,8 +189,8 @@ impl BootWords {
     /// Stores a word and returns what it was.
     pub(crate) fn swap<M: Telling>(&self, raw: &mut RawSeat, word: Word, new: u64) -> u64
         requires table { raw.old.table ≡ self.now.table }
-        requires place { HasPlace (zone_of self.now) word }
-        requires may { MayStep (zone_of self.now) raw.old.views word (λ n. new) M.told }
+        requires place { HasPlace (zone_of_boot self.now) word }
+        requires may { MayStep (zone_of_boot self.now) raw.old.views word (λ n. new) M.told }
         ensures table { raw.new.table ≡ raw.old.table }
         ensures told { M.told result raw.new.views }
     {
@@ -206,8 +207,8 @@ impl BootWords {
         new: u64,
     ) -> u64
         requires table { raw.old.table ≡ self.now.table }
-        requires place { HasPlace (zone_of self.now) word }
-        requires may { MayStep (zone_of self.now) raw.old.views word (λ n. either (n == old) new n) M.told }
+        requires place { HasPlace (zone_of_boot self.now) word }
+        requires may { MayStep (zone_of_boot self.now) raw.old.views word (λ n. either (n == old) new n) M.told }
         ensures table { raw.new.table ≡ raw.old.table }
         ensures told { M.told result raw.new.views }
     {
@@ -220,8 +221,8 @@ impl BootWords {
     /// Adds to a word and returns what it was.
     pub(crate) fn add<M: Telling>(&self, raw: &mut RawSeat, word: Word, more: u32) -> u64
         requires table { raw.old.table ≡ self.now.table }
-        requires place { HasPlace (zone_of self.now) word }
-        requires may { MayStep (zone_of self.now) raw.old.views word (λ n. (n + more) % 2 ^ 64) M.told }
+        requires place { HasPlace (zone_of_boot self.now) word }
+        requires may { MayStep (zone_of_boot self.now) raw.old.views word (λ n. (n + more) % 2 ^ 64) M.told }
         ensures table { raw.new.table ≡ raw.old.table }
         ensures told { M.told result raw.new.views }
     {
@@ -234,8 +235,8 @@ impl BootWords {
     /// Takes one off a word and returns what it was.
     pub(crate) fn take_one<M: Telling>(&self, raw: &mut RawSeat, word: Word) -> u64
         requires table { raw.old.table ≡ self.now.table }
-        requires place { HasPlace (zone_of self.now) word }
-        requires may { MayStep (zone_of self.now) raw.old.views word (λ n. (n + (2 ^ 64 - 1)) % 2 ^ 64) M.told }
+        requires place { HasPlace (zone_of_boot self.now) word }
+        requires may { MayStep (zone_of_boot self.now) raw.old.views word (λ n. (n + (2 ^ 64 - 1)) % 2 ^ 64) M.told }
         ensures table { raw.new.table ≡ raw.old.table }
         ensures told { M.told result raw.new.views }
     {
@@ -261,8 +262,8 @@ impl BootWords {
     /// The seat's first view, in a seat of its own.
     pub(crate) fn split_first(&self, raw: &mut RawSeat) -> RawSeat
         requires table { raw.old.table ≡ self.now.table }
-        ensures rest { raw.new ≡ record { table = self.now.table; views = but_first raw.old.views } }
-        ensures first { result ≡ record { table = self.now.table; views = first_alone raw.old.views } }
+        ensures rest { raw.new ≡ record { table = self.now.table; views = rest_of_views raw.old.views } }
+        ensures first { result ≡ record { table = self.now.table; views = first_view_alone raw.old.views } }
     {
         RawSeat {
             seat: self.table.shared.split_seat::<First>(&mut raw.seat),
@@ -302,5 +303,21 @@ impl BootWords {
             cpus,
         };
         Ok((words, RawSeat { seat }))
+    }
+
+    /// Ends the table. The rule holds of its words, and `raw` is one of its seats.
+    pub(crate) fn end(self, raw: RawSeat) -> Closed<(), Global>
+        requires { raw.table ≡ self.table }
+        ensures counts { (slots_len result.words ≡ word_count (zone_of_boot self)) × (slots_len result.slots ≡ 0) }
+        ensures full { IsFull result.words }
+        ensures end { IsEndOf (zone_of_boot self) (slots_items result.words) (slots_items result.slots) raw.views }
+    {
+        let BootWords {
+            table,
+            frames: _,
+            cpus: _,
+        } = self;
+        let RawSeat { seat } = raw;
+        table.close_with(seat)
     }
 }

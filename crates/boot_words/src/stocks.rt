@@ -9,7 +9,7 @@ ghost use Rattle.stock_word.specs.Calls.{Consumed, Credited};
 ghost use Rattle.step_rules.specs.declared.step.Action.TheVariants as step;
 ghost use Rattle.step_rules.specs.declared.step.Answer.TheVariants.{Drained, Stocked, Took};
 ghost use Rattle.boot_words.specs.declared.word.Word.TheVariants.{StockOf};
-ghost use Rattle.boot_words.specs.Seats.{zone_of, MayStep};
+ghost use Rattle.boot_words.specs.Seats.{zone_of_boot, MayStep};
 ghost use Rattle.boot_words.specs.Sitting.{stock_view, IsOneStock};
 ghost use Rattle.boot_words.specs.Pasts.{own_past, ConsumesRun, CreditsRun, Does, IsCpuPast, MayDo};
 
@@ -33,7 +33,7 @@ impl BootWords {
     ) -> u64
         requires table { raw.old.table ≡ self.now.table }
         requires cpu { cpu ≤ self.now.cpus }
-        requires may { MayStep (zone_of self.now) raw.old.views (StockOf cpu)
+        requires may { MayStep (zone_of_boot self.now) raw.old.views (StockOf cpu)
             (λ x. either (x == word_of (HeldBy group before)) (word_of (HeldBy group after)) x) M.told }
         ensures table { raw.new.table ≡ raw.old.table }
         ensures told { M.told result raw.new.views }
@@ -61,7 +61,7 @@ impl BootWords {
         requires table { raw.old.table ≡ self.now.table }
         requires cpu { cpu ≤ self.now.cpus }
         requires room { pages < 65536 }
-        requires may { MayStep (zone_of self.now) raw.old.views (StockOf cpu)
+        requires may { MayStep (zone_of_boot self.now) raw.old.views (StockOf cpu)
             (λ x. either (x == word_of (HeldBy group pages)) (word_of (HeldBy group (pages + 1))) x) M.told }
         ensures table { raw.new.table ≡ raw.old.table }
         ensures told { M.told result raw.new.views }

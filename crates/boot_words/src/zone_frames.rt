@@ -9,7 +9,7 @@ ghost use Rattle.step_rules.specs.declared.step.Action.TheVariants as step;
 ghost use Rattle.step_rules.specs.declared.step.Answer.TheVariants.{Done};
 ghost use Rattle.boot_words.specs.Allowed.{put_answer_at};
 ghost use Rattle.boot_words.specs.Held.{freeze_answer};
-ghost use Rattle.boot_words.specs.Pasts.{freeze_said, put_said, IsHeld, IsHolder, Makes, MayMake};
+ghost use Rattle.boot_words.specs.Pasts.{freeze_said, put_said, IsHeld, IsHolder, MakesStep, MayMake};
 
 use crate::raw::BootWords;
 use crate::seat::{FrameSeat, PastSeat};
@@ -33,7 +33,7 @@ impl BootWords {
         requires legal { MayMake self.now held.old 0 (step.Freeze frame count) }
         ensures table { zone.new.table ≡ zone.old.table }
         ensures kind { freezes zone.old.view frame count result zone.new.view }
-        ensures run { Makes self.now held.old 0 (step.Freeze frame count) (freeze_answer count result) held.new }
+        ensures run { MakesStep self.now held.old 0 (step.Freeze frame count) (freeze_answer count result) held.new }
     {
         self.join(&mut held.raw, &mut zone.raw);
         let found = self.exchange::<Brand>(&mut held.raw, Word::OfFrame(frame), count, 0);
@@ -58,7 +58,7 @@ impl BootWords {
         requires legal { MayMake self.now held.old 0 (step.Freeze frame count) }
         ensures answer { FreezeAnswers zone.old frame count result zone.new }
         ensures in_no_hand { IsInNoHand zone.old frame }
-        ensures run { Makes self.now held.old 0 (step.Freeze frame count) (freeze_said result) held.new }
+        ensures run { MakesStep self.now held.old 0 (step.Freeze frame count) (freeze_said result) held.new }
     {
         self.step_freeze(held, zone, frame, count) == count
     }
@@ -73,7 +73,7 @@ impl BootWords {
         requires legal { MayMake self.now held.old (seat_number seat.old) (step.Put frame) }
         ensures table { seat.new.table ≡ seat.old.table }
         ensures kind { puts seat.old.view frame 1 result seat.new.view }
-        ensures run { Makes self.now held.old (seat_number seat.old) (step.Put frame) (put_answer_at result) held.new }
+        ensures run { MakesStep self.now held.old (seat_number seat.old) (step.Put frame) (put_answer_at result) held.new }
     {
         self.join(&mut held.raw, &mut seat.raw);
         let found = self.take_one::<Brand>(&mut held.raw, Word::OfFrame(frame));
@@ -92,7 +92,7 @@ impl BootWords {
         requires legal { MayMake self.now held.old (seat_number seat.old) (step.Put frame) }
         ensures answer { PutAnswers seat.old frame result seat.new }
         ensures in_no_hand { IsInNoHand seat.old frame }
-        ensures run { Makes self.now held.old (seat_number seat.old) (step.Put frame) (put_said result) held.new }
+        ensures run { MakesStep self.now held.old (seat_number seat.old) (step.Put frame) (put_said result) held.new }
     {
         let found = self.step_put_held(held, seat, frame);
         if found == 1 {
@@ -115,7 +115,7 @@ impl BootWords {
         ensures no_reference { seat_references zone.old frame ≡ 0 }
         ensures one_hand { IsInHand zone.old frame }
         ensures not_lent { seat_number zone.old ≡ 0 → IsLentToNone zone.old frame }
-        ensures run { Makes self.now held.old 0 (step.Unfreeze frame count) Done held.new }
+        ensures run { MakesStep self.now held.old 0 (step.Unfreeze frame count) Done held.new }
     {
         self.join(&mut held.raw, &mut zone.raw);
         self.store::<Brand>(&mut held.raw, Word::OfFrame(frame), count);
@@ -136,7 +136,7 @@ impl BootWords {
         ensures no_reference { seat_references zone.old frame ≡ 0 }
         ensures one_hand { IsInHand zone.old frame }
         ensures not_lent { IsLentToNone zone.old frame }
-        ensures run { Makes self.now held.old 0 (step.PassOut frame cpu) Done held.new }
+        ensures run { MakesStep self.now held.old 0 (step.PassOut frame cpu) Done held.new }
     {
         let mark = MARK_BASE + u64::from(cpu);
         self.join(&mut held.raw, &mut zone.raw);

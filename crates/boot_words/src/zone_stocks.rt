@@ -11,10 +11,10 @@ ghost use Rattle.stock_word.specs.Calls.{after_look, steps_of_drain, with_view};
 ghost use Rattle.step_rules.specs.declared.step.Action.TheVariants as step;
 ghost use Rattle.step_rules.specs.declared.step.Answer.TheVariants.{Done, Pages, Took};
 ghost use Rattle.boot_words.specs.declared.word.Word.TheVariants.{StockOf};
-ghost use Rattle.boot_words.specs.Seats.{zone_of, MayStep};
+ghost use Rattle.boot_words.specs.Seats.{zone_of_boot, MayStep};
 ghost use Rattle.boot_words.specs.StockHeld.{pages_said};
 ghost use Rattle.boot_words.specs.Sitting.{IsCpuStock};
-ghost use Rattle.boot_words.specs.Pasts.{IsHeld, IsHolder, Makes, MayMake};
+ghost use Rattle.boot_words.specs.Pasts.{IsHeld, IsHolder, MakesStep, MayMake};
 
 use crate::raw::{BootWords, RawSeat, Telling};
 use crate::seat::{PastSeat, StockSeat};
@@ -27,7 +27,7 @@ impl BootWords {
     fn take_page_of<M: Telling>(&self, raw: &mut RawSeat, cpu: u32, _group: u32) -> u64
         requires table { raw.old.table ≡ self.now.table }
         requires cpu { cpu ≤ self.now.cpus }
-        requires may { MayStep (zone_of self.now) raw.old.views (StockOf cpu) (λ n. (n + (2 ^ 64 - 1)) % 2 ^ 64) M.told }
+        requires may { MayStep (zone_of_boot self.now) raw.old.views (StockOf cpu) (λ n. (n + (2 ^ 64 - 1)) % 2 ^ 64) M.told }
         ensures table { raw.new.table ≡ raw.old.table }
         ensures told { M.told result raw.new.views }
     {
@@ -38,7 +38,7 @@ impl BootWords {
     fn drain_of<M: Telling>(&self, raw: &mut RawSeat, cpu: u32, group: u32) -> u64
         requires table { raw.old.table ≡ self.now.table }
         requires cpu { cpu ≤ self.now.cpus }
-        requires may { MayStep (zone_of self.now) raw.old.views (StockOf cpu) (λ n. word_of (DrainedOf group)) M.told }
+        requires may { MayStep (zone_of_boot self.now) raw.old.views (StockOf cpu) (λ n. word_of (DrainedOf group)) M.told }
         ensures table { raw.new.table ≡ raw.old.table }
         ensures told { M.told result raw.new.views }
     {
@@ -50,7 +50,7 @@ impl BootWords {
     fn fill_with<M: Telling>(&self, raw: &mut RawSeat, cpu: u32, group: u32, pages: u32)
         requires table { raw.old.table ≡ self.now.table }
         requires cpu { cpu ≤ self.now.cpus }
-        requires may { MayStep (zone_of self.now) raw.old.views (StockOf cpu) (λ n. word_of (HeldBy group pages))
+        requires may { MayStep (zone_of_boot self.now) raw.old.views (StockOf cpu) (λ n. word_of (HeldBy group pages))
             (λ found. M.told (word_of (HeldBy group pages))) }
         ensures table { raw.new.table ≡ raw.old.table }
         ensures told { M.told (word_of (HeldBy group pages)) raw.new.views }
@@ -81,7 +81,7 @@ impl BootWords {
         ensures group { group_of seat.old.view.last ≡ (account_for zone.old.view seat.old.view).group }
         ensures zone { zone.new ≡ with_view zone.old (zone_after_report zone.old.view seat.old.view.number pages) }
         ensures cpu { seat.new ≡ with_view seat.old (after_report seat.old.view pages) }
-        ensures run { Makes self.now held.old seat.old.view.number (step.Report pages) Done held.new }
+        ensures run { MakesStep self.now held.old seat.old.view.number (step.Report pages) Done held.new }
     {
         let word = Word::ReportOf(seat.number);
         self.join(&mut held.raw, &mut zone.raw);
@@ -134,7 +134,7 @@ impl BootWords {
         ensures zone { zone.new ≡ zone.old }
         ensures cpu { seat.new ≡ with_view seat.old
             (after_took seat.old.view group (stocked zone.old.view seat.old.view - 1)) }
-        ensures run { Makes self.now held.old seat.old.view.number (step.Consume group) Took held.new }
+        ensures run { MakesStep self.now held.old seat.old.view.number (step.Consume group) Took held.new }
     {
         self.join(&mut held.raw, &mut zone.raw);
         self.join(&mut held.raw, &mut seat.raw);
@@ -167,7 +167,7 @@ impl BootWords {
         ensures nothing_booked { (account_for zone.old.view seat.old.view).book ≡ 0 }
         ensures zone { zone.new ≡ with_view zone.old (zone_after_fill zone.old.view seat.old.view.number group pages) }
         ensures cpu { seat.new ≡ with_view seat.old (after_fill seat.old.view group pages) }
-        ensures run { Makes self.now held.old 0 (step.Fill seat.old.view.number group pages) Done held.new }
+        ensures run { MakesStep self.now held.old 0 (step.Fill seat.old.view.number group pages) Done held.new }
     {
         self.join(&mut held.raw, &mut zone.raw);
         self.join(&mut held.raw, &mut seat.raw);
@@ -187,7 +187,7 @@ impl BootWords {
         ensures table { zone.new.table ≡ zone.old.table }
         ensures none { result ≡ 0 → DrainsNone cpu (stock_index cpu) result result zone.old.view zone.new.view }
         ensures some { result ≢ 0 → LooksAt cpu (stock_index cpu) result result zone.old.view zone.new.view }
-        ensures none_run { result ≡ 0 → Makes self.now held.old 0 (step.DrainStock cpu) (Pages 0) held.new }
+        ensures none_run { result ≡ 0 → MakesStep self.now held.old 0 (step.DrainStock cpu) (Pages 0) held.new }
         ensures some_run { result ≢ 0 → held.new ≡ held.old }
     {
         self.join(&mut held.raw, &mut zone.raw);
@@ -207,7 +207,7 @@ impl BootWords {
         requires legal { MayMake self.now held.old 0 (step.DrainStock cpu) }
         ensures table { zone.new.table ≡ zone.old.table }
         ensures kind { DrainsWord cpu group (stock_index cpu) result (word_of (DrainedOf group)) zone.old.view zone.new.view }
-        ensures run { Makes self.now held.old 0 (step.DrainStock cpu) (Pages (pages_said result)) held.new }
+        ensures run { MakesStep self.now held.old 0 (step.DrainStock cpu) (Pages (pages_said result)) held.new }
     {
         self.join(&mut held.raw, &mut zone.raw);
         let found = self.drain_of::<Brand>(&mut held.raw, cpu, group);
@@ -228,7 +228,7 @@ impl BootWords {
             (zone_after_drain zone.old.view cpu result)) }
         ensures booked { result ≤ (account_of zone.old.view cpu).book }
         ensures drained_before { (account_of zone.old.view cpu).filled ≡ false → result ≡ 0 }
-        ensures run { Makes self.now held.old 0 (step.DrainStock cpu) (Pages result) held.new }
+        ensures run { MakesStep self.now held.old 0 (step.DrainStock cpu) (Pages result) held.new }
     {
         let seen = self.step_look_drain(held, zone, cpu);
         match Stock::of_word(seen) {
@@ -278,7 +278,7 @@ impl BootWords {
         ensures booked { result ≤ (account_of zone.old.view cpu).book }
         ensures bounded { (account_of zone.old.view cpu).book < 65536 }
         ensures zone { zone.new ≡ with_view zone.old (with_steps 1 (zone_after_absorb zone.old.view cpu)) }
-        ensures run { Makes self.now held.old 0 (step.Absorb cpu) (Pages result) held.new }
+        ensures run { MakesStep self.now held.old 0 (step.Absorb cpu) (Pages result) held.new }
     {
         self.step_absorb(held, zone, cpu) as u32
     }
@@ -292,7 +292,7 @@ impl BootWords {
         requires legal { MayMake self.now held.old 0 (step.Absorb cpu) }
         ensures table { zone.new.table ≡ zone.old.table }
         ensures kind { Absorbs cpu (report_index cpu) result 0 zone.old.view zone.new.view }
-        ensures run { Makes self.now held.old 0 (step.Absorb cpu) (Pages result) held.new }
+        ensures run { MakesStep self.now held.old 0 (step.Absorb cpu) (Pages result) held.new }
     {
         self.join(&mut held.raw, &mut zone.raw);
         let found = self.swap::<Brand>(&mut held.raw, Word::ReportOf(cpu), 0);

@@ -29,7 +29,7 @@ use Rattle.script_lines.specs.declared.line.Line.TheVariants.{Go, At}
 use Rattle.script_replay.specs.Answers.{AddsText, ServesCommand, WritesCommand}
 use Rattle.script_replay.specs.Lines.{SystemState, system_state, AtPart, InOrder, ServesLine, ServesAll, StopsAt, number_in_script}
 use Rattle.script_replay.specs.History.{Past, past, past_line, HasHistory, Replays, ReplaysLegally, ServesAndKeeps}
-use Rattle.script_replay.specs.History.{StopsFor, HoldsAt}
+use Rattle.script_replay.specs.History.{StopsFor, HoldsOfPart}
 use Rattle.script_replay.specs.declared.owned_replay.Stopped.TheVariants.{NotLegal}
 use Rattle.script_replay.specs.Ranges.{LineInRange}
 use Rattle.script_replay.specs.declared.form.Form.{Form}
@@ -49,7 +49,7 @@ no_group (stock_is.DrainedOf h) e = absurd (none-some h (sym e))
 
 -- the other parts stay what their seats know
 pub tied_still : {locked : KnownLocked} (t : KnownTable) (w : KnownStockTable) (cpus : List KnownCpu) (k : ℕ) (c d : KnownCpu) → slice_get cpus k ≡ Some c
-    → HoldsAt t w locked d → AreTied t w cpus → AreTied t w (slice_set cpus k d)
+    → HoldsOfPart t w locked d → AreTied t w cpus → AreTied t w (slice_set cpus k d)
 tied_still t w cpus k c d is_part held all j e at = elim (cases_eq j k) [
   | inl here ↦
       let is : e ≡ d = set_here cpus k d e (slice_get_within cpus k c is_part) (subst (λ (i : ℕ). slice_get (slice_set cpus k d) i ≡ Some e) here at) in
@@ -61,7 +61,7 @@ tied_still t w cpus k c d is_part held all j e at = elim (cases_eq j k) [
 pub part_read : (on : Terms) (before after : KnownLocked) (cpus : List KnownCpu) (line : Line) (cpu : ℕ) (command : Command) (c d : KnownCpu)
     {number : ℕ} {Z U E : Type 0} (r : Result U E) (old new : String Z) → on.is_numbered ≡ false → line ≡ At number cpu command →
     LineInRange on.frames.frames (length cpus) line → c ≡ get_or cpus (cpu - 1) c →
-    AddsText r old new (ServesCommand on command (locked_state before c) (locked_state after d)) → HoldsAt on.frames on.stocks after d →
+    AddsText r old new (ServesCommand on command (locked_state before c) (locked_state after d)) → HoldsOfPart on.frames on.stocks after d →
     AddsText r old new (ServesAndKeeps on line (system_state before cpus) (system_state after (slice_set cpus (cpu - 1) d)))
 part_read on before after cpus line cpu command c d {number = number} r old new plain is there read answered held =
     let named : LineInRange on.frames.frames (length cpus) (At number cpu command) = subst (LineInRange on.frames.frames (length cpus)) is there in

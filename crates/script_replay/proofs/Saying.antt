@@ -15,7 +15,7 @@ use Rattle.script_lines.specs.declared.line.Command.TheVariants.{Settle, Blocks,
 use Rattle.script_lines.specs.declared.line.Line.TheVariants.{At}
 use Rattle.script_replay.specs.Answers.{AnswersCommand, IsAnswerText, IsSettledText, ServesAnswer, WritesCommand}
 use Rattle.script_replay.specs.Commands.{HasValueAnswer, OnlySettles}
-use Rattle.script_replay.specs.History.{HoldsAt, ServesAndKeeps}
+use Rattle.script_replay.specs.History.{HoldsOfPart, ServesAndKeeps}
 use Rattle.script_replay.specs.Lines.{SystemState, system_state}
 use Rattle.script_replay.specs.Ranges.{CpuCommandInRange}
 use Rattle.script_replay.specs.Terms.{Terms, terms}
@@ -53,7 +53,7 @@ as_text command call answer has so = record {
 module _ (tables : KnownSystem) (l m : KnownLocked) (cpus : List KnownCpu) (cpu : ℕ) (command : Command) (c d : KnownCpu) (answer : LineAnswer)
     (there : CpuCommandInRange tables.frames.frames (length cpus) cpu command) (has : HasValueAnswer command) (is_part : slice_get cpus (cpu - 1) ≡ Some c)
     (says : ServesAnswer (terms tables.frames tables.stocks false) command (locked_state l c) (locked_state m d) answer)
-    (held : HoldsAt tables.frames tables.stocks m d) where
+    (held : HoldsOfPart tables.frames tables.stocks m d) where
   abbrev on : Terms
   on = terms tables.frames tables.stocks false
 

@@ -158,7 +158,7 @@ pub record ReplaysCheckedOrStops {Z : Type 0} (terms : Terms) (lines : List Line
 
 -- ---- what else is known of a line
 -- what always holds behind the lock, and of the part of a CPU that is settled or was served
-pub record HoldsAt (table : KnownTable) (stock_table : KnownStockTable) (locked : KnownLocked) (part : KnownCpu)
+pub record HoldsOfPart (table : KnownTable) (stock_table : KnownStockTable) (locked : KnownLocked) (part : KnownCpu)
     : Type 0 where
   pub sound : IsSound table stock_table locked
   pub tied : IsTied table stock_table part

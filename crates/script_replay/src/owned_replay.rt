@@ -6,7 +6,7 @@ ghost use Rattle.mem_system.specs.Visits.{locked_state};
 ghost use Rattle.step_watch.specs.Watched.{has_legal_steps};
 ghost use Rattle.script_replay.specs.declared.owned_replay.Stopped.TheVariants.{NoMemory};
 ghost use Rattle.script_replay.specs.Answers.{AddsText, ServesCommand};
-ghost use Rattle.script_replay.specs.History.{HoldsAt, ReplaysCheckedOrStops, ReplaysOrStops, ServesAndKeeps};
+ghost use Rattle.script_replay.specs.History.{HoldsOfPart, ReplaysCheckedOrStops, ReplaysOrStops, ServesAndKeeps};
 ghost use Rattle.script_replay.specs.Lines.{number_in_script, system_state};
 ghost use Rattle.script_replay.specs.Ranges.{CommandInRange, LineInRange};
 ghost use Rattle.script_replay.specs.Terms.{form_terms, numbered_terms, terms};
@@ -192,7 +192,7 @@ fn serve_at_cpu<N: BootName>(
     ensures answered { AddsText result answers.old answers.new
         (ServesCommand (terms N.frames N.stocks is_explained) command.now
         (locked_state locked.old cpu.old) (locked_state locked.new cpu.new)) }
-    ensures held { HoldsAt N.frames N.stocks locked.new cpu.new }
+    ensures held { HoldsOfPart N.frames N.stocks locked.new cpu.new }
 {
     let value = serve_command(locked, tables, cpu, command, is_explained);
     let written = write_answer(locked, tables, cpu, command, &value, is_explained, answers);
@@ -209,7 +209,7 @@ fn prove_sound<N: BootName>(locked: &Locked<N>)
 
 // Shows what always holds behind the lock, and of a CPU's part. It does nothing.
 pub(crate) fn prove_held<N: BootName>(locked: &Locked<N>, cpu: &Cpu<N>)
-    ensures { HoldsAt N.frames N.stocks locked.now cpu.now }
+    ensures { HoldsOfPart N.frames N.stocks locked.now cpu.now }
 {
     let _number = cpu.number();
     let _last = cpu.last_stock();

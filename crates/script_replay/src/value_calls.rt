@@ -7,7 +7,7 @@ ghost use Rattle.mem_system.specs.Visits.{locked_state};
 ghost use Rattle.script_lines.specs.declared.line.Command.TheVariants.{Alloc};
 ghost use Rattle.script_replay.specs.Answers.{ServesAnswer};
 ghost use Rattle.script_replay.specs.Commands.{HasValueAnswer};
-ghost use Rattle.script_replay.specs.History.{HoldsAt};
+ghost use Rattle.script_replay.specs.History.{HoldsOfPart};
 ghost use Rattle.script_replay.specs.Lines.{system_state};
 ghost use Rattle.script_replay.specs.Ranges.{CommandInRange, CpuCommandInRange};
 ghost use Rattle.script_replay.specs.Terms.{boot_tables, terms};
@@ -82,7 +82,7 @@ fn alloc_value_at_cpu<N: BootName>(
         (locked_state locked.old cpu.old) (locked_state locked.new cpu.new)
         (answer_of locked.new.machine.ledger result) }
     ensures groups { NamesItsGroups locked.new.machine.ledger result }
-    ensures held { HoldsAt N.frames N.stocks locked.new cpu.new }
+    ensures held { HoldsOfPart N.frames N.stocks locked.new cpu.new }
 {
     let value = serve_frame_of(locked, tables, cpu, group, false);
     prove_held(locked, cpu);
@@ -102,7 +102,7 @@ fn serve_value_at_cpu<N: BootName>(
         (locked_state locked.old cpu.old) (locked_state locked.new cpu.new)
         (answer_of locked.new.machine.ledger result) }
     ensures groups { NamesItsGroups locked.new.machine.ledger result }
-    ensures held { HoldsAt N.frames N.stocks locked.new cpu.new }
+    ensures held { HoldsOfPart N.frames N.stocks locked.new cpu.new }
 {
     let value = serve_command(locked, tables, cpu, command, false);
     prove_held(locked, cpu);

@@ -6,7 +6,7 @@ use Rattle.stock_word.proofs.Told.{either_group, found_group, drained_booked, dr
 use Rattle.step_rules.specs.declared.step.Action.TheVariants.{DrainStock}
 use Rattle.step_rules.specs.declared.step.Answer.TheVariants.{Pages}
 use Rattle.boot_words.specs.StockHeld.{pages_said}
-use Rattle.boot_words.specs.Pasts.{KnownPasts, Makes}
+use Rattle.boot_words.specs.Pasts.{KnownPasts, MakesStep}
 use Rattle.boot_words.proofs.Banking.{said_pages}
 use Rattle.boot_words.proofs.StockTold.{some_word}
 use Rattle.boot_words.proofs.raw.BootWords.drain.Goals as goal
@@ -50,5 +50,5 @@ returns-in-HeldBy-clause-run c =
     let pages = c.pages.ensures ∙ ap stock_pages_of (c.of_word-in-HeldBy.ensures kind.stock kind.has_word kind.word_before) in
     let held = c.step_look_drain-seen.ensures.some_run (some_word _ _ _ c.of_word.ensures (either_group _ _ c.in-HeldBy.is)) in
     let said = ap pages_said kind.word_before ∙ said_pages kind.stock kind.has_word ∙ sym pages in
-    subst (λ (y : KnownPasts × ℕ). Makes c.args.self.now y.0 0 (DrainStock c.args.cpu) (Pages y.1) c.step_drain-found.new.held) (λ i. (held i, said i))
+    subst (λ (y : KnownPasts × ℕ). MakesStep c.args.self.now y.0 0 (DrainStock c.args.cpu) (Pages y.1) c.step_drain-found.new.held) (λ i. (held i, said i))
     c.step_drain-found.ensures.run

@@ -1,7 +1,7 @@
 use Rattle.std.proofs.Common.{◌∷◌, [], ◌∙◌, ap}
 use Rattle.boot_words.specs.declared.view.BootView.TheVariants.{OfStocks}
 use Rattle.boot_words.specs.Held.{AreViewsOf}
-use Rattle.boot_words.specs.Seats.{zone_of}
+use Rattle.boot_words.specs.Seats.{zone_of_boot}
 use Rattle.boot_words.specs.Pasts.{cpu_past}
 use Rattle.boot_words.proofs.Joining.{joined_views, past_views}
 use Rattle.boot_words.proofs.StockTold.{may_fill}
@@ -15,7 +15,7 @@ fill_with-requires-clause-may c =
     let first = joined_views _ _ _ _ _ (ap (λ r. r.views) c.join.ensures.raw) pasts zone in
     let both = joined_views _ _ _ _ _ (ap (λ r. r.views) c.join-2.ensures.raw) first seat in
     let number = c.seat.invariant.sound.same_number ∙ ap (λ s. s.view.number) c.seat.view_is in
-    let are : AreViewsOf (zone_of c.args.self.now) (cpu_past c.args.held.now) c.args.zone.now.view.number c.args.seat.now.view.number
+    let are : AreViewsOf (zone_of_boot c.args.self.now) (cpu_past c.args.held.now) c.args.zone.now.view.number c.args.seat.now.view.number
     = record { zone_is = c.requires.zone; cpu_is = c.requires.holder; low = c.requires.cpu.0; high = c.requires.cpu.1 } in
     may_fill _ _ _ _ _ _ _ both (number ∙ c.requires.holder) c.requires.held.holds are c.args.group c.args.pages (c.requires.group, c.requires.pages.1)
     (c.requires.drained, c.requires.settled.0, c.requires.settled.1) (rw number c.requires.legal)

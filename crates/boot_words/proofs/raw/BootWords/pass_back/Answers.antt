@@ -2,7 +2,7 @@ use Rattle.std.proofs.Common.{◌∷◌, [], ◌∙◌, ap, sym, arith}
 use Rattle.frame_word.specs.Seats.{seat_number}
 use Rattle.boot_words.specs.declared.view.BootView.TheVariants.{OfFrames}
 use Rattle.boot_words.specs.Held.{AreViewsOf}
-use Rattle.boot_words.specs.Seats.{zone_of}
+use Rattle.boot_words.specs.Seats.{zone_of_boot}
 use Rattle.boot_words.specs.Pasts.{cpu_past}
 use Rattle.boot_words.proofs.Joining.{joined_views, past_views}
 use Rattle.boot_words.proofs.HeldTold.{may_pass_back}
@@ -16,5 +16,5 @@ store-requires-clause-may c =
     let first = joined_views _ _ _ _ _ (ap (λ r. r.views) c.join.ensures.raw) pasts zone in
     let both = joined_views _ _ _ _ _ (ap (λ r. r.views) c.join-2.ensures.raw) first cpu in
     let number = sym c.cpu.invariant.numbered ∙ ap seat_number c.cpu.view_is in
-    let are : AreViewsOf (zone_of c.args.self.now) (cpu_past c.args.held.now) (seat_number c.args.zone.now) (seat_number c.args.cpu.now) = record { zone_is = c.requires.zone.1; cpu_is = c.requires.holder; low = c.requires.cpu.1; high = c.requires.cpu.2 } in
+    let are : AreViewsOf (zone_of_boot c.args.self.now) (cpu_past c.args.held.now) (seat_number c.args.zone.now) (seat_number c.args.cpu.now) = record { zone_is = c.requires.zone.1; cpu_is = c.requires.holder; low = c.requires.cpu.1; high = c.requires.cpu.2 } in
     may_pass_back _ _ c.args.frame _ _ _ c.args.zone.now.view c.args.cpu.now.view both (omega arith) c.requires.held.holds are c.requires.frame c.requires.open c.requires.hand c.requires.legal
