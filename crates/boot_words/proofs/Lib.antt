@@ -24,3 +24,6 @@ pub mod Told
 pub mod Joining
 pub mod HeldTold
 pub mod StockTold
+pub mod LockTold
+pub mod Dealing
+pub mod Closing

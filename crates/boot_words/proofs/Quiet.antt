@@ -99,7 +99,7 @@ plain_is_allowed {S} zone slots id z c local made_step answer holds plain is_ste
         zone_past = grown z zone_fits.rest e;
         cpu_past = grown c fits.rest e;
         later_is = refl;
-        made = tt;
+        made = refl;
         zone_grew = record { between = zone_fits.rest; others = zone_fits.others; number = refl; seen = refl };
         cpu_grew = record { between = fits.rest; others = fits.others; number = refl; seen = refl };
         holds = next.holds;

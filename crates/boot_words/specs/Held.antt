@@ -148,4 +148,4 @@ PlainIsAllowed S = (zone : Zone) (slots id : ℕ) (z c : Past) (local : State) (
     → HoldsLock zone z c local → IsPlain made_step.action
     → IsLocalStep local c.number made_step.seat made_step.action answer
     → Allows {S = S} (boot_rule zone) slots id (joined OfFrames z c [], []) 0 (λ n. n)
-    (λ found later. MadeUnderLock OfFrames S zone z c local made_step answer (λ m. Unit {0}) later)
+    (λ found later. MadeUnderLock OfFrames S zone z c local made_step answer (λ m. m.0 ≡ []) later)

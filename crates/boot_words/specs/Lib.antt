@@ -8,3 +8,5 @@ pub mod Seating
 pub mod Seats
 pub mod Sitting
 pub mod Pasts
+pub mod Opening
+pub mod Closing

@@ -12,13 +12,16 @@ use Rattle.stock_word.specs.declared.words.Consume.TheVariants as consumes
 use Rattle.stock_word.specs.declared.words.Credit.{Credit}
 use Rattle.stock_word.specs.declared.words.Credit.TheVariants as credits
 use Rattle.stock_word.specs.Stock.{is_held}
+use Rattle.step_rules.specs.declared.phase.Hold.TheVariants.{HeldBy, Unheld}
 use Rattle.step_rules.specs.declared.step.Action.{Action}
-use Rattle.step_rules.specs.declared.step.Action.TheVariants.{Get as GetOf, Consume as ConsumeOf, Credit as CreditOf}
+use Rattle.step_rules.specs.declared.step.Action.TheVariants.{Get as GetOf, Consume as ConsumeOf, Credit as CreditOf, Lock, Unlock}
 use Rattle.step_rules.specs.declared.step.Answer.{Answer}
 use Rattle.step_rules.specs.declared.step.Answer.TheVariants.{Done, Drained, Full, Held, Last, Left, Missed, Stocked, Took, Zero}
 use Rattle.step_rules.specs.State.{State}
 use Rattle.step_rules.specs.Legal.{get_answer, is_legal}
 use Rattle.step_rules.specs.After.{after, state_of}
+use Rattle.run_words.specs.Hidden.{hide}
+use Rattle.run_words.specs.Sight.{HasSameLists}
 use Rattle.boot_words.specs.declared.view.Past.{Past}
 use Rattle.boot_words.specs.declared.view.BootView.{BootView}
 use Rattle.boot_words.specs.declared.view.BootView.TheVariants.{OfFrames, OfStocks, OfRun}
@@ -26,6 +29,7 @@ use Rattle.boot_words.specs.Seating.{no_past}
 use Rattle.boot_words.specs.Seats.{zone_of_boot}
 use Rattle.boot_words.specs.Allowed.{GrewBy}
 use Rattle.boot_words.specs.Held.{HoldsLock, local_seen}
+use Rattle.boot_words.specs.Locks.{LeavesFree}
 
 -- a seat's pasts: its own, or the zone's and then that of the CPU that holds the lock, or none while the zone's has it
 pub record KnownPasts : Type 0 where
@@ -140,3 +144,31 @@ IsHolder s number = number ≡ (cpu_past s).number
 abbrev pub freeze_said : Bool → Answer
 freeze_said true = Done
 freeze_said false = Missed
+
+-- the seat has the zone's past alone
+pub record IsZonePast (t : KnownTable) (s : KnownPasts) : Type 0 where
+  pub table_is : s.table ≡ t.table
+  pub alone : s.pasts ≡ own_past s ∷ []
+  pub zone_is : (own_past s).number ≡ 0
+
+-- A CPU has taken the lock: the zone's seat has its past too. Hidden parts apart, it finds what the zone's past left, and
+-- its own lists and references are those that its own past left.
+pub record Locks (t : KnownTable) (zone cpu zone' : KnownPasts) : Type 0 where
+  pub zone_grew : GrewBy (own_past zone) (record { seat = (own_past cpu).number; action = Lock }) Done (own_past zone')
+  pub cpu_grew : GrewBy (own_past cpu) (record { seat = (own_past cpu).number; action = Lock }) Done (cpu_past zone')
+  pub held : IsHeld t zone'
+  pub found : hide (state_of (zone_of_boot t) (own_past zone').seen)
+      ≡ record (hide (state_of (zone_of_boot t) (own_past zone).seen)) { hold = HeldBy (own_past cpu).number }
+  pub own : HasSameLists (own_past cpu).number (state_of (zone_of_boot t) (own_past cpu).seen) (state_of (zone_of_boot t) (cpu_past zone').seen)
+
+-- The CPU has released the lock: each seat has its own past. The lock is free by the zone's, which leaves what the CPU
+-- saw.
+pub record Unlocks (t : KnownTable) (held zone cpu : KnownPasts) : Type 0 where
+  pub zone_grew : GrewBy (own_past held) (record { seat = (cpu_past held).number; action = Unlock }) Done (own_past zone)
+  pub cpu_grew : GrewBy (cpu_past held) (record { seat = (cpu_past held).number; action = Unlock }) Done (own_past cpu)
+  pub zone_is : IsZonePast t zone
+  pub cpu_table : cpu.table ≡ t.table
+  pub cpu_alone : cpu.pasts ≡ own_past cpu ∷ []
+  pub same : (own_past zone).seen ≡ (own_past cpu).seen
+  pub free : LeavesFree (zone_of_boot t) (own_past zone)
+  pub left : hide (state_of (zone_of_boot t) (own_past zone).seen) ≡ hide (record (local_by_pasts t held) { hold = Unheld })

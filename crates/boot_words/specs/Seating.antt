@@ -59,6 +59,10 @@ pub record IsFinalTable (S : Type 0) (zone : Zone) (id : ℕ) (words : List ℕ)
   pub frames : AreFinalFrameWords zone.frames zone.cpus id (frames_in views) (words_in zone words).frames slots
   pub stocks : AreFinalStockWords zone.cpus (words_in zone words).stocks (stocks_in views)
 
+-- the end of a table, of which some seat has these views
+abbrev pub IsEndOf : Zone → List ℕ → List (Unit {0}) → List BootView → Type 0
+IsEndOf zone words slots views = (id : ℕ) × IsFinalTable (Unit {0}) zone id words slots views
+
 -- what closing the table gives
 abbrev pub EndHasRun : Type 0 → Type 0
 EndHasRun S = (zone : Zone) (id : ℕ) (views : List BootView) (words : List ℕ) (slots : List S)

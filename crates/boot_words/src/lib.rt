@@ -1,11 +1,14 @@
 //! One table for all words of a boot: its rule holds a legal run of steps between any two atomic steps.
 #![tactic(auto)]
 
+mod closed;
 mod hand_over;
 pub mod held;
 pub mod laws;
+mod lock;
 pub mod locks;
 pub mod looks;
+mod opening;
 mod raw;
 mod references;
 mod seat;
@@ -16,6 +19,7 @@ mod word;
 mod zone_frames;
 mod zone_stocks;
 
+pub use closed::ClosedWords;
 pub use raw::BootWords;
-pub use seat::{FrameSeat, PastSeat, StockSeat};
+pub use seat::{FrameSeat, OwnSeats, PastSeat, StockSeat};
 pub use view::{BootView, Past};

@@ -4,7 +4,7 @@ ghost use Rattle.std.specs.Prelude.{◌≡◌, ◌≤◌, ◌+◌, ◌-◌, ◌%
 ghost use Rattle.std.specs.Mem.Slots.{slots_items, slots_len, IsFull};
 ghost use prog.Atomic.{either};
 ghost use Rattle.boot_words.specs.Rule.{boot_rule};
-ghost use Rattle.boot_words.specs.Seating.{all_views, word_count, IsFinalTable};
+ghost use Rattle.boot_words.specs.Seating.{all_views, word_count, IsEndOf};
 ghost use Rattle.boot_words.specs.Seats.{zone_of_boot, index_of, HasPlace, MayStep, rest_of_views, first_view_alone};
 ghost use Rattle.boot_words.specs.Seats.{but_last};
 ghost use Rattle.boot_words.specs.Seats.{last_alone};
@@ -303,5 +303,21 @@ impl BootWords {
             cpus,
         };
         Ok((words, RawSeat { seat }))
+    }
+
+    /// Ends the table. The rule holds of its words, and `raw` is one of its seats.
+    pub(crate) fn end(self, raw: RawSeat) -> Closed<(), Global>
+        requires { raw.table ≡ self.table }
+        ensures counts { (slots_len result.words ≡ word_count (zone_of_boot self)) × (slots_len result.slots ≡ 0) }
+        ensures full { IsFull result.words }
+        ensures end { IsEndOf (zone_of_boot self) (slots_items result.words) (slots_items result.slots) raw.views }
+    {
+        let BootWords {
+            table,
+            frames: _,
+            cpus: _,
+        } = self;
+        let RawSeat { seat } = raw;
+        table.close_with(seat)
     }
 }

@@ -97,3 +97,11 @@ impl StockSeat {
         self.last
     }
 }
+
+/// The seats of the zone or of a CPU: one of each kind.
+#[derive(Drop)]
+pub struct OwnSeats {
+    pub past: PastSeat,
+    pub frames: FrameSeat,
+    pub stocks: StockSeat,
+}

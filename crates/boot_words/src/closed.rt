@@ -1,0 +1,103 @@
+//! The end of a table.
+ghost use Rattle.std.specs.Prelude.{◌≡◌, ◌++◌, length};
+ghost use Rattle.stock_word.specs.Stock.{IsZoneView};
+ghost use Rattle.boot_words.specs.Rule.{AllOf};
+ghost use Rattle.boot_words.specs.Seats.{zone_of_boot};
+ghost use Rattle.boot_words.specs.Closing.{all_views_in, views_in, AreAt, IsClosed};
+
+use crate::raw::{BootWords, RawSeat};
+use crate::seat::{FrameSeat, OwnSeats, PastSeat, StockSeat};
+use atomic_table::Closed;
+use std::alloc::Global;
+use std::marker::Model;
+
+/// The words at the end, when no seat is left to change them.
+pub struct ClosedWords {
+    closed: Closed<(), Global>,
+    frames: u32,
+    cpus: u32,
+}
+
+impl Model for ClosedWords {
+    ghost use Rattle.std.specs.Prelude.{◌≡◌};
+    ghost use Rattle.std.specs.Mem.Slots.{slots_items, slots_len, IsFull};
+    ghost use Rattle.frame_word.specs.Seats.{KnownWords};
+    ghost use Rattle.boot_words.specs.Seating.{word_count};
+
+    ghost Value = { KnownWords };
+
+    ghost view = { λ w. record { words = slots_items w.closed.words; frames = w.frames; cpus = w.cpus } };
+
+    ghost invariant = { λ w. IsFull w.closed.words
+        × (slots_len w.closed.words ≡ word_count (record { frames = w.frames; cpus = w.cpus }))
+        × (slots_len w.closed.slots ≡ 0) };
+}
+
+impl Drop for ClosedWords {
+    fn drop(self) {
+        let ClosedWords {
+            closed,
+            frames: _,
+            cpus: _,
+        } = self;
+        closed.free();
+    }
+}
+
+impl BootWords {
+    // One seat that has the views of these three.
+    fn merged(&self, seats: OwnSeats) -> RawSeat
+        requires { AreAt self.now.table seats }
+        ensures { result ≡ record { table = self.now.table; views = views_in seats } }
+    {
+        let OwnSeats {
+            past,
+            frames,
+            stocks,
+        } = seats;
+        let PastSeat { mut raw } = past;
+        let FrameSeat {
+            raw: mut frames,
+            number: _,
+        } = frames;
+        let StockSeat {
+            raw: mut stocks,
+            number: _,
+            last: _,
+        } = stocks;
+        self.join(&mut raw, &mut frames);
+        self.join(&mut raw, &mut stocks);
+        raw
+    }
+
+    // Joins all seats into one.
+    fn gather(&self, all: &mut RawSeat, seats: Vec<OwnSeats>)
+        requires table { all.old.table ≡ self.now.table }
+        requires seats { AllOf (AreAt self.now.table) seats.items }
+        ensures { all.new ≡ record { table = self.now.table; views = all.old.views ++ all_views_in seats.items } }
+    {
+        for seat in seats {
+            let mut raw = self.merged(seat);
+            self.join(all, &mut raw);
+        }
+    }
+
+    /// Ends the table with all its seats, those of the CPUs in any order. There is one legal run whose last state has
+    /// just the final words, and each seat's past is a beginning of it. No page was lost or made.
+    pub fn close(self, zone: OwnSeats, cpus: Vec<OwnSeats>) -> ClosedWords
+        requires zone { AreAt self.table zone × IsZoneView zone.stocks.view }
+        requires cpus { AllOf (AreAt self.table) cpus.items × (length cpus.items ≡ self.cpus) }
+        ensures sizes { (result.frames ≡ self.frames) × (result.cpus ≡ self.cpus) }
+        ensures end { IsClosed (zone_of_boot self) result.words zone cpus.items }
+    {
+        let frames = self.frames();
+        let count = self.cpus();
+        let mut raw = self.merged(zone);
+        self.gather(&mut raw, cpus);
+        ClosedWords {
+            closed: self.end(raw),
+            frames,
+            cpus: count,
+        }
+    }
+}

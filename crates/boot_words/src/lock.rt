@@ -1,0 +1,64 @@
+//! The lock in the run, and the steps that no word is of. Each is one load of the first word, which nobody writes.
+ghost use Rattle.std.specs.Prelude.{◌≡◌, []};
+ghost use Rattle.step_rules.specs.declared.step.Action.TheVariants as step;
+ghost use Rattle.step_rules.specs.Laws.{IsLocalStep};
+ghost use Rattle.run_words.specs.Steps.{IsPlain};
+ghost use Rattle.boot_words.specs.declared.word.Word.TheVariants.{Quiet};
+ghost use Rattle.boot_words.specs.Locks.{LeavesFree};
+ghost use Rattle.boot_words.specs.Seats.{zone_of_boot, MayStep};
+ghost use Rattle.boot_words.specs.Pasts.{cpu_past, local_by_pasts, own_past, IsCpuPast, IsHeld, IsZonePast, Locks};
+ghost use Rattle.boot_words.specs.Pasts.{MakesStep};
+ghost use Rattle.boot_words.specs.Pasts.{MayMake, Unlocks};
+
+use crate::raw::{BootWords, RawSeat, Telling};
+use crate::seat::PastSeat;
+use crate::word::Word;
+use std::marker::Brand;
+use step_rules::step::{Answer, Step};
+
+impl BootWords {
+    /// A CPU takes the lock, which is free by the zone's past. The zone's seat has the CPU's past too from then on, and
+    /// the CPU's seat has none.
+    pub fn lock(&self, zone: &mut PastSeat, cpu: &mut PastSeat)
+        requires zone { IsZonePast self.now zone.old }
+        requires cpu { IsCpuPast self.now cpu.old }
+        requires free { LeavesFree (zone_of_boot self.now) (own_past zone.old) }
+        ensures run { Locks self.now zone.old cpu.old zone.new }
+        ensures cpu { cpu.new ≡ record { table = self.now.table; pasts = [] } }
+    {
+        self.join(&mut zone.raw, &mut cpu.raw);
+        self.load::<Brand>(&mut zone.raw, Word::Quiet);
+    }
+
+    /// The CPU that holds the lock releases it, and has its own past again.
+    pub fn unlock(&self, zone: &mut PastSeat, cpu: &mut PastSeat)
+        requires held { IsHeld self.now zone.old }
+        requires cpu { cpu.old ≡ record { table = self.now.table; pasts = [] } }
+        requires legal { MayMake self.now zone.old (cpu_past zone.old).number step.Unlock }
+        ensures run { Unlocks self.now zone.old zone.new cpu.new }
+    {
+        self.load::<Brand>(&mut zone.raw, Word::Quiet);
+        cpu.raw = self.split_last(&mut zone.raw);
+    }
+
+    // The load of a plain step, which the word doesn't say.
+    fn note_as<M: Telling>(&self, raw: &mut RawSeat, _made: &Step, _answer: &Answer) -> u64
+        requires table { raw.old.table ≡ self.now.table }
+        requires may { MayStep (zone_of_boot self.now) raw.old.views Quiet (λ n. n) M.told }
+        ensures table { raw.new.table ≡ raw.old.table }
+        ensures told { M.told result raw.new.views }
+    {
+        self.load::<M>(raw, Word::Quiet)
+    }
+
+    /// A step that no word is of, legal in what the lock's holder sees, with this answer.
+    pub fn note(&self, held: &mut PastSeat, made: &Step, answer: &Answer)
+        requires held { IsHeld self.now held.old }
+        requires plain { IsPlain made.now.action }
+        requires step { IsLocalStep (local_by_pasts self.now held.old) (cpu_past held.old).number made.now.seat made.now.action
+            answer.now }
+        ensures run { MakesStep self.now held.old made.now.seat made.now.action answer.now held.new }
+    {
+        self.note_as::<Brand>(&mut held.raw, made, answer);
+    }
+}
