@@ -1,5 +1,5 @@
 -- A line carries the whole on. Serves `replay`.
-use Rattle.std.proofs.Common.{Bool, true, false, ◌≡◌, ◌≢◌, ℕ, ◌<◌, ◌==◌, ◌&&◌, ◌++◌, cond, Some, List, [], ◌∷◌, refl, sym, ◌∙◌, ap, subst, inl, inr, suc, zero}
+use Rattle.std.proofs.Common.{Bool, true, false, ◌≡◌, ◌≢◌, ℕ, ◌==◌, ◌&&◌, ◌++◌, cond, Some, List, [], ◌∷◌, refl, sym, ◌∙◌, ap, subst, inl, inr, suc, zero}
 use Rattle.std.specs.Prelude.{nat_le, slice_set}
 use Rattle.std.specs.List.{slice_get}
 use Rattle.std.proofs.lemmas.Bool.{cases_eq}

@@ -1,5 +1,5 @@
 -- What lines were answered by visits. Serves `visit_answers`, `visit_replay`.
-use Rattle.std.proofs.Common.{Result, IfOk, ◌≡◌, ◌≢◌, ℕ, ◌+◌, ◌-◌, ◌<◌, zero, Some, None, List, ◌++◌, length, take, get_or, refl, sym, subst, arith}
+use Rattle.std.proofs.Common.{Result, IfOk, ◌≡◌, ◌≢◌, ℕ, ◌+◌, ◌-◌, ◌<◌, Some, None, List, ◌++◌, length, take, get_or, refl, sym, subst, arith}
 use Rattle.std.specs.Prelude.{slice_set}
 use Rattle.std.specs.Borrow.{Bor}
 use Rattle.std.specs.declared.string.String.{String}
@@ -25,7 +25,7 @@ use Rattle.script_lines.specs.declared.line.Command.{Command}
 use Rattle.script_lines.specs.declared.line.Command.TheVariants.{Alloc, Blocks, Show, Stock, Units}
 use Rattle.script_lines.specs.declared.line.Line.{Line}
 use Rattle.script_lines.specs.declared.line.Line.TheVariants.{At}
-use Rattle.script_replay.specs.Answers.{AddsText, AnswersAlone, IsTriedInVain, NeedsLock}
+use Rattle.script_replay.specs.Answers.{AddsText, AnswersAlone, IsTriedInVain}
 use Rattle.script_replay.specs.Commands.{HasValueAnswer, cmd_of}
 use Rattle.script_replay.specs.Visits.{AnswersByVisit, AnswersWithoutVisit, IsReplyVisited, IsServedByVisit, VisitsCommand, VisitsLine, VisitsAll}
 use Rattle.script_replay.specs.Lines.{StopsAt}

@@ -1,5 +1,5 @@
 -- What a command of a CPU does whose answer is a value, and not a text.
-use Rattle.std.specs.Prelude.{◌≡◌, ℕ, false, [], ◌∷◌}
+use Rattle.std.specs.Prelude.{ℕ, false, [], ◌∷◌}
 use Rattle.group_charge.specs.Charges.{Ledger}
 use Rattle.mem_system.specs.Boots.{KnownSystem}
 use Rattle.mem_system.specs.Outcomes.{HasItsGroups, reply_of}

@@ -1,5 +1,4 @@
 use Rattle.std.proofs.Common.{◌∙◌, None, Ok, ap, refl, rules}
-use Rattle.cpu_part.specs.Cpus.{KnownCpu}
 use Rattle.group_tree.specs.Groups.{number_at}
 use Rattle.group_tree.specs.declared.fault.Fault.TheVariants.{NoGroup}
 use Rattle.mem_system.specs.Visits.{locked_state}
