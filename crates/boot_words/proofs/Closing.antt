@@ -15,7 +15,7 @@ use Rattle.boot_words.specs.declared.view.BootView.{BootView}
 use Rattle.boot_words.specs.declared.view.BootView.TheVariants.{OfFrames, OfStocks, OfRun}
 use Rattle.boot_words.specs.Rule.{AllOf, FitsRun, IsPastOf, frames_in, stocks_in, words_in}
 use Rattle.boot_words.specs.Seating.{IsEndOf}
-use Rattle.boot_words.specs.Closing.{IsClosed, all_pasts_in, all_views_in, frame_seats, stock_seats, views_in}
+use Rattle.boot_words.specs.Closing.{IsClosedTable, all_pasts_in, all_views_in, frame_seats, stock_seats, views_in}
 
 frames_behind : (pasts : List Past) (views : List BootView) → frames_in (map OfRun pasts ++ views) ≡ frames_in views
 frames_behind [] views = refl
@@ -68,7 +68,7 @@ pasts_fit run (s ∷ seats) all =
     (λ both. pasts_fit run seats both.1.1)
 
 pub closed_end : (zone : Zone) (words : List ℕ) (slots : List (Unit {0})) (z : OwnSeats) (cpus : List OwnSeats) (views : List BootView) → IsEndOf zone words slots views
-    → views ≡ views_in z ++ all_views_in cpus → length cpus ≡ zone.cpus → z.stocks.view.number ≡ 0 → IsClosed zone words z cpus
+    → views ≡ views_in z ++ all_views_in cpus → length cpus ≡ zone.cpus → z.stocks.view.number ≡ 0 → IsClosedTable zone words z cpus
 closed_end zone words slots z cpus views of_end are count zeroth =
     let end = of_end.1 in
     let frames : frames_in views ≡ z.frames.view ∷ map view_of (frame_seats cpus) = ap frames_in are ∙ all_frames (z ∷ cpus) in

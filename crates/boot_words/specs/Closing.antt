@@ -43,7 +43,7 @@ stock_seats = map (λ seats. seats.stocks)
 -- The final words: there is one legal run whose last state has just these, and each past is a beginning of it. The
 -- reference rule holds of the frames' words. Each CPU has one seat, and its words agree with the zone's account of it and
 -- with that seat.
-pub record IsClosed (zone : Zone) (words : List ℕ) (of_zone : OwnSeats) (of_cpus : List OwnSeats) : Type 0 where
+pub record IsClosedTable (zone : Zone) (words : List ℕ) (of_zone : OwnSeats) (of_cpus : List OwnSeats) : Type 0 where
   pub run : Run
   pub is : IsRunOf zone (words_in zone words) run
   pub pasts : AllOf (IsPastOf run) (all_pasts_in (of_zone ∷ of_cpus))

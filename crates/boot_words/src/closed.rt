@@ -3,7 +3,7 @@ ghost use Rattle.std.specs.Prelude.{◌≡◌, ◌++◌, length};
 ghost use Rattle.stock_word.specs.Stock.{IsZoneView};
 ghost use Rattle.boot_words.specs.Rule.{AllOf};
 ghost use Rattle.boot_words.specs.Seats.{zone_of_boot};
-ghost use Rattle.boot_words.specs.Closing.{all_views_in, views_in, AreAt, IsClosed};
+ghost use Rattle.boot_words.specs.Closing.{all_views_in, views_in, AreAt, IsClosedTable};
 
 use crate::raw::{BootWords, RawSeat};
 use crate::seat::{FrameSeat, OwnSeats, PastSeat, StockSeat};
@@ -88,7 +88,7 @@ impl BootWords {
         requires zone { AreAt self.table zone × IsZoneView zone.stocks.view }
         requires cpus { AllOf (AreAt self.table) cpus.items × (length cpus.items ≡ self.cpus) }
         ensures sizes { (result.frames ≡ self.frames) × (result.cpus ≡ self.cpus) }
-        ensures end { IsClosed (zone_of_boot self) result.words zone cpus.items }
+        ensures end { IsClosedTable (zone_of_boot self) result.words zone cpus.items }
     {
         let frames = self.frames();
         let count = self.cpus();

@@ -3,7 +3,7 @@ ghost use Rattle.std.specs.Prelude.{◌≡◌, ◌≤◌, [], ◌∷◌, length,
 ghost use Rattle.boot_words.specs.Seating.{cpus_views};
 ghost use Rattle.boot_words.specs.Seats.{rest_of_views};
 ghost use Rattle.boot_words.specs.Sitting.{frame_view, stock_view};
-ghost use Rattle.boot_words.specs.Opening.{first_seats, seats_in, zone_seats, BeginsAt};
+ghost use Rattle.boot_words.specs.Opening.{opening_seats, seats_in, zone_seats, BeginsAt};
 
 use crate::raw::{BootWords, RawSeat};
 use crate::seat::{FrameSeat, OwnSeats, PastSeat, StockSeat};
@@ -23,7 +23,7 @@ impl BootWords {
         requires cpus { (1 ≤ cpus) × (cpus ≤ 64) }
         ensures sizes { IfOk result (λ r. (r.0.frames ≡ frames) × (r.0.cpus ≡ cpus)) }
         ensures zone { IfOk result (λ r. r.1 ≡ zone_seats r.0.table frames) }
-        ensures cpus { IfOk result (λ r. r.2.items ≡ first_seats r.0.table 1 cpus) }
+        ensures cpus { IfOk result (λ r. r.2.items ≡ opening_seats r.0.table 1 cpus) }
     {
         let (words, mut raw) = BootWords::start(alloc, frames, cpus)?;
         let zone = words.seated(&mut raw, 0);
@@ -61,7 +61,7 @@ impl BootWords {
     fn deal(&self, alloc: Global, raw: &mut RawSeat, cpus: u32) -> Result<Vec<OwnSeats>, AllocError>
         requires table { (raw.old.table ≡ self.now.table) × (cpus ≤ 64) }
         requires views { raw.old.views ≡ cpus_views 1 cpus }
-        ensures { IfOk result (λ seats. seats.items ≡ first_seats self.now.table 1 cpus) }
+        ensures { IfOk result (λ seats. seats.items ≡ opening_seats self.now.table 1 cpus) }
     {
         let mut seats = Vec::new(alloc);
         for cpu in 1..cpus + 1 {

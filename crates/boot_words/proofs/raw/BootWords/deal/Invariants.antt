@@ -1,6 +1,6 @@
 use Rattle.std.proofs.Common.{◌≡◌, ◌≤◌, ◌+◌, ◌-◌, ◌++◌}
 use Rattle.boot_words.specs.Seating.{cpus_views}
-use Rattle.boot_words.specs.Opening.{first_seats}
+use Rattle.boot_words.specs.Opening.{opening_seats}
 use Rattle.boot_words.proofs.raw.BootWords.deal.Given as goal
 
 abbrev pub invariant-loop-cpu : goal.invariant-loop-cpu
@@ -8,5 +8,5 @@ invariant-loop-cpu l = record {
   table : l.raw.table ≡ l.self.table;
   range : l.cpu ≤ l.cpus + 1;
   views : l.raw.views ≡ cpus_views l.cpu (l.cpus + 1 - l.cpu);
-  seats : l.seats.items ++ first_seats l.self.table l.cpu (l.cpus + 1 - l.cpu) ≡ first_seats l.self.table 1 l.cpus;
+  seats : l.seats.items ++ opening_seats l.self.table l.cpu (l.cpus + 1 - l.cpu) ≡ opening_seats l.self.table 1 l.cpus;
 }
