@@ -1,6 +1,6 @@
 -- From what clap promises of a parse to the options that the words ask for.
 use Rattle.std.proofs.Common.{◌≡◌, ◌∙◌, ◌<◌, ◌≤◌, ◌^◌, ℕ, Bool, true, false, cond, List, [], ◌∷◌, Option, Some, None, Result, Ok, Err, IfOk}
-use Rattle.std.proofs.Common.{MatchResult, arith, refl, ap, ap₂, sym, subst}
+use Rattle.std.proofs.Common.{MatchResult, arith, refl, ap, sym, subst}
 use Rattle.std.specs.Prelude.{IsSome, OnOk, codes, nat_lt, option_and_then, unwrap_or, ◌||◌}
 use Rattle.std.specs.Option.{option_map_or}
 use Rattle.std.specs.Result.{IsErrAnd}
@@ -9,10 +9,7 @@ use Rattle.std.specs.Str.Parse.{ParsesBool, ParsesUnsigned, digits_value, withou
 use Rattle.std.proofs.lemmas.Bool.{ltb-false, ltb-true}
 use Rattle.std.proofs.lemmas.Slice.Eq.{bytes_eq-Decides}
 use Rattle.clap.specs.Kinds.{IsAmong, Kinds}
-use Rattle.clap.specs.Words.{AddsArg, App, ReadsOne, Row, Rule, app_of, fault_of, one_text, rows_of, rule_of, subcommand_of, with_rule}
-use Rattle.clap.specs.declared.builder.arg.Arg.{Arg}
-use Rattle.clap.specs.declared.builder.command.Command.{Command}
-use Rattle.clap.specs.declared.builder.command.Command.TheViews.{out-Command as fields_of}
+use Rattle.clap.specs.Words.{ReadsOne, Row, fault_of, one_text, rows_of, subcommand_of}
 use Rattle.clap.specs.Values.{IsUnsignedIn}
 use Rattle.clap.specs.ValueTests.{is_unsigned_in}
 use Rattle.clap.specs.declared.builder.value_parser.ValueParser.TheVariants.{Unsigned}
@@ -27,20 +24,6 @@ use Rattle.load_options.specs.declared.fault.WordsFault.TheVariants.{BadWords, N
 use Rattle.load_options.specs.Fault.{IsNoMemory}
 use Rattle.load_options.specs.Words.{GivesOptions, if_none, number_in, number_kept, asks_version, bare_options}
 use Rattle.load_options.specs.Words.{options_of, options_under, parsed_options, program, size_in}
-
--- ---- options
-
--- clap reads the command so, and none of its options is global
-abbrev pub IsRead : App → Command → Type 0
-IsRead app command = (app_of command ≡ app) × ((fields_of command).has_globals ≡ false)
-
--- and so with one option more
-pub option_added : (old new : Command) (option : Arg) (app : App) (rule : Rule) → IsRead app old → rule_of option ≡ rule → option.global ≡ false
-    → AddsArg old option new → IsRead (with_rule app rule) new
-option_added old new option app rule read is local added = (
-  added.shape local ∙ ap₂ with_rule read.0 is,
-  added.globals ∙ ap₂ ◌||◌ read.1 local,
-)
 
 -- ---- values
 

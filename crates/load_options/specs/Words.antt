@@ -34,6 +34,10 @@ flag_rule name = record (new_rule name) {
   action = Some SetTrue;
 }
 
+-- the command with one more option
+abbrev pub with_option : Shape → Rule → Shape
+with_option shape rule = record shape { rules = shape.rules ++ rule ∷ [] }
+
 -- the options of the sizes
 abbrev pub size_rules : List Rule
 size_rules =

@@ -8,7 +8,7 @@ ghost use Rattle.load_options.specs.Fault.{IsNoMemory};
 ghost use Rattle.load_options.specs.Sizes.{HasSizesInRange};
 ghost use Rattle.load_options.specs.Words.{GivesOptions, asks_version, bare_program, check_shape, command_shape};
 ghost use Rattle.load_options.specs.Words.{flag_rule, options_of, program, replay_shape, serve_shape, size_rule};
-ghost use Rattle.load_options.specs.Words.{sized_shape};
+ghost use Rattle.load_options.specs.Words.{sized_shape, with_option};
 
 use crate::fault::WordsFault;
 use crate::task::{Options, VERSION_OPTIONS, read_options};
@@ -185,10 +185,10 @@ fn replay_command<'a>(alloc: Global) -> Result<Command<'a>, AllocError>
     ensures shape { IfOk result (λ command. (app_of command).top ≡ replay_shape) }
     ensures local { IfOk result (λ command. (fields_of command).has_globals ≡ false) }
 {
-    subcommand(alloc, "replay", REPLAY_HELP)?
-        .arg(flag_option(alloc, "explain", EXPLAIN_HELP))?
-        .arg(flag_option(alloc, "check", CHECKED_HELP))?
-        .arg(flag_option(alloc, "steps", STEPS_HELP))
+    let command = subcommand(alloc, "replay", REPLAY_HELP)?;
+    let command = with_flag(alloc, command, "explain", EXPLAIN_HELP)?;
+    let command = with_flag(alloc, command, "check", CHECKED_HELP)?;
+    with_flag(alloc, command, "steps", STEPS_HELP)
 }
 
 // `serve`, which has three more options than the sizes.
@@ -196,10 +196,10 @@ fn serve_command<'a>(alloc: Global) -> Result<Command<'a>, AllocError>
     ensures shape { IfOk result (λ command. (app_of command).top ≡ serve_shape) }
     ensures local { IfOk result (λ command. (fields_of command).has_globals ≡ false) }
 {
-    sized(alloc, "serve", SERVE_HELP)?
-        .arg(flag_option(alloc, "audit", AUDIT_HELP))?
-        .arg(flag_option(alloc, "explain", EXPLAIN_HELP))?
-        .arg(flag_option(alloc, "steps", STEPS_HELP))
+    let command = sized(alloc, "serve", SERVE_HELP)?;
+    let command = with_flag(alloc, command, "audit", AUDIT_HELP)?;
+    let command = with_flag(alloc, command, "explain", EXPLAIN_HELP)?;
+    with_flag(alloc, command, "steps", STEPS_HELP)
 }
 
 // `check`, which has one option.
@@ -207,9 +207,8 @@ fn check_command<'a>(alloc: Global) -> Result<Command<'a>, AllocError>
     ensures shape { IfOk result (λ command. (app_of command).top ≡ check_shape) }
     ensures local { IfOk result (λ command. (fields_of command).has_globals ≡ false) }
 {
-    Command::new(alloc, "check")
-        .about(CHECK_HELP)
-        .arg(flag_option(alloc, "all", ALL_HELP))
+    let command = Command::new(alloc, "check").about(CHECK_HELP);
+    with_flag(alloc, command, "all", ALL_HELP)
 }
 
 // A subcommand that answers scripts, with its options.
@@ -217,10 +216,10 @@ fn subcommand<'a>(alloc: Global, name: &'a str, about: &'a str) -> Result<Comman
     ensures shape { IfOk result (λ command. (app_of command).top ≡ command_shape name.entry.now) }
     ensures local { IfOk result (λ command. (fields_of command).has_globals ≡ false) }
 {
-    sized(alloc, name, about)?
-        .arg(flag_option(alloc, "audit", AUDIT_HELP))?
-        .arg(flag_option(alloc, "numbered", NUMBERED_HELP))?
-        .arg(flag_option(alloc, "strict", STRICT_HELP))
+    let command = sized(alloc, name, about)?;
+    let command = with_flag(alloc, command, "audit", AUDIT_HELP)?;
+    let command = with_flag(alloc, command, "numbered", NUMBERED_HELP)?;
+    with_flag(alloc, command, "strict", STRICT_HELP)
 }
 
 // A subcommand on scripts, with the options of the sizes.
@@ -228,24 +227,32 @@ fn sized<'a>(alloc: Global, name: &'a str, about: &'a str) -> Result<Command<'a>
     ensures shape { IfOk result (λ command. (app_of command).top ≡ sized_shape name.entry.now) }
     ensures local { IfOk result (λ command. (fields_of command).has_globals ≡ false) }
 {
-    Command::new(alloc, name)
-        .about(about)
-        .arg(size_option(alloc, "frames", FRAMES_HELP, Config::MAX_FRAMES, "16"))?
-        .arg(size_option(alloc, "cpus", CPUS_HELP, Config::MAX_CPUS, "2"))?
-        .arg(size_option(alloc, "batch", BATCH_HELP, Config::MAX_BATCH, "4"))?
-        .arg(size_option(alloc, "high", HIGH_HELP, Config::MAX_HIGH, "8"))?
-        .arg(size_option(alloc, "stock", STOCK_HELP, Config::MAX_STOCK, "4"))
+    let app = Command::new(alloc, name).about(about);
+    let app = with_size(alloc, app, "frames", FRAMES_HELP, Config::MAX_FRAMES, "16")?;
+    let app = with_size(alloc, app, "cpus", CPUS_HELP, Config::MAX_CPUS, "2")?;
+    let app = with_size(alloc, app, "batch", BATCH_HELP, Config::MAX_BATCH, "4")?;
+    let app = with_size(alloc, app, "high", HIGH_HELP, Config::MAX_HIGH, "8")?;
+    with_size(alloc, app, "stock", STOCK_HELP, Config::MAX_STOCK, "4")
 }
 
-// An option without a value.
-fn flag_option<'a>(alloc: Global, name: &'a str, help: &'a str) -> Arg<'a>
-    ensures rule { rule_of result ≡ flag_rule name.entry.now }
-    ensures local { result.global ≡ false }
+// The command with one more option, which has no value.
+fn with_flag<'a>(
+    alloc: Global,
+    command: Command<'a>,
+    name: &'a str,
+    help: &'a str,
+) -> Result<Command<'a>, AllocError>
+    requires local { (fields_of command).has_globals ≡ false }
+    ensures shape { IfOk result (λ more. (app_of more).top
+        ≡ with_option (app_of command.entry).top (flag_rule name.entry.now)) }
+    ensures local { IfOk result (λ more. (fields_of more).has_globals ≡ false) }
 {
-    Arg::new(alloc, name)
-        .long(name)
-        .help(help)
-        .action(ArgAction::SetTrue)
+    command.arg(
+        Arg::new(alloc, name)
+            .long(name)
+            .help(help)
+            .action(ArgAction::SetTrue),
+    )
 }
 
 // A parser of whole numbers from 1 to `most`.
@@ -255,21 +262,26 @@ fn whole_number<'a>(most: u32) -> ValueParser<'a>
     value_parser!(u32).range(1..=i64::from(most))
 }
 
-// An option whose value is a whole number from 1 to `most`.
-fn size_option<'a>(
+// The command with one more option, whose value is a whole number from 1 to `most`.
+fn with_size<'a>(
     alloc: Global,
+    command: Command<'a>,
     name: &'a str,
     help: &'a str,
     most: u32,
     default: &'a str,
-) -> Arg<'a>
-    ensures rule { rule_of result ≡ size_rule name.entry.now most default.entry.now }
-    ensures local { result.global ≡ false }
+) -> Result<Command<'a>, AllocError>
+    requires local { (fields_of command).has_globals ≡ false }
+    ensures shape { IfOk result (λ more. (app_of more).top
+        ≡ with_option (app_of command.entry).top (size_rule name.entry.now most default.entry.now)) }
+    ensures local { IfOk result (λ more. (fields_of more).has_globals ≡ false) }
 {
-    Arg::new(alloc, name)
-        .long(name)
-        .value_name("N")
-        .help(help)
-        .value_parser(whole_number(most))
-        .default_value(default)
+    command.arg(
+        Arg::new(alloc, name)
+            .long(name)
+            .value_name("N")
+            .help(help)
+            .value_parser(whole_number(most))
+            .default_value(default),
+    )
 }

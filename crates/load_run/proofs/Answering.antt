@@ -1,6 +1,6 @@
 -- What a script is answered, from what was read of it.
 use Rattle.std.proofs.Common.{◌≡◌, ℕ, All, zero, suc, ◌+◌, refl, List, length, take, Option, None}
-use Rattle.std.proofs.Common.{Some, IfSome, Result, Ok, Err, IfErr, IfOk, arith, ap, ◌∙◌, sym, subst}
+use Rattle.std.proofs.Common.{Some, IfSome, Result, Ok, Err, IfOk, arith, ap, ◌∙◌, sym, subst}
 use Rattle.std.proofs.lemmas.List.{length-take, take_all}
 use Rattle.std.proofs.lemmas.Bool.{false≢true}
 use Rattle.std.specs.Io.KnownBytes.{Appends}
@@ -54,23 +54,10 @@ answered asked (Some bytes) script options lines text is_asked read is valid ans
       answers = subst (λ (all : List ℕ). AreAnswers options.task options.sizes options.is_audited options.is_numbered all lines text) (read ∙ whole) answers;
     }
 
--- so does what follows from it
-pub weakened : {T E : Type 0} (r : Result T E) (P Q : T → Type 0) → ((x : T) → P x → Q x) → IfOk r P → IfOk r Q
-weakened (Ok x) P Q follows is = follows x is
-weakened (Err e) P Q follows is = tt
-
 -- and what comes from two facts
 pub joined : {T E : Type 0} (r : Result T E) (P Q R : T → Type 0) → ((x : T) → P x → Q x → R x) → IfOk r P → IfOk r Q → IfOk r R
 joined (Ok x) P Q R follows p q = follows x p q
 joined (Err e) P Q R follows p q = tt
-
--- what is so of a good result is so of its value
-pub at_ok : {V E : Type 0} (r : Result V E) (v : V) (P : V → Type 0) → r ≡ Ok v → IfOk r P → P v
-at_ok {V = V} {E = E} r v P is holds = subst (λ (x : Result V E). IfOk x P) is holds
-
--- and what is so of a bad one is so of its fault
-pub at_err : {V E : Type 0} (r : Result V E) (e : E) (P : E → Type 0) → r ≡ Err e → IfErr r P → P e
-at_err {V = V} {E = E} r e P is holds = subst (λ (x : Result V E). IfErr x P) is holds
 
 -- so many CPUs have so many parts
 pub first_long : (t : KnownTable) (w : KnownStockTable) (p n : ℕ) → length (first_cpus t w p n) ≡ n

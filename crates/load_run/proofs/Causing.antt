@@ -1,5 +1,5 @@
 -- Why a fault came, by what each part of the program says of its own.
-use Rattle.std.proofs.Common.{◌≡◌, ◌∙◌, ℕ, List, length, take, Option, None, Some, IfSome, IsSome, Result, Ok, Err, IfErr, arith, ap, refl, subst, sym}
+use Rattle.std.proofs.Common.{◌≡◌, ◌∙◌, ℕ, List, length, take, Option, None, Some, IfSome, IsSome, arith, ap, refl, subst, sym}
 use Rattle.std.proofs.lemmas.List.{length-take, take_all}
 use Rattle.std.proofs.KnownBytes.{Appends-nil, Keeps-refl}
 use Rattle.script_lines.specs.declared.line.Line.{Line}
@@ -8,52 +8,33 @@ use Rattle.script_lines.specs.Script.{IsScript}
 use Rattle.zone_blocks.specs.Config.{IsValidConfig}
 use Rattle.load_options.specs.declared.task.Options.{Options}
 use Rattle.load_run.specs.declared.fault.ProgramFault.{ProgramFault}
-use Rattle.load_run.specs.declared.fault.ProgramFault.TheVariants.{Words, Script, BadLogLine, BadConfig, IllegalLine, IllegalEnd, Input, Output, NoMemory}
+use Rattle.load_run.specs.declared.fault.ProgramFault.TheVariants.{Words, Script, BadConfig, IllegalLine, IllegalEnd, Input, Output, NoMemory}
 use Rattle.load_run.specs.Answers.{IsAnswered, bytes_read}
 use Rattle.load_run.specs.Causes.{FailsAtWork, HasCause, IsMisused, LeavesAnswers, written}
 use Rattle.load_run.specs.Fault.{IsBootFault, IsFailedTask, IsReadFault, IsScriptFault, IsWordsFault, fault_text, fault_status_of}
 use Rattle.load_options.specs.Sizes.{HasSizesInRange}
 use Rattle.line_server.specs.Writing.{AppendsBeginning}
 
--- what a fault is, where there is one
-pub on_error : {T E : Type 0} (r : Result T E) (P Q : E → Type 0) → ((e : E) → P e → Q e) → IfErr r P → IfErr r Q
-on_error (Ok x) P Q follows is = tt
-on_error (Err e) P Q follows is = follows e is
-
 -- the words gave no options
 pub words_cause : (asked : Option Options) (input : Option (List ℕ)) (fault : ProgramFault) → IsWordsFault asked fault
     → IfSome input (HasCause asked fault)
 words_cause asked None fault is = tt
 words_cause asked (Some bytes) (Words fault) is = is
-words_cause asked (Some bytes) (Script fault) is = absurd is
-words_cause asked (Some bytes) (BadLogLine number reason) is = absurd is
-words_cause asked (Some bytes) BadConfig is = absurd is
-words_cause asked (Some bytes) (IllegalLine number) is = absurd is
-words_cause asked (Some bytes) IllegalEnd is = absurd is
-words_cause asked (Some bytes) Input is = absurd is
-words_cause asked (Some bytes) Output is = absurd is
-words_cause asked (Some bytes) (NoMemory e) is = absurd is
+words_cause asked (Some bytes) fault is = absurd is
 
 -- the input wasn't read
 pub read_cause : (asked : Option Options) (options : Options) (input : Option (List ℕ)) (fault : ProgramFault)
     → asked ≡ Some options → IsReadFault fault → IfSome input (HasCause asked fault)
 read_cause asked options None fault is_asked is = tt
-read_cause asked options (Some bytes) (Words fault) is_asked is = absurd is
-read_cause asked options (Some bytes) (Script fault) is_asked is = absurd is
-read_cause asked options (Some bytes) (BadLogLine number reason) is_asked is = absurd is
-read_cause asked options (Some bytes) BadConfig is_asked is = absurd is
-read_cause asked options (Some bytes) (IllegalLine number) is_asked is = absurd is
-read_cause asked options (Some bytes) IllegalEnd is_asked is = absurd is
 read_cause asked options (Some bytes) Input is_asked is = subst IsSome (sym is_asked) refl
-read_cause asked options (Some bytes) Output is_asked is = absurd is
 read_cause asked options (Some bytes) (NoMemory e) is_asked is = subst IsSome (sym is_asked) refl
+read_cause asked options (Some bytes) fault is_asked is = absurd is
 
 -- what was read is no script
 pub script_cause : (asked : Option Options) (options : Options) (input : Option (List ℕ)) (text : List ℕ) (fault : ProgramFault)
     → asked ≡ Some options → HasSizesInRange options.sizes → IfSome input (λ bytes. text ≡ bytes_read bytes)
     → IsScriptFault options.sizes text fault → IfSome input (HasCause asked fault)
 script_cause asked options None text fault is_asked in_range read is = tt
-script_cause asked options (Some bytes) text (Words fault) is_asked in_range read is = absurd is
 script_cause asked options (Some bytes) text (Script (script.BadLine n)) is_asked in_range read is = record {
   options = options;
   is_asked = is_asked;
@@ -61,13 +42,7 @@ script_cause asked options (Some bytes) text (Script (script.BadLine n)) is_aske
   first = subst (λ (l : List ℕ). IsScriptFault options.sizes l (Script (script.BadLine n))) read is;
 }
 script_cause asked options (Some bytes) text (Script script.NoMemory) is_asked in_range read is = subst IsSome (sym is_asked) refl
-script_cause asked options (Some bytes) text (BadLogLine number reason) is_asked in_range read is = absurd is
-script_cause asked options (Some bytes) text BadConfig is_asked in_range read is = absurd is
-script_cause asked options (Some bytes) text (IllegalLine number) is_asked in_range read is = absurd is
-script_cause asked options (Some bytes) text IllegalEnd is_asked in_range read is = absurd is
-script_cause asked options (Some bytes) text Input is_asked in_range read is = absurd is
-script_cause asked options (Some bytes) text Output is_asked in_range read is = absurd is
-script_cause asked options (Some bytes) text (NoMemory e) is_asked in_range read is = absurd is
+script_cause asked options (Some bytes) text fault is_asked in_range read is = absurd is
 
 -- what was read is all of the input, if it is a script
 whole_script : (options : Options) (bytes text : List ℕ) (lines : List Line) → text ≡ bytes_read bytes → IsScript options.sizes text lines
@@ -83,30 +58,19 @@ pub boot_cause : (asked : Option Options) (options : Options) (input : Option (L
     (fault : ProgramFault) → asked ≡ Some options → IfSome input (λ bytes. text ≡ bytes_read bytes)
     → IsScript options.sizes text lines → IsBootFault options lines fault → IfSome input (HasCause asked fault)
 boot_cause asked options None text lines fault is_asked read script is = tt
-boot_cause asked options (Some bytes) text lines (Words fault) is_asked read script is = absurd is.0
-boot_cause asked options (Some bytes) text lines (Script fault) is_asked read script is = absurd is.0
-boot_cause asked options (Some bytes) text lines (BadLogLine number reason) is_asked read script is = absurd is.0
 boot_cause asked options (Some bytes) text lines BadConfig is_asked read script is =
     record { options = options; is_asked = is_asked; lines = lines; script = whole_script options bytes text lines read script; refused = is }
 boot_cause asked options (Some bytes) text lines (IllegalLine number) is_asked read script is =
     record { options = options; is_asked = is_asked; lines = lines; script = whole_script options bytes text lines read script; stops = is.0 }
 boot_cause asked options (Some bytes) text lines IllegalEnd is_asked read script is =
     record { options = options; is_asked = is_asked; lines = lines; script = whole_script options bytes text lines read script; stops = is.0 }
-boot_cause asked options (Some bytes) text lines Input is_asked read script is = absurd is.0
-boot_cause asked options (Some bytes) text lines Output is_asked read script is = absurd is.0
 boot_cause asked options (Some bytes) text lines (NoMemory e) is_asked read script is = subst IsSome (sym is_asked) refl
+boot_cause asked options (Some bytes) text lines fault is_asked read script is = absurd is.0
 
 -- a boot that took its sizes and failed at its task is at fault
 pub failed_boot : (options : Options) (lines : List Line) (fault : ProgramFault) → IsValidConfig options.sizes → IsFailedTask options lines fault → IsBootFault options lines fault
-failed_boot options lines (Words f) valid is = (is, valid)
-failed_boot options lines (Script f) valid is = (is, valid)
-failed_boot options lines (BadLogLine n reason) valid is = (is, valid)
 failed_boot options lines BadConfig valid is = absurd is
-failed_boot options lines (IllegalLine n) valid is = (is, valid)
-failed_boot options lines IllegalEnd valid is = (is, valid)
-failed_boot options lines Input valid is = (is, valid)
-failed_boot options lines Output valid is = (is, valid)
-failed_boot options lines (NoMemory e) valid is = (is, valid)
+failed_boot options lines fault valid is = (is, valid)
 
 -- misuse that has a cause, and was told
 pub misused : (asked : Option Options) (input before after : Option (List ℕ)) (fault : ProgramFault) → fault_status_of fault ≡ 2
@@ -118,15 +82,8 @@ misused asked (Some bytes) before after fault is cause told = record { fault = f
 -- nothing was written, so that is a beginning of the answers too
 nothing_left : (asked : Option Options) (input : List ℕ) (fault : ProgramFault) (output : Option (List ℕ)) → HasCause asked fault input
     → LeavesAnswers asked fault output output input
-nothing_left asked input (Words fault) output cause = Keeps-refl output
-nothing_left asked input (Script fault) output cause = Keeps-refl output
-nothing_left asked input (BadLogLine number reason) output cause = absurd cause
-nothing_left asked input BadConfig output cause = Keeps-refl output
-nothing_left asked input (IllegalLine number) output cause = Keeps-refl output
-nothing_left asked input IllegalEnd output cause = Keeps-refl output
-nothing_left asked input Input output cause = Keeps-refl output
 nothing_left asked input Output output cause = record { text = cause.text; answered = cause.answered; begun = (0, Appends-nil output) }
-nothing_left asked input (NoMemory e) output cause = Keeps-refl output
+nothing_left asked input fault output cause = Keeps-refl output
 
 -- failure that has a cause, before an answer was written
 pub failed : (asked : Option Options) (input output before after : Option (List ℕ)) (fault : ProgramFault) → fault_status_of fault ≡ 1

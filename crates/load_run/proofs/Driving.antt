@@ -7,7 +7,7 @@ use Rattle.script_lines.specs.declared.fault.ScriptFault.TheVariants as script
 use Rattle.load_options.specs.declared.fault.WordsFault.TheVariants as words
 use Rattle.load_options.specs.declared.task.Options.{Options}
 use Rattle.load_run.specs.declared.fault.ProgramFault.{ProgramFault}
-use Rattle.load_run.specs.declared.fault.ProgramFault.TheVariants.{Words, Script, BadLogLine, BadConfig, IllegalLine, IllegalEnd, Input, Output, NoMemory}
+use Rattle.load_run.specs.declared.fault.ProgramFault.TheVariants.{Words, Script, Output}
 use Rattle.load_run.specs.Answers.{IsAnswered, IsWritten}
 use Rattle.load_run.specs.Causes.{HasCause, written}
 use Rattle.load_run.specs.Driving.{DrivesScript, IsAnsweredStatus}
@@ -18,60 +18,35 @@ use Rattle.load_run.proofs.Answering.{answers_written}
 use Rattle.load_run.proofs.Causing.{cut_short, failed, misused}
 
 -- a fault's status is 1 or 2
-pub status_low : (fault : ProgramFault) → 1 ≤ fault_status_of fault
-status_low (Words (words.BadWords text)) = omega arith
-status_low (Words (words.NoMemory error)) = omega arith
-status_low (Script (script.BadLine number)) = omega arith
-status_low (Script script.NoMemory) = omega arith
-status_low (BadLogLine number reason) = omega arith
-status_low BadConfig = omega arith
-status_low (IllegalLine number) = omega arith
-status_low IllegalEnd = omega arith
-status_low Input = omega arith
-status_low Output = omega arith
-status_low (NoMemory error) = omega arith
+abbrev IsFaultStatus : ℕ → Type 0
+IsFaultStatus status = (1 ≤ status) × (status ≤ 2)
 
-pub status_high : (fault : ProgramFault) → fault_status_of fault ≤ 2
-status_high (Words (words.BadWords text)) = omega arith
-status_high (Words (words.NoMemory error)) = omega arith
-status_high (Script (script.BadLine number)) = omega arith
-status_high (Script script.NoMemory) = omega arith
-status_high (BadLogLine number reason) = omega arith
-status_high BadConfig = omega arith
-status_high (IllegalLine number) = omega arith
-status_high IllegalEnd = omega arith
-status_high Input = omega arith
-status_high Output = omega arith
-status_high (NoMemory error) = omega arith
+fault_status : (fault : ProgramFault) → IsFaultStatus (fault_status_of fault)
+fault_status (Words (words.BadWords text)) = (omega arith, omega arith)
+fault_status (Script (script.BadLine number)) = (omega arith, omega arith)
+fault_status fault = (omega arith, omega arith)
 
-not_answered : (status : ℕ) → status ≡ 1 → IsAnsweredStatus status → ⊥
-not_answered status one answered = elim answered [
-  | inl zero ↦ omega (arith, one, zero)
-  | inr three ↦ omega (arith, one, three)
-]
+not_answered : (status : ℕ) → IsFaultStatus status → IsAnsweredStatus status → ⊥
+not_answered status fault (inl zero) = let low = fault.0 in omega (arith, zero, low)
+not_answered status fault (inr three) = let high = fault.1 in omega (arith, three, high)
 
 -- the answers were written, all of them
 drives_as : (options : Options) (input output output_after faults : Option (List ℕ)) (status : ℕ) → IsAnsweredStatus status
     → IfSome input (IsWritten (Some options) status output output_after)
     → DrivesScript (Some options) input (written output faults) (written output_after faults) status
-drives_as options input output output_after faults status (inl zero) is = record {
-  status_at_most = omega (arith, zero);
+drives_as options input output output_after faults status well is = record {
+  status_at_most = at_most well;
   is_asked = λ answered. refl;
   silent = λ answered. refl;
   answered = λ answered. is;
-  fails = λ one. absurd (omega (arith, zero, one));
-  no_output = λ two. absurd (omega (arith, zero, two));
-  misused = λ two. absurd (omega (arith, zero, two));
+  fails = λ one. absurd (not_answered status (omega (arith, one), omega (arith, one)) well);
+  no_output = λ two. absurd (not_answered status (omega (arith, two), omega (arith, two)) well);
+  misused = λ two. absurd (not_answered status (omega (arith, two), omega (arith, two)) well);
 }
-drives_as options input output output_after faults status (inr three) is = record {
-  status_at_most = omega (arith, three);
-  is_asked = λ answered. refl;
-  silent = λ answered. refl;
-  answered = λ answered. is;
-  fails = λ one. absurd (omega (arith, three, one));
-  no_output = λ two. absurd (omega (arith, three, two));
-  misused = λ two. absurd (omega (arith, three, two));
-}
+  where
+    at_most : IsAnsweredStatus status → status ≤ 3
+    at_most (inl zero) = omega (arith, zero)
+    at_most (inr three) = omega (arith, three)
 
 zero_or_three : (b : Bool) (status : ℕ) → status ≡ cond b 3 0 → IsAnsweredStatus status
 zero_or_three true status is = inr is
@@ -94,11 +69,12 @@ pub drives_short : (asked : Option Options) (input output output_after faults fa
     → DrivesScript asked input (written output faults) (written output_after faults_after) status
 drives_short asked input output output_after faults faults_after text given fault status answered same begun is status_is told =
     let ended : status ≡ 1 = status_is ∙ ap fault_status_of is in
+    let not_well = not_answered status (omega (arith, ended), omega (arith, ended)) in
     record {
       status_at_most = omega (arith, ended);
-      is_asked = λ well. absurd (not_answered status ended well);
-      silent = λ well. absurd (not_answered status ended well);
-      answered = λ well. absurd (not_answered status ended well);
+      is_asked = λ well. absurd (not_well well);
+      silent = λ well. absurd (not_well well);
+      answered = λ well. absurd (not_well well);
       fails = λ one. cut_short asked input output output_after faults faults_after text given fault answered same begun is told;
       no_output = λ two. absurd (omega (arith, ended, two));
       misused = λ two. absurd (omega (arith, ended, two));
@@ -109,14 +85,9 @@ pub drives_badly : (asked : Option Options) (input output faults faults_after : 
     → IfSome input (HasCause asked fault) → status ≡ fault_status_of fault → AppendsBeginning faults faults_after (fault_text fault)
     → DrivesScript asked input (written output faults) (written output faults_after) status
 drives_badly asked input output faults faults_after fault status cause status_is told =
-    let low : 1 ≤ fault_status_of fault = status_low fault in
-    let high : fault_status_of fault ≤ 2 = status_high fault in
-    let not_well : IsAnsweredStatus status → ⊥ = λ well. elim well [
-      | inl zero ↦ omega (arith, status_is, low, zero)
-      | inr three ↦ omega (arith, status_is, high, three)
-    ] in
+    let not_well = not_answered status (subst IsFaultStatus (sym status_is) (fault_status fault)) in
     record {
-      status_at_most = omega (arith, status_is, high);
+      status_at_most = let high = (fault_status fault).1 in omega (arith, status_is, high);
       is_asked = λ well. absurd (not_well well);
       silent = λ well. absurd (not_well well);
       answered = λ well. absurd (not_well well);

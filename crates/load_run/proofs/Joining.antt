@@ -14,44 +14,38 @@ use Rattle.script_replay.specs.Each.{AreAllAnswers, workers_from}
 use Rattle.script_replay.specs.Runs.{lines_before_go}
 use Rattle.load_run.specs.declared.boot_end.BootEnd.{BootEnd}
 use Rattle.load_run.specs.Answers.{IsNewBootState}
-use Rattle.load_run.specs.Ending.{EndsAfter, boot_end_text}
+use Rattle.load_run.specs.Ending.{EndsHeld, boot_end_text}
 use Rattle.load_run.specs.Answers.{AreThreadAnswers, IsQuietSystem}
+use Rattle.load_run.proofs.Starting.{lines_there}
 
--- all lines name what is there, also as the tables and the parts say it
-there : (frames cpus known parts : ℕ) (lines : List Line) → frames ≡ known → cpus ≡ parts → All (LineInRange frames cpus) lines
-    → All (LineInRange known parts) lines
-there frames cpus known parts lines f p all = subst (λ (b : ℕ × ℕ). All (LineInRange b.0 b.1) lines) (λ i. (f i, p i)) all
-
--- so do the first of them
+-- what the first of the lines name is there
 pub early_there : (sizes : Config) (t : KnownTable) (w : KnownStockTable) (n parts : ℕ) (lines early : List Line) → IsSizedAs sizes t w
-    → parts ≡ sizes.cpus → early ≡ take n lines → All (LineInRange sizes.frames sizes.cpus) lines → All (LineInRange t.frames parts) early
-early_there sizes t w n parts lines early sized count is all =
-    subst (λ (l : List Line). All (LineInRange t.frames parts) l) (sym is)
-    (All-take (LineInRange t.frames parts) n lines (there sizes.frames sizes.cpus t.frames parts lines (sym sized.frames) (sym count) all))
+    → parts ≡ t.cpus → early ≡ take n lines → All (LineInRange sizes.frames sizes.cpus) lines → All (LineInRange t.frames parts) early
+early_there sizes t w n parts lines early sized long is all =
+    subst (All (LineInRange t.frames parts)) (sym is) (All-take (LineInRange t.frames parts) n lines (lines_there sizes t w parts lines sized long all))
 
--- and the others
-pub later_there : (sizes : Config) (t : KnownTable) (w : KnownStockTable) (n : ℕ) (lines later : List Line) → IsSizedAs sizes t w
-    → later ≡ drop n lines → All (LineInRange sizes.frames sizes.cpus) lines → All (LineInRange t.frames t.cpus) later
-later_there sizes t w n lines later sized is all =
-    subst (λ (l : List Line). All (LineInRange t.frames t.cpus) l) (sym is)
-    (All-drop (LineInRange t.frames t.cpus) n lines (there sizes.frames sizes.cpus t.frames t.cpus lines (sym sized.frames) (sym sized.cpus) all))
+-- and what the others do
+pub later_there : (sizes : Config) (t : KnownTable) (w : KnownStockTable) (n parts : ℕ) (lines later : List Line) → IsSizedAs sizes t w
+    → parts ≡ t.cpus → later ≡ drop n lines → All (LineInRange sizes.frames sizes.cpus) lines → All (LineInRange t.frames parts) later
+later_there sizes t w n parts lines later sized long is all =
+    subst (All (LineInRange t.frames parts)) (sym is) (All-drop (LineInRange t.frames parts) n lines (lines_there sizes t w parts lines sized long all))
 
 -- the early lines were served from the boot on, the later ones told by CPU, and the boot ended: these are the
 -- answers
 pub are_answers : (sizes : Config) (is_numbered is_audited : Bool) (t : KnownTable) (w : KnownStockTable) (lines first_lines other_lines : List Line)
-    (start at_go : SystemState) (early later text : List ℕ) (told : BootEnd) → IsNewBootState sizes t w start
+    (start at_go end : SystemState) (early later text : List ℕ) (told : BootEnd) → IsNewBootState sizes t w start
     → first_lines ≡ take (lines_before_go lines) lines → other_lines ≡ drop (lines_before_go lines) lines
     → ServesAll (numbered_terms t w false is_numbered) first_lines start at_go early → HasHistory (numbered_terms t w false is_numbered) first_lines (past [] start) at_go early
     → AreAllAnswers (boot_tables t w) (workers_from 1 at_go.cpus other_lines is_numbered) later
-    → EndsAfter t w (IsQuietSystem t w) told
+    → IsQuietSystem t w end → EndsHeld t w end told
     → text ≡ (early ++ later) ++ boot_end_text is_audited told → AreThreadAnswers sizes is_numbered is_audited lines text
-are_answers sizes is_numbered is_audited t w lines first_lines other_lines start at_go early later text told first is_first is_other served history tells
-    ended is = record {
+are_answers sizes is_numbered is_audited t w lines first_lines other_lines start at_go end early later text told first is_first is_other served history tells
+    quiet ends is = record {
       frames = t;
       stocks = w;
       start = start;
       at_go = at_go;
-      end = ended.before;
+      end = end;
       early = early;
       later = later;
       ending = boot_end_text is_audited told;
@@ -59,7 +53,7 @@ are_answers sizes is_numbered is_audited t w lines first_lines other_lines start
       served = subst (λ (l : List Line). ServesAll (numbered_terms t w false is_numbered) l start at_go early) is_first served;
       history = subst (λ (l : List Line). HasHistory (numbered_terms t w false is_numbered) l (past [] start) at_go early) is_first history;
       tells = subst (λ (l : List Line). AreAllAnswers (boot_tables t w) (workers_from 1 at_go.cpus l is_numbered) later) is_other tells;
-      quiet = ended.so;
-      ends = record { ended = told; ends = ended.ends; text_is = refl };
+      quiet = quiet;
+      ends = record { ended = told; ends = ends; text_is = refl };
       text_is = is;
     }

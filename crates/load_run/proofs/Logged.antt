@@ -1,6 +1,6 @@
--- The log of lines and of the end. Serves `log_each`, `log_end`, `log_and_end_boot`.
-use Rattle.std.proofs.Common.{◌≡◌, ℕ, ◌+◌, ◌<◌, true, List, [], ◌++◌, Result, IfOk, OnOk, Ok, Err, length, take, get_or, refl, sym, ap, ◌∙◌, subst}
-use Rattle.std.proofs.Common.{append_assoc, append-nil}
+-- The log of lines and of the end. Serves `log_each`, `log_end`, `steps_on_boot`.
+use Rattle.std.proofs.Common.{◌≡◌, ℕ, ◌+◌, ◌<◌, true, List, ◌++◌, Result, IfOk, OnOk, length, take, get_or, refl, sym, ap, ◌∙◌, subst}
+use Rattle.std.proofs.Common.{append_assoc}
 use Rattle.std.proofs.lemmas.Result.{IfOk-weaker}
 use Rattle.std.specs.Prelude.{codes}
 use Rattle.frame_word.specs.Seats.{KnownTable}
@@ -12,15 +12,12 @@ use Rattle.script_replay.specs.Terms.{Terms, terms}
 use Rattle.script_replay.proofs.InOrder.{in_order_line}
 use Rattle.line_server.specs.Logs.{AddsPart, LogsLine, RenewsWatch, answer_comments}
 use Rattle.line_server.proofs.Logged.{wrote_alone}
-use Rattle.load_run.specs.declared.boot_end.BootEnd.{BootEnd}
-use Rattle.load_run.specs.Ending.{EndsHeld, boot_end_text}
+use Rattle.mem_system.specs.declared.audit.Audit.{Audit}
+use Rattle.mem_system.specs.Ends.{Closes, KnownEmptiedBoot}
+use Rattle.load_run.specs.Ending.{LeavesNothing, boot_end_text}
 use Rattle.load_run.specs.Logs.{GrowsBy, LogsAll, LogsAllAndEnd, LogsEnd, LogsNext, text_of_line}
 
 -- ---- the lines so far
-
-pub logs_start : (on : Terms) (texts : List (List ℕ)) (lines : List Line) (s : SystemState) (old : List ℕ)
-    → GrowsBy (λ log. InOrder (LogsNext on texts) (take 0 lines) s s log) old old
-logs_start on texts lines s old = record { text = []; so = (refl, refl); added = sym (append-nil old) }
 
 pub logs_more : (on : Terms) (texts : List (List ℕ)) (lines : List Line) (i : ℕ) (default : Line) (s m e : SystemState) (old mid new part : List ℕ)
     → i < length lines → GrowsBy (λ log. InOrder (LogsNext on texts) (take i lines) s m log) old mid
@@ -39,44 +36,50 @@ logs_text on texts m e {line} {part} l is one = subst (λ (x : List ℕ). LogsLi
 
 -- ---- the end
 
-module _ {T E : Type 0} (r : Result T E) (t : KnownTable) (w : KnownStockTable) (before begun : SystemState) (ended : BootEnd) (old new : List ℕ)
-    (renews : RenewsWatch before begun) (ends : EndsHeld t w begun ended) where
+module _ {T E : Type 0} (r : Result T E) (t : KnownTable) (w : KnownStockTable) (before begun : SystemState) (held : ℕ) (emptied : KnownEmptiedBoot)
+    (audit : Audit) (old new : List ℕ) (renews : RenewsWatch before begun) (leaves : LeavesNothing t w begun held emptied) (closes : Closes t w emptied audit) where
+  abbrev report : List ℕ
+  report = answer_comments (boot_end_text true (record { held = held; audit = audit }))
+
   -- the boot ended; the log of that was added, as far as the call succeeded
-  pub end_part : IfOk r (λ _. new ≡ old ++ (codes "# end\n" ++ (steps_text ends.leaves.steps ++ answer_comments (boot_end_text true ended))))
-      → AddsPart r old new (LogsEnd t w before)
+  pub end_part : IfOk r (λ _. new ≡ old ++ (codes "# end\n" ++ (steps_text leaves.steps ++ report))) → AddsPart r old new (LogsEnd t w before)
   end_part added = record {
-    part = codes "# end\n" ++ (steps_text ends.leaves.steps ++ answer_comments (boot_end_text true ended));
-    so = record { begun = begun; renews = renews; ended = ended; ends = ends; log_is = refl };
+    part = codes "# end\n" ++ (steps_text leaves.steps ++ report);
+    so = record {
+      begun = begun;
+      renews = renews;
+      ended = record { held = held; audit = audit };
+      ends = record { emptied = emptied; leaves = leaves; closes = closes };
+      log_is = refl;
+    };
     added = added;
   }
 
-  pub end_logged : (both : List ℕ) → has_whole_log ends.emptied.machine.watch ≡ true → both ≡ old ++ (codes "# end\n" ++ log_text ends.emptied.machine.watch)
-      → OnOk r (new ≡ both ++ answer_comments (boot_end_text true ended)) → AddsPart r old new (LogsEnd t w before)
+  pub end_logged : (both : List ℕ) → has_whole_log emptied.machine.watch ≡ true → both ≡ old ++ (codes "# end\n" ++ log_text emptied.machine.watch)
+      → OnOk r (new ≡ both ++ report) → AddsPart r old new (LogsEnd t w before)
   end_logged both whole is_both added =
       let front = codes "# end\n" in
-      let made = steps_text ends.leaves.steps in
-      let told = answer_comments (boot_end_text true ended) in
-      let last = ends.emptied.machine.watch in
+      let made = steps_text leaves.steps in
+      let last = emptied.machine.watch in
       let is_new : IsNewLog begun.locked.machine.watch = subst IsNewLog (sym (ap (λ (x : SystemState). x.locked.machine.watch) renews.begun_is)) renews.is_new in
-      let wrote : log_text last ≡ made = wrote_alone begun.locked.machine.watch ends.leaves.steps last is_new ends.leaves.watched whole in
-      end_part (IfOk-weaker r _ _ (λ done is. is ∙ ap (λ (l : List ℕ). l ++ told) (is_both ∙ ap (λ (l : List ℕ). old ++ (front ++ l)) wrote)
-      ∙ append_assoc old (front ++ made) told ∙ ap (λ (l : List ℕ). old ++ l) (append_assoc front made told)) added)
+      let wrote : log_text last ≡ made = wrote_alone begun.locked.machine.watch leaves.steps last is_new leaves.watched whole in
+      end_part (IfOk-weaker r _ _ (λ done is. is ∙ ap (λ (l : List ℕ). l ++ report) (is_both ∙ ap (λ (l : List ℕ). old ++ (front ++ l)) wrote)
+      ∙ append_assoc old (front ++ made) report ∙ ap (λ (l : List ℕ). old ++ l) (append_assoc front made report)) added)
 
 -- ---- both
 
-pub both_logged : {T E : Type 0} (r : Result T E) (t : KnownTable) (w : KnownStockTable) (texts : List (List ℕ)) (lines : List Line) (s e : SystemState)
-    (old mid new : List ℕ) → GrowsBy (LogsAll (terms t w true) texts lines s e) old mid → AddsPart r mid new (LogsEnd t w e)
-    → OnOk r (GrowsBy (LogsAllAndEnd t w texts lines s) old new)
-both_logged (Ok x) t w texts lines s e old mid new served ended = record {
-  text = served.text ++ ended.part;
+pub both_logged : (t : KnownTable) (w : KnownStockTable) (texts : List (List ℕ)) (lines : List Line) (s e : SystemState) (old mid new part : List ℕ)
+    → GrowsBy (LogsAll (terms t w true) texts lines s e) old mid → LogsEnd t w e part → new ≡ mid ++ part
+    → GrowsBy (LogsAllAndEnd t w texts lines s) old new
+both_logged t w texts lines s e old mid new part served ends added = record {
+  text = served.text ++ part;
   so = record {
     end = e;
     served_log = served.text;
     served = served.so;
-    ending = ended.part;
-    ends = ended.so;
+    ending = part;
+    ends = ends;
     log_is = refl;
   };
-  added = ended.added ∙ ap (λ (l : List ℕ). l ++ ended.part) served.added ∙ append_assoc old served.text ended.part;
+  added = added ∙ ap (λ (l : List ℕ). l ++ part) served.added ∙ append_assoc old served.text part;
 }
-both_logged (Err error) t w texts lines s e old mid new served ended = tt

@@ -5,7 +5,7 @@ use Rattle.std.specs.Io.KnownBytes.{Appends}
 use Rattle.zone_blocks.specs.declared.config.Config.{Config}
 use Rattle.load_options.specs.declared.fault.WordsFault.TheVariants as words
 use Rattle.load_run.specs.declared.fault.ProgramFault.{ProgramFault}
-use Rattle.load_run.specs.declared.fault.ProgramFault.TheVariants.{BadConfig, BadLogLine, IllegalEnd, IllegalLine, Input, NoMemory, Output, Script, Words}
+use Rattle.load_run.specs.declared.fault.ProgramFault.TheVariants.{Input, NoMemory, Output, Words}
 use Rattle.load_run.specs.Answers.{bytes_read}
 use Rattle.load_run.specs.Causes.{written}
 use Rattle.load_run.specs.Fault.{fault_text, fault_status_of}
@@ -85,27 +85,22 @@ lints_short sizes input before after faults faults_after text given is_clean fau
     go None lint = tt
     go (Some b) lint = record { text = text; is_clean = is_clean; lint = lint; begun = subst (AppendsBeginning before after) same begun }
 
-everywhere : (bytes : Option (List ℕ)) (P : List ℕ → Type 0) → ((text : List ℕ) → P text) → IfSome bytes P
+pub everywhere : (bytes : Option (List ℕ)) (P : List ℕ → Type 0) → ((text : List ℕ) → P text) → IfSome bytes P
 everywhere None P all = tt
 everywhere (Some text) P all = all text
+
+-- a fault before anything is written has status 1
+early_status : (fault : ProgramFault) → IsEarlyFault fault → fault_status_of fault ≡ 1
+early_status Input early = refl
+early_status (NoMemory e) early = refl
+early_status (Words (words.NoMemory e)) early = refl
+early_status fault early = absurd early
 
 -- a fault came before there was anything to write
 pub lints_early : (sizes : Config) (input output faults faults_after : Option (List ℕ)) (fault : ProgramFault) (status : ℕ)
     → IsEarlyFault fault → status ≡ fault_status_of fault → AppendsBeginning faults faults_after (fault_text fault)
     → Lints sizes input (written output faults) (written output faults_after) status
-lints_early sizes input output faults faults_after Input status early ended told =
-    lints_failed sizes input output output faults faults_after Input status
-    (everywhere input (LeavesFindings sizes Input output output) (λ b. (early, refl))) ended told
-lints_early sizes input output faults faults_after (NoMemory e) status early ended told =
-    lints_failed sizes input output output faults faults_after (NoMemory e) status
-    (everywhere input (LeavesFindings sizes (NoMemory e) output output) (λ b. (early, refl))) ended told
-lints_early sizes input output faults faults_after (Words (words.NoMemory e)) status early ended told =
-    lints_failed sizes input output output faults faults_after (Words (words.NoMemory e)) status
-    (everywhere input (LeavesFindings sizes (Words (words.NoMemory e)) output output) (λ b. (early, refl))) ended told
-lints_early sizes input output faults faults_after (Words (words.BadWords text)) status early ended told = absurd early
-lints_early sizes input output faults faults_after (Script f) status early ended told = absurd early
-lints_early sizes input output faults faults_after (BadLogLine n reason) status early ended told = absurd early
-lints_early sizes input output faults faults_after BadConfig status early ended told = absurd early
-lints_early sizes input output faults faults_after (IllegalLine n) status early ended told = absurd early
-lints_early sizes input output faults faults_after IllegalEnd status early ended told = absurd early
 lints_early sizes input output faults faults_after Output status early ended told = absurd early
+lints_early sizes input output faults faults_after fault status early ended told =
+    lints_failed sizes input output output faults faults_after fault status
+    (everywhere input (LeavesFindings sizes fault output output) (λ b. (early, refl))) (ended ∙ early_status fault early) told

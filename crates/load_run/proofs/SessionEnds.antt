@@ -1,21 +1,16 @@
 -- What a session promises, from how it ended. Serves `drive_serve`, `serve_on_boot`.
-use Rattle.std.proofs.Common.{◌≡◌, ◌∙◌, ◌++◌, ◌⊎◌, ℕ, Bool, List, [], Option, Result, Ok, Err, Vec, IfErr, IfOk, OnOk, ap, arith, inl, inr, refl, subst, sym}
+use Rattle.std.proofs.Common.{◌≡◌, ◌∙◌, ◌++◌, ℕ, Bool, List, [], Option, Result, Ok, Err, Vec, IfErr, IfOk, OnOk, ap, arith, inl, inr, refl, subst, sym}
 use Rattle.std.proofs.lemmas.Result.{IfOk-weaker}
 use Rattle.std.proofs.KnownBytes.{Appends-nil}
 use Rattle.std.specs.declared.alloc.AllocError.{AllocError}
 use Rattle.std.specs.Io.KnownBytes.{Appends}
 use Rattle.frame_word.specs.Seats.{KnownTable}
 use Rattle.stock_word.specs.Stock.{KnownStockTable}
-use Rattle.cpu_part.specs.Cpus.{KnownCpu}
 use Rattle.zone_blocks.specs.declared.config.Config.{Config}
 use Rattle.zone_blocks.specs.Config.{IsValidConfig}
-use Rattle.mem_machine.specs.Machines.{IsFirst}
 use Rattle.mem_history.specs.Whole.{ShowsAll}
 use Rattle.mem_history.specs.Kept.{AreTied}
-use Rattle.mem_history.proofs.Agreeing.{a_boot_agrees}
-use Rattle.mem_system.specs.Boots.{IsSizedAs, first_cpus}
-use Rattle.mem_system.specs.Locked.{KnownLocked}
-use Rattle.script_replay.specs.Lines.{SystemState, system_state}
+use Rattle.script_replay.specs.Lines.{SystemState}
 use Rattle.script_replay.specs.History.{past}
 use Rattle.line_server.specs.declared.form.SessionForm.{SessionForm}
 use Rattle.line_server.specs.declared.form.SessionForm.TheVariants.{Answers, Steps}
@@ -36,10 +31,10 @@ use Rattle.load_run.specs.Causes.{written}
 use Rattle.load_run.specs.Ending.{EndsHeld, boot_end_text}
 use Rattle.load_run.specs.Fault.{fault_text, fault_status_of}
 use Rattle.load_run.specs.Logs.{LogsEnd, log_head_text}
-use Rattle.load_run.specs.Sessions.{BeginsHead, DrivesSession, EndsInForm, EndsSession, IsOfValid, IsSameFault, IsWorkFault, LeavesEnding, LeavesSession}
+use Rattle.load_run.specs.Sessions.{BeginsHead, DrivesSession, EndsInForm, EndsSession, IsOfValid, IsSameFault, IsWorkFault, LeavesSession}
 use Rattle.load_run.specs.Sessions.{LeavesWithHead, ServesInput, ServesWithHead, StopsSession, WritesHead}
 use Rattle.line_server.specs.Writing.{AppendsBeginning}
-use Rattle.load_run.proofs.Starting.{boot_shown, parts_tied}
+use Rattle.load_run.proofs.Starting.{boot_agrees, boot_shown, parts_tied}
 
 -- a fault at work has status 1
 work_status : (fault : ProgramFault) → IsWorkFault fault → fault_status_of fault ≡ 1
@@ -47,69 +42,21 @@ work_status kinds.Input is = refl
 work_status kinds.Output is = refl
 work_status (kinds.NoMemory error) is = refl
 work_status (kinds.Words (words.NoMemory error)) is = refl
-work_status (kinds.Words (words.BadWords text)) is = absurd is
-work_status (kinds.Script f) is = absurd is
-work_status (kinds.BadLogLine n reason) is = absurd is
-work_status kinds.BadConfig is = absurd is
-work_status (kinds.IllegalLine n) is = absurd is
-work_status kinds.IllegalEnd is = absurd is
+work_status fault is = absurd is
 
 -- a fault of a boot that took the sizes
-pub of_valid : (sizes : Config) (fault : ProgramFault) → IsValidConfig sizes → IsOfValid sizes fault
+of_valid : (sizes : Config) (fault : ProgramFault) → IsValidConfig sizes → IsOfValid sizes fault
 of_valid sizes (kinds.Words f) valid = tt
-of_valid sizes (kinds.Script f) valid = valid
-of_valid sizes (kinds.BadLogLine n reason) valid = valid
-of_valid sizes kinds.BadConfig valid = valid
-of_valid sizes (kinds.IllegalLine n) valid = valid
-of_valid sizes kinds.IllegalEnd valid = valid
-of_valid sizes kinds.Input valid = valid
-of_valid sizes kinds.Output valid = valid
-of_valid sizes (kinds.NoMemory error) valid = valid
+of_valid sizes fault valid = valid
 
 -- a fault of a session is one at work
-pub same_at_work : (why : ServeFault) (fault : ProgramFault) → IsSameFault why fault → IsWorkFault fault
+same_at_work : (why : ServeFault) (fault : ProgramFault) → IsSameFault why fault → IsWorkFault fault
 same_at_work serve.Input kinds.Input is = tt
 same_at_work serve.Output kinds.Output is = tt
 same_at_work serve.NoMemory (kinds.NoMemory error) is = tt
-same_at_work serve.Input (kinds.NoMemory error) is = absurd is
-same_at_work serve.Input (kinds.Words f) is = absurd is
-same_at_work serve.Output (kinds.NoMemory error) is = absurd is
-same_at_work serve.Output (kinds.Words f) is = absurd is
-same_at_work serve.NoMemory (kinds.Words f) is = absurd is
-same_at_work serve.Input kinds.Output is = absurd is
-same_at_work serve.Output kinds.Input is = absurd is
-same_at_work serve.NoMemory kinds.Input is = absurd is
-same_at_work serve.NoMemory kinds.Output is = absurd is
-same_at_work why (kinds.Script f) is = absurd (none why is)
-  where
-    none : (why : ServeFault) → IsSameFault why (kinds.Script f) → ⊥
-    none serve.Input is = is
-    none serve.Output is = is
-    none serve.NoMemory is = is
-same_at_work why (kinds.BadLogLine n reason) is = absurd (none why is)
-  where
-    none : (why : ServeFault) → IsSameFault why (kinds.BadLogLine n reason) → ⊥
-    none serve.Input is = is
-    none serve.Output is = is
-    none serve.NoMemory is = is
-same_at_work why kinds.BadConfig is = absurd (none why is)
-  where
-    none : (why : ServeFault) → IsSameFault why kinds.BadConfig → ⊥
-    none serve.Input is = is
-    none serve.Output is = is
-    none serve.NoMemory is = is
-same_at_work why (kinds.IllegalLine n) is = absurd (none why is)
-  where
-    none : (why : ServeFault) → IsSameFault why (kinds.IllegalLine n) → ⊥
-    none serve.Input is = is
-    none serve.Output is = is
-    none serve.NoMemory is = is
-same_at_work why kinds.IllegalEnd is = absurd (none why is)
-  where
-    none : (why : ServeFault) → IsSameFault why kinds.IllegalEnd → ⊥
-    none serve.Input is = is
-    none serve.Output is = is
-    none serve.NoMemory is = is
+same_at_work serve.Input fault is = absurd is
+same_at_work serve.Output fault is = absurd is
+same_at_work serve.NoMemory fault is = absurd is
 
 -- ---- the status
 
@@ -167,23 +114,6 @@ drives_stopped options form input before after faults faults_after fault status 
 
 -- ---- the head
 
--- a fault before any line was read, and before the head was written whole
-pub stops_early : (options : Options) (form : SessionForm) (input before after : Option (List ℕ)) (fault : ProgramFault) → IsValidConfig options.sizes
-    → IsWorkFault fault → (after ≡ before) ⊎ BeginsHead form options.sizes before after → StopsSession options form input before after fault
-stops_early options form input before after fault valid at_work begun = left_stops options form input before after fault (record {
-  at_work = at_work;
-  valid = of_valid options.sizes fault valid;
-  left = elim begun [
-    | inl none ↦ inl none
-    | inr some ↦ inr (inl some)
-  ];
-})
-  where
-    left_stops : (options : Options) (form : SessionForm) (input before after : Option (List ℕ)) (fault : ProgramFault)
-        → LeavesWithHead options form input before after fault → StopsSession options form input before after fault
-    left_stops options form input before after kinds.BadConfig left = absurd left.at_work
-    left_stops options form input before after fault left = left
-
 -- a session that writes answers has no head
 pub no_head : (form : SessionForm) (is_explained : Bool) (sizes : Config) (before : Option (List ℕ)) → form ≡ Answers is_explained → WritesHead form sizes before before
 no_head form is_explained sizes before is = subst (λ (f : SessionForm). WritesHead f sizes before before) (sym is) refl
@@ -206,33 +136,7 @@ head_begun (Err fault) form sizes before after bytes is same failed begun = (
 pub head_missed : (form : SessionForm) (sizes : Config) (before : Option (List ℕ)) → form ≡ Steps → BeginsHead form sizes before before
 head_missed form sizes before is = subst (λ (f : SessionForm). BeginsHead f sizes before before) (sym is) (0, Appends-nil before)
 
--- a session behind its head
-pub headed_serves : {T : Type 0} (options : Options) (form : SessionForm) (input before headed after : Option (List ℕ)) (r : Result T ProgramFault)
-    → WritesHead form options.sizes before headed → OnOk r (ServesInput options form input headed after) → OnOk r (ServesWithHead options form input before after)
-headed_serves options form input before headed after (Ok x) head serves = record { headed = headed; head = head; then = serves }
-headed_serves options form input before headed after (Err fault) head serves = tt
-
-pub headed_stops : {T : Type 0} (options : Options) (form : SessionForm) (input before headed after : Option (List ℕ)) (r : Result T ProgramFault)
-    → WritesHead form options.sizes before headed → IfErr r (LeavesSession options form input headed after)
-    → IfErr r (StopsSession options form input before after)
-headed_stops options form input before headed after (Ok x) head left = tt
-headed_stops options form input before headed after (Err kinds.BadConfig) head left = absurd left.at_work
-headed_stops options form input before headed after (Err fault) head left = record {
-  at_work = left.at_work;
-  valid = left.valid;
-  left = inr (inr (record { headed = headed; head = head; then = left }));
-}
-
 -- ---- on a boot
-
--- what holds on the terms of a server holds on what it was made of
-pub as_made : (t : KnownTable) (w : KnownStockTable) (server : KnownServer) (sizes : Config) (form : SessionForm) (state : SystemState)
-    (P : SessionTerms → Config → SystemState → Type 0) → server.sizes ≡ sizes → server.form ≡ form → server.state ≡ state
-    → P (terms_of t w server) server.sizes server.state → P (session_terms t w form) sizes state
-as_made t w server sizes form state P same formed stands is =
-    subst (λ (s : SystemState). P (session_terms t w form) sizes s) stands
-    (subst (λ (c : Config). P (session_terms t w form) c server.state) same
-    (subst (λ (f : SessionForm). P (session_terms t w f) server.sizes server.state) formed is))
 
 -- turns that are replayed from a boot have their history
 history_of : (form : SessionForm) (t : KnownTable) (w : KnownStockTable) (turns : List Turn) (start end : SystemState) → ShowsAll t [] start.locked.machine start.cpus
@@ -240,34 +144,37 @@ history_of : (form : SessionForm) (t : KnownTable) (w : KnownStockTable) (turns 
 history_of (Answers is_explained) t w turns start end shows tied replays = replays.history [] shows tied
 history_of Steps t w turns start end shows tied replays = replays [] shows tied
 
--- a boot as it is at first
-module _ (booted : Config) (options : Options) (form : SessionForm) (t : KnownTable) (w : KnownStockTable) (locked : KnownLocked) (cpus : List KnownCpu)
-    (same : booted ≡ options.sizes) (sized : IsSizedAs booted t w) (machine : IsFirst t w locked.machine) (sizes : locked.sizes ≡ booted)
-    (first : cpus ≡ first_cpus t w 1 booted.cpus) where
-  stands : IsNewBootState options.sizes t w (system_state locked cpus)
-  stands = subst (λ (c : Config). IsNewBootState c t w (system_state locked cpus)) same
-      (record { sized = sized; machine = machine; sizes_are = sizes; cpus = first })
+module _ (options : Options) (form : SessionForm) (t : KnownTable) (w : KnownStockTable) (server : KnownServer) (start : SystemState)
+    (new : IsNewBootState options.sizes t w start) (sized : server.sizes ≡ options.sizes) (formed : server.form ≡ form) (stands : server.state ≡ start) where
+  -- what holds on the terms of a server holds on what it was made of
+  as_made : (P : SessionTerms → Config → SystemState → Type 0) → P (terms_of t w server) server.sizes server.state
+      → P (session_terms t w form) options.sizes start
+  as_made P is =
+      subst (λ (s : SystemState). P (session_terms t w form) options.sizes s) stands
+      (subst (λ (c : Config). P (session_terms t w form) c server.state) sized
+      (subst (λ (f : SessionForm). P (session_terms t w f) server.sizes server.state) formed is))
 
-  -- it served a session, and ended
-  pub session_ends : (input before middle : Option (List ℕ)) (end : SystemState) (ending : List ℕ)
-      → ServesSession (session_terms t w form) options.sizes input (system_state locked cpus) end before middle
-      → EndsInForm form t w options.is_audited end ending → EndsSession options form input before middle ending
-  session_ends input before middle end ending session ends = record {
-    frames = t;
-    stocks = w;
-    start = system_state locked cpus;
-    end = end;
-    first = stands;
-    session = session;
-    history = history_of form t w session.turns (system_state locked cpus) end (boot_shown booted t w locked.machine cpus sized machine first)
-        (parts_tied booted t w locked.machine cpus sized machine first) session.holds.replays;
-    agrees = a_boot_agrees t w locked.machine machine;
-    ends = ends;
-  }
+  -- the server of a new boot served a session, and the boot ended
+  pub session_ends : (input before middle : Option (List ℕ)) (end left : SystemState) (ending : List ℕ)
+      → ServesSession (terms_of t w server) server.sizes input server.state end before middle → left ≡ end
+      → EndsInForm form t w options.is_audited left ending → EndsSession options form input before middle ending
+  session_ends input before middle end left ending serves is ends =
+      let session = as_made (λ on sizes s. ServesSession on sizes input s end before middle) serves in
+      record {
+        frames = t;
+        stocks = w;
+        start = start;
+        end = end;
+        first = new;
+        session = session;
+        history = history_of form t w session.turns start end (boot_shown _ _ _ _ new) (parts_tied _ _ _ _ new) session.holds.replays;
+        agrees = boot_agrees _ _ _ _ new;
+        ends = subst (λ (s : SystemState). EndsInForm form t w options.is_audited s ending) is ends;
+      }
 
-  -- or failed
+  -- or the session failed
   pub session_fails : (input before after : Option (List ℕ)) (end : SystemState) (why : ServeFault) (fault : ProgramFault)
-      → IsValidConfig options.sizes → FailsSession (session_terms t w form) options.sizes input (system_state locked cpus) end before after why → IsSameFault why fault
+      → IsValidConfig options.sizes → FailsSession (terms_of t w server) server.sizes input server.state end before after why → IsSameFault why fault
       → LeavesSession options form input before after fault
   session_fails input before after end why fault valid fails is = record {
     at_work = same_at_work why fault is;
@@ -275,12 +182,12 @@ module _ (booted : Config) (options : Options) (form : SessionForm) (t : KnownTa
     left = inr (inl (record {
       frames = t;
       stocks = w;
-      start = system_state locked cpus;
+      start = start;
       end = end;
-      first = stands;
+      first = new;
       why = why;
       same = is;
-      fails = fails;
+      fails = as_made (λ on sizes s. FailsSession on sizes input s end before after why) fails;
     }));
   }
 
@@ -317,12 +224,12 @@ ending_written options form input before middle after ending (Err fault) ends is
 -- or not whole
 pub ending_begun : {T : Type 0} (options : Options) (form : SessionForm) (input before middle after : Option (List ℕ)) (ending : List ℕ)
     (r : Result T ProgramFault) → IsValidConfig options.sizes → EndsSession options form input before middle ending
-    → IfErr r (LeavesEnding middle after ending) → IfErr r (LeavesSession options form input before after)
-ending_begun options form input before middle after ending (Ok x) valid ends is = tt
-ending_begun options form input before middle after ending (Err fault) valid ends is = record {
-  at_work = is.at_work;
+    → IfErr r (λ fault. fault ≡ kinds.Output) → AppendsBeginning middle after ending → IfErr r (LeavesSession options form input before after)
+ending_begun options form input before middle after ending (Ok x) valid ends is begun = tt
+ending_begun options form input before middle after ending (Err fault) valid ends is begun = record {
+  at_work = subst IsWorkFault (sym is) tt;
   valid = of_valid options.sizes fault valid;
-  left = inr (inr (record { middle = middle; ending = ending; ends = ends; begun = is.begun }));
+  left = inr (inr (record { middle = middle; ending = ending; ends = ends; begun = begun }));
 }
 
 -- or not at all
@@ -333,9 +240,3 @@ ending_missed options form input before middle ending error valid ends = record 
   valid = valid;
   left = inr (inr (record { middle = middle; ending = ending; ends = ends; begun = (0, Appends-nil middle) }));
 }
-
--- the output took a beginning of the text
-pub ending_unwritten : {T : Type 0} (r : Result T ProgramFault) (before after : Option (List ℕ)) (ending : List ℕ) → IfErr r (λ fault. fault ≡ kinds.Output)
-    → AppendsBeginning before after ending → IfErr r (LeavesEnding before after ending)
-ending_unwritten (Ok x) before after ending is begun = tt
-ending_unwritten (Err fault) before after ending is begun = record { at_work = subst IsWorkFault (sym is) tt; begun = begun }

@@ -1,6 +1,6 @@
 -- What stands after a boot is shown, and each part is what its seats know. Serves `replay_on_boot`, `check_on_boot`,
--- `run_by_threads`.
-use Rattle.std.proofs.Common.{◌≡◌, ℕ, ◌+◌, ◌≤◌, Some, List, [], length, refl, sym, ◌∙◌, ap, subst, arith, zero, suc}
+-- `steps_on_boot`, `run_by_threads`.
+use Rattle.std.proofs.Common.{◌≡◌, ℕ, ◌+◌, ◌≤◌, Some, List, [], ◌++◌, All, drop, length, refl, sym, take, ◌∙◌, ap, subst, arith, zero, suc}
 use Rattle.std.specs.List.{slice_get}
 use Rattle.std.proofs.lemmas.Option.{slice_get_within}
 use Rattle.frame_word.specs.Seats.{KnownTable}
@@ -16,6 +16,14 @@ use Rattle.mem_history.specs.Whole.{ShowsAll}
 use Rattle.mem_history.specs.Kept.{AreTied, IsTiedPart}
 use Rattle.mem_history.proofs.Booting.{a_boot_is_shown}
 use Rattle.mem_system.specs.Boots.{IsSizedAs, part_at_first, first_cpus}
+use Rattle.mem_machine.specs.Agreeing.{AgreesWithRun}
+use Rattle.mem_history.proofs.Agreeing.{a_boot_agrees}
+use Rattle.mem_system.proofs.Closing.{written_back}
+use Rattle.mem_system.specs.Locked.{KnownLocked}
+use Rattle.script_lines.specs.declared.line.Line.{Line}
+use Rattle.script_replay.specs.Lines.{SystemState, system_state}
+use Rattle.script_replay.specs.Ranges.{LineInRange}
+use Rattle.load_run.specs.Starting.{IsNewBootState}
 use Rattle.load_run.proofs.Answering.{first_long}
 
 first_at : (t : KnownTable) (w : KnownStockTable) (p n k : ℕ) (c : KnownCpu) → slice_get (first_cpus t w p n) k ≡ Some c → c ≡ part_at_first t w (p + k)
@@ -41,29 +49,53 @@ first_tied t w p low high payer = record {
   within = record { list_bound = omega arith; fresh_bound = omega arith; pin_bound = omega arith; pages_are = refl };
 }
 
-module _ (sizes : Config) (t : KnownTable) (w : KnownStockTable) (m : KnownMachine) (cpus : List KnownCpu) (sized : IsSizedAs sizes t w) (first : IsFirst t w m)
-    (are : cpus ≡ first_cpus t w 1 sizes.cpus) where
-  each_first : (k : ℕ) (c : KnownCpu) → slice_get cpus k ≡ Some c → c ≡ part_at_first t w (suc k)
-  each_first k c at =
-      first_at t w 1 sizes.cpus k c (subst (λ (l : List KnownCpu). slice_get l k ≡ Some c) are at) ∙ ap (part_at_first t w) (omega arith)
+-- the parts of a boot as they are made
+pub new_state : (booted sizes : Config) (t : KnownTable) (w : KnownStockTable) (locked : KnownLocked) (cpus : List KnownCpu) → booted ≡ sizes
+    → IsSizedAs booted t w → IsFirst t w locked.machine → locked.sizes ≡ booted → cpus ≡ first_cpus t w 1 booted.cpus
+    → IsNewBootState sizes t w (system_state locked cpus)
+new_state booted sizes t w locked cpus same sized machine sizes_are are =
+    subst (λ (s : Config). IsNewBootState s t w (system_state locked cpus)) same
+    (record { sized = sized; machine = machine; sizes_are = sizes_are; cpus = are })
 
-  pub boot_shown : ShowsAll t [] m cpus
-  boot_shown = a_boot_is_shown t w m cpus (record {
-    machine = first;
-    count = ap length are ∙ first_long t w 1 sizes.cpus ∙ sym sized.cpus;
+module _ (sizes : Config) (t : KnownTable) (w : KnownStockTable) (start : SystemState) (new : IsNewBootState sizes t w start) where
+  each_first : (k : ℕ) (c : KnownCpu) → slice_get start.cpus k ≡ Some c → c ≡ part_at_first t w (suc k)
+  each_first k c at =
+      first_at t w 1 sizes.cpus k c (subst (λ (l : List KnownCpu). slice_get l k ≡ Some c) new.cpus at) ∙ ap (part_at_first t w) (omega arith)
+
+  cpus_long : length start.cpus ≡ sizes.cpus
+  cpus_long = ap length new.cpus ∙ first_long t w 1 sizes.cpus
+
+  pub boot_shown : ShowsAll t [] start.locked.machine start.cpus
+  boot_shown = a_boot_is_shown t w start.locked.machine start.cpus (record {
+    machine = new.machine;
+    count = cpus_long ∙ sym new.sized.cpus;
     each = each_first;
   })
 
-  pub parts_tied : AreTied t w cpus
+  pub parts_tied : AreTied t w start.cpus
   parts_tied k c at =
-      let below = slice_get_within cpus k c at in
-      let long : length cpus ≡ sizes.cpus = ap length are ∙ first_long t w 1 sizes.cpus in
-      let frames = sized.cpus in
-      let payers = sized.stock_cpus in
+      let below = slice_get_within start.cpus k c at in
+      let long = cpus_long in
+      let frames = new.sized.cpus in
+      let payers = new.sized.stock_cpus in
       subst (IsTiedPart t w) (sym (each_first k c at)) (record {
         tied = first_tied t w (suc k) (omega arith) (omega arith) (omega arith);
         none_fresh = λ none. refl;
       })
+
+  pub boot_agrees : AgreesWithRun t [] start.locked.machine.ledger
+  boot_agrees = a_boot_agrees t w start.locked.machine new.machine
+
+-- what lines name is there, also as the tables and the CPUs' parts have it
+pub lines_there : (sizes : Config) (t : KnownTable) (w : KnownStockTable) (parts : ℕ) (lines : List Line) → IsSizedAs sizes t w → parts ≡ t.cpus
+    → All (LineInRange sizes.frames sizes.cpus) lines → All (LineInRange t.frames parts) lines
+lines_there sizes t w parts lines sized long all =
+    subst (λ (b : ℕ × ℕ). All (LineInRange b.0 b.1) lines) (λ i. (sym sized.frames i, (sym sized.cpus ∙ sym long) i)) all
+
+-- the parts that were lent as a slice, and are back in their vector
+pub given_back : (len : ℕ) (given lent now : List KnownCpu) → lent ≡ given → length lent ≡ len → length now ≡ length lent
+    → take len (now ++ drop (length now) given) ≡ now
+given_back len given lent now same count long = written_back len now given (long ∙ ap length same) (sym count ∙ ap length same)
 
 -- the machine of a new boot is that of one with any watch
 pub watched_first : (t : KnownTable) (w : KnownStockTable) (m : KnownMachine) (watch : KnownWatch) → IsFirst t w m → IsFirst t w (record m { watch = watch })

@@ -1,5 +1,5 @@
--- Why a replay that is checked gives no answers. Serves `check_on_boot`, `check_answers`.
-use Rattle.std.proofs.Common.{◌≡◌, ◌∙◌, ℕ, Bool, true, List, ap, subst, sym}
+-- Why a replay that is checked gives no answers. Serves `check_on_boot`, `answers_on_boot`.
+use Rattle.std.proofs.Common.{◌≡◌, ◌∙◌, Bool, true, List, Result, Ok, Err, IfErr, ap, subst, sym}
 use Rattle.frame_word.specs.Seats.{KnownTable}
 use Rattle.stock_word.specs.Stock.{KnownStockTable}
 use Rattle.zone_blocks.specs.declared.config.Config.{Config}
@@ -20,7 +20,8 @@ use Rattle.script_replay.specs.Terms.{form_of, form_terms}
 use Rattle.load_options.specs.declared.task.Options.{Options}
 use Rattle.load_options.specs.declared.task.Task.{Task}
 use Rattle.load_options.specs.declared.task.Task.TheVariants.{Replay}
-use Rattle.load_run.specs.declared.fault.ProgramFault.TheVariants.{IllegalLine, IllegalEnd}
+use Rattle.load_run.specs.declared.fault.ProgramFault.{ProgramFault}
+use Rattle.load_run.specs.declared.fault.ProgramFault.TheVariants.{IllegalLine, IllegalEnd, NoMemory}
 use Rattle.load_run.specs.Fault.{IsFailedTask}
 use Rattle.load_run.specs.Stopping.{IsCheckFault, IsNewWatchedState, OfCheckedForm, StopsAtIllegalEnd, StopsAtIllegalLine, fault_of_stop}
 use Rattle.load_run.proofs.Starting.{new_watch, watched_first}
@@ -56,8 +57,12 @@ module _ (options : Options) (is_explained : Bool) (booted : Config) (form : For
       subst (λ (task : Task). OfCheckedForm task options.is_numbered (λ f. stops options.sizes f lines)) (sym asked)
       (subst (λ (b : Config × Form). stops b.0 b.1 lines) (λ i. (same i, is i)) stopped)
 
-  pub failed_line : (number : ℕ) → StopsAtIllegalLine booted form lines number → IsFailedTask options lines (IllegalLine number)
-  failed_line number = of_options (λ sizes f l. StopsAtIllegalLine sizes f l number)
+  failed : (fault : ProgramFault) → IsCheckFault booted form lines fault → IsFailedTask options lines fault
+  failed (NoMemory error) why = tt
+  failed (IllegalLine number) why = of_options (λ sizes f l. StopsAtIllegalLine sizes f l number) why
+  failed IllegalEnd why = of_options StopsAtIllegalEnd why
+  failed fault why = absurd why
 
-  pub failed_end : StopsAtIllegalEnd booted form lines → IsFailedTask options lines IllegalEnd
-  failed_end = of_options StopsAtIllegalEnd
+  pub check_failed : {T : Type 0} (r : Result T ProgramFault) → IfErr r (IsCheckFault booted form lines) → IfErr r (IsFailedTask options lines)
+  check_failed (Ok x) why = tt
+  check_failed (Err fault) why = failed fault why

@@ -3,7 +3,7 @@ use Rattle.std.proofs.Common.{◌≡◌, ◌∙◌, ℕ, List, Option, arith, re
 use Rattle.std.specs.Io.KnownBytes.{Appends}
 use Rattle.std.proofs.KnownBytes.{Appends-nil}
 use Rattle.load_run.specs.declared.fault.ProgramFault.{ProgramFault}
-use Rattle.load_run.specs.declared.fault.ProgramFault.TheVariants.{Words, Script, BadLogLine, BadConfig, IllegalEnd, IllegalLine, Input, Output, NoMemory}
+use Rattle.load_run.specs.declared.fault.ProgramFault.TheVariants.{Output, NoMemory}
 use Rattle.load_run.specs.Causes.{written}
 use Rattle.load_run.specs.Checks.{LeavesLine}
 use Rattle.load_run.specs.Fault.{fault_text, fault_status_of}
@@ -41,10 +41,4 @@ version_unwritten before after faults faults_after Output status left is told =
 version_unwritten before after faults faults_after (NoMemory e) status left is told =
     version_failed before after faults faults_after (NoMemory e) status refl
     (subst (λ (o : Option (List ℕ)). AppendsBeginning before o version_text) (sym left) (0, Appends-nil before)) is told
-version_unwritten before after faults faults_after (Words f) status left is told = absurd left
-version_unwritten before after faults faults_after (Script f) status left is told = absurd left
-version_unwritten before after faults faults_after (BadLogLine n reason) status left is told = absurd left
-version_unwritten before after faults faults_after BadConfig status left is told = absurd left
-version_unwritten before after faults faults_after (IllegalLine n) status left is told = absurd left
-version_unwritten before after faults faults_after IllegalEnd status left is told = absurd left
-version_unwritten before after faults faults_after Input status left is told = absurd left
+version_unwritten before after faults faults_after fault status left is told = absurd left

@@ -1,7 +1,7 @@
--- What a check promises, from what the log is and what the writers took. Serves `drive_check`.
+-- What a check promises, from what the log is and what the writers took. Serves `drive_check`, `drive`, `drive_task`.
 use Rattle.std.proofs.Common.{◌≡◌, ◌∙◌, ◌↔◌, ℕ, Bool, false, List, Option, None, Some, IfSome, IsTrue, ap, arith, inl, inr, refl, subst, sym}
 use Rattle.std.proofs.lemmas.Bool.{false≢true}
-use Rattle.std.specs.Prelude.{◌⊎◌, ⊤, is_some}
+use Rattle.std.specs.Prelude.{◌⊎◌, is_some}
 use Rattle.std.specs.Io.KnownBytes.{Appends}
 use Rattle.std.proofs.KnownBytes.{Appends-nil}
 use Rattle.log_check.specs.declared.line_fault.LineFault.{LineFault}
@@ -17,20 +17,18 @@ use Rattle.load_options.specs.declared.task.Task.TheVariants.{Check, Lint, Repla
 use Rattle.line_server.specs.declared.form.SessionForm.{SessionForm}
 use Rattle.line_server.specs.declared.form.SessionForm.TheVariants as session
 use Rattle.load_run.specs.declared.fault.ProgramFault.{ProgramFault}
-use Rattle.load_run.specs.declared.fault.ProgramFault.TheVariants.{BadConfig, BadLogLine, IllegalEnd, IllegalLine, Input, NoMemory, Output, Script, Words}
+use Rattle.load_run.specs.declared.fault.ProgramFault.TheVariants.{BadLogLine, Input, NoMemory, Output, Words}
 use Rattle.load_run.specs.Answers.{IsOnScript}
 use Rattle.load_run.specs.Causes.{Written, written}
 use Rattle.load_run.specs.Checks.{Checks, FailsToCheck, HasStatus, IsLogVerdictOf, LeavesLine, LeavesVerdict}
 use Rattle.load_run.specs.Checks.{ReportsBadLine, ReportsLegal, ReportsNotLegal}
-use Rattle.load_run.specs.Driving.{Drives, DrivesScript, DrivesTask, LintsAsked}
-use Rattle.load_run.specs.Lints.{Lints}
-use Rattle.load_run.specs.Sessions.{DrivesSession, SessionAsked}
-use Rattle.load_run.specs.Versions.{WritesVersion}
-use Rattle.load_run.specs.Fault.{IsWordsFault, fault_text, fault_status_of}
+use Rattle.load_run.specs.Driving.{Drives, DrivesScript, DrivesTask}
+use Rattle.load_run.specs.Sessions.{SessionAsked}
+use Rattle.load_run.specs.Fault.{IsReadFault, IsWordsFault, fault_text, fault_status_of}
 use Rattle.line_server.specs.Writing.{AppendsBeginning}
 use Rattle.load_run.proofs.Causing.{words_cause}
 use Rattle.load_run.proofs.Driving.{drives_badly}
-use Rattle.load_run.proofs.Reporting.{lints_early}
+use Rattle.load_run.proofs.Reporting.{everywhere, lints_early}
 use Rattle.load_run.proofs.SessionEnds.{drives_failed}
 use Rattle.load_run.proofs.Telling.{version_failed}
 
@@ -128,10 +126,6 @@ checks_failed all input before after faults faults_after fault status left ended
     go None left = tt
     go (Some text) left = inr (record { fault = fault; left = left; told = told })
 
-everywhere : (bytes : Option (List ℕ)) (P : List ℕ → Type 0) → ((text : List ℕ) → P text) → IfSome bytes P
-everywhere None P all = tt
-everywhere (Some text) P all = all text
-
 -- it failed before anything was written
 pub checks_early : (all : Bool) (input output faults faults_after : Option (List ℕ)) (fault : ProgramFault) (status : ℕ)
     → ((text : List ℕ) → LeavesVerdict all fault output output text) → status ≡ 1 → AppendsBeginning faults faults_after (fault_text fault)
@@ -139,27 +133,15 @@ pub checks_early : (all : Bool) (input output faults faults_after : Option (List
 checks_early all input output faults faults_after fault status left ended told =
     checks_failed all input output output faults faults_after fault status (everywhere input (LeavesVerdict all fault output output) left) ended told
 
--- a fault that comes before anything is known of the log
-abbrev pub IsEarly : ProgramFault → Type 0
-IsEarly Input = ⊤
-IsEarly (NoMemory e) = ⊤
-IsEarly fault = ⊥
-
--- so with each of these
-pub checks_fault : (all : Bool) (input output faults faults_after : Option (List ℕ)) (fault : ProgramFault) (status : ℕ) → IsEarly fault
+-- so with each fault that comes before anything is known of the log
+pub checks_fault : (all : Bool) (input output faults faults_after : Option (List ℕ)) (fault : ProgramFault) (status : ℕ) → IsReadFault fault
     → status ≡ fault_status_of fault → AppendsBeginning faults faults_after (fault_text fault)
     → Checks all input (written output faults) (written output faults_after) status
 checks_fault all input output faults faults_after Input status is ended told =
     checks_early all input output faults faults_after Input status (λ text. refl) ended told
 checks_fault all input output faults faults_after (NoMemory e) status is ended told =
     checks_early all input output faults faults_after (NoMemory e) status (λ text. refl) ended told
-checks_fault all input output faults faults_after (Words f) status is ended told = absurd is
-checks_fault all input output faults faults_after (Script f) status is ended told = absurd is
-checks_fault all input output faults faults_after (BadLogLine n reason) status is ended told = absurd is
-checks_fault all input output faults faults_after BadConfig status is ended told = absurd is
-checks_fault all input output faults faults_after (IllegalLine n) status is ended told = absurd is
-checks_fault all input output faults faults_after IllegalEnd status is ended told = absurd is
-checks_fault all input output faults faults_after Output status is ended told = absurd is
+checks_fault all input output faults faults_after fault status is ended told = absurd is
 
 -- what was to be written wasn't, or not whole
 pub checks_unwritten : (all : Bool) (input before after faults faults_after : Option (List ℕ)) (end : LogVerdict) (fault : ProgramFault) (status : ℕ) → IsLogVerdictOf all input end
@@ -176,13 +158,7 @@ checks_unwritten all input before after faults faults_after end fault status is 
     go Output left ended told = checks_failed all input before after faults faults_after Output status (begun input is left) ended told
     go (NoMemory e) left ended told =
         checks_failed all input before after faults faults_after (NoMemory e) status (everywhere input (LeavesVerdict all (NoMemory e) before after) (λ text. left)) ended told
-    go (Words f) left ended told = absurd left
-    go (Script f) left ended told = absurd left
-    go (BadLogLine n reason) left ended told = absurd left
-    go BadConfig left ended told = absurd left
-    go (IllegalLine n) left ended told = absurd left
-    go IllegalEnd left ended told = absurd left
-    go Input left ended told = absurd left
+    go f left ended told = absurd left
 
 -- ---- all tasks
 
@@ -192,76 +168,37 @@ pub drives_words : (asked : Option Options) (input output faults faults_after : 
     → Drives asked input (written output faults) (written output faults_after) status
 drives_words None input output faults faults_after fault status is ended told =
     drives_badly None input output faults faults_after fault status (words_cause None input fault is) ended told
-drives_words (Some options) input output faults faults_after fault status is ended told = by_task options.task
+drives_words (Some options) input output faults faults_after (Words (words.NoMemory e)) status is ended told = by_task options.task
   where
-    for_check : (all : Bool) (f : ProgramFault) → IsWordsFault (Some options) f → status ≡ fault_status_of f
-        → AppendsBeginning faults faults_after (fault_text f) → Checks all input (written output faults) (written output faults_after) status
-    for_check all (Words (words.NoMemory e)) is ended told =
-        checks_early all input output faults faults_after (Words (words.NoMemory e)) status (λ text. refl) ended told
-    for_check all (Words (words.BadWords text)) is ended told = absurd (false≢true (sym (ap is_some is)))
-    for_check all (Script f) is ended told = absurd is
-    for_check all (BadLogLine n reason) is ended told = absurd is
-    for_check all BadConfig is ended told = absurd is
-    for_check all (IllegalLine n) is ended told = absurd is
-    for_check all IllegalEnd is ended told = absurd is
-    for_check all Input is ended told = absurd is
-    for_check all Output is ended told = absurd is
-    for_check all (NoMemory e) is ended told = absurd is
+    fault : ProgramFault
+    fault = Words (words.NoMemory e)
 
-    for_lint : (f : ProgramFault) → IsWordsFault (Some options) f → status ≡ fault_status_of f → AppendsBeginning faults faults_after (fault_text f)
-        → Lints options.sizes input (written output faults) (written output faults_after) status
-    for_lint (Words (words.NoMemory e)) is ended told =
-        lints_early options.sizes input output faults faults_after (Words (words.NoMemory e)) status tt ended told
-    for_lint (Words (words.BadWords text)) is ended told = absurd (false≢true (sym (ap is_some is)))
-    for_lint (Script f) is ended told = absurd is
-    for_lint (BadLogLine n reason) is ended told = absurd is
-    for_lint BadConfig is ended told = absurd is
-    for_lint (IllegalLine n) is ended told = absurd is
-    for_lint IllegalEnd is ended told = absurd is
-    for_lint Input is ended told = absurd is
-    for_lint Output is ended told = absurd is
-    for_lint (NoMemory e) is ended told = absurd is
+    on_script : DrivesScript (Some options) input (written output faults) (written output faults_after) status
+    on_script = drives_badly (Some options) input output faults faults_after fault status (words_cause (Some options) input fault is) ended told
 
-    for_version : (f : ProgramFault) → IsWordsFault (Some options) f → status ≡ fault_status_of f → AppendsBeginning faults faults_after (fault_text f)
-        → WritesVersion (written output faults) (written output faults_after) status
-    for_version (Words (words.NoMemory e)) is ended told =
-        version_failed output output faults faults_after (Words (words.NoMemory e)) status refl (0, Appends-nil output) ended told
-    for_version (Words (words.BadWords text)) is ended told = absurd (false≢true (sym (ap is_some is)))
-    for_version (Script f) is ended told = absurd is
-    for_version (BadLogLine n reason) is ended told = absurd is
-    for_version BadConfig is ended told = absurd is
-    for_version (IllegalLine n) is ended told = absurd is
-    for_version IllegalEnd is ended told = absurd is
-    for_version Input is ended told = absurd is
-    for_version Output is ended told = absurd is
-    for_version (NoMemory e) is ended told = absurd is
-
-    for_serve : (form : SessionForm) (f : ProgramFault) → IsWordsFault (Some options) f → status ≡ fault_status_of f
-        → AppendsBeginning faults faults_after (fault_text f)
-        → DrivesSession options form input (written output faults) (written output faults_after) status
-    for_serve form (Words (words.NoMemory e)) is ended told =
-        drives_failed options form input output output faults faults_after (Words (words.NoMemory e)) status
-        (record { at_work = tt; valid = tt; left = inl refl }) ended told
-    for_serve form (Words (words.BadWords text)) is ended told = absurd (false≢true (sym (ap is_some is)))
-    for_serve form (Script f) is ended told = absurd is
-    for_serve form (BadLogLine n reason) is ended told = absurd is
-    for_serve form BadConfig is ended told = absurd is
-    for_serve form (IllegalLine n) is ended told = absurd is
-    for_serve form IllegalEnd is ended told = absurd is
-    for_serve form Input is ended told = absurd is
-    for_serve form Output is ended told = absurd is
-    for_serve form (NoMemory e) is ended told = absurd is
+    in_session : (form : SessionForm) → SessionAsked form (Some options) input (written output faults) (written output faults_after) status
+    in_session form = record {
+      options = options;
+      is_asked = refl;
+      drives = drives_failed options form input output output faults faults_after fault status (record { at_work = tt; valid = tt; left = inl refl })
+          ended told;
+    }
 
     by_task : (task : Task) → DrivesTask task (Some options) input (written output faults) (written output faults_after) status
-    by_task (Replay is_explained is_checked) =
-        drives_badly (Some options) input output faults faults_after fault status (words_cause (Some options) input fault is) ended told
-    by_task Run = drives_badly (Some options) input output faults faults_after fault status (words_cause (Some options) input fault is) ended told
-    by_task (Check is_all) = for_check is_all fault is ended told
-    by_task Lint = record { options = options; is_asked = refl; lints = for_lint fault is ended told }
-    by_task Steps = drives_badly (Some options) input output faults faults_after fault status (words_cause (Some options) input fault is) ended told
-    by_task (Serve is_explained) = record { options = options; is_asked = refl; drives = for_serve (session.Answers is_explained) fault is ended told }
-    by_task ServeSteps = record { options = options; is_asked = refl; drives = for_serve session.Steps fault is ended told }
-    by_task Version = for_version fault is ended told
+    by_task (Replay is_explained is_checked) = on_script
+    by_task Run = on_script
+    by_task Steps = on_script
+    by_task (Check is_all) = checks_early is_all input output faults faults_after fault status (λ text. refl) ended told
+    by_task Lint = record {
+      options = options;
+      is_asked = refl;
+      lints = lints_early options.sizes input output faults faults_after fault status tt ended told;
+    }
+    by_task (Serve is_explained) = in_session (session.Answers is_explained)
+    by_task ServeSteps = in_session session.Steps
+    by_task Version = version_failed output output faults faults_after fault status refl (0, Appends-nil output) ended told
+drives_words (Some options) input output faults faults_after (Words (words.BadWords text)) status is ended told = absurd (false≢true (sym (ap is_some is)))
+drives_words (Some options) input output faults faults_after fault status is ended told = absurd is
 
 -- what a task on a script promises
 pub script_drives : (options : Options) (input : Option (List ℕ)) (before after : Written) (status : ℕ) → IsOnScript options.task
@@ -272,46 +209,7 @@ script_drives options input before after status on_script drives = go options.ta
     go (Replay is_explained is_checked) on_script = drives
     go Run on_script = drives
     go Steps on_script = drives
-    go (Check is_all) on_script = absurd on_script
-    go Lint on_script = absurd on_script
-    go (Serve is_explained) on_script = absurd on_script
-    go ServeSteps on_script = absurd on_script
-    go Version on_script = absurd on_script
-
--- and a check
-pub check_drives : (options : Options) (is_all : Bool) (input : Option (List ℕ)) (before after : Written) (status : ℕ) → options.task ≡ Check is_all
-    → Checks is_all input before after status → Drives (Some options) input before after status
-check_drives options is_all input before after status is checks =
-    subst (λ (task : Task). DrivesTask task (Some options) input before after status) (sym is) checks
-
--- and a lint
-pub lint_drives : (options : Options) (input : Option (List ℕ)) (before after : Written) (status : ℕ) → options.task ≡ Lint
-    → Lints options.sizes input before after status → Drives (Some options) input before after status
-lint_drives options input before after status is lints =
-    let here : LintsAsked (Some options) input before after status = record { options = options; is_asked = refl; lints = lints } in
-    subst (λ (task : Task). DrivesTask task (Some options) input before after status) (sym is) here
-
--- and a session
-pub serve_drives : (options : Options) (is_explained : Bool) (input : Option (List ℕ)) (before after : Written) (status : ℕ)
-    → options.task ≡ Serve is_explained → DrivesSession options (session.Answers is_explained) input before after status
-    → Drives (Some options) input before after status
-serve_drives options is_explained input before after status is drives =
-    let here : SessionAsked (session.Answers is_explained) (Some options) input before after status =
-    record { options = options; is_asked = refl; drives = drives } in
-    subst (λ (task : Task). DrivesTask task (Some options) input before after status) (sym is) here
-
--- and one that writes a log
-pub serve_steps_drives : (options : Options) (input : Option (List ℕ)) (before after : Written) (status : ℕ) → options.task ≡ ServeSteps
-    → DrivesSession options session.Steps input before after status → Drives (Some options) input before after status
-serve_steps_drives options input before after status is drives =
-    let here : SessionAsked session.Steps (Some options) input before after status = record { options = options; is_asked = refl; drives = drives } in
-    subst (λ (task : Task). DrivesTask task (Some options) input before after status) (sym is) here
-
--- and the version
-pub version_drives : (options : Options) (input : Option (List ℕ)) (before after : Written) (status : ℕ) → options.task ≡ Version
-    → WritesVersion before after status → Drives (Some options) input before after status
-version_drives options input before after status is tells =
-    subst (λ (task : Task). DrivesTask task (Some options) input before after status) (sym is) tells
+    go task on_script = absurd on_script
 
 -- what the options promise is what the words do that ask for them
 pub asked_drives : (asked : Option Options) (options : Options) (input : Option (List ℕ)) (before after : Written) (status : ℕ)

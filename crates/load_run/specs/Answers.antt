@@ -21,7 +21,7 @@ use Rattle.script_replay.specs.Each.{AreAllAnswers, workers_from}
 use Rattle.script_replay.specs.Runs.{lines_before_go}
 use Rattle.load_options.specs.declared.task.Options.{Options}
 use Rattle.load_options.specs.declared.task.Task.{Task}
-use Rattle.load_options.specs.declared.task.Task.TheVariants.{Replay, Steps, Run, Check, Lint, Serve, ServeSteps, Version}
+use Rattle.load_options.specs.declared.task.Task.TheVariants.{Replay, Steps, Run}
 use Rattle.load_run.specs.Ending.{WritesEnd}
 use Rattle.load_run.specs.Logs.{AreLoggedSteps}
 -- the state after a boot
@@ -115,11 +115,7 @@ abbrev pub IsOnScript : Task → Type 0
 IsOnScript (Replay is_explained is_checked) = ⊤
 IsOnScript Run = ⊤
 IsOnScript Steps = ⊤
-IsOnScript (Check is_all) = ⊥
-IsOnScript Lint = ⊥
-IsOnScript (Serve is_explained) = ⊥
-IsOnScript ServeSteps = ⊥
-IsOnScript Version = ⊥
+IsOnScript task = ⊥
 
 -- what a boot with these sizes answers to the lines of the script for this task, with numbers or without, and reports
 -- of its end if it is audited, or the steps as a log; the other tasks have no such answers
@@ -131,11 +127,7 @@ AreAnswers (Replay is_explained true) sizes is_audited is_numbered script lines 
     AreCheckedAnswers sizes (form_of is_explained is_numbered) is_audited lines text
 AreAnswers Run sizes is_audited is_numbered script lines text = AreThreadAnswers sizes is_numbered is_audited lines text
 AreAnswers Steps sizes is_audited is_numbered script lines text = AreLoggedSteps sizes script lines text
-AreAnswers (Check is_all) sizes is_audited is_numbered script lines text = ⊥
-AreAnswers Lint sizes is_audited is_numbered script lines text = ⊥
-AreAnswers (Serve is_explained) sizes is_audited is_numbered script lines text = ⊥
-AreAnswers ServeSteps sizes is_audited is_numbered script lines text = ⊥
-AreAnswers Version sizes is_audited is_numbered script lines text = ⊥
+AreAnswers task sizes is_audited is_numbered script lines text = ⊥
 
 -- These options are asked for, a boot takes their sizes, and the input is a script for them. The text is what a boot of
 -- these sizes answers to the script for the task of the options. It ends with the text of the end, if they ask for it.

@@ -84,13 +84,6 @@ pub record EndsHeld (table : KnownTable) (stock_table : KnownStockTable) (before
   pub leaves : LeavesNothing table stock_table before ended.held emptied
   pub closes : Closes table stock_table emptied ended.audit
 
--- this is so of some state, and the boot ended from that state
-pub record EndsAfter (table : KnownTable) (stock_table : KnownStockTable) (is_so : SystemState → Type 0)
-    (ended : BootEnd) : Type 0 where
-  pub before : SystemState
-  pub so : is_so before
-  pub ends : EndsHeld table stock_table before ended
-
 -- a boot ended from this state, and this is what the machine's watch saw of all steps
 pub record EndsChecked (table : KnownTable) (stock_table : KnownStockTable) (before : SystemState) (ended : BootEnd)
     (seen : CheckedSteps)
@@ -98,14 +91,6 @@ pub record EndsChecked (table : KnownTable) (stock_table : KnownStockTable) (bef
   pub ends : EndsHeld table stock_table before ended
   pub is_legal : seen.is_legal ≡ has_legal_steps ends.emptied.machine.watch
   pub steps : seen.steps ≡ steps_seen ends.emptied.machine.watch
-
--- this is so of some state, and the boot ended from that state; this is what the watch saw
-pub record EndsSeenAfter (table : KnownTable) (stock_table : KnownStockTable) (is_so : SystemState → Type 0)
-    (ended : BootEnd)
-    (seen : CheckedSteps) : Type 0 where
-  pub before : SystemState
-  pub so : is_so before
-  pub ends : EndsChecked table stock_table before ended seen
 
 -- how many frames there are, and where
 abbrev pub audit_places_text : Audit → List ℕ

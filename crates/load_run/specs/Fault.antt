@@ -18,16 +18,10 @@ use Rattle.load_run.specs.Stopping.{OfCheckedForm, StopsAtIllegalEnd, StopsAtIll
 -- 2 if the program was misused, 1 if it failed at its work
 abbrev pub fault_status_of : ProgramFault → ℕ
 fault_status_of (Words (words.BadWords text)) = 2
-fault_status_of (Words (words.NoMemory error)) = 1
 fault_status_of (Script (script.BadLine number)) = 2
-fault_status_of (Script script.NoMemory) = 1
 fault_status_of (BadLogLine number reason) = 2
 fault_status_of BadConfig = 2
-fault_status_of (IllegalLine number) = 1
-fault_status_of IllegalEnd = 1
-fault_status_of Input = 1
-fault_status_of Output = 1
-fault_status_of (NoMemory error) = 1
+fault_status_of fault = 1
 
 -- the text that says that the line of this number is bad
 abbrev pub bad_line_text : ℕ → List ℕ

@@ -94,11 +94,6 @@ abbrev pub IsOfValid : Config → ProgramFault → Type 0
 IsOfValid sizes (kinds.Words fault) = ⊤
 IsOfValid sizes fault = IsValidConfig sizes
 
--- the text of an end wasn't written, or a beginning of it was
-pub record LeavesEnding (before after : Option (List ℕ)) (ending : List ℕ) (fault : ProgramFault) : Type 0 where
-  pub at_work : IsWorkFault fault
-  pub begun : AppendsBeginning before after ending
-
 -- What a fault at work leaves: nothing is written, and no line was read; or the session failed; or it ended, and the
 -- text of its end wasn't written whole. Sizes that a boot refuses have no such fault.
 pub record LeavesSession (options : Options) (form : SessionForm) (input before after : Option (List ℕ))

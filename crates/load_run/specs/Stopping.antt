@@ -15,8 +15,8 @@ use Rattle.script_replay.specs.Terms.{form_of, form_terms}
 use Rattle.load_options.specs.declared.task.Task.{Task}
 use Rattle.load_options.specs.declared.task.Task.TheVariants.{Replay}
 use Rattle.load_run.specs.declared.boot_end.BootEnd.{BootEnd}
-use Rattle.load_run.specs.declared.checked_replaying.CheckFault.{CheckFault}
-use Rattle.load_run.specs.declared.checked_replaying.CheckFault.TheVariants.{NoMemory, IllegalLine, IllegalEnd}
+use Rattle.load_run.specs.declared.fault.ProgramFault.{ProgramFault}
+use Rattle.load_run.specs.declared.fault.ProgramFault.TheVariants.{NoMemory, IllegalLine, IllegalEnd}
 use Rattle.load_run.specs.Ending.{EndsHeld}
 use Rattle.load_run.specs.Starting.{IsNewBootState}
 
@@ -50,13 +50,14 @@ pub record StopsAtIllegalEnd (sizes : Config) (form : Form) (lines : List Line) 
   pub not_legal : has_legal_steps ends.emptied.machine.watch ≡ false
 
 -- why a boot with these sizes gives no answers to the lines
-abbrev pub IsCheckFault : Config → Form → List Line → CheckFault → Type 0
+abbrev pub IsCheckFault : Config → Form → List Line → ProgramFault → Type 0
 IsCheckFault sizes form lines (NoMemory error) = ⊤
 IsCheckFault sizes form lines (IllegalLine number) = StopsAtIllegalLine sizes form lines number
 IsCheckFault sizes form lines IllegalEnd = StopsAtIllegalEnd sizes form lines
+IsCheckFault sizes form lines fault = ⊥
 
 -- the fault for which a replay that is checked stopped
-abbrev pub fault_of_stop : Stopped → CheckFault
+abbrev pub fault_of_stop : Stopped → ProgramFault
 fault_of_stop (stopped.NoMemory error) = NoMemory error
 fault_of_stop (stopped.NotLegal line) = IllegalLine line
 

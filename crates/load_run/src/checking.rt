@@ -92,8 +92,6 @@ fn write_verdict_line<O: Write>(
         (LeavesLine (verdict_text verdict.now) (O.contents output.old) (O.contents output.new)) }
 {
     let mut text = Vec::new(alloc);
-    match write_verdict(verdict, &mut text) {
-        Ok(()) => write_answers(&text, output),
-        Err(error) => Err(ProgramFault::NoMemory(error)),
-    }
+    write_verdict(verdict, &mut text)?;
+    write_answers(&text, output)
 }

@@ -5,6 +5,7 @@ ghost use Rattle.std.specs.Prelude.{◌≡◌};
 use load_options::fault::WordsFault;
 use log_check::line_fault::LineFault;
 use script_lines::fault::ScriptFault;
+use script_replay::Stopped;
 use std::alloc::AllocError;
 use thiserror::Error;
 
@@ -38,6 +39,29 @@ pub enum ProgramFault {
     /// Memory ran out.
     #[error("no memory")]
     NoMemory(AllocError),
+}
+
+impl From<AllocError> for ProgramFault {
+    ghost use Rattle.load_run.specs.declared.fault.ProgramFault.TheVariants.{NoMemory};
+
+    ghost from_gives = { λ error fault. fault ≡ NoMemory error };
+
+    fn from(error: AllocError) -> ProgramFault {
+        ProgramFault::NoMemory(error)
+    }
+}
+
+impl From<Stopped> for ProgramFault {
+    ghost use Rattle.load_run.specs.Stopping.{fault_of_stop};
+
+    ghost from_gives = { λ stopped fault. fault ≡ fault_of_stop stopped };
+
+    fn from(stopped: Stopped) -> ProgramFault {
+        match stopped {
+            Stopped::NoMemory(error) => ProgramFault::NoMemory(error),
+            Stopped::NotLegal(line) => ProgramFault::IllegalLine(line),
+        }
+    }
 }
 
 impl ProgramFault {

@@ -72,10 +72,7 @@ fn lint_text_of<I: Read>(
     ensures fault { IfErr result IsEarlyFault }
 {
     let script = read_script(alloc, input)?;
-    match lint_text_on(alloc, sizes, &script) {
-        Ok(lint) => Ok(lint),
-        Err(error) => Err(ProgramFault::NoMemory(error)),
-    }
+    Ok(lint_text_on(alloc, sizes, &script)?)
 }
 
 // What the lint says of the script.

@@ -9,7 +9,7 @@ ghost use Rattle.script_replay.specs.Terms.{terms};
 ghost use Rattle.step_watch.specs.Watched.{has_whole_log, log_text};
 ghost use Rattle.line_server.specs.Logs.{AddsPart, answer_comments};
 ghost use Rattle.load_run.specs.Ending.{boot_end_text};
-ghost use Rattle.load_run.specs.Logs.{AreLoggedSteps, GrowsBy, LogsAll, LogsAllAndEnd, LogsEnd, log_head_text};
+ghost use Rattle.load_run.specs.Logs.{AreLoggedSteps, GrowsBy, LogsAll, LogsEnd, log_head_text};
 ghost use Rattle.load_run.specs.Logs.{sizes_comment, text_at, text_of_line};
 
 use crate::boot_end::{BootEnd, empty_cpus, write_boot_end};
@@ -116,27 +116,6 @@ pub(crate) fn log_end<N: BootName>(
     add_end_report(alloc, &BootEnd { held, audit }, log)
 }
 
-// Serves the lines, ends the boot, also if memory ran out, and adds the log of both.
-fn log_and_end_boot<N: BootName>(
-    alloc: Global,
-    mut locked: Locked<N>,
-    tables: Tables<N>,
-    mut cpus: Vec<Cpu<N>>,
-    lines: &[Line<'_>],
-    texts: &[&[u8]],
-    log: &mut Vec<u8>,
-) -> Result<(), AllocError>
-    requires count { length cpus.items ≡ N.frames.cpus }
-    requires lines { All (LineInRange N.frames.frames N.frames.cpus) lines.now }
-    ensures logged { OnOk result (GrowsBy (LogsAllAndEnd N.frames N.stocks (map (λ text. text.now) texts.now) lines.now
-        (system_state locked cpus.items)) log.old.items log.new.items) }
-{
-    let served = log_each(alloc, &mut locked, &tables, &mut cpus, lines, texts, log);
-    let ended = log_end(alloc, locked, tables, cpus, log);
-    served?;
-    ended
-}
-
 // The texts between the line feeds of a script.
 pub(crate) fn texts_of<'a>(alloc: Global, script: &'a [u8]) -> Result<Vec<&'a [u8]>, AllocError>
     ensures { IfOk result (λ found. map (λ text. text.now) found.items ≡ texts_of script.now) }
@@ -180,7 +159,18 @@ pub fn steps_on_boot<N: BootName>(
 {
     let mut log = log_head(alloc, &sizes)?;
     let texts = texts_of(alloc, script)?;
-    let (locked, tables, cpus) = boot.into_parts::<N>(alloc)?;
-    log_and_end_boot(alloc, locked, tables, cpus, lines, &texts, &mut log)?;
+    let (mut locked, tables, mut cpus) = boot.into_parts::<N>(alloc)?;
+    let served = log_each(
+        alloc,
+        &mut locked,
+        &tables,
+        &mut cpus,
+        lines,
+        &texts,
+        &mut log,
+    );
+    let ended = log_end(alloc, locked, tables, cpus, &mut log);
+    served?;
+    ended?;
     Ok(log)
 }

@@ -8,15 +8,14 @@ ghost use Rattle.script_lines.specs.Script.{IsScript};
 ghost use Rattle.script_replay.specs.Ranges.{LineInRange};
 ghost use Rattle.load_options.specs.Sizes.{HasSizesInRange};
 ghost use Rattle.load_options.specs.Words.{options_of};
-ghost use Rattle.load_options.specs.declared.task.Task.TheVariants.{Replay};
 ghost use Rattle.script_replay.specs.Terms.{form_of};
-ghost use Rattle.load_run.specs.Answers.{AreAnswers, AreCheckedAnswers, IsOnScript};
+ghost use Rattle.load_run.specs.Answers.{AreAnswers, IsOnScript};
 ghost use Rattle.load_run.specs.Causes.{written};
 ghost use Rattle.load_run.specs.Driving.{AnswersTo, Drives, DrivesScript};
 ghost use Rattle.load_run.specs.Fault.{IsBootFault, IsFailedTask, IsScriptFault, IsWordsFault};
 ghost use Rattle.line_server.specs.Writing.{AppendsBeginning};
 
-use crate::checked_replaying::{CheckFault, check_on_boot};
+use crate::checked_replaying::check_on_boot;
 use crate::checking::drive_check;
 use crate::fault::ProgramFault;
 use crate::fault_lines::report_fault;
@@ -72,7 +71,7 @@ pub fn drive<R: Threads + Wait + Sync, S: AsStr, I: Read, O: Write, F: Write>(
 }
 
 // Runs the task that is asked for.
-#[tactic(auto, using(crate::proofs::Verdicts::check_drives, crate::proofs::Verdicts::lint_drives, crate::proofs::Verdicts::script_drives, crate::proofs::Verdicts::serve_drives, crate::proofs::Verdicts::serve_steps_drives, crate::proofs::Verdicts::version_drives))]
+#[tactic(auto, using(crate::proofs::Verdicts::script_drives))]
 fn drive_task<R: Threads + Wait + Sync, I: Read, O: Write, F: Write>(
     rt: &R,
     alloc: Global,
@@ -193,6 +192,7 @@ fn answers_of<R: Threads + Wait + Sync>(
 }
 
 // An answer that a boot under a name of its tables may give to the lines, as the task says.
+#[tactic(auto, using(crate::proofs::Stopped::check_failed))]
 fn answers_on_boot<N: BootName + Send + Sync, R: Threads + Wait + Sync>(
     rt: &R,
     alloc: Global,
@@ -216,29 +216,24 @@ fn answers_on_boot<N: BootName + Send + Sync, R: Threads + Wait + Sync>(
         Task::Replay {
             is_explained,
             is_checked: true,
-        } => check_answers::<N>(alloc, boot, options, lines, is_explained),
+        } => {
+            let form = form_of(options, is_explained);
+            check_on_boot::<N>(alloc, boot, options.sizes, lines, form, options.is_audited)
+        }
         Task::Replay {
             is_explained,
             is_checked: false,
         } => {
             let form = form_of(options, is_explained);
-            match replay_on_boot::<N>(alloc, boot, lines, form, options.is_audited) {
-                Ok(answers) => Ok(answers),
-                Err(error) => Err(ProgramFault::NoMemory(error)),
-            }
+            Ok(replay_on_boot::<N>(alloc, boot, lines, form, options.is_audited)?)
         }
         Task::Run => {
             let is_numbered = options.is_numbered;
             let is_audited = options.is_audited;
-            match run_by_threads::<N, R>(rt, alloc, boot, lines, is_numbered, is_audited) {
-                Ok(answers) => Ok(answers),
-                Err(error) => Err(ProgramFault::NoMemory(error)),
-            }
+            let answers = run_by_threads::<N, R>(rt, alloc, boot, lines, is_numbered, is_audited)?;
+            Ok(answers)
         }
-        Task::Steps => match steps_on_boot::<N>(alloc, boot, options.sizes, script, lines) {
-            Ok(log) => Ok(log),
-            Err(error) => Err(ProgramFault::NoMemory(error)),
-        },
+        Task::Steps => Ok(steps_on_boot::<N>(alloc, boot, options.sizes, script, lines)?),
         Task::Check { .. } | Task::Lint | Task::Serve { .. } | Task::ServeSteps | Task::Version =>
             unreachable!(),
     }
@@ -251,36 +246,6 @@ fn form_of(options: &Options, is_explained: bool) -> Form
     Form {
         is_explained,
         is_numbered: options.is_numbered,
-    }
-}
-
-// An answer that a boot under a name of its tables may give to the lines, with a check of each step.
-fn check_answers<N: BootName>(
-    alloc: Global,
-    boot: Boot,
-    options: &Options,
-    lines: &[Line<'_>],
-    is_explained: bool,
-) -> Result<Vec<u8>, ProgramFault>
-    requires task { options.now.task ≡ Replay is_explained true }
-    requires frames { boot.frames ≡ N.frames }
-    requires stocks { boot.stocks ≡ N.stocks }
-    requires sizes { boot.sizes ≡ options.now.sizes }
-    requires valid { IsValidConfig options.now.sizes }
-    requires lines { All (LineInRange boot.sizes.frames boot.sizes.cpus) lines.now }
-    ensures answers { IfOk result (λ text.
-        AreCheckedAnswers boot.sizes (form_of is_explained options.now.is_numbered) options.now.is_audited lines.now
-        text.items) }
-    ensures fault { IfErr result (IsFailedTask options.now lines.now) }
-{
-    let sizes = options.sizes;
-    let is_audited = options.is_audited;
-    let form = form_of(options, is_explained);
-    match check_on_boot::<N>(alloc, boot, sizes, lines, form, is_audited) {
-        Ok(answers) => Ok(answers),
-        Err(CheckFault::NoMemory(error)) => Err(ProgramFault::NoMemory(error)),
-        Err(CheckFault::IllegalLine(line)) => Err(ProgramFault::IllegalLine(line)),
-        Err(CheckFault::IllegalEnd) => Err(ProgramFault::IllegalEnd),
     }
 }
 

@@ -1,6 +1,6 @@
 //! The bytes of the script, read piece by piece into memory of our own.
 
-ghost use Rattle.std.specs.Prelude.{◌≡◌, ◌++◌, IfErr, IfOk, IfSome, OnOk};
+ghost use Rattle.std.specs.Prelude.{◌≡◌, IfErr, IfOk, IfSome};
 ghost use Rattle.std.specs.Io.KnownBytes.{Consumes};
 ghost use Rattle.load_run.specs.Answers.{bytes_read};
 ghost use Rattle.load_run.specs.Fault.{IsReadFault};
@@ -33,21 +33,10 @@ pub fn read_script<I: Read>(alloc: Global, input: &mut I) -> Result<Vec<u8>, Pro
         let wanted = min(PIECE, MAX_INPUT + 1 - script.len());
         match input.read(&mut piece[..wanted]) {
             Ok(0) => return Ok(script),
-            Ok(n) => add_piece(&mut script, &piece[..n])?,
+            Ok(n) => script.extend_from_slice(&piece[..n])?,
             Err(error) if error.kind() == ErrorKind::Interrupted => {}
             Err(_) => return Err(ProgramFault::Input),
         }
     }
     Err(ProgramFault::Input)
-}
-
-// Adds the bytes of a piece to the script.
-fn add_piece(script: &mut Vec<u8>, piece: &[u8]) -> Result<(), ProgramFault>
-    ensures added { OnOk result (script.new.items ≡ script.old.items ++ piece.now) }
-    ensures fault { IfErr result IsReadFault }
-{
-    match script.extend_from_slice(piece) {
-        Ok(()) => Ok(()),
-        Err(error) => Err(ProgramFault::NoMemory(error)),
-    }
 }

@@ -1,16 +1,13 @@
 //! What a boot answers to lines: it replays them, one after the other, and ends, also if memory runs out for an answer.
 
-ghost use Rattle.std.specs.Prelude.{◌≡◌, ◌++◌, All, IfOk, length};
-ghost use Rattle.script_replay.specs.History.{ReplaysOrStops};
-ghost use Rattle.script_replay.specs.Lines.{system_state};
+ghost use Rattle.std.specs.Prelude.{◌≡◌, ◌++◌, All, IfOk};
 ghost use Rattle.script_replay.specs.Ranges.{LineInRange};
-ghost use Rattle.script_replay.specs.Terms.{form_terms};
 ghost use Rattle.load_run.specs.Answers.{AreReplayAnswers};
-ghost use Rattle.load_run.specs.Ending.{EndsAfter, boot_end_text};
+ghost use Rattle.load_run.specs.Ending.{boot_end_text};
 
 use crate::boot_end::{BootEnd, end_boot, write_boot_end};
-use cpu_part::{BootName, Cpu, Tables};
-use mem_system::{Boot, Locked};
+use cpu_part::BootName;
+use mem_system::Boot;
 use script_lines::line::Line;
 use script_replay::{Form, replay};
 use std::alloc::{AllocError, Global};
@@ -30,28 +27,10 @@ pub fn replay_on_boot<N: BootName>(
     requires lines { All (LineInRange boot.sizes.frames boot.sizes.cpus) lines.now }
     ensures answers { IfOk result (λ text. AreReplayAnswers boot.sizes form is_audited lines.now text.items) }
 {
-    let (locked, tables, cpus) = boot.into_parts::<N>(alloc)?;
-    let (answers, ended) = replay_and_end_boot(alloc, locked, tables, cpus, lines, form);
-    with_end(alloc, answers?, ended, is_audited)
-}
-
-// Replays the lines, and ends the boot, also if memory ran out for what they are answered.
-fn replay_and_end_boot<N: BootName>(
-    alloc: Global,
-    mut locked: Locked<N>,
-    tables: Tables<N>,
-    mut cpus: Vec<Cpu<N>>,
-    lines: &[Line<'_>],
-    form: Form,
-) -> (Result<Vec<u8>, AllocError>, BootEnd)
-    requires count { length cpus.items ≡ N.frames.cpus }
-    requires lines { All (LineInRange N.frames.frames N.frames.cpus) lines.now }
-    ensures ends { EndsAfter N.frames N.stocks (λ left. ReplaysOrStops (form_terms N.frames N.stocks form) lines.now
-        (system_state locked cpus.items) left result.0) result.1 }
-{
+    let (mut locked, tables, mut cpus) = boot.into_parts::<N>(alloc)?;
     let answers = replay(alloc, &mut locked, &tables, &mut cpus, lines, form);
     let ended = end_boot(locked, tables, cpus);
-    (answers, ended)
+    with_end(alloc, answers?, ended, is_audited)
 }
 
 /// The answers, and after them the text of the end if that is asked for. `AllocError` means that memory ran out.

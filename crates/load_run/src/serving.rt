@@ -85,10 +85,7 @@ fn write_head<O: Write>(
 {
     match form {
         SessionForm::Answers { .. } => Ok(()),
-        SessionForm::Steps => match log_head(alloc, sizes) {
-            Ok(head) => write_answers(&head, output),
-            Err(error) => Err(ProgramFault::NoMemory(error)),
-        },
+        SessionForm::Steps => write_answers(&log_head(alloc, sizes)?, output),
     }
 }
 
@@ -111,23 +108,14 @@ fn serve_on_boot<N: BootName, I: Read, O: Write>(
     ensures left { IfErr result (LeavesSession options.now form (I.remaining input.old)
         (O.contents output.old) (O.contents output.new)) }
 {
-    let names = match command_names(alloc) {
-        Ok(names) => names,
-        Err(error) => return Err(ProgramFault::NoMemory(error)),
-    };
-    let (locked, tables, cpus) = match boot.into_parts::<N>(alloc) {
-        Ok(parts) => parts,
-        Err(error) => return Err(ProgramFault::NoMemory(error)),
-    };
+    let names = command_names(alloc)?;
+    let (locked, tables, cpus) = boot.into_parts::<N>(alloc)?;
     let mut server = Server::new(names, locked, tables, cpus, options.sizes, form);
     let served = server.serve_buffered(alloc, input, output);
     let (locked, tables, cpus) = server.into_parts();
     let ended = end_session(alloc, form, locked, tables, cpus, options.is_audited);
     match served {
-        Ok(()) => match ended {
-            Ok(ending) => write_answers(&ending, output),
-            Err(error) => Err(ProgramFault::NoMemory(error)),
-        },
+        Ok(()) => write_answers(&ended?, output),
         Err(fault) => Err(fault_of(fault)),
     }
 }

@@ -5,13 +5,12 @@ ghost use Rattle.std.specs.Prelude.{◌≡◌, ◌<◌, ◌^◌, All, IfOk, leng
 ghost use Rattle.script_replay.specs.Ranges.{LineInRange};
 ghost use Rattle.script_replay.specs.Terms.{boot_tables};
 ghost use Rattle.script_replay.specs.Each.{AreAllAnswers, workers_from};
-ghost use Rattle.load_run.specs.Ending.{EndsAfter};
-ghost use Rattle.load_run.specs.Answers.{AreThreadAnswers, IsQuietSystem};
+ghost use Rattle.load_run.specs.Answers.{AreThreadAnswers};
 
-use crate::boot_end::{BootEnd, end_boot};
+use crate::boot_end::end_boot;
 use crate::replaying::with_end;
-use cpu_part::{BootName, Cpu, Tables};
-use mem_system::{Boot, Locked, NoGate, System};
+use cpu_part::{BootName, Cpu};
+use mem_system::{Boot, NoGate, System};
 use script_lines::line::Line;
 use script_replay::{Form, before_go, replay, run_each};
 use std::alloc::{AllocError, Global};
@@ -43,53 +42,23 @@ pub fn run_by_threads<N: BootName + Send + Sync, R: Threads + Wait + Sync>(
         is_numbered,
     };
     let first = replay(alloc, &mut locked, &tables, &mut cpus, early, form);
-    let has_memory = first.is_ok();
-    let (told, ended) = serve_and_end(
-        rt,
-        alloc,
-        locked,
-        tables,
-        cpus,
-        later,
-        is_numbered,
-        has_memory,
-    );
-    let mut answers = first?;
-    answers.extend_from_slice(&told?)?;
-    with_end(alloc, answers, ended, is_audited)
-}
-
-// Serves the later lines by a thread for each CPU, and ends the boot, also if memory ran out.
-fn serve_and_end<N: BootName + Send + Sync, R: Threads + Wait + Sync>(
-    rt: &R,
-    alloc: Global,
-    locked: Locked<N>,
-    tables: Tables<N>,
-    mut cpus: Vec<Cpu<N>>,
-    lines: &[Line<'_>],
-    is_numbered: bool,
-    has_memory: bool,
-) -> (Result<Vec<u8>, AllocError>, BootEnd)
-    requires count { length cpus.items ≡ N.frames.cpus }
-    requires lines { All (LineInRange N.frames.frames N.frames.cpus) lines.now }
-    ensures told { IfOk result.0 (λ text.
-        AreAllAnswers (boot_tables N.frames N.stocks) (workers_from 1 cpus.items lines.now is_numbered) text.items) }
-    ensures ends { EndsAfter N.frames N.stocks (IsQuietSystem N.frames N.stocks) result.1 }
-{
-    locked.prove_quiet(); // Called for its contract: there are fewer than 2^31 CPUs, as `run_each` requires.
+    locked.prove_quiet(); // There are fewer than 2^31 CPUs, as `run_each` requires.
     let system = System::of(locked, tables);
+    let has_memory = first.is_ok();
     let told = serve_later(
         rt,
         alloc,
         &system,
         &mut cpus,
-        lines,
+        later,
         is_numbered,
         has_memory,
     );
     let (locked, tables) = system.into_parts();
     let ended = end_boot(locked, tables, cpus);
-    (told, ended)
+    let mut answers = first?;
+    answers.extend_from_slice(&told?)?;
+    with_end(alloc, answers, ended, is_audited)
 }
 
 // The answers of the later lines, by a thread for each CPU. If memory ran out before, none is started.

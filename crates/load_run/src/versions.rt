@@ -32,8 +32,6 @@ fn write_version<O: Write>(alloc: Global, output: &mut O) -> Result<(), ProgramF
     ensures left { IfErr result (LeavesLine version_text (O.contents output.old) (O.contents output.new)) }
 {
     let mut text = String::new(alloc);
-    match writeln!(text, "memcg {VERSION}") {
-        Ok(()) => write_answers(text.as_bytes(), output),
-        Err(error) => Err(ProgramFault::NoMemory(error)),
-    }
+    writeln!(text, "memcg {VERSION}")?;
+    write_answers(text.as_bytes(), output)
 }

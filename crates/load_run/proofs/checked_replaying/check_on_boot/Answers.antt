@@ -1,42 +1,42 @@
-use Rattle.std.proofs.Common.{◌≡◌, ℕ, List, All, true, ◌++◌, ◌∙◌, ap, append_assoc, refl, subst, sym}
-use Rattle.std.proofs.lemmas.Result.{err_from_is_err_and}
+use Rattle.std.proofs.Common.{◌≡◌, ℕ, List, true, ◌++◌, ◌∙◌, ap, append_assoc, length, refl, subst, sym}
+use Rattle.std.proofs.lemmas.Result.{IfErr-at_err, IfOk-at_ok, err_from_is_err_and}
+use Rattle.cpu_part.specs.Cpus.{KnownCpu}
 use Rattle.step_watch.specs.Watched.{has_legal_steps}
 use Rattle.mem_machine.specs.Interleaving.{zone_of}
 use Rattle.mem_system.specs.Locked.{KnownLocked}
 use Rattle.script_replay.specs.Lines.{system_state}
-use Rattle.script_replay.specs.Ranges.{LineInRange}
-use Rattle.mem_history.proofs.Agreeing.{a_boot_agrees}
 use Rattle.load_run.specs.Answers.{checked_text}
-use Rattle.load_run.specs.Ending.{boot_end_text}
-use Rattle.load_run.proofs.Answering.{at_err, at_ok}
-use Rattle.load_run.proofs.Starting.{boot_shown, parts_tied}
+use Rattle.load_run.specs.Ending.{EndsChecked, boot_end_text}
+use Rattle.load_run.proofs.Starting.{boot_agrees, boot_shown, given_back, lines_there, parts_tied}
 use Rattle.load_run.proofs.Stopped.{new_watched, stop_told}
 use Rattle.load_run.proofs.Watched.{saw_more}
 use Rattle.load_run.proofs.checked_replaying.check_on_boot.Goals as goal
 
-pub check_and_end_boot-answers-requires-clause-lines : goal.check_and_end_boot-answers-requires-clause-lines
-check_and_end_boot-answers-requires-clause-lines g c =
-    let sized = c.in_ok-locked.ensures.sized in
-    subst (λ (b : ℕ × ℕ). All (LineInRange b.0 b.1) c.args.lines.now) (λ i. (sym sized.frames i, sym sized.cpus i)) c.requires.lines
+pub replay_checked-answers-requires-clause-there : goal.replay_checked-answers-requires-clause-there
+replay_checked-answers-requires-clause-there g c =
+    let booted = c.in_ok-locked.ensures in
+    let long = ap length c.deref_mut.ensures.value ∙ booted.count in
+    lines_there c.args.boot.sizes _ _ _ c.args.lines.now booted.sized long c.requires.lines
 
-pub check_and_end_boot-answers-requires-clause-legal : goal.check_and_end_boot-answers-requires-clause-legal
-check_and_end_boot-answers-requires-clause-legal g c =
+pub replay_checked-answers-requires-clause-legal : goal.replay_checked-answers-requires-clause-legal
+replay_checked-answers-requires-clause-legal g c =
     ap (λ (l : KnownLocked). has_legal_steps l.machine.watch) c.set_watch.ensures ∙ c.in_ok-watch.ensures.legal
+
+pub end_checked_boot-requires : goal.end_checked_boot-requires
+end_checked_boot-requires g c =
+    let same = given_back _ _ _ _ c.deref_mut.ensures.value c.deref_mut.ensures.len c.replay_checked-answers.auto.cpus in
+    record { count = ap length same ∙ c.replay_checked-answers.auto.cpus ∙ ap length c.deref_mut.ensures.value ∙ c.in_ok-locked.ensures.count }
 
 pub returns-in_err-answers : goal.returns-in_err-answers
 returns-in_err-answers g c =
-    let t = g.N.BootName.frames in
-    let w = g.N.BootName.stocks in
     let booted = c.in_ok-locked.ensures in
-    let start = system_state c.set_watch.new.self c.in_ok-locked.cpus.items in
-    let new = new_watched c.args.boot.sizes c.args.sizes t w _ c.in_ok-locked.cpus.items _ _ booted.sized c.requires.sizes booted.machine booted.sizes
-    booted.cpus c.in_ok-watch.ensures c.set_watch.ensures in
-    let ended = c.check_and_end_boot-answers.ensures.ends in
+    let new = new_watched c.args.boot.sizes c.args.sizes g.N.BootName.frames g.N.BootName.stocks _ c.deref_mut.result.now _ _ booted.sized c.requires.sizes
+    booted.machine booted.sizes (c.deref_mut.ensures.value ∙ booted.cpus) c.in_ok-watch.ensures c.set_watch.ensures in
     let p = err_from_is_err_and c.from_residual-in_err-answers.result c.from_residual-in_err-answers.ensures.1 in
     rw (p.1, p.2) (record {
       answers = tt;
-      fault = stop_told c.args.boot.sizes c.args.form t w c.args.lines.now start ended.before _ new
-          (at_err _ _ _ c.in_err-answers.was ended.so.stopped);
+      fault = stop_told c.args.boot.sizes c.args.form _ _ c.args.lines.now _ _ _ new
+          (IfErr-at_err _ c.in_err-answers.was c.replay_checked-answers.ensures.outcome.stopped);
     })
 
 pub returns-then-not-seen : goal.returns-then-not-seen
@@ -44,27 +44,26 @@ returns-then-not-seen g c =
     let t = g.N.BootName.frames in
     let w = g.N.BootName.stocks in
     let booted = c.in_ok-locked.ensures in
-    let start = system_state c.set_watch.new.self c.in_ok-locked.cpus.items in
-    let new = new_watched c.args.boot.sizes c.args.sizes t w _ c.in_ok-locked.cpus.items _ _ booted.sized c.requires.sizes booted.machine booted.sizes
-    booted.cpus c.in_ok-watch.ensures c.set_watch.ensures in
-    let ended = c.check_and_end_boot-answers.ensures.ends in
-    let replays = at_ok _ _ _ c.in_ok-answers.was ended.so.replayed in
-    let machine = new.first.machine in
+    let left = c.replay_checked-answers.new in
+    let new = new_watched c.args.boot.sizes c.args.sizes t w _ c.deref_mut.result.now _ _ booted.sized c.requires.sizes
+    booted.machine booted.sizes (c.deref_mut.ensures.value ∙ booted.cpus) c.in_ok-watch.ensures c.set_watch.ensures in
+    let told = c.end_checked_boot.result in
+    let ends = subst (λ (cpus : List KnownCpu). EndsChecked t w (system_state left.locked cpus) told.0 told.1)
+    (given_back _ _ _ _ c.deref_mut.ensures.value c.deref_mut.ensures.len c.replay_checked-answers.auto.cpus) c.end_checked_boot.ensures.ends in
+    let replays = IfOk-at_ok _ c.in_ok-answers.was c.replay_checked-answers.ensures.outcome.replayed in
     record {
       answers = tt;
       fault = record {
         frames = t;
         stocks = w;
-        start = start;
-        end = ended.before;
+        start = system_state c.set_watch.new.self c.deref_mut.result.now;
+        end = system_state left.locked left.cpus;
         answers = c.in_ok-answers.answers.items;
-        ended = c.check_and_end_boot-answers.result.1;
+        ended = told.0;
         new = new;
-        history = replays.history (boot_shown c.args.boot.sizes t w start.locked.machine start.cpus booted.sized machine booted.cpus)
-            (parts_tied c.args.boot.sizes t w start.locked.machine start.cpus booted.sized machine booted.cpus)
-            (a_boot_agrees t w start.locked.machine machine) new.watched;
-        ends = ended.ends.ends;
-        not_legal = sym ended.ends.is_legal ∙ c.if-not-seen.true;
+        history = replays.history (boot_shown _ _ _ _ new.first) (parts_tied _ _ _ _ new.first) (boot_agrees _ _ _ _ new.first) new.watched;
+        ends = ends.ends;
+        not_legal = sym ends.is_legal ∙ c.if-not-seen.true;
       };
     }
 
@@ -73,42 +72,39 @@ returns g c =
     let t = g.N.BootName.frames in
     let w = g.N.BootName.stocks in
     let booted = c.in_ok-locked.ensures in
-    let start = system_state c.set_watch.new.self c.in_ok-locked.cpus.items in
-    let new = new_watched c.args.boot.sizes c.args.sizes t w _ c.in_ok-locked.cpus.items _ _ booted.sized c.requires.sizes booted.machine booted.sizes
-    booted.cpus c.in_ok-watch.ensures c.set_watch.ensures in
-    let machine = new.first.machine in
-    let ended = c.check_and_end_boot-answers.ensures.ends in
-    let replays = at_ok _ _ _ c.in_ok-answers.was ended.so.replayed in
-    let tells = replays.history (boot_shown c.args.boot.sizes t w start.locked.machine start.cpus booted.sized machine booted.cpus)
-    (parts_tied c.args.boot.sizes t w start.locked.machine start.cpus booted.sized machine booted.cpus)
-    (a_boot_agrees t w start.locked.machine machine) new.watched in
-    let held = ended.ends.ends in
-    let on : has_legal_steps held.emptied.machine.watch ≡ true = sym ended.ends.is_legal ∙ c.if-not-seen.false in
-    let saw = saw_more (zone_of t) tells.run ended.before.locked.machine.watch held.leaves.steps held.emptied.machine.watch tells.saw held.leaves.watched on in
-    let told = c.check_and_end_boot-answers.result.1 in
-    let steps = c.check_and_end_boot-answers.result.2.steps in
+    let left = c.replay_checked-answers.new in
+    let new = new_watched c.args.boot.sizes c.args.sizes t w _ c.deref_mut.result.now _ _ booted.sized c.requires.sizes
+    booted.machine booted.sizes (c.deref_mut.ensures.value ∙ booted.cpus) c.in_ok-watch.ensures c.set_watch.ensures in
+    let told = c.end_checked_boot.result in
+    let ends = subst (λ (cpus : List KnownCpu). EndsChecked t w (system_state left.locked cpus) told.0 told.1)
+    (given_back _ _ _ _ c.deref_mut.ensures.value c.deref_mut.ensures.len c.replay_checked-answers.auto.cpus) c.end_checked_boot.ensures.ends in
+    let replays = IfOk-at_ok _ c.in_ok-answers.was c.replay_checked-answers.ensures.outcome.replayed in
+    let tells = replays.history (boot_shown _ _ _ _ new.first) (parts_tied _ _ _ _ new.first) (boot_agrees _ _ _ _ new.first) new.watched in
+    let held = ends.ends in
+    let on : has_legal_steps held.emptied.machine.watch ≡ true = sym ends.is_legal ∙ c.if-not-seen.false in
+    let saw = saw_more (zone_of t) tells.run left.locked.machine.watch held.leaves.steps held.emptied.machine.watch tells.saw held.leaves.watched on in
     let answers = c.in_ok-answers.answers.items in
-    let ending = boot_end_text c.args.is_audited told in
+    let ending = boot_end_text c.args.is_audited told.0 in
     record {
       answers = record {
         frames = t;
         stocks = w;
-        start = start;
-        end = ended.before;
+        start = system_state c.set_watch.new.self c.deref_mut.result.now;
+        end = system_state left.locked left.cpus;
         run = tells.run;
         answers = answers;
         ending = ending;
         first = new.first;
         served = replays.served;
         history = tells.history;
-        ends = record { ended = told; ends = held; text_is = refl };
+        ends = record { ended = told.0; ends = held; text_is = refl };
         whole = tells.run ++ held.leaves.steps;
         whole_is = refl;
         legal = saw.legal;
         promise = saw.promise;
-        text_is = c.in_ok-with_steps.ensures.told ∙ (ap (λ (l : List ℕ). l ++ checked_text steps) c.in_ok-told.ensures.told
-            ∙ (append_assoc answers ending (checked_text steps)
-            ∙ ap (λ (n : ℕ). answers ++ (ending ++ checked_text n)) (ended.ends.steps ∙ saw.count)));
+        text_is = c.in_ok-with_steps.ensures.told ∙ (ap (λ (l : List ℕ). l ++ checked_text told.1.steps) c.in_ok-told.ensures.told
+            ∙ (append_assoc answers ending (checked_text told.1.steps)
+            ∙ ap (λ (n : ℕ). answers ++ (ending ++ checked_text n)) (ends.steps ∙ saw.count)));
       };
       fault = tt;
     }

@@ -1,23 +1,42 @@
-use Rattle.std.proofs.Common.{◌∙◌, ◌++◌, Bor, List, ℕ, ap, map, subst, sym}
+use Rattle.std.proofs.Common.{◌∙◌, ◌++◌, Bor, List, ℕ, ap, length, map, refl, subst, sym}
+use Rattle.cpu_part.specs.Cpus.{KnownCpu}
 use Rattle.script_replay.specs.Lines.{SystemState, system_state}
-use Rattle.load_run.specs.Logs.{LogsAllAndEnd, log_head_text}
+use Rattle.load_run.specs.Logs.{LogsAllAndEnd, LogsEnd, log_head_text}
+use Rattle.load_run.proofs.Logged.{both_logged}
+use Rattle.load_run.proofs.Starting.{given_back, lines_there, new_state}
 use Rattle.load_run.proofs.logging.steps_on_boot.Goals as goal
+
+pub log_each-served-requires : goal.log_each-served-requires
+log_each-served-requires g c =
+    let booted = c.in_ok-locked.ensures in
+    let long = ap length c.deref_mut.ensures.value ∙ booted.count in
+    record { there = lines_there c.args.boot.sizes _ _ _ c.args.lines.now booted.sized long c.requires.lines }
+
+pub log_end-ended-requires : goal.log_end-ended-requires
+log_end-ended-requires g c =
+    let same = given_back _ _ _ _ c.deref_mut.ensures.value c.deref_mut.ensures.len c.log_each-served.auto.cpus in
+    record { count = ap length same ∙ c.log_each-served.auto.cpus ∙ ap length c.deref_mut.ensures.value ∙ c.in_ok-locked.ensures.count }
 
 pub returns : goal.returns
 returns g c =
     let t = g.N.BootName.frames in
     let w = g.N.BootName.stocks in
-    let boot = c.in_ok-locked.ensures in
-    let start : SystemState = system_state c.in_ok-locked.locked c.in_ok-locked.cpus.items in
-    let grown = c.in_ok-log_and_end_boot.ensures.logged in
+    let booted = c.in_ok-locked.ensures in
+    let left = c.log_each-served.new in
+    let start : SystemState = system_state c.in_ok-locked.locked c.deref_mut.result.now in
+    let end : SystemState = system_state left.locked left.cpus in
     let texts = ap (map (λ (text : Bor (List ℕ)). text.now)) c.deref.ensures.value ∙ c.in_ok-texts.ensures in
+    let adds = c.in_ok-ended.ensures.logged in
+    let ends = subst (λ (cpus : List KnownCpu). LogsEnd t w (system_state left.locked cpus) adds.part)
+    (given_back _ _ _ _ c.deref_mut.ensures.value c.deref_mut.ensures.len c.log_each-served.auto.cpus) adds.so in
+    let grown = both_logged t w _ c.args.lines.now start end _ _ _ adds.part c.in_ok-served.ensures.logged ends adds.added in
     let head = c.in_ok-log.ensures ∙ ap log_head_text (sym c.requires.sizes) in
     record {
       steps = record {
         frames = t;
         stocks = w;
         start = start;
-        first = record { sized = boot.sized; machine = boot.machine; sizes_are = boot.sizes; cpus = boot.cpus };
+        first = new_state _ _ t w _ c.deref_mut.result.now refl booted.sized booted.machine booted.sizes (c.deref_mut.ensures.value ∙ booted.cpus);
         log = grown.text;
         logs = subst (λ (l : List (List ℕ)). LogsAllAndEnd t w l c.args.lines.now start grown.text) texts grown.so;
         text_is = grown.added ∙ ap (λ (l : List ℕ). l ++ grown.text) head;

@@ -1,6 +1,6 @@
 -- Serves the contract of `answers_to`: what was read is a script, and is answered by what its lines are; or some part failed.
 use Rattle.std.proofs.Common.{List, Some, refl, subst, sym, ℕ}
-use Rattle.std.proofs.lemmas.Result.{err_from_is_err_and}
+use Rattle.std.proofs.lemmas.Result.{IfErr-weaker, err_from_is_err_and}
 use Rattle.script_lines.specs.declared.line.Line.{Line}
 use Rattle.script_lines.specs.Script.{IsScript}
 use Rattle.script_replay.proofs.InRange.{script_there}
@@ -8,7 +8,7 @@ use Rattle.load_options.proofs.Asking.{asked_some}
 use Rattle.load_run.specs.Answers.{AreAnswers}
 use Rattle.load_run.specs.Fault.{IsScriptFault}
 use Rattle.load_run.proofs.Answering.{answered, joined}
-use Rattle.load_run.proofs.Causing.{boot_cause, on_error, script_cause}
+use Rattle.load_run.proofs.Causing.{boot_cause, script_cause}
 use Rattle.load_run.proofs.program.answers_to.Goals as goal
 
 pub returns-in_err-lines : goal.returns-in_err-lines
@@ -43,5 +43,5 @@ returns g c =
       answered = joined c.answers_of.result _ _ _ (λ answers answer valid. answered (Some options) _ _ _ _ _ refl read is valid
           (subst (λ (text : List ℕ). AreAnswers options.task options.sizes options.is_audited options.is_numbered text c.deref-3.result.now answers.items)
           c.deref-2.ensures.value answer)) c.answers_of.ensures.answers c.answers_of.ensures.valid;
-      cause = on_error c.answers_of.result _ _ (λ fault is_fault. boot_cause (Some options) _ _ _ _ fault refl read is is_fault) c.answers_of.ensures.fault;
+      cause = IfErr-weaker c.answers_of.result _ _ (λ fault is_fault. boot_cause (Some options) _ _ _ _ fault refl read is is_fault) c.answers_of.ensures.fault;
     }

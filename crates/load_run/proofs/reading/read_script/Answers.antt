@@ -3,7 +3,7 @@ use Rattle.std.proofs.Common.{◌≡◌, ◌∙◌, ◌≤◌, ◌<◌, ◌+◌,
 use Rattle.std.proofs.lemmas.List.{take-append-le}
 use Rattle.std.specs.Io.KnownBytes.{Consumes}
 use Rattle.load_run.proofs.Pieces.{ReadSoFar, read_all, read_end, read_full, read_kept, read_more, read_none}
-use Rattle.load_run.proofs.reading.read_script.Goals.{in-Ok+in_ok-add_piece-in-Ok, in-Err}
+use Rattle.load_run.proofs.reading.read_script.Goals.{in-Ok+in_ok-extend_from_slice-in-Ok, in-Err}
 use Rattle.load_run.proofs.reading.read_script.Goals as goal
 
 pub loop-init : goal.loop-init
@@ -38,11 +38,11 @@ loop-preserved g c =
     let after = g.I.Read.remaining c.read.new.self in
     let So : List ℕ → Type 0 = λ bytes. ReadSoFar (g.I.Read.remaining c.args.input.now) after bytes in
     elim c.match-read.branch [
-      | in-Ok+in_ok-add_piece-in-Ok w ↦
+      | in-Ok+in_ok-extend_from_slice-in-Ok w ↦
           let few : length c.loop.script.items + w.in-Ok.n ≤ 1048577 = search rules in
           let within : w.in-Ok.n ≤ length c.read.new.buf = search rules in
-          let items : w.add_piece.new.script.items ≡ c.loop.script.items ++ take w.in-Ok.n c.read.new.buf =
-          w.in_ok-add_piece-in-Ok.ensures.added ∙ ap (λ (l : List ℕ). c.loop.script.items ++ l) (take-append-le w.in-Ok.n c.read.new.buf _ within) in
+          let items : w.extend_from_slice.new.self.items ≡ c.loop.script.items ++ take w.in-Ok.n c.read.new.buf =
+          w.in_ok-extend_from_slice-in-Ok.ensures.items ∙ ap (λ (l : List ℕ). c.loop.script.items ++ l) (take-append-le w.in-Ok.n c.read.new.buf _ within) in
           subst (λ v. So v.items) (sym w.script-is) (read_more _ before after _ c.read.new.buf _ w.in-Ok.n c.loop.invariant w.in-Ok.ensures.bytes.0 few items)
       | in-Err w ↦ subst (λ v. So v.items) (sym w.script-is) (read_kept _ before after _ c.loop.invariant w.in-Err.ensures.bytes)
     ]

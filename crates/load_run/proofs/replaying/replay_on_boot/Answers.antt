@@ -1,46 +1,47 @@
-use Rattle.std.proofs.Common.{ℕ, [], All, sym, subst, refl}
-use Rattle.script_replay.specs.Lines.{system_state}
-use Rattle.script_replay.specs.Ranges.{LineInRange}
-use Rattle.mem_history.proofs.Agreeing.{a_boot_agrees}
-use Rattle.load_run.specs.Ending.{boot_end_text}
-use Rattle.load_run.proofs.Answering.{at_ok, weakened}
-use Rattle.load_run.proofs.Starting.{boot_shown, parts_tied}
+use Rattle.std.proofs.Common.{◌∙◌, List, [], ap, length, refl, subst}
+use Rattle.cpu_part.specs.Cpus.{KnownCpu}
+use Rattle.script_replay.specs.Lines.{SystemState, system_state}
+use Rattle.load_run.specs.Ending.{EndsHeld, boot_end_text}
+use Rattle.std.proofs.lemmas.Result.{IfOk-at_ok, IfOk-weaker}
+use Rattle.load_run.proofs.Starting.{boot_agrees, boot_shown, given_back, lines_there, new_state, parts_tied}
 use Rattle.load_run.proofs.replaying.replay_on_boot.Goals as goal
 
-pub replay_and_end_boot-answers-requires-clause-lines : goal.replay_and_end_boot-answers-requires-clause-lines
-replay_and_end_boot-answers-requires-clause-lines g c =
-    let sized = c.in_ok-locked.ensures.sized in
-    subst (λ (b : ℕ × ℕ). All (LineInRange b.0 b.1) c.args.lines.now) (λ i. (sym sized.frames i, sym sized.cpus i)) c.requires.lines
+pub replay-answers-requires : goal.replay-answers-requires
+replay-answers-requires g c =
+    let booted = c.in_ok-locked.ensures in
+    let long = ap length c.deref_mut.ensures.value ∙ booted.count in
+    record { there = lines_there c.args.boot.sizes _ _ _ c.args.lines.now booted.sized long c.requires.lines }
+
+pub end_boot-ended-requires : goal.end_boot-ended-requires
+end_boot-ended-requires g c =
+    let same = given_back _ _ _ _ c.deref_mut.ensures.value c.deref_mut.ensures.len c.replay-answers.auto.cpus in
+    record { count = ap length same ∙ c.replay-answers.auto.cpus ∙ ap length c.deref_mut.ensures.value ∙ c.in_ok-locked.ensures.count }
 
 pub returns : goal.returns
 returns g c =
     let t = g.N.BootName.frames in
     let w = g.N.BootName.stocks in
-    let sized = c.in_ok-locked.ensures.sized in
-    let first = c.in_ok-locked.ensures.cpus in
-    let ended = c.replay_and_end_boot-answers.ensures.ends in
-    let replays = at_ok _ _ _ c.in_ok-answers.was ended.so.replayed in
-    let told = c.replay_and_end_boot-answers.result.1 in
+    let booted = c.in_ok-locked.ensures in
+    let left = c.replay-answers.new in
+    let start : SystemState = system_state c.in_ok-locked.locked c.deref_mut.result.now in
+    let new = new_state _ _ t w _ c.deref_mut.result.now refl booted.sized booted.machine booted.sizes (c.deref_mut.ensures.value ∙ booted.cpus) in
+    let replays = IfOk-at_ok _ c.in_ok-answers.was c.replay-answers.ensures.outcome.replayed in
+    let told = c.end_boot-ended.result in
+    let ends = subst (λ (cpus : List KnownCpu). EndsHeld t w (system_state left.locked cpus) told)
+    (given_back _ _ _ _ c.deref_mut.ensures.value c.deref_mut.ensures.len c.replay-answers.auto.cpus) c.end_boot-ended.ensures.ends in
     record {
-      answers = weakened c.with_end.result _ _ (λ text is. record {
+      answers = IfOk-weaker c.with_end.result _ _ (λ text is. record {
         frames = t;
         stocks = w;
-        start = system_state c.in_ok-locked.locked c.in_ok-locked.cpus.items;
-        end = ended.before;
+        start = start;
+        end = system_state left.locked left.cpus;
         answers = c.in_ok-answers.field-0.items;
         ending = boot_end_text c.args.is_audited told;
-        first = record {
-          sized = sized;
-          machine = c.in_ok-locked.ensures.machine;
-          sizes_are = c.in_ok-locked.ensures.sizes;
-          cpus = first;
-        };
+        first = new;
         served = replays.served;
-        history = replays.history [] (boot_shown c.args.boot.sizes t w c.in_ok-locked.locked.machine c.in_ok-locked.cpus.items sized
-            c.in_ok-locked.ensures.machine first) (parts_tied c.args.boot.sizes t w c.in_ok-locked.locked.machine c.in_ok-locked.cpus.items sized
-            c.in_ok-locked.ensures.machine first);
-        agrees = a_boot_agrees t w c.in_ok-locked.locked.machine c.in_ok-locked.ensures.machine;
-        ends = record { ended = told; ends = ended.ends; text_is = refl };
+        history = replays.history [] (boot_shown _ _ _ _ new) (parts_tied _ _ _ _ new);
+        agrees = boot_agrees _ _ _ _ new;
+        ends = record { ended = told; ends = ends; text_is = refl };
         text_is = is;
       }) c.with_end.ensures.told;
     }
