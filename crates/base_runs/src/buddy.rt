@@ -8,8 +8,8 @@ use rand_pcg::Pcg32;
 use std::process::Abort;
 use zone_blocks::areas::FreeAreas;
 use zone_blocks::block::Block;
-use zone_blocks::order::Order;
 use zone_blocks::buddy::Buddy;
+use zone_blocks::order::Order;
 
 // The calls that the README shows.
 #[test]

@@ -12,8 +12,8 @@ use anyhow::{Context, Result};
 use group_charge::charges::Charges;
 use group_tree::group::GroupId;
 use zone_blocks::block::Block;
-use zone_blocks::order::Order;
 use zone_blocks::buddy::Buddy;
+use zone_blocks::order::Order;
 
 fn main(rt: HostRuntime) -> Result<()> {
     let mut charges = Charges::new(rt.alloc())?;
