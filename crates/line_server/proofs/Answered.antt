@@ -1,5 +1,5 @@
 -- What a line was answered.
-use Rattle.std.proofs.Common.{◌≡◌, ◌∙◌, ℕ, true, false, List, [], ◌∷◌, ◌++◌, Option, None, Some, Result, Ok, Err, Vec, IfOk, OnErr, append-nil, ap, codes, inl, inr, refl, subst, sym}
+use Rattle.std.proofs.Common.{◌≡◌, ◌∙◌, ℕ, true, false, List, [], ◌∷◌, ◌++◌, Option, None, Some, Result, Ok, Err, Vec, IfOk, OnErr, ap, codes, inl, inr, refl, subst, sym}
 use Rattle.std.specs.Cmp.Lexicographic.{same_text}
 use Rattle.frame_word.specs.Seats.{KnownTable}
 use Rattle.stock_word.specs.Stock.{KnownStockTable}

@@ -1,5 +1,5 @@
 -- A line's part of a log: a comment that names the line, its steps, and its answer in comments.
-use Rattle.std.specs.Prelude.{◌≡◌, ℕ, ◌-◌, ◌==◌, ◌&&◌, nat_le, if◌then◌else◌, Bool, true, false, List, [], ◌∷◌, ◌++◌}
+use Rattle.std.specs.Prelude.{◌≡◌, ℕ, ◌-◌, ◌==◌, ◌&&◌, nat_le, if◌then◌else◌, Bool, false, List, [], ◌∷◌, ◌++◌}
 use Rattle.std.specs.Prelude.{Result, IfOk, codes, decimal, flat_map, length, map, take}
 use Rattle.step_rules.specs.After.{Run}
 use Rattle.step_watch.specs.Watched.{IsNewLog, KnownWatch, steps_text}

@@ -1,11 +1,11 @@
 -- Serves the contract of `answer_text`: the line is skipped, served or bad.
-use Rattle.std.proofs.Common.{◌≡◌, ◌≤◌, ◌∙◌, ◌++◌, IfOk, List, OnErr, Some, drop, length, rules, subst, sym, take}
+use Rattle.std.proofs.Common.{◌≡◌, ◌≤◌, ◌∙◌, ◌++◌, IfOk, List, Some, drop, length, rules, subst, sym, take}
 use Rattle.std.proofs.lemmas.List.{take-append-le, take_all}
 use Rattle.cpu_part.specs.Cpus.{KnownCpu}
 use Rattle.script_replay.specs.Lines.{SystemState, system_state}
 use Rattle.line_server.specs.Known.{KnownServer, terms_of}
-use Rattle.line_server.specs.Turns.{AnswersServed, GivesAnswer, HasAnswer, ServesAtMost}
-use Rattle.line_server.proofs.Answered.{bad, served, served_some, skipped}
+use Rattle.line_server.specs.Turns.{AnswersServed, GivesAnswer, HasAnswer}
+use Rattle.line_server.proofs.Answered.{bad, served, skipped}
 use Rattle.line_server.proofs.server.Server.answer_text.Goals as goal
 
 pub returns-then-is_skipped-clause-answered : goal.returns-then-is_skipped-clause-answered
