@@ -27,3 +27,5 @@ pub mod StockTold
 pub mod LockTold
 pub mod Dealing
 pub mod Closing
+pub mod Reading
+pub mod OwnParts

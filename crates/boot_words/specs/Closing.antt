@@ -2,12 +2,12 @@
 use Rattle.std.specs.Prelude.{◌≡◌, ℕ, ◌<◌, ◌≤◌, List, [], ◌∷◌, ◌++◌, length, map}
 use Rattle.atomic_table.specs.Seated.{TableId}
 use Rattle.frame_word.specs.ReferenceRule.{ReferenceRule}
-use Rattle.frame_word.specs.Seats.{KnownSeat, view_of}
+use Rattle.frame_word.specs.Seats.{KnownSeat, KnownWords, view_of}
 use Rattle.stock_word.specs.Stock.{KnownStockSeat, view_in}
 use Rattle.stock_word.specs.StockRule.{IsStockOf}
 use Rattle.step_rules.specs.State.{Zone}
 use Rattle.step_rules.specs.After.{Run}
-use Rattle.run_words.specs.Words.{IsRunOf}
+use Rattle.run_words.specs.Words.{IsRunOf, Words}
 use Rattle.boot_words.specs.declared.seat.OwnSeats.{OwnSeats}
 use Rattle.boot_words.specs.declared.view.Past.{Past}
 use Rattle.boot_words.specs.declared.view.BootView.{BootView}
@@ -34,6 +34,7 @@ abbrev pub all_pasts_in : List OwnSeats → List Past
 all_pasts_in [] = []
 all_pasts_in (seats ∷ rest) = seats.past.pasts ++ all_pasts_in rest
 
+-- the seats of one kind
 abbrev pub frame_seats : List OwnSeats → List KnownSeat
 frame_seats = map (λ seats. seats.frames)
 
@@ -41,16 +42,22 @@ abbrev pub stock_seats : List OwnSeats → List KnownStockSeat
 stock_seats = map (λ seats. seats.stocks)
 
 -- The final words: there is one legal run whose last state has just these, and each past is a beginning of it. The
--- reference rule holds of the frames' words. Each CPU has one seat, and its words agree with the zone's account of it and
--- with that seat.
+-- reference rule holds of the frames' words. Each CPU has one seat, and its words agree with the zone's account of it
+-- and with that seat.
 pub record IsClosedTable (zone : Zone) (words : List ℕ) (of_zone : OwnSeats) (of_cpus : List OwnSeats) : Type 0 where
   pub run : Run
   pub is : IsRunOf zone (words_in zone words) run
   pub pasts : AllOf (IsPastOf run) (all_pasts_in (of_zone ∷ of_cpus))
-  pub frames : ReferenceRule zone.frames zone.cpus (words_in zone words).frames ((of_zone.frames.view ∷ map view_of (frame_seats of_cpus)) ∷ [])
+  pub frames : ReferenceRule zone.frames zone.cpus (words_in zone words).frames
+      ((of_zone.frames.view ∷ map view_of (frame_seats of_cpus)) ∷ [])
   pub numbers : (k : ℕ) → k < length (stock_seats of_cpus)
       → (0 < (view_in (stock_seats of_cpus) k).number) × ((view_in (stock_seats of_cpus) k).number ≤ zone.cpus)
   pub each : (cpu : ℕ) → 0 < cpu → cpu ≤ zone.cpus
       → (k : ℕ) × (k < length (stock_seats of_cpus)) × ((view_in (stock_seats of_cpus) k).number ≡ cpu)
   pub stocks : (k : ℕ) → k < length (stock_seats of_cpus)
-      → IsStockOf (words_in zone words).stocks (view_in (stock_seats of_cpus) k).number of_zone.stocks.view (view_in (stock_seats of_cpus) k)
+      → IsStockOf (words_in zone words).stocks (view_in (stock_seats of_cpus) k).number of_zone.stocks.view
+      (view_in (stock_seats of_cpus) k)
+
+-- the final words, as `run_words` has them
+abbrev pub parts_of : KnownWords → Words
+parts_of w = words_in (record { frames = w.frames; cpus = w.cpus }) w.words

@@ -10,3 +10,4 @@ pub mod Sitting
 pub mod Pasts
 pub mod Opening
 pub mod Closing
+pub mod Own

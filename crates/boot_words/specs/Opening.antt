@@ -28,9 +28,11 @@ zone_seats table frames = seats_of table (no_past 0) (first_zone_view frames) fi
 -- the seats of n CPUs at first, from this number on
 abbrev pub opening_seats : TableId → ℕ → ℕ → List OwnSeats
 opening_seats table cpu zero = []
-opening_seats table cpu (suc n) = seats_of table (no_past cpu) (first_cpu_view cpu) (first_cpu_stock_view cpu) ∷ opening_seats table (cpu + 1) n
+opening_seats table cpu (suc n) = seats_of table (no_past cpu) (first_cpu_view cpu) (first_cpu_stock_view cpu)
+    ∷ opening_seats table (cpu + 1) n
 
--- the list begins with views of this number, of the run, the frames and the stocks; that of the stocks has seen nothing yet
+-- the list begins with views of this number, of the run, the frames and the stocks; that of the stocks has seen nothing
+-- yet
 pub record BeginsAt (number : ℕ) (views : List BootView) : Type 0 where
   pub past : Past
   pub frames : FrameView

@@ -14,9 +14,11 @@ use Rattle.stock_word.specs.declared.words.Credit.TheVariants as credits
 use Rattle.stock_word.specs.Stock.{is_held}
 use Rattle.step_rules.specs.declared.phase.Hold.TheVariants.{HeldBy, Unheld}
 use Rattle.step_rules.specs.declared.step.Action.{Action}
-use Rattle.step_rules.specs.declared.step.Action.TheVariants.{Get as GetOf, Consume as ConsumeOf, Credit as CreditOf, Lock, Unlock}
+use Rattle.step_rules.specs.declared.step.Action.TheVariants.{Lock, Unlock, Get as GetOf, Consume as ConsumeOf}
+use Rattle.step_rules.specs.declared.step.Action.TheVariants.{Credit as CreditOf}
 use Rattle.step_rules.specs.declared.step.Answer.{Answer}
-use Rattle.step_rules.specs.declared.step.Answer.TheVariants.{Done, Drained, Full, Held, Last, Left, Missed, Stocked, Took, Zero}
+use Rattle.step_rules.specs.declared.step.Answer.TheVariants.{Done, Drained, Full, Held, Last, Left, Missed}
+use Rattle.step_rules.specs.declared.step.Answer.TheVariants.{Stocked, Took, Zero}
 use Rattle.step_rules.specs.State.{State}
 use Rattle.step_rules.specs.Legal.{get_answer, is_legal}
 use Rattle.step_rules.specs.After.{after, state_of}
@@ -74,6 +76,7 @@ abbrev pub put_said : Put → Answer
 put_said (puts.Left n) = Left n
 put_said puts.Last = Last
 
+-- the answer of the run's step; a race is none
 abbrev pub get_said : Get → Answer
 get_said gets.Held = Held
 get_said gets.Zero = Zero
@@ -82,7 +85,8 @@ get_said (gets.Raced n) = Held
 
 -- the run after the load of a get that found this word: a word that refuses the get is that step
 abbrev pub LooksRun : KnownPasts → ℕ → ℕ → KnownPasts → Type 0
-LooksRun s f found s' = (get_answer found ≢ Held → Does s (GetOf f) (get_answer found) s') × (get_answer found ≡ Held → s' ≡ s)
+LooksRun s f found s' = (get_answer found ≢ Held → Does s (GetOf f) (get_answer found) s')
+    × (get_answer found ≡ Held → s' ≡ s)
 
 -- the run after the exchange of a get, from the word `seen`, that found this word
 abbrev pub AddsRun : KnownPasts → ℕ → ℕ → ℕ → KnownPasts → Type 0
@@ -93,8 +97,8 @@ abbrev pub Gets : KnownPasts → ℕ → Get → KnownPasts → Type 0
 Gets s f (gets.Raced n) s' = s' ≡ s
 Gets s f answer s' = Does s (GetOf f) (get_said answer) s'
 
--- The run after a consume for g by a CPU that knew v: the step with its answer, if the CPU made an exchange. That it did
--- if the answer is Took, or Drained of a stock that it saw held last.
+-- The run after a consume for g by a CPU that knew v: the step with its answer, if the CPU made an exchange. It made
+-- one if the answer is Took, or Drained of a stock that it saw held last.
 abbrev pub ConsumesRun : KnownPasts → ℕ → StockView → Consume → KnownPasts → Type 0
 ConsumesRun s g v consumes.Took s' = Does s (ConsumeOf g) Took s'
 ConsumesRun s g v consumes.Empty s' = s' ≡ s
@@ -108,11 +112,12 @@ CreditsRun s f v credits.Drained s' = MatchBool (is_held v.last) (Does s (Credit
 
 -- ---- under the lock
 
--- the zone's past, and that of the CPU that holds the lock
+-- the second past; without one, that of number 0 without steps
 abbrev pub second_past : List Past → Past
 second_past [] = no_past 0
 second_past (p ∷ pasts) = first_past pasts
 
+-- the past of the CPU that holds the lock
 abbrev pub cpu_past : KnownPasts → Past
 cpu_past s = second_past s.pasts
 
@@ -131,7 +136,8 @@ abbrev pub MayMake : KnownTable → KnownPasts → ℕ → Action → Type 0
 MayMake t s seat action = is_legal (local_by_pasts t s) seat action ≡ true
 
 -- the step was made under the lock, with this answer
-pub record MakesStep (t : KnownTable) (s : KnownPasts) (seat : ℕ) (action : Action) (answer : Answer) (s' : KnownPasts) : Type 0 where
+pub record MakesStep (t : KnownTable) (s : KnownPasts) (seat : ℕ) (action : Action) (answer : Answer) (s' : KnownPasts)
+    : Type 0 where
   pub zone_grew : GrewBy (own_past s) (record { seat = seat; action = action }) answer (own_past s')
   pub cpu_grew : GrewBy (cpu_past s) (record { seat = seat; action = action }) answer (cpu_past s')
   pub held : IsHeld t s'
@@ -141,6 +147,7 @@ pub record MakesStep (t : KnownTable) (s : KnownPasts) (seat : ℕ) (action : Ac
 abbrev pub IsHolder : KnownPasts → ℕ → Type 0
 IsHolder s number = number ≡ (cpu_past s).number
 
+-- the answer of the run's step
 abbrev pub freeze_said : Bool → Answer
 freeze_said true = Done
 freeze_said false = Missed
@@ -151,20 +158,22 @@ pub record IsZonePast (t : KnownTable) (s : KnownPasts) : Type 0 where
   pub alone : s.pasts ≡ own_past s ∷ []
   pub zone_is : (own_past s).number ≡ 0
 
--- A CPU has taken the lock: the zone's seat has its past too. Hidden parts apart, it finds what the zone's past left, and
--- its own lists and references are those that its own past left.
+-- A CPU has taken the lock: the zone's seat has its past too. Hidden parts apart, it finds what the zone's past left,
+-- and its own lists and references are those that its own past left.
 pub record Locks (t : KnownTable) (zone cpu zone' : KnownPasts) : Type 0 where
   pub zone_grew : GrewBy (own_past zone) (record { seat = (own_past cpu).number; action = Lock }) Done (own_past zone')
   pub cpu_grew : GrewBy (own_past cpu) (record { seat = (own_past cpu).number; action = Lock }) Done (cpu_past zone')
   pub held : IsHeld t zone'
   pub found : hide (state_of (zone_of_boot t) (own_past zone').seen)
       ≡ record (hide (state_of (zone_of_boot t) (own_past zone).seen)) { hold = HeldBy (own_past cpu).number }
-  pub own : HasSameLists (own_past cpu).number (state_of (zone_of_boot t) (own_past cpu).seen) (state_of (zone_of_boot t) (cpu_past zone').seen)
+  pub own : HasSameLists (own_past cpu).number (state_of (zone_of_boot t) (own_past cpu).seen)
+      (state_of (zone_of_boot t) (cpu_past zone').seen)
 
 -- The CPU has released the lock: each seat has its own past. The lock is free by the zone's, which leaves what the CPU
 -- saw.
 pub record Unlocks (t : KnownTable) (held zone cpu : KnownPasts) : Type 0 where
-  pub zone_grew : GrewBy (own_past held) (record { seat = (cpu_past held).number; action = Unlock }) Done (own_past zone)
+  pub zone_grew : GrewBy (own_past held) (record { seat = (cpu_past held).number; action = Unlock }) Done
+      (own_past zone)
   pub cpu_grew : GrewBy (cpu_past held) (record { seat = (cpu_past held).number; action = Unlock }) Done (own_past cpu)
   pub zone_is : IsZonePast t zone
   pub cpu_table : cpu.table ≡ t.table

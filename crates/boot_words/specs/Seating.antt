@@ -20,11 +20,13 @@ no_past number = record { number = number; seen = [] }
 -- the views of n CPUs at first, from this number on
 abbrev pub cpus_views : ℕ → ℕ → List BootView
 cpus_views cpu zero = []
-cpus_views cpu (suc n) = OfRun (no_past cpu) ∷ OfFrames (first_cpu_view cpu) ∷ OfStocks (first_cpu_stock_view cpu) ∷ cpus_views (cpu + 1) n
+cpus_views cpu (suc n) = OfRun (no_past cpu) ∷ OfFrames (first_cpu_view cpu) ∷ OfStocks (first_cpu_stock_view cpu)
+    ∷ cpus_views (cpu + 1) n
 
 -- all views at first, which one seat has: of the run, the frames and the stocks, for the zone and each CPU
 abbrev pub all_views : Zone → List BootView
-all_views zone = OfRun (no_past 0) ∷ OfFrames (first_zone_view zone.frames) ∷ OfStocks first_zone_stock_view ∷ cpus_views 1 zone.cpus
+all_views zone = OfRun (no_past 0) ∷ OfFrames (first_zone_view zone.frames) ∷ OfStocks first_zone_stock_view
+    ∷ cpus_views 1 zone.cpus
 
 -- how many words the table has
 abbrev pub word_count : Zone → ℕ

@@ -61,13 +61,14 @@ cpu_at (ReportOf cpu) = cpu
 cpu_at (VisitOf cpu) = cpu
 cpu_at word = 0
 
--- Whatever the table is, a seat with these views may change the word like this. Then this holds of the word that it found
--- and of its views.
+-- Whatever the table is, a seat with these views may change the word like this. Then this holds of the word that it
+-- found and of its views.
 abbrev pub MayStep : Zone → List BootView → Word → (ℕ → ℕ) → (ℕ → List BootView → Type 0) → Type 0
-MayStep zone views word change told = (id : ℕ) → Allows {S = Unit {0}} (boot_rule zone) 0 id (views, []) (index_of zone word) change
+MayStep zone views word change told = (id : ℕ)
+    → Allows {S = Unit {0}} (boot_rule zone) 0 id (views, []) (index_of zone word) change
     (λ found later. (later.1 ≡ []) × told found later.0)
 
--- ---- lists of views
+-- ---- lists of views: all but the first, the first alone, all but the last, the last alone
 
 abbrev pub rest_of_views : List BootView → List BootView
 rest_of_views [] = []

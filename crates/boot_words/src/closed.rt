@@ -1,15 +1,20 @@
 //! The end of a table.
-ghost use Rattle.std.specs.Prelude.{◌≡◌, ◌++◌, length};
-ghost use Rattle.stock_word.specs.Stock.{IsZoneView};
+ghost use Rattle.std.specs.Prelude.{◌≡◌, ◌+◌, ◌*◌, ◌<◌, ◌≤◌, ◌++◌, length, slice_index};
+ghost use Rattle.frame_word.specs.ReferenceRule.{visit_index};
+ghost use Rattle.stock_word.specs.declared.view.Stock.{Stock as AStock};
+ghost use Rattle.stock_word.specs.Stock.{word_of, HasWord, IsZoneView};
+ghost use Rattle.stock_word.specs.StockRule.{report_index, stock_index};
 ghost use Rattle.boot_words.specs.Rule.{AllOf};
 ghost use Rattle.boot_words.specs.Seats.{zone_of_boot};
-ghost use Rattle.boot_words.specs.Closing.{all_views_in, views_in, AreAt, IsClosedTable};
+ghost use Rattle.boot_words.specs.Closing.{all_views_in, parts_of, views_in, AreAt, IsClosedTable};
 
 use crate::raw::{BootWords, RawSeat};
 use crate::seat::{FrameSeat, OwnSeats, PastSeat, StockSeat};
 use atomic_table::Closed;
+use frame_word::Frame;
 use std::alloc::Global;
 use std::marker::Model;
+use stock_word::Stock;
 
 /// The words at the end, when no seat is left to change them.
 pub struct ClosedWords {
@@ -99,5 +104,47 @@ impl BootWords {
             frames,
             cpus: count,
         }
+    }
+}
+
+impl ClosedWords {
+    /// The word of a frame.
+    pub fn word(&self, frame: Frame) -> u64
+        requires { frame < self.now.frames }
+        ensures { result ≡ slice_index (parts_of self.now).frames frame }
+    {
+        self.closed.word(self.frames_at() + frame.number() as usize)
+    }
+
+    /// The visit word of a CPU.
+    pub fn visit_word(&self, cpu: u32) -> u64
+        requires { (1 ≤ cpu) × (cpu ≤ self.now.cpus) }
+        ensures { result ≡ slice_index (parts_of self.now).frames (visit_index self.now.frames cpu) }
+    {
+        self.closed.word(self.frames_at() + (self.frames as usize + (cpu as usize - 1)))
+    }
+
+    /// What the stock word of a CPU says.
+    pub fn stock(&self, cpu: u32) -> Stock
+        requires { cpu ≤ self.now.cpus }
+        ensures { (stock : AStock) → HasWord stock
+            → slice_index (parts_of self.now).stocks (stock_index cpu) ≡ word_of stock → result ≡ stock }
+    {
+        Stock::of_word(self.closed.word(16 * cpu as usize))
+    }
+
+    /// The number of pages in the report word of a CPU.
+    pub fn reported(&self, cpu: u32) -> u64
+        requires { cpu ≤ self.now.cpus }
+        ensures { result ≡ slice_index (parts_of self.now).stocks (report_index cpu) }
+    {
+        self.closed.word(16 * cpu as usize + 1)
+    }
+
+    // The place of the first frame's word.
+    fn frames_at(&self) -> usize
+        ensures { result ≡ 16 * (self.now.cpus + 1) }
+    {
+        16 * (self.cpus as usize + 1)
     }
 }

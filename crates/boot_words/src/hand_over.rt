@@ -3,8 +3,8 @@
 ghost use Rattle.std.specs.Prelude.{◌≡◌, ◌⊎◌, ◌<◌};
 ghost use Rattle.frame_word.specs.Views.{took_in, passed_back_by_cpu, collected_from};
 ghost use Rattle.frame_word.specs.Seats.{seat_number, seat_references, seat_with, seat_with_visit, HandsAreApart};
-ghost use Rattle.frame_word.specs.Seats.{HasNothingOf, IsBorrowed, IsCpuSeat, IsInHand, IsInOwnHand, IsLent, IsLentToNone};
-ghost use Rattle.frame_word.specs.Seats.{IsOpen, IsShut, IsZoneSeat, LentIsBorrowed, NothingPasses, Passes};
+ghost use Rattle.frame_word.specs.Seats.{HasNothingOf, IsBorrowed, IsCpuSeat, IsInHand, IsInOwnHand, IsLent};
+ghost use Rattle.frame_word.specs.Seats.{IsLentToNone, IsOpen, IsShut, IsZoneSeat, LentIsBorrowed, NothingPasses, Passes};
 ghost use Rattle.step_rules.specs.declared.step.Action.TheVariants as step;
 ghost use Rattle.step_rules.specs.declared.step.Answer.TheVariants.{Done};
 ghost use Rattle.boot_words.specs.Pasts.{IsHeld, IsHolder, MakesStep, MayMake};

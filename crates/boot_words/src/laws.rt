@@ -1,6 +1,12 @@
 //! Laws: each function's `ensures` clause says that the rule of the one table allows an atomic step.
 
 ghost use Rattle.boot_words.specs.Allowed.{AddIsAllowed, ConsumeIsAllowed, CreditIsAllowed, LookIsAllowed, PutIsAllowed};
+ghost use Rattle.boot_words.specs.Own.{OwnPartFollows};
+
+/// A CPU's step without the lock changes its own lists and references as if it were made right behind its last step.
+pub fn own_part_follows()
+    ensures { OwnPartFollows }
+{}
 
 /// A put that is legal at the CPU's own last step is allowed, and the run grows by it with the answer that the word
 /// decides.

@@ -55,8 +55,8 @@ impl BootWords {
     pub fn note(&self, held: &mut PastSeat, made: &Step, answer: &Answer)
         requires held { IsHeld self.now held.old }
         requires plain { IsPlain made.now.action }
-        requires step { IsLocalStep (local_by_pasts self.now held.old) (cpu_past held.old).number made.now.seat made.now.action
-            answer.now }
+        requires step { IsLocalStep (local_by_pasts self.now held.old) (cpu_past held.old).number made.now.seat
+            made.now.action answer.now }
         ensures run { MakesStep self.now held.old made.now.seat made.now.action answer.now held.new }
     {
         self.note_as::<Brand>(&mut held.raw, made, answer);

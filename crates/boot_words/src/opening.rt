@@ -35,7 +35,8 @@ impl BootWords {
     fn seated(&self, raw: &mut RawSeat, number: u32) -> OwnSeats
         requires table { raw.old.table ≡ self.now.table }
         requires begins { BeginsAt number raw.old.views }
-        ensures rest { raw.new ≡ record { table = self.now.table; views = rest_of_views (rest_of_views (rest_of_views raw.old.views)) } }
+        ensures rest { raw.new
+            ≡ record { table = self.now.table; views = rest_of_views (rest_of_views (rest_of_views raw.old.views)) } }
         ensures seats { result ≡ seats_in self.now.table raw.old.views }
     {
         let past = PastSeat {

@@ -1,6 +1,6 @@
-//! The table and its raw seats. All atomic steps are made here, and each tells what its caller asks by `Telling`. What a
-//! caller can ask is what the rule allows of the step (`MayStep`).
-ghost use Rattle.std.specs.Prelude.{◌≡◌, ◌≤◌, ◌+◌, ◌-◌, ◌%◌, ◌^◌, ◌==◌, ◌++◌, [], length, IfOk};
+//! The table and its raw seats. All atomic steps are made here, and each tells what its caller asks by `Telling`. What
+//! a caller can ask is what the rule allows of the step (`MayStep`).
+ghost use Rattle.std.specs.Prelude.{◌≡◌, ◌≤◌, ◌+◌, ◌-◌, ◌%◌, ◌^◌, ◌<◌, ◌==◌, ◌++◌, [], IfOk, MatchOption};
 ghost use Rattle.std.specs.Mem.Slots.{slots_items, slots_len, IsFull};
 ghost use prog.Atomic.{either};
 ghost use Rattle.boot_words.specs.Rule.{boot_rule};
@@ -12,6 +12,7 @@ ghost use Rattle.boot_words.specs.Seats.{last_alone};
 use crate::view::BootView;
 use crate::word::Word;
 use atomic_table::{Closed, Join, Play, Seat, Split, Table, TableRule};
+use frame_word::Frame;
 use std::alloc::{AllocError, Global};
 use std::collections::LinkedList;
 use std::marker::{Brand, Model, PhantomData};
@@ -110,8 +111,8 @@ impl Model for BootWords {
 
     ghost view = { λ w. record { table = w.table.shared.table_id; frames = w.frames; cpus = w.cpus } };
 
-    ghost invariant = { λ w. HasBootLayout w.table.shared.table_id w.table.shared.key.frames w.table.shared.key.cpus w.frames
-        w.cpus };
+    ghost invariant = { λ w. HasBootLayout w.table.shared.table_id w.table.shared.key.frames w.table.shared.key.cpus
+        w.frames w.cpus };
 }
 
 /// A seat at the table, without what the public seats store beside it.
@@ -145,6 +146,17 @@ impl BootWords {
         ensures few { (1 ≤ result) × (result ≤ 64) }
     {
         self.cpus
+    }
+
+    /// The frame of this number, or `None` if the zone has none.
+    pub fn frame(&self, number: u32) -> Option<Frame>
+        ensures { MatchOption result (self.now.frames ≤ number) (λ f. (f ≡ number) × (f < self.now.frames)) }
+    {
+        if number < self.frames {
+            Some(Frame::new(number))
+        } else {
+            None
+        }
     }
 
     // The place of a word in the table. A CPU's row has sixteen words, so that no two CPUs' share a cache line.

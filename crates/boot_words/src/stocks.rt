@@ -90,10 +90,12 @@ impl BootWords {
         ensures table { raw.new.table ≡ raw.old.table }
         ensures alone { IsOneStock raw.new.views }
         ensures took { result ≡ word_of (HeldBy group (left + 1))
-            → Consumes (stock_index cpu) result (word_of (HeldBy group left)) (stock_view raw.old.views) (stock_view raw.new.views) }
+            → Consumes (stock_index cpu) result (word_of (HeldBy group left)) (stock_view raw.old.views)
+            (stock_view raw.new.views) }
         ensures drained { result ≢ word_of (HeldBy group (left + 1))
             → SeesDrained (stock_index cpu) result result (stock_view raw.old.views) (stock_view raw.new.views) }
-        ensures took_run { result ≡ word_of (HeldBy group (left + 1)) → Does past.old (step.Consume group) Took past.new }
+        ensures took_run { result ≡ word_of (HeldBy group (left + 1))
+            → Does past.old (step.Consume group) Took past.new }
         ensures drained_run { result ≢ word_of (HeldBy group (left + 1))
             → Does past.old (step.Consume group) Drained past.new }
     {

@@ -1,12 +1,12 @@
 //! The stocks as the holder of the lock has them: by the zone's seat, alone or joined with the CPU's.
 ghost use Rattle.std.specs.Prelude.{◌≡◌, ◌≢◌, ◌+◌, ◌-◌, ◌%◌, ◌^◌, ◌<◌, ◌≤◌, ◌⊎◌, false, Some, IfSome};
 ghost use Rattle.stock_word.specs.declared.view.Stock.TheVariants.{DrainedOf, HeldBy};
-ghost use Rattle.stock_word.specs.Stock.{account_of, account_for, drained_of, group_of, is_held, stock_pages_of, stocked, word_of};
-ghost use Rattle.stock_word.specs.Stock.{HasWord, IsZoneView};
+ghost use Rattle.stock_word.specs.Stock.{account_of, account_for, drained_of, group_of, is_held, stock_pages_of};
+ghost use Rattle.stock_word.specs.Stock.{stocked, word_of, HasWord, IsZoneView};
 ghost use Rattle.stock_word.specs.StockRule.{report_index, stock_index};
 ghost use Rattle.stock_word.specs.Kinds.{after_fill, after_report, after_took, with_steps, zone_after_absorb};
-ghost use Rattle.stock_word.specs.Kinds.{zone_after_drain, zone_after_fill, zone_after_report, Absorbs, DrainsWord, DrainsNone};
-ghost use Rattle.stock_word.specs.Kinds.{LooksAt};
+ghost use Rattle.stock_word.specs.Kinds.{zone_after_drain, zone_after_fill, zone_after_report, Absorbs, DrainsWord};
+ghost use Rattle.stock_word.specs.Kinds.{DrainsNone, LooksAt};
 ghost use Rattle.stock_word.specs.Calls.{after_look, steps_of_drain, with_view};
 ghost use Rattle.step_rules.specs.declared.step.Action.TheVariants as step;
 ghost use Rattle.step_rules.specs.declared.step.Answer.TheVariants.{Done, Pages, Took};
@@ -27,7 +27,8 @@ impl BootWords {
     fn take_page_of<M: Telling>(&self, raw: &mut RawSeat, cpu: u32, _group: u32) -> u64
         requires table { raw.old.table ≡ self.now.table }
         requires cpu { cpu ≤ self.now.cpus }
-        requires may { MayStep (zone_of_boot self.now) raw.old.views (StockOf cpu) (λ n. (n + (2 ^ 64 - 1)) % 2 ^ 64) M.told }
+        requires may { MayStep (zone_of_boot self.now) raw.old.views (StockOf cpu) (λ n. (n + (2 ^ 64 - 1)) % 2 ^ 64)
+            M.told }
         ensures table { raw.new.table ≡ raw.old.table }
         ensures told { M.told result raw.new.views }
     {
@@ -206,7 +207,8 @@ impl BootWords {
         requires fits { group < 64 }
         requires legal { MayMake self.now held.old 0 (step.DrainStock cpu) }
         ensures table { zone.new.table ≡ zone.old.table }
-        ensures kind { DrainsWord cpu group (stock_index cpu) result (word_of (DrainedOf group)) zone.old.view zone.new.view }
+        ensures kind { DrainsWord cpu group (stock_index cpu) result (word_of (DrainedOf group)) zone.old.view
+            zone.new.view }
         ensures run { MakesStep self.now held.old 0 (step.DrainStock cpu) (Pages (pages_said result)) held.new }
     {
         self.join(&mut held.raw, &mut zone.raw);
