@@ -17,7 +17,7 @@ use Rattle.step_rules.specs.declared.step.Answer.TheVariants.{Done, Pages}
 use Rattle.step_rules.specs.State.{Zone, State}
 use Rattle.step_rules.specs.Legal.{is_legal}
 use Rattle.step_rules.specs.Laws.{is_of_lock}
-use Rattle.run_words.specs.Steps.{ChangesWords, OfGroup}
+use Rattle.boot_words.specs.Steps.{ChangesWords, OfGroup}
 use Rattle.boot_words.specs.declared.view.Past.{Past}
 use Rattle.boot_words.specs.declared.view.BootView.{BootView}
 use Rattle.boot_words.specs.declared.view.BootView.TheVariants.{OfStocks}

@@ -15,7 +15,7 @@ use Rattle.stock_word.specs.Stock.{first_cpu_stock_view, first_cpu_stock_views, 
 use Rattle.stock_word.specs.StockRule.{StockRule}
 use Rattle.stock_word.proofs.Opens.{opens_at}
 use Rattle.step_rules.specs.State.{Zone}
-use Rattle.run_words.proofs.Booting.{a_boot_has_words}
+use Rattle.boot_words.proofs.Booting.{a_boot_has_words}
 use Rattle.boot_words.specs.declared.view.BootView.TheVariants.{OfRun}
 use Rattle.boot_words.specs.Rule.{AllOf, FitsRun, frame_base, frames_in, past_of, stocks_in, words_in}
 use Rattle.boot_words.specs.Seating.{RuleOpens, all_views, cpus_views, no_past, word_count}

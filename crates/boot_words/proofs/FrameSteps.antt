@@ -13,7 +13,7 @@ use Rattle.step_rules.specs.declared.step.Step.{Step}
 use Rattle.step_rules.specs.declared.step.Answer.{Answer}
 use Rattle.step_rules.specs.State.{Zone}
 use Rattle.step_rules.specs.Laws.{is_of_lock}
-use Rattle.run_words.specs.Words.{Words, IsRunOf, with_frame_word}
+use Rattle.boot_words.specs.Words.{Words, IsRunOf, with_frame_word}
 use Rattle.boot_words.specs.declared.view.BootView.{BootView}
 use Rattle.boot_words.specs.Rule.{AllOf, BootRule, FitsRun, frame_base, frames_in, past_of, stocks_in, words_in}
 use Rattle.boot_words.proofs.Growing.{all_fit_later}

@@ -14,8 +14,8 @@ use Rattle.frame_word.proofs.ShortSteps.{freezes_at, puts_at}
 use Rattle.step_rules.specs.declared.step.Action.TheVariants.{Freeze, Put}
 use Rattle.step_rules.specs.declared.step.Answer.TheVariants.{Done, Missed}
 use Rattle.step_rules.specs.State.{Zone}
-use Rattle.run_words.specs.Words.{Words, with_frame_word}
-use Rattle.run_words.specs.Steps.{ChangesWords, frame_word_at}
+use Rattle.boot_words.specs.Words.{Words, with_frame_word}
+use Rattle.boot_words.specs.Steps.{ChangesWords, frame_word_at}
 use Rattle.boot_words.specs.Rule.{frame_base, words_in}
 use Rattle.boot_words.specs.Allowed.{put_answer_at}
 use Rattle.boot_words.specs.Held.{FreezeIsAllowed, HeldPutIsAllowed, freeze_answer}

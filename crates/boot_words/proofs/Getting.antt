@@ -15,11 +15,11 @@ use Rattle.step_rules.specs.declared.step.Answer.{Answer}
 use Rattle.step_rules.specs.declared.step.Answer.TheVariants.{Held, Zero, Full}
 use Rattle.step_rules.specs.Legal.{is_legal, get_answer}
 use Rattle.step_rules.specs.After.{state_of}
-use Rattle.run_words.specs.Runs.{OthersFollow}
-use Rattle.run_words.specs.Words.{Words, IsRunOf, with_frame_word}
-use Rattle.run_words.specs.Steps.{ChangesWords, frame_word_at}
-use Rattle.run_words.proofs.Lasting.{fast_legality_lasts}
-use Rattle.run_words.proofs.Stepping.{words_follow}
+use Rattle.boot_words.specs.Runs.{OthersFollow}
+use Rattle.boot_words.specs.Words.{Words, IsRunOf, with_frame_word}
+use Rattle.boot_words.specs.Steps.{ChangesWords, frame_word_at}
+use Rattle.boot_words.proofs.Lasting.{fast_legality_lasts}
+use Rattle.boot_words.proofs.Stepping.{words_follow}
 use Rattle.boot_words.specs.declared.view.BootView.{BootView}
 use Rattle.boot_words.specs.declared.view.BootView.TheVariants.{OfFrames, OfRun}
 use Rattle.boot_words.specs.Rule.{AllOf, BootRule, FitsRun, frame_base, frames_in, words_in}

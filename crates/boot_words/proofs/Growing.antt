@@ -8,8 +8,8 @@ use Rattle.step_rules.specs.declared.step.Step.{Step}
 use Rattle.step_rules.specs.declared.step.Answer.{Answer}
 use Rattle.step_rules.specs.After.{Run}
 use Rattle.step_rules.specs.Laws.{is_of_lock}
-use Rattle.run_words.specs.Runs.{HasNoStepOf, OthersFollow}
-use Rattle.run_words.proofs.Holding.{append_none}
+use Rattle.boot_words.specs.Runs.{HasNoStepOf, OthersFollow}
+use Rattle.boot_words.proofs.Holding.{append_none}
 use Rattle.boot_words.specs.declared.view.Past.{Past}
 use Rattle.boot_words.specs.declared.view.BootView.{BootView}
 use Rattle.boot_words.specs.declared.view.BootView.TheVariants.{OfFrames, OfStocks, OfRun}

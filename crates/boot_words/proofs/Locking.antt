@@ -18,10 +18,10 @@ use Rattle.step_rules.proofs.CoverPhases.{seen_through}
 use Rattle.step_rules.proofs.Freeing.{zone_of_run}
 use Rattle.step_rules.proofs.Runs.{legal_more, state_more}
 use Rattle.step_rules.proofs.SoundSteps.{cpu_range}
-use Rattle.run_words.specs.Runs.{OthersFollow}
-use Rattle.run_words.specs.Hidden.{hide, hide_phase, zone_references}
-use Rattle.run_words.specs.Sight.{HasSameLists}
-use Rattle.run_words.proofs.Owning.{lists_are_own}
+use Rattle.boot_words.specs.Runs.{OthersFollow}
+use Rattle.boot_words.specs.Hidden.{hide, hide_phase, zone_references}
+use Rattle.boot_words.specs.Sight.{HasSameLists}
+use Rattle.boot_words.proofs.Owning.{lists_are_own}
 use Rattle.boot_words.specs.declared.view.BootView.TheVariants.{OfFrames}
 use Rattle.boot_words.specs.Rule.{AllOf, FitsRun}
 use Rattle.boot_words.specs.Held.{joined}

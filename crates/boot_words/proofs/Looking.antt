@@ -17,7 +17,7 @@ use Rattle.stock_word.proofs.Steps.{looking_allowed, seeing_allowed}
 use Rattle.step_rules.specs.declared.step.Action.TheVariants.{DrainStock}
 use Rattle.step_rules.specs.declared.step.Answer.TheVariants.{Pages}
 use Rattle.step_rules.specs.State.{Zone}
-use Rattle.run_words.specs.Steps.{OfNone}
+use Rattle.boot_words.specs.Steps.{OfNone}
 use Rattle.boot_words.specs.declared.view.Past.{Past}
 use Rattle.boot_words.specs.declared.view.BootView.{BootView}
 use Rattle.boot_words.specs.declared.view.BootView.TheVariants.{OfFrames, OfStocks, OfRun}

@@ -6,7 +6,7 @@ use mathlib.Core.Option.{some}
 use lib.ListN.{get_elem?}
 use Rattle.atomic_table.proofs.Lists.{at_map, set_again}
 use Rattle.step_rules.specs.State.{Zone}
-use Rattle.run_words.specs.Words.{with_frame_word}
+use Rattle.boot_words.specs.Words.{with_frame_word}
 use Rattle.boot_words.specs.declared.view.BootView.{BootView}
 use Rattle.boot_words.specs.Rule.{frame_base, stocks_in, words_in}
 use Rattle.boot_words.proofs.Lifting.{IsAt}

@@ -19,11 +19,11 @@ use Rattle.step_rules.specs.declared.step.Answer.{Answer}
 use Rattle.step_rules.specs.declared.step.Answer.TheVariants.{Drained, Stocked, Took}
 use Rattle.step_rules.specs.Legal.{is_legal}
 use Rattle.step_rules.specs.After.{state_of}
-use Rattle.run_words.specs.Runs.{OthersFollow}
-use Rattle.run_words.specs.Words.{Words, IsRunOf}
-use Rattle.run_words.specs.Steps.{stock_word_at}
-use Rattle.run_words.proofs.Lasting.{fast_legality_lasts}
-use Rattle.run_words.proofs.Stepping.{words_follow}
+use Rattle.boot_words.specs.Runs.{OthersFollow}
+use Rattle.boot_words.specs.Words.{Words, IsRunOf}
+use Rattle.boot_words.specs.Steps.{stock_word_at}
+use Rattle.boot_words.proofs.Lasting.{fast_legality_lasts}
+use Rattle.boot_words.proofs.Stepping.{words_follow}
 use Rattle.boot_words.specs.declared.view.BootView.{BootView}
 use Rattle.boot_words.specs.declared.view.BootView.TheVariants.{OfStocks, OfRun}
 use Rattle.boot_words.specs.Rule.{AllOf, BootRule, FitsRun, frame_base, stocks_in, words_in}

@@ -16,11 +16,11 @@ use Rattle.step_rules.specs.declared.step.Answer.TheVariants.{Left, Last}
 use Rattle.step_rules.specs.State.{Zone}
 use Rattle.step_rules.specs.Legal.{is_legal}
 use Rattle.step_rules.specs.After.{state_of}
-use Rattle.run_words.specs.Runs.{OthersFollow}
-use Rattle.run_words.specs.Words.{Words, IsRunOf, with_frame_word}
-use Rattle.run_words.specs.Steps.{ChangesWords, frame_word_at}
-use Rattle.run_words.proofs.Lasting.{fast_legality_lasts}
-use Rattle.run_words.proofs.Stepping.{words_follow}
+use Rattle.boot_words.specs.Runs.{OthersFollow}
+use Rattle.boot_words.specs.Words.{Words, IsRunOf, with_frame_word}
+use Rattle.boot_words.specs.Steps.{ChangesWords, frame_word_at}
+use Rattle.boot_words.proofs.Lasting.{fast_legality_lasts}
+use Rattle.boot_words.proofs.Stepping.{words_follow}
 use Rattle.boot_words.specs.declared.view.Past.{Past}
 use Rattle.boot_words.specs.declared.view.BootView.{BootView}
 use Rattle.boot_words.specs.declared.view.BootView.TheVariants.{OfFrames, OfRun}

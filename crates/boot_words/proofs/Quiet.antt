@@ -20,9 +20,9 @@ use Rattle.step_rules.specs.After.{state_of}
 use Rattle.step_rules.proofs.LocalLaws.{made_allows}
 use Rattle.step_rules.proofs.Own.{own_answer}
 use Rattle.step_rules.proofs.Runs.{legal_more, sound_run}
-use Rattle.run_words.specs.Runs.{OthersFollow}
-use Rattle.run_words.specs.Steps.{IsPlain}
-use Rattle.run_words.proofs.Plain.{plain_steps_keep_words}
+use Rattle.boot_words.specs.Runs.{OthersFollow}
+use Rattle.boot_words.specs.Steps.{IsPlain}
+use Rattle.boot_words.proofs.Plain.{plain_steps_keep_words}
 use Rattle.boot_words.specs.declared.view.Past.{Past}
 use Rattle.boot_words.specs.declared.view.BootView.{BootView}
 use Rattle.boot_words.specs.declared.view.BootView.TheVariants.{OfFrames}

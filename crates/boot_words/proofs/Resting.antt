@@ -19,10 +19,10 @@ use Rattle.step_rules.proofs.LegalTests.{set_max_tests, set_flag_tests, make_tes
 use Rattle.step_rules.proofs.PhaseLemmas.{unheld_visit, visited}
 use Rattle.step_rules.proofs.Runs.{after_illegal, allowed, legal_from, sound_run, state_more}
 use Rattle.step_rules.proofs.Sound.{IsSound}
-use Rattle.run_words.specs.Runs.{HasNoStepOf, IsFast}
-use Rattle.run_words.specs.Hidden.{hide}
-use Rattle.run_words.proofs.Hiding.{fast_is_hidden}
-use Rattle.run_words.proofs.Holding.{allowed_at, append_none, take_length}
+use Rattle.boot_words.specs.Runs.{HasNoStepOf, IsFast}
+use Rattle.boot_words.specs.Hidden.{hide}
+use Rattle.boot_words.proofs.Hiding.{fast_is_hidden}
+use Rattle.boot_words.proofs.Holding.{allowed_at, append_none, take_length}
 use Rattle.boot_words.specs.Rule.{LeavesLock}
 use Rattle.boot_words.specs.Locks.{ZoneRests}
 

@@ -15,8 +15,8 @@ use Rattle.step_rules.specs.declared.step.Answer.TheVariants.{Done}
 use Rattle.step_rules.specs.State.{Zone, State}
 use Rattle.step_rules.specs.Legal.{is_legal}
 use Rattle.step_rules.specs.Laws.{is_of_lock}
-use Rattle.run_words.specs.Words.{Words, with_frame_word, with_visit_word}
-use Rattle.run_words.specs.Steps.{ChangesWords}
+use Rattle.boot_words.specs.Words.{Words, with_frame_word, with_visit_word}
+use Rattle.boot_words.specs.Steps.{ChangesWords}
 use Rattle.boot_words.specs.declared.view.Past.{Past}
 use Rattle.boot_words.specs.declared.view.BootView.{BootView}
 use Rattle.boot_words.specs.declared.view.BootView.TheVariants.{OfFrames}

@@ -23,11 +23,11 @@ use Rattle.step_rules.proofs.LegalTests.{open_visit_tests, shut_visit_tests}
 use Rattle.step_rules.proofs.Own.{only_visit, own_after, own_legal}
 use Rattle.step_rules.proofs.PhaseLemmas.{equal_test}
 use Rattle.step_rules.proofs.Runs.{after_illegal, allowed, sound_run, state_more}
-use Rattle.run_words.specs.Runs.{HasNoStepOf, OthersFollow}
-use Rattle.run_words.specs.Words.{Words, IsRunOf}
-use Rattle.run_words.specs.Steps.{ChangesWords}
-use Rattle.run_words.proofs.Holding.{allowed_at, still_shows}
-use Rattle.run_words.proofs.Stepping.{words_follow}
+use Rattle.boot_words.specs.Runs.{HasNoStepOf, OthersFollow}
+use Rattle.boot_words.specs.Words.{Words, IsRunOf}
+use Rattle.boot_words.specs.Steps.{ChangesWords}
+use Rattle.boot_words.proofs.Holding.{allowed_at, still_shows}
+use Rattle.boot_words.proofs.Stepping.{words_follow}
 use Rattle.boot_words.specs.declared.view.Past.{Past}
 use Rattle.boot_words.specs.declared.view.BootView.{BootView}
 use Rattle.boot_words.specs.declared.view.BootView.TheVariants.{OfRun}

@@ -18,7 +18,7 @@ use Rattle.step_rules.specs.declared.step.Answer.TheVariants.{Held, Left, Last, 
 use Rattle.step_rules.specs.State.{Zone}
 use Rattle.step_rules.specs.Legal.{is_legal, get_answer}
 use Rattle.step_rules.specs.After.{Run, state_of}
-use Rattle.run_words.specs.Runs.{HasNoStepOf}
+use Rattle.boot_words.specs.Runs.{HasNoStepOf}
 use Rattle.boot_words.specs.declared.view.Past.{Past}
 use Rattle.boot_words.specs.declared.view.BootView.{BootView}
 use Rattle.boot_words.specs.declared.view.BootView.TheVariants.{OfFrames, OfStocks, OfRun}

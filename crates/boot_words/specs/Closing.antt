@@ -7,7 +7,7 @@ use Rattle.stock_word.specs.Stock.{KnownStockSeat, view_in}
 use Rattle.stock_word.specs.StockRule.{IsStockOf}
 use Rattle.step_rules.specs.State.{Zone}
 use Rattle.step_rules.specs.After.{Run}
-use Rattle.run_words.specs.Words.{IsRunOf, Words}
+use Rattle.boot_words.specs.Words.{IsRunOf, Words}
 use Rattle.boot_words.specs.declared.seat.OwnSeats.{OwnSeats}
 use Rattle.boot_words.specs.declared.view.Past.{Past}
 use Rattle.boot_words.specs.declared.view.BootView.{BootView}

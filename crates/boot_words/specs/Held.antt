@@ -16,7 +16,7 @@ use Rattle.step_rules.specs.Legal.{is_legal}
 use Rattle.step_rules.specs.After.{after, state_of}
 use Rattle.step_rules.specs.Views.{seen_by}
 use Rattle.step_rules.specs.Laws.{IsLocalStep, ShowsLocal}
-use Rattle.run_words.specs.Steps.{IsPlain}
+use Rattle.boot_words.specs.Steps.{IsPlain}
 use Rattle.boot_words.specs.declared.view.Past.{Past}
 use Rattle.boot_words.specs.declared.view.BootView.{BootView}
 use Rattle.boot_words.specs.declared.view.BootView.TheVariants.{OfFrames, OfRun}

@@ -11,3 +11,8 @@ pub mod Pasts
 pub mod Opening
 pub mod Closing
 pub mod Own
+pub mod Runs
+pub mod Hidden
+pub mod Sight
+pub mod Words
+pub mod Steps

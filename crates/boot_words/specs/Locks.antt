@@ -7,8 +7,8 @@ use Rattle.step_rules.specs.declared.step.Answer.TheVariants.{Done}
 use Rattle.step_rules.specs.State.{Zone, State, is_cpu, is_unheld}
 use Rattle.step_rules.specs.Legal.{is_legal}
 use Rattle.step_rules.specs.After.{Run, state_of, IsLegalRun}
-use Rattle.run_words.specs.Hidden.{hide}
-use Rattle.run_words.specs.Sight.{HasSameLists}
+use Rattle.boot_words.specs.Hidden.{hide}
+use Rattle.boot_words.specs.Sight.{HasSameLists}
 use Rattle.boot_words.specs.declared.view.Past.{Past}
 use Rattle.boot_words.specs.declared.view.BootView.{BootView}
 use Rattle.boot_words.specs.declared.view.BootView.TheVariants.{OfFrames}

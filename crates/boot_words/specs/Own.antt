@@ -4,8 +4,8 @@ use Rattle.step_rules.specs.declared.step.Action.{Action}
 use Rattle.step_rules.specs.declared.step.Answer.{Answer}
 use Rattle.step_rules.specs.State.{Zone}
 use Rattle.step_rules.specs.After.{after, state_of}
-use Rattle.run_words.specs.Runs.{IsFast}
-use Rattle.run_words.specs.Sight.{HasSameLists}
+use Rattle.boot_words.specs.Runs.{IsFast}
+use Rattle.boot_words.specs.Sight.{HasSameLists}
 use Rattle.boot_words.specs.declared.view.Past.{Past}
 use Rattle.boot_words.specs.Allowed.{GrewBy}
 

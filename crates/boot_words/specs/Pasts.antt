@@ -22,8 +22,8 @@ use Rattle.step_rules.specs.declared.step.Answer.TheVariants.{Stocked, Took, Zer
 use Rattle.step_rules.specs.State.{State}
 use Rattle.step_rules.specs.Legal.{get_answer, is_legal}
 use Rattle.step_rules.specs.After.{after, state_of}
-use Rattle.run_words.specs.Hidden.{hide}
-use Rattle.run_words.specs.Sight.{HasSameLists}
+use Rattle.boot_words.specs.Hidden.{hide}
+use Rattle.boot_words.specs.Sight.{HasSameLists}
 use Rattle.boot_words.specs.declared.view.Past.{Past}
 use Rattle.boot_words.specs.declared.view.BootView.{BootView}
 use Rattle.boot_words.specs.declared.view.BootView.TheVariants.{OfFrames, OfStocks, OfRun}

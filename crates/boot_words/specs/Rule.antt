@@ -9,8 +9,8 @@ use Rattle.stock_word.specs.StockRule.{StockRule}
 use Rattle.step_rules.specs.State.{Zone}
 use Rattle.step_rules.specs.After.{Run}
 use Rattle.step_rules.specs.Laws.{is_of_lock}
-use Rattle.run_words.specs.Runs.{OthersFollow}
-use Rattle.run_words.specs.Words.{Words, IsRunOf}
+use Rattle.boot_words.specs.Runs.{OthersFollow}
+use Rattle.boot_words.specs.Words.{Words, IsRunOf}
 use Rattle.boot_words.specs.declared.view.Past.{Past}
 use Rattle.boot_words.specs.declared.view.BootView.{BootView}
 use Rattle.boot_words.specs.declared.view.BootView.TheVariants.{OfFrames, OfStocks, OfRun}

@@ -7,7 +7,7 @@ use Rattle.stock_word.specs.Stock.{first_cpu_stock_view, first_zone_stock_view}
 use Rattle.stock_word.specs.Kinds.{AreFinalStockWords}
 use Rattle.step_rules.specs.State.{Zone}
 use Rattle.step_rules.specs.After.{Run}
-use Rattle.run_words.specs.Words.{IsRunOf}
+use Rattle.boot_words.specs.Words.{IsRunOf}
 use Rattle.boot_words.specs.declared.view.Past.{Past}
 use Rattle.boot_words.specs.declared.view.BootView.{BootView}
 use Rattle.boot_words.specs.declared.view.BootView.TheVariants.{OfFrames, OfStocks, OfRun}

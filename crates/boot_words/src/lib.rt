@@ -1,4 +1,5 @@
-//! One table for all words of a boot: its rule holds a legal run of steps between any two atomic steps.
+//! One table for all words of a boot, whose rule holds a legal run of steps between any two atomic steps, and the laws that
+//! tie such a run to the words.
 #![tactic(auto)]
 
 mod closed;
@@ -11,6 +12,7 @@ pub mod looks;
 mod opening;
 mod raw;
 mod references;
+pub mod run_laws;
 mod seat;
 pub mod seating;
 mod stocks;

@@ -2,7 +2,7 @@
 ghost use Rattle.std.specs.Prelude.{◌≡◌, []};
 ghost use Rattle.step_rules.specs.declared.step.Action.TheVariants as step;
 ghost use Rattle.step_rules.specs.Laws.{IsLocalStep};
-ghost use Rattle.run_words.specs.Steps.{IsPlain};
+ghost use Rattle.boot_words.specs.Steps.{IsPlain};
 ghost use Rattle.boot_words.specs.declared.word.Word.TheVariants.{Quiet};
 ghost use Rattle.boot_words.specs.Locks.{LeavesFree};
 ghost use Rattle.boot_words.specs.Seats.{zone_of_boot, MayStep};

@@ -1,5 +1,0 @@
-use Rattle.run_words.proofs.Owning.{lists_are_own}
-use Rattle.run_words.proofs.laws.lists_are_own.Goals as goal
-
-pub returns : goal.returns
-returns c = lists_are_own
