@@ -1,5 +1,5 @@
 -- From a call on the pointer behind a handle to the boot behind the handle. Serves `Handle::call` and `Handle::show`.
-use Rattle.std.proofs.Common.{◌≡◌, ◌∙◌, ℕ, Some, None, ap}
+use Rattle.std.proofs.Common.{◌∙◌, ℕ, Some, None, ap}
 use Rattle.std.proofs.lemmas.Bool.{false≢true}
 use Rattle.std.specs.Prelude.{IsSome, IsSomeAnd, Option}
 use Rattle.frame_word.specs.Seats.{KnownTable}

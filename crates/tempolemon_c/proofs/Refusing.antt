@@ -1,14 +1,12 @@
 -- Calls that were not served. Serves `serve_into`.
-use Rattle.std.proofs.Common.{◌≡◌, ◌∙◌, ℕ, Some, None, List, ap, arith, inr, refl, subst, sym}
+use Rattle.std.proofs.Common.{◌≡◌, ◌∙◌, ℕ, Some, None, List, ap, arith, inr, refl, sym}
 use Rattle.std.specs.Prelude.{Option}
 use Rattle.std.proofs.lemmas.Option.{none-some}
-use Rattle.std.specs.Global.{Global}
 use Rattle.tempolemon_c.specs.declared.calls.Call.{Call}
-use Rattle.tempolemon_c.specs.HandleCalls.{IsCpu, NamesMissingFrame, RefusesCall}
-use Rattle.tempolemon_c.specs.Commands.{with_unread_answer}
+use Rattle.tempolemon_c.specs.HandleCalls.{IsCpu, NamesMissingFrame}
 use Rattle.tempolemon_c.specs.Known.{KnownLive}
 use Rattle.tempolemon_c.specs.Calls.{CallsInto, RefusesBehind}
-use Rattle.tempolemon_c.specs.Handles.{LiveBoot, OnBoot, live_boot}
+use Rattle.tempolemon_c.specs.Handles.{LiveBoot, live_boot}
 use Rattle.tempolemon_c.specs.Statuses.{bad_cpu, bad_frame, not_live}
 use Rattle.tempolemon_c.specs.Kinds.{no_result}
 

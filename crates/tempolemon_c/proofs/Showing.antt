@@ -1,5 +1,5 @@
 -- A call whose answer is the text of a file. Serves `serve_into` and `write_file`.
-use Rattle.std.proofs.Common.{◌≡◌, ◌∙◌, ℕ, ◌≤◌, Some, None, List, ap, arith, inl, refl, subst, sym}
+use Rattle.std.proofs.Common.{◌≡◌, ◌∙◌, ℕ, ◌≤◌, Some, None, List, ap, arith, inl, subst, sym}
 use Rattle.std.specs.Prelude.{IfSome, IsSomeAnd, Option}
 use Rattle.std.proofs.lemmas.Option.{none-some}
 use Rattle.control_files.specs.declared.file.File.{File}

@@ -1,5 +1,5 @@
 -- The results of typed calls, with their kinds as the header numbers them.
-use Rattle.std.specs.Prelude.{ℕ, List, length}
+use Rattle.std.specs.Prelude.{ℕ, length}
 use Rattle.group_tree.specs.Faults.{number_of}
 use Rattle.cpu_part.specs.declared.answers.Fast as fast
 use Rattle.cpu_part.specs.declared.answers.Fast.TheVariants.{Got, FreshFull, ListEmpty, OtherGroup, Drained, NoStock}

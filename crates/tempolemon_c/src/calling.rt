@@ -36,7 +36,7 @@ pub(crate) fn serve_call(
 
 /// Serves a call as `serve_call` does, and writes the text of a file into the buffer, if that has room for it.
 #[inline(always)]
-#[tactic(auto, using(crate::proofs::Showing::groups_there, crate::proofs::Showing::value_called))]
+#[tactic(auto, using(crate::proofs::Showing::groups_there))]
 pub(crate) fn serve_into(
     alloc: Global,
     handle: &mut Handle,

@@ -132,13 +132,7 @@ impl<N: BootName> Live<N> {
         requires has_value { HasValueAnswer command.now }
         ensures { ReturnsCommandAnswer N.frames N.stocks cpu command.now self.old self.new result }
     {
-        CallAnswer::Served(serve_value(
-            &mut self.locked,
-            &self.tables,
-            &mut self.cpus,
-            cpu,
-            command,
-        ))
+        self.serve_inlined(cpu, command)
     }
 
     // Does the same for a command that names a frame. It is inlined, since a get and a put have few steps.
