@@ -34,10 +34,11 @@ abbrev pub all_pasts_in : List OwnSeats → List Past
 all_pasts_in [] = []
 all_pasts_in (seats ∷ rest) = seats.past.pasts ++ all_pasts_in rest
 
--- the seats of one kind
+-- the seats of the frames' words
 abbrev pub frame_seats : List OwnSeats → List KnownSeat
 frame_seats = map (λ seats. seats.frames)
 
+-- the seats of the stocks' words
 abbrev pub stock_seats : List OwnSeats → List KnownStockSeat
 stock_seats = map (λ seats. seats.stocks)
 

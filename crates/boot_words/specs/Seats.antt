@@ -68,21 +68,25 @@ MayStep zone views word change told = (id : ℕ)
     → Allows {S = Unit {0}} (boot_rule zone) 0 id (views, []) (index_of zone word) change
     (λ found later. (later.1 ≡ []) × told found later.0)
 
--- ---- lists of views: all but the first, the first alone, all but the last, the last alone
+-- ---- lists of views
 
+-- all views but the first
 abbrev pub rest_of_views : List BootView → List BootView
 rest_of_views [] = []
 rest_of_views (v ∷ views) = views
 
+-- the first view alone
 abbrev pub first_view_alone : List BootView → List BootView
 first_view_alone [] = []
 first_view_alone (v ∷ views) = v ∷ []
 
+-- all views but the last
 abbrev pub but_last : List BootView → List BootView
 but_last [] = []
 but_last (v ∷ []) = []
 but_last (v ∷ u ∷ views) = v ∷ but_last (u ∷ views)
 
+-- the last view alone
 abbrev pub last_alone : List BootView → List BootView
 last_alone [] = []
 last_alone (v ∷ []) = v ∷ []
