@@ -21,7 +21,7 @@ use Rattle.step_rules.specs.declared.step.Answer.TheVariants.{Done, Drained, Ful
 use Rattle.step_rules.specs.declared.step.Answer.TheVariants.{Stocked, Took, Zero}
 use Rattle.step_rules.specs.State.{State}
 use Rattle.step_rules.specs.Legal.{get_answer, is_legal}
-use Rattle.step_rules.specs.After.{after, state_of}
+use Rattle.step_rules.specs.After.{after, state_of, IsLegalRun}
 use Rattle.boot_words.specs.Hidden.{hide}
 use Rattle.boot_words.specs.Sight.{HasSameLists}
 use Rattle.boot_words.specs.declared.view.Past.{Past}
@@ -54,12 +54,13 @@ first_past (p ∷ pasts) = p
 abbrev pub own_past : KnownPasts → Past
 own_past s = first_past s.pasts
 
--- the seat has the past of one of this table's CPUs
+-- the seat has the past of one of this table's CPUs, a legal run
 pub record IsCpuPast (t : KnownTable) (s : KnownPasts) : Type 0 where
   pub table_is : s.table ≡ t.table
   pub alone : s.pasts ≡ own_past s ∷ []
   pub low : 1 ≤ (own_past s).number
   pub high : (own_past s).number ≤ t.cpus
+  pub legal : IsLegalRun (zone_of_boot t) (own_past s).seen
 
 -- the step is legal at the CPU's own last step
 abbrev pub MayDo : KnownTable → KnownPasts → Action → Type 0
@@ -152,11 +153,12 @@ abbrev pub freeze_said : Bool → Answer
 freeze_said true = Done
 freeze_said false = Missed
 
--- the seat has the zone's past alone
+-- the seat has the zone's past alone, a legal run
 pub record IsZonePast (t : KnownTable) (s : KnownPasts) : Type 0 where
   pub table_is : s.table ≡ t.table
   pub alone : s.pasts ≡ own_past s ∷ []
   pub zone_is : (own_past s).number ≡ 0
+  pub legal : IsLegalRun (zone_of_boot t) (own_past s).seen
 
 -- A CPU has taken the lock: the zone's seat has its past too. Hidden parts apart, it finds what the zone's past left,
 -- and its own lists and references are those that its own past left.
@@ -176,8 +178,7 @@ pub record Unlocks (t : KnownTable) (held zone cpu : KnownPasts) : Type 0 where
       (own_past zone)
   pub cpu_grew : GrewBy (cpu_past held) (record { seat = (cpu_past held).number; action = Unlock }) Done (own_past cpu)
   pub zone_is : IsZonePast t zone
-  pub cpu_table : cpu.table ≡ t.table
-  pub cpu_alone : cpu.pasts ≡ own_past cpu ∷ []
+  pub cpu_is : IsCpuPast t cpu
   pub same : (own_past zone).seen ≡ (own_past cpu).seen
   pub free : LeavesFree (zone_of_boot t) (own_past zone)
   pub left : hide (state_of (zone_of_boot t) (own_past zone).seen) ≡ hide (record (local_by_pasts t held) { hold = Unheld })

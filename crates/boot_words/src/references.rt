@@ -25,6 +25,7 @@ impl BootWords {
         ensures table { seat.new.table ≡ seat.old.table }
         ensures kind { looks seat.old.view frame 0 result seat.new.view }
         ensures run { LooksRun past.old frame result past.new }
+        ensures past { IsCpuPast self.now past.new }
     {
         self.join(&mut past.raw, &mut seat.raw);
         let found = self.load::<Brand>(&mut past.raw, Word::OfFrame(frame));
@@ -43,6 +44,7 @@ impl BootWords {
         ensures table { seat.new.table ≡ seat.old.table }
         ensures kind { adds seat.old.view frame seen result seat.new.view }
         ensures run { AddsRun past.old frame seen result past.new }
+        ensures past { IsCpuPast self.now past.new }
     {
         self.join(&mut past.raw, &mut seat.raw);
         let found = self.exchange::<Brand>(&mut past.raw, Word::OfFrame(frame), seen, seen + 1);
@@ -63,6 +65,7 @@ impl BootWords {
         ensures never_zero { 1 ≤ seat_references seat.old frame → result ≢ Zero }
         ensures in_no_hand { result ≢ Zero → IsInNoHand seat.old frame }
         ensures run { Gets past.old frame result past.new }
+        ensures past { IsCpuPast self.now past.new }
     {
         let seen = self.step_look(past, seat, frame);
         if seen == 0 || seen > MAX_REFERENCES {
@@ -89,6 +92,7 @@ impl BootWords {
         ensures table { seat.new.table ≡ seat.old.table }
         ensures kind { puts seat.old.view frame 1 result seat.new.view }
         ensures run { Does past.old (step.Put frame) (put_answer_at result) past.new }
+        ensures past { IsCpuPast self.now past.new }
     {
         self.join(&mut past.raw, &mut seat.raw);
         let found = self.take_one::<Brand>(&mut past.raw, Word::OfFrame(frame));
@@ -106,6 +110,7 @@ impl BootWords {
         ensures answer { PutAnswers seat.old frame result seat.new }
         ensures in_no_hand { IsInNoHand seat.old frame }
         ensures run { Does past.old (step.Put frame) (put_said result) past.new }
+        ensures past { IsCpuPast self.now past.new }
     {
         let found = self.step_put_one(past, seat, frame);
         if found == 1 {

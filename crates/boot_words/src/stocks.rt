@@ -96,6 +96,7 @@ impl BootWords {
             → SeesDrained (stock_index cpu) result result (stock_view raw.old.views) (stock_view raw.new.views) }
         ensures took_run { result ≡ word_of (HeldBy group (left + 1))
             → Does past.old (step.Consume group) Took past.new }
+        ensures past { IsCpuPast self.now past.new }
         ensures drained_run { result ≢ word_of (HeldBy group (left + 1))
             → Does past.old (step.Consume group) Drained past.new }
     {
@@ -131,6 +132,7 @@ impl BootWords {
         ensures drained { result ≢ word_of (HeldBy group pages)
             → SeesDrained (stock_index cpu) result result (stock_view raw.old.views) (stock_view raw.new.views) }
         ensures back_run { result ≡ word_of (HeldBy group pages) → Does past.old (step.Credit frame) Stocked past.new }
+        ensures past { IsCpuPast self.now past.new }
         ensures drained_run { result ≢ word_of (HeldBy group pages)
             → Does past.old (step.Credit frame) Drained past.new }
     {
@@ -152,6 +154,7 @@ impl BootWords {
         ensures answer { Consumed group result seat.old.view seat.new.view }
         ensures table { seat.new.table ≡ seat.old.table }
         ensures run { ConsumesRun past.old group seat.old.view result past.new }
+        ensures past { IsCpuPast self.now past.new }
     {
         match seat.last {
             Stock::HeldBy { group: held, pages } if held == group => {
@@ -186,6 +189,7 @@ impl BootWords {
         ensures answer { Credited result seat.old.view seat.new.view }
         ensures table { seat.new.table ≡ seat.old.table }
         ensures run { CreditsRun past.old frame seat.old.view result past.new }
+        ensures past { IsCpuPast self.now past.new }
     {
         match seat.last {
             Stock::HeldBy { group, pages } => {

@@ -11,6 +11,10 @@ use Rattle.stock_word.specs.Stock.{KnownStockTable, KnownStockSeat}
 abbrev pub no_table : TableId
 no_table = record { words = 0; slots = 0; views_name = 0; atom = 0; block = 0; offset = 0; slot_names = [] }
 
+-- the table as the seats at its stocks know it
+abbrev pub stock_table_of : KnownTable → KnownStockTable
+stock_table_of t = record { table = t.table; cpus = t.cpus }
+
 -- A CPU's part: its number, its listed, fresh and back frames, its pins (an entry for each), its seats at the two
 -- tables, and how often a fresh frame was dropped to its list.
 pub record KnownCpu : Type 0 where

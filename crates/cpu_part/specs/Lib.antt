@@ -1,2 +1,4 @@
 pub mod Cpus
 pub mod Calls
+pub mod Known
+pub mod Made

@@ -1,11 +1,12 @@
-//! Which boot a CPU's part and the tables belong to.
+//! Which boot a CPU's part and the table of words belong to.
 ghost use Rattle.std.specs.Prelude.{◌≡◌};
+ghost use Rattle.cpu_part.specs.Cpus.{stock_table_of};
 
-use frame_word::FrameWords;
+use boot_words::BootWords;
 use std::marker::{Brand, PhantomData};
-use stock_word::StockWords;
 
-/// The name of a boot. Only contracts see what it names: the boot's two tables.
+/// The name of a boot. Only contracts see what it names: the boot's table, as the seats at its frames and at its stocks
+/// know it.
 pub trait BootName {
     ghost use Rattle.frame_word.specs.Seats.{KnownTable};
     ghost use Rattle.stock_word.specs.Stock.{KnownStockTable};
@@ -23,50 +24,38 @@ impl BootName for Brand {
     ghost stocks = { record { table = no_table; cpus = 0 } };
 }
 
-/// The two tables of a boot, which all its CPUs share by `&`.
+/// The table of a boot's words, which all its CPUs share by `&`.
 pub struct Tables<N: BootName> {
-    pub frames: FrameWords,
-    pub stocks: StockWords,
+    pub words: BootWords,
     of: PhantomData<N>,
-    pub ghost frames_are: { frames ≡ N.frames },
-    pub ghost stocks_are: { stocks ≡ N.stocks },
+    pub ghost frames_are: { words ≡ N.frames },
+    pub ghost stocks_are: { stock_table_of words ≡ N.stocks },
 }
 
 impl<N: BootName> Tables<N> {
-    /// The tables of the boot that N names.
-    pub fn new(frames: FrameWords, stocks: StockWords) -> Tables<N>
-        requires frames { frames ≡ N.frames }
-        requires stocks { stocks ≡ N.stocks }
-        ensures frames { result.frames ≡ N.frames }
-        ensures stocks { result.stocks ≡ N.stocks }
+    /// The table of the boot that N names.
+    pub fn new(words: BootWords) -> Tables<N>
+        requires frames { words ≡ N.frames }
+        requires stocks { stock_table_of words ≡ N.stocks }
+        ensures { result.words ≡ N.frames }
     {
         Tables {
-            frames,
-            stocks,
+            words,
             of: PhantomData,
         }
     }
 
-    /// The two tables, when the boot ends.
-    pub fn into_tables(self) -> (FrameWords, StockWords)
-        ensures frames { result.0 ≡ N.frames }
-        ensures stocks { result.1 ≡ N.stocks }
+    /// The table, when the boot ends.
+    pub fn into_words(self) -> BootWords
+        ensures { result ≡ N.frames }
     {
-        let Tables {
-            frames,
-            stocks,
-            of: _,
-        } = self;
-        (frames, stocks)
+        let Tables { words, of: _ } = self;
+        words
     }
 }
 
 impl<N: BootName> Drop for Tables<N> {
     fn drop(self) {
-        let Tables {
-            frames: _,
-            stocks: _,
-            of: _,
-        } = self;
+        let Tables { words: _, of: _ } = self;
     }
 }

@@ -2,11 +2,11 @@
 ghost use Rattle.std.specs.Prelude.{◌≡◌, ◌≤◌, IfOk};
 
 use crate::boot_name::BootName;
-use frame_word::{Frame, FrameSeat};
+use boot_words::{FrameSeat, StockSeat};
+use frame_word::Frame;
 use std::alloc::{AllocError, Global};
 use std::collections::VecDeque;
 use std::marker::{Model, PhantomData};
-use stock_word::StockSeat;
 
 /// The most listed and fresh frames of a CPU, together.
 pub const MAX_LISTED: usize = 256;

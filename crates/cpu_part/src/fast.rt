@@ -2,21 +2,25 @@
 ghost use Rattle.std.specs.Prelude.{◌≡◌, ◌<◌, ◌≤◌};
 ghost use Rattle.cpu_part.specs.Cpus.{times};
 ghost use Rattle.cpu_part.specs.Calls.{FastAnswers, IfGot, DropAnswers};
+ghost use Rattle.cpu_part.specs.Known.{KnowsItsPart};
 
 use crate::answers::{Dropped, Fast};
 use crate::boot_name::{BootName, Tables};
 use crate::cpu::{Cpu, MAX_FRESH};
 use crate::moves::{freshen, relist};
+use boot_words::PastSeat;
 use frame_word::Frame;
 use stock_word::{Consume, Credit};
 
 impl<N: BootName> Cpu<N> {
     /// Takes the front of the list for group `group` (0 to 63), and pays for it from the CPU's stock. The answer is the
     /// first of these that holds: 32 fresh frames, an empty list, what the stock says; else the frame.
-    pub fn alloc_fast(&mut self, tables: &Tables<N>, group: u32) -> Fast
-        requires { group < 64 }
+    pub fn alloc_fast(&mut self, tables: &Tables<N>, past: &mut PastSeat, group: u32) -> Fast
+        requires group { group < 64 }
+        requires knows { KnowsItsPart N.frames past.old self.old }
         ensures answer { FastAnswers group result self.old self.new }
         ensures frame { IfGot result (λ f. f < N.frames.frames) }
+        ensures knows { KnowsItsPart N.frames past.new self.new }
     {
         if self.fresh.len() == MAX_FRESH {
             return Fast::FreshFull;
@@ -24,7 +28,7 @@ impl<N: BootName> Cpu<N> {
         if self.list.is_empty() {
             return Fast::ListEmpty;
         }
-        match tables.stocks.consume(&mut self.stock_seat, group) {
+        match tables.words.consume(past, &mut self.stock_seat, group) {
             Consume::OtherGroup => Fast::OtherGroup,
             Consume::Drained => Fast::Drained,
             Consume::Empty => Fast::NoStock,
@@ -35,11 +39,13 @@ impl<N: BootName> Cpu<N> {
     /// Drops a fresh frame: its page goes to the stock, the frame to the end of the list. If the stock was drained,
     /// only what the CPU saw of it changes. A frame that is listed again counts as one drop and one return; the count
     /// stays at 2^64 - 1.
-    pub fn drop_fresh(&mut self, tables: &Tables<N>, frame: Frame) -> Dropped
-        requires { 1 ≤ times frame self.old.fresh }
-        ensures { DropAnswers frame result self.old self.new }
+    pub fn drop_fresh(&mut self, tables: &Tables<N>, past: &mut PastSeat, frame: Frame) -> Dropped
+        requires fresh { 1 ≤ times frame self.old.fresh }
+        requires knows { KnowsItsPart N.frames past.old self.old }
+        ensures answer { DropAnswers frame result self.old self.new }
+        ensures knows { KnowsItsPart N.frames past.new self.new }
     {
-        match tables.stocks.credit(&mut self.stock_seat) {
+        match tables.words.credit(past, &mut self.stock_seat, frame) {
             Credit::Drained => Dropped::NeedVisit,
             Credit::Stocked => {
                 relist(&mut self.list, &mut self.fresh, frame);

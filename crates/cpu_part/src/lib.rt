@@ -1,5 +1,5 @@
 //! A CPU's part of the memory controller: the frames of its list, its fresh and its back frames, its pins, and its
-//! seats at the tables of frame words and of stocks. The fast calls take no lock and wait for nobody. The others are
+//! seats at the boot's table. The fast calls take no lock and wait for nobody. The others are
 //! made inside a visit, together with the zone's seats.
 #![tactic(auto)]
 

@@ -5,18 +5,26 @@ ghost use Rattle.frame_word.specs.Seats.{IsInNoHand};
 ghost use Rattle.group_tree.specs.declared.fault.Fault.TheVariants.{PinsFull};
 ghost use Rattle.cpu_part.specs.Cpus.{most_pins, times};
 ghost use Rattle.cpu_part.specs.Calls.{PinAnswers, UnpinAnswers};
+ghost use Rattle.cpu_part.specs.Known.{KnowsItsPart};
 
 use crate::boot_name::{BootName, Tables};
 use crate::cpu::{Cpu, MAX_PINS};
 use crate::moves::unpin;
+use boot_words::PastSeat;
 use frame_word::{Frame, Get, Put};
 use group_tree::fault::Fault;
 
 impl<N: BootName> Cpu<N> {
     /// Pins the frame if some seat has a reference on it. If pins and back frames are 256 together, that is refused
     /// with `PinsFull`, before the word is looked at. A CPU that has a pin on the frame never gets `Zero`.
-    pub fn get(&mut self, tables: &Tables<N>, frame: Frame) -> Result<Get, Fault>
-        requires { frame < N.frames.frames }
+    pub fn get(
+        &mut self,
+        tables: &Tables<N>,
+        past: &mut PastSeat,
+        frame: Frame,
+    ) -> Result<Get, Fault>
+        requires frame { frame < N.frames.frames }
+        requires knows { KnowsItsPart N.frames past.old self.old }
         ensures answer { MatchResult result
             (λ answer. (length self.old.back + length self.old.pins < most_pins)
             × PinAnswers frame answer self.old self.new)
@@ -24,11 +32,12 @@ impl<N: BootName> Cpu<N> {
             × (self.new ≡ self.old)) }
         ensures never_zero { 1 ≤ times frame self.old.pins → result ≢ Ok Zero }
         ensures in_no_hand { IfOk result (λ answer. answer ≢ Zero → IsInNoHand self.old.frame_seat frame) }
+        ensures knows { KnowsItsPart N.frames past.new self.new }
     {
         if self.back.len() + self.pins.len() == MAX_PINS {
             return Err(Fault::PinsFull);
         }
-        match tables.frames.get(&mut self.frame_seat, frame) {
+        match tables.words.get(past, &mut self.frame_seat, frame) {
             Get::Held => {
                 self.pins.push_reserved(frame);
                 Ok(Get::Held)
@@ -38,13 +47,15 @@ impl<N: BootName> Cpu<N> {
     }
 
     /// Removes one pin from the frame. After its last reference the frame is the newest back frame.
-    pub fn put(&mut self, tables: &Tables<N>, frame: Frame) -> Put
-        requires { 1 ≤ times frame self.old.pins }
+    pub fn put(&mut self, tables: &Tables<N>, past: &mut PastSeat, frame: Frame) -> Put
+        requires pinned { 1 ≤ times frame self.old.pins }
+        requires knows { KnowsItsPart N.frames past.old self.old }
         ensures answer { UnpinAnswers frame result self.old self.new }
         ensures in_no_hand { IsInNoHand self.old.frame_seat frame }
+        ensures knows { KnowsItsPart N.frames past.new self.new }
     {
         unpin(&mut self.pins, frame);
-        match tables.frames.put(&mut self.frame_seat, frame) {
+        match tables.words.put(past, &mut self.frame_seat, frame) {
             Put::Last => {
                 self.back.push_back_reserved(frame);
                 Put::Last

@@ -1,5 +1,5 @@
 //! The hand-over of frames between a CPU and the zone, inside a visit and together with the zone's seat.
-ghost use Rattle.std.specs.Prelude.{◌≡◌, ◌+◌, ◌<◌, ◌≤◌, ◌⊎◌, [], ◌∷◌, ◌++◌, length, IfSome, MatchOption};
+ghost use Rattle.std.specs.Prelude.{◌≡◌, ◌+◌, ◌<◌, ◌≤◌, ◌⊎◌, ℕ, List, [], ◌∷◌, ◌++◌, length, IfSome, MatchOption};
 ghost use Rattle.frame_word.specs.Views.{took_in, collected_from};
 ghost use Rattle.frame_word.specs.Seats.{HandsAreApart, HasNothingOf, IsLent, IsLentToNone, IsInNoHand, IsOpen, IsShut};
 ghost use Rattle.frame_word.specs.Seats.{IsZoneSeat, LentIsBorrowed, NothingPasses, Passes, seat_with, seat_with_visit};
@@ -7,50 +7,73 @@ ghost use Rattle.stock_word.specs.Stock.{IsZoneView, IsCpuView, account_for, acc
 ghost use Rattle.stock_word.specs.Kinds.{zone_after_report, after_report};
 ghost use Rattle.stock_word.specs.Calls.{with_view};
 ghost use Rattle.cpu_part.specs.Calls.{PassesFront, PassesFresh, PassesBackUnit};
-ghost use Rattle.cpu_part.specs.Cpus.{most_listed};
+ghost use Rattle.cpu_part.specs.Cpus.{most_listed, stock_table_of};
+ghost use Rattle.cpu_part.specs.Known.{pass_fresh_steps};
+ghost use Rattle.boot_words.specs.Pasts.{IsHeld, IsHolder, MakesStep, MayMake};
+ghost use Rattle.cpu_part.specs.Made.{MakesAll, MayMakeAll};
+ghost use Rattle.step_rules.specs.declared.step.Action.TheVariants as step;
+ghost use Rattle.step_rules.specs.declared.step.Answer.TheVariants.{Done};
 
 use crate::boot_name::{BootName, Tables};
 use crate::cpu::Cpu;
-use frame_word::{Frame, FrameSeat};
-use stock_word::{StockSeat, StockWords};
+use boot_words::{BootWords, FrameSeat, PastSeat, StockSeat};
+use frame_word::Frame;
 
 impl<N: BootName> Cpu<N> {
     /// Opens this CPU's visit, which isn't open. No frame is in transit to or from the CPU yet, and what is lent to it
     /// is its listed and fresh frames.
-    pub fn open(&mut self, tables: &Tables<N>, zone: &mut FrameSeat)
+    pub fn open(&mut self, tables: &Tables<N>, held: &mut PastSeat, zone: &mut FrameSeat)
+        requires held { IsHeld N.frames held.old }
+        requires holder { IsHolder held.old self.old.number }
+        requires legal { MayMake N.frames held.old 0 (step.OpenVisit self.old.number) }
         requires zone { IsZoneSeat N.frames zone.old }
         requires shut { IsShut zone.old self.old.number }
+        ensures run { MakesStep N.frames held.old 0 (step.OpenVisit self.old.number) Done held.new }
         ensures zone { zone.new ≡ seat_with_visit zone.old self.old.number 1 }
         ensures cpu { self.new ≡ self.old }
         ensures nothing_passes { NothingPasses N.frames zone.new self.new.frame_seat }
         ensures lent_is_borrowed { LentIsBorrowed N.frames zone.new self.new.frame_seat }
         ensures hands_apart { HandsAreApart N.frames zone.new self.new.frame_seat }
     {
-        tables.frames.open_visit(zone, &mut self.frame_seat);
+        tables.words.open_visit(held, zone, &mut self.frame_seat);
     }
 
     /// Shuts this CPU's visit, which is open and has no frame in transit any more.
-    pub fn shut(&mut self, tables: &Tables<N>, zone: &mut FrameSeat)
+    pub fn shut(&mut self, tables: &Tables<N>, held: &mut PastSeat, zone: &mut FrameSeat)
+        requires held { IsHeld N.frames held.old }
+        requires holder { IsHolder held.old self.old.number }
+        requires legal { MayMake N.frames held.old 0 (step.ShutVisit self.old.number) }
         requires zone { IsZoneSeat N.frames zone.old }
         requires open { IsOpen zone.old self.old.number }
         requires nothing_passes { NothingPasses N.frames zone.old self.old.frame_seat }
+        ensures run { MakesStep N.frames held.old 0 (step.ShutVisit self.old.number) Done held.new }
         ensures zone { zone.new ≡ seat_with_visit zone.old self.old.number 0 }
         ensures cpu { self.new ≡ self.old }
         ensures nothing_passes { NothingPasses N.frames zone.new self.new.frame_seat }
         ensures lent_is_borrowed { LentIsBorrowed N.frames zone.new self.new.frame_seat }
         ensures hands_apart { HandsAreApart N.frames zone.new self.new.frame_seat }
     {
-        tables.frames.shut_visit(zone, &mut self.frame_seat);
+        tables.words.shut_visit(held, zone, &mut self.frame_seat);
     }
 
     /// Takes a frame that is in transit to this CPU, and lent to it, to the end of the list. Listed and fresh frames
     /// are fewer than 256.
-    pub fn take_in(&mut self, tables: &Tables<N>, zone: &mut FrameSeat, frame: Frame)
+    pub fn take_in(
+        &mut self,
+        tables: &Tables<N>,
+        held: &mut PastSeat,
+        zone: &mut FrameSeat,
+        frame: Frame,
+    )
+        requires held { IsHeld N.frames held.old }
+        requires holder { IsHolder held.old self.old.number }
+        requires legal { MayMake N.frames held.old self.old.number (step.TakeIn frame) }
         requires zone { IsZoneSeat N.frames zone.old }
         requires frame { frame < N.frames.frames }
         requires passes { Passes zone.old self.old.frame_seat frame }
         requires lent { IsLent zone.old frame self.old.number }
         requires room { length self.old.list + length self.old.fresh < most_listed }
+        ensures run { MakesStep N.frames held.old self.old.number (step.TakeIn frame) Done held.new }
         ensures cpu { self.new ≡ record self.old {
           list = self.old.list ++ frame ∷ [];
           frame_seat = seat_with self.old.frame_seat frame took_in;
@@ -58,22 +81,33 @@ impl<N: BootName> Cpu<N> {
         ensures zone { zone.new ≡ zone.old }
         ensures nothing { HasNothingOf zone.old frame × HasNothingOf self.old.frame_seat frame }
     {
-        tables.frames.take_in(zone, &mut self.frame_seat, frame);
+        tables.words.take_in(held, zone, &mut self.frame_seat, frame);
         self.list.push_back_reserved(frame);
     }
 
     /// Passes the front of the list back to the zone; `None` exactly if the list is empty. The visit is open.
-    pub fn pass_front(&mut self, tables: &Tables<N>, zone: &mut FrameSeat) -> Option<Frame>
+    pub fn pass_front(
+        &mut self,
+        tables: &Tables<N>,
+        held: &mut PastSeat,
+        zone: &mut FrameSeat,
+    ) -> Option<Frame>
+        requires held { IsHeld N.frames held.old }
+        requires holder { IsHolder held.old self.old.number }
+        requires legal { (f : ℕ) (rest : List ℕ) → self.old.list ≡ f ∷ rest
+            → MayMake N.frames held.old self.old.number (step.PassBack f) }
         requires zone { IsZoneSeat N.frames zone.old }
         requires open { IsOpen zone.old self.old.number }
         ensures answer { MatchOption result ((self.old.list ≡ []) × (self.new ≡ self.old))
             (λ f. PassesFront f self.old self.new) }
+        ensures run { MatchOption result (held.new ≡ held.old)
+            (λ f. MakesStep N.frames held.old self.old.number (step.PassBack f) Done held.new) }
         ensures frame { IfSome result (λ f. f < N.frames.frames) }
         ensures zone { zone.new ≡ zone.old }
         ensures borrowed { IfSome result (λ f. HasNothingOf zone.old f × IsLent zone.old f self.old.number) }
     {
         let frame = self.list.pop_front()?;
-        tables.frames.pass_back(zone, &mut self.frame_seat, frame);
+        tables.words.pass_back(held, zone, &mut self.frame_seat, frame);
         Some(frame)
     }
 
@@ -82,14 +116,21 @@ impl<N: BootName> Cpu<N> {
     pub fn pass_fresh(
         &mut self,
         tables: &Tables<N>,
+        held: &mut PastSeat,
         zone: &mut FrameSeat,
         zone_stock: &mut StockSeat,
     ) -> Option<Frame>
+        requires held { IsHeld N.frames held.old }
+        requires holder { IsHolder held.old self.old.number }
+        requires legal { (f : ℕ) (rest : List ℕ) → self.old.fresh ≡ f ∷ rest
+            → MayMakeAll N.frames held.old (pass_fresh_steps self.old.number f) }
         requires zone { IsZoneSeat N.frames zone.old }
         requires zone_stock { (zone_stock.old.table ≡ N.stocks.table) × IsZoneView zone_stock.old.view }
         requires open { IsOpen zone.old self.old.number }
         ensures answer { MatchOption result ((self.old.fresh ≡ []) × (self.new ≡ self.old))
             (λ f. PassesFresh f self.old self.new) }
+        ensures run { MatchOption result (held.new ≡ held.old)
+            (λ f. MakesAll N.frames held.old (pass_fresh_steps self.old.number f) held.new) }
         ensures frame { IfSome result (λ f. f < N.frames.frames) }
         ensures zone { zone.new ≡ zone.old }
         ensures borrowed { IfSome result (λ f. HasNothingOf zone.old f × IsLent zone.old f self.old.number) }
@@ -105,9 +146,10 @@ impl<N: BootName> Cpu<N> {
             return None;
         }
         let frame = self.fresh.remove(0);
-        tables.frames.pass_back(zone, &mut self.frame_seat, frame);
+        tables.words.pass_back(held, zone, &mut self.frame_seat, frame);
         report_passed(
-            &tables.stocks,
+            &tables.words,
+            held,
             zone_stock,
             &mut self.stock_seat,
             &self.frame_seat,
@@ -117,48 +159,74 @@ impl<N: BootName> Cpu<N> {
     }
 
     /// Passes the oldest back frame back to the zone; `None` exactly if there is none. The visit is open.
-    pub fn pass_back_unit(&mut self, tables: &Tables<N>, zone: &mut FrameSeat) -> Option<Frame>
+    pub fn pass_back_unit(
+        &mut self,
+        tables: &Tables<N>,
+        held: &mut PastSeat,
+        zone: &mut FrameSeat,
+    ) -> Option<Frame>
+        requires held { IsHeld N.frames held.old }
+        requires holder { IsHolder held.old self.old.number }
+        requires legal { (f : ℕ) (rest : List ℕ) → self.old.back ≡ f ∷ rest
+            → MayMake N.frames held.old self.old.number (step.PassBack f) }
         requires zone { IsZoneSeat N.frames zone.old }
         requires open { IsOpen zone.old self.old.number }
         ensures answer { MatchOption result ((self.old.back ≡ []) × (self.new ≡ self.old))
             (λ f. PassesBackUnit f self.old self.new) }
+        ensures run { MatchOption result (held.new ≡ held.old)
+            (λ f. MakesStep N.frames held.old self.old.number (step.PassBack f) Done held.new) }
         ensures frame { IfSome result (λ f. f < N.frames.frames) }
         ensures zone { zone.new ≡ zone.old }
         ensures own { IfSome result (λ f. HasNothingOf zone.old f × IsLentToNone zone.old f) }
     {
         let frame = self.back.pop_front()?;
-        tables.frames.pass_back(zone, &mut self.frame_seat, frame);
+        tables.words.pass_back(held, zone, &mut self.frame_seat, frame);
         Some(frame)
     }
 
     /// Takes a frame that is in transit from this CPU into the zone's hand. It is lent to the CPU no more.
-    pub fn collect(&mut self, tables: &Tables<N>, zone: &mut FrameSeat, frame: Frame)
+    pub fn collect(
+        &mut self,
+        tables: &Tables<N>,
+        held: &mut PastSeat,
+        zone: &mut FrameSeat,
+        frame: Frame,
+    )
+        requires held { IsHeld N.frames held.old }
+        requires holder { IsHolder held.old self.old.number }
+        requires legal { MayMake N.frames held.old 0 (step.Collect frame self.old.number) }
         requires zone { IsZoneSeat N.frames zone.old }
         requires frame { frame < N.frames.frames }
         requires passes { Passes zone.old self.old.frame_seat frame }
+        ensures run { MakesStep N.frames held.old 0 (step.Collect frame self.old.number) Done held.new }
         ensures zone { zone.new ≡ seat_with zone.old frame (collected_from self.old.number) }
         ensures cpu { self.new ≡ self.old }
         ensures nothing { HasNothingOf zone.old frame × HasNothingOf self.old.frame_seat frame }
         ensures lent { IsLentToNone zone.old frame ⊎ IsLent zone.old frame self.old.number }
     {
-        tables.frames.collect(zone, &mut self.frame_seat, frame);
+        tables.words.collect(held, zone, &mut self.frame_seat, frame);
     }
 }
 
 // Reports the page of a fresh frame that has left the CPU's hand. Until then the page is the frame's, so the two atomic
 // steps come in this order. The conditions on the seat and the frame say so; nothing else reads them.
 fn report_passed(
-    stocks: &StockWords,
+    words: &BootWords,
+    held: &mut PastSeat,
     zone_stock: &mut StockSeat,
     stock: &mut StockSeat,
     _seat: &FrameSeat,
     _frame: Frame,
 )
     requires passed { IsInNoHand _seat.now _frame }
-    requires tables { (zone_stock.old.table ≡ stocks.now.table) × (stock.old.table ≡ stocks.now.table) }
+    requires held { IsHeld words.now held.old }
+    requires holder { IsHolder held.old stock.old.view.number }
+    requires legal { MayMake words.now held.old stock.old.view.number (step.Report 1) }
+    requires tables { (zone_stock.old.table ≡ words.now.table) × (stock.old.table ≡ words.now.table) }
     requires zone_stock { IsZoneView zone_stock.old.view }
-    requires cpu { IsCpuView stocks.now stock.old.view }
+    requires cpu { IsCpuView (stock_table_of words.now) stock.old.view }
     requires fresh { 1 ≤ stock.old.view.fresh }
+    ensures run { MakesStep words.now held.old stock.old.view.number (step.Report 1) Done held.new }
     ensures booked { stock.old.view.fresh + (account_for zone_stock.old.view stock.old.view).unabsorbed
         ≤ (account_for zone_stock.old.view stock.old.view).book }
     ensures group { group_of stock.old.view.last ≡ (account_for zone_stock.old.view stock.old.view).group }
@@ -166,5 +234,5 @@ fn report_passed(
         ≡ with_view zone_stock.old (zone_after_report zone_stock.old.view stock.old.view.number 1) }
     ensures cpu { stock.new ≡ with_view stock.old (after_report stock.old.view 1) }
 {
-    stocks.report(zone_stock, stock, 1);
+    words.report(held, zone_stock, stock, 1);
 }
