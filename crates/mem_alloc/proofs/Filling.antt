@@ -15,7 +15,8 @@ use Rattle.zone_blocks.specs.declared.config.Config.{Config}
 use Rattle.zone_blocks.specs.Config.{IsValidConfig}
 use Rattle.step_rules.specs.After.{Run}
 use Rattle.group_charge.specs.declared.note.Note.TheVariants.{Zone}
-use Rattle.mem_machine.specs.Machines.{KnownMachine, Visits, is_killed, with_note, with_watch}
+use Rattle.mem_machine.specs.Machines.{KnownMachine, is_killed, with_note, with_watch}
+use Rattle.mem_machine.specs.Local.{Visits}
 use Rattle.mem_machine.specs.Local.{VisitState, visit_state, MakesAs, Makes}
 use Rattle.mem_machine.specs.Lending.{LendsMany, Refills}
 use Rattle.mem_machine.specs.Paying.{HoldsPage, PaysForFront}

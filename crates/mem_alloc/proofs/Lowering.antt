@@ -20,7 +20,8 @@ use Rattle.stock_word.specs.Calls.{with_view, after_look}
 use Rattle.cpu_part.specs.Cpus.{KnownCpu}
 use Rattle.step_rules.specs.State.{sum_to}
 use Rattle.step_rules.specs.After.{Run}
-use Rattle.mem_machine.specs.Machines.{KnownMachine, Visits, is_killed, with_watch}
+use Rattle.mem_machine.specs.Machines.{KnownMachine, is_killed, with_watch}
+use Rattle.mem_machine.specs.Local.{Visits}
 use Rattle.mem_machine.specs.Paying.{HasRoomFor}
 use Rattle.mem_machine.specs.Steps.{Drain}
 use Rattle.mem_machine.specs.Stocks.{Drains, DrainsBelow, DrainsAllBelow, stock_group, uncharged, with_look}

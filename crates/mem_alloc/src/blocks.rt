@@ -2,7 +2,7 @@
 
 ghost use Rattle.std.specs.Prelude.{◌≡◌, ◌^◌, ◌≤◌, [], length, Err, IsTrue};
 ghost use Rattle.group_tree.specs.Groups.{has_group};
-ghost use Rattle.mem_machine.specs.Machines.{KeepsVisit, Visits};
+ghost use Rattle.mem_machine.specs.Local.{KeepsVisit, Visits};
 ghost use Rattle.mem_machine.specs.Paying.{IsOfSize, MayCharge};
 ghost use Rattle.mem_alloc.specs.declared.faults.AllocFault.TheVariants.{NoFrames};
 ghost use Rattle.mem_machine.specs.Transitions.{BySteps};

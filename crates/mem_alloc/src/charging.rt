@@ -3,7 +3,8 @@
 ghost use Rattle.std.specs.Prelude.{◌≡◌, ◌↔◌, [], IsTrue, false, OnOk};
 ghost use Rattle.zone_blocks.specs.Config.{IsValidConfig};
 ghost use Rattle.group_tree.specs.Groups.{has_group};
-ghost use Rattle.mem_machine.specs.Machines.{Visits, is_killed};
+ghost use Rattle.mem_machine.specs.Machines.{is_killed};
+ghost use Rattle.mem_machine.specs.Local.{Visits};
 ghost use Rattle.mem_machine.specs.Paying.{HoldsPage, IsOfSize, MayCharge};
 ghost use Rattle.mem_machine.specs.Stocks.{IsDrained, with_look};
 ghost use Rattle.mem_machine.specs.Transitions.{BySteps};

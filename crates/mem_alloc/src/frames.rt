@@ -4,7 +4,7 @@ ghost use Rattle.std.specs.Prelude.{◌≡◌, ◌+◌, ◌<◌, ◌≤◌, [], 
 ghost use Rattle.std.specs.Prelude.{IsTrue, false, MatchResult, OnOk, IfOk, OnErr};
 ghost use Rattle.zone_blocks.specs.Config.{IsValidConfig};
 ghost use Rattle.group_tree.specs.Groups.{has_group};
-ghost use Rattle.mem_machine.specs.Machines.{KeepsVisit, Visits};
+ghost use Rattle.mem_machine.specs.Local.{KeepsVisit, Visits};
 ghost use Rattle.mem_machine.specs.Paying.{HoldsPage, IsOfSize};
 ghost use Rattle.mem_machine.specs.Transitions.{BySteps};
 ghost use Rattle.mem_machine.specs.Settling.{IsSettled};

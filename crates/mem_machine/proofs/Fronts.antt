@@ -26,7 +26,8 @@ use Rattle.mem_machine.specs.declared.frame_state.FrameState.TheVariants.{Free, 
 use Rattle.mem_machine.specs.FrameStates.{frame_state_at, some_cpu}
 use Rattle.mem_machine.specs.FrameStates.{frame_state_group as charged_to}
 use Rattle.mem_machine.proofs.Ledgers.{ledger_visit_state}
-use Rattle.mem_machine.specs.Machines.{KnownMachine, IsConsistent, Visits}
+use Rattle.mem_machine.specs.Machines.{KnownMachine, IsConsistent}
+use Rattle.mem_machine.specs.Local.{Visits}
 use Rattle.mem_machine.specs.Local.{local_of, phase_of, part_of, part_with, visit_state}
 use Rattle.mem_machine.specs.Steps.{take_front_steps}
 use Rattle.mem_machine.specs.Paying.{IsOfSize, IsOwnStock, HoldsPage, PaysForFront, HasRoomFor, pages_held}

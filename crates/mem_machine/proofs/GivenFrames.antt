@@ -10,7 +10,8 @@ use Rattle.stock_word.specs.Stock.{KnownStockTable}
 use Rattle.cpu_part.specs.Cpus.{KnownCpu, IsTied}
 use Rattle.mem_machine.specs.declared.frame_state.FrameState.TheVariants.{Free, Lent}
 use Rattle.mem_machine.specs.FrameStates.{frame_state_at, is_free_state, free_of}
-use Rattle.mem_machine.specs.Machines.{KnownMachine, IsConsistent, Visits}
+use Rattle.mem_machine.specs.Machines.{KnownMachine, IsConsistent}
+use Rattle.mem_machine.specs.Local.{Visits}
 use Rattle.mem_machine.specs.Lending.{LendsFrame}
 use Rattle.mem_machine.specs.Steps.{lend_steps}
 use Rattle.mem_machine.specs.Local.{visit_state}

@@ -27,7 +27,8 @@ use Rattle.step_rules.specs.Legal.{is_legal}
 use Rattle.step_rules.specs.After.{Run, after, without_frame, without_unit}
 use Rattle.step_rules.specs.Laws.{IsLocalStep}
 use Rattle.step_rules.proofs.Basics.{at_same}
-use Rattle.mem_machine.specs.Machines.{KnownMachine, Visits}
+use Rattle.mem_machine.specs.Machines.{KnownMachine}
+use Rattle.mem_machine.specs.Local.{Visits}
 use Rattle.mem_machine.specs.Local.{IsLocalRun, visit_state}
 use Rattle.mem_machine.specs.Steps.{zone_makes, cpu_makes}
 use Rattle.mem_machine.specs.Settling.{collect_steps, return_steps}

@@ -7,7 +7,8 @@ use Rattle.stock_word.specs.declared.view.Stock.TheVariants.{NoGroup, HeldBy, Dr
 use Rattle.stock_word.specs.Stock.{KnownStockTable, group_of, is_held, stock_pages_of}
 use Rattle.cpu_part.specs.Cpus.{KnownCpu}
 use Rattle.mem_machine.specs.FrameStates.{frame_state_at, some_cpu}
-use Rattle.mem_machine.specs.Machines.{KnownMachine, FitsFrameState, IsConsistent, StaysVisited, VisitState, home_of}
+use Rattle.mem_machine.specs.Machines.{KnownMachine, FitsFrameState, IsConsistent, VisitState, home_of}
+use Rattle.mem_machine.specs.Local.{StaysVisited}
 use Rattle.mem_machine.specs.Paying.{IsOwnStock}
 use Rattle.mem_machine.specs.Showing.{ListedUnit, seat_with_look, seat_with_looks, stock_as, stock_now, with_look_at, with_looks_at}
 use Rattle.mem_machine.specs.Local.{local_of, references_of, MakesForAny}

@@ -8,7 +8,8 @@ use Rattle.zone_blocks.specs.Areas.{HasNoneFrom}
 use Rattle.frame_word.specs.Seats.{KnownTable}
 use Rattle.cpu_part.specs.Cpus.{KnownCpu}
 use Rattle.step_rules.specs.After.{Run}
-use Rattle.mem_machine.specs.Machines.{KnownMachine, VisitStateStays, Visits}
+use Rattle.mem_machine.specs.Machines.{KnownMachine, VisitStateStays}
+use Rattle.mem_machine.specs.Local.{Visits}
 use Rattle.mem_machine.specs.Lending.{LendsOne, LendsNone, LendsMany, LendsByStep, Refills, UnlistsOne, UnlistsNone}
 use Rattle.mem_machine.specs.Lending.{UnlistsMany, UnlistsByStep}
 use Rattle.mem_machine.specs.Local.{MakesAs, VisitState, visit_state}

@@ -32,7 +32,8 @@ use Rattle.step_rules.proofs.Sums.{sum_change}
 use Rattle.mem_machine.specs.declared.frame_state.FrameState.{FrameState}
 use Rattle.mem_machine.specs.declared.frame_state.FrameState.TheVariants.{Free, Lent, Head, Tail}
 use Rattle.mem_machine.specs.FrameStates.{frame_state_at, one_if_is}
-use Rattle.mem_machine.specs.Machines.{KnownMachine, IsConsistent, Visits, is_killed, booked, pages_booked}
+use Rattle.mem_machine.specs.Machines.{KnownMachine, IsConsistent, is_killed, booked, pages_booked}
+use Rattle.mem_machine.specs.Local.{Visits}
 use Rattle.mem_machine.specs.Local.{local_of, phase_of, part_of, part_with, Makes, visit_state, MakesAs}
 use Rattle.mem_machine.specs.Steps.{drain_steps, fill_steps, over_steps, zone_makes}
 use Rattle.mem_machine.specs.Stocks.{uncharged, stock_group, with_look, Drains, Fills, Prepays, IsOver, own_drain_steps, pages_held}

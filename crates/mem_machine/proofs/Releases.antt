@@ -38,7 +38,8 @@ use Rattle.step_rules.proofs.Placing.{within_cases}
 use Rattle.mem_machine.specs.declared.frame_state.FrameState.{FrameState}
 use Rattle.mem_machine.specs.declared.frame_state.FrameState.TheVariants.{Free, Head}
 use Rattle.mem_machine.specs.FrameStates.{frame_state_at, free_of, head_group_of, cpu_lent_to, some_cpu}
-use Rattle.mem_machine.specs.Machines.{KnownMachine, FitsFrameState, IsConsistent, Visits, BalancesCounts, home_of, is_killed, group_lists, lists_of}
+use Rattle.mem_machine.specs.Machines.{KnownMachine, FitsFrameState, IsConsistent, BalancesCounts, home_of, is_killed, group_lists, lists_of}
+use Rattle.mem_machine.specs.Local.{Visits}
 use Rattle.mem_machine.specs.Local.{IsLocalRun, local_of, phase_of, references_of, visit_state}
 use Rattle.mem_machine.specs.Counts.{with_last_put}
 use Rattle.mem_machine.specs.Counting.{counts_after, one_more_last_put, one_more_return}

@@ -12,7 +12,8 @@ use Rattle.stock_word.specs.declared.view.Stock.{Stock}
 use Rattle.stock_word.specs.declared.view.Stock.TheVariants.{NoGroup, HeldBy, DrainedOf}
 use Rattle.stock_word.specs.Stock.{group_of}
 use Rattle.cpu_part.specs.Cpus.{KnownCpu}
-use Rattle.mem_machine.specs.Machines.{KnownMachine, Visits, is_killed}
+use Rattle.mem_machine.specs.Machines.{KnownMachine, is_killed}
+use Rattle.mem_machine.specs.Local.{Visits}
 use Rattle.mem_machine.specs.Local.{group_of_fresh, visit_state, MakesAs, VisitState}
 use Rattle.mem_machine.specs.Settling.{FindsNoneBack, FindsNoneFresh, HandsOver, KeepsFresh, DropsFresh, SettlesFresh, SettlesAllFresh, ReturnsBack, ReturnsAllBack, LeavesOthers, Settles}
 use Rattle.mem_machine.specs.Settling.{fresh_steps, return_steps, settle_steps}

@@ -30,7 +30,8 @@ use Rattle.mem_machine.specs.declared.frame_state.FrameState.{FrameState}
 use Rattle.mem_machine.specs.declared.frame_state.FrameState.TheVariants.{Free, Lent, Head, Tail}
 use Rattle.mem_machine.specs.FrameStates.{frame_state_at, is_free_state, free_of, frame_state_group, head_group_of}
 use Rattle.mem_machine.specs.FrameStates.{some_cpu}
-use Rattle.mem_machine.specs.Machines.{KnownMachine, FitsFrameState, IsConsistent, Visits, home_of}
+use Rattle.mem_machine.specs.Machines.{KnownMachine, FitsFrameState, IsConsistent, home_of}
+use Rattle.mem_machine.specs.Local.{Visits}
 use Rattle.mem_machine.specs.Lending.{UnlistsOne, UnlistsNone}
 use Rattle.mem_machine.specs.Local.{local_of, phase_of, part_of, part_with, visit_state}
 use Rattle.mem_machine.specs.Steps.{unlist_steps}

@@ -33,7 +33,8 @@ use Rattle.mem_machine.specs.declared.frame_state.FrameState.{FrameState}
 use Rattle.mem_machine.specs.declared.frame_state.FrameState.TheVariants.{Free, Head, Tail}
 use Rattle.mem_machine.specs.FrameStates.{frame_state_at, is_free_state, is_in_hand, cpu_lent_to, free_of}
 use Rattle.mem_machine.specs.FrameStates.{frame_state_group}
-use Rattle.mem_machine.specs.Machines.{KnownMachine, IsConsistent, Visits, is_killed}
+use Rattle.mem_machine.specs.Machines.{KnownMachine, IsConsistent, is_killed}
+use Rattle.mem_machine.specs.Local.{Visits}
 use Rattle.mem_machine.specs.Blocks.{PlacesUnit, TakesBlock, TakesNoBlock, taken_steps, unplaced_steps}
 use Rattle.mem_machine.specs.Local.{local_of, phase_of, visit_state}
 use Rattle.mem_machine.proofs.Records.{length_free, free_at, free_is, free_inside, no_cpu_is}

@@ -6,7 +6,8 @@ use Rattle.stock_word.specs.Stock.{KnownStockTable}
 use Rattle.cpu_part.specs.Cpus.{KnownCpu}
 use Rattle.group_charge.specs.Notes.{KnownNotes}
 use Rattle.step_watch.specs.Watched.{KnownWatch}
-use Rattle.mem_machine.specs.Machines.{KnownMachine, VisitState, IsConsistent, Visits, visit_state, with_watch}
+use Rattle.mem_machine.specs.Machines.{KnownMachine, VisitState, IsConsistent, visit_state, with_watch}
+use Rattle.mem_machine.specs.Local.{Visits}
 use Rattle.mem_machine.specs.Lending.{LendsFrame, LendsOne, UnlistsOne}
 use Rattle.mem_machine.specs.Settling.{KeepsFresh, DropsFresh, ReturnsBack}
 use Rattle.mem_machine.specs.Releasing.{LeavesReferences, ReturnsUnit}

@@ -47,7 +47,7 @@ pub record TakesBlock (group order at : ℕ) (before after : KnownMachine) : Typ
     links = after.links;
     lists = after.lists;
     frame_seat = seat_with before.frame_seat at (unfrozen 1);
-    watch = after.watch;
+    run = after.run;
   }
 
 -- there is no free block of the order or above: the pages were charged and uncharged, so only the peaks may be higher
@@ -56,7 +56,7 @@ pub record TakesNoBlock (group order : ℕ) (before after : KnownMachine) : Type
   pub none : HasNoneFrom before.blocks order
   pub machine : after ≡ record before {
     ledger = with_uncharge (with_charge before.ledger group (2 ^ order)) group (2 ^ order);
-    watch = after.watch;
+    run = after.run;
   }
 
 -- What a refusal leaves. If a limit has no room for the block, the error names the lowest such group, and nothing
@@ -64,7 +64,7 @@ pub record TakesNoBlock (group order : ℕ) (before after : KnownMachine) : Type
 -- higher.
 abbrev pub RefusesBlock : ℕ → ℕ → TakeFault → KnownMachine → KnownMachine → Type 0
 RefusesBlock group order (fault.Over over) before after =
-    LacksRoom before group (2 ^ order) over.group × (after ≡ record before { watch = after.watch })
+    LacksRoom before group (2 ^ order) over.group × (after ≡ record before { run = after.run })
 RefusesBlock group order fault.NoBlock before after = TakesNoBlock group order before after
 
 -- the steps of a block of this order, charged to the group, that begins at frame `at`

@@ -25,7 +25,7 @@ pub record MissesUnit (frame : ℕ) (before after : KnownMachine) : Type 0 where
   pub machine : after ≡ record before {
     frame_seat = seat_with before.frame_seat frame (missed word);
     counts = with_miss before.counts;
-    watch = after.watch;
+    run = after.run;
   }
 
 -- The unit was frozen and freed. It left its list, its frames are free, and its pages, this many, left the charge of
@@ -48,7 +48,7 @@ pub record EvictsUnit (frame pages : ℕ) (before after : KnownMachine) : Type 0
     frame_seat = seat_with before.frame_seat frame (frozen 1);
     counts = with_freeze before.counts;
     notes = unit_noted before.notes unit.group frame (2 ^ unit.order);
-    watch = after.watch;
+    run = after.run;
   }
 
 -- what a try leaves, by its result: the number of pages freed, or None for a miss

@@ -19,7 +19,7 @@ machine_of fields = record {
   killed = fields.killed.items;
   counts = fields.counts;
   notes = fields.notes;
-  watch = fields.watch;
+  run = record { past = fields.past; watch = fields.watch };
 }
 
 -- what the fields show is consistent, and the zone's free frames are those whose record is Free

@@ -19,7 +19,7 @@ pub record LendsFrame (frame : ℕ) (before after : VisitState) : Type 0 where
     blocks = after.machine.blocks;
     frame_states = slice_set before.machine.frame_states frame (Lent before.cpu.number);
     frame_seat = seat_with before.machine.frame_seat frame (passed_out_to before.cpu.number);
-    watch = after.machine.watch;
+    run = after.machine.run;
   }
   pub cpu : after.cpu ≡ record before.cpu {
     list = before.cpu.list ++ frame ∷ [];
@@ -72,7 +72,7 @@ pub record UnlistsOne (frame : ℕ) (before after : VisitState) : Type 0 where
     blocks = after.machine.blocks;
     frame_states = slice_set before.machine.frame_states frame Free;
     frame_seat = seat_with before.machine.frame_seat frame (collected_from before.cpu.number);
-    watch = after.machine.watch;
+    run = after.machine.run;
   }
   pub cpu : after.cpu ≡ record before.cpu {
     list = rest;

@@ -24,3 +24,5 @@ pub mod Settling
 pub mod Paying
 pub mod Places
 pub mod Showing
+pub mod Noted
+pub mod Resting

@@ -1,7 +1,7 @@
 -- The local state: what the CPU that holds the lock sees of the machine and its own part, in the words of the rules.
 use Rattle.std.specs.Prelude.{◌≡◌, ℕ, ◌-◌, ◌==◌, ◌&&◌, nat_le, not, Option, Some, None, is_some}
 use Rattle.std.specs.Prelude.{List, [], length, slice_index, if◌then◌else◌}
-use Rattle.frame_word.specs.Seats.{KnownTable, KnownSeat, seat_references}
+use Rattle.frame_word.specs.Seats.{KnownTable, KnownSeat, IsOpen, LentIsBorrowed, NothingPasses, seat_references}
 use Rattle.stock_word.specs.declared.view.StockAccount.{StockAccount}
 use Rattle.stock_word.specs.Stock.{KnownStockSeat, account_of}
 use Rattle.stock_word.specs.Stock as stocks
@@ -14,7 +14,8 @@ use Rattle.step_rules.specs.declared.phase.Phase.{Phase}
 use Rattle.step_rules.specs.declared.phase.Phase.TheVariants as phase
 use Rattle.step_rules.specs.State.{State, Part}
 use Rattle.step_rules.specs.After.{Run}
-use Rattle.step_watch.specs.Watched.{Watches}
+use Rattle.boot_words.specs.Pasts.{IsHeld, cpu_past, local_by_pasts}
+use Rattle.mem_machine.specs.Noted.{Notes}
 -- the lists of local steps that lead from one local state to another
 pub use Rattle.step_rules.specs.Reaches.{IsLocalRun}
 -- the machine, and the part of the CPU that holds its lock
@@ -102,13 +103,13 @@ local_at table now = local_of table now.machine now.cpu
 
 -- These steps, of the CPU of this number and of the zone's seat, lead from one visit state to another. They are local
 -- steps between the two local states. The ledger's peaks and event counts follow them, and so do the machine's counts.
--- The machine's watch took them, in this order.
+-- The pasts have grown by them, and the machine's watch took them, in this order.
 pub record MakesAs (table : KnownTable) (cpu_number : ℕ) (before : VisitState) (steps : Run)
     (after : VisitState) : Type 0 where
   pub leads : IsLocalRun cpu_number (local_at table before) steps (local_at table after)
   pub follows : FollowsSteps (local_at table before) before.machine.ledger steps after.machine.ledger
   pub counts : after.machine.counts ≡ counts_along (local_at table before) steps before.machine.counts
-  pub watched : Watches before.machine.watch steps after.machine.watch
+  pub noted : Notes table before.machine.run steps after.machine.run
 
 -- these steps lead the CPU that holds the lock from one visit state to the other
 abbrev pub Makes : KnownTable → VisitState → Run → VisitState → Type 0
@@ -118,3 +119,35 @@ Makes table before steps after = MakesAs table before.cpu.number before steps af
 abbrev pub MakesForAny : KnownTable → KnownMachine → Run → KnownMachine → Type 0
 MakesForAny table before steps after = (cpu : KnownCpu)
     → Makes table (visit_state before cpu) steps (visit_state after cpu)
+
+-- The CPU holds the lock, and sees by the run what the machine and its own part show.
+pub record IsShown (table : KnownTable) (now : VisitState) : Type 0 where
+  pub held : IsHeld table now.machine.run.past
+  pub who : (cpu_past now.machine.run.past).number ≡ now.cpu.number
+  pub here : local_by_pasts table now.machine.run.past ≡ local_at table now
+
+-- the same of some CPU, whose part the call does not need
+pub record SomeShown (table : KnownTable) (machine : KnownMachine) : Type 0 where
+  pub cpu : KnownCpu
+  pub is : IsShown table (visit_state machine cpu)
+
+-- The CPU is visited. It holds the lock, its visit is open, and no frame is in transit between it and the zone. The
+-- frames lent to it are those that its seat has borrowed: its listed and its fresh frames.
+pub record Visits (table : KnownTable) (now : VisitState) : Type 0 where
+  pub is_open : IsOpen now.machine.frame_seat now.cpu.number
+  pub still : NothingPasses table now.machine.frame_seat now.cpu.frame_seat
+  pub lent : LentIsBorrowed table now.machine.frame_seat now.cpu.frame_seat
+  pub shown : IsShown table now
+
+-- each CPU that was visited before is visited after
+abbrev pub StaysVisited : KnownTable → KnownMachine → KnownMachine → Type 0
+StaysVisited table before after =
+    (cpu : KnownCpu) → Visits table (visit_state before cpu) → Visits table (visit_state after cpu)
+
+-- What a visit keeps. The CPU is still visited, no visit was opened or shut, and the CPU has the same number and the
+-- same back frames.
+pub record KeepsVisit (table : KnownTable) (before after : VisitState) : Type 0 where
+  pub visit : Visits table after
+  pub opened : after.machine.frame_seat.view.opened ≡ before.machine.frame_seat.view.opened
+  pub number : after.cpu.number ≡ before.cpu.number
+  pub back : after.cpu.back ≡ before.cpu.back

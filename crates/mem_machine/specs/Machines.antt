@@ -6,7 +6,7 @@ use Rattle.zone_blocks.specs.declared.block.Block.{Block}
 use Rattle.zone_blocks.specs.Areas.{AreMaximalBlocks}
 use Rattle.frame_word.specs.declared.view.FrameNote.{FrameNote}
 use Rattle.frame_word.specs.Views.{note_of}
-use Rattle.frame_word.specs.Seats.{KnownTable, KnownSeat, IsZoneSeat, IsOpen, NothingPasses, LentIsBorrowed}
+use Rattle.frame_word.specs.Seats.{KnownTable, KnownSeat, IsZoneSeat}
 use Rattle.frame_word.specs.Seats.{first_zone_view}
 use Rattle.stock_word.specs.declared.view.StockAccount.{StockAccount}
 use Rattle.stock_word.specs.Stock.{KnownStockTable, KnownStockSeat, IsZoneView, account_of, first_zone_stock_view}
@@ -29,6 +29,7 @@ use Rattle.mem_machine.specs.declared.frame_state.FrameState.{FrameState}
 use Rattle.mem_machine.specs.declared.frame_state.FrameState.TheVariants.{Free}
 use Rattle.mem_machine.specs.declared.counts.Counts.{Counts}
 use Rattle.step_watch.specs.Watched.{KnownWatch}
+use Rattle.mem_machine.specs.Noted.{KnownRun}
 use Rattle.group_charge.specs.declared.note.Note.{Note}
 use Rattle.group_charge.specs.Notes.{KnownNotes, forgotten, no_notes, noted}
 -- the units freed are the last puts, the freezes and the killed fresh frames together, or the greatest count if that
@@ -41,7 +42,8 @@ use Rattle.mem_machine.specs.FrameStates.{frame_state_group, head_group_of, one_
 -- The machine holds the free areas, a record for each frame, and the groups with their charges. It holds the links of
 -- all kept units, and two lists for each group number. It holds the zone's seats at the two tables, and which group
 -- numbers are killed. It counts how units ended, how many were freed and how many were missed. It holds the notes since
--- the last `forget_notes`, and the watch, which takes each step right behind it.
+-- the last `forget_notes`, the pasts of the zone and of the lock's holder, which grow by each step, and the watch, which
+-- takes each step right behind it.
 pub record KnownMachine : Type 0 where
   pub blocks : List Block
   pub frame_states : List FrameState
@@ -53,7 +55,7 @@ pub record KnownMachine : Type 0 where
   pub killed : List Bool
   pub counts : Counts
   pub notes : KnownNotes
-  pub watch : KnownWatch
+  pub run : KnownRun
 
 -- the machine after one more note
 abbrev pub with_note : KnownMachine → Note → KnownMachine
@@ -69,7 +71,7 @@ with_unit_notes machine is_on = record machine { notes = record machine.notes { 
 
 -- the machine with another watch
 abbrev pub with_watch : KnownMachine → KnownWatch → KnownMachine
-with_watch machine watch = record machine { watch = watch }
+with_watch machine watch = record machine { run = record (machine.run) { watch = watch } }
 
 -- an empty list
 abbrev pub no_queue : Queue
@@ -204,7 +206,7 @@ pub record AddsGroup (number : ℕ) (path : List ℕ) (before after : KnownMachi
   pub machine : after ≡ record before {
     ledger = with_new_group before.ledger number path;
     killed = slice_set before.killed number false;
-    watch = after.watch;
+    run = after.run;
   }
 
 -- group `lowest` is the lowest on the group's path whose limit has no room for this many more pages
@@ -229,7 +231,7 @@ pub record VisitStateStays (before after : VisitState) : Type 0 where
 
 -- nothing of the visit state changed, except what the machine's watch saw
 pub record OnlyWatches (before after : VisitState) : Type 0 where
-  pub machine : after.machine ≡ record before.machine { watch = after.machine.watch }
+  pub machine : after.machine ≡ record before.machine { run = after.machine.run }
   pub cpu : after.cpu ≡ before.cpu
 
 -- `First` leads from the visit state before to a visit state between, and `Rest` leads from there to the visit state
@@ -243,26 +245,6 @@ pub record FirstThen (First Rest : VisitState → VisitState → Type 0) (before
 abbrev pub OneByOne : (ℕ → VisitState → VisitState → Type 0) → List ℕ → VisitState → VisitState → Type 0
 OneByOne IsDone [] before after = VisitStateStays before after
 OneByOne IsDone (frame ∷ others) before after = FirstThen (IsDone frame) (OneByOne IsDone others) before after
-
--- The CPU is visited. Its visit is open, and no frame is in transit between it and the zone. The frames lent to it are
--- those that its seat has borrowed: its listed and its fresh frames.
-pub record Visits (table : KnownTable) (now : VisitState) : Type 0 where
-  pub is_open : IsOpen now.machine.frame_seat now.cpu.number
-  pub still : NothingPasses table now.machine.frame_seat now.cpu.frame_seat
-  pub lent : LentIsBorrowed table now.machine.frame_seat now.cpu.frame_seat
-
--- each CPU that was visited before is visited after
-abbrev pub StaysVisited : KnownTable → KnownMachine → KnownMachine → Type 0
-StaysVisited table before after =
-    (cpu : KnownCpu) → Visits table (visit_state before cpu) → Visits table (visit_state after cpu)
-
--- What a visit keeps. The CPU is still visited, no visit was opened or shut, and the CPU has the same number and the
--- same back frames.
-pub record KeepsVisit (table : KnownTable) (before after : VisitState) : Type 0 where
-  pub visit : Visits table after
-  pub opened : after.machine.frame_seat.view.opened ≡ before.machine.frame_seat.view.opened
-  pub number : after.cpu.number ≡ before.cpu.number
-  pub back : after.cpu.back ≡ before.cpu.back
 
 -- a CPU of this number exists
 abbrev pub IsCpuOf : KnownTable → ℕ → Type 0

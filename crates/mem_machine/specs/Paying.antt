@@ -27,7 +27,7 @@ pub record HoldsPage (now : VisitState) (owner : ℕ) : Type 0 where
 -- the frame at the front of the CPU's list is fresh now, and the stock of the group has one page less
 pub record PaysForFront (group frame : ℕ) (before after : VisitState) : Type 0 where
   pub takes : TakesFront group (pages_held before - 1) frame before.cpu after.cpu
-  pub machine : after.machine ≡ record before.machine { watch = after.machine.watch }
+  pub machine : after.machine ≡ record before.machine { run = after.machine.run }
 
 -- the zone has at most `most_frames` frames and `most_cpus` CPUs
 pub record IsOfSize (table : KnownTable) : Type 0 where

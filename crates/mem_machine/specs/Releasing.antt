@@ -26,7 +26,7 @@ pub record LeavesReferences (frame left : ℕ) (before after : KnownMachine) : T
     links = after.links;
     lists = after.lists;
     frame_seat = seat_with before.frame_seat frame (put_left left);
-    watch = after.watch;
+    run = after.run;
   }
 
 -- the unit left its list and was freed: its frames are free, and its pages left the charge of its group; nothing else
@@ -45,7 +45,7 @@ pub record ReturnsUnit (frame : ℕ) (before after : KnownMachine) : Type 0 wher
     lists = after.lists;
     frame_seat = seat_with before.frame_seat frame put_last;
     counts = with_last_put before.counts;
-    watch = after.watch;
+    run = after.run;
   }
 
 -- what a release leaves, by its result

@@ -69,7 +69,7 @@ pub record KeepsFresh (group frame : ℕ) (before after : VisitState) : Type 0 w
     lists = after.machine.lists;
     frame_seat = seat_with before.machine.frame_seat frame (λ note. unfrozen 1 (collected_from before.cpu.number note));
     stock_seat = with_page_absorbed before.machine.stock_seat before.cpu.number;
-    watch = after.machine.watch;
+    run = after.machine.run;
   }
   pub cpu : HandsOver frame before.cpu after.cpu
 
@@ -84,7 +84,7 @@ pub record DropsFresh (group frame : ℕ) (before after : VisitState) : Type 0 w
     frame_seat = seat_with before.machine.frame_seat frame (collected_from before.cpu.number);
     stock_seat = with_page_absorbed before.machine.stock_seat before.cpu.number;
     counts = with_killed_fresh before.machine.counts;
-    watch = after.machine.watch;
+    run = after.machine.run;
   }
   pub cpu : HandsOver frame before.cpu after.cpu
 
@@ -100,7 +100,7 @@ pub record ReturnsBack (frame : ℕ) (before after : VisitState) : Type 0 where
     ledger = with_uncharge before.machine.ledger unit.group (2 ^ unit.order);
     frame_seat = seat_with before.machine.frame_seat frame (collected_from before.cpu.number);
     counts = with_last_put before.machine.counts;
-    watch = after.machine.watch;
+    run = after.machine.run;
   }
   pub front : before.cpu.back ≡ frame ∷ after.cpu.back
   pub cpu : after.cpu ≡ record before.cpu {

@@ -45,10 +45,10 @@ with_look machine = record machine {
   stock_seat = with_view machine.stock_seat (with_steps 1 machine.stock_seat.view);
 }
 
--- How many steps of the zone's seat drain a stock of this group. A look finds the group. If there is one, a second look
--- and the swap that takes the pages follow.
+-- How many steps of the zone's seat drain a stock of this group. A look finds the group, and a second look the stock. If
+-- there is a group, the swap that takes the pages follows.
 abbrev pub steps_to_drain : Option ℕ → ℕ
-steps_to_drain None = 1
+steps_to_drain None = 2
 steps_to_drain (Some group) = 3
 
 -- The zone's seat drains the CPU's stock of this many pages, by this many steps. They are no longer booked to the
@@ -58,7 +58,7 @@ pub record DrainsBy (steps cpu pages : ℕ) (before after : KnownMachine) : Type
     ledger = uncharged before.ledger (stock_group before cpu) pages;
     stock_seat =
         with_view before.stock_seat (with_steps steps (zone_after_drain before.stock_seat.view cpu pages));
-    watch = after.watch;
+    run = after.run;
   }
   pub booked : pages ≤ (account_of before.stock_seat.view cpu).book
   pub drained_before : IsDrained before cpu → pages ≡ 0
@@ -170,7 +170,7 @@ pub record Fills (group pages : ℕ) (before after : VisitState) : Type 0 where
     ledger = with_charge before.machine.ledger group pages;
     stock_seat = with_view before.machine.stock_seat
         (zone_after_fill before.machine.stock_seat.view before.cpu.number group pages);
-    watch = after.machine.watch;
+    run = after.machine.run;
   }
   pub cpu : after.cpu ≡ record before.cpu {
     stock_seat = with_view before.cpu.stock_seat (after_fill before.cpu.stock_seat.view group pages);
@@ -195,7 +195,7 @@ pub record Prepays (group pages : ℕ) (before after : VisitState) : Type 0 wher
 pub record IsOver (group pages over : ℕ) (before after : VisitState) : Type 0 where
   pub emptied : KnownMachine
   pub drains : Drains before.cpu.number (pages_held before) before.machine emptied
-  pub machine : after.machine ≡ record (with_look emptied) { watch = after.machine.watch }
+  pub machine : after.machine ≡ record (with_look emptied) { run = after.machine.run }
   pub lowest : LacksRoom after.machine group pages over
   pub cpu : after.cpu ≡ before.cpu
 

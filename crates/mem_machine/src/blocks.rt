@@ -1,7 +1,7 @@
 //! Taking blocks of frames and charging them to a group.
 
 ghost use Rattle.std.specs.Prelude.{◌≡◌, ◌+◌, ◌^◌, ◌≤◌, IfOk, IfErr, [], length};
-ghost use Rattle.mem_machine.specs.Machines.{Visits};
+ghost use Rattle.mem_machine.specs.Local.{Visits};
 ghost use Rattle.mem_machine.specs.Paying.{MayCharge};
 ghost use Rattle.mem_machine.specs.Blocks.{PlacesUnit, TakesBlock, RefusesBlock, block_steps};
 ghost use Rattle.mem_machine.specs.Local.{Makes, visit_state};
@@ -10,11 +10,13 @@ use crate::frame_state::FrameState;
 use crate::lists::join_list;
 use crate::machine::Machine;
 use crate::proving::{prove_charges, prove_tied};
+use crate::stepping::make_step;
 use cpu_part::{BootName, Cpu, Tables};
 use frame_word::Frame;
 use group_charge::charges::Over;
 use group_tree::group::GroupId;
 use step_rules::phase::ChargedUnit;
+use step_rules::step::{Action, Answer};
 use zone_blocks::block::Block;
 use zone_blocks::order::Order;
 
@@ -70,26 +72,64 @@ impl<N: BootName> Machine<N> {
         prove_charges(&self.charges);
         if let Err(over) = self.charges.try_charge(group, pages) {
             let lowest = over.group;
-            self.watch.refused(group, pages, lowest);
+            make_step(
+                tables,
+                &mut self.past,
+                &mut self.watch,
+                Action::Grant { group, pages },
+                Answer::Over(lowest),
+            );
             return Err(TakeFault::Over(over));
         }
-        self.watch.granted(group, pages);
+        make_step(
+            tables,
+            &mut self.past,
+            &mut self.watch,
+            Action::Grant { group, pages },
+            Answer::Granted,
+        );
         let Some(block) = self.zone.take(order) else {
-            self.watch.found_no_block(group, order);
+            make_step(
+                tables,
+                &mut self.past,
+                &mut self.watch,
+                Action::PlaceBlock { group, order },
+                Answer::NoFreeBlock,
+            );
             self.charges.uncharge(group, pages);
-            self.watch.ungranted(group, pages);
+            make_step(
+                tables,
+                &mut self.past,
+                &mut self.watch,
+                Action::Ungrant { group, pages },
+                Answer::Done,
+            );
             return Err(TakeFault::NoBlock);
         };
-        let Some(head) = tables.frames.frame(block.at) else {
+        let Some(head) = tables.words.frame(block.at) else {
             unreachable!()
         };
         let at = head.number();
         place_unit(&mut self.frame_states, block, group);
-        self.watch.placed(group, order, Block { at, order });
-        tables.frames.unfreeze(&mut self.frame_seat, head, 1);
+        make_step(
+            tables,
+            &mut self.past,
+            &mut self.watch,
+            Action::PlaceBlock { group, order },
+            Answer::Placed(Block { at, order }),
+        );
+        tables
+            .words
+            .unfreeze(&mut self.past, &mut self.frame_seat, head, 1);
         self.watch.unfroze(at, 1);
         join_list(&mut self.links, &mut self.lists, group, at);
-        self.watch.published(at);
+        make_step(
+            tables,
+            &mut self.past,
+            &mut self.watch,
+            Action::Publish { frame: at },
+            Answer::Done,
+        );
         Ok(head)
     }
 }

@@ -1,7 +1,7 @@
 //! The zone's seat at the stocks, and how many pages are booked to the stocks of each group.
 
-ghost use Rattle.std.specs.Prelude.{◌≡◌, ◌≢◌, ◌+◌, ◌-◌, ◌^◌, ◌<◌, ◌≤◌, ◌⊎◌, [], false};
-ghost use Rattle.std.specs.Prelude.{Some};
+ghost use Rattle.std.specs.Prelude.{◌≡◌, ◌≢◌, ◌+◌, ◌-◌, ◌^◌, ◌<◌, ◌≤◌, ◌⊎◌, ℕ, List, [], ◌∷◌, false};
+ghost use Rattle.std.specs.Prelude.{None, Some};
 ghost use Rattle.frame_word.specs.Views.{collected_from};
 ghost use Rattle.frame_word.specs.Seats.{seat_with};
 ghost use Rattle.stock_word.specs.Stock.{account_of, drained_of, first_zone_stock_view, group_of, is_held};
@@ -13,13 +13,19 @@ ghost use Rattle.cpu_part.specs.Calls.{CanTake, PassesFresh, TakesFront};
 ghost use Rattle.mem_machine.specs.Machines.{IsCpuOf, pages_booked};
 ghost use Rattle.mem_machine.specs.Settling.{IsVisitedAt, KnowsFresh, with_page_absorbed};
 ghost use Rattle.mem_machine.specs.Stocks.{FitsStock};
+ghost use Rattle.boot_words.specs.Pasts.{IsHeld, IsHolder, MakesStep, MayMake};
+ghost use Rattle.cpu_part.specs.Made.{MakesAll, MayMakeAll};
+ghost use Rattle.step_rules.specs.declared.step.Action.TheVariants as step;
+ghost use Rattle.step_rules.specs.declared.step.Answer.TheVariants.{Done, Pages, Took};
+ghost use Rattle.mem_machine.specs.Settling.{collect_steps};
 
 use crate::proving::prove_tied;
 use cpu_part::{BootName, Cpu, Tables};
-use frame_word::{Frame, FrameSeat};
+use boot_words::{FrameSeat, PastSeat, StockSeat};
+use frame_word::Frame;
 use group_tree::group::{GroupId, MAX_GROUPS};
 use std::marker::{Model, PhantomData};
-use stock_word::{Stock, StockSeat};
+use stock_word::Stock;
 
 /// The zone's seat at the stocks, which contracts see, with the pages booked to the stocks of each group. What is
 /// booked to one CPU's stock exists only in proofs, as a part of what the seat knows.
@@ -76,37 +82,69 @@ impl<N: BootName> BookedSeat<N> {
         self.sums[group.number() as usize]
     }
 
-    /// The group of the CPU's stock, as `StockWords::group` returns it.
+    /// The group of the CPU's stock, as `BootWords::group` returns it.
     pub(crate) fn group(&mut self, tables: &Tables<N>, cpu: u32) -> Option<GroupId>
         requires cpu { IsCpuOf N.frames cpu }
         ensures group { result ≡ (account_of self.old.view cpu).group }
         ensures seat { self.new ≡ with_view self.old (with_steps 1 (after_look self.old.view cpu result)) }
     {
-        let number = tables.stocks.group(&mut self.seat, cpu)?;
+        let number = tables.words.group(&mut self.seat, cpu)?;
         Some(GroupId::of(number).unwrap())
     }
 
-    /// Drains the stock of the CPU, which is of this group, as `StockWords::drain` does: by a look and a swap.
-    pub(crate) fn drain(&mut self, tables: &Tables<N>, cpu: u32, group: GroupId) -> u32
+    /// Drains the stock of the CPU, which is of this group, as `BootWords::drain` does: by a look and a swap.
+    pub(crate) fn drain(
+        &mut self,
+        tables: &Tables<N>,
+        held: &mut PastSeat,
+        cpu: u32,
+        group: GroupId,
+    ) -> u32
+        requires held { IsHeld N.frames held.old }
+        requires legal { MayMake N.frames held.old 0 (step.DrainStock cpu) }
         requires cpu { IsCpuOf N.frames cpu }
         requires group { (account_of self.old.view cpu).group ≡ Some group }
+        ensures run { MakesStep N.frames held.old 0 (step.DrainStock cpu) (Pages result) held.new }
         ensures seat { self.new ≡ with_view self.old (with_steps 2 (zone_after_drain self.old.view cpu result)) }
         ensures booked { result ≤ (account_of self.old.view cpu).book }
         ensures drained_before { (account_of self.old.view cpu).filled ≡ false → result ≡ 0 }
     {
-        let pages = tables.stocks.drain(&mut self.seat, cpu);
+        let pages = tables.words.drain(held, &mut self.seat, cpu);
         let number = group.number();
         self.sums[number as usize] -= pages;
         pages
     }
 
+    /// Notes the drain of the CPU's stock, which was never filled, by a look.
+    pub(crate) fn drain_none(&mut self, tables: &Tables<N>, held: &mut PastSeat, cpu: u32)
+        requires held { IsHeld N.frames held.old }
+        requires legal { MayMake N.frames held.old 0 (step.DrainStock cpu) }
+        requires cpu { IsCpuOf N.frames cpu }
+        requires group { (account_of self.old.view cpu).group ≡ None }
+        ensures run { MakesStep N.frames held.old 0 (step.DrainStock cpu) (Pages 0) held.new }
+        ensures seat { self.new ≡ with_view self.old (with_steps 1 (zone_after_drain self.old.view cpu 0)) }
+    {
+        tables.words.drain(held, &mut self.seat, cpu);
+    }
+
     /// Fills the CPU's stock, as `Cpu::fill` does. The pages booked to the group stay below 2^32.
-    pub(crate) fn fill(&mut self, tables: &Tables<N>, cpu: &mut Cpu<N>, group: GroupId, pages: u32)
+    pub(crate) fn fill(
+        &mut self,
+        tables: &Tables<N>,
+        cpu: &mut Cpu<N>,
+        held: &mut PastSeat,
+        group: GroupId,
+        pages: u32,
+    )
+        requires held { IsHeld N.frames held.old }
+        requires holder { IsHolder held.old cpu.old.number }
+        requires legal { MayMake N.frames held.old 0 (step.Fill cpu.old.number group pages) }
         requires pages { FitsStock pages }
         requires fits { pages_booked N.frames self.old group + pages < 2 ^ 32 }
         requires drained { (account_of self.old.view cpu.old.number).filled ≡ false }
         requires none_fresh { cpu.old.fresh ≡ [] }
         requires absorbed { (account_of self.old.view cpu.old.number).unabsorbed ≡ 0 }
+        ensures run { MakesStep N.frames held.old 0 (step.Fill cpu.old.number group pages) Done held.new }
         ensures nothing_booked { (account_of self.old.view cpu.old.number).book ≡ 0 }
         ensures seat { self.new ≡ with_view self.old (zone_after_fill self.old.view cpu.old.number group pages) }
         ensures cpu { cpu.new ≡ record cpu.old {
@@ -115,7 +153,7 @@ impl<N: BootName> BookedSeat<N> {
     {
         prove_tied(cpu);
         let owner = group.number();
-        cpu.fill(tables, &mut self.seat, owner, pages);
+        cpu.fill(tables, held, &mut self.seat, owner, pages);
         self.sums[owner as usize] += pages;
     }
 
@@ -139,16 +177,21 @@ impl<N: BootName> BookedSeat<N> {
         &mut self,
         tables: &Tables<N>,
         cpu: &mut Cpu<N>,
+        held: &mut PastSeat,
         group: GroupId,
     ) -> Frame
+        requires held { IsHeld N.frames held.old }
+        requires holder { IsHolder held.old cpu.old.number }
+        requires legal { MayMake N.frames held.old cpu.old.number (step.Consume group) }
         requires group { (account_of self.old.view cpu.old.number).group ≡ Some group }
         requires page { 0 < stocked self.old.view cpu.old.stock_seat.view }
         requires front { CanTake cpu.old }
+        ensures run { MakesStep N.frames held.old cpu.old.number (step.Consume group) Took held.new }
         ensures seat { self.new ≡ self.old }
         ensures cpu { TakesFront group (stocked self.old.view cpu.old.stock_seat.view - 1) result cpu.old cpu.new }
         ensures frame { result < N.frames.frames }
     {
-        cpu.take_front(tables, &mut self.seat, group.number())
+        cpu.take_front(tables, held, &mut self.seat, group.number())
     }
 
     /// Moves the oldest fresh frame of the visited CPU into the zone's hand. Its page is no longer booked to the
@@ -157,23 +200,29 @@ impl<N: BootName> BookedSeat<N> {
         &mut self,
         tables: &Tables<N>,
         cpu: &mut Cpu<N>,
+        held: &mut PastSeat,
         zone: &mut FrameSeat,
         group: GroupId,
     ) -> Frame
+        requires held { IsHeld N.frames held.old }
+        requires holder { IsHolder held.old cpu.old.number }
+        requires legal { (f : ℕ) (rest : List ℕ) → cpu.old.fresh ≡ f ∷ rest
+            → MayMakeAll N.frames held.old (collect_steps cpu.old.number f) }
         requires visited { IsVisitedAt N.frames zone.old cpu.old }
         requires fresh { cpu.old.fresh ≢ [] }
         requires group { group_of cpu.old.stock_seat.view.last ≡ Some group }
         ensures known { KnowsFresh N.frames zone.old self.old cpu.old result }
+        ensures run { MakesAll N.frames held.old (collect_steps cpu.old.number result) held.new }
         ensures cpu { PassesFresh result cpu.old cpu.new }
         ensures zone { zone.new ≡ seat_with zone.old result (collected_from cpu.old.number) }
         ensures seat { self.new ≡ with_page_absorbed self.old cpu.old.number }
     {
         let cpu_number = cpu.number();
-        let Some(frame) = cpu.pass_fresh(tables, zone, &mut self.seat) else {
+        let Some(frame) = cpu.pass_fresh(tables, held, zone, &mut self.seat) else {
             unreachable!()
         };
-        cpu.collect(tables, zone, frame);
-        let pages = tables.stocks.absorb(&mut self.seat, cpu_number);
+        cpu.collect(tables, held, zone, frame);
+        let pages = tables.words.absorb(held, &mut self.seat, cpu_number);
         let owner = group.number() as usize;
         self.sums[owner] -= pages;
         frame

@@ -1,7 +1,8 @@
 //! Trying kept units: a unit is frozen and freed if nobody else has a reference.
 
 ghost use Rattle.std.specs.Prelude.{◌<◌};
-ghost use Rattle.mem_machine.specs.Machines.{HeadsKeptUnit, StaysVisited};
+ghost use Rattle.mem_machine.specs.Machines.{HeadsKeptUnit};
+ghost use Rattle.mem_machine.specs.Local.{SomeShown, StaysVisited};
 ghost use Rattle.mem_machine.specs.Evicting.{Evicts, evict_steps};
 ghost use Rattle.mem_machine.specs.Local.{MakesForAny};
 
@@ -9,8 +10,10 @@ use crate::frame_state::FrameState;
 use crate::freed::free_unit;
 use crate::lists::leave_list;
 use crate::machine::Machine;
+use crate::stepping::make_step;
 use cpu_part::{BootName, Tables};
 use frame_word::Frame;
+use step_rules::step::{Action, Answer};
 
 impl<N: BootName> Machine<N> {
     /// Tries to take a kept unit out of use. If the zone's reference is the only one, nobody can get the unit any more:
@@ -19,12 +22,16 @@ impl<N: BootName> Machine<N> {
     pub fn evict(&mut self, tables: &Tables<N>, head: Frame) -> Option<u32>
         requires frame { head < N.frames.frames }
         requires kept { HeadsKeptUnit self.old head }
+        requires shown { SomeShown N.frames self.old }
         ensures evicts { Evicts head result self.old self.new }
         ensures visit { StaysVisited N.frames self.old self.new }
         ensures steps { MakesForAny N.frames self.old (evict_steps head result) self.new }
     {
         let at = head.number();
-        if !tables.frames.freeze(&mut self.frame_seat, head, 1) {
+        if !tables
+            .words
+            .freeze(&mut self.past, &mut self.frame_seat, head, 1)
+        {
             self.watch.missed(at, 1);
             self.counts = self.counts.with_miss();
             return None;
@@ -43,7 +50,13 @@ impl<N: BootName> Machine<N> {
             at,
             unit,
         );
-        self.watch.returned(at);
+        make_step(
+            tables,
+            &mut self.past,
+            &mut self.watch,
+            Action::Return { frame: at },
+            Answer::Done,
+        );
         self.counts = self.counts.with_freeze();
         let pages = order.frames();
         self.notes.note_unit(group, at, pages);

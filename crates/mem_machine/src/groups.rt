@@ -6,104 +6,146 @@ ghost use Rattle.group_tree.specs.Groups.{has_group, has_child, make_fault};
 ghost use Rattle.group_charge.specs.Charges.{current_of, SameUsage, with_group_limit, with_group_removed};
 ghost use Rattle.group_charge.specs.Charges.{with_oom_flag, with_group_kill_noted, with_kill_noted, with_max_noted};
 ghost use Rattle.group_charge.specs.Charges.{with_oom_noted};
-ghost use Rattle.mem_machine.specs.Machines.{is_killed, AddsGroup, Visits};
-ghost use Rattle.mem_machine.specs.Local.{Makes, MakesForAny, visit_state};
+ghost use Rattle.mem_machine.specs.Machines.{is_killed, AddsGroup};
+ghost use Rattle.mem_machine.specs.Local.{Makes, MakesForAny, SomeShown, StaysVisited, Visits, visit_state};
 ghost use Rattle.mem_machine.specs.Steps.{kill_steps, note_group_kill_steps, note_max_steps, note_oom_steps};
 ghost use Rattle.mem_machine.specs.Steps.{make_steps, remove_steps, set_max_steps, set_oom_group_steps};
 
 use crate::machine::Machine;
 use crate::proving::{prove_charges, prove_tied};
-use cpu_part::{BootName, Cpu};
+use crate::stepping::make_step;
+use cpu_part::{BootName, Cpu, Tables};
 use group_tree::fault::Fault;
 use group_tree::group::GroupId;
+use group_tree::path::PathText;
 use step_rules::step::{Action, Answer};
 
 impl<N: BootName> Machine<N> {
     /// Notes that a group's usage was about to exceed its limit: one more `max` in its events and its ancestors'
     /// events, and in its local events.
-    pub fn note_max(&mut self, group: GroupId)
-        requires { IsTrue (has_group self.old.ledger.groups group) }
+    pub fn note_max(&mut self, tables: &Tables<N>, group: GroupId)
+        requires there { IsTrue (has_group self.old.ledger.groups group) }
+        requires shown { SomeShown N.frames self.old }
         ensures machine { self.new ≡ record self.old {
           ledger = with_max_noted self.old.ledger group;
-          watch = self.new.watch;
+          run = self.new.run;
         } }
+        ensures visit { StaysVisited N.frames self.old self.new }
         ensures steps { MakesForAny N.frames self.old (note_max_steps group) self.new }
     {
         self.charges.note_max(group);
-        self.watch
-            .zone_made(Action::NoteMax { group }, Answer::Done);
+        make_step(
+            tables,
+            &mut self.past,
+            &mut self.watch,
+            Action::NoteMax { group },
+            Answer::Done,
+        );
     }
 
     /// Notes that only kills are left to keep a group within its limit: one more `oom` in its events and its ancestors'
     /// events, and in its local events.
-    pub fn note_oom(&mut self, group: GroupId)
-        requires { IsTrue (has_group self.old.ledger.groups group) }
+    pub fn note_oom(&mut self, tables: &Tables<N>, group: GroupId)
+        requires there { IsTrue (has_group self.old.ledger.groups group) }
+        requires shown { SomeShown N.frames self.old }
         ensures machine { self.new ≡ record self.old {
           ledger = with_oom_noted self.old.ledger group;
-          watch = self.new.watch;
+          run = self.new.run;
         } }
         ensures usage { SameUsage self.old.ledger self.new.ledger }
+        ensures visit { StaysVisited N.frames self.old self.new }
         ensures steps { MakesForAny N.frames self.old (note_oom_steps group) self.new }
     {
         self.charges.note_oom(group);
-        self.watch
-            .zone_made(Action::NoteOom { group }, Answer::Done);
+        make_step(
+            tables,
+            &mut self.past,
+            &mut self.watch,
+            Action::NoteOom { group },
+            Answer::Done,
+        );
     }
 
     /// Kills a group that isn't killed: nothing can be charged to it until it is removed. That is one more `oom_kill`
     /// in its events and its ancestors' events, and in its local events. Its stocks and its kept units stay as they
     /// are.
-    pub fn mark_killed(&mut self, group: GroupId)
+    pub fn mark_killed(&mut self, tables: &Tables<N>, group: GroupId)
         requires there { IsTrue (has_group self.old.ledger.groups group) }
         requires alive { is_killed self.old.killed group ≡ false }
+        requires shown { SomeShown N.frames self.old }
         ensures machine { self.new ≡ record self.old {
           ledger = with_kill_noted self.old.ledger group;
           killed = slice_set self.old.killed group true;
-          watch = self.new.watch;
+          run = self.new.run;
         } }
         ensures usage { SameUsage self.old.ledger self.new.ledger }
+        ensures visit { StaysVisited N.frames self.old self.new }
         ensures steps { MakesForAny N.frames self.old (kill_steps group) self.new }
     {
         self.charges.note_kill(group);
         self.killed[group.number() as usize] = true;
-        self.watch.zone_made(Action::Kill { group }, Answer::Done);
+        make_step(
+            tables,
+            &mut self.past,
+            &mut self.watch,
+            Action::Kill { group },
+            Answer::Done,
+        );
     }
 
     /// Notes that a group other than the root was killed as a whole, with all groups below it. That is one more
     /// `oom_group_kill` in its events and its ancestors' events, and in its local events.
-    pub fn note_group_kill(&mut self, group: GroupId)
+    pub fn note_group_kill(&mut self, tables: &Tables<N>, group: GroupId)
         requires there { IsTrue (has_group self.old.ledger.groups group) }
         requires below_root { group ≢ 0 }
+        requires shown { SomeShown N.frames self.old }
         ensures machine { self.new ≡ record self.old {
           ledger = with_group_kill_noted self.old.ledger group;
-          watch = self.new.watch;
+          run = self.new.run;
         } }
         ensures usage { SameUsage self.old.ledger self.new.ledger }
+        ensures visit { StaysVisited N.frames self.old self.new }
         ensures steps { MakesForAny N.frames self.old (note_group_kill_steps group) self.new }
     {
         self.charges.note_group_kill(group);
-        self.watch
-            .zone_made(Action::NoteGroupKill { group }, Answer::Done);
+        make_step(
+            tables,
+            &mut self.past,
+            &mut self.watch,
+            Action::NoteGroupKill { group },
+            Answer::Done,
+        );
     }
 
     /// Makes a group, as `Tree::make` does. It has no pages, peak 0 and all counts 0, and isn't killed.
-    pub fn make(&mut self, path: &[u8]) -> Result<GroupId, Fault>
+    pub fn make(&mut self, tables: &Tables<N>, path: &[u8]) -> Result<GroupId, Fault>
+        requires shown { SomeShown N.frames self.old }
         ensures made { IfOk result (λ number. AddsGroup number path.now self.old self.new) }
         ensures refused { result_err result ≡ make_fault self.old.ledger.groups path.now }
         ensures unchanged { OnErr result (self.new ≡ self.old) }
+        ensures visit { StaysVisited N.frames self.old self.new }
         ensures steps { IfOk result (λ number. MakesForAny N.frames self.old (make_steps path.now number) self.new) }
     {
         prove_charges(&self.charges);
         let group = self.charges.make(path)?;
         let number = group.number();
         self.killed[number as usize] = false;
-        self.watch.group_made(path, group);
+        let Some(path) = PathText::of(path) else {
+            unreachable!()
+        };
+        make_step(
+            tables,
+            &mut self.past,
+            &mut self.watch,
+            Action::Make { path },
+            Answer::Number(group),
+        );
         Ok(group)
     }
 
     /// Removes an existing group other than the root, if it has no child and nothing charged. The CPU has been settled:
     /// it has no fresh frame.
-    pub fn remove(&mut self, cpu: &Cpu<N>, group: GroupId)
+    pub fn remove(&mut self, tables: &Tables<N>, cpu: &Cpu<N>, group: GroupId)
         requires visit { Visits N.frames (visit_state self.old cpu.now) }
         requires there { IsTrue (has_group self.old.ledger.groups group) }
         requires leaf { has_child self.old.ledger.groups group ≡ false }
@@ -112,44 +154,65 @@ impl<N: BootName> Machine<N> {
         requires none_fresh { cpu.now.fresh ≡ [] }
         ensures machine { self.new ≡ record self.old {
           ledger = with_group_removed self.old.ledger group;
-          watch = self.new.watch;
+          run = self.new.run;
         } }
+        ensures visit { Visits N.frames (visit_state self.new cpu.now) }
         ensures steps { Makes N.frames (visit_state self.old cpu.now) (remove_steps group)
             (visit_state self.new cpu.now) }
     {
         prove_tied(cpu);
         prove_charges(&self.charges);
         self.charges.remove(group);
-        self.watch.zone_made(Action::Remove { group }, Answer::Done);
+        make_step(
+            tables,
+            &mut self.past,
+            &mut self.watch,
+            Action::Remove { group },
+            Answer::Done,
+        );
     }
 
     /// Gives a group other than the root another limit, in pages; None means no limit. Only later charges obey it.
-    pub fn set_max(&mut self, group: GroupId, limit: Option<u32>)
+    pub fn set_max(&mut self, tables: &Tables<N>, group: GroupId, limit: Option<u32>)
         requires there { IsTrue (has_group self.old.ledger.groups group) }
         requires below_root { group ≢ 0 }
+        requires shown { SomeShown N.frames self.old }
         ensures machine { self.new ≡ record self.old {
           ledger = with_group_limit self.old.ledger group limit;
-          watch = self.new.watch;
+          run = self.new.run;
         } }
+        ensures visit { StaysVisited N.frames self.old self.new }
         ensures steps { MakesForAny N.frames self.old (set_max_steps group limit) self.new }
     {
         self.charges.set_max(group, limit);
-        self.watch
-            .zone_made(Action::SetMax { group, limit }, Answer::Done);
+        make_step(
+            tables,
+            &mut self.past,
+            &mut self.watch,
+            Action::SetMax { group, limit },
+            Answer::Done,
+        );
     }
 
     /// Sets whether a group other than the root is killed as a whole (memory.oom.group). Only later kills read it.
-    pub fn set_oom_group(&mut self, group: GroupId, oom_group: bool)
+    pub fn set_oom_group(&mut self, tables: &Tables<N>, group: GroupId, oom_group: bool)
         requires there { IsTrue (has_group self.old.ledger.groups group) }
         requires below_root { group ≢ 0 }
+        requires shown { SomeShown N.frames self.old }
         ensures machine { self.new ≡ record self.old {
           ledger = with_oom_flag self.old.ledger group oom_group;
-          watch = self.new.watch;
+          run = self.new.run;
         } }
+        ensures visit { StaysVisited N.frames self.old self.new }
         ensures steps { MakesForAny N.frames self.old (set_oom_group_steps group oom_group) self.new }
     {
         self.charges.set_oom_group(group, oom_group);
-        self.watch
-            .zone_made(Action::SetFlag { group, oom_group }, Answer::Done);
+        make_step(
+            tables,
+            &mut self.past,
+            &mut self.watch,
+            Action::SetFlag { group, oom_group },
+            Answer::Done,
+        );
     }
 }

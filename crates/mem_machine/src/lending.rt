@@ -4,7 +4,7 @@ ghost use Rattle.std.specs.Prelude.{◌≡◌, ◌<◌, ◌≤◌, [], length, t
 ghost use Rattle.zone_blocks.specs.Areas.{HasNoneFrom};
 ghost use Rattle.mem_machine.specs.declared.frame_state.FrameState.TheVariants.{Free};
 ghost use Rattle.mem_machine.specs.FrameStates.{frame_state_at};
-ghost use Rattle.mem_machine.specs.Machines.{Visits};
+ghost use Rattle.mem_machine.specs.Local.{Visits};
 ghost use Rattle.mem_machine.specs.Lending.{HasListRoom, LendsIfFree, LendsFrame, Refills};
 ghost use Rattle.mem_machine.specs.Lending.{UnlistsIfListed, UnlistsMany, unlist_front_steps};
 ghost use Rattle.mem_machine.specs.Local.{Makes, visit_state};
@@ -31,16 +31,16 @@ impl<N: BootName> Machine<N> {
         let Some(block) = self.zone.take(Order::of(0).unwrap()) else {
             return false;
         };
-        let Some(frame) = tables.frames.frame(block.at) else {
+        let Some(frame) = tables.words.frame(block.at) else {
             unreachable!()
         };
         let at = frame.number();
         tables
-            .frames
-            .pass_out(&mut self.frame_seat, frame, cpu_number);
+            .words
+            .pass_out(&mut self.past, &mut self.frame_seat, frame, cpu_number);
         self.watch.passed_out(at, cpu_number);
         self.frame_states[at as usize] = FrameState::Lent(cpu_number as u8);
-        cpu.take_in(tables, &mut self.frame_seat, frame);
+        cpu.take_in(tables, &mut self.past, &mut self.frame_seat, frame);
         self.watch.took_in(cpu_number, at);
         true
     }
@@ -80,11 +80,11 @@ impl<N: BootName> Machine<N> {
         let given = frame.number();
         self.zone.take_frame(given);
         tables
-            .frames
-            .pass_out(&mut self.frame_seat, frame, cpu_number);
+            .words
+            .pass_out(&mut self.past, &mut self.frame_seat, frame, cpu_number);
         self.watch.passed_out(given, cpu_number);
         self.frame_states[given as usize] = FrameState::Lent(cpu_number as u8);
-        cpu.take_in(tables, &mut self.frame_seat, frame);
+        cpu.take_in(tables, &mut self.past, &mut self.frame_seat, frame);
         self.watch.took_in(cpu_number, given);
     }
 
@@ -96,12 +96,12 @@ impl<N: BootName> Machine<N> {
         ensures visit { Visits N.frames (visit_state self.new cpu.new) }
     {
         let cpu_number = cpu.number();
-        let Some(frame) = cpu.pass_front(tables, &mut self.frame_seat) else {
+        let Some(frame) = cpu.pass_front(tables, &mut self.past, &mut self.frame_seat) else {
             return false;
         };
         let at = frame.number();
         self.watch.passed_back(cpu_number, at);
-        cpu.collect(tables, &mut self.frame_seat, frame);
+        cpu.collect(tables, &mut self.past, &mut self.frame_seat, frame);
         self.watch.collected(at, cpu_number);
         self.frame_states[at as usize] = FrameState::Free;
         self.zone.give(Block {

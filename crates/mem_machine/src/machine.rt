@@ -1,17 +1,17 @@
 //! The machine: what it holds, how it is made, and how it is taken apart.
 
 ghost use Rattle.std.specs.Prelude.{◌≡◌, IfOk};
-ghost use Rattle.frame_word.specs.Seats.{first_zone_view};
 ghost use Rattle.step_watch.specs.Watched.{watch_off};
-ghost use Rattle.stock_word.specs.Stock.{first_zone_stock_view};
+ghost use Rattle.boot_words.specs.Opening.{zone_seats};
+ghost use Rattle.mem_machine.specs.Resting.{Rests};
 ghost use Rattle.mem_machine.specs.Machines.{IsConsistent, IsFirst};
 
 use crate::booked_seat::BookedSeat;
 use crate::counts::Counts;
 use crate::frame_state::FrameState;
 use crate::start::{frame_parts, group_parts};
+use boot_words::{FrameSeat, OwnSeats, PastSeat, StockSeat};
 use cpu_part::{BootName, Tables};
-use frame_word::FrameSeat;
 use group_charge::charges::Charges;
 use group_charge::notes::Notes;
 use lru_lists::links::Links;
@@ -19,7 +19,6 @@ use lru_lists::lru::Lru;
 use std::alloc::{AllocError, Global};
 use std::marker::{Model, PhantomData};
 use step_watch::Watch;
-use stock_word::StockSeat;
 use zone_blocks::buddy::Buddy;
 
 /// All that lies behind the zone's lock. `IsConsistent` says what always holds of its parts together.
@@ -48,6 +47,8 @@ pub struct Machine<N: BootName> {
     // The notes since the last `forget_notes`: limits without room, what was tried there, which units were reclaimed,
     // and who was killed.
     pub(crate) notes: Notes,
+    // The zone's past, which has that of the lock's holder too while the lock is held.
+    pub(crate) past: PastSeat,
     // Takes each step of the zone's seat and of the CPU that holds the lock, right behind the step.
     pub(crate) watch: Watch,
     // The boot whose tables these are.
@@ -67,22 +68,26 @@ impl<N: BootName> Model for Machine<N> {
 }
 
 impl<N: BootName> Machine<N> {
-    /// The machine of a new boot, from the zone's two seats, which have done nothing yet. All frames are free, and only
+    /// The machine of a new boot, from the zone's seats, which have done nothing yet. All frames are free, and only
     /// the root exists. The watch is off. This call reserves all memory that later calls need; it returns `AllocError`
     /// if memory runs out.
     pub fn new(
         alloc: Global,
         tables: &Tables<N>,
-        frame_seat: FrameSeat,
-        stock_seat: StockSeat,
+        seats: OwnSeats,
     ) -> Result<Machine<N>, AllocError>
-        requires frame_seat { frame_seat ≡ record { table = N.frames.table; view = first_zone_view N.frames.frames } }
-        requires stock_seat { stock_seat ≡ record { table = N.stocks.table; view = first_zone_stock_view } }
+        requires seats { seats ≡ zone_seats N.frames.table N.frames.frames }
         requires cpus { N.stocks.cpus ≡ N.frames.cpus }
         ensures first { IfOk result (λ machine. IsFirst N.frames N.stocks machine) }
-        ensures off { IfOk result (λ machine. machine.watch ≡ watch_off) }
+        ensures off { IfOk result (λ machine. machine.run.watch ≡ watch_off) }
+        ensures rests { IfOk result (λ machine. Rests N.frames machine) }
     {
-        let (zone, frame_states, links) = frame_parts(alloc, tables.frames.frames())?;
+        let OwnSeats {
+            past,
+            frames: frame_seat,
+            stocks: stock_seat,
+        } = seats;
+        let (zone, frame_states, links) = frame_parts(alloc, tables.words.frames())?;
         let (charges, lists, killed) = group_parts(alloc)?;
         let notes = Notes::new(alloc)?;
         Ok(Machine {
@@ -102,16 +107,17 @@ impl<N: BootName> Machine<N> {
                 misses: 0,
             },
             notes,
+            past,
             watch: Watch::off(),
             of: PhantomData,
         })
     }
 
-    /// Takes the machine apart, so that the two tables can end: returns the zone's seats at the frames' and the stocks'
-    /// tables.
-    pub fn into_seats(self) -> (FrameSeat, StockSeat)
-        ensures frame_seat { result.0 ≡ self.frame_seat }
-        ensures stock_seat { result.1 ≡ self.stock_seat }
+    /// Takes the machine apart, so that the table can end: returns the zone's seats.
+    pub fn into_seats(self) -> OwnSeats
+        ensures past { result.past ≡ self.run.past }
+        ensures frame_seat { result.frames ≡ self.frame_seat }
+        ensures stock_seat { result.stocks ≡ self.stock_seat }
         ensures consistent { IsConsistent N.frames N.stocks self }
     {
         let Machine {
@@ -125,9 +131,14 @@ impl<N: BootName> Machine<N> {
             killed: _,
             counts: _,
             notes: _,
+            past,
             watch: _,
             of: _,
         } = self;
-        (frame_seat, stock_seat.into_seat())
+        OwnSeats {
+            past,
+            frames: frame_seat,
+            stocks: stock_seat.into_seat(),
+        }
     }
 }

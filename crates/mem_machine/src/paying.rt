@@ -1,7 +1,7 @@
 //! What the lock's holder can pay with: the pages of its own stock, and the room for more charges.
 
 ghost use Rattle.std.specs.Prelude.{◌≡◌, ℕ, ◌<◌, ◌≤◌, [], length};
-ghost use Rattle.mem_machine.specs.Machines.{Visits};
+ghost use Rattle.mem_machine.specs.Local.{Visits};
 ghost use Rattle.mem_machine.specs.Paying.{HasRoomFor, HoldsPage, IsOfSize, IsOwnStock, PaysForFront};
 ghost use Rattle.mem_machine.specs.Showing.{stock_now};
 ghost use Rattle.mem_machine.specs.Stocks.{with_look};
@@ -52,7 +52,7 @@ impl<N: BootName> Machine<N> {
             (take_front_steps cpu.old.number group) (visit_state self.new cpu.new) }
     {
         let cpu_number = cpu.number();
-        let frame = self.stock_seat.take_front(tables, cpu, group);
+        let frame = self.stock_seat.take_front(tables, cpu, &mut self.past, group);
         self.watch.consumed(cpu_number, group);
         frame
     }

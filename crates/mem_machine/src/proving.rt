@@ -22,9 +22,8 @@ pub fn prove_sizes<N: BootName>(tables: &Tables<N>)
     ensures cpus { N.frames.cpus < 2 ^ 32 }
     ensures few { N.stocks.cpus ≤ 64 }
 {
-    let _frames = tables.frames.frames();
-    let _cpus = tables.frames.cpus();
-    let _few = tables.stocks.cpus();
+    let _frames = tables.words.frames();
+    let _cpus = tables.words.cpus();
 }
 
 /// Shows that a group's number is below 64.

@@ -1,7 +1,8 @@
 //! Releasing kept units.
 
 ghost use Rattle.std.specs.Prelude.{◌<◌};
-ghost use Rattle.mem_machine.specs.Machines.{HeadsKeptUnit, StaysVisited, Visits};
+ghost use Rattle.mem_machine.specs.Machines.{HeadsKeptUnit};
+ghost use Rattle.mem_machine.specs.Local.{SomeShown, StaysVisited, Visits};
 ghost use Rattle.mem_machine.specs.Releasing.{Releases, release_steps};
 ghost use Rattle.mem_machine.specs.Local.{Makes, MakesForAny, visit_state};
 
@@ -9,8 +10,10 @@ use crate::frame_state::FrameState;
 use crate::freed::free_unit;
 use crate::lists::leave_list;
 use crate::machine::Machine;
+use crate::stepping::make_step;
 use cpu_part::{BootName, Cpu, Tables};
 use frame_word::{Frame, Put};
+use step_rules::step::{Action, Answer};
 
 /// What a release left.
 #[derive(Clone, Copy, Debug, PartialEq, Eq)]
@@ -28,13 +31,17 @@ impl<N: BootName> Machine<N> {
     pub fn put_zone_reference(&mut self, tables: &Tables<N>, head: Frame) -> Released
         requires frame { head < N.frames.frames }
         requires kept { HeadsKeptUnit self.old head }
+        requires shown { SomeShown N.frames self.old }
         ensures releases { Releases head result self.old self.new }
         ensures visit { StaysVisited N.frames self.old self.new }
         ensures steps { MakesForAny N.frames self.old (release_steps head result) self.new }
     {
         let at = head.number();
         leave_list(&mut self.links, &mut self.lists, at);
-        match tables.frames.put(&mut self.frame_seat, head) {
+        match tables
+            .words
+            .put_held(&mut self.past, &mut self.frame_seat, head)
+        {
             Put::Left(left) => {
                 self.watch.put_left(at, left as u32);
                 Released::Left(left)
@@ -51,7 +58,13 @@ impl<N: BootName> Machine<N> {
                     at,
                     unit,
                 );
-                self.watch.returned(at);
+                make_step(
+                    tables,
+                    &mut self.past,
+                    &mut self.watch,
+                    Action::Return { frame: at },
+                    Answer::Done,
+                );
                 self.counts = self.counts.with_last_put();
                 Released::Returned
             }

@@ -2,7 +2,8 @@
 
 ghost use Rattle.std.specs.Prelude.{◌≡◌, ◌≢◌, ◌<◌, [], true, Some};
 ghost use Rattle.stock_word.specs.Stock.{group_of};
-ghost use Rattle.mem_machine.specs.Machines.{Visits, is_killed};
+ghost use Rattle.mem_machine.specs.Machines.{is_killed};
+ghost use Rattle.mem_machine.specs.Local.{Visits};
 ghost use Rattle.mem_machine.specs.Local.{Makes, visit_state};
 ghost use Rattle.mem_machine.specs.Settling.{KeepsFresh, DropsFresh, SettlesNext, SettlesAllFresh, Settles};
 ghost use Rattle.mem_machine.specs.Settling.{ReturnsNext, ReturnsAllBack, LeavesOthers};
@@ -14,10 +15,12 @@ use crate::frame_state::FrameState;
 use crate::freed::free_unit;
 use crate::lists::join_list;
 use crate::machine::Machine;
+use crate::stepping::make_step;
 use cpu_part::{BootName, Cpu, Tables};
 use frame_word::Frame;
 use group_tree::group::GroupId;
 use step_rules::phase::ChargedUnit;
+use step_rules::step::{Action, Answer};
 use step_watch::Watch;
 use zone_blocks::order::Order;
 
@@ -45,15 +48,23 @@ impl<N: BootName> Machine<N> {
         let cpu_number = cpu.number();
         let frame = self
             .stock_seat
-            .collect_fresh(tables, cpu, &mut self.frame_seat, group);
+            .collect_fresh(tables, cpu, &mut self.past, &mut self.frame_seat, group);
         let at = frame.number();
         watch_collected(&mut self.watch, cpu_number, at);
-        tables.frames.unfreeze(&mut self.frame_seat, frame, 1);
+        tables
+            .words
+            .unfreeze(&mut self.past, &mut self.frame_seat, frame, 1);
         self.watch.unfroze(at, 1);
         let order = Order::of(0).unwrap();
         self.frame_states[at as usize] = FrameState::Head(ChargedUnit { group, order });
         join_list(&mut self.links, &mut self.lists, group, at);
-        self.watch.published(at);
+        make_step(
+            tables,
+            &mut self.past,
+            &mut self.watch,
+            Action::Publish { frame: at },
+            Answer::Done,
+        );
         frame
     }
 
@@ -71,7 +82,7 @@ impl<N: BootName> Machine<N> {
         let cpu_number = cpu.number();
         let frame = self
             .stock_seat
-            .collect_fresh(tables, cpu, &mut self.frame_seat, group);
+            .collect_fresh(tables, cpu, &mut self.past, &mut self.frame_seat, group);
         let at = frame.number();
         watch_collected(&mut self.watch, cpu_number, at);
         let order = Order::of(0).unwrap();
@@ -83,7 +94,13 @@ impl<N: BootName> Machine<N> {
             at,
             unit,
         );
-        self.watch.returned(at);
+        make_step(
+            tables,
+            &mut self.past,
+            &mut self.watch,
+            Action::Return { frame: at },
+            Answer::Done,
+        );
         self.counts = self.counts.with_killed_fresh();
         frame
     }
@@ -96,12 +113,12 @@ impl<N: BootName> Machine<N> {
         ensures steps { MakesReturnSteps N.frames result (visit_state self.old cpu.old) (visit_state self.new cpu.new) }
     {
         let cpu_number = cpu.number();
-        let Some(frame) = cpu.pass_back_unit(tables, &mut self.frame_seat) else {
+        let Some(frame) = cpu.pass_back_unit(tables, &mut self.past, &mut self.frame_seat) else {
             return None;
         };
         let at = frame.number();
         self.watch.passed_back(cpu_number, at);
-        cpu.collect(tables, &mut self.frame_seat, frame);
+        cpu.collect(tables, &mut self.past, &mut self.frame_seat, frame);
         self.watch.collected(at, cpu_number);
         let FrameState::Head(unit) = self.frame_states[at as usize] else {
             unreachable!()
@@ -113,7 +130,13 @@ impl<N: BootName> Machine<N> {
             at,
             unit,
         );
-        self.watch.returned(at);
+        make_step(
+            tables,
+            &mut self.past,
+            &mut self.watch,
+            Action::Return { frame: at },
+            Answer::Done,
+        );
         self.counts = self.counts.with_last_put();
         Some(frame)
     }

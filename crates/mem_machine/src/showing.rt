@@ -2,7 +2,8 @@
 
 ghost use Rattle.std.specs.Prelude.{◌≡◌, ◌<◌, []};
 ghost use Rattle.frame_word.specs.ReferenceRule.{most_references};
-ghost use Rattle.mem_machine.specs.Machines.{HeadsKeptUnit, StaysVisited};
+ghost use Rattle.mem_machine.specs.Machines.{HeadsKeptUnit};
+ghost use Rattle.mem_machine.specs.Local.{StaysVisited};
 ghost use Rattle.mem_machine.specs.Showing.{entries_in, with_look_at};
 ghost use Rattle.mem_machine.specs.Local.{MakesForAny};
 
@@ -32,6 +33,6 @@ impl<N: BootName> Machine<N> {
         ensures visit { StaysVisited N.frames self.old self.new }
         ensures steps { MakesForAny N.frames self.old [] self.new }
     {
-        tables.frames.references(&mut self.frame_seat, head) as u32 - 1
+        tables.words.references(&mut self.frame_seat, head) as u32 - 1
     }
 }

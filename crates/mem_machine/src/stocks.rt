@@ -2,7 +2,8 @@
 
 ghost use Rattle.std.specs.Prelude.{◌≡◌, ◌<◌, [], Some, IsTrue, OnOk, OnErr, IfErr};
 ghost use Rattle.group_tree.specs.Groups.{has_group, in_subtree};
-ghost use Rattle.mem_machine.specs.Machines.{IsCpuOf, LacksRoom, OnlyWatches, Visits};
+ghost use Rattle.mem_machine.specs.Machines.{IsCpuOf, LacksRoom, OnlyWatches};
+ghost use Rattle.mem_machine.specs.Local.{SomeShown, StaysVisited, Visits};
 ghost use Rattle.mem_machine.specs.Stocks.{IsDrained, AreDrained, AreOwnDrained, FitsStock, stock_group, of_group};
 ghost use Rattle.mem_machine.specs.Stocks.{of_subtree, Drains, DrainsBy, DrainsIf, DrainsBySteps, DrainsNoted};
 ghost use Rattle.mem_machine.specs.Stocks.{DrainsGroup, DrainsSubtree, Fills, Prepays, IsOver, RefusesGrant};
@@ -13,11 +14,13 @@ ghost use Rattle.mem_machine.specs.Steps.{drain_steps, fill_steps};
 
 use crate::machine::Machine;
 use crate::proving::{prove_charges, prove_groups};
+use crate::stepping::make_step;
 use cpu_part::{BootName, Cpu, Tables};
 use group_charge::charges::Over;
 use group_charge::note::Note;
 use group_tree::group::GroupId;
 use group_tree::tree::Tree;
+use step_rules::step::{Action, Answer};
 
 // Whether `other` is `group` or a descendant of it. Another group that is no deeper is neither, and most stocks are of
 // such a group: the depths spare the walk up from it.
@@ -42,16 +45,24 @@ impl<N: BootName> Machine<N> {
     fn drain_of(&mut self, tables: &Tables<N>, cpu: u32, group: GroupId) -> u32
         requires cpu { IsCpuOf N.frames cpu }
         requires group { stock_group self.old cpu ≡ Some group }
+        requires shown { SomeShown N.frames self.old }
         ensures drains { DrainsBy 2 cpu result self.old self.new }
         ensures steps { MakesForAny N.frames self.old
             (drain_steps cpu (stock_group self.old cpu) result) self.new }
+        ensures visit { StaysVisited N.frames self.old self.new }
     {
         prove_charges(&self.charges);
-        let pages = self.stock_seat.drain(tables, cpu, group);
+        let pages = self.stock_seat.drain(tables, &mut self.past, cpu, group);
         self.watch.drained(cpu, pages as u128);
         if pages > 0 {
             self.charges.uncharge(group, pages);
-            self.watch.ungranted(group, pages);
+            make_step(
+                tables,
+                &mut self.past,
+                &mut self.watch,
+                Action::Ungrant { group, pages },
+                Answer::Done,
+            );
         }
         pages
     }
@@ -61,9 +72,11 @@ impl<N: BootName> Machine<N> {
     fn drain_noted(&mut self, tables: &Tables<N>, cpu: u32, group: GroupId) -> u32
         requires cpu { IsCpuOf N.frames cpu }
         requires group { stock_group self.old cpu ≡ Some group }
+        requires shown { SomeShown N.frames self.old }
         ensures drains { DrainsNoted 2 cpu result self.old self.new }
         ensures steps { MakesForAny N.frames self.old
             (drain_steps cpu (stock_group self.old cpu) result) self.new }
+        ensures visit { StaysVisited N.frames self.old self.new }
     {
         let pages = self.drain_of(tables, cpu, group);
         self.notes.note(Note::Stock { cpu, pages });
@@ -74,12 +87,15 @@ impl<N: BootName> Machine<N> {
     /// the stock, nor charged to its group. That CPU may go on with its own calls meanwhile.
     pub fn drain_stock(&mut self, tables: &Tables<N>, cpu: u32) -> u32
         requires cpu { IsCpuOf N.frames cpu }
+        requires shown { SomeShown N.frames self.old }
         ensures drains { Drains cpu result self.old self.new }
         ensures steps { MakesForAny N.frames self.old
             (drain_steps cpu (stock_group self.old cpu) result) self.new }
+        ensures visit { StaysVisited N.frames self.old self.new }
     {
         match self.stock_seat.group(tables, cpu) {
             None => {
+                self.stock_seat.drain_none(tables, &mut self.past, cpu);
                 self.watch.drained(cpu, 0);
                 0
             }
@@ -89,7 +105,7 @@ impl<N: BootName> Machine<N> {
 
     // Whether `other` exists and is `group` or a descendant of it.
     fn is_in_subtree(&self, group: GroupId, other: GroupId) -> bool
-        requires { IsTrue (has_group self.now.ledger.groups group) }
+        requires there { IsTrue (has_group self.now.ledger.groups group) }
         ensures { result ≡ in_subtree self.now.ledger.groups group other }
     {
         let tree = self.charges.tree();
@@ -101,7 +117,9 @@ impl<N: BootName> Machine<N> {
     fn drain_if_in_subtree(&mut self, tables: &Tables<N>, cpu: u32, group: GroupId) -> u32
         requires cpu { IsCpuOf N.frames cpu }
         requires there { IsTrue (has_group self.old.ledger.groups group) }
-        ensures { DrainsBySteps N.frames (DrainsIf (of_subtree group) cpu) result self.old self.new }
+        requires shown { SomeShown N.frames self.old }
+        ensures drains { DrainsBySteps N.frames (DrainsIf (of_subtree group) cpu) result self.old self.new }
+        ensures visit { StaysVisited N.frames self.old self.new }
     {
         match self.stock_seat.group(tables, cpu) {
             None => 0,
@@ -115,11 +133,13 @@ impl<N: BootName> Machine<N> {
     /// once at the stock of each CPU.
     pub fn drain_stocks(&mut self, tables: &Tables<N>, group: GroupId) -> u64
         requires there { IsTrue (has_group self.old.ledger.groups group) }
+        requires shown { SomeShown N.frames self.old }
         ensures drains { DrainsSubtree N.frames group result self.old self.new }
         ensures drained { AreDrained group N.frames.cpus self.new }
+        ensures visit { StaysVisited N.frames self.old self.new }
     {
         let mut pages = 0;
-        for cpu_index in 0..tables.frames.cpus() {
+        for cpu_index in 0..tables.words.cpus() {
             let cpu = cpu_index + 1;
             pages += u64::from(self.drain_if_in_subtree(tables, cpu, group));
         }
@@ -129,7 +149,9 @@ impl<N: BootName> Machine<N> {
     // Drains and notes the CPU's stock if it is of the group itself, and returns how many pages were in it.
     fn drain_if_own(&mut self, tables: &Tables<N>, cpu: u32, group: GroupId) -> u32
         requires cpu { IsCpuOf N.frames cpu }
-        ensures { DrainsBySteps N.frames (DrainsIf (of_group group) cpu) result self.old self.new }
+        requires shown { SomeShown N.frames self.old }
+        ensures drains { DrainsBySteps N.frames (DrainsIf (of_group group) cpu) result self.old self.new }
+        ensures visit { StaysVisited N.frames self.old self.new }
     {
         match self.stock_seat.group(tables, cpu) {
             None => 0,
@@ -142,11 +164,13 @@ impl<N: BootName> Machine<N> {
     /// no longer booked to the stocks, nor charged to the group, and each drain is noted. It looks once at the stock of
     /// each CPU.
     pub fn drain_group_stocks(&mut self, tables: &Tables<N>, group: GroupId) -> u64
+        requires shown { SomeShown N.frames self.old }
         ensures drains { DrainsGroup N.frames group result self.old self.new }
         ensures drained { AreOwnDrained group N.frames.cpus self.new }
+        ensures visit { StaysVisited N.frames self.old self.new }
     {
         let mut pages = 0;
-        for cpu_index in 0..tables.frames.cpus() {
+        for cpu_index in 0..tables.words.cpus() {
             let cpu = cpu_index + 1;
             pages += u64::from(self.drain_if_own(tables, cpu, group));
         }
@@ -182,11 +206,24 @@ impl<N: BootName> Machine<N> {
         prove_charges(&self.charges);
         if let Err(over) = self.charges.try_charge(group, pages) {
             let lowest = over.group;
-            self.watch.refused(group, pages, lowest);
+            make_step(
+                tables,
+                &mut self.past,
+                &mut self.watch,
+                Action::Grant { group, pages },
+                Answer::Over(lowest),
+            );
             return Err(over);
         }
-        self.watch.granted(group, pages);
-        self.stock_seat.fill(tables, cpu, group, pages);
+        make_step(
+            tables,
+            &mut self.past,
+            &mut self.watch,
+            Action::Grant { group, pages },
+            Answer::Granted,
+        );
+        self.stock_seat
+            .fill(tables, cpu, &mut self.past, group, pages);
         self.watch.filled(cpu_number, group, pages);
         Ok(())
     }

@@ -2,8 +2,8 @@
 
 ghost use Rattle.std.specs.Prelude.{◌≡◌};
 ghost use Rattle.frame_word.specs.Seats.{IsShut, NothingPasses, LentIsBorrowed, seat_with_visit};
-ghost use Rattle.mem_machine.specs.Machines.{Visits};
-ghost use Rattle.mem_machine.specs.Local.{Makes, visit_state};
+ghost use Rattle.mem_machine.specs.Local.{Visits};
+ghost use Rattle.mem_machine.specs.Local.{IsShown, Makes, visit_state};
 ghost use Rattle.mem_machine.specs.Steps.{open_steps, shut_steps};
 
 use crate::machine::Machine;
@@ -12,10 +12,11 @@ use cpu_part::{BootName, Cpu, Tables};
 impl<N: BootName> Machine<N> {
     /// Opens the visit of the CPU, which is shut. Frames are handed over and pages reported only inside a visit.
     pub fn open(&mut self, tables: &Tables<N>, cpu: &mut Cpu<N>)
-        requires { IsShut self.old.frame_seat cpu.old.number }
+        requires shut { IsShut self.old.frame_seat cpu.old.number }
+        requires shown { IsShown N.frames (visit_state self.old cpu.old) }
         ensures machine { self.new ≡ record self.old {
           frame_seat = seat_with_visit self.old.frame_seat cpu.old.number 1;
-          watch = self.new.watch;
+          run = self.new.run;
         } }
         ensures cpu { cpu.new ≡ cpu.old }
         ensures visits { Visits N.frames (visit_state self.new cpu.new) }
@@ -23,7 +24,7 @@ impl<N: BootName> Machine<N> {
             (visit_state self.new cpu.new) }
     {
         let cpu_number = cpu.number();
-        cpu.open(tables, &mut self.frame_seat);
+        cpu.open(tables, &mut self.past, &mut self.frame_seat);
         self.watch.visit_opened(cpu_number);
     }
 
@@ -32,17 +33,18 @@ impl<N: BootName> Machine<N> {
         requires { Visits N.frames (visit_state self.old cpu.old) }
         ensures machine { self.new ≡ record self.old {
           frame_seat = seat_with_visit self.old.frame_seat cpu.old.number 0;
-          watch = self.new.watch;
+          run = self.new.run;
         } }
         ensures cpu { cpu.new ≡ cpu.old }
         ensures shut { IsShut self.new.frame_seat cpu.new.number }
         ensures still { NothingPasses N.frames self.new.frame_seat cpu.new.frame_seat }
         ensures lent { LentIsBorrowed N.frames self.new.frame_seat cpu.new.frame_seat }
+        ensures shown { IsShown N.frames (visit_state self.new cpu.new) }
         ensures steps { Makes N.frames (visit_state self.old cpu.old) (shut_steps cpu.old.number)
             (visit_state self.new cpu.new) }
     {
         let cpu_number = cpu.number();
-        cpu.shut(tables, &mut self.frame_seat);
+        cpu.shut(tables, &mut self.past, &mut self.frame_seat);
         self.watch.visit_shut(cpu_number);
     }
 }

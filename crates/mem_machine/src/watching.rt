@@ -2,6 +2,7 @@
 
 ghost use Rattle.std.specs.Prelude.{◌≡◌, ◌∷◌, []};
 ghost use Rattle.step_watch.specs.Watched.{Watches};
+ghost use Rattle.mem_machine.specs.Machines.{with_watch};
 ghost use Rattle.mem_machine.specs.Steps.{cpu_makes};
 
 use crate::machine::Machine;
@@ -12,14 +13,14 @@ use step_watch::Watch;
 impl<N: BootName> Machine<N> {
     /// Puts a watch into the machine. A boot does this before its first step.
     pub fn set_watch(&mut self, watch: Watch)
-        ensures { self.new ≡ record self.old { watch = watch } }
+        ensures { self.new ≡ with_watch self.old watch }
     {
         self.watch = watch;
     }
 
     /// The watch, which took each step that the contracts of this machine's calls name.
     pub fn watch(&self) -> &Watch
-        ensures { result.now ≡ self.now.watch }
+        ensures { result.now ≡ self.now.run.watch }
     {
         &self.watch
     }
@@ -28,8 +29,8 @@ impl<N: BootName> Machine<N> {
     /// that the CPU makes without the lock. The machine stays as it is. A caller that is in a hurry first asks the
     /// watch whether it is on, because an action has room for a path.
     pub fn take_step(&mut self, cpu: u32, action: Action, answer: Answer)
-        ensures machine { self.new ≡ record self.old { watch = self.new.watch } }
-        ensures watched { Watches self.old.watch (cpu_makes cpu action answer ∷ []) self.new.watch }
+        ensures machine { self.new ≡ with_watch self.old self.new.run.watch }
+        ensures watched { Watches self.old.run.watch (cpu_makes cpu action answer ∷ []) self.new.run.watch }
     {
         self.watch.take(&Step { seat: cpu, action }, &answer);
     }

@@ -12,7 +12,8 @@ use Rattle.lru_lists.specs.declared.record.LruList.{LruList}
 use Rattle.lru_lists.specs.Queue.{link_at}
 use Rattle.lru_lists.specs.Lists.{SameOwners, owner_of}
 use Rattle.cpu_part.specs.Cpus.{KnownCpu}
-use Rattle.mem_machine.specs.Machines.{KnownMachine, Visits, home_of, visit_state}
+use Rattle.mem_machine.specs.Machines.{KnownMachine, home_of, visit_state}
+use Rattle.mem_machine.specs.Local.{Visits}
 use Rattle.mem_machine.specs.Evicting.{MissesUnit, EvictsUnit, Evicts}
 use Rattle.mem_reclaim.specs.Staying.{IsDirtyUnit, Keeps, OnlyLeave, IsMissed}
 use Rattle.mem_reclaim.proofs.Moving.{misses_rose, misses_stay}

@@ -14,7 +14,8 @@ use Rattle.mem_machine.specs.declared.releasing.Released.{Released}
 use Rattle.group_charge.specs.declared.note.Note.{Note}
 use Rattle.group_charge.specs.declared.note.Note.TheVariants as note
 use Rattle.step_watch.specs.Watched.{KnownWatch}
-use Rattle.mem_machine.specs.Machines.{HeadsKeptUnit, KnownMachine, Visits, active_in, home_of, inactive_in}
+use Rattle.mem_machine.specs.Machines.{HeadsKeptUnit, KnownMachine, active_in, home_of, inactive_in}
+use Rattle.mem_machine.specs.Local.{Visits}
 use Rattle.mem_machine.specs.Machines.{visit_state, with_watch}
 use Rattle.mem_machine.specs.Machines.{with_note}
 use Rattle.mem_machine.specs.Local.{MakesForAny}

@@ -9,7 +9,8 @@ use Rattle.lru_lists.specs.declared.record.LruList.{LruList}
 use Rattle.lru_lists.specs.Queue.{link_at}
 use Rattle.lru_lists.specs.Lists.{owner_of}
 use Rattle.cpu_part.specs.Cpus.{KnownCpu}
-use Rattle.mem_machine.specs.Machines.{HeadsKeptUnit, KnownMachine, Visits, home_of, visit_state}
+use Rattle.mem_machine.specs.Machines.{HeadsKeptUnit, KnownMachine, home_of, visit_state}
+use Rattle.mem_machine.specs.Local.{Visits}
 
 -- the frame heads a kept unit that is dirty
 pub record IsDirtyUnit (links : List Link) (frame : ℕ) : Type 0 where

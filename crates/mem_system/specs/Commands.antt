@@ -5,7 +5,7 @@ use Rattle.stock_word.specs.Stock.{KnownStockTable}
 use Rattle.cpu_part.specs.Cpus.{KnownCpu}
 use Rattle.zone_blocks.specs.declared.config.Config.{Config}
 use Rattle.zone_blocks.specs.Config.{IsValidConfig}
-use Rattle.mem_machine.specs.Machines.{Visits}
+use Rattle.mem_machine.specs.Local.{Visits}
 use Rattle.mem_machine.specs.Local.{VisitState}
 -- a call, described by the state before it, its steps and the state after it
 pub use Rattle.mem_machine.specs.Transitions.{Transition, transition, of_machine, OfMachine, OfMachineAlone, BySteps}

@@ -14,7 +14,8 @@ use Rattle.control_files.specs.Files.{name_of_file, file_text, is_writable}
 use Rattle.control_files.specs.Flag.{IsFlagText, IsNoFlagText}
 use Rattle.control_files.specs.Limit.{ReadsAmount, ReadsAs, IsTooGreat, IsNoAmountText, IsNoLimitText}
 use Rattle.step_rules.specs.After.{Run}
-use Rattle.mem_machine.specs.Machines.{KnownMachine, KeepsVisit, Visits, with_watch}
+use Rattle.mem_machine.specs.Machines.{KnownMachine, with_watch}
+use Rattle.mem_machine.specs.Local.{KeepsVisit, Visits}
 use Rattle.mem_machine.specs.Local.{visit_state}
 use Rattle.mem_machine.specs.Steps.{set_max_steps, set_oom_group_steps}
 use Rattle.mem_reclaim.specs.Moves.{FreesBySteps}

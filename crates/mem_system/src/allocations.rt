@@ -2,7 +2,7 @@
 
 ghost use Rattle.std.specs.Prelude.{◌≡◌, ℕ, IsTrue, Err};
 ghost use Rattle.group_tree.specs.Groups.{has_group};
-ghost use Rattle.mem_machine.specs.Machines.{KeepsVisit};
+ghost use Rattle.mem_machine.specs.Local.{KeepsVisit};
 ghost use Rattle.mem_machine.specs.Local.{visit_state, Makes};
 ghost use Rattle.mem_alloc.specs.declared.faults.AllocFault.TheVariants as cause_is;
 ghost use Rattle.mem_system.specs.Allocations.{Allocates, AllocatesAs, FreshOf, outcome_of};

@@ -1,7 +1,7 @@
 //! Making and removing groups.
 
 ghost use Rattle.std.specs.Prelude.{◌≡◌, ◌<◌, [], MatchResult};
-ghost use Rattle.mem_machine.specs.Machines.{KeepsVisit, Visits};
+ghost use Rattle.mem_machine.specs.Local.{KeepsVisit, Visits};
 ghost use Rattle.mem_system.specs.Leaves.{IsLeafAt, HasNoLeaf};
 ghost use Rattle.mem_system.specs.Outcomes.{ComesTo, ComesToForAny, HasItsGroups};
 ghost use Rattle.mem_system.specs.Groups.{MakesGroup, Removes};

@@ -4,7 +4,8 @@ use Rattle.group_tree.specs.Room.{PathHasRoom}
 use Rattle.group_charge.specs.Charges.{current_of}
 use Rattle.cpu_part.specs.Cpus.{KnownCpu}
 use Rattle.group_charge.specs.declared.note.Note.TheVariants.{Zone}
-use Rattle.mem_machine.specs.Machines.{KnownMachine, Visits, is_killed, with_note}
+use Rattle.mem_machine.specs.Machines.{KnownMachine, is_killed, with_note}
+use Rattle.mem_machine.specs.Local.{Visits}
 use Rattle.mem_machine.specs.Local.{visit_state}
 use Rattle.mem_alloc.specs.Blocks.{MakesTakeRounds, MayHaveBlock}
 use Rattle.mem_alloc.proofs.Rounding.{noted_visit, zone_noted}

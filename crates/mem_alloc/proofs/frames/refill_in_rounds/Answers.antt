@@ -1,6 +1,7 @@
 use Rattle.std.proofs.Common.{sym, subst}
 use Rattle.group_charge.specs.declared.note.Note.TheVariants.{Zone}
-use Rattle.mem_machine.specs.Machines.{KnownMachine, Visits}
+use Rattle.mem_machine.specs.Machines.{KnownMachine}
+use Rattle.mem_machine.specs.Local.{Visits}
 use Rattle.mem_machine.specs.Local.{visit_state}
 use Rattle.mem_alloc.specs.Frames.{MakesRefillRounds}
 use Rattle.mem_alloc.proofs.Rounding.{noted_visit, zone_noted}

@@ -4,7 +4,8 @@ use Rattle.mem_system.specs.Commands.{BySteps}
 use Rattle.mem_system.specs.Releases.{ReturnsFrames}
 use Rattle.mem_system.proofs.Listing.{returned_single, returned_block}
 use Rattle.mem_system.proofs.releases.release_frame.Goals.{then-is_single, else-is_single}
-use Rattle.mem_machine.specs.Machines.{KeepsVisit, KnownMachine}
+use Rattle.mem_machine.specs.Machines.{KnownMachine}
+use Rattle.mem_machine.specs.Local.{KeepsVisit}
 use Rattle.mem_machine.specs.Local.{visit_state, Makes}
 use Rattle.mem_system.proofs.releases.release_frame.Goals as goal
 

@@ -1,0 +1,42 @@
+//! Taking and releasing the machine's lock, in the run.
+
+ghost use Rattle.std.specs.Prelude.{◌≡◌, []};
+ghost use Rattle.cpu_part.specs.Known.{KnowsItsPart};
+ghost use Rattle.frame_word.specs.Seats.{IsShut, NothingPasses};
+ghost use Rattle.mem_machine.specs.Local.{IsShown, visit_state};
+ghost use Rattle.mem_machine.specs.Resting.{Rests};
+
+use crate::machine::Machine;
+use crate::proving::prove_tied;
+use boot_words::PastSeat;
+use cpu_part::{BootName, Cpu, Tables};
+
+impl<N: BootName> Machine<N> {
+    /// The CPU takes the lock, which is free. Its past, which it gives away, is the machine's until `unlock`. By the run it
+    /// sees what the machine and its own part show. The caller holds the mutex that keeps other CPUs out meanwhile.
+    pub fn lock(&mut self, tables: &Tables<N>, cpu: &Cpu<N>, past: &mut PastSeat)
+        requires rests { Rests N.frames self.old }
+        requires shut { IsShut self.old.frame_seat cpu.now.number }
+        requires knows { KnowsItsPart N.frames past.old cpu.now }
+        ensures machine { self.new ≡ record self.old { run = record (self.old.run) { past = self.new.run.past } } }
+        ensures shown { IsShown N.frames (visit_state self.new cpu.now) }
+        ensures given { past.new ≡ record { table = N.frames.table; pasts = [] } }
+    {
+        prove_tied(cpu);
+        tables.words.lock(&mut self.past, past);
+    }
+
+    /// The CPU releases the lock, and has its own past again. Its visit is shut, and it knows its own part as the machine's
+    /// calls left it.
+    pub fn unlock(&mut self, tables: &Tables<N>, cpu: &Cpu<N>, past: &mut PastSeat)
+        requires shown { IsShown N.frames (visit_state self.old cpu.now) }
+        requires shut { IsShut self.old.frame_seat cpu.now.number }
+        requires given { past.old ≡ record { table = N.frames.table; pasts = [] } }
+        ensures machine { self.new ≡ record self.old { run = record (self.old.run) { past = self.new.run.past } } }
+        ensures rests { Rests N.frames self.new }
+        ensures knows { KnowsItsPart N.frames past.new cpu.now }
+    {
+        prove_tied(cpu);
+        tables.words.unlock(&mut self.past, past);
+    }
+}
