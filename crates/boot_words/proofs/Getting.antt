@@ -18,13 +18,13 @@ use Rattle.step_rules.specs.After.{state_of}
 use Rattle.boot_words.specs.Runs.{OthersFollow}
 use Rattle.boot_words.specs.Words.{Words, IsRunOf, with_frame_word}
 use Rattle.boot_words.specs.Steps.{ChangesWords, frame_word_at}
-use Rattle.boot_words.proofs.Lasting.{fast_legality_lasts}
+use Rattle.boot_words.proofs.Lasting.{beginning_is_legal, fast_legality_lasts}
 use Rattle.boot_words.proofs.Stepping.{words_follow}
 use Rattle.boot_words.specs.declared.view.BootView.{BootView}
 use Rattle.boot_words.specs.declared.view.BootView.TheVariants.{OfFrames, OfRun}
 use Rattle.boot_words.specs.Rule.{AllOf, BootRule, FitsRun, frame_base, frames_in, words_in}
 use Rattle.boot_words.specs.Allowed.{AddIsAllowed, LookIsAllowed, AddsByOne, LooksByOne}
-use Rattle.boot_words.proofs.Growing.{grown, grown_fits}
+use Rattle.boot_words.proofs.Growing.{grown, grown_fits, grown_legal}
 use Rattle.boot_words.proofs.FrameSteps.{frame_kept, frame_step}
 use Rattle.boot_words.proofs.Lifting.{lift}
 use Rattle.boot_words.proofs.Parts.{frame_is_at, frame_reads, frame_same}
@@ -70,7 +70,7 @@ look_is_allowed {S} zone slots id f v p ne inside legal s k homes at small =
     let made_step : Step = record { seat = q; action = Get f } in
     let same : with_frame_word words f n ≡ words = frame_same zone f s.words in
     let refused : (answer : Answer) → get_answer n ≡ answer → (answer ≡ Held → ⊥) → ChangesWords zone words q (Get f) answer words
-    → (w : List BootView) × (a : Act S) × Valid s.homes [] a × BootRule zone (set s.words (frame_base zone + f) n) (set s.views id w) × LooksByOne S v p f n (w, carried_after [] a)
+    → (w : List BootView) × (a : Act S) × Valid s.homes [] a × BootRule zone (set s.words (frame_base zone + f) n) (set s.views id w) × LooksByOne S zone v p f n (w, carried_after [] a)
     = λ answer says other changes.
     let e : Step × Answer = (made_step, answer) in
     let now = words_follow zone words words k.run made_step answer k.is legal_now changes in
@@ -86,6 +86,7 @@ look_is_allowed {S} zone slots id f v p ne inside legal s k homes at small =
         view = made.0;
         past = past;
         later_is = ap (λ (m : Me S (List FrameView)). (new, m.1)) made.1;
+        lasts = record { number = refl; legal = grown_legal zone k.run p e fits now.legal };
         made = made.2;
         refused = λ not. record { between = fits.rest; others = fits.others; number = refl; seen = ap (λ a. (p.seen ++ fits.rest) ++ (made_step, a) ∷ []) (sym says) };
         goes_on = λ held. absurd (other (sym says ∙ held));
@@ -103,6 +104,7 @@ look_is_allowed {S} zone slots id f v p ne inside legal s k homes at small =
               view = made.0;
               past = p;
               later_is = ap (λ (m : Me S (List FrameView)). (new, m.1)) made.1;
+              lasts = record { number = refl; legal = beginning_is_legal zone p.seen k.run q fits k.is.legal };
               made = made.2;
               refused = λ not. absurd (not held);
               goes_on = λ h. refl;
@@ -132,7 +134,7 @@ add_is_allowed {S} zone slots id f seen v p ne inside low high saw legal s k hom
     let grew : List BootView = OfRun past ∷ OfFrames made.0 ∷ [] in
     let stays : List BootView = OfRun p ∷ OfFrames made.0 ∷ [] in
     let F : ℕ → Type 0 = λ word. word ≡ x → (w : List BootView) × (a : Act S) × Valid s.homes [] a × BootRule zone (set s.words (frame_base zone + f) x) (set s.views id w)
-    × AddsByOne S v p f seen n (w, carried_after [] a) in
+    × AddsByOne S zone v p f seen n (w, carried_after [] a) in
     exchanged n seen (seen + 1) F
     (λ hit word.
     let found : frame_word_at words f ≡ seen = is ∙ hit in
@@ -148,6 +150,7 @@ add_is_allowed {S} zone slots id f seen v p ne inside low high saw legal s k hom
         view = made.0;
         past = past;
         later_is = ap (λ (m : Me S (List FrameView)). (grew, m.1)) made.1;
+        lasts = record { number = refl; legal = grown_legal zone k.run p e fits now.legal };
         made = made.2;
         held = λ h. record { between = fits.rest; others = fits.others; number = refl; seen = refl };
         raced = λ not. absurd (not hit);
@@ -163,6 +166,7 @@ add_is_allowed {S} zone slots id f seen v p ne inside low high saw legal s k hom
         view = made.0;
         past = p;
         later_is = ap (λ (m : Me S (List FrameView)). (stays, m.1)) made.1;
+        lasts = record { number = refl; legal = beginning_is_legal zone p.seen k.run q fits k.is.legal };
         made = made.2;
         held = λ h. absurd (miss h);
         raced = λ not. refl;

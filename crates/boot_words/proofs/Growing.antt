@@ -1,12 +1,13 @@
 -- The pasts of a table's seats as the run grows.
-use Rattle.std.proofs.Common.{◌≡◌, ◌≢◌, ℕ, ◌+◌, ◌≤◌, Bool, true, false, List, [], ◌∷◌, ◌++◌, cond, set, refl, ap, sym, ◌∙◌, arith, append_assoc, eq-eqb}
+use Rattle.std.proofs.Common.{◌≡◌, ◌≢◌, ℕ, ◌+◌, ◌≤◌, Bool, true, false, List, [], ◌∷◌, ◌++◌, cond, set, refl, ap, sym, ◌∙◌, subst, arith, append_assoc, eq-eqb}
 use mathlib.Core.Option.{some}
 use lib.ListN.{get_elem?}
 use Rattle.frame_word.specs.Totals.{sum_over, total_over}
 use Rattle.frame_word.proofs.Totals.{sum_below, sum_plus, total_below, total_plus}
 use Rattle.step_rules.specs.declared.step.Step.{Step}
 use Rattle.step_rules.specs.declared.step.Answer.{Answer}
-use Rattle.step_rules.specs.After.{Run}
+use Rattle.step_rules.specs.State.{Zone}
+use Rattle.step_rules.specs.After.{Run, IsLegalRun}
 use Rattle.step_rules.specs.Laws.{is_of_lock}
 use Rattle.boot_words.specs.Runs.{HasNoStepOf, OthersFollow}
 use Rattle.boot_words.proofs.Holding.{append_none}
@@ -73,6 +74,10 @@ grown_fits run p e fits = record {
   };
   leaves_lock = λ zone. tt;
 }
+
+pub grown_legal : (zone : Zone) (run : Run) (p : Past) (e : Step × Answer) (fits : OthersFollow p.number p.seen run) → IsLegalRun zone (run ++ e ∷ [])
+    → IsLegalRun zone (grown p fits.rest e).seen
+grown_legal zone run p e fits legal = subst (λ r. IsLegalRun zone (r ++ e ∷ [])) fits.is legal
 
 -- ---- the seats, where one notes the step
 enough : (seats : List (List BootView)) (old : List BootView) (seat : ℕ) (b : Bool) → ((number : ℕ) → total_over (past_of number) seats ≤ 1)

@@ -17,7 +17,7 @@ use Rattle.boot_words.specs.Sight.{HasSameLists, FastLegalityLasts}
 use Rattle.boot_words.proofs.Holding.{take_length}
 use Rattle.boot_words.proofs.Owning.{lists_are_own}
 
-beginning_is_legal : (zone : Zone) (seen run : Run) (cpu : ℕ) → OthersFollow cpu seen run → IsLegalRun zone run → IsLegalRun zone seen
+pub beginning_is_legal : (zone : Zone) (seen run : Run) (cpu : ℕ) → OthersFollow cpu seen run → IsLegalRun zone run → IsLegalRun zone seen
 beginning_is_legal zone seen run cpu goes legal =
     subst (IsLegalRun zone) (ap (take (length seen)) goes.is ∙ take_length seen goes.rest) (legal_from zone run (length seen) legal)
 

@@ -11,11 +11,12 @@ use Rattle.step_rules.specs.declared.step.Answer.TheVariants.{Done}
 use Rattle.step_rules.specs.Phases.{is_passing}
 use Rattle.step_rules.specs.State.{Zone, State, Part, all_to, is_cpu, is_held_by, is_unheld}
 use Rattle.step_rules.specs.Legal.{Allows, is_legal, no_page_pends}
-use Rattle.step_rules.specs.After.{state_of, IsLegalRun}
+use Rattle.step_rules.specs.After.{state_of}
 use Rattle.step_rules.specs.Views.{holds_lock, other_part_seen, references_seen_by, seen_by}
 use Rattle.step_rules.proofs.CoverParts.{part_seen}
 use Rattle.step_rules.proofs.CoverPhases.{seen_through}
 use Rattle.step_rules.proofs.Freeing.{zone_of_run}
+use Rattle.step_rules.proofs.LegalTests.{unlock_tests}
 use Rattle.step_rules.proofs.Runs.{legal_more, state_more}
 use Rattle.step_rules.proofs.SoundSteps.{cpu_range}
 use Rattle.boot_words.specs.Runs.{OthersFollow}
@@ -26,7 +27,7 @@ use Rattle.boot_words.specs.declared.view.BootView.TheVariants.{OfFrames}
 use Rattle.boot_words.specs.Rule.{AllOf, FitsRun}
 use Rattle.boot_words.specs.Held.{joined}
 use Rattle.boot_words.specs.Locks.{LockIsAllowed, UnlockIsAllowed}
-use Rattle.boot_words.proofs.Growing.{grown}
+use Rattle.boot_words.proofs.Growing.{grown, grown_legal}
 use Rattle.boot_words.proofs.Quiet.{plain_step}
 use Rattle.boot_words.proofs.Resting.{zone_rests}
 use Rattle.boot_words.proofs.Seats.{all_at}
@@ -72,7 +73,7 @@ lock_is_allowed {S} zone slots id z c zone_is cpu free s k homes at small =
           cpu_is = ne;
           same = same_seen z c k.run e zone_fits fits;
           shows = record {
-            legal = subst (IsLegalRun zone) (ap (λ r. r ++ e ∷ []) fits.is) (legal_more zone k.run made_step Done k.is.legal ok);
+            legal = grown_legal zone k.run c e fits (legal_more zone k.run made_step Done k.is.legal ok);
             holds = ap (λ (t : State). holds_lock q t.hold) by_cpu ∙ or_left (q == q) false (eq-eqb q q refl);
             sees = refl;
           };
@@ -119,6 +120,8 @@ unlock_is_allowed {S} zone slots id z c local holds legal s k homes at small =
     let shows = shows_now zone z c local k.run holds zone_fits fits k.is.legal in
     let legal_now : is_legal state q Unlock ≡ true = sym (unlock_seen q state) ∙ sym (ap (λ (l : State). is_legal l q Unlock) shows.sees) ∙ legal in
     let ok : Allows state q Unlock Done = record { legal = legal_now; answered = tt; counted = tt } in
+    let longer = legal_more zone k.run made_step Done k.is.legal ok in
+    let range = cpu_range zone q (ap (λ (y : Zone). is_cpu y q) (sym (zone_of_run zone k.run)) ∙ (unlock_tests state q legal_now).0) in
     let zone_past = grown z zone_fits.rest e in
     let by_zone : state_of zone zone_past.seen ≡ record state { hold = Unheld } =
     ap (λ r. state_of zone (r ++ e ∷ [])) (sym zone_fits.is) ∙ state_more zone k.run made_step Done in (
@@ -133,6 +136,10 @@ unlock_is_allowed {S} zone slots id z c local holds legal s k homes at small =
         zone_grew = record { between = zone_fits.rest; others = zone_fits.others; number = refl; seen = refl };
         cpu_grew = record { between = fits.rest; others = fits.others; number = refl; seen = refl };
         same = same_seen z c k.run e zone_fits fits;
+        zone_lasts = record { number = refl; legal = grown_legal zone k.run z e zone_fits longer };
+        cpu_lasts = record { number = refl; legal = grown_legal zone k.run c e fits longer };
+        low = range.0;
+        high = range.1;
         free = ap (λ (t : State). is_unheld t.hold) by_zone;
         left = ap hide by_zone ∙ ap (λ (t : State). record t { hold = Unheld }) (sym (hide_seen q state) ∙ ap hide (sym shows.sees));
       },

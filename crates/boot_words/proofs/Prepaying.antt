@@ -28,7 +28,7 @@ use Rattle.boot_words.specs.declared.view.BootView.{BootView}
 use Rattle.boot_words.specs.declared.view.BootView.TheVariants.{OfStocks, OfRun}
 use Rattle.boot_words.specs.Rule.{AllOf, BootRule, FitsRun, frame_base, stocks_in, words_in}
 use Rattle.boot_words.specs.Allowed.{BacksByOne, ConsumeIsAllowed, CreditIsAllowed, GrewBy, TakesByOne}
-use Rattle.boot_words.proofs.Growing.{grown, grown_fits}
+use Rattle.boot_words.proofs.Growing.{grown, grown_fits, grown_legal}
 use Rattle.boot_words.proofs.Lifting.{lift}
 use Rattle.boot_words.proofs.Putting.{own_past}
 use Rattle.boot_words.proofs.Seats.{all_at}
@@ -76,7 +76,7 @@ consume_is_allowed {S} zone slots id g n v p ne same high last legal s k homes a
     = λ answer now. stock_step zone s.words s.views k id i x old (new answer) (made_step, answer) low_word at refl (λ m. refl) (own_past p (OfStocks v)) refl
     (grown_fits k.run p (made_step, answer) fits, (tt, tt)) (lifted.3 (new answer) (sym (ap (λ (m : Me S (List StockView)). m.0) made.1))) now in
     let F : ℕ → Type 0 = λ word. word ≡ x → (w : List BootView) × (a : Act S) × Valid s.homes [] a × BootRule zone (set s.words i x) (set s.views id w)
-    × TakesByOne S v p g n found (w, carried_after [] a) in
+    × TakesByOne S zone v p g n found (w, carried_after [] a) in
     exchanged found before after F
     (λ hit word.
     let now = words_follow zone words (with_stocks_at words i after) k.run made_step Took k.is legal_now
@@ -89,6 +89,7 @@ consume_is_allowed {S} zone slots id g n v p ne same high last legal s k homes a
         view = made.0;
         past = grown p fits.rest (made_step, Took);
         later_is = ap (λ (m : Me S (List StockView)). (new Took, m.1)) made.1;
+        lasts = record { number = refl; legal = grown_legal zone k.run p (made_step, Took) fits now.legal };
         took = λ h. (made.2.0 h, grew Took);
         drained = λ not. absurd (not hit);
       },
@@ -105,6 +106,7 @@ consume_is_allowed {S} zone slots id g n v p ne same high last legal s k homes a
         view = made.0;
         past = grown p fits.rest (made_step, Drained);
         later_is = ap (λ (m : Me S (List StockView)). (new Drained, m.1)) made.1;
+        lasts = record { number = refl; legal = grown_legal zone k.run p (made_step, Drained) fits now.legal };
         took = λ h. absurd (miss h);
         drained = λ not. (sees, grew Drained);
       },
@@ -140,7 +142,7 @@ credit_is_allowed {S} zone slots id f g n v p ne same high last fresh legal s k 
     = λ answer now. stock_step zone s.words s.views k id i x old (new answer) (made_step, answer) low_word at refl (λ m. refl) (own_past p (OfStocks v)) refl
     (grown_fits k.run p (made_step, answer) fits, (tt, tt)) (lifted.3 (new answer) (sym (ap (λ (m : Me S (List StockView)). m.0) made.1))) now in
     let F : ℕ → Type 0 = λ word. word ≡ x → (w : List BootView) × (a : Act S) × Valid s.homes [] a × BootRule zone (set s.words i x) (set s.views id w)
-    × BacksByOne S v p f g n found (w, carried_after [] a) in
+    × BacksByOne S zone v p f g n found (w, carried_after [] a) in
     exchanged found before after F
     (λ hit word.
     let credits = made.2.0 hit in
@@ -155,6 +157,7 @@ credit_is_allowed {S} zone slots id f g n v p ne same high last fresh legal s k 
         view = made.0;
         past = grown p fits.rest (made_step, Stocked);
         later_is = ap (λ (m : Me S (List StockView)). (new Stocked, m.1)) made.1;
+        lasts = record { number = refl; legal = grown_legal zone k.run p (made_step, Stocked) fits now.legal };
         stocked = λ h. (made.2.0 h, grew Stocked);
         drained = λ not. absurd (not hit);
       },
@@ -171,6 +174,7 @@ credit_is_allowed {S} zone slots id f g n v p ne same high last fresh legal s k 
         view = made.0;
         past = grown p fits.rest (made_step, Drained);
         later_is = ap (λ (m : Me S (List StockView)). (new Drained, m.1)) made.1;
+        lasts = record { number = refl; legal = grown_legal zone k.run p (made_step, Drained) fits now.legal };
         stocked = λ h. absurd (miss h);
         drained = λ not. (sees, grew Drained);
       },

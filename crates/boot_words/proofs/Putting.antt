@@ -26,7 +26,7 @@ use Rattle.boot_words.specs.declared.view.BootView.{BootView}
 use Rattle.boot_words.specs.declared.view.BootView.TheVariants.{OfFrames, OfRun}
 use Rattle.boot_words.specs.Rule.{AllOf, FitsRun, frame_base, frames_in, past_of, words_in}
 use Rattle.boot_words.specs.Allowed.{PutIsAllowed, put_answer_at}
-use Rattle.boot_words.proofs.Growing.{grown, grown_fits}
+use Rattle.boot_words.proofs.Growing.{grown, grown_fits, grown_legal}
 use Rattle.boot_words.proofs.FrameSteps.{frame_step}
 use Rattle.boot_words.proofs.Lifting.{lift}
 use Rattle.boot_words.proofs.Parts.{frame_is_at, frame_reads}
@@ -96,6 +96,7 @@ put_is_allowed {S} zone slots id f v p ne inside some legal s k homes at small =
         view = made.0;
         past = past;
         later_is = ap (λ (m : Me S (List FrameView)). (new, m.1)) made.1;
+        lasts = record { number = refl; legal = grown_legal zone k.run p e fits now.legal };
         made = made.2;
         grew = record { between = fits.rest; others = fits.others; number = refl; seen = refl };
       },

@@ -35,30 +35,30 @@ use Rattle.boot_words.proofs.Reporting.{held_consume_is_allowed, report_is_allow
 use Rattle.boot_words.proofs.Told.{may_step, may_weaken, none_carried, past_at}
 
 -- ---- the steps of a CPU without the lock
-abbrev pub takes_told : List BootView → ℕ → ℕ → ℕ → List BootView → Type 0
-takes_told before g n found views = TakesByOne (Unit {0}) (stock_view before) (past_at before) g n found (views, [])
+abbrev pub takes_told : Zone → List BootView → ℕ → ℕ → ℕ → List BootView → Type 0
+takes_told zone before g n found views = TakesByOne (Unit {0}) zone (stock_view before) (past_at before) g n found (views, [])
 
 pub may_consume : (zone : Zone) (before : List BootView) (cpu g n : ℕ) (v : StockView) (p : Past) → before ≡ OfRun p ∷ OfStocks v ∷ [] → cpu ≡ p.number → p.number ≢ 0
     → p.number ≡ v.number → p.number ≤ zone.cpus → v.last ≡ HeldBy g (n + 1) → is_legal (state_of zone p.seen) p.number (Consume g) ≡ true
-    → MayStep zone before (StockOf cpu) (λ x. either (x == word_of (HeldBy g (n + 1))) (word_of (HeldBy g n)) x) (takes_told before g n)
+    → MayStep zone before (StockOf cpu) (λ x. either (x == word_of (HeldBy g (n + 1))) (word_of (HeldBy g n)) x) (takes_told zone before g n)
 may_consume zone before cpu g n v p is at ne same high last legal =
-    subst (λ (y : List BootView × ℕ). MayStep zone y.0 (StockOf y.1) (λ x. either (x == word_of (HeldBy g (n + 1))) (word_of (HeldBy g n)) x) (takes_told y.0 g n))
+    subst (λ (y : List BootView × ℕ). MayStep zone y.0 (StockOf y.1) (λ x. either (x == word_of (HeldBy g (n + 1))) (word_of (HeldBy g n)) x) (takes_told zone y.0 g n))
     (λ i. (sym is i, sym at i))
     (may_step zone (OfRun p ∷ OfStocks v ∷ []) (StockOf p.number) (λ x. either (x == word_of (HeldBy g (n + 1))) (word_of (HeldBy g n)) x)
-    (λ found later. TakesByOne (Unit {0}) v p g n found later) (λ found m told. none_carried told.later_is)
+    (λ found later. TakesByOne (Unit {0}) zone v p g n found later) (λ found m told. none_carried told.later_is)
     (λ id. consume_is_allowed zone 0 id g n v p ne same high last legal))
 
-abbrev pub backs_told : List BootView → ℕ → ℕ → ℕ → ℕ → List BootView → Type 0
-backs_told before f g n found views = BacksByOne (Unit {0}) (stock_view before) (past_at before) f g n found (views, [])
+abbrev pub backs_told : Zone → List BootView → ℕ → ℕ → ℕ → ℕ → List BootView → Type 0
+backs_told zone before f g n found views = BacksByOne (Unit {0}) zone (stock_view before) (past_at before) f g n found (views, [])
 
 pub may_credit : (zone : Zone) (before : List BootView) (cpu f g n : ℕ) (v : StockView) (p : Past) → before ≡ OfRun p ∷ OfStocks v ∷ [] → cpu ≡ p.number → p.number ≢ 0
     → p.number ≡ v.number → p.number ≤ zone.cpus → v.last ≡ HeldBy g n → 0 < v.fresh → is_legal (state_of zone p.seen) p.number (Credit f) ≡ true
-    → MayStep zone before (StockOf cpu) (λ x. either (x == word_of (HeldBy g n)) (word_of (HeldBy g (n + 1))) x) (backs_told before f g n)
+    → MayStep zone before (StockOf cpu) (λ x. either (x == word_of (HeldBy g n)) (word_of (HeldBy g (n + 1))) x) (backs_told zone before f g n)
 may_credit zone before cpu f g n v p is at ne same high last fresh legal =
-    subst (λ (y : List BootView × ℕ). MayStep zone y.0 (StockOf y.1) (λ x. either (x == word_of (HeldBy g n)) (word_of (HeldBy g (n + 1))) x) (backs_told y.0 f g n))
+    subst (λ (y : List BootView × ℕ). MayStep zone y.0 (StockOf y.1) (λ x. either (x == word_of (HeldBy g n)) (word_of (HeldBy g (n + 1))) x) (backs_told zone y.0 f g n))
     (λ i. (sym is i, sym at i))
     (may_step zone (OfRun p ∷ OfStocks v ∷ []) (StockOf p.number) (λ x. either (x == word_of (HeldBy g n)) (word_of (HeldBy g (n + 1))) x)
-    (λ found later. BacksByOne (Unit {0}) v p f g n found later) (λ found m told. none_carried told.later_is)
+    (λ found later. BacksByOne (Unit {0}) zone v p f g n found later) (λ found m told. none_carried told.later_is)
     (λ id. credit_is_allowed zone 0 id f g n v p ne same high last fresh legal))
 
 -- ---- loads that are no steps of the run

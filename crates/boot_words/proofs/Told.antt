@@ -51,38 +51,38 @@ may_weaken zone views word change strong weak may less id s k homes at small =
     let r = may id s k homes at small in (r.0, r.1, r.2, r.3, (r.4.0, less (slice_index s.words (index_of zone word)) r.0 r.4.1))
 
 -- ---- the steps of a CPU without the lock
-abbrev pub puts_told : List BootView → ℕ → ℕ → List BootView → Type 0
-puts_told before f found views = MadeByOne (Unit {0}) puts (frame_view before) (past_at before) f
+abbrev pub puts_told : Zone → List BootView → ℕ → ℕ → List BootView → Type 0
+puts_told zone before f found views = MadeByOne (Unit {0}) zone puts (frame_view before) (past_at before) f
     (record { seat = (past_at before).number; action = Put f }) (put_answer_at found) found (views, [])
 
 pub may_put : (zone : Zone) (before : List BootView) (f : ℕ) (v : FrameView) (p : Past) → before ≡ OfRun p ∷ OfFrames v ∷ [] → p.number ≢ 0
     → f < zone.frames → 1 ≤ (note_of v f).references → is_legal (state_of zone p.seen) p.number (Put f) ≡ true
-    → MayStep zone before (OfFrame f) (λ n. (n + (2 ^ 64 - 1)) % 2 ^ 64) (puts_told before f)
+    → MayStep zone before (OfFrame f) (λ n. (n + (2 ^ 64 - 1)) % 2 ^ 64) (puts_told zone before f)
 may_put zone before f v p is ne inside some legal =
-    subst (λ (b : List BootView). MayStep zone b (OfFrame f) (λ n. (n + (2 ^ 64 - 1)) % 2 ^ 64) (puts_told b f)) (sym is)
+    subst (λ (b : List BootView). MayStep zone b (OfFrame f) (λ n. (n + (2 ^ 64 - 1)) % 2 ^ 64) (puts_told zone b f)) (sym is)
     (may_step zone (OfRun p ∷ OfFrames v ∷ []) (OfFrame f) (λ n. (n + (2 ^ 64 - 1)) % 2 ^ 64)
-    (λ found later. MadeByOne (Unit {0}) puts v p f (record { seat = p.number; action = Put f }) (put_answer_at found) found later) (λ found m told. none_carried told.later_is)
+    (λ found later. MadeByOne (Unit {0}) zone puts v p f (record { seat = p.number; action = Put f }) (put_answer_at found) found later) (λ found m told. none_carried told.later_is)
     (λ id. put_is_allowed zone 0 id f v p ne inside some legal))
 
-abbrev pub looks_told : List BootView → ℕ → ℕ → List BootView → Type 0
-looks_told before f found views = LooksByOne (Unit {0}) (frame_view before) (past_at before) f found (views, [])
+abbrev pub looks_told : Zone → List BootView → ℕ → ℕ → List BootView → Type 0
+looks_told zone before f found views = LooksByOne (Unit {0}) zone (frame_view before) (past_at before) f found (views, [])
 
 pub may_look : (zone : Zone) (before : List BootView) (f : ℕ) (v : FrameView) (p : Past) → before ≡ OfRun p ∷ OfFrames v ∷ [] → p.number ≢ 0
-    → f < zone.frames → is_legal (state_of zone p.seen) p.number (Get f) ≡ true → MayStep zone before (OfFrame f) (λ n. n) (looks_told before f)
+    → f < zone.frames → is_legal (state_of zone p.seen) p.number (Get f) ≡ true → MayStep zone before (OfFrame f) (λ n. n) (looks_told zone before f)
 may_look zone before f v p is ne inside legal =
-    subst (λ (b : List BootView). MayStep zone b (OfFrame f) (λ n. n) (looks_told b f)) (sym is)
-    (may_step zone (OfRun p ∷ OfFrames v ∷ []) (OfFrame f) (λ n. n) (λ found later. LooksByOne (Unit {0}) v p f found later) (λ found m told. none_carried told.later_is)
+    subst (λ (b : List BootView). MayStep zone b (OfFrame f) (λ n. n) (looks_told zone b f)) (sym is)
+    (may_step zone (OfRun p ∷ OfFrames v ∷ []) (OfFrame f) (λ n. n) (λ found later. LooksByOne (Unit {0}) zone v p f found later) (λ found m told. none_carried told.later_is)
     (λ id. look_is_allowed zone 0 id f v p ne inside legal))
 
-abbrev pub adds_told : List BootView → ℕ → ℕ → ℕ → List BootView → Type 0
-adds_told before f seen found views = AddsByOne (Unit {0}) (frame_view before) (past_at before) f seen found (views, [])
+abbrev pub adds_told : Zone → List BootView → ℕ → ℕ → ℕ → List BootView → Type 0
+adds_told zone before f seen found views = AddsByOne (Unit {0}) zone (frame_view before) (past_at before) f seen found (views, [])
 
 pub may_add : (zone : Zone) (before : List BootView) (f seen : ℕ) (v : FrameView) (p : Past) → before ≡ OfRun p ∷ OfFrames v ∷ [] → p.number ≢ 0
     → f < zone.frames → 1 ≤ seen → seen < most_references → (note_of v f).seen ≡ seen → is_legal (state_of zone p.seen) p.number (Get f) ≡ true
-    → MayStep zone before (OfFrame f) (λ n. either (n == seen) (seen + 1) n) (adds_told before f seen)
+    → MayStep zone before (OfFrame f) (λ n. either (n == seen) (seen + 1) n) (adds_told zone before f seen)
 may_add zone before f seen v p is ne inside low high saw legal =
-    subst (λ (b : List BootView). MayStep zone b (OfFrame f) (λ n. either (n == seen) (seen + 1) n) (adds_told b f seen)) (sym is)
-    (may_step zone (OfRun p ∷ OfFrames v ∷ []) (OfFrame f) (λ n. either (n == seen) (seen + 1) n) (λ found later. AddsByOne (Unit {0}) v p f seen found later) (λ found m told. none_carried told.later_is)
+    subst (λ (b : List BootView). MayStep zone b (OfFrame f) (λ n. either (n == seen) (seen + 1) n) (adds_told zone b f seen)) (sym is)
+    (may_step zone (OfRun p ∷ OfFrames v ∷ []) (OfFrame f) (λ n. either (n == seen) (seen + 1) n) (λ found later. AddsByOne (Unit {0}) zone v p f seen found later) (λ found m told. none_carried told.later_is)
     (λ id. add_is_allowed zone 0 id f seen v p ne inside low high saw legal))
 
 -- ---- a load that is no step of the run

@@ -17,7 +17,7 @@ use Rattle.step_rules.specs.declared.step.Answer.{Answer}
 use Rattle.step_rules.specs.declared.step.Answer.TheVariants.{Held, Left, Last, Took, Drained, Stocked}
 use Rattle.step_rules.specs.State.{Zone}
 use Rattle.step_rules.specs.Legal.{is_legal, get_answer}
-use Rattle.step_rules.specs.After.{Run, state_of}
+use Rattle.step_rules.specs.After.{Run, state_of, IsLegalRun}
 use Rattle.boot_words.specs.Runs.{HasNoStepOf}
 use Rattle.boot_words.specs.declared.view.Past.{Past}
 use Rattle.boot_words.specs.declared.view.BootView.{BootView}
@@ -31,16 +31,22 @@ pub record GrewBy (before : Past) (step : Step) (answer : Answer) (later : Past)
   pub number : later.number ≡ before.number
   pub seen : later.seen ≡ (before.seen ++ between) ++ (step, answer) ∷ []
 
+-- the later past is of the same seat, and a legal run
+pub record IsLegalLater (zone : Zone) (before later : Past) : Type 0 where
+  pub number : later.number ≡ before.number
+  pub legal : IsLegalRun zone later.seen
+
 -- the answer of a put that finds this word
 abbrev pub put_answer_at : ℕ → Answer
 put_answer_at found = if found == 1 then Last else Left (found - 1)
 
 -- a seat with a view of the frames and its past makes a step of this kind on word f, which is this step of the run
-pub record MadeByOne (S : Type 0) (kind : FrameView → ℕ → ℕ → ℕ → FrameView → Type 0) (v : FrameView) (p : Past) (f : ℕ)
-    (step : Step) (answer : Answer) (found : ℕ) (later : Me S (List BootView)) : Type 0 where
+pub record MadeByOne (S : Type 0) (zone : Zone) (kind : FrameView → ℕ → ℕ → ℕ → FrameView → Type 0) (v : FrameView) (p : Past)
+    (f : ℕ) (step : Step) (answer : Answer) (found : ℕ) (later : Me S (List BootView)) : Type 0 where
   pub view : FrameView
   pub past : Past
   pub later_is : later ≡ (OfRun past ∷ OfFrames view ∷ [], [])
+  pub lasts : IsLegalLater zone p past
   pub made : kind v f 1 found view
   pub grew : GrewBy p step answer past
 
@@ -51,13 +57,14 @@ PutIsAllowed S = (zone : Zone) (slots id f : ℕ) (v : FrameView) (p : Past) →
     → 1 ≤ (note_of v f).references
     → is_legal (state_of zone p.seen) p.number (Put f) ≡ true
     → Allows {S = S} (boot_rule zone) slots id (OfRun p ∷ OfFrames v ∷ [], []) (frame_base zone + f) (λ n. (n + (2 ^ 64 - 1)) % 2 ^ 64)
-    (λ found later. MadeByOne S puts v p f (record { seat = p.number; action = Put f }) (put_answer_at found) found later)
+    (λ found later. MadeByOne S zone puts v p f (record { seat = p.number; action = Put f }) (put_answer_at found) found later)
 
 -- a seat loads word f for a get: a word that refuses the get is that step of the run, with the answer that it decides
-pub record LooksByOne (S : Type 0) (v : FrameView) (p : Past) (f found : ℕ) (later : Me S (List BootView)) : Type 0 where
+pub record LooksByOne (S : Type 0) (zone : Zone) (v : FrameView) (p : Past) (f found : ℕ) (later : Me S (List BootView)) : Type 0 where
   pub view : FrameView
   pub past : Past
   pub later_is : later ≡ (OfRun past ∷ OfFrames view ∷ [], [])
+  pub lasts : IsLegalLater zone p past
   pub made : looks v f 0 found view
   pub refused : get_answer found ≢ Held
       → GrewBy p (record { seat = p.number; action = Get f }) (get_answer found) past
@@ -67,14 +74,15 @@ pub record LooksByOne (S : Type 0) (v : FrameView) (p : Past) (f found : ℕ) (l
 abbrev pub LookIsAllowed : Type 0 → Type 0
 LookIsAllowed S = (zone : Zone) (slots id f : ℕ) (v : FrameView) (p : Past) → p.number ≢ 0 → f < zone.frames
     → is_legal (state_of zone p.seen) p.number (Get f) ≡ true
-    → Allows {S = S} (boot_rule zone) slots id (OfRun p ∷ OfFrames v ∷ [], []) (frame_base zone + f) (λ n. n) (λ found later. LooksByOne S v p f found later)
+    → Allows {S = S} (boot_rule zone) slots id (OfRun p ∷ OfFrames v ∷ [], []) (frame_base zone + f) (λ n. n) (λ found later. LooksByOne S zone v p f found later)
 
 -- a seat exchanges word f for a get, from the word that its load saw to one more: that is a get answered Held, or the
 -- exchange found another word, and no step
-pub record AddsByOne (S : Type 0) (v : FrameView) (p : Past) (f seen found : ℕ) (later : Me S (List BootView)) : Type 0 where
+pub record AddsByOne (S : Type 0) (zone : Zone) (v : FrameView) (p : Past) (f seen found : ℕ) (later : Me S (List BootView)) : Type 0 where
   pub view : FrameView
   pub past : Past
   pub later_is : later ≡ (OfRun past ∷ OfFrames view ∷ [], [])
+  pub lasts : IsLegalLater zone p past
   pub made : adds v f seen found view
   pub held : found ≡ seen → GrewBy p (record { seat = p.number; action = Get f }) Held past
   pub raced : found ≢ seen → past ≡ p
@@ -85,14 +93,15 @@ AddIsAllowed S = (zone : Zone) (slots id f seen : ℕ) (v : FrameView) (p : Past
     → 1 ≤ seen → seen < most_references → (note_of v f).seen ≡ seen
     → is_legal (state_of zone p.seen) p.number (Get f) ≡ true
     → Allows {S = S} (boot_rule zone) slots id (OfRun p ∷ OfFrames v ∷ [], []) (frame_base zone + f) (λ n. either (n == seen) (seen + 1) n)
-    (λ found later. AddsByOne S v p f seen found later)
+    (λ found later. AddsByOne S zone v p f seen found later)
 
 -- a CPU's seat exchanges its stock word for a consume for g, from n + 1 pages to n: that is a consume answered Took, or, if
 -- the stock is found drained, one answered Drained
-pub record TakesByOne (S : Type 0) (v : StockView) (p : Past) (g n found : ℕ) (later : Me S (List BootView)) : Type 0 where
+pub record TakesByOne (S : Type 0) (zone : Zone) (v : StockView) (p : Past) (g n found : ℕ) (later : Me S (List BootView)) : Type 0 where
   pub view : StockView
   pub past : Past
   pub later_is : later ≡ (OfRun past ∷ OfStocks view ∷ [], [])
+  pub lasts : IsLegalLater zone p past
   pub took : found ≡ word_of (HeldBy g (n + 1)) → Consumes (stock_index p.number) found (word_of (HeldBy g n)) v view
       × GrewBy p (record { seat = p.number; action = Consume g }) Took past
   pub drained : found ≢ word_of (HeldBy g (n + 1)) → SeesDrained (stock_index p.number) found found v view
@@ -104,14 +113,15 @@ ConsumeIsAllowed S = (zone : Zone) (slots id g n : ℕ) (v : StockView) (p : Pas
     → p.number ≤ zone.cpus → v.last ≡ HeldBy g (n + 1)
     → is_legal (state_of zone p.seen) p.number (Consume g) ≡ true
     → Allows {S = S} (boot_rule zone) slots id (OfRun p ∷ OfStocks v ∷ [], []) (stock_index p.number)
-    (λ x. either (x == word_of (HeldBy g (n + 1))) (word_of (HeldBy g n)) x) (λ found later. TakesByOne S v p g n found later)
+    (λ x. either (x == word_of (HeldBy g (n + 1))) (word_of (HeldBy g n)) x) (λ found later. TakesByOne S zone v p g n found later)
 
 -- a CPU's seat exchanges its stock word for a credit of frame f, from n pages of g to n + 1: that is a credit answered
 -- Stocked, or, if the stock is found drained, one answered Drained
-pub record BacksByOne (S : Type 0) (v : StockView) (p : Past) (f g n found : ℕ) (later : Me S (List BootView)) : Type 0 where
+pub record BacksByOne (S : Type 0) (zone : Zone) (v : StockView) (p : Past) (f g n found : ℕ) (later : Me S (List BootView)) : Type 0 where
   pub view : StockView
   pub past : Past
   pub later_is : later ≡ (OfRun past ∷ OfStocks view ∷ [], [])
+  pub lasts : IsLegalLater zone p past
   pub stocked : found ≡ word_of (HeldBy g n) → Credits (stock_index p.number) found (word_of (HeldBy g (n + 1))) v view
       × GrewBy p (record { seat = p.number; action = Credit f }) Stocked past
   pub drained : found ≢ word_of (HeldBy g n) → SeesDrained (stock_index p.number) found found v view
@@ -123,4 +133,4 @@ CreditIsAllowed S = (zone : Zone) (slots id f g n : ℕ) (v : StockView) (p : Pa
     → p.number ≤ zone.cpus → v.last ≡ HeldBy g n → 0 < v.fresh
     → is_legal (state_of zone p.seen) p.number (Credit f) ≡ true
     → Allows {S = S} (boot_rule zone) slots id (OfRun p ∷ OfStocks v ∷ [], []) (stock_index p.number)
-    (λ x. either (x == word_of (HeldBy g n)) (word_of (HeldBy g (n + 1))) x) (λ found later. BacksByOne S v p f g n found later)
+    (λ x. either (x == word_of (HeldBy g n)) (word_of (HeldBy g (n + 1))) x) (λ found later. BacksByOne S zone v p f g n found later)

@@ -1,5 +1,5 @@
 -- Lock and Unlock: a CPU's past is joined with the zone's, and parted from it.
-use Rattle.std.specs.Prelude.{◌≡◌, ℕ, true, List, []}
+use Rattle.std.specs.Prelude.{◌≡◌, ℕ, ◌≤◌, true, List, []}
 use Rattle.atomic_table.specs.Table.{Me, Allows}
 use Rattle.step_rules.specs.declared.phase.Hold.TheVariants.{HeldBy, Unheld}
 use Rattle.step_rules.specs.declared.step.Action.TheVariants.{Lock, Unlock}
@@ -13,7 +13,7 @@ use Rattle.boot_words.specs.declared.view.Past.{Past}
 use Rattle.boot_words.specs.declared.view.BootView.{BootView}
 use Rattle.boot_words.specs.declared.view.BootView.TheVariants.{OfFrames}
 use Rattle.boot_words.specs.Rule.{IsPastOf, boot_rule}
-use Rattle.boot_words.specs.Allowed.{GrewBy}
+use Rattle.boot_words.specs.Allowed.{GrewBy, IsLegalLater}
 use Rattle.boot_words.specs.Held.{HoldsLock, joined, local_seen}
 
 -- by this past the lock is free
@@ -45,8 +45,8 @@ LockIsAllowed S = (zone : Zone) (slots id : ℕ) (z c : Past) → z.number ≡ 0
     → Allows {S = S} (boot_rule zone) slots id (joined OfFrames z c [], []) 0 (λ n. n)
     (λ found later. TakesLock S zone z c later)
 
--- A CPU has released the lock: both pasts have grown by the step. The lock is free by the zone's past, which leaves what
--- the CPU saw.
+-- One of the zone's CPUs has released the lock: both pasts have grown by the step, and are legal runs. The lock is free by
+-- the zone's past, which leaves what the CPU saw.
 pub record ReleasesLock (S : Type 0) (zone : Zone) (z c : Past) (local : State) (later : Me S (List BootView)) : Type 0 where
   pub zone_past : Past
   pub cpu_past : Past
@@ -54,6 +54,10 @@ pub record ReleasesLock (S : Type 0) (zone : Zone) (z c : Past) (local : State) 
   pub zone_grew : GrewBy z (record { seat = c.number; action = Unlock }) Done zone_past
   pub cpu_grew : GrewBy c (record { seat = c.number; action = Unlock }) Done cpu_past
   pub same : zone_past.seen ≡ cpu_past.seen
+  pub zone_lasts : IsLegalLater zone z zone_past
+  pub cpu_lasts : IsLegalLater zone c cpu_past
+  pub low : 1 ≤ c.number
+  pub high : c.number ≤ zone.cpus
   pub free : LeavesFree zone zone_past
   pub left : hide (state_of zone zone_past.seen) ≡ hide (record local { hold = Unheld })
 
