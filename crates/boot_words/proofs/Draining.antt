@@ -18,7 +18,7 @@ use Rattle.boot_words.specs.Runs.{HasNoStepOf, BooksNothingOf, books}
 use Rattle.boot_words.specs.Sight.{HasSameOrDrained, StocksAreOwn}
 use Rattle.boot_words.proofs.Owning.{fold_on}
 
-same_part : (a b : Part) → b ≡ a → HasSameOrDrained a b
+pub same_part : (a b : Part) → b ≡ a → HasSameOrDrained a b
 same_part a b e = record {
   group = ap (λ (x : Part). x.stock.group) e;
   unreported = ap (λ (x : Part). x.unreported) e;
@@ -43,7 +43,7 @@ drained_at s r n p all =
 other_booked : (s : State) (r p : ℕ) (part : Part) → (r == p) ≡ false → with_at s.parts r part p ≡ s.parts p
 other_booked s r p part other = at_other s.parts r part p (λ e. true≢false (sym (eq-eqb r p (sym e)) ∙ other))
 
-stock_step : (s : State) (q p : ℕ) (action : Action) (answer : Answer) → q ≢ p → books p action ≡ false → IsMade s q action answer
+pub stock_step : (s : State) (q p : ℕ) (action : Action) (answer : Answer) → q ≢ p → books p action ≡ false → IsMade s q action answer
     → HasSameOrDrained (s.parts p) ((after s q action answer).parts p)
 stock_step s q p Lock Done ne other made = same_part _ _ refl
 stock_step s q p Unlock Done ne other made = same_part _ _ refl
@@ -79,7 +79,7 @@ stock_step s q p (Remove g) Done ne other made = same_part _ _ refl
 stock_step s q p (Kill g) Done ne other made = same_part _ _ refl
 stock_step s q p action answer ne other made = same_part _ _ refl
 
-drained_twice : (a b c : Part) → HasSameOrDrained a b → HasSameOrDrained b c → HasSameOrDrained a c
+pub drained_twice : (a b c : Part) → HasSameOrDrained a b → HasSameOrDrained b c → HasSameOrDrained a c
 drained_twice a b c first second = record {
   group = second.group ∙ first.group;
   unreported = second.unreported ∙ first.unreported;
@@ -107,7 +107,7 @@ stock_rest s p (e ∷ rest) legal none other =
     drained_twice _ _ _ (stock_one s e.0.seat p e.0.action e.1 none.0 other.0 (legal zero))
     (stock_rest (next s e) p rest (λ k. legal (suc k)) none.1 other.1)
 
-legal_behind : (s : State) (xs ys : Run) → IsLegalFrom s (xs ++ ys) → IsLegalFrom (fold next s xs) ys
+pub legal_behind : (s : State) (xs ys : Run) → IsLegalFrom s (xs ++ ys) → IsLegalFrom (fold next s xs) ys
 legal_behind s [] ys legal = legal
 legal_behind s (x ∷ xs) ys legal = legal_behind (next s x) xs ys (λ k. legal (suc k))
 

@@ -45,3 +45,4 @@ pub mod Plain
 pub mod Booting
 pub mod Returning
 pub mod Draining
+pub mod Away

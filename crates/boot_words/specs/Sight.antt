@@ -1,5 +1,5 @@
 -- What a CPU knows of a run, whatever others did since its own last step.
-use Rattle.std.specs.Prelude.{◌≡◌, ◌≢◌, ◌⊎◌, ℕ, ◌≤◌, ◌++◌, true, None, is_some, [], length}
+use Rattle.std.specs.Prelude.{◌≡◌, ◌≢◌, ◌⊎◌, ℕ, ◌≤◌, ◌++◌, true, false, None, is_some, [], length}
 use Rattle.step_rules.specs.declared.step.Step.{Step}
 use Rattle.step_rules.specs.declared.step.Action.{Action}
 use Rattle.step_rules.specs.declared.step.Action.TheVariants.{PassBack}
@@ -8,7 +8,7 @@ use Rattle.step_rules.specs.State.{Zone, State, Part, front_of, visits}
 use Rattle.step_rules.specs.Legal.{is_legal, Allows, IsCounted}
 use Rattle.step_rules.specs.After.{Run, after, state_of, IsLegalRun}
 use Rattle.step_rules.specs.Laws.{ShowsLocal, IsLocalStep, pushed}
-use Rattle.step_rules.specs.Views.{seen_by}
+use Rattle.step_rules.specs.Views.{holds_lock, seen_by}
 use Rattle.step_rules.proofs.Lists.{times}
 use Rattle.boot_words.specs.Runs.{HasNoStepOf, BooksNothingOf, OthersFollow, IsFast}
 use Rattle.boot_words.specs.Hidden.{hide, show_own}
@@ -96,3 +96,12 @@ abbrev pub StocksAreOwn : Type 0
 StocksAreOwn = (zone : Zone) (seen rest : Run) (cpu : ℕ) → IsLegalRun zone (seen ++ rest) → HasNoStepOf cpu rest
     → BooksNothingOf cpu rest
     → HasSameOrDrained ((state_of zone seen).parts cpu) ((state_of zone (seen ++ rest)).parts cpu)
+
+-- In a legal run a CPU that doesn't hold the lock doesn't come to hold it by others' steps. So nothing is filled or
+-- absorbed for it meanwhile: its stock and its unreported and reported pages are the same, except that the stock may have
+-- been drained.
+abbrev pub AwayStays : Type 0
+AwayStays = (zone : Zone) (seen rest : Run) (cpu : ℕ) → IsLegalRun zone (seen ++ rest) → HasNoStepOf cpu rest
+    → holds_lock cpu (state_of zone seen).hold ≡ false
+    → (holds_lock cpu (state_of zone (seen ++ rest)).hold ≡ false)
+    × HasSameOrDrained ((state_of zone seen).parts cpu) ((state_of zone (seen ++ rest)).parts cpu)

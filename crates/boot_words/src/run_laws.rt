@@ -1,6 +1,6 @@
 //! Laws: each function's `ensures` clause is a statement about all legal runs.
 
-ghost use Rattle.boot_words.specs.Sight.{FastIsHidden, FastLegalityLasts, FrontsPassBack, HolderGoesOn};
+ghost use Rattle.boot_words.specs.Sight.{AwayStays, FastIsHidden, FastLegalityLasts, FrontsPassBack, HolderGoesOn};
 ghost use Rattle.boot_words.specs.Sight.{HolderSeesBoth, ListsAreOwn, NoneBooked, StocksAreOwn};
 ghost use Rattle.boot_words.specs.Steps.{ABootHasWords, PlainStepsKeepWords, WordsFollow};
 
@@ -13,6 +13,12 @@ pub fn lists_are_own()
 /// the stock may have been drained, if it wasn't filled and nothing of the CPU was absorbed.
 pub fn stocks_are_own()
     ensures { StocksAreOwn }
+{}
+
+/// A CPU that doesn't hold the lock doesn't come to hold it by others' steps. So nothing is filled or absorbed for it
+/// meanwhile: its stock, unreported and reported pages are the same, except that the stock may have been drained.
+pub fn away_stays()
+    ensures { AwayStays }
 {}
 
 /// A get, put, consume or credit of a CPU changes nothing that another CPU or the zone sees, whether or not the lock is

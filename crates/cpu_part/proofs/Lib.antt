@@ -3,3 +3,6 @@ pub mod Notes
 pub mod Tied
 pub mod Answered
 pub mod CallerLemmas
+pub mod Away
+pub mod Making
+pub mod Knowing

@@ -1,19 +1,19 @@
 -- What always holds of a CPU's part still holds after each change of its lists and its seats.
-use Rattle.std.proofs.Common.{◌≡◌, ◌≢◌, ◌⊎◌, ℕ, ◌+◌, ◌<◌, List, [], ◌∷◌, ◌++◌, length, sym, refl, ap, ◌∙◌, subst, inl, inr, arith, length-append}
-use Rattle.std.specs.Prelude.{IsPermutation}
+use Rattle.std.proofs.Common.{◌≡◌, ◌≢◌, ◌⊎◌, ℕ, ◌+◌, ◌-◌, ◌<◌, ◌≤◌, List, [], ◌∷◌, ◌++◌, length, get_or, sym, refl, ap, ◌∙◌, subst, inl, inr, arith, length-append}
+use Rattle.std.specs.Prelude.{IsPermutation, remove}
 use Rattle.std.proofs.lemmas.List.Sorted.{length_permutation}
 use Rattle.frame_word.specs.declared.view.FrameNote.{FrameNote}
 use Rattle.frame_word.specs.declared.answers.Get.{Get}
 use Rattle.frame_word.specs.declared.answers.Get.TheVariants.{Held, Zero, Raced, Full}
 use Rattle.frame_word.specs.declared.answers.Put.TheVariants.{Left}
 use Rattle.frame_word.specs.Views.{note_of, in_hands, looked, held, raced, put_left, put_last, took_in, passed_back_by_cpu}
-use Rattle.frame_word.specs.Seats.{KnownTable, KnownSeat, seat_with, GetAnswers, PutAnswers}
+use Rattle.frame_word.specs.Seats.{KnownTable, KnownSeat, seat_with, GetAnswers, IsBorrowed, PutAnswers}
 use Rattle.stock_word.specs.Stock.{KnownStockTable, KnownStockSeat}
 use Rattle.stock_word.specs.Kinds.{after_report}
 use Rattle.stock_word.specs.Calls.{with_view}
 use Rattle.cpu_part.specs.Cpus.{KnownCpu, AreItsSeats, IsTied, times}
-use Rattle.cpu_part.proofs.Counts.{test_here, times_front}
-use Rattle.cpu_part.proofs.Notes.{frame_inside, noted_looked, noted_accepted, noted_front_handed, noted_fresh_handed, noted_back_handed, noted_pinned}
+use Rattle.cpu_part.proofs.Counts.{taken_out, test_here, times_end, times_front, times_parted}
+use Rattle.cpu_part.proofs.Notes.{frame_inside, noted_along, noted_looked, noted_accepted, noted_front_handed, noted_fresh_handed, noted_back_handed, noted_pinned}
 use Rattle.cpu_part.proofs.Notes.{noted_unpinned, noted_last_unpinned}
 
 pub length_end : (f : ℕ) (xs ys : List ℕ) → ys ≡ xs ++ f ∷ [] → length ys ≡ length xs + 1
@@ -141,6 +141,49 @@ module _ (t : KnownTable) (w : KnownStockTable) (c : KnownCpu) (tied : IsTied t 
             record { list_bound = omega (arith, e, p); fresh_bound = omega (arith, e, q); pin_bound = b.pin_bound; pages_are = omega (arith, e, r) };
       })
 
+  -- listed and fresh frames moved between these two lists, and as many fresh pages are noted
+  pub tied_moved : (stock : KnownStockSeat) (list fresh : List ℕ) (drops : ℕ) → ((g : ℕ) → times g list + times g fresh ≡ times g c.list + times g c.fresh)
+      → length list + length fresh ≡ length c.list + length c.fresh → length fresh ≤ 32 → stock.table ≡ c.stock_seat.table
+      → stock.view.number ≡ c.stock_seat.view.number → stock.view.fresh ≡ length fresh
+      → IsTied t w (record c { list = list; fresh = fresh; stock_seat = stock; drops = drops })
+  tied_moved stock list fresh drops counts lengths few table number pages = record {
+    seats = let s = tied.seats in record {
+      frame_table = s.frame_table;
+      frame_number = s.frame_number;
+      stock_table = table ∙ s.stock_table;
+      stock_number = number ∙ s.stock_number;
+      some_number = s.some_number;
+      frame_cpus = s.frame_cpus;
+      stock_cpus = s.stock_cpus;
+    };
+    noted = λ g. noted_along t.frames g (times g c.list + times g c.fresh) (times g c.back) (times g c.pins) (times g list + times g fresh) (times g c.back)
+        (times g c.pins) (note_of c.frame_seat.view g) (note_of c.frame_seat.view g) refl (counts g) refl refl (tied.noted g);
+    within = let b = tied.within in let p = b.list_bound in
+        record { list_bound = omega (arith, lengths, p); fresh_bound = few; pin_bound = b.pin_bound; pages_are = pages };
+  }
+
+  -- the front of the list became fresh
+  pub tied_took : (stock : KnownStockSeat) (list fresh : List ℕ) → c.list ≡ f ∷ list → fresh ≡ c.fresh ++ f ∷ [] → length c.fresh < 32
+      → stock.table ≡ c.stock_seat.table → stock.view.number ≡ c.stock_seat.view.number → stock.view.fresh ≡ c.stock_seat.view.fresh + 1
+      → IsTied t w (record c { list = list; fresh = fresh; stock_seat = stock })
+  tied_took stock list fresh front end short table number pages =
+      let l = length_front f c.list list front in let m = length_end f c.fresh fresh end in let p = tied.within.pages_are in
+      tied_moved stock list fresh c.drops
+      (λ g. let a = ap (times g) front ∙ times_front g f list in let b = ap (times g) end ∙ times_end g f c.fresh in omega (arith, a, b))
+      (omega (arith, l, m)) (omega (arith, m, short)) table number (omega (arith, m, p, pages))
+
+  -- a fresh frame went to the end of the list
+  pub tied_listed : (stock : KnownStockSeat) (list : List ℕ) (i drops : ℕ) → i < length c.fresh → get_or c.fresh i 0 ≡ f → list ≡ c.list ++ f ∷ []
+      → stock.table ≡ c.stock_seat.table → stock.view.number ≡ c.stock_seat.view.number → stock.view.fresh ≡ c.stock_seat.view.fresh - 1
+      → IsTied t w (record c { list = list; fresh = remove c.fresh i; stock_seat = stock; drops = drops })
+  tied_listed stock list i drops inside is end table number pages =
+      let parts = taken_out f i c.fresh inside is in
+      let l = length_end f c.list list end in let m = length_parted f c.fresh (remove c.fresh i) parts in let b = tied.within in
+      let p = b.pages_are in let q = b.fresh_bound in
+      tied_moved stock list (remove c.fresh i) drops
+      (λ g. let a = ap (times g) end ∙ times_end g f c.list in let b = times_parted g f c.fresh (remove c.fresh i) parts in omega (arith, a, b))
+      (omega (arith, l, m)) (omega (arith, m, q)) table number (omega (arith, m, p, pages))
+
   -- the front of a list is a frame of the table
   pub front_inside : (rest : List ℕ) → (c.list ≡ f ∷ rest) ⊎ ((c.fresh ≡ f ∷ rest) ⊎ (c.back ≡ f ∷ rest)) → f < t.frames
   front_inside rest front = frame_inside t.frames f c.list c.fresh c.back c.pins c.frame_seat.view tied.noted (elim front [
@@ -148,3 +191,10 @@ module _ (t : KnownTable) (w : KnownStockTable) (c : KnownCpu) (tied : IsTied t 
     | inr (inl b) ↦ let e = ap (times f) b ∙ times_front f f rest in let h = test_here f in omega (arith, e, h)
     | inr (inr d) ↦ let e = ap (times f) d ∙ times_front f f rest in let h = test_here f in omega (arith, e, h)
   ])
+
+  -- a listed or fresh frame is borrowed
+  pub front_borrowed : (rest : List ℕ) → (c.list ≡ f ∷ rest) ⊎ (c.fresh ≡ f ∷ rest) → IsBorrowed c.frame_seat f
+  front_borrowed rest front = let n = tied.noted f in let b = n.borrowed_is in let o = n.once in let h = test_here f in elim front [
+    | inl a ↦ let e = ap (times f) a ∙ times_front f f rest in omega (arith, b, o, e, h)
+    | inr d ↦ let e = ap (times f) d ∙ times_front f f rest in omega (arith, b, o, e, h)
+  ]

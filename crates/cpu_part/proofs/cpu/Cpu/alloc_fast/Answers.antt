@@ -34,3 +34,12 @@ returns-then-is_empty-clause-answer g c = grind (arith, common_steps)
 
 pub returns-then-len-eq-MAX_FRESH-clause-answer : goal.returns-then-len-eq-MAX_FRESH-clause-answer
 returns-then-len-eq-MAX_FRESH-clause-answer g c = search rules
+
+pub consume-requires-clause-legal : goal.consume-requires-clause-legal
+consume-requires-clause-legal g c = ?
+
+pub returns-in-Drained-clause-knows : goal.returns-in-Drained-clause-knows
+returns-in-Drained-clause-knows g c = ?
+
+pub returns-in-Took-clause-knows : goal.returns-in-Took-clause-knows
+returns-in-Took-clause-knows g c = ?

@@ -1,0 +1,11 @@
+-- A CPU that doesn't hold the lock doesn't by others' steps.
+use Rattle.std.proofs.Common.{◌≡◌, ◌≢◌, ℕ, ◌++◌, false}
+use Rattle.step_rules.specs.State.{Zone}
+use Rattle.step_rules.specs.After.{Run, state_of, IsLegalRun}
+use Rattle.step_rules.specs.Views.{holds_lock}
+use Rattle.boot_words.specs.Runs.{HasNoStepOf, BooksNothingOf}
+
+pub away_stays : (zone : Zone) (seen rest : Run) (cpu : ℕ) → cpu ≢ 0 → IsLegalRun zone (seen ++ rest) → HasNoStepOf cpu rest
+    → holds_lock cpu (state_of zone seen).hold ≡ false
+    → (holds_lock cpu (state_of zone (seen ++ rest)).hold ≡ false) × BooksNothingOf cpu rest
+away_stays = ?

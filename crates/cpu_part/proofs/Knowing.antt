@@ -1,0 +1,309 @@
+-- What a CPU knows of its own part: which of its steps without the lock are legal, and its part after each.
+use Rattle.std.proofs.Common.{◌≡◌, ◌≢◌, ℕ, ◌+◌, ◌<◌, ◌≤◌, ◌&&◌, ◌||◌, ◌==◌, Bool, true, false, Some, List, [], ◌∷◌, ◌++◌, length, get_or, cond, eqb, sym, refl, ap, ◌∙◌, subst, inl, inr, zero, suc, eq-eqb, arith}
+use Rattle.std.proofs.lemmas.Bool.{cases_eq, cond-false, le-leb, lt-ltb, ne_eqb}
+use Rattle.std.specs.Prelude.{IsPermutation, remove}
+use Rattle.frame_word.specs.Seats.{KnownTable}
+use Rattle.step_rules.specs.declared.step.Action.{Action}
+use Rattle.step_rules.specs.declared.step.Action.TheVariants.{Get, Put, Consume, Credit}
+use Rattle.step_rules.specs.declared.step.Answer.{Answer}
+use Rattle.step_rules.specs.declared.step.Answer.TheVariants.{Held, Left, Last, Took, Stocked}
+use Rattle.step_rules.specs.Phases.{FreshFrame, has_as}
+use Rattle.step_rules.specs.State.{Part, State, Zone, front_of, is_cpu, is_frame, may_zone_act, one_if, pins_of, with_at, with_last, without}
+use Rattle.step_rules.specs.Legal.{Allows, is_legal}
+use Rattle.step_rules.specs.After.{Run, after, credited, paid, state_of, with_back, IsLegalRun}
+use Rattle.step_rules.specs.Views.{holds_lock}
+use Rattle.step_rules.proofs.Basics.{at_each, at_same}
+use Rattle.step_rules.proofs.Freeing.{zone_of_run}
+use Rattle.step_rules.proofs.Lists.{times as counted, count_length, one_if_true}
+use Rattle.step_rules.proofs.Runs.{legal_from, sound_run, state_more}
+use Rattle.step_rules.proofs.Sound.{IsSound}
+use Rattle.step_rules.proofs.Sums.{sum_same}
+use Rattle.boot_words.specs.Runs.{IsFast}
+use Rattle.boot_words.specs.Sight.{HasSameLists}
+use Rattle.boot_words.specs.Seats.{zone_of_boot}
+use Rattle.boot_words.specs.Pasts.{KnownPasts, own_past, Does, IsCpuPast, MayDo}
+use Rattle.boot_words.proofs.Draining.{stocks_are_own}
+use Rattle.boot_words.proofs.Holding.{allowed_at, take_length}
+use Rattle.boot_words.proofs.OwnParts.{own_part_follows}
+use Rattle.stock_word.specs.Stock.{KnownStockTable, group_of}
+use Rattle.cpu_part.specs.Cpus.{KnownCpu, IsTied, times}
+use Rattle.cpu_part.specs.Known.{KnowsItsPart, last_state}
+use Rattle.cpu_part.proofs.Away.{away_stays}
+use Rattle.cpu_part.proofs.Counts.{test, test_here, test_other, times_front, times_end, times_parted}
+
+-- ---- lists
+
+-- the rules count a frame alike
+pub same_times : (f : ℕ) (xs : List ℕ) → times f xs ≡ counted f xs
+same_times f [] = refl
+same_times f (x ∷ xs) = times_front f x xs ∙ (λ i. one (eqb x f) i + same_times f xs i)
+  where
+    one : (b : Bool) → cond b 1 0 ≡ one_if b
+    one true = refl
+    one false = refl
+
+without_absent : (f : ℕ) (xs : List ℕ) → counted f xs ≡ 0 → without f xs ≡ xs
+without_absent f [] none = refl
+without_absent f (x ∷ xs) none = elim (cases_eq x f) [
+  | inl e ↦ absurd (let a = ap one_if (eq-eqb x f e) in omega (arith, a, none))
+  | inr ne ↦ rw (ne_eqb x f ne) (ap (λ (l : List ℕ). x ∷ l) (without_absent f xs (omega (arith, none))))
+]
+
+front_gone : (f : ℕ) (rest : List ℕ) → counted f rest ≡ 0 → without f (f ∷ rest) ≡ rest
+front_gone f rest none = rw (eq-eqb f f refl) (without_absent f rest none)
+
+stands : (f i : ℕ) (xs : List ℕ) → i < length xs → get_or xs i 0 ≡ f → 1 ≤ counted f xs
+stands f i [] inside is = absurd (omega arith)
+stands f zero (x ∷ xs) inside is = let a = ap one_if (eq-eqb x f is) in omega (arith, a)
+stands f (suc i) (x ∷ xs) inside is = let a = stands f i xs (omega (arith, inside)) is in omega (arith, a)
+
+one_gone : (f i : ℕ) (xs : List ℕ) → i < length xs → get_or xs i 0 ≡ f → counted f xs ≤ 1 → without f xs ≡ remove xs i
+one_gone f i [] inside is once = absurd (omega arith)
+one_gone f zero (x ∷ xs) inside is once =
+    let a = ap one_if (eq-eqb x f is) in rw (eq-eqb x f is) (without_absent f xs (omega (arith, a, once)))
+one_gone f (suc i) (x ∷ xs) inside is once =
+    let some = stands f i xs (omega (arith, inside)) is in elim (cases_eq x f) [
+      | inl e ↦ absurd (let a = ap one_if (eq-eqb x f e) in omega (arith, a, some, once))
+      | inr ne ↦ rw (ne_eqb x f ne) (ap (λ (l : List ℕ). x ∷ l) (one_gone f i xs (omega (arith, inside)) is (omega (arith, once))))
+    ]
+
+-- ---- a CPU's lists in a state
+
+-- the state has these lists and references of the CPU
+pub record HasLists (s : State) (q : ℕ) (list fresh back pins : List ℕ) : Type 0 where
+  pub list_is : (s.parts q).list ≡ list
+  pub fresh_is : (s.parts q).fresh ≡ fresh
+  pub back_is : (s.parts q).back ≡ back
+  pub references_are : (f : ℕ) → s.references q f ≡ times f pins
+
+module _ (s : State) (q : ℕ) (list fresh back pins : List ℕ) (has : HasLists s q list fresh back pins) where
+  pub has_same : (u : State) → HasSameLists q s u → HasLists u q list fresh back pins
+  has_same u same = record {
+    list_is = same.list ∙ has.list_is;
+    fresh_is = same.fresh ∙ has.fresh_is;
+    back_is = same.back ∙ has.back_is;
+    references_are = λ f. ap (λ (r : ℕ → ℕ). r f) same.references ∙ has.references_are f;
+  }
+
+  pub has_took : (g f : ℕ) (rest fresh' : List ℕ) → list ≡ f ∷ rest → fresh' ≡ fresh ++ f ∷ [] → times f list ≤ 1
+      → HasLists (after s q (Consume g) Took) q rest fresh' back pins
+  has_took g f rest fresh' front end once =
+      let here = at_same s.parts q (paid (s.parts q)) in
+      let count = ap (times f) front ∙ times_front f f rest in let t = test_here f in let both = same_times f rest in
+      let none : counted f rest ≡ 0 = omega (arith, count, t, both, once) in
+      record {
+        list_is = ap (λ (part : Part). part.list) here ∙ ap (λ (l : List ℕ). without (front_of l) l) (has.list_is ∙ front) ∙ front_gone f rest none;
+        fresh_is = ap (λ (part : Part). part.fresh) here ∙ (λ i. with_last (has.fresh_is i) (front_of ((has.list_is ∙ front) i))) ∙ sym end;
+        back_is = ap (λ (part : Part). part.back) here ∙ has.back_is;
+        references_are = has.references_are;
+      }
+
+  pub has_credited : (f i : ℕ) (list' : List ℕ) → i < length fresh → get_or fresh i 0 ≡ f → list' ≡ list ++ f ∷ [] → times f fresh ≤ 1
+      → HasLists (after s q (Credit f) Stocked) q list' (remove fresh i) back pins
+  has_credited f i list' inside is end once =
+      let here = at_same s.parts q (credited (s.parts q) f) in let both = same_times f fresh in
+      record {
+        list_is = ap (λ (part : Part). part.list) here ∙ ap (λ (l : List ℕ). with_last l f) has.list_is ∙ sym end;
+        fresh_is = ap (λ (part : Part). part.fresh) here ∙ ap (without f) has.fresh_is ∙ one_gone f i fresh inside is (omega (arith, both, once));
+        back_is = ap (λ (part : Part). part.back) here ∙ has.back_is;
+        references_are = has.references_are;
+      }
+
+  -- the references after those on one frame changed
+  changed_references : (f n : ℕ) (pins' : List ℕ) → n ≡ times f pins' → ((m : ℕ) → f ≢ m → times m pins ≡ times m pins')
+      → (m : ℕ) → with_at s.references q (with_at (s.references q) f n) q m ≡ times m pins'
+  changed_references f n pins' here else m =
+      ap (λ (r : ℕ → ℕ). r m) (at_same s.references q (with_at (s.references q) f n))
+      ∙ at_each (s.references q) f n (λ k x. x ≡ times k pins') here (λ k ne. has.references_are k ∙ else k (λ e. ne (sym e))) m
+
+  pub has_pinned : (f : ℕ) (pins' : List ℕ) → pins' ≡ pins ++ f ∷ [] → HasLists (after s q (Get f) Held) q list fresh back pins'
+  has_pinned f pins' end = record {
+    list_is = has.list_is;
+    fresh_is = has.fresh_is;
+    back_is = has.back_is;
+    references_are = changed_references f (s.references q f + 1) pins'
+        (let r = has.references_are f in let e = ap (times f) end ∙ times_end f f pins in let t = test_here f in omega (arith, r, e, t))
+        (λ m ne. let e = ap (times m) end ∙ times_end m f pins in let t = test_other m f ne in omega (arith, e, t));
+  }
+
+  fewer : (f : ℕ) (pins' : List ℕ) → IsPermutation pins (f ∷ pins') → (m : ℕ) → with_at s.references q (with_at (s.references q) f (s.references q f - 1)) q m ≡ times m pins'
+  fewer f pins' parts = changed_references f (s.references q f - 1) pins'
+      (let r = has.references_are f in let e = times_parted f f pins pins' parts in let t = test_here f in omega (arith, r, e, t))
+      (λ m ne. let e = times_parted m f pins pins' parts in let t = test_other m f ne in omega (arith, e, t))
+
+  pub has_left : (f n : ℕ) (pins' : List ℕ) → IsPermutation pins (f ∷ pins') → HasLists (after s q (Put f) (Left n)) q list fresh back pins'
+  has_left f n pins' parts = record {
+    list_is = has.list_is;
+    fresh_is = has.fresh_is;
+    back_is = has.back_is;
+    references_are = fewer f pins' parts;
+  }
+
+  pub has_last : (f : ℕ) (pins' back' : List ℕ) → q ≢ 0 → IsPermutation pins (f ∷ pins') → back' ≡ back ++ f ∷ []
+      → HasLists (after s q (Put f) Last) q list fresh back' pins'
+  has_last f pins' back' ne parts end =
+      let here : (after s q (Put f) Last).parts q ≡ with_back (s.parts q) f =
+      ap (λ (parts : ℕ → Part). parts q) (cond-false (q == 0) s.parts (with_at s.parts q (with_back (s.parts q) f)) (ne_eqb q 0 ne))
+      ∙ at_same s.parts q (with_back (s.parts q) f) in
+      record {
+        list_is = ap (λ (part : Part). part.list) here ∙ has.list_is;
+        fresh_is = ap (λ (part : Part). part.fresh) here ∙ has.fresh_is;
+        back_is = ap (λ (part : Part). part.back) here ∙ ap (λ (l : List ℕ). with_last l f) has.back_is ∙ sym end;
+        references_are = fewer f pins' parts;
+      }
+
+-- ---- others' steps, and then the CPU's
+
+-- a fast step leaves the lock and the group of the CPU's stock
+record LeavesAway (s u : State) (q : ℕ) : Type 0 where
+  hold : u.hold ≡ s.hold
+  group : (u.parts q).stock.group ≡ (s.parts q).stock.group
+
+fast_leaves : (s : State) (q : ℕ) (action : Action) (answer : Answer) → q ≢ 0 → IsFast action → LeavesAway s (after s q action answer) q
+fast_leaves s q (Get f) Held ne fast = record { hold = refl; group = refl }
+fast_leaves s q (Put f) (Left n) ne fast = record { hold = refl; group = refl }
+fast_leaves s q (Put f) Last ne fast = record {
+  hold = refl;
+  group = ap (λ (parts : ℕ → Part). (parts q).stock.group) (cond-false (q == 0) s.parts (with_at s.parts q (with_back (s.parts q) f)) (ne_eqb q 0 ne))
+      ∙ ap (λ (part : Part). part.stock.group) (at_same s.parts q (with_back (s.parts q) f));
+}
+fast_leaves s q (Consume g) Took ne fast = record { hold = refl; group = ap (λ (part : Part). part.stock.group) (at_same s.parts q (paid (s.parts q))) }
+fast_leaves s q (Credit f) Stocked ne fast = record { hold = refl; group = ap (λ (part : Part). part.stock.group) (at_same s.parts q (credited (s.parts q) f)) }
+fast_leaves s q (Get f) answer ne fast = record { hold = refl; group = refl }
+fast_leaves s q (Put f) answer ne fast = record { hold = refl; group = refl }
+fast_leaves s q (Consume g) answer ne fast = record { hold = refl; group = refl }
+fast_leaves s q (Credit f) answer ne fast = record { hold = refl; group = refl }
+fast_leaves s q action answer ne fast = absurd fast
+
+legal_before : (zone : Zone) (xs ys : Run) → IsLegalRun zone (xs ++ ys) → IsLegalRun zone xs
+legal_before zone xs ys legal = subst (IsLegalRun zone) (take_length xs ys) (legal_from zone (xs ++ ys) (length xs) legal)
+
+-- the CPU made the step behind others' steps: what its own lists are now, that it is still away from the lock, and that
+-- its stock is of the same group as before
+pub record Follows (t : KnownTable) (past later : KnownPasts) (action : Action) (answer : Answer) : Type 0 where
+  pub same : HasSameLists (own_past past).number (after (last_state t past) (own_past past).number action answer) (last_state t later)
+  pub away : holds_lock (own_past past).number (last_state t later).hold ≡ false
+  pub group : ((last_state t later).parts (own_past past).number).stock.group ≡ ((last_state t past).parts (own_past past).number).stock.group
+  pub before : State
+  pub before_group : ((last_state t later).parts (own_past past).number).stock.group ≡ (before.parts (own_past past).number).stock.group
+  pub allowed : Allows before (own_past past).number action answer
+
+not_zone : (q : ℕ) → 1 ≤ q → q ≢ 0
+not_zone q low e = absurd (omega (arith, low, e))
+
+pub follows : (t : KnownTable) (past later : KnownPasts) (action : Action) (answer : Answer) → IsFast action → IsCpuPast t past → IsCpuPast t later
+    → holds_lock (own_past past).number (last_state t past).hold ≡ false → Does past action answer later → Follows t past later action answer
+follows t past later action answer fast is is_later away does =
+    let zone = zone_of_boot t in let p = own_past past in let q = p.number in
+    let ne = not_zone q is.low in
+    let behind = p.seen ++ does.grew.between in
+    let whole = subst (IsLegalRun zone) does.grew.seen is_later.legal in
+    let legal = legal_before zone behind ((record { seat = q; action = action }, answer) ∷ []) whole in
+    let stays = away_stays zone p.seen does.grew.between q ne legal does.grew.others away in
+    let drained = stocks_are_own zone p.seen does.grew.between q legal does.grew.others stays.1 in
+    let more = ap (state_of zone) does.grew.seen ∙ state_more zone behind (record { seat = q; action = action }) answer in
+    let leaves = fast_leaves (state_of zone behind) q action answer ne fast in
+    let own = ap (λ (u : State). (u.parts q).stock.group) more ∙ leaves.group in
+    record {
+      same = own_part_follows zone p action answer (own_past later) ne fast does.grew;
+      away = ap (λ (u : State). holds_lock q u.hold) more ∙ ap (holds_lock q) leaves.hold ∙ stays.0;
+      group = own ∙ drained.group;
+      before = state_of zone behind;
+      before_group = own;
+      allowed = allowed_at zone behind (record { seat = q; action = action }, answer) [] whole;
+    }
+
+-- ---- what the CPU knows
+
+module _ (t : KnownTable) (past : KnownPasts) (c : KnownCpu) (knows : KnowsItsPart t past c) where
+  -- the same of the number of its past
+  pub own_lists : HasLists (last_state t past) (own_past past).number c.list c.fresh c.back c.pins
+  own_lists = subst (λ q. HasLists (last_state t past) q c.list c.fresh c.back c.pins) (sym knows.number)
+      (record { list_is = knows.list; fresh_is = knows.fresh; back_is = knows.back; references_are = knows.references })
+
+  own_away : holds_lock (own_past past).number (last_state t past).hold ≡ false
+  own_away = subst (λ q. holds_lock q (last_state t past).hold ≡ false) (sym knows.number) knows.away
+
+  pub own_group : c.fresh ≢ [] → ((last_state t past).parts (own_past past).number).stock.group ≡ group_of c.stock_seat.view.last
+  own_group some = subst (λ q. ((last_state t past).parts q).stock.group ≡ group_of c.stock_seat.view.last) (sym knows.number) (knows.group some)
+
+  -- it knows the same where only its seats and its drops change, and what it saw of its stock is of the same group
+  pub still_knows : (later : KnownPasts) (d : KnownCpu) → later ≡ past → d.number ≡ c.number → d.list ≡ c.list → d.fresh ≡ c.fresh → d.back ≡ c.back
+      → d.pins ≡ c.pins → group_of d.stock_seat.view.last ≡ group_of c.stock_seat.view.last → KnowsItsPart t later d
+  still_knows later d same number list fresh back pins group = subst (λ (p : KnownPasts). KnowsItsPart t p d) (sym same) (record {
+    past_is = knows.past_is;
+    number = knows.number ∙ sym number;
+    list = ap (λ q. ((last_state t past).parts q).list) number ∙ knows.list ∙ sym list;
+    fresh = ap (λ q. ((last_state t past).parts q).fresh) number ∙ knows.fresh ∙ sym fresh;
+    back = ap (λ q. ((last_state t past).parts q).back) number ∙ knows.back ∙ sym back;
+    references = λ f. ap (λ q. (last_state t past).references q f) number ∙ knows.references f ∙ ap (times f) (sym pins);
+    away = ap (λ q. holds_lock q (last_state t past).hold) number ∙ knows.away;
+    group = λ some. ap (λ q. ((last_state t past).parts q).stock.group) number ∙ knows.group (λ none. some (fresh ∙ none)) ∙ sym group;
+  })
+
+  -- it made the step, and its lists are now what the step makes of them
+  pub knows_after : (later : KnownPasts) (action : Action) (answer : Answer) (d : KnownCpu) → IsFast action → Does past action answer later
+      → IsCpuPast t later → d.number ≡ c.number
+      → HasLists (after (last_state t past) (own_past past).number action answer) (own_past past).number d.list d.fresh d.back d.pins
+      → ((follow : Follows t past later action answer) → d.fresh ≢ []
+      → ((last_state t later).parts (own_past past).number).stock.group ≡ group_of d.stock_seat.view.last)
+      → KnowsItsPart t later d
+  knows_after later action answer d fast does is_later number lists group =
+      let follow = follows t past later action answer fast knows.past_is is_later own_away does in
+      let q = (own_past past).number in
+      let same : q ≡ d.number = knows.number ∙ sym number in
+      let has = subst (λ k. HasLists (last_state t later) k d.list d.fresh d.back d.pins) same
+      (has_same (after (last_state t past) q action answer) q d.list d.fresh d.back d.pins lists (last_state t later) follow.same) in
+      record {
+        past_is = is_later;
+        number = does.grew.number ∙ same;
+        list = has.list_is;
+        fresh = has.fresh_is;
+        back = has.back_is;
+        references = has.references_are;
+        away = subst (λ k. holds_lock k (last_state t later).hold ≡ false) same follow.away;
+        group = λ some. subst (λ k. ((last_state t later).parts k).stock.group ≡ group_of d.stock_seat.view.last) same (group follow some);
+      }
+
+-- ---- which steps are legal at its last step
+
+module _ (t : KnownTable) (w : KnownStockTable) (past : KnownPasts) (c : KnownCpu) (knows : KnowsItsPart t past c) (tied : IsTied t w c) where
+  a_cpu : is_cpu (last_state t past).zone (own_past past).number ≡ true
+  a_cpu = let zone = zone_of_run (zone_of_boot t) (own_past past).seen in let is = knows.past_is in let q = (own_past past).number in
+      ap (λ (z : Zone). is_cpu z q) zone ∙ (λ i. le-leb 1 q is.low i && le-leb q t.cpus is.high i)
+
+  a_frame : (f : ℕ) → f < t.frames → is_frame (last_state t past).zone f ≡ true
+  a_frame f inside = ap (λ (z : Zone). is_frame z f) (zone_of_run (zone_of_boot t) (own_past past).seen) ∙ lt-ltb f t.frames inside
+
+  pub may_consume : (g : ℕ) → 1 ≤ length c.list → length c.fresh < 32 → MayDo t past (Consume g)
+  may_consume g some short =
+      let has = own_lists t past c knows in
+      λ i. a_cpu i && (ap (λ (l : List ℕ). leb 1 (length l)) has.list_is ∙ le-leb 1 (length c.list) some) i
+      && (ap (λ (l : List ℕ). ltb (length l) 32) has.fresh_is ∙ lt-ltb (length c.fresh) 32 short) i
+
+  pub may_credit : (f : ℕ) → f < t.frames → 1 ≤ times f c.fresh → MayDo t past (Credit f)
+  may_credit f inside some =
+      let has = own_lists t past c knows in let q = (own_past past).number in
+      let sound = sound_run (zone_of_boot t) (own_past past).seen knows.past_is.legal in
+      let told = sound.lists q FreshFrame f in let e = ap (counted f) has.fresh_is in let both = same_times f c.fresh in
+      let fresh = one_if_true (has_as FreshFrame q ((last_state t past).phases f)) (omega (arith, told, e, both, some)) in
+      λ i. a_cpu i && a_frame f inside i && fresh i
+
+  pub may_put : (f : ℕ) → f < t.frames → 1 ≤ times f c.pins → MayDo t past (Put f)
+  may_put f inside some =
+      let has = own_lists t past c knows in let q = (own_past past).number in let r = has.references_are f in
+      λ i. (a_cpu i || may_zone_act (last_state t past).hold q) && a_frame f inside i
+      && le-leb 1 ((last_state t past).references q f) (omega (arith, r, some)) i
+
+  pub may_get : (f : ℕ) → f < t.frames → length c.back + length c.pins < 256 → MayDo t past (Get f)
+  may_get f inside room =
+      let has = own_lists t past c knows in let q = (own_past past).number in
+      let zone = zone_of_run (zone_of_boot t) (own_past past).seen in
+      let none : (m : ℕ) → t.frames ≤ m → counted m c.pins ≡ 0 = λ m past. let z = (tied.noted m).in_table past in let both = same_times m c.pins in omega (arith, z, both) in
+      let pins : pins_of (last_state t past) q ≡ length c.pins =
+      ap (λ (z : Zone). sum_to z.frames ((last_state t past).references q)) zone
+      ∙ sum_same t.frames ((last_state t past).references q) (λ m. counted m c.pins) (λ m below. has.references_are m ∙ same_times m c.pins)
+      ∙ count_length t.frames c.pins none in
+      let back = ap length has.back_is in
+      λ i. a_cpu i && a_frame f inside i
+      && lt-ltb (pins_of (last_state t past) q + length ((last_state t past).parts q).back) 256 (omega (arith, pins, back, room)) i
