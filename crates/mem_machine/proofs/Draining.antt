@@ -406,7 +406,7 @@ after_look m n q k g of drains = record {
       table = m.stock_seat.table;
       view = record (zone_after_drain m.stock_seat.view q k) { steps = counted i };
     };
-    watch = n.watch;
+    run = n.run;
   });
   booked = drains.booked;
   drained_before = drains.drained_before;

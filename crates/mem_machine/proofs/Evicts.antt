@@ -194,7 +194,7 @@ evicted_all t w m now same ok f i inside is kept_now links lists left_list stand
           frame_seat = (answered.1 ∙ ap (λ (x : KnownMachine). seat_with x.frame_seat f (frozen 1)) same) j;
           counts = (counted ∙ ap (λ (x : KnownMachine). with_freeze x.counts) same) j;
           notes = (noted ∙ (λ l. unit_noted (same l).notes unit.group (is l) (size l))) j;
-          watch = m.watch;
+          run = m.run;
         };
       };
       visit = λ c visit. visits_noted t n c notes (back.visit c visit);

@@ -30,8 +30,8 @@ use Rattle.mem_machine.specs.declared.counts.Counts.{Counts}
 use Rattle.mem_machine.specs.Counting.{counts_after, counts_along}
 use Rattle.mem_machine.specs.Machines.{KnownMachine}
 use Rattle.mem_machine.specs.Local.{VisitState, visit_state, local_of, local_at, IsLocalRun, MakesAs}
-use Rattle.step_watch.specs.Watched.{KnownWatch, Watches}
-use Rattle.step_watch.proofs.Watching.{watches_none, watches_both}
+use Rattle.mem_machine.specs.Noted.{KnownRun, Notes}
+use Rattle.mem_machine.proofs.Noted.{notes_none, notes_both}
 use Rattle.mem_machine.proofs.Reaching.{run_both}
 
 -- ---- one list after another
@@ -130,12 +130,12 @@ makes_both t p one two a b c first second =
             (count_begins (is_noted_at key m) m) _ _ _ (first.follows.events_local key m) (second.follows.events_local key m there) there;
       };
       counts = second.counts ∙ ap (counts_along u two) first.counts ∙ sym (counts_both p s one two u a.machine.counts first.leads);
-      watched = watches_both a.machine.watch one b.machine.watch two c.machine.watch first.watched second.watched;
+      noted = notes_both t a.machine.run one b.machine.run two c.machine.run first.noted second.noted;
     }
 
--- ---- the watch
+-- ---- the run
 
--- all that `MakesAs` says but for the watch
+-- all that `MakesAs` says but for the pasts and the watch
 pub record LeadsAs (table : KnownTable) (number : ℕ) (before : VisitState) (steps : Run) (after : VisitState) : Type 0 where
   pub leads : IsLocalRun number (local_at table before) steps (local_at table after)
   pub follows : FollowsSteps (local_at table before) before.machine.ledger steps after.machine.ledger
@@ -145,15 +145,15 @@ pub record LeadsAs (table : KnownTable) (number : ℕ) (before : VisitState) (st
 abbrev pub LeadsForAny : KnownTable → KnownMachine → Run → KnownMachine → Type 0
 LeadsForAny table before steps after = (cpu : KnownCpu) → LeadsAs table cpu.number (visit_state before cpu) steps (visit_state after cpu)
 
--- a watch took the steps, and the machine after them has this watch
-pub makes_watched : (t : KnownTable) (p : ℕ) (m now : KnownMachine) → m ≡ now → (c d : KnownCpu) (steps : Run) (n : KnownMachine)
-    → LeadsAs t p (visit_state now c) steps (visit_state n d) → (w : KnownWatch) → Watches m.watch steps w
-    → MakesAs t p (visit_state now c) steps (visit_state (record n { watch = w }) d)
-makes_watched t p m now same c d steps n made w took = record {
+-- the pasts have grown by the steps, and the watch took them: the machine after them has this run
+pub makes_noted : (t : KnownTable) (p : ℕ) (m now : KnownMachine) → m ≡ now → (c d : KnownCpu) (steps : Run) (n : KnownMachine)
+    → LeadsAs t p (visit_state now c) steps (visit_state n d) → (run : KnownRun) → Notes t m.run steps run
+    → MakesAs t p (visit_state now c) steps (visit_state (record n { run = run }) d)
+makes_noted t p m now same c d steps n made run notes = record {
   leads = made.leads;
   follows = made.follows;
   counts = made.counts;
-  watched = subst (λ (x : KnownMachine). Watches x.watch steps w) same took;
+  noted = subst (λ (x : KnownMachine). Notes t x.run steps run) same notes;
 }
 
 -- ---- steps that move nothing
@@ -237,14 +237,14 @@ follows_same s l steps still = follows_still s l steps l still (λ m. refl) (sam
 -- ---- no step
 
 pub makes_none : (t : KnownTable) (p : ℕ) (a : VisitState) → MakesAs t p a [] a
-makes_none t p a = record { leads = refl; follows = follows_same _ _ _ refl; counts = refl; watched = watches_none a.machine.watch }
+makes_none t p a = record { leads = refl; follows = follows_same _ _ _ refl; counts = refl; noted = notes_none t a.machine.run }
 
--- what is seen stays, and the ledger, the counts and the watch
+-- what is seen stays, and the ledger, the counts and the run
 pub makes_stay : (t : KnownTable) (m n : KnownMachine) (c d : KnownCpu) → local_of t m c ≡ local_of t n d → n.ledger ≡ m.ledger
-    → n.counts ≡ m.counts → n.watch ≡ m.watch → MakesAs t c.number (visit_state m c) [] (visit_state n d)
-makes_stay t m n c d seen same counted unwatched = record {
+    → n.counts ≡ m.counts → n.run ≡ m.run → MakesAs t c.number (visit_state m c) [] (visit_state n d)
+makes_stay t m n c d seen same counted unnoted = record {
   leads = seen;
   counts = counted;
-  watched = subst (Watches m.watch []) (sym unwatched) (watches_none m.watch);
+  noted = subst (Notes t m.run []) (sym unnoted) (notes_none t m.run);
   follows = subst (FollowsSteps (local_of t m c) m.ledger []) (sym same) (follows_same (local_of t m c) m.ledger [] refl);
 }

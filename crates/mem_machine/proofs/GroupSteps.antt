@@ -161,7 +161,7 @@ module _ (t : KnownTable) (m now : KnownMachine) (same : m ≡ now) where
   makes l marks g path least is set = record {
     least = subst (λ (k : KnownMachine). IsLeastFreeNumber k.ledger.groups g) same least;
     machine = (λ i. record m { ledger = is i; killed = set i })
-        ∙ ap (λ (k : KnownMachine). record k { ledger = with_new_group k.ledger g path; killed = slice_set k.killed g false; watch = m.watch }) same;
+        ∙ ap (λ (k : KnownMachine). record k { ledger = with_new_group k.ledger g path; killed = slice_set k.killed g false; run = m.run }) same;
   }
 
   pub made_runs : (l : Ledger) (marks : List Bool) (g : ℕ) (path : List ℕ) → g < length m.killed → None ≡ make_fault m.ledger.groups path

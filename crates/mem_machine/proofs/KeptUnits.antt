@@ -153,7 +153,7 @@ pub unit_kept : (t : KnownTable) (w : KnownStockTable) (m : KnownMachine) → Is
       killed = m.killed;
       counts = counts;
       notes = m.notes;
-      watch = m.watch;
+      run = m.run;
     })
 unit_kept t w m ok g fits b block frame_states placed first rest links lists joined change used blocks ledger stock counts joins balances =
     let uncharged : (f : ℕ) → b.at ≤ f → f < b.at + 2 ^ b.order → frame_state_group (frame_state_at m.frame_states f) ≡ None =

@@ -2,6 +2,8 @@ pub mod Balances
 pub mod NoneLent
 pub mod Reaching
 pub mod Followed
+pub mod Noted
+pub mod Reached
 pub mod Watched
 pub mod Counted
 pub mod LedgerMoves

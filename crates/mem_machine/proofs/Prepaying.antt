@@ -367,12 +367,12 @@ module _ (m x : KnownMachine) (q p k : ℕ) (named : q ≡ p) (d : Drains q k m 
           (subst (λ (z : KnownMachine × KnownCpu). Makes t (visit_state z.0 z.1) (fill_steps z.1.number g pages) (visit_state n f)) (λ i. (same i, stays i)) steps)
 
       -- the grant was refused, and since then only the watch saw it
-      module _ (over : ℕ) (kept : n ≡ record y { watch = n.watch }) (own_kept : f ≡ e) where
+      module _ (over : ℕ) (kept : n ≡ record y { run = n.run }) (own_kept : f ≡ e) where
         pub is_refused : room.IsLowestOver y.ledger.groups (current_of y.ledger) g pages over → IsOver g pages over (visit_state m c) (visit_state n f)
         is_refused low = record {
           emptied = x;
           drains = own_drain;
-          machine = kept ∙ (λ i. record (same i) { watch = n.watch });
+          machine = kept ∙ (λ i. record (same i) { run = n.run });
           lowest = subst (λ (z : KnownMachine). room.IsLowestOver z.ledger.groups (current_of z.ledger) g pages over) (sym kept) low;
           cpu = own_kept ∙ stays;
         }

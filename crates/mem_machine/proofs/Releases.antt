@@ -458,7 +458,7 @@ returned_all t w m now same ok f i inside is kept_now links lists left_list stan
           lists = lists;
           frame_seat = (put ∙ ap (λ (x : KnownMachine). seat_with x.frame_seat f put_last) same) j;
           counts = (counted ∙ ap (λ (x : KnownMachine). with_last_put x.counts) same) j;
-          watch = m.watch;
+          run = m.run;
         };
       };
       visit = back.visit;

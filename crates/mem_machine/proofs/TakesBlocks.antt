@@ -197,7 +197,7 @@ taken_machine m g b blocks frame_states links lists = record {
   killed = m.killed;
   counts = m.counts;
   notes = m.notes;
-  watch = m.watch;
+  run = m.run;
 }
 
 taken_here : (t : KnownTable) (w : KnownStockTable) (m : KnownMachine) (c : KnownCpu) → IsConsistent t w m → AreCharges m.ledger → (g : ℕ) → g < 64 → (b : Block)

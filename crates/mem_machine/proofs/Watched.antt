@@ -1,13 +1,16 @@
--- What a call does stays true if the machine after it has another watch. Serves all calls that make steps. Other notes
+-- What a call does stays true if the run of the machine after it has grown. Serves all calls that make steps. Other notes
 -- change as little. That serves `evict`.
-use Rattle.std.proofs.Common.{ℕ}
-use Rattle.frame_word.specs.Seats.{KnownTable}
+use Rattle.std.proofs.Common.{◌≡◌, ℕ, refl, sym, ◌∙◌, ap, subst}
+use Rattle.step_rules.specs.After.{Run}
+use Rattle.frame_word.specs.Seats.{KnownSeat, KnownTable}
 use Rattle.stock_word.specs.Stock.{KnownStockTable}
 use Rattle.cpu_part.specs.Cpus.{KnownCpu}
 use Rattle.group_charge.specs.Notes.{KnownNotes}
-use Rattle.step_watch.specs.Watched.{KnownWatch}
-use Rattle.mem_machine.specs.Machines.{KnownMachine, VisitState, IsConsistent, visit_state, with_watch}
-use Rattle.mem_machine.specs.Local.{Visits}
+use Rattle.mem_machine.specs.Noted.{KnownRun}
+use Rattle.mem_machine.specs.Machines.{KnownMachine, VisitState, IsConsistent, visit_state, with_run}
+use Rattle.frame_word.specs.Seats.{IsOpen, LentIsBorrowed, NothingPasses}
+use Rattle.mem_machine.specs.Local.{IsShown, MakesAs, MakesForAny, StaysVisited, Visits}
+use Rattle.mem_machine.proofs.Reached.{shown_same, shown_then}
 use Rattle.mem_machine.specs.Lending.{LendsFrame, LendsOne, UnlistsOne}
 use Rattle.mem_machine.specs.Settling.{KeepsFresh, DropsFresh, ReturnsBack}
 use Rattle.mem_machine.specs.Releasing.{LeavesReferences, ReturnsUnit}
@@ -16,7 +19,7 @@ use Rattle.mem_machine.specs.Blocks.{TakesBlock, TakesNoBlock}
 use Rattle.mem_machine.specs.Paying.{PaysForFront}
 use Rattle.mem_machine.specs.Stocks.{DrainsBy, Fills}
 
-pub consistent_still : (t : KnownTable) (w : KnownStockTable) (n : KnownMachine) (v : KnownWatch) → IsConsistent t w n → IsConsistent t w (with_watch n v)
+pub consistent_still : (t : KnownTable) (w : KnownStockTable) (n : KnownMachine) (v : KnownRun) → IsConsistent t w n → IsConsistent t w (with_run n v)
 consistent_still t w n v ok = record {
   sizes = let s = ok.sizes in record { frame_states = s.frame_states; links = s.links; lists = s.lists; killed = s.killed; cpus = s.cpus };
   seats = ok.seats;
@@ -30,8 +33,32 @@ consistent_still t w n v ok = record {
   balances = ok.balances;
 }
 
-pub visits_still : (t : KnownTable) (n : KnownMachine) (d : KnownCpu) (v : KnownWatch) → Visits t (visit_state n d) → Visits t (visit_state (with_watch n v) d)
-visits_still t n d v visit = record { is_open = visit.is_open; still = visit.still; lent = visit.lent }
+-- `Visits` without what the CPU sees by the run
+pub record HasOpenVisit (t : KnownTable) (now : VisitState) : Type 0 where
+  pub is_open : IsOpen now.machine.frame_seat now.cpu.number
+  pub still : NothingPasses t now.machine.frame_seat now.cpu.frame_seat
+  pub lent : LentIsBorrowed t now.machine.frame_seat now.cpu.frame_seat
+
+-- the visit goes on behind the steps of a call
+pub visits_then : (t : KnownTable) (a b : VisitState) (steps : Run) → IsShown t a → MakesAs t a.cpu.number a steps b → b.cpu.number ≡ a.cpu.number → HasOpenVisit t b → Visits t b
+visits_then t a b steps now makes number visit = record {
+  is_open = visit.is_open;
+  still = visit.still;
+  lent = visit.lent;
+  shown = shown_then t a b steps now makes number;
+}
+
+-- steps that leave the zone's seat at the frames leave each visit open
+pub stays_then : (t : KnownTable) (m now : KnownMachine) → m ≡ now → (n : KnownMachine) → n.frame_seat ≡ m.frame_seat → (steps : Run) → MakesForAny t now steps n
+    → StaysVisited t now n
+stays_then t m now same n seat steps makes c visit =
+    let seat_now : now.frame_seat ≡ n.frame_seat = sym (seat ∙ ap (λ (k : KnownMachine). k.frame_seat) same) in
+    visits_then t (visit_state now c) (visit_state n c) steps visit.shown (makes c) refl
+    (subst (λ (x : KnownSeat). HasOpenVisit t (visit_state (record n { frame_seat = x }) c)) seat_now
+    (record { is_open = visit.is_open; still = visit.still; lent = visit.lent }))
+
+pub open_still : (t : KnownTable) (n : KnownMachine) (d : KnownCpu) (v : KnownRun) → HasOpenVisit t (visit_state n d) → HasOpenVisit t (visit_state (with_run n v) d)
+open_still t n d v visit = record { is_open = visit.is_open; still = visit.still; lent = visit.lent }
 
 pub consistent_noted : (t : KnownTable) (w : KnownStockTable) (n : KnownMachine) (k : KnownNotes) → IsConsistent t w n → IsConsistent t w (record n { notes = k })
 consistent_noted t w n k ok = record {
@@ -48,63 +75,68 @@ consistent_noted t w n k ok = record {
 }
 
 pub visits_noted : (t : KnownTable) (n : KnownMachine) (d : KnownCpu) (k : KnownNotes) → Visits t (visit_state n d) → Visits t (visit_state (record n { notes = k }) d)
-visits_noted t n d k visit = record { is_open = visit.is_open; still = visit.still; lent = visit.lent }
+visits_noted t n d k visit = record {
+  is_open = visit.is_open;
+  still = visit.still;
+  lent = visit.lent;
+  shown = shown_same t (visit_state n d) (visit_state (record n { notes = k }) d) visit.shown refl refl refl;
+}
 
-module _ (a : VisitState) (n : KnownMachine) (d : KnownCpu) (v : KnownWatch) where
-  pub lends_still : (f : ℕ) → LendsFrame f a (visit_state n d) → LendsFrame f a (visit_state (with_watch n v) d)
-  lends_still f does = record { areas = does.areas; machine = λ i. with_watch (does.machine i) v; cpu = does.cpu }
+module _ (a : VisitState) (n : KnownMachine) (d : KnownCpu) (v : KnownRun) where
+  pub lends_still : (f : ℕ) → LendsFrame f a (visit_state n d) → LendsFrame f a (visit_state (with_run n v) d)
+  lends_still f does = record { areas = does.areas; machine = λ i. with_run (does.machine i) v; cpu = does.cpu }
 
-  pub lends_one_still : (f : ℕ) → LendsOne f a (visit_state n d) → LendsOne f a (visit_state (with_watch n v) d)
+  pub lends_one_still : (f : ℕ) → LendsOne f a (visit_state n d) → LendsOne f a (visit_state (with_run n v) d)
   lends_one_still f does = record { front = does.front; lends = lends_still f does.lends }
 
-  pub takes_still : (f : ℕ) → UnlistsOne f a (visit_state n d) → UnlistsOne f a (visit_state (with_watch n v) d)
-  takes_still f does = record { rest = does.rest; front = does.front; areas = does.areas; machine = λ i. with_watch (does.machine i) v; cpu = does.cpu }
+  pub takes_still : (f : ℕ) → UnlistsOne f a (visit_state n d) → UnlistsOne f a (visit_state (with_run n v) d)
+  takes_still f does = record { rest = does.rest; front = does.front; areas = does.areas; machine = λ i. with_run (does.machine i) v; cpu = does.cpu }
 
-  pub keeps_still : (g f : ℕ) → KeepsFresh g f a (visit_state n d) → KeepsFresh g f a (visit_state (with_watch n v) d)
+  pub keeps_still : (g f : ℕ) → KeepsFresh g f a (visit_state n d) → KeepsFresh g f a (visit_state (with_run n v) d)
   keeps_still g f does = record {
     listed = does.listed;
-    machine = λ i. with_watch (does.machine i) v;
+    machine = λ i. with_run (does.machine i) v;
     cpu = does.cpu;
   }
 
-  pub drops_still : (g f : ℕ) → DropsFresh g f a (visit_state n d) → DropsFresh g f a (visit_state (with_watch n v) d)
-  drops_still g f does = record { frees = does.frees; areas = does.areas; machine = λ i. with_watch (does.machine i) v; cpu = does.cpu }
+  pub drops_still : (g f : ℕ) → DropsFresh g f a (visit_state n d) → DropsFresh g f a (visit_state (with_run n v) d)
+  drops_still g f does = record { frees = does.frees; areas = does.areas; machine = λ i. with_run (does.machine i) v; cpu = does.cpu }
 
-  pub returns_still : (f : ℕ) → ReturnsBack f a (visit_state n d) → ReturnsBack f a (visit_state (with_watch n v) d)
+  pub returns_still : (f : ℕ) → ReturnsBack f a (visit_state n d) → ReturnsBack f a (visit_state (with_run n v) d)
   returns_still f does = record {
     unit = does.unit;
     heads = does.heads;
     frees = does.frees;
     areas = does.areas;
-    machine = λ i. with_watch (does.machine i) v;
+    machine = λ i. with_run (does.machine i) v;
     front = does.front;
     cpu = does.cpu;
   }
 
-  pub pays_still : (g f : ℕ) → PaysForFront g f a (visit_state n d) → PaysForFront g f a (visit_state (with_watch n v) d)
-  pays_still g f does = record { takes = does.takes; machine = λ i. with_watch (does.machine i) v }
+  pub pays_still : (g f : ℕ) → PaysForFront g f a (visit_state n d) → PaysForFront g f a (visit_state (with_run n v) d)
+  pays_still g f does = record { takes = does.takes; machine = λ i. with_run (does.machine i) v }
 
-  pub fills_still : (g k : ℕ) → Fills g k a (visit_state n d) → Fills g k a (visit_state (with_watch n v) d)
-  fills_still g k does = record { room = does.room; machine = λ i. with_watch (does.machine i) v; cpu = does.cpu }
+  pub fills_still : (g k : ℕ) → Fills g k a (visit_state n d) → Fills g k a (visit_state (with_run n v) d)
+  fills_still g k does = record { room = does.room; machine = λ i. with_run (does.machine i) v; cpu = does.cpu }
 
-module _ (m n : KnownMachine) (v : KnownWatch) where
-  pub left_still : (f left : ℕ) → LeavesReferences f left m n → LeavesReferences f left m (with_watch n v)
-  left_still f left does = record { list = does.list; some = does.some; machine = λ i. with_watch (does.machine i) v }
+module _ (m n : KnownMachine) (v : KnownRun) where
+  pub left_still : (f left : ℕ) → LeavesReferences f left m n → LeavesReferences f left m (with_run n v)
+  left_still f left does = record { list = does.list; some = does.some; machine = λ i. with_run (does.machine i) v }
 
-  pub returned_still : (f : ℕ) → ReturnsUnit f m n → ReturnsUnit f m (with_watch n v)
+  pub returned_still : (f : ℕ) → ReturnsUnit f m n → ReturnsUnit f m (with_run n v)
   returned_still f does = record {
     unit = does.unit;
     heads = does.heads;
     list = does.list;
     frees = does.frees;
     areas = does.areas;
-    machine = λ i. with_watch (does.machine i) v;
+    machine = λ i. with_run (does.machine i) v;
   }
 
-  pub misses_still : (f : ℕ) → MissesUnit f m n → MissesUnit f m (with_watch n v)
-  misses_still f does = record { word = does.word; others = does.others; machine = λ i. with_watch (does.machine i) v }
+  pub misses_still : (f : ℕ) → MissesUnit f m n → MissesUnit f m (with_run n v)
+  misses_still f does = record { word = does.word; others = does.others; machine = λ i. with_run (does.machine i) v }
 
-  pub evicts_still : (f pages : ℕ) → EvictsUnit f pages m n → EvictsUnit f pages m (with_watch n v)
+  pub evicts_still : (f pages : ℕ) → EvictsUnit f pages m n → EvictsUnit f pages m (with_run n v)
   evicts_still f pages does = record {
     unit = does.unit;
     heads = does.heads;
@@ -114,21 +146,21 @@ module _ (m n : KnownMachine) (v : KnownWatch) where
     usage = does.usage;
     frees = does.frees;
     areas = does.areas;
-    machine = λ i. with_watch (does.machine i) v;
+    machine = λ i. with_run (does.machine i) v;
   }
 
-  pub takes_block_still : (g k at : ℕ) → TakesBlock g k at m n → TakesBlock g k at m (with_watch n v)
+  pub takes_block_still : (g k at : ℕ) → TakesBlock g k at m n → TakesBlock g k at m (with_run n v)
   takes_block_still g k at does = record {
     room = does.room;
     front = does.front;
     areas = does.areas;
     unit = does.unit;
     listed = does.listed;
-    machine = λ i. with_watch (does.machine i) v;
+    machine = λ i. with_run (does.machine i) v;
   }
 
-  pub takes_none_still : (g k : ℕ) → TakesNoBlock g k m n → TakesNoBlock g k m (with_watch n v)
-  takes_none_still g k does = record { room = does.room; none = does.none; machine = λ i. with_watch (does.machine i) v }
+  pub takes_none_still : (g k : ℕ) → TakesNoBlock g k m n → TakesNoBlock g k m (with_run n v)
+  takes_none_still g k does = record { room = does.room; none = does.none; machine = λ i. with_run (does.machine i) v }
 
-  pub drains_still : (steps q k : ℕ) → DrainsBy steps q k m n → DrainsBy steps q k m (with_watch n v)
-  drains_still steps q k does = record { machine = λ i. with_watch (does.machine i) v; booked = does.booked; drained_before = does.drained_before }
+  pub drains_still : (steps q k : ℕ) → DrainsBy steps q k m n → DrainsBy steps q k m (with_run n v)
+  drains_still steps q k does = record { machine = λ i. with_run (does.machine i) v; booked = does.booked; drained_before = does.drained_before }

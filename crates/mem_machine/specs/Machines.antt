@@ -69,6 +69,10 @@ without_notes machine = record machine { notes = forgotten machine.notes }
 abbrev pub with_unit_notes : KnownMachine → (is_on : Bool) → KnownMachine
 with_unit_notes machine is_on = record machine { notes = record machine.notes { notes_units = is_on } }
 
+-- the machine with another run
+abbrev pub with_run : KnownMachine → KnownRun → KnownMachine
+with_run machine run = record machine { run = run }
+
 -- the machine with another watch
 abbrev pub with_watch : KnownMachine → KnownWatch → KnownMachine
 with_watch machine watch = record machine { run = record (machine.run) { watch = watch } }

@@ -20,8 +20,8 @@ ghost use Rattle.step_rules.specs.declared.step.Answer.TheVariants.{Done, Pages,
 ghost use Rattle.mem_machine.specs.Settling.{collect_steps};
 
 use crate::proving::prove_tied;
-use cpu_part::{BootName, Cpu, Tables};
 use boot_words::{FrameSeat, PastSeat, StockSeat};
+use cpu_part::{BootName, Cpu, Tables};
 use frame_word::Frame;
 use group_tree::group::{GroupId, MAX_GROUPS};
 use std::marker::{Model, PhantomData};

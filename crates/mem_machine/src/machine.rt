@@ -71,11 +71,7 @@ impl<N: BootName> Machine<N> {
     /// The machine of a new boot, from the zone's seats, which have done nothing yet. All frames are free, and only
     /// the root exists. The watch is off. This call reserves all memory that later calls need; it returns `AllocError`
     /// if memory runs out.
-    pub fn new(
-        alloc: Global,
-        tables: &Tables<N>,
-        seats: OwnSeats,
-    ) -> Result<Machine<N>, AllocError>
+    pub fn new(alloc: Global, tables: &Tables<N>, seats: OwnSeats) -> Result<Machine<N>, AllocError>
         requires seats { seats ≡ zone_seats N.frames.table N.frames.frames }
         requires cpus { N.stocks.cpus ≡ N.frames.cpus }
         ensures first { IfOk result (λ machine. IsFirst N.frames N.stocks machine) }

@@ -52,7 +52,9 @@ impl<N: BootName> Machine<N> {
             (take_front_steps cpu.old.number group) (visit_state self.new cpu.new) }
     {
         let cpu_number = cpu.number();
-        let frame = self.stock_seat.take_front(tables, cpu, &mut self.past, group);
+        let frame = self
+            .stock_seat
+            .take_front(tables, cpu, &mut self.past, group);
         self.watch.consumed(cpu_number, group);
         frame
     }

@@ -6,7 +6,7 @@ use Rattle.step_rules.specs.declared.step.Action.TheVariants.{DrainStock}
 use Rattle.step_rules.specs.declared.step.Answer.TheVariants.{Pages}
 use Rattle.step_rules.specs.After.{Run}
 use Rattle.mem_machine.specs.Steps.{drain_steps, zone_makes}
-use Rattle.mem_machine.proofs.Followed.{makes_watched}
+use Rattle.mem_machine.proofs.Followed.{makes_noted}
 use Rattle.mem_machine.proofs.Watched.{consistent_still, drains_still}
 use Rattle.mem_machine.proofs.machine.Machine.drain_of.Goals as goal
 
@@ -54,7 +54,7 @@ returns-then-pages-gt0-clause-steps g c =
     (λ some. c.prove_charges.ensures.legal) c.requires.cpu.0 c.requires.cpu.1
     c.drain-pages.ensures.booked c.drain-pages.ensures.drained_before (Some c.args.group) c.requires.group (some_not_none _ _) _ _
     c.uncharge.ensures.uncharged c.drain-pages.ensures.seat in
-    λ cpu. makes_watched _ _ _ _ c.self.view_is cpu cpu _ _ (all.steps cpu) _
+    λ cpu. makes_noted _ _ _ _ c.self.view_is cpu cpu _ _ (all.steps cpu) _
     (subst (λ (o : Option ℕ). Watches c.self.inside.watch (drain_steps c.args.cpu o c.drain-pages.result) c.ungranted.new.self) (sym c.requires.group) took)
 
 pub returns-else-pages-gt0 : goal.returns-else-pages-gt0
@@ -68,7 +68,7 @@ returns-else-pages-gt0 g c =
     (sym (ungrants_none c.args.group c.drain-pages.result none)) c.drained.ensures in
     record {
       drains = drains_still _ _ _ _ _ _ all.drains;
-      steps = λ cpu. makes_watched _ _ _ _ c.self.view_is cpu cpu _ _ (all.steps cpu) _
+      steps = λ cpu. makes_noted _ _ _ _ c.self.view_is cpu cpu _ _ (all.steps cpu) _
           (subst (λ (o : Option ℕ). Watches c.self.inside.watch (drain_steps c.args.cpu o c.drain-pages.result) c.drained.new.self)
           (sym c.requires.group) took);
     }

@@ -4,7 +4,7 @@ use Rattle.step_watch.specs.Watched.{Watches}
 use Rattle.mem_machine.specs.Machines.{KnownMachine}
 use Rattle.mem_machine.specs.Stocks.{stock_group}
 use Rattle.mem_machine.specs.Steps.{drain_steps}
-use Rattle.mem_machine.proofs.Followed.{makes_watched}
+use Rattle.mem_machine.proofs.Followed.{makes_noted}
 use Rattle.mem_machine.proofs.Watched.{drains_still, consistent_still}
 use Rattle.mem_machine.proofs.machine.Machine.drain_stock.Goals as goal
 
@@ -25,7 +25,7 @@ returns-in-None g c =
     ∙ ap (λ (x : KnownMachine). stock_group x c.args.cpu) c.self.view_is in
     record {
       drains = drained_never _ _ _ c.self.view_is c.args.cpu c.in-None.ensures.group (drains_still _ _ _ _ _ _ all.drains);
-      steps = λ cpu. makes_watched _ _ _ _ c.self.view_is cpu cpu _ _ (all.steps cpu) _
+      steps = λ cpu. makes_noted _ _ _ _ c.self.view_is cpu cpu _ _ (all.steps cpu) _
           (subst (λ (o : Option ℕ). Watches c.self.inside.watch (drain_steps c.args.cpu o 0) c.drained.new.self) none c.drained.ensures);
     }
 

@@ -3,7 +3,7 @@ use Rattle.mem_machine.proofs.Fresh.{drop_all, was_fresh, drop_charged, drop_in_
 use Rattle.step_watch.specs.Watched.{Watches}
 use Rattle.step_watch.proofs.Watching.{watches_both}
 use Rattle.mem_machine.specs.Settling.{drop_steps}
-use Rattle.mem_machine.proofs.Followed.{makes_watched}
+use Rattle.mem_machine.proofs.Followed.{makes_noted}
 use Rattle.mem_machine.proofs.Watched.{consistent_still, drops_still, visits_still}
 use Rattle.mem_machine.proofs.machine.Machine.drop_one.Goals as goal
 
@@ -58,5 +58,5 @@ returns g c =
     record {
       drops = drops_still _ _ _ _ _ _ all.drops;
       visit = visits_still _ _ _ _ all.visit;
-      steps = makes_watched _ _ _ _ c.self.view_is _ _ _ _ all.steps _ took;
+      steps = makes_noted _ _ _ _ c.self.view_is _ _ _ _ all.steps _ took;
     }

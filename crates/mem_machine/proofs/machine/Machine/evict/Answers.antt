@@ -5,7 +5,7 @@ use Rattle.mem_machine.proofs.Evicts.{missed_all, evicted_all}
 use Rattle.step_watch.specs.Watched.{Watches}
 use Rattle.step_watch.proofs.Watching.{watches_both}
 use Rattle.mem_machine.specs.Evicting.{evict_steps}
-use Rattle.mem_machine.proofs.Followed.{makes_watched}
+use Rattle.mem_machine.proofs.Followed.{makes_noted}
 use Rattle.mem_machine.proofs.Watched.{consistent_still, misses_still, evicts_still, visits_still}
 use Rattle.mem_machine.proofs.machine.Machine.evict.Goals as goal
 
@@ -24,7 +24,7 @@ returns-then-not-freeze g c =
     record {
       evicts = misses_still _ _ _ _ all.misses;
       visit = λ cpu visit. visits_still _ _ _ _ (all.visit cpu visit);
-      steps = λ cpu. makes_watched _ _ _ _ c.self.view_is cpu cpu _ _ (all.steps cpu) _ took;
+      steps = λ cpu. makes_noted _ _ _ _ c.self.view_is cpu cpu _ _ (all.steps cpu) _ took;
     }
 
 pub free_unit-requires-clause-in_use : goal.free_unit-requires-clause-in_use
@@ -70,5 +70,5 @@ returns g c =
     record {
       evicts = evicts_still _ _ _ _ _ all.evicts;
       visit = λ cpu visit. visits_still _ _ _ _ (all.visit cpu visit);
-      steps = λ cpu. makes_watched _ _ _ _ c.self.view_is cpu cpu _ _ (all.steps cpu) _ took;
+      steps = λ cpu. makes_noted _ _ _ _ c.self.view_is cpu cpu _ _ (all.steps cpu) _ took;
     }

@@ -9,7 +9,7 @@ use Rattle.mem_machine.specs.Kept.{machine_of}
 use Rattle.mem_machine.specs.Machines.{KnownMachine}
 use Rattle.mem_machine.specs.Local.{visit_state}
 use Rattle.mem_machine.specs.Steps.{fill_steps, over_steps}
-use Rattle.mem_machine.proofs.Followed.{LeadsAs, makes_watched}
+use Rattle.mem_machine.proofs.Followed.{LeadsAs, makes_noted}
 use Rattle.mem_machine.proofs.Watched.{consistent_still}
 use Rattle.mem_machine.proofs.machine.Machine.fill_stock.Goals as goal
 
@@ -33,7 +33,7 @@ returns-clause-steps g c =
     c.number-cpu_number.ensures.tied c.requires.visit c.requires.none_fresh c.requires.pages.1 c.requires.charges.there c.requires.charges.alive
     c.fill.ensures.nothing_booked (c.in_default.ensures.granted.0 refl)
     _ _ _ _ refl c.in_default.ensures.charged c.fill.ensures.seat c.fill.ensures.cpu in
-    makes_watched _ _ _ _ c.self.view_is _ _ _ _ all.steps _
+    makes_noted _ _ _ _ c.self.view_is _ _ _ _ all.steps _
     (subst (λ (n : ℕ). Watches c.self.inside.watch (fill_steps n c.args.group c.args.pages) c.filled.new.self) c.number-cpu_number.ensures.number
     (watches_both _ _ _ _ _ c.granted.ensures c.filled.ensures))
 
@@ -48,7 +48,7 @@ returns-in-Err-clause-refused g c =
     (visit_state x c.args.cpu.now)) (sym same)
     (refused_all t g.N.BootName.stocks _ _ c.self.view_is c.args.cpu.now c.args.group c.args.pages over c.self.invariant.consistent c.prove_charges.ensures.legal
     c.number-cpu_number.ensures.tied c.requires.visit c.requires.none_fresh c.requires.charges.there c.requires.charges.alive low) in
-    makes_watched _ _ _ _ c.self.view_is _ _ _ _ refused _ c.refused.ensures
+    makes_noted _ _ _ _ c.self.view_is _ _ _ _ refused _ c.refused.ensures
 
 pub invariant_of-self : goal.invariant_of-self
 invariant_of-self g c = search rules

@@ -3,7 +3,7 @@ use Rattle.mem_machine.proofs.Fresh.{keep_all, was_fresh, in_hand_then}
 use Rattle.step_watch.specs.Watched.{Watches}
 use Rattle.step_watch.proofs.Watching.{watches_both}
 use Rattle.mem_machine.specs.Settling.{keep_steps}
-use Rattle.mem_machine.proofs.Followed.{makes_watched}
+use Rattle.mem_machine.proofs.Followed.{makes_noted}
 use Rattle.mem_machine.proofs.Watched.{consistent_still, keeps_still, visits_still}
 use Rattle.mem_machine.proofs.machine.Machine.keep_one.Goals as goal
 
@@ -41,5 +41,5 @@ returns g c =
     record {
       keeps = keeps_still _ _ _ _ _ _ all.keeps;
       visit = visits_still _ _ _ _ all.visit;
-      steps = makes_watched _ _ _ _ c.self.view_is _ _ _ _ all.steps _ took;
+      steps = makes_noted _ _ _ _ c.self.view_is _ _ _ _ all.steps _ took;
     }

@@ -4,7 +4,7 @@ use Rattle.mem_machine.proofs.GivenFrames.{given_all, given_free, given_hand}
 use Rattle.step_watch.specs.Watched.{Watches}
 use Rattle.step_watch.proofs.Watching.{watches_both}
 use Rattle.mem_machine.specs.Steps.{lend_steps}
-use Rattle.mem_machine.proofs.Followed.{makes_watched}
+use Rattle.mem_machine.proofs.Followed.{makes_noted}
 use Rattle.mem_machine.proofs.Watched.{consistent_still, lends_still, visits_still}
 use Rattle.mem_machine.proofs.machine.Machine.lend.Goals as goal
 
@@ -43,5 +43,5 @@ returns g c =
     record {
       lends = lends_still _ _ _ _ _ all.lends;
       visit = visits_still _ _ _ _ all.visit;
-      steps = makes_watched _ _ _ _ c.self.view_is _ _ _ _ all.steps _ took;
+      steps = makes_noted _ _ _ _ c.self.view_is _ _ _ _ all.steps _ took;
     }

@@ -4,7 +4,7 @@ use Rattle.mem_machine.proofs.Lends.{lend_all, lent_to_none, block_inside, zone_
 use Rattle.step_watch.specs.Watched.{Watches}
 use Rattle.step_watch.proofs.Watching.{watches_both}
 use Rattle.mem_machine.specs.Steps.{lend_steps}
-use Rattle.mem_machine.proofs.Followed.{makes_watched}
+use Rattle.mem_machine.proofs.Followed.{makes_noted}
 use Rattle.mem_machine.proofs.Watched.{consistent_still, lends_one_still, visits_still}
 use Rattle.mem_machine.proofs.machine.Machine.lend_one.Goals as goal
 
@@ -52,7 +52,7 @@ returns g c =
       lends = record {
         frame = c.in-Some-frame.frame;
         lends = lends_one_still _ _ _ _ _ all.lends;
-        steps = makes_watched _ _ _ _ c.self.view_is _ _ _ _ all.steps _ took;
+        steps = makes_noted _ _ _ _ c.self.view_is _ _ _ _ all.steps _ took;
       };
       visit = visits_still _ _ _ _ all.visit;
     }

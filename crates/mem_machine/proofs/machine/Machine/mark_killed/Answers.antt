@@ -1,7 +1,7 @@
 use Rattle.std.proofs.Common.{ℕ, ◌<◌, true, length, arith, ap}
 use Rattle.std.specs.Prelude.{slice_set}
 use Rattle.mem_machine.proofs.GroupSteps.{kills}
-use Rattle.mem_machine.proofs.Followed.{makes_watched}
+use Rattle.mem_machine.proofs.Followed.{makes_noted}
 use Rattle.mem_machine.proofs.machine.Machine.mark_killed.Goals as goal
 
 pub returns-clause-steps : goal.returns-clause-steps
@@ -10,6 +10,6 @@ returns-clause-steps g c =
     let below = c.number.ensures.below in
     let sized = c.self.invariant.consistent.sizes.killed in
     let inside : c.args.group < length c.self.inside.killed.items = omega (arith, value, below, sized) in
-    λ cpu. makes_watched _ _ _ _ c.self.view_is cpu cpu _ _
+    λ cpu. makes_noted _ _ _ _ c.self.view_is cpu cpu _ _
     (kills g.N.BootName.frames _ _ c.self.view_is c.args.group inside c.requires.there c.requires.alive _ c.note_kill.ensures.noted
     c.note_kill.ensures.counts c.note_kill.ensures.peaks _ (ap (λ (n : ℕ). slice_set c.self.inside.killed.items n true) value) cpu) _ c.zone_made.ensures

@@ -1,12 +1,24 @@
-use Rattle.std.proofs.Common.{rules}
+use Rattle.std.proofs.Common.{◌≡◌, refl, rules}
 use Rattle.mem_machine.proofs.GroupSteps.{notes_max}
-use Rattle.mem_machine.proofs.Followed.{makes_watched}
+use Rattle.mem_machine.proofs.Followed.{makes_noted}
+use Rattle.mem_machine.proofs.Reached.{held_here, may_lead}
+use Rattle.mem_machine.proofs.Watched.{stays_then}
 use Rattle.mem_machine.proofs.machine.Machine.note_max.Goals as goal
+
+pub make_step-requires-clause-held : goal.make_step-requires-clause-held
+make_step-requires-clause-held g c = held_here g.N.BootName.frames _ _ c.self.view_is c.requires.shown.cpu c.requires.shown.is
+
+pub make_step-requires-clause-legal : goal.make_step-requires-clause-legal
+make_step-requires-clause-legal g c = may_lead g.N.BootName.frames _ _ c.self.view_is c.requires.shown.cpu c.requires.shown.is _ _ _
+    (notes_max g.N.BootName.frames _ _ c.self.view_is c.args.group c.requires.there _ c.note_max.ensures.noted c.note_max.ensures.counts c.note_max.ensures.peaks c.requires.shown.cpu)
 
 pub returns-clause-steps : goal.returns-clause-steps
 returns-clause-steps g c =
-    λ cpu. makes_watched _ _ _ _ c.self.view_is cpu cpu _ _
-    (notes_max g.N.BootName.frames _ _ c.self.view_is c.args.group c.requires _ c.note_max.ensures.noted c.note_max.ensures.counts c.note_max.ensures.peaks cpu) _ c.zone_made.ensures
+    λ cpu. makes_noted _ _ _ _ c.self.view_is cpu cpu _ _
+    (notes_max g.N.BootName.frames _ _ c.self.view_is c.args.group c.requires.there _ c.note_max.ensures.noted c.note_max.ensures.counts c.note_max.ensures.peaks cpu) _ c.make_step.ensures.notes
+
+pub returns-clause-visit : goal.returns-clause-visit
+returns-clause-visit g c = stays_then g.N.BootName.frames _ _ c.self.view_is _ refl _ (returns-clause-steps g c)
 
 pub invariant_of-self : goal.invariant_of-self
 invariant_of-self g c = search rules

@@ -1,11 +1,11 @@
 use Rattle.std.proofs.Common.{rules}
 use Rattle.mem_machine.proofs.GroupSteps.{notes_oom}
-use Rattle.mem_machine.proofs.Followed.{makes_watched}
+use Rattle.mem_machine.proofs.Followed.{makes_noted}
 use Rattle.mem_machine.proofs.machine.Machine.note_oom.Goals as goal
 
 pub returns-clause-steps : goal.returns-clause-steps
 returns-clause-steps g c =
-    λ cpu. makes_watched _ _ _ _ c.self.view_is cpu cpu _ _
+    λ cpu. makes_noted _ _ _ _ c.self.view_is cpu cpu _ _
     (notes_oom g.N.BootName.frames _ _ c.self.view_is c.args.group c.requires _ c.note_oom.ensures.noted c.note_oom.ensures.counts c.note_oom.ensures.peaks cpu) _ c.zone_made.ensures
 
 pub invariant_of-self : goal.invariant_of-self

@@ -3,7 +3,7 @@ use Rattle.cpu_part.specs.Cpus.{KnownCpu}
 use Rattle.mem_machine.proofs.Holds.{opens, is_open_then}
 use Rattle.step_watch.specs.Watched.{Watches}
 use Rattle.mem_machine.specs.Steps.{open_steps}
-use Rattle.mem_machine.proofs.Followed.{makes_watched}
+use Rattle.mem_machine.proofs.Followed.{makes_noted}
 use Rattle.mem_machine.proofs.machine.Machine.open.Goals as goal
 
 pub returns-clause-visits : goal.returns-clause-visits
@@ -14,7 +14,7 @@ returns-clause-visits g c = record {
 }
 
 pub returns-clause-steps : goal.returns-clause-steps
-returns-clause-steps g c = makes_watched _ _ _ _ c.self.view_is _ _ _ _
+returns-clause-steps g c = makes_noted _ _ _ _ c.self.view_is _ _ _ _
     (opens g.N.BootName.frames _ _ c.self.view_is _ _ c.open.ensures.cpu _ c.open.ensures.zone c.requires) _
     (subst (λ (n : ℕ). Watches c.self.inside.watch (open_steps n) c.visit_opened.new.self) c.number-cpu_number.ensures.number c.visit_opened.ensures)
 

@@ -5,7 +5,7 @@ use Rattle.step_watch.specs.Watched.{Watches}
 use Rattle.step_watch.proofs.Watching.{watches_both}
 use Rattle.mem_machine.specs.declared.releasing.Released.TheVariants.{Left, Returned}
 use Rattle.mem_machine.specs.Releasing.{release_steps}
-use Rattle.mem_machine.proofs.Followed.{makes_watched}
+use Rattle.mem_machine.proofs.Followed.{makes_noted}
 use Rattle.mem_machine.proofs.Watched.{consistent_still, returned_still, visits_still}
 use Rattle.mem_machine.proofs.machine.Machine.put_zone_reference.Goals as goal
 
@@ -45,7 +45,7 @@ returns-in-Left g c =
     record {
       releases = search rules;
       visit = λ cpu visit. visits_still _ _ _ _ (all.visit cpu visit);
-      steps = λ cpu. makes_watched _ _ _ _ c.self.view_is cpu cpu _ _ (all.steps cpu) _ took;
+      steps = λ cpu. makes_noted _ _ _ _ c.self.view_is cpu cpu _ _ (all.steps cpu) _ took;
     }
 
 pub invariant_of-self-in-Last : goal.invariant_of-self-in-Last
@@ -71,5 +71,5 @@ returns-in-Head g c =
     record {
       releases = returned_still _ _ _ _ all.returns;
       visit = λ cpu visit. visits_still _ _ _ _ (all.visit cpu visit);
-      steps = λ cpu. makes_watched _ _ _ _ c.self.view_is cpu cpu _ _ (all.steps cpu) _ took;
+      steps = λ cpu. makes_noted _ _ _ _ c.self.view_is cpu cpu _ _ (all.steps cpu) _ took;
     }

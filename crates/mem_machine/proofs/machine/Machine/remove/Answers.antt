@@ -1,12 +1,12 @@
 use Rattle.std.proofs.Common.{rules, refl}
 use Rattle.mem_machine.proofs.GroupSteps.{removes}
 use Rattle.mem_machine.proofs.Usage.{usage_seen, balanced_alone}
-use Rattle.mem_machine.proofs.Followed.{makes_watched}
+use Rattle.mem_machine.proofs.Followed.{makes_noted}
 use Rattle.mem_machine.proofs.machine.Machine.remove.Goals as goal
 
 pub returns-clause-steps : goal.returns-clause-steps
 returns-clause-steps g c =
-    makes_watched _ _ _ _ c.self.view_is _ _ _ _
+    makes_noted _ _ _ _ c.self.view_is _ _ _ _
     (removes g.N.BootName.frames _ _ c.self.view_is c.args.cpu.now _ refl c.args.group c.requires.there
     c.requires.leaf c.requires.below_root c.requires.empty
     (usage_seen g.N.BootName.frames g.N.BootName.stocks _ _ c.self.view_is c.args.cpu.now c.self.invariant.consistent c.prove_charges.ensures.legal

@@ -6,7 +6,7 @@ use Rattle.mem_machine.proofs.Back.{WasBack, back_passes, read_head, back_in_use
 use Rattle.step_watch.specs.Watched.{Watches}
 use Rattle.step_watch.proofs.Watching.{watches_both}
 use Rattle.mem_machine.specs.Settling.{return_steps}
-use Rattle.mem_machine.proofs.Followed.{makes_watched}
+use Rattle.mem_machine.proofs.Followed.{makes_noted}
 use Rattle.mem_machine.proofs.Watched.{consistent_still, returns_still, visits_still}
 use Rattle.mem_machine.proofs.machine.Machine.return_one.Goals as goal
 
@@ -74,5 +74,5 @@ returns g c =
     record {
       returns = returns_still _ _ _ _ _ all.returns;
       visit = visits_still _ _ _ _ all.visit;
-      steps = makes_watched _ _ _ _ c.self.view_is _ _ _ _ all.steps _ took;
+      steps = makes_noted _ _ _ _ c.self.view_is _ _ _ _ all.steps _ took;
     }

@@ -13,7 +13,7 @@ use Rattle.step_watch.specs.Watched.{Watches}
 use Rattle.step_watch.proofs.Watching.{watches_both}
 use Rattle.step_rules.specs.declared.step.Action.TheVariants.{Grant, Ungrant, PlaceBlock, Unfreeze, Publish}
 use Rattle.step_rules.specs.declared.step.Answer.TheVariants.{Done, Granted, Placed, NoFreeBlock}
-use Rattle.mem_machine.proofs.Followed.{LeadsAs, makes_watched}
+use Rattle.mem_machine.proofs.Followed.{LeadsAs, makes_noted}
 use Rattle.mem_machine.proofs.Watched.{consistent_still, takes_block_still, takes_none_still, visits_still}
 use Rattle.mem_machine.proofs.machine.Machine.take_block.Goals as goal
 
@@ -39,7 +39,7 @@ returns-in_default-take g c =
       refuses = takes_none_still _ _ _ _ _ all.none;
       cpu = search rules;
       visit = search rules;
-      steps = makes_watched _ _ _ _ c.self.view_is _ _ _ _ all.steps _ took;
+      steps = makes_noted _ _ _ _ c.self.view_is _ _ _ _ all.steps _ took;
     }
 
 pub unreachable-requires : goal.unreachable-requires
@@ -107,7 +107,7 @@ returns g c =
       refuses = search rules;
       cpu = search rules;
       visit = visits_still _ _ _ _ all.visit;
-      steps = makes_watched _ _ _ _ c.self.view_is _ _ _ _ all.steps _ took;
+      steps = makes_noted _ _ _ _ c.self.view_is _ _ _ _ all.steps _ took;
     }
 
 pub invariant_of-self : goal.invariant_of-self
@@ -128,5 +128,5 @@ returns-in-Err-clause-steps g c =
     (refused_all t g.N.BootName.stocks _ _ c.self.view_is c.args.cpu.now c.args.group (2 ^ c.args.order) over c.self.invariant.consistent c.prove_charges.ensures.legal
     c.prove_tied.ensures c.requires.visit c.requires.none_fresh c.requires.charges.there c.requires.charges.alive
     (subst (λ (n : ℕ). IsLowestOver m.ledger.groups (current_of m.ledger) c.args.group n over) c.frames-pages.ensures.frames low)) in
-    makes_watched _ _ _ _ c.self.view_is _ _ _ _ refused _
+    makes_noted _ _ _ _ c.self.view_is _ _ _ _ refused _
     (subst (λ (n : ℕ). Watches c.self.inside.watch (over_steps c.args.group n over) c.refused.new.self) c.frames-pages.ensures.frames c.refused.ensures)

@@ -2,7 +2,7 @@ use Rattle.std.proofs.Common.{ℕ, refl, subst}
 use Rattle.mem_machine.proofs.Fronts.{has_page, front_paid}
 use Rattle.step_watch.specs.Watched.{Watches}
 use Rattle.mem_machine.specs.Steps.{take_front_steps}
-use Rattle.mem_machine.proofs.Followed.{makes_watched}
+use Rattle.mem_machine.proofs.Followed.{makes_noted}
 use Rattle.mem_machine.proofs.Watched.{consistent_still, pays_still, visits_still}
 use Rattle.mem_machine.proofs.machine.Machine.take_front.Goals as goal
 
@@ -30,5 +30,5 @@ returns g c =
       pays = pays_still _ _ _ _ _ _ all.pays;
       frame = c.take_front-frame.ensures.frame;
       visit = visits_still _ _ _ _ all.visit;
-      steps = makes_watched _ _ _ _ c.self.view_is _ _ _ _ all.steps _ took;
+      steps = makes_noted _ _ _ _ c.self.view_is _ _ _ _ all.steps _ took;
     }

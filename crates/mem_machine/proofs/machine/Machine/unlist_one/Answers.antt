@@ -5,7 +5,7 @@ use Rattle.mem_machine.proofs.Takes.{take_all, may_give, passes_back_to}
 use Rattle.step_watch.specs.Watched.{Watches}
 use Rattle.step_watch.proofs.Watching.{watches_both}
 use Rattle.mem_machine.specs.Steps.{unlist_steps}
-use Rattle.mem_machine.proofs.Followed.{makes_watched}
+use Rattle.mem_machine.proofs.Followed.{makes_noted}
 use Rattle.mem_machine.proofs.Watched.{consistent_still, takes_still, visits_still}
 use Rattle.mem_machine.proofs.machine.Machine.unlist_one.Goals as goal
 
@@ -51,7 +51,7 @@ returns g c =
       takes = record {
         frame = c.in-Some.frame;
         takes = takes_still _ _ _ _ _ all.takes;
-        steps = makes_watched _ _ _ _ c.self.view_is _ _ _ _ all.steps _ took;
+        steps = makes_noted _ _ _ _ c.self.view_is _ _ _ _ all.steps _ took;
       };
       visit = visits_still _ _ _ _ all.visit;
     }

@@ -1,0 +1,108 @@
+-- The steps of the open visit, as the pasts have them. Serves each call that makes steps.
+use Rattle.std.proofs.Common.{◌≡◌, ℕ, ◌++◌, List, [], ◌∷◌, refl, sym, ◌∙◌, ap, subst}
+use Rattle.std.specs.List.{fold}
+use Rattle.std.proofs.lemmas.List.Sums.{fold-append}
+use Rattle.frame_word.specs.Seats.{KnownTable}
+use Rattle.step_rules.specs.declared.step.Step.{Step}
+use Rattle.step_rules.specs.declared.step.Action.{Action}
+use Rattle.step_rules.specs.declared.step.Answer.{Answer}
+use Rattle.step_rules.specs.State.{State}
+use Rattle.step_rules.specs.After.{Run}
+use Rattle.step_rules.specs.Laws.{IsLocalStep}
+use Rattle.step_rules.specs.Reaches.{IsLocalRun}
+use Rattle.boot_words.specs.Pasts.{KnownPasts, MakesStep, cpu_past, local_by_pasts}
+use Rattle.cpu_part.specs.Made.{MakesAll, MayMakeAll}
+use Rattle.step_watch.specs.Watched.{Watches}
+use Rattle.step_watch.proofs.Watching.{watches_none, watches_both}
+use Rattle.mem_machine.specs.Noted.{AreLocal, GrowsBy, KnownRun, MayTake, MayTakeAll, Notes, after_made}
+
+-- ---- how the pasts grow
+
+pub grows_none : (t : KnownTable) (s : KnownPasts) → GrowsBy t s [] s
+grows_none t s = record { held = λ held. held; holder = refl; sees = refl }
+
+pub grows_both : (t : KnownTable) (a : KnownPasts) (one : Run) (b : KnownPasts) (two : Run) (c : KnownPasts) → GrowsBy t a one b → GrowsBy t b two c
+    → GrowsBy t a (one ++ two) c
+grows_both t a one b two c first second = record {
+  held = λ held. second.held (first.held held);
+  holder = second.holder ∙ first.holder;
+  sees = second.sees ∙ ap (λ (s : State). fold after_made s two) first.sees ∙ sym (fold-append after_made (local_by_pasts t a) one two);
+}
+
+pub made_grows : (t : KnownTable) (s : KnownPasts) (seat : ℕ) (action : Action) (answer : Answer) (s' : KnownPasts) → MakesStep t s seat action answer s'
+    → GrowsBy t s ((record { seat = seat; action = action }, answer) ∷ []) s'
+made_grows t s seat action answer s' made = record { held = λ _. made.held; holder = made.cpu_grew.number; sees = made.local_is }
+
+pub all_grow : (t : KnownTable) (s : KnownPasts) (steps : Run) (s' : KnownPasts) → MakesAll t s steps s' → GrowsBy t s steps s'
+all_grow t s [] s' is = subst (GrowsBy t s []) (sym is) (grows_none t s)
+all_grow t s (e ∷ rest) s' made = grows_both t s (e ∷ []) made.0 rest s' (made_grows t s e.0.seat e.0.action e.1 made.0 made.1) (all_grow t made.0 rest s' made.2)
+
+-- ---- the pasts and the watch
+
+pub notes_none : (t : KnownTable) (run : KnownRun) → Notes t run [] run
+notes_none t run = record { grew = grows_none t run.past; watched = watches_none run.watch }
+
+pub notes_both : (t : KnownTable) (a : KnownRun) (one : Run) (b : KnownRun) (two : Run) (c : KnownRun) → Notes t a one b → Notes t b two c → Notes t a (one ++ two) c
+notes_both t a one b two c first second = record {
+  grew = grows_both t a.past one b.past two c.past first.grew second.grew;
+  watched = watches_both a.watch one b.watch two c.watch first.watched second.watched;
+}
+
+-- one step: the pasts have grown by it, and the watch took it
+pub notes_one : (t : KnownTable) (a : KnownRun) (e : Step × Answer) (b : KnownRun) → MakesStep t a.past e.0.seat e.0.action e.1 b.past → Watches a.watch (e ∷ []) b.watch
+    → Notes t a (e ∷ []) b
+notes_one t a e b made took = record { grew = made_grows t a.past e.0.seat e.0.action e.1 b.past made; watched = took }
+
+-- ---- lists of local steps
+
+-- a list of local steps leads where it says
+pub run_ends : (p : ℕ) (a : State) (steps : Run) (b : State) → IsLocalRun p a steps b → fold after_made a steps ≡ b
+run_ends p a [] b run = run
+run_ends p a (e ∷ rest) b run = run_ends p (after_made a e) rest b run.1
+
+-- the steps of a list of local steps
+pub run_steps : (p : ℕ) (a : State) (steps : Run) (b : State) → IsLocalRun p a steps b → AreLocal p a steps
+run_steps p a [] b run = tt
+run_steps p a (e ∷ rest) b run = (run.0, run_steps p (after_made a e) rest b run.1)
+
+-- the first of a list of local steps may be taken, and then the rest are local
+pub first_made : (t : KnownTable) (past : KnownPasts) (p : ℕ) (a : State) → (cpu_past past).number ≡ p → local_by_pasts t past ≡ a → (e : Step × Answer) (rest : Run)
+    → AreLocal p a (e ∷ rest) → MayTake t past e
+first_made t past p a who at e rest all =
+    subst (λ (x : ℕ × State). IsLocalStep x.1 x.0 e.0.seat e.0.action e.1) (λ i. (sym who i, sym at i)) all.0
+
+-- behind steps of the list that were made, the next may be taken
+pub next_made : (t : KnownTable) (past : KnownPasts) (p : ℕ) (a : State) → (cpu_past past).number ≡ p → local_by_pasts t past ≡ a → (steps : Run) (later : KnownPasts)
+    → GrowsBy t past steps later → (e : Step × Answer) (rest : Run) → AreLocal p a (steps ++ e ∷ rest) → MayTake t later e
+next_made t past p a who at steps later grew e rest all =
+    first_made t later p (fold after_made a steps) (grew.holder ∙ who) (grew.sees ∙ ap (λ (s : State). fold after_made s steps) at)
+    e rest (behind p a steps (e ∷ rest) all)
+  where
+    behind : (p : ℕ) (a : State) (steps more : Run) → AreLocal p a (steps ++ more) → AreLocal p (fold after_made a steps) more
+    behind p a [] more all = all
+    behind p a (d ∷ steps) more all = behind p (after_made a d) steps more all.1
+
+-- steps that are local in what the holder sees may be taken
+pub may_all : (t : KnownTable) (past : KnownPasts) (p : ℕ) (a : State) (steps : Run) → (cpu_past past).number ≡ p → local_by_pasts t past ≡ a → AreLocal p a steps
+    → MayTakeAll t past steps
+may_all t past p a [] who at all = tt
+may_all t past p a (e ∷ rest) who at all = (
+  first_made t past p a who at e rest all,
+  λ later made. may_all t later p (after_made a e) rest (made.cpu_grew.number ∙ who) (made.local_is ∙ ap (λ (s : State). after_made s e) at) all.1,
+)
+
+-- behind the first of two lists the second may be taken
+pub may_behind : (t : KnownTable) (past : KnownPasts) (first second : Run) (later : KnownPasts) → MayTakeAll t past (first ++ second) → MakesAll t past first later
+    → MayTakeAll t later second
+may_behind t past [] second later all is = subst (λ (s : KnownPasts). MayTakeAll t s second) (sym is) all
+may_behind t past (e ∷ rest) second later all made = may_behind t made.0 rest second later (all.1 made.0 made.1) made.2
+
+-- the first of two lists may be taken
+pub may_front : (t : KnownTable) (past : KnownPasts) (first second : Run) → MayTakeAll t past (first ++ second) → MayTakeAll t past first
+may_front t past [] second all = tt
+may_front t past (e ∷ rest) second all = (all.0, λ later made. may_front t later rest second (all.1 later made))
+
+-- steps that may be taken are legal, one after the other
+pub are_legal : (t : KnownTable) (past : KnownPasts) (steps : Run) → MayTakeAll t past steps → MayMakeAll t past steps
+are_legal t past [] all = tt
+are_legal t past (e ∷ rest) all = (all.0.legal, λ later made. are_legal t later rest (all.1 later made))

@@ -1,0 +1,65 @@
+-- What the CPU sees by the run: which steps may be taken there, and what it sees then. Serves all calls that make steps.
+use Rattle.std.proofs.Common.{◌≡◌, ℕ, ◌++◌, [], ◌∷◌, sym, ◌∙◌, ap, subst}
+use Rattle.std.specs.List.{fold}
+use Rattle.frame_word.specs.Seats.{KnownTable}
+use Rattle.cpu_part.specs.Cpus.{KnownCpu}
+use Rattle.step_rules.specs.declared.step.Step.{Step}
+use Rattle.step_rules.specs.declared.step.Answer.{Answer}
+use Rattle.step_rules.specs.State.{State}
+use Rattle.step_rules.specs.After.{Run}
+use Rattle.boot_words.specs.Pasts.{KnownPasts, IsHeld, cpu_past, local_by_pasts}
+use Rattle.mem_machine.specs.Machines.{KnownMachine, VisitState, visit_state}
+use Rattle.mem_machine.specs.Local.{IsShown, MakesAs, local_at, local_of}
+use Rattle.mem_machine.specs.Noted.{AreLocal, GrowsBy, MayTake, MayTakeAll, after_made}
+use Rattle.mem_machine.proofs.Noted.{first_made, may_all, next_made, run_ends, run_steps}
+use Rattle.mem_machine.proofs.Followed.{LeadsAs}
+
+-- after the steps of a call the CPU sees what machine and part show then
+pub shown_then : (t : KnownTable) (a b : VisitState) (steps : Run) → IsShown t a → MakesAs t a.cpu.number a steps b → b.cpu.number ≡ a.cpu.number → IsShown t b
+shown_then t a b steps now makes number = record {
+  held = makes.noted.grew.held now.held;
+  who = makes.noted.grew.holder ∙ now.who ∙ sym number;
+  here = makes.noted.grew.sees ∙ ap (λ (s : State). fold after_made s steps) now.here
+      ∙ run_ends a.cpu.number (local_at t a) steps (local_at t b) makes.leads;
+}
+
+-- what the CPU sees depends on the pasts and the local state alone
+pub shown_same : (t : KnownTable) (a b : VisitState) → IsShown t a → b.machine.run.past ≡ a.machine.run.past → b.cpu.number ≡ a.cpu.number → local_at t a ≡ local_at t b
+    → IsShown t b
+shown_same t a b now past number same = record {
+  held = subst (IsHeld t) (sym past) now.held;
+  who = ap (λ (s : KnownPasts). (cpu_past s).number) past ∙ now.who ∙ sym number;
+  here = ap (local_by_pasts t) past ∙ now.here ∙ same;
+}
+
+-- of the machine as its fields show it
+module _ (t : KnownTable) (m now : KnownMachine) (same : m ≡ now) (c : KnownCpu) (at : IsShown t (visit_state now c)) where
+  pub held_here : IsHeld t m.run.past
+  held_here = subst (λ (k : KnownMachine). IsHeld t k.run.past) (sym same) at.held
+
+  pub who_here : (cpu_past m.run.past).number ≡ c.number
+  who_here = ap (λ (k : KnownMachine). (cpu_past k.run.past).number) same ∙ at.who
+
+  here : local_by_pasts t m.run.past ≡ local_of t now c
+  here = ap (λ (k : KnownMachine). local_by_pasts t k.run.past) same ∙ at.here
+
+  -- the first step of a list of local steps
+  pub may_first : (e : Step × Answer) (rest : Run) → AreLocal c.number (local_of t now c) (e ∷ rest) → MayTake t m.run.past e
+  may_first e rest all = first_made t m.run.past c.number (local_of t now c) who_here here e rest all
+
+  -- the next one, behind steps of the list that were made
+  pub may_next : (steps : Run) (later : KnownPasts) → GrowsBy t m.run.past steps later → (e : Step × Answer) (rest : Run)
+      → AreLocal c.number (local_of t now c) (steps ++ e ∷ rest) → MayTake t later e
+  may_next steps later grew e rest all = next_made t m.run.past c.number (local_of t now c) who_here here steps later grew e rest all
+
+  -- the steps of a call, once it is known where they lead
+  pub may_lead : (e : Step × Answer) (rest : Run) (b : VisitState) → LeadsAs t c.number (visit_state now c) (e ∷ rest) b → MayTake t m.run.past e
+  may_lead e rest b leads = may_first e rest (run_steps c.number (local_of t now c) (e ∷ rest) (local_at t b) leads.leads)
+
+  -- all steps of a list
+  pub may_make : (steps : Run) → AreLocal c.number (local_of t now c) steps → MayTakeAll t m.run.past steps
+  may_make steps all = may_all t m.run.past c.number (local_of t now c) steps who_here here all
+
+  -- all steps of a call, once it is known where they lead
+  pub may_lead_all : (steps : Run) (b : VisitState) → LeadsAs t c.number (visit_state now c) steps b → MayTakeAll t m.run.past steps
+  may_lead_all steps b leads = may_make steps (run_steps c.number (local_of t now c) steps (local_at t b) leads.leads)
