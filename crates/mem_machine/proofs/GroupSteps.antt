@@ -1,5 +1,5 @@
 -- Steps on the groups alone. Serves `note_max`, `note_oom`, `note_group_kill`, `mark_killed`, `set_max`,
--- `set_oom_group`, `remove`.
+-- `set_oom_group`, `make`, `remove`, and `fill_stock`, which leaves the visit open.
 use Rattle.std.proofs.Common.{◌≡◌, ◌≢◌, ℕ, ◌<◌, Bool, true, false, Option, Some, List, [], ◌∷◌, length, get_or, refl, sym, ap, ◌∙◌, subst}
 use Rattle.std.specs.Prelude.{not, None, is_none}
 use Rattle.std.specs.Prelude.{slice_set}
