@@ -478,8 +478,11 @@ pub drain_may : (t : KnownTable) (m now : KnownMachine) → m ≡ now → (c : K
     → MayMake t m.run.past 0 (DrainStock q)
 drain_may t m now same c at q some inside =
     let acts = zone_may_act now.frame_seat c.number in
-    (may_first t m now same c at (zone_makes (DrainStock q) (Pages 0)) [] (zone_step (local_of t now c) c.number (DrainStock q) (Pages 0) refl
-    (and_from _ _ acts (and_from (nat_le 1 q) (nat_le q t.cpus) (le-leb 1 q some) (le-leb q t.cpus inside))) tt, tt)).legal
+    (may_first t m now same c at (zone_makes (DrainStock q) (Pages 0)) [] (
+      zone_step (local_of t now c) c.number (DrainStock q) (Pages 0) refl
+          (and_from _ _ acts (and_from (nat_le 1 q) (nat_le q t.cpus) (le-leb 1 q some) (le-leb q t.cpus inside))) tt,
+      tt,
+    )).legal
 
 -- after a look the same is seen, and each visit is open
 pub looked_shown : (t : KnownTable) (m now : KnownMachine) → m ≡ now → (stock : KnownStockSeat) → stock ≡ with_view m.stock_seat (with_steps 1 m.stock_seat.view)

@@ -20,7 +20,7 @@ use Rattle.group_charge.specs.declared.account.Account as charge
 use Rattle.group_charge.specs.Charges.{Ledger, AreCharges, current_of, usage_charged, taken, with_charge, PagesRise}
 use Rattle.group_charge.proofs.CallerLemmas.{charge_pages}
 use Rattle.group_charge.proofs.SumLemmas.{share}
-use Rattle.boot_words.specs.Pasts.{cpu_past, local_by_pasts}
+use Rattle.boot_words.specs.Pasts.{cpu_past}
 use Rattle.boot_words.specs.Seats.{zone_of_boot}
 use Rattle.boot_words.proofs.Returning.{none_booked}
 use Rattle.cpu_part.specs.Cpus.{KnownCpu, IsTied, times}

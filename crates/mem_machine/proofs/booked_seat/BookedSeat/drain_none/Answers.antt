@@ -1,4 +1,4 @@
-use Rattle.std.proofs.Common.{◌≡◌, ℕ, Option, None, rules, false, ap, ◌∙◌, subst}
+use Rattle.std.proofs.Common.{◌≡◌, ℕ, None, rules, ap, ◌∙◌, subst}
 use Rattle.stock_word.specs.Stock.{KnownStockSeat, account_of}
 use Rattle.stock_word.specs.Kinds.{with_steps, zone_after_drain}
 use Rattle.stock_word.specs.Calls.{steps_of_drain, with_view}

@@ -1,12 +1,12 @@
-use Rattle.std.proofs.Common.{◌≡◌, ℕ, ◌≤◌, Option, Some, [], ◌∷◌, rules, refl, subst, sym}
-use Rattle.step_rules.specs.declared.step.Action.TheVariants.{DrainStock, Ungrant}
-use Rattle.step_rules.specs.declared.step.Answer.TheVariants.{Done, Pages}
+use Rattle.std.proofs.Common.{◌≡◌, ℕ, ◌≤◌, Option, Some, ◌∷◌, rules, refl, subst, sym}
+use Rattle.step_rules.specs.declared.step.Action.TheVariants.{DrainStock}
+use Rattle.step_rules.specs.declared.step.Answer.TheVariants.{Pages}
 use Rattle.step_rules.specs.After.{Run}
 use Rattle.cpu_part.specs.Cpus.{KnownCpu}
 use Rattle.mem_machine.specs.Kept.{machine_of}
 use Rattle.mem_machine.specs.Local.{MakesAs, visit_state}
 use Rattle.mem_machine.specs.Stocks.{stock_group}
-use Rattle.mem_machine.specs.Noted.{KnownRun, MayTakeAll, Notes}
+use Rattle.mem_machine.specs.Noted.{MayTakeAll, Notes}
 use Rattle.mem_machine.specs.Steps.{drain_steps, zone_makes}
 use Rattle.mem_machine.proofs.Draining.{drain_may, drained_all, drained_none, drained_within, some_not_none, ungrants_some, ungrants_none}
 use Rattle.mem_machine.proofs.Followed.{makes_noted}

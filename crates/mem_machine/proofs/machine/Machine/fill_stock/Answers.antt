@@ -3,13 +3,13 @@ use Rattle.group_tree.specs.Room.{IsLowestOver}
 use Rattle.group_charge.specs.Charges.{current_of}
 use Rattle.cpu_part.specs.Cpus.{KnownCpu}
 use Rattle.step_rules.specs.declared.step.Action.TheVariants.{Fill, Grant}
-use Rattle.step_rules.specs.declared.step.Answer.TheVariants.{Done, Granted, Over}
+use Rattle.step_rules.specs.declared.step.Answer.TheVariants.{Done, Granted}
 use Rattle.step_watch.specs.Watched.{Watches}
 use Rattle.mem_machine.specs.Kept.{machine_of}
 use Rattle.mem_machine.specs.Machines.{KnownMachine}
-use Rattle.mem_machine.specs.Noted.{KnownRun, Notes}
+use Rattle.mem_machine.specs.Noted.{KnownRun}
 use Rattle.mem_machine.specs.Local.{visit_state}
-use Rattle.mem_machine.specs.Steps.{fill_steps, over_steps, zone_makes}
+use Rattle.mem_machine.specs.Steps.{over_steps, zone_makes}
 use Rattle.mem_machine.proofs.Booking.{room_booked}
 use Rattle.mem_machine.proofs.Followed.{LeadsAs, makes_noted}
 use Rattle.mem_machine.proofs.GroupSteps.{still_visited}
@@ -63,9 +63,9 @@ fill-requires-clause-fits g c =
 pub invariant_of-self-2 : goal.invariant_of-self-2
 invariant_of-self-2 g c = record {
   consistent = consistent_still _ _ _ _ (filled_all g.N.BootName.frames g.N.BootName.stocks _ _ c.args.cpu.now c.args.group c.args.pages c.self.view_is c.self.invariant.consistent c.prove_charges.ensures.legal
-    c.number-cpu_number.ensures.tied c.requires.visit c.requires.none_fresh c.requires.pages.1 c.requires.charges.there c.requires.charges.alive
-    c.fill.ensures.nothing_booked (c.in_default.ensures.granted.0 refl)
-    _ _ _ _ refl c.in_default.ensures.charged c.fill.ensures.seat c.fill.ensures.cpu).consistent;
+      c.number-cpu_number.ensures.tied c.requires.visit c.requires.none_fresh c.requires.pages.1 c.requires.charges.there c.requires.charges.alive
+      c.fill.ensures.nothing_booked (c.in_default.ensures.granted.0 refl)
+      _ _ _ _ refl c.in_default.ensures.charged c.fill.ensures.seat c.fill.ensures.cpu).consistent;
   free = c.self.invariant.free;
 }
 

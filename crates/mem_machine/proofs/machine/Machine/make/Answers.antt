@@ -1,9 +1,9 @@
-use Rattle.std.proofs.Common.{◌≡◌, refl, rules, ℕ, ◌<◌, ◌∷◌, [], List, false, length, arith, ap, sym, subst}
+use Rattle.std.proofs.Common.{◌≡◌, refl, rules, ℕ, ◌<◌, ◌∷◌, List, false, length, arith, ap, sym, subst}
 use Rattle.std.specs.Prelude.{slice_set}
 use Rattle.group_tree.proofs.GroupLemmas.{can_make}
 use Rattle.step_rules.specs.declared.step.Action.TheVariants.{Make}
 use Rattle.step_rules.specs.declared.step.Answer.TheVariants.{Number}
-use Rattle.mem_machine.specs.Noted.{KnownRun, MayTake, Notes}
+use Rattle.mem_machine.specs.Noted.{MayTake, Notes}
 use Rattle.mem_machine.specs.Steps.{make_steps, zone_makes}
 use Rattle.mem_machine.proofs.GroupSteps.{made_runs}
 use Rattle.mem_machine.proofs.Followed.{makes_noted}
