@@ -9,6 +9,7 @@ pub mod Counted
 pub mod LedgerMoves
 pub mod Holds
 pub mod Holder
+pub mod Collecting
 pub mod First
 pub mod GroupSteps
 pub mod Records
