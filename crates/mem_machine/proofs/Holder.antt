@@ -1,16 +1,15 @@
 -- The lock's holder, and the frames that are lent to it: known before a step. Serves the calls that move frames of lists.
-use Rattle.std.proofs.Common.{◌≡◌, ℕ, ◌+◌, ◌<◌, ◌≤◌, true, List, [], ◌∷◌, refl, sym, ap, ◌∙◌, subst, arith, inl, inr}
+use Rattle.std.proofs.Common.{◌≡◌, ℕ, ◌+◌, ◌<◌, ◌≤◌, true, List, ◌∷◌, sym, ap, ◌∙◌, subst, arith, inl, inr}
 use Rattle.std.proofs.lemmas.Bool.{cases_lt}
-use Rattle.frame_word.specs.Views.{note_of}
 use Rattle.frame_word.specs.Seats.{KnownTable, IsLent}
 use Rattle.stock_word.specs.Stock.{KnownStockTable}
 use Rattle.cpu_part.specs.Cpus.{KnownCpu, IsTied, times}
+use Rattle.cpu_part.specs.Calls.{PassesBackUnit, PassesFront}
 use Rattle.cpu_part.proofs.Counts.{test_here, times_front}
 use Rattle.step_rules.specs.declared.step.Action.{Action}
 use Rattle.step_rules.specs.declared.step.Action.TheVariants.{PassBack}
 use Rattle.step_rules.specs.declared.step.Answer.{Answer}
 use Rattle.step_rules.specs.State.{State, Part, visits}
-use Rattle.step_rules.specs.Legal.{is_legal}
 use Rattle.step_rules.proofs.Lists.{times_same}
 use Rattle.step_rules.proofs.Lists as rules
 use Rattle.boot_words.specs.Pasts.{KnownPasts, IsHeld, IsHolder, MakesStep, MayMake, cpu_past, local_by_pasts}
@@ -38,6 +37,13 @@ held_then t u same s seat action answer later made = subst (λ (v : KnownTable).
 pub holder_then : (t : KnownTable) (s : KnownPasts) (seat : ℕ) (action : Action) (answer : Answer) (later : KnownPasts) (p : ℕ)
     → MakesStep t s seat action answer later → IsHolder s p → IsHolder later p
 holder_then t s seat action answer later p made holder = holder ∙ sym made.cpu_grew.number
+
+-- a CPU that passed a frame back has its number still
+pub front_number : (f : ℕ) (c h : KnownCpu) → PassesFront f c h → h.number ≡ c.number
+front_number f c h hands = ap (λ (e : KnownCpu). e.number) hands.2
+
+pub back_number : (f : ℕ) (c h : KnownCpu) → PassesBackUnit f c h → h.number ≡ c.number
+back_number f c h hands = ap (λ (e : KnownCpu). e.number) hands.2
 
 -- a frame of the zone is lent to the CPU
 pub record IsLentFrame (t : KnownTable) (m : KnownMachine) (c : KnownCpu) (f : ℕ) : Type 0 where

@@ -4,7 +4,7 @@ use Rattle.frame_word.specs.Views.{collected_from}
 use Rattle.frame_word.specs.Seats.{KnownSeat, seat_with}
 use Rattle.mem_machine.proofs.Freeing.{unit_charged}
 use Rattle.mem_machine.proofs.Back.{WasBack, back_passes, read_head, back_in_use, back_inside, return_all, may_collect_back, may_return_back, returned_notes}
-use Rattle.mem_machine.proofs.Holder.{back_may_pass, holder_here, holder_then}
+use Rattle.mem_machine.proofs.Holder.{back_may_pass, back_number, holder_here, holder_then}
 use Rattle.mem_machine.proofs.Reached.{held_here}
 use Rattle.mem_machine.proofs.Followed.{makes_noted}
 use Rattle.mem_machine.proofs.Watched.{consistent_still, returns_still, open_still, visits_then}
@@ -23,7 +23,7 @@ pub collect-requires-clause-held : goal.collect-requires-clause-held
 collect-requires-clause-held g c = c.in-Some.ensures.run.held
 
 pub collect-requires-clause-holder : goal.collect-requires-clause-holder
-collect-requires-clause-holder g c = ap (λ (e : KnownCpu). e.number) c.in-Some.ensures.answer.2
+collect-requires-clause-holder g c = back_number _ _ _ c.in-Some.ensures.answer
     ∙ holder_then _ _ _ _ _ _ _ c.in-Some.ensures.run (holder_here g.N.BootName.frames _ _ c.self.view_is c.args.cpu.now c.requires.shown)
 
 pub collect-requires-clause-legal : goal.collect-requires-clause-legal
@@ -33,7 +33,7 @@ collect-requires-clause-legal g c =
     record { inside = inside; nothing = c.in-Some.ensures.own.0; lent = c.in-Some.ensures.own.1 } in
     let hands = c.in-Some.ensures.answer in
     may_collect_back g.N.BootName.frames g.N.BootName.stocks _ _ c.self.view_is c.args.cpu.now c.number-cpu_number.ensures.tied c.self.invariant.consistent c.requires
-    c.in-Some.frame was hands.0 hands.1 _ (ap (λ (e : KnownCpu). e.number) hands.2) _ c.in-Some.ensures.run
+    c.in-Some.frame was hands.0 hands.1 _ (back_number _ _ _ hands) _ c.in-Some.ensures.run
 
 pub make_step-requires-clause-held : goal.make_step-requires-clause-held
 make_step-requires-clause-held g c = c.collect.ensures.run.held
@@ -45,7 +45,7 @@ make_step-requires-clause-legal g c =
     record { inside = inside; nothing = c.in-Some.ensures.own.0; lent = c.in-Some.ensures.own.1 } in
     let hands = c.in-Some.ensures.answer in
     may_return_back g.N.BootName.frames g.N.BootName.stocks _ _ c.self.view_is c.args.cpu.now c.number-cpu_number.ensures.tied c.self.invariant.consistent c.requires
-    c.in-Some.frame was hands.0 hands.1 _ (ap (λ (e : KnownCpu). e.number) hands.2) _ c.in-Some.ensures.run _ c.number-at.ensures _ c.collect.ensures.run
+    c.in-Some.frame was hands.0 hands.1 _ (back_number _ _ _ hands) _ c.in-Some.ensures.run _ c.number-at.ensures _ c.collect.ensures.run
 
 pub collect-requires-clause-passes : goal.collect-requires-clause-passes
 collect-requires-clause-passes g c =
@@ -106,7 +106,7 @@ returns g c =
     c.self.invariant.consistent c.requires _ _ c.self.invariant.free _ was c.in-Some.ensures.answer c.collect.ensures.cpu _ c.number-at.ensures _ heads _ collected
     _ u.frame_states _ u.frames u.areas _ u.charges _
     c.with_last_put-self-inside.ensures in
-    let handed = ap (λ (e : KnownCpu). e.number) c.in-Some.ensures.answer.2 in
+    let handed = back_number _ _ _ c.in-Some.ensures.answer in
     let notes = returned_notes g.N.BootName.frames _ _ c.in-Some.frame _ _ _ c.number-at.ensures handed c.number-cpu_number.ensures.number _ _ _ _ _
     c.in-Some.ensures.run c.collect.ensures.run c.passed_back.ensures c.collected.ensures c.make_step.ensures.notes in
     let makes = makes_noted _ _ _ _ c.self.view_is _ _ _ _ all.steps _ notes in

@@ -3,7 +3,7 @@ use Rattle.frame_word.specs.Views.{collected_from}
 use Rattle.frame_word.specs.Seats.{KnownSeat, seat_with}
 use Rattle.mem_machine.proofs.Takes.{take_all, may_give, passes_back_to, may_pass_front, may_collect_front, taken_notes}
 use Rattle.cpu_part.specs.Cpus.{KnownCpu}
-use Rattle.mem_machine.proofs.Holder.{holder_here, holder_then}
+use Rattle.mem_machine.proofs.Holder.{front_number, holder_here, holder_then}
 use Rattle.mem_machine.proofs.Reached.{held_here}
 use Rattle.mem_machine.proofs.Followed.{makes_noted}
 use Rattle.mem_machine.proofs.Watched.{consistent_still, takes_still, open_still, visits_then}
@@ -23,14 +23,14 @@ pub collect-requires-clause-held : goal.collect-requires-clause-held
 collect-requires-clause-held g c = c.in-Some.ensures.run.held
 
 pub collect-requires-clause-holder : goal.collect-requires-clause-holder
-collect-requires-clause-holder g c = ap (λ (e : KnownCpu). e.number) c.in-Some.ensures.answer.2
+collect-requires-clause-holder g c = front_number _ _ _ c.in-Some.ensures.answer
     ∙ holder_then _ _ _ _ _ _ _ c.in-Some.ensures.run (holder_here g.N.BootName.frames _ _ c.self.view_is c.args.cpu.now c.requires.shown)
 
 pub collect-requires-clause-legal : goal.collect-requires-clause-legal
 collect-requires-clause-legal g c =
     let hands = c.in-Some.ensures.answer in
     may_collect_front g.N.BootName.frames g.N.BootName.stocks _ _ c.self.view_is c.args.cpu.now c.number-cpu_number.ensures.tied c.self.invariant.consistent c.requires
-    c.in-Some.frame hands.0 hands.1 _ (ap (λ (e : KnownCpu). e.number) hands.2) _ c.in-Some.ensures.run
+    c.in-Some.frame hands.0 hands.1 _ (front_number _ _ _ hands) _ c.in-Some.ensures.run
 
 pub collect-requires-clause-passes : goal.collect-requires-clause-passes
 collect-requires-clause-passes g c =
@@ -67,7 +67,7 @@ returns g c =
     let all = take_all g.N.BootName.frames g.N.BootName.stocks _ _ c.self.view_is c.args.cpu.now c.pass_front.new.self _ c.number-cpu_number.ensures.tied c.self.invariant.consistent
     c.requires _ _ c.unwrap.result _ c.in-Some.frame _ _ c.self.invariant.free k0 c.give.ensures.frames c.give.ensures.areas inside c.in-Some.ensures.borrowed.1
     c.number-at.ensures c.in-Some.ensures.answer collected c.collect.ensures.cpu in
-    let handed = ap (λ (e : KnownCpu). e.number) c.in-Some.ensures.answer.2 in
+    let handed = front_number _ _ _ c.in-Some.ensures.answer in
     let notes = taken_notes g.N.BootName.frames g.N.BootName.stocks _ _ c.self.view_is c.args.cpu.now c.in-Some.frame _ _ _ c.number-at.ensures handed c.number-cpu_number.ensures.number
     _ _ _ _ c.in-Some.ensures.run c.collect.ensures.run c.passed_back.ensures c.collected.ensures in
     let makes = makes_noted _ _ _ _ c.self.view_is _ _ _ _ all.steps _ notes in
