@@ -1,4 +1,4 @@
-use Rattle.std.proofs.Common.{◌≡◌, ◌∙◌, sym, subst}
+use Rattle.std.proofs.Common.{◌∙◌, sym, subst}
 use Rattle.frame_word.specs.Seats.{KnownTable, IsShut}
 use Rattle.step_rules.specs.declared.step.Action.TheVariants.{Unlock}
 use Rattle.boot_words.specs.Pasts.{MayMake, Unlocks, cpu_past}
@@ -27,4 +27,4 @@ returns-clause-knows g c =
     let shut = subst (λ (k : KnownMachine). IsShut k.frame_seat c.args.cpu.now.number) (sym c.self.view_is) c.requires.shut in
     let unlocks = subst (λ (t : KnownTable). Unlocks t c.self.inside.past c.unlock.new.zone c.unlock.new.cpu) c.args.tables.now.frames_are c.unlock.ensures.run in
     knows_then g.N.BootName.frames g.N.BootName.stocks _ c.args.cpu.now shown shut c.prove_tied.ensures c.unlock.new.zone c.unlock.new.cpu unlocks
-    (λ e. c.last_stock.ensures.none_fresh (c.last_stock.ensures.last ∙ e))
+    (λ e. c.last_stock-last.ensures.none_fresh (c.last_stock-last.ensures.last ∙ e))
