@@ -1,5 +1,5 @@
 -- What the machine shows behind a lock, and what the CPU knows behind an unlock. Serves `lock` and `unlock`.
-use Rattle.std.proofs.Common.{◌≡◌, ◌≢◌, ℕ, ◌≤◌, ◌++◌, true, false, [], ◌∷◌, length, refl, sym, ap, ◌∙◌, subst, arith}
+use Rattle.std.proofs.Common.{◌≡◌, ◌≢◌, ℕ, ◌++◌, true, false, [], ◌∷◌, length, refl, sym, ap, ◌∙◌, subst, arith}
 use Rattle.frame_word.specs.Seats.{KnownTable, IsShut}
 use Rattle.stock_word.specs.declared.view.Stock.TheVariants as stock
 use Rattle.stock_word.specs.Stock.{KnownStockTable, group_of}
@@ -17,7 +17,7 @@ use Rattle.step_rules.proofs.Sound.{IsSound}
 use Rattle.boot_words.specs.Hidden.{hide}
 use Rattle.boot_words.specs.Sight.{HasSameLists}
 use Rattle.boot_words.specs.Seats.{zone_of_boot}
-use Rattle.boot_words.specs.Pasts.{KnownPasts, Locks, MayMake, Unlocks, cpu_past, local_by_pasts, own_past}
+use Rattle.boot_words.specs.Pasts.{KnownPasts, Locks, MayMake, Unlocks, cpu_past, own_past}
 use Rattle.boot_words.proofs.Away.{away_stays}
 use Rattle.boot_words.proofs.Holding.{take_length}
 use Rattle.boot_words.proofs.Owning.{lists_are_own}
@@ -25,7 +25,6 @@ use Rattle.cpu_part.specs.Cpus.{KnownCpu, IsTied}
 use Rattle.cpu_part.specs.Known.{KnowsItsPart, last_state}
 use Rattle.cpu_part.proofs.Knowing.{HasLists, has_same, own_group, own_lists}
 use Rattle.mem_machine.specs.Machines.{KnownMachine, visit_state}
-use Rattle.mem_machine.specs.Noted.{KnownRun}
 use Rattle.mem_machine.specs.Local.{IsShown, local_of}
 use Rattle.mem_machine.specs.Resting.{Rests, hidden_of}
 use Rattle.mem_machine.proofs.Seen.{group_here, hidden_here, may_unlock, part_here, references_here, shown_here}

@@ -1,6 +1,6 @@
-use Rattle.std.proofs.Common.{◌≡◌, sym, subst}
+use Rattle.std.proofs.Common.{sym, subst}
 use Rattle.frame_word.specs.Seats.{KnownTable, IsShut}
-use Rattle.boot_words.specs.Pasts.{KnownPasts, Locks}
+use Rattle.boot_words.specs.Pasts.{Locks}
 use Rattle.mem_machine.specs.Machines.{KnownMachine}
 use Rattle.mem_machine.specs.Resting.{Rests}
 use Rattle.mem_machine.proofs.Locks.{is_shown_then}
