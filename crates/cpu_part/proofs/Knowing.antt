@@ -1,5 +1,5 @@
 -- What a CPU knows of its own part: which of its steps without the lock are legal, and its part after each.
-use Rattle.std.proofs.Common.{◌≡◌, ◌≢◌, ℕ, ◌+◌, ◌-◌, ◌<◌, ◌≤◌, ◌&&◌, ◌||◌, ◌==◌, Bool, true, false, Some, List, [], ◌∷◌, ◌++◌, length, get_or, cond, eqb, leb, ltb, sym, refl, ap, ◌∙◌, subst, inl, inr, zero, suc, eq-eqb, arith}
+use Rattle.std.proofs.Common.{◌≡◌, ◌≢◌, ℕ, ◌+◌, ◌-◌, ◌<◌, ◌≤◌, ◌&&◌, ◌||◌, ◌==◌, Bool, true, false, List, [], ◌∷◌, ◌++◌, length, get_or, cond, eqb, leb, ltb, sym, refl, ap, ◌∙◌, subst, inl, inr, zero, suc, eq-eqb, arith}
 use Rattle.std.proofs.lemmas.Bool.{cases_eq, cond-false, le-leb, lt-ltb, ne_eqb}
 use Rattle.std.specs.Prelude.{IsPermutation, MatchBool, remove}
 use Rattle.frame_word.specs.declared.answers.Get as gets
@@ -11,19 +11,19 @@ use Rattle.step_rules.specs.declared.step.Answer.{Answer}
 use Rattle.step_rules.specs.declared.step.Answer.TheVariants.{Drained, Full, Held, Left, Last, Took, Stocked, Zero}
 use Rattle.step_rules.specs.Phases.{FreshFrame, has_as}
 use Rattle.step_rules.specs.State.{Part, State, Zone, front_of, is_cpu, is_frame, may_zone_act, one_if, pins_of, sum_to, with_at, with_last, without}
-use Rattle.step_rules.specs.Legal.{Allows, is_legal}
+use Rattle.step_rules.specs.Legal.{Allows}
 use Rattle.step_rules.specs.After.{Run, after, credited, paid, state_of, with_back, IsLegalRun}
 use Rattle.step_rules.specs.Views.{holds_lock}
 use Rattle.step_rules.proofs.Basics.{at_each, at_same}
 use Rattle.step_rules.proofs.Freeing.{zone_of_run}
 use Rattle.step_rules.proofs.Lists.{times as counted, count_length, one_if_true}
 use Rattle.step_rules.proofs.Runs.{legal_from, sound_run, state_more}
-use Rattle.step_rules.proofs.Sound.{IsSound}
 use Rattle.step_rules.proofs.Sums.{sum_same}
 use Rattle.boot_words.specs.Runs.{IsFast}
 use Rattle.boot_words.specs.Sight.{HasSameLists}
 use Rattle.boot_words.specs.Seats.{zone_of_boot}
 use Rattle.boot_words.specs.Pasts.{KnownPasts, own_past, Does, Gets, IsCpuPast, MayDo}
+use Rattle.boot_words.proofs.Away.{away_stays}
 use Rattle.boot_words.proofs.Holding.{allowed_at, take_length}
 use Rattle.boot_words.proofs.OwnParts.{own_part_follows}
 use Rattle.stock_word.specs.declared.view.Stock.{Stock}
@@ -35,9 +35,8 @@ use Rattle.stock_word.specs.Stock.{KnownStockSeat, KnownStockTable, drained_of, 
 use Rattle.stock_word.specs.Calls.{Consumed, Credited, told_drained}
 use Rattle.cpu_part.specs.Cpus.{KnownCpu, IsTied, times}
 use Rattle.cpu_part.specs.Known.{KnowsItsPart, last_state}
-use Rattle.cpu_part.proofs.Away.{away_stays}
 use Rattle.cpu_part.proofs.Notes.{frame_inside}
-use Rattle.cpu_part.proofs.Counts.{test, test_here, test_other, times_front, times_end, times_parted}
+use Rattle.cpu_part.proofs.Counts.{test_here, test_other, times_front, times_end, times_parted}
 
 -- ---- lists
 
@@ -356,6 +355,7 @@ module _ (t : KnownTable) (w : KnownStockTable) (past : KnownPasts) (c : KnownCp
     where
       same_group : group_of stock.view.last ≡ group_of c.stock_seat.view.last
       same_group = ap (λ (v : StockView). group_of v.last) told ∙ group_drained c.stock_seat.view.last
+
       by_last : (b : Bool) → MatchBool b (Does past action Drained later) (later ≡ past) → KnowsItsPart t later (record c { stock_seat = stock })
       by_last true does =
           let q = (own_past past).number in
