@@ -51,3 +51,5 @@ pub mod Fronts
 pub mod Depths
 pub mod Looks
 pub mod Listing
+pub mod Seen
+pub mod Locks
