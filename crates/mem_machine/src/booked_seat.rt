@@ -115,12 +115,13 @@ impl<N: BootName> BookedSeat<N> {
         pages
     }
 
-    /// Notes the drain of the CPU's stock, which was never filled, by a look.
+    /// Notes the drain of the CPU's stock, which a look found to be of no group, by a second look.
     pub(crate) fn drain_none(&mut self, tables: &Tables<N>, held: &mut PastSeat, cpu: u32)
         requires held { IsHeld N.frames held.old }
         requires legal { MayMake N.frames held.old 0 (step.DrainStock cpu) }
         requires cpu { IsCpuOf N.frames cpu }
         requires group { (account_of self.old.view cpu).group ≡ None }
+        requires drained { (account_of self.old.view cpu).filled ≡ false }
         ensures run { MakesStep N.frames held.old 0 (step.DrainStock cpu) (Pages 0) held.new }
         ensures seat { self.new ≡ with_view self.old (with_steps 1 (zone_after_drain self.old.view cpu 0)) }
     {
