@@ -8,6 +8,8 @@ pub mod Watched
 pub mod Counted
 pub mod LedgerMoves
 pub mod Holds
+pub mod Holder
+pub mod Collecting
 pub mod First
 pub mod GroupSteps
 pub mod Records

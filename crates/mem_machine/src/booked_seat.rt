@@ -212,6 +212,7 @@ impl<N: BootName> BookedSeat<N> {
         requires visited { IsVisitedAt N.frames zone.old cpu.old }
         requires fresh { cpu.old.fresh ≢ [] }
         requires group { group_of cpu.old.stock_seat.view.last ≡ Some group }
+        requires absorbed { (account_of self.old.view cpu.old.number).unabsorbed ≡ 0 }
         ensures known { KnowsFresh N.frames zone.old self.old cpu.old result }
         ensures run { MakesAll N.frames held.old (collect_steps cpu.old.number result) held.new }
         ensures cpu { PassesFresh result cpu.old cpu.new }
