@@ -1,5 +1,5 @@
 -- A block is charged to a group and taken, or none is there. Serves `take_block`.
-use Rattle.std.proofs.Common.{◌≡◌, ℕ, zero, suc, ◌+◌, ◌-◌, ◌^◌, ◌≤◌, ◌<◌, ◌==◌, Bool, true, false, cond, List, [], length, get_or}
+use Rattle.std.proofs.Common.{◌≡◌, ℕ, zero, suc, ◌+◌, ◌-◌, ◌^◌, ◌≤◌, ◌<◌, ◌==◌, Bool, true, false, cond, List, [], ◌∷◌, length, get_or}
 use Rattle.std.proofs.Common.{refl, sym, ap, ◌∙◌, subst, arith, inl, inr}
 use Rattle.std.specs.Prelude.{slice_index}
 use Rattle.std.specs.Cmp.{both_ways}
@@ -34,7 +34,6 @@ use Rattle.mem_machine.specs.declared.frame_state.FrameState.TheVariants.{Free, 
 use Rattle.mem_machine.specs.FrameStates.{frame_state_at, is_free_state, is_in_hand, cpu_lent_to, free_of}
 use Rattle.mem_machine.specs.FrameStates.{frame_state_group}
 use Rattle.mem_machine.specs.Machines.{KnownMachine, IsConsistent, is_killed}
-use Rattle.mem_machine.specs.Local.{Visits}
 use Rattle.boot_words.specs.Pasts.{MakesStep}
 use Rattle.step_watch.specs.Watched.{Watches}
 use Rattle.mem_machine.specs.Noted.{AreLocal, KnownRun, MayTakeAll, Notes}
@@ -45,15 +44,15 @@ use Rattle.step_rules.specs.After.{Run}
 use Rattle.step_rules.specs.declared.step.Action.TheVariants.{Grant, PlaceBlock, Publish, Ungrant, Unfreeze}
 use Rattle.step_rules.specs.declared.step.Answer.TheVariants.{Done, Granted, NoFreeBlock, Placed}
 use Rattle.mem_machine.specs.Blocks.{PlacesUnit, TakesBlock, TakesNoBlock, taken_steps, unplaced_steps}
-use Rattle.mem_machine.specs.Local.{local_of, phase_of, visit_state}
+use Rattle.mem_machine.specs.Local.{IsShown, MakesAs, Visits, local_of, phase_of, visit_state}
 use Rattle.mem_machine.proofs.Records.{length_free, free_at, free_is, free_inside, no_cpu_is}
 use Rattle.mem_machine.proofs.PlacesUnits.{in_block, off_block}
 use Rattle.mem_machine.proofs.Joins.{AllJoin}
 use Rattle.mem_machine.proofs.KeptUnits.{IsUsed, JoinsCharges, unit_kept}
 use Rattle.mem_machine.proofs.Placed.{place_local, taken_run}
 use Rattle.mem_machine.proofs.Grants.{is_granted, unplaced_run}
-use Rattle.mem_machine.proofs.Reached.{may_make}
-use Rattle.mem_machine.proofs.Watched.{HasOpenVisit}
+use Rattle.mem_machine.proofs.Reached.{may_lead_all, may_make}
+use Rattle.mem_machine.proofs.Watched.{HasOpenVisit, visits_then}
 use Rattle.mem_machine.proofs.Followed.{same_events, LeadsAs}
 use Rattle.group_charge.proofs.CallerLemmas.{uncharge_peaks, uncharge_events}
 
@@ -379,3 +378,21 @@ pub unplaced_notes : (t : KnownTable) (a b d s : KnownRun) (g k pages : ℕ) →
     → Notes t b (zone_makes (PlaceBlock g k) NoFreeBlock ∷ []) d → Notes t d (zone_makes (Ungrant g pages) Done ∷ []) s → Notes t a (unplaced_steps g k) s
 unplaced_notes t a b d s g k pages size grants places takes =
     subst (λ (x : ℕ). Notes t a (unplaced_as g x k) s) size (notes_both t a _ b _ s grants (notes_both t b _ d _ s places takes))
+
+-- they may be made, if there is none
+pub unplaced_may : (t : KnownTable) (w : KnownStockTable) (m now : KnownMachine) → m ≡ now → (c : KnownCpu) → IsShown t (visit_state now c) → IsConsistent t w m → AreCharges m.ledger
+    → (g k pages : ℕ) → pages ≡ 2 ^ k → MayTake t now c g → PathHasRoom m.ledger.groups (current_of m.ledger) g pages → HasNoneFrom m.blocks k
+    → MayTakeAll t m.run.past (unplaced_as g pages k)
+unplaced_may t w m now same c at ok facts g k pages size may room none =
+    let all = none_all t w m now same c c refl ok facts g k pages size may room _ _ refl refl m.blocks refl none in
+    subst (λ (x : ℕ). MayTakeAll t m.run.past (unplaced_as g x k)) (sym size)
+    (may_lead_all t m now same c at (unplaced_steps g k) _ all.steps)
+
+-- steps that leave the zone's seat at the frames leave the CPU's visit open
+pub visit_kept : (t : KnownTable) (m now : KnownMachine) → m ≡ now → (c : KnownCpu) (n : KnownMachine) → n.frame_seat ≡ m.frame_seat → (steps : Run)
+    → MakesAs t c.number (visit_state now c) steps (visit_state n c) → Visits t (visit_state now c) → Visits t (visit_state n c)
+visit_kept t m now same c n seat steps makes visit =
+    let seat_now : now.frame_seat ≡ n.frame_seat = sym (seat ∙ ap (λ (k : KnownMachine). k.frame_seat) same) in
+    visits_then t (visit_state now c) (visit_state n c) steps visit.shown makes refl
+    (subst (λ (x : KnownSeat). HasOpenVisit t (visit_state (record n { frame_seat = x }) c)) seat_now
+    (record { is_open = visit.is_open; still = visit.still; lent = visit.lent }))
