@@ -10,7 +10,7 @@ use Rattle.step_rules.specs.State.{State}
 use Rattle.step_rules.specs.After.{Run}
 use Rattle.step_rules.specs.Laws.{IsLocalStep}
 use Rattle.step_rules.specs.Reaches.{IsLocalRun}
-use Rattle.boot_words.specs.Pasts.{KnownPasts, MakesStep, cpu_past, local_by_pasts}
+use Rattle.boot_words.specs.Pasts.{KnownPasts, IsHeld, MakesStep, cpu_past, local_by_pasts}
 use Rattle.cpu_part.specs.Made.{MakesAll, MayMakeAll}
 use Rattle.step_watch.specs.Watched.{Watches}
 use Rattle.step_watch.proofs.Watching.{watches_none, watches_both}
@@ -19,19 +19,20 @@ use Rattle.mem_machine.specs.Noted.{AreLocal, GrowsBy, KnownRun, MayTake, MayTak
 -- ---- how the pasts grow
 
 pub grows_none : (t : KnownTable) (s : KnownPasts) → GrowsBy t s [] s
-grows_none t s = record { held = λ held. held; holder = refl; sees = refl }
+grows_none t s = record { held = λ held. held; holder = λ _. refl; sees = λ _. refl }
 
 pub grows_both : (t : KnownTable) (a : KnownPasts) (one : Run) (b : KnownPasts) (two : Run) (c : KnownPasts) → GrowsBy t a one b → GrowsBy t b two c
     → GrowsBy t a (one ++ two) c
 grows_both t a one b two c first second = record {
   held = λ held. second.held (first.held held);
-  holder = second.holder ∙ first.holder;
-  sees = second.sees ∙ ap (λ (s : State). fold after_made s two) first.sees ∙ sym (fold-append after_made (local_by_pasts t a) one two);
+  holder = λ held. second.holder (first.held held) ∙ first.holder held;
+  sees = λ held. second.sees (first.held held) ∙ ap (λ (s : State). fold after_made s two) (first.sees held)
+      ∙ sym (fold-append after_made (local_by_pasts t a) one two);
 }
 
 pub made_grows : (t : KnownTable) (s : KnownPasts) (seat : ℕ) (action : Action) (answer : Answer) (s' : KnownPasts) → MakesStep t s seat action answer s'
     → GrowsBy t s ((record { seat = seat; action = action }, answer) ∷ []) s'
-made_grows t s seat action answer s' made = record { held = λ _. made.held; holder = made.cpu_grew.number; sees = made.local_is }
+made_grows t s seat action answer s' made = record { held = λ _. made.held; holder = λ _. made.cpu_grew.number; sees = λ _. made.local_is }
 
 pub all_grow : (t : KnownTable) (s : KnownPasts) (steps : Run) (s' : KnownPasts) → MakesAll t s steps s' → GrowsBy t s steps s'
 all_grow t s [] s' is = subst (GrowsBy t s []) (sym is) (grows_none t s)
@@ -72,10 +73,10 @@ first_made t past p a who at e rest all =
     subst (λ (x : ℕ × State). IsLocalStep x.1 x.0 e.0.seat e.0.action e.1) (λ i. (sym who i, sym at i)) all.0
 
 -- behind steps of the list that were made, the next may be taken
-pub next_made : (t : KnownTable) (past : KnownPasts) (p : ℕ) (a : State) → (cpu_past past).number ≡ p → local_by_pasts t past ≡ a → (steps : Run) (later : KnownPasts)
+pub next_made : (t : KnownTable) (past : KnownPasts) (p : ℕ) (a : State) → IsHeld t past → (cpu_past past).number ≡ p → local_by_pasts t past ≡ a → (steps : Run) (later : KnownPasts)
     → GrowsBy t past steps later → (e : Step × Answer) (rest : Run) → AreLocal p a (steps ++ e ∷ rest) → MayTake t later e
-next_made t past p a who at steps later grew e rest all =
-    first_made t later p (fold after_made a steps) (grew.holder ∙ who) (grew.sees ∙ ap (λ (s : State). fold after_made s steps) at)
+next_made t past p a held who at steps later grew e rest all =
+    first_made t later p (fold after_made a steps) (grew.holder held ∙ who) (grew.sees held ∙ ap (λ (s : State). fold after_made s steps) at)
     e rest (behind p a steps (e ∷ rest) all)
   where
     behind : (p : ℕ) (a : State) (steps more : Run) → AreLocal p a (steps ++ more) → AreLocal p (fold after_made a steps) more

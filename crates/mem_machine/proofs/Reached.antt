@@ -1,5 +1,5 @@
 -- What the CPU sees by the run: which steps may be taken there, and what it sees then. Serves all calls that make steps.
-use Rattle.std.proofs.Common.{◌≡◌, ℕ, ◌++◌, [], ◌∷◌, sym, ◌∙◌, ap, subst}
+use Rattle.std.proofs.Common.{◌≡◌, ℕ, ◌++◌, List, [], ◌∷◌, length, sym, ◌∙◌, ap, subst, arith}
 use Rattle.std.specs.List.{fold}
 use Rattle.frame_word.specs.Seats.{KnownTable}
 use Rattle.cpu_part.specs.Cpus.{KnownCpu}
@@ -7,7 +7,7 @@ use Rattle.step_rules.specs.declared.step.Step.{Step}
 use Rattle.step_rules.specs.declared.step.Answer.{Answer}
 use Rattle.step_rules.specs.State.{State}
 use Rattle.step_rules.specs.After.{Run}
-use Rattle.boot_words.specs.Pasts.{KnownPasts, IsHeld, cpu_past, local_by_pasts}
+use Rattle.boot_words.specs.Pasts.{KnownPasts, IsHeld, cpu_past, local_by_pasts, own_past}
 use Rattle.mem_machine.specs.Machines.{KnownMachine, VisitState, visit_state}
 use Rattle.mem_machine.specs.Local.{IsShown, MakesAs, local_at, local_of}
 use Rattle.mem_machine.specs.Noted.{AreLocal, GrowsBy, MayTake, MayTakeAll, after_made}
@@ -18,8 +18,8 @@ use Rattle.mem_machine.proofs.Followed.{LeadsAs}
 pub shown_then : (t : KnownTable) (a b : VisitState) (steps : Run) → IsShown t a → MakesAs t a.cpu.number a steps b → b.cpu.number ≡ a.cpu.number → IsShown t b
 shown_then t a b steps now makes number = record {
   held = makes.noted.grew.held now.held;
-  who = makes.noted.grew.holder ∙ now.who ∙ sym number;
-  here = makes.noted.grew.sees ∙ ap (λ (s : State). fold after_made s steps) now.here
+  who = makes.noted.grew.holder now.held ∙ now.who ∙ sym number;
+  here = makes.noted.grew.sees now.held ∙ ap (λ (s : State). fold after_made s steps) now.here
       ∙ run_ends a.cpu.number (local_at t a) steps (local_at t b) makes.leads;
 }
 
@@ -50,7 +50,7 @@ module _ (t : KnownTable) (m now : KnownMachine) (same : m ≡ now) (c : KnownCp
   -- the next one, behind steps of the list that were made
   pub may_next : (steps : Run) (later : KnownPasts) → GrowsBy t m.run.past steps later → (e : Step × Answer) (rest : Run)
       → AreLocal c.number (local_of t now c) (steps ++ e ∷ rest) → MayTake t later e
-  may_next steps later grew e rest all = next_made t m.run.past c.number (local_of t now c) who_here here steps later grew e rest all
+  may_next steps later grew e rest all = next_made t m.run.past c.number (local_of t now c) held_here who_here here steps later grew e rest all
 
   -- the steps of a call, once it is known where they lead
   pub may_lead : (e : Step × Answer) (rest : Run) (b : VisitState) → LeadsAs t c.number (visit_state now c) (e ∷ rest) b → MayTake t m.run.past e
@@ -63,3 +63,25 @@ module _ (t : KnownTable) (m now : KnownMachine) (same : m ≡ now) (c : KnownCp
   -- all steps of a call, once it is known where they lead
   pub may_lead_all : (steps : Run) (b : VisitState) → LeadsAs t c.number (visit_state now c) steps b → MayTakeAll t m.run.past steps
   may_lead_all steps b leads = may_make steps (run_steps c.number (local_of t now c) steps (local_at t b) leads.leads)
+
+-- ---- the lock is free before and after
+
+-- the machine with other pasts
+abbrev pub with_past : KnownMachine → KnownPasts → KnownMachine
+with_past m past = record m { run = record (m.run) { past = past } }
+
+-- What was made under the lock was made between a state before the lock was taken and one after it was released: there the
+-- pasts say nothing.
+pub makes_unheld : (t : KnownTable) (p : ℕ) (m n : KnownMachine) (c d : KnownCpu) (steps : Run) (x y : KnownPasts) → x.pasts ≡ own_past x ∷ []
+    → MakesAs t p (visit_state m c) steps (visit_state n d) → MakesAs t p (visit_state (with_past m x) c) steps (visit_state (with_past n y) d)
+makes_unheld t p m n c d steps x y alone made = record {
+  leads = made.leads;
+  follows = made.follows;
+  counts = made.counts;
+  noted = record {
+    grew = record { held = λ held. absurd (free held); holder = λ held. absurd (free held); sees = λ held. absurd (free held) };
+    watched = made.noted.watched;
+  };
+} where
+  free : IsHeld t x → ⊥
+  free held = omega (arith, ap length (sym alone ∙ held.both))

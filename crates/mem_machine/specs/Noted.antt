@@ -19,11 +19,11 @@ pub record KnownRun : Type 0 where
 abbrev pub after_made : State → Step × Answer → State
 after_made s made = after s made.0.seat made.0.action made.1
 
--- The pasts have grown by these steps: the lock is held by the same CPU, which sees what the steps make of what it saw.
+-- The pasts have grown by these steps: if a CPU held the lock, it still does, and sees what the steps make of what it saw.
 pub record GrowsBy (table : KnownTable) (before : KnownPasts) (steps : Run) (later : KnownPasts) : Type 0 where
   pub held : IsHeld table before → IsHeld table later
-  pub holder : (cpu_past later).number ≡ (cpu_past before).number
-  pub sees : local_by_pasts table later ≡ fold after_made (local_by_pasts table before) steps
+  pub holder : IsHeld table before → (cpu_past later).number ≡ (cpu_past before).number
+  pub sees : IsHeld table before → local_by_pasts table later ≡ fold after_made (local_by_pasts table before) steps
 
 -- the pasts have grown by these steps, and the watch took them
 pub record Notes (table : KnownTable) (before : KnownRun) (steps : Run) (later : KnownRun) : Type 0 where
