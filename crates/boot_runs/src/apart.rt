@@ -3,10 +3,10 @@
 ghost use Rattle.std.specs.Prelude.{◌≡◌, ◌<◌, length};
 
 use crate::life::{SIZES, answers, ends, expect_true};
-use cpu_part::{BootName, Cpu};
+use cpu_part::BootName;
 use frame_word::{Frame, Get};
 use group_tree::group::GroupId;
-use mem_system::{Boot, Cmd, Held, Reply, System, boot};
+use mem_system::{Boot, Cmd, Cpu, Held, Reply, System, boot};
 use std::alloc::Global;
 use std::marker::Brand;
 use std::process::Abort;

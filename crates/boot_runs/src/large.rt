@@ -5,9 +5,10 @@ ghost use Rattle.stock_word.specs.Stock.{first_zone_stock_view, first_cpu_stock_
 
 use crate::life::expect_true;
 use crate::seats::{CpuSeats, close_cpu, new_cpu};
-use cpu_part::{BootName, Cpu, Tables};
+use cpu_part::{BootName, Tables};
 use frame_word::{FrameSeat, FrameWords};
 use mem_machine::Machine;
+use mem_system::Cpu;
 use std::alloc::Global;
 use std::marker::Brand;
 use std::process::Abort;

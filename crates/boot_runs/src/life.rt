@@ -2,10 +2,10 @@
 ghost use Rattle.std.specs.Prelude.{◌≡◌, ◌<◌, length};
 ghost use Rattle.mem_system.specs.Commands.{IsOfZone};
 
-use cpu_part::{BootName, Cpu};
+use cpu_part::BootName;
 use group_tree::fault::Fault;
 use group_tree::group::GroupId;
-use mem_system::{Audit, Boot, Cmd, Gate, Reply, System, boot};
+use mem_system::{Audit, Boot, Cmd, Cpu, Gate, Reply, System, boot};
 use std::alloc::Global;
 use std::marker::Brand;
 use std::process::Abort;

@@ -3,8 +3,9 @@ ghost use Rattle.std.specs.Prelude.{◌≡◌};
 ghost use Rattle.frame_word.specs.Seats.{first_cpu_view, seat_number, IsCpuSeat};
 ghost use Rattle.stock_word.specs.Stock.{IsCpuView};
 
-use cpu_part::{BootName, Cpu};
+use cpu_part::BootName;
 use frame_word::FrameSeat;
+use mem_system::Cpu;
 use std::alloc::Global;
 use std::process::Abort;
 use stock_word::StockSeat;

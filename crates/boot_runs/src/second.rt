@@ -3,8 +3,8 @@
 ghost use Rattle.std.specs.Prelude.{◌≡◌};
 
 use crate::life::{SIZES, ends, nothing_was_charged};
-use cpu_part::{BootName, Cpu};
-use mem_system::{Audit, Boot, System, boot};
+use cpu_part::BootName;
+use mem_system::{Audit, Boot, Cpu, System, boot};
 use std::alloc::Global;
 use std::marker::Brand;
 use std::process::Abort;

@@ -1,35 +1,42 @@
 -- What a CPU knows of its own part: which of its steps without the lock are legal, and its part after each.
-use Rattle.std.proofs.Common.{◌≡◌, ◌≢◌, ℕ, ◌+◌, ◌<◌, ◌≤◌, ◌&&◌, ◌||◌, ◌==◌, Bool, true, false, Some, List, [], ◌∷◌, ◌++◌, length, get_or, cond, eqb, sym, refl, ap, ◌∙◌, subst, inl, inr, zero, suc, eq-eqb, arith}
+use Rattle.std.proofs.Common.{◌≡◌, ◌≢◌, ℕ, ◌+◌, ◌-◌, ◌<◌, ◌≤◌, ◌&&◌, ◌||◌, ◌==◌, Bool, true, false, List, [], ◌∷◌, ◌++◌, length, get_or, cond, eqb, leb, ltb, sym, refl, ap, ◌∙◌, subst, inl, inr, zero, suc, eq-eqb, arith}
 use Rattle.std.proofs.lemmas.Bool.{cases_eq, cond-false, le-leb, lt-ltb, ne_eqb}
-use Rattle.std.specs.Prelude.{IsPermutation, remove}
-use Rattle.frame_word.specs.Seats.{KnownTable}
+use Rattle.std.specs.Prelude.{IsPermutation, MatchBool, remove}
+use Rattle.frame_word.specs.declared.answers.Get as gets
+use Rattle.frame_word.specs.declared.answers.Get.TheVariants as get
+use Rattle.frame_word.specs.Seats.{KnownSeat, KnownTable}
 use Rattle.step_rules.specs.declared.step.Action.{Action}
 use Rattle.step_rules.specs.declared.step.Action.TheVariants.{Get, Put, Consume, Credit}
 use Rattle.step_rules.specs.declared.step.Answer.{Answer}
-use Rattle.step_rules.specs.declared.step.Answer.TheVariants.{Held, Left, Last, Took, Stocked}
+use Rattle.step_rules.specs.declared.step.Answer.TheVariants.{Drained, Full, Held, Left, Last, Took, Stocked, Zero}
 use Rattle.step_rules.specs.Phases.{FreshFrame, has_as}
-use Rattle.step_rules.specs.State.{Part, State, Zone, front_of, is_cpu, is_frame, may_zone_act, one_if, pins_of, with_at, with_last, without}
-use Rattle.step_rules.specs.Legal.{Allows, is_legal}
+use Rattle.step_rules.specs.State.{Part, State, Zone, front_of, is_cpu, is_frame, may_zone_act, one_if, pins_of, sum_to, with_at, with_last, without}
+use Rattle.step_rules.specs.Legal.{Allows}
 use Rattle.step_rules.specs.After.{Run, after, credited, paid, state_of, with_back, IsLegalRun}
 use Rattle.step_rules.specs.Views.{holds_lock}
 use Rattle.step_rules.proofs.Basics.{at_each, at_same}
 use Rattle.step_rules.proofs.Freeing.{zone_of_run}
 use Rattle.step_rules.proofs.Lists.{times as counted, count_length, one_if_true}
 use Rattle.step_rules.proofs.Runs.{legal_from, sound_run, state_more}
-use Rattle.step_rules.proofs.Sound.{IsSound}
 use Rattle.step_rules.proofs.Sums.{sum_same}
 use Rattle.boot_words.specs.Runs.{IsFast}
 use Rattle.boot_words.specs.Sight.{HasSameLists}
 use Rattle.boot_words.specs.Seats.{zone_of_boot}
-use Rattle.boot_words.specs.Pasts.{KnownPasts, own_past, Does, IsCpuPast, MayDo}
-use Rattle.boot_words.proofs.Draining.{stocks_are_own}
+use Rattle.boot_words.specs.Pasts.{KnownPasts, own_past, Does, Gets, IsCpuPast, MayDo}
+use Rattle.boot_words.proofs.Away.{away_stays}
 use Rattle.boot_words.proofs.Holding.{allowed_at, take_length}
 use Rattle.boot_words.proofs.OwnParts.{own_part_follows}
-use Rattle.stock_word.specs.Stock.{KnownStockTable, group_of}
+use Rattle.stock_word.specs.declared.view.Stock.{Stock}
+use Rattle.stock_word.specs.declared.view.Stock.TheVariants.{NoGroup, HeldBy, DrainedOf}
+use Rattle.stock_word.specs.declared.view.StockView.{StockView}
+use Rattle.stock_word.specs.declared.words.Consume.TheVariants as consume
+use Rattle.stock_word.specs.declared.words.Credit.TheVariants as credit
+use Rattle.stock_word.specs.Stock.{KnownStockSeat, KnownStockTable, drained_of, group_of, is_held}
+use Rattle.stock_word.specs.Calls.{Consumed, Credited, told_drained}
 use Rattle.cpu_part.specs.Cpus.{KnownCpu, IsTied, times}
 use Rattle.cpu_part.specs.Known.{KnowsItsPart, last_state}
-use Rattle.cpu_part.proofs.Away.{away_stays}
-use Rattle.cpu_part.proofs.Counts.{test, test_here, test_other, times_front, times_end, times_parted}
+use Rattle.cpu_part.proofs.Notes.{frame_inside}
+use Rattle.cpu_part.proofs.Counts.{test_here, test_other, times_front, times_end, times_parted}
 
 -- ---- lists
 
@@ -98,13 +105,13 @@ module _ (s : State) (q : ℕ) (list fresh back pins : List ℕ) (has : HasLists
         references_are = has.references_are;
       }
 
-  pub has_credited : (f i : ℕ) (list' : List ℕ) → i < length fresh → get_or fresh i 0 ≡ f → list' ≡ list ++ f ∷ [] → times f fresh ≤ 1
-      → HasLists (after s q (Credit f) Stocked) q list' (remove fresh i) back pins
-  has_credited f i list' inside is end once =
+  pub has_credited : (f i : ℕ) (list' fresh' : List ℕ) → i < length fresh → get_or fresh i 0 ≡ f → list' ≡ list ++ f ∷ [] → fresh' ≡ remove fresh i
+      → times f fresh ≤ 1 → HasLists (after s q (Credit f) Stocked) q list' fresh' back pins
+  has_credited f i list' fresh' inside is end left once =
       let here = at_same s.parts q (credited (s.parts q) f) in let both = same_times f fresh in
       record {
         list_is = ap (λ (part : Part). part.list) here ∙ ap (λ (l : List ℕ). with_last l f) has.list_is ∙ sym end;
-        fresh_is = ap (λ (part : Part). part.fresh) here ∙ ap (without f) has.fresh_is ∙ one_gone f i fresh inside is (omega (arith, both, once));
+        fresh_is = ap (λ (part : Part). part.fresh) here ∙ ap (without f) has.fresh_is ∙ one_gone f i fresh inside is (omega (arith, both, once)) ∙ sym left;
         back_is = ap (λ (part : Part). part.back) here ∙ has.back_is;
         references_are = has.references_are;
       }
@@ -199,15 +206,14 @@ follows t past later action answer fast is is_later away does =
     let behind = p.seen ++ does.grew.between in
     let whole = subst (IsLegalRun zone) does.grew.seen is_later.legal in
     let legal = legal_before zone behind ((record { seat = q; action = action }, answer) ∷ []) whole in
-    let stays = away_stays zone p.seen does.grew.between q ne legal does.grew.others away in
-    let drained = stocks_are_own zone p.seen does.grew.between q legal does.grew.others stays.1 in
+    let stays = away_stays zone p.seen does.grew.between q legal does.grew.others away in
     let more = ap (state_of zone) does.grew.seen ∙ state_more zone behind (record { seat = q; action = action }) answer in
     let leaves = fast_leaves (state_of zone behind) q action answer ne fast in
     let own = ap (λ (u : State). (u.parts q).stock.group) more ∙ leaves.group in
     record {
       same = own_part_follows zone p action answer (own_past later) ne fast does.grew;
       away = ap (λ (u : State). holds_lock q u.hold) more ∙ ap (holds_lock q) leaves.hold ∙ stays.0;
-      group = own ∙ drained.group;
+      group = own ∙ stays.1.group;
       before = state_of zone behind;
       before_group = own;
       allowed = allowed_at zone behind (record { seat = q; action = action }, answer) [] whole;
@@ -281,16 +287,18 @@ module _ (t : KnownTable) (w : KnownStockTable) (past : KnownPasts) (c : KnownCp
       λ i. a_cpu i && (ap (λ (l : List ℕ). leb 1 (length l)) has.list_is ∙ le-leb 1 (length c.list) some) i
       && (ap (λ (l : List ℕ). ltb (length l) 32) has.fresh_is ∙ lt-ltb (length c.fresh) 32 short) i
 
-  pub may_credit : (f : ℕ) → f < t.frames → 1 ≤ times f c.fresh → MayDo t past (Credit f)
-  may_credit f inside some =
+  pub may_credit : (f : ℕ) → 1 ≤ times f c.fresh → MayDo t past (Credit f)
+  may_credit f some =
+      let inside = frame_inside t.frames f c.list c.fresh c.back c.pins c.frame_seat.view tied.noted (omega (arith, some)) in
       let has = own_lists t past c knows in let q = (own_past past).number in
       let sound = sound_run (zone_of_boot t) (own_past past).seen knows.past_is.legal in
       let told = sound.lists q FreshFrame f in let e = ap (counted f) has.fresh_is in let both = same_times f c.fresh in
       let fresh = one_if_true (has_as FreshFrame q ((last_state t past).phases f)) (omega (arith, told, e, both, some)) in
       λ i. a_cpu i && a_frame f inside i && fresh i
 
-  pub may_put : (f : ℕ) → f < t.frames → 1 ≤ times f c.pins → MayDo t past (Put f)
-  may_put f inside some =
+  pub may_put : (f : ℕ) → 1 ≤ times f c.pins → MayDo t past (Put f)
+  may_put f some =
+      let inside = frame_inside t.frames f c.list c.fresh c.back c.pins c.frame_seat.view tied.noted (omega (arith, some)) in
       let has = own_lists t past c knows in let q = (own_past past).number in let r = has.references_are f in
       λ i. (a_cpu i || may_zone_act (last_state t past).hold q) && a_frame f inside i
       && le-leb 1 ((last_state t past).references q f) (omega (arith, r, some)) i
@@ -307,3 +315,82 @@ module _ (t : KnownTable) (w : KnownStockTable) (past : KnownPasts) (c : KnownCp
       let back = ap length has.back_is in
       λ i. a_cpu i && a_frame f inside i
       && lt-ltb (pins_of (last_state t past) q + length ((last_state t past).parts q).back) 256 (omega (arith, pins, back, room)) i
+
+-- ---- what it knows after each step
+
+group_drained : (stock : Stock) → group_of (drained_of stock) ≡ group_of stock
+group_drained NoGroup = refl
+group_drained (HeldBy g n) = refl
+group_drained (DrainedOf g) = refl
+
+some_entry : (i : ℕ) (xs : List ℕ) → i < length xs → xs ≢ []
+some_entry i xs inside none = absurd (let e = ap length none in omega (arith, e, inside))
+
+module _ (t : KnownTable) (w : KnownStockTable) (past : KnownPasts) (c : KnownCpu) (knows : KnowsItsPart t past c) (tied : IsTied t w c) (later : KnownPasts)
+    (is_later : IsCpuPast t later) where
+  pub knows_took : (g f : ℕ) (list fresh : List ℕ) (stock : KnownStockSeat) → Does past (Consume g) Took later → c.list ≡ f ∷ list → fresh ≡ c.fresh ++ f ∷ []
+      → Consumed g consume.Took c.stock_seat.view stock.view → KnowsItsPart t later (record c { list = list; fresh = fresh; stock_seat = stock })
+  knows_took g f list fresh stock does front end took =
+      let q = (own_past past).number in let d = record c { list = list; fresh = fresh; stock_seat = stock } in
+      let once = (tied.noted f).once in
+      knows_after t past c knows later (Consume g) Took d tt does is_later refl
+      (has_took (last_state t past) q c.list c.fresh c.back c.pins (own_lists t past c knows) g f list fresh front end (omega (arith, once)))
+      (λ follow some. follow.before_group ∙ follow.allowed.answered.0 ∙ sym (ap (λ (v : StockView). group_of v.last) took.2))
+
+  pub knows_listed : (f i drops : ℕ) (list fresh : List ℕ) (stock : KnownStockSeat) → Does past (Credit f) Stocked later → i < length c.fresh
+      → get_or c.fresh i 0 ≡ f → list ≡ c.list ++ f ∷ [] → fresh ≡ remove c.fresh i → Credited credit.Stocked c.stock_seat.view stock.view
+      → KnowsItsPart t later (record c { list = list; fresh = fresh; stock_seat = stock; drops = drops })
+  knows_listed f i drops list fresh stock does inside is end left back =
+      let q = (own_past past).number in let d = record c { list = list; fresh = fresh; stock_seat = stock; drops = drops } in
+      let once = (tied.noted f).once in
+      knows_after t past c knows later (Credit f) Stocked d tt does is_later refl
+      (has_credited (last_state t past) q c.list c.fresh c.back c.pins (own_lists t past c knows) f i list fresh inside is end left (omega (arith, once)))
+      (λ follow some. follow.group ∙ own_group t past c knows (some_entry i c.fresh inside) ∙ ap group_of back.2 ∙ sym (ap (λ (v : StockView). group_of v.last) back.3))
+
+  -- the stock was found drained now or before
+  pub knows_drained : (action : Action) (stock : KnownStockSeat) → IsFast action → ((s : State) (q : ℕ) → after s q action Drained ≡ s)
+      → MatchBool (is_held c.stock_seat.view.last) (Does past action Drained later) (later ≡ past) → stock.view ≡ told_drained c.stock_seat.view
+      → KnowsItsPart t later (record c { stock_seat = stock })
+  knows_drained action stock fast stays run told = by_last (is_held c.stock_seat.view.last) run
+    where
+      same_group : group_of stock.view.last ≡ group_of c.stock_seat.view.last
+      same_group = ap (λ (v : StockView). group_of v.last) told ∙ group_drained c.stock_seat.view.last
+
+      by_last : (b : Bool) → MatchBool b (Does past action Drained later) (later ≡ past) → KnowsItsPart t later (record c { stock_seat = stock })
+      by_last true does =
+          let q = (own_past past).number in
+          knows_after t past c knows later action Drained (record c { stock_seat = stock }) fast does is_later refl
+          (subst (λ (s : State). HasLists s q c.list c.fresh c.back c.pins) (sym (stays (last_state t past) q)) (own_lists t past c knows))
+          (λ follow some. follow.group ∙ own_group t past c knows some ∙ sym same_group)
+      by_last false same = still_knows t past c knows later (record c { stock_seat = stock }) same refl refl refl refl refl same_group
+
+  -- the lists of its part are other ones after the step, and its fresh frames and its stock stay
+  knows_beside : (action : Action) (answer : Answer) (back pins : List ℕ) (seat : KnownSeat) → IsFast action → Does past action answer later
+      → HasLists (after (last_state t past) (own_past past).number action answer) (own_past past).number c.list c.fresh back pins
+      → KnowsItsPart t later (record c { back = back; pins = pins; frame_seat = seat })
+  knows_beside action answer back pins seat fast does lists =
+      knows_after t past c knows later action answer (record c { back = back; pins = pins; frame_seat = seat }) fast does is_later refl lists
+      (λ follow some. follow.group ∙ own_group t past c knows some)
+
+  pub knows_held : (f : ℕ) (pins : List ℕ) (seat : KnownSeat) → Does past (Get f) Held later → pins ≡ c.pins ++ f ∷ []
+      → KnowsItsPart t later (record c { pins = pins; frame_seat = seat })
+  knows_held f pins seat does end = knows_beside (Get f) Held c.back pins seat tt does
+      (has_pinned (last_state t past) (own_past past).number c.list c.fresh c.back c.pins (own_lists t past c knows) f pins end)
+
+  pub knows_not_held : (f : ℕ) (answer : gets.Get) (seat : KnownSeat) → answer ≢ get.Held → Gets past f answer later
+      → KnowsItsPart t later (record c { frame_seat = seat })
+  knows_not_held f get.Held seat not run = absurd (not refl)
+  knows_not_held f get.Zero seat not does = knows_beside (Get f) Zero c.back c.pins seat tt does (own_lists t past c knows)
+  knows_not_held f get.Full seat not does = knows_beside (Get f) Full c.back c.pins seat tt does (own_lists t past c knows)
+  knows_not_held f (get.Raced n) seat not same = still_knows t past c knows later (record c { frame_seat = seat }) same refl refl refl refl refl refl
+
+  pub knows_left : (f n : ℕ) (pins : List ℕ) (seat : KnownSeat) → Does past (Put f) (Left n) later → IsPermutation c.pins (f ∷ pins)
+      → KnowsItsPart t later (record c { pins = pins; frame_seat = seat })
+  knows_left f n pins seat does parts = knows_beside (Put f) (Left n) c.back pins seat tt does
+      (has_left (last_state t past) (own_past past).number c.list c.fresh c.back c.pins (own_lists t past c knows) f n pins parts)
+
+  pub knows_last : (f : ℕ) (pins back : List ℕ) (seat : KnownSeat) → Does past (Put f) Last later → IsPermutation c.pins (f ∷ pins) → back ≡ c.back ++ f ∷ []
+      → KnowsItsPart t later (record c { back = back; pins = pins; frame_seat = seat })
+  knows_last f pins back seat does parts end = knows_beside (Put f) Last back pins seat tt does
+      (has_last (last_state t past) (own_past past).number c.list c.fresh c.back c.pins (own_lists t past c knows) f pins back
+      (not_zone (own_past past).number knows.past_is.low) parts end)

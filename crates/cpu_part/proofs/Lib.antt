@@ -3,6 +3,5 @@ pub mod Notes
 pub mod Tied
 pub mod Answered
 pub mod CallerLemmas
-pub mod Away
 pub mod Making
 pub mod Knowing

@@ -173,15 +173,16 @@ module _ (t : KnownTable) (w : KnownStockTable) (c : KnownCpu) (tied : IsTied t 
       (omega (arith, l, m)) (omega (arith, m, short)) table number (omega (arith, m, p, pages))
 
   -- a fresh frame went to the end of the list
-  pub tied_listed : (stock : KnownStockSeat) (list : List ℕ) (i drops : ℕ) → i < length c.fresh → get_or c.fresh i 0 ≡ f → list ≡ c.list ++ f ∷ []
-      → stock.table ≡ c.stock_seat.table → stock.view.number ≡ c.stock_seat.view.number → stock.view.fresh ≡ c.stock_seat.view.fresh - 1
-      → IsTied t w (record c { list = list; fresh = remove c.fresh i; stock_seat = stock; drops = drops })
-  tied_listed stock list i drops inside is end table number pages =
-      let parts = taken_out f i c.fresh inside is in
-      let l = length_end f c.list list end in let m = length_parted f c.fresh (remove c.fresh i) parts in let b = tied.within in
+  pub tied_listed : (stock : KnownStockSeat) (list fresh : List ℕ) (i drops : ℕ) → i < length c.fresh → get_or c.fresh i 0 ≡ f → list ≡ c.list ++ f ∷ []
+      → fresh ≡ remove c.fresh i → stock.table ≡ c.stock_seat.table → stock.view.number ≡ c.stock_seat.view.number
+      → stock.view.fresh ≡ c.stock_seat.view.fresh - 1
+      → IsTied t w (record c { list = list; fresh = fresh; stock_seat = stock; drops = drops })
+  tied_listed stock list fresh i drops inside is end left table number pages =
+      let parts = subst (λ (l : List ℕ). IsPermutation c.fresh (f ∷ l)) (sym left) (taken_out f i c.fresh inside is) in
+      let l = length_end f c.list list end in let m = length_parted f c.fresh fresh parts in let b = tied.within in
       let p = b.pages_are in let q = b.fresh_bound in
-      tied_moved stock list (remove c.fresh i) drops
-      (λ g. let a = ap (times g) end ∙ times_end g f c.list in let b = times_parted g f c.fresh (remove c.fresh i) parts in omega (arith, a, b))
+      tied_moved stock list fresh drops
+      (λ g. let a = ap (times g) end ∙ times_end g f c.list in let b = times_parted g f c.fresh fresh parts in omega (arith, a, b))
       (omega (arith, l, m)) (omega (arith, m, q)) table number (omega (arith, m, p, pages))
 
   -- the front of a list is a frame of the table

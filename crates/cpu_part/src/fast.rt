@@ -1,5 +1,5 @@
 //! The fast path: frames are paid for and dropped without a lock.
-ghost use Rattle.std.specs.Prelude.{◌≡◌, ◌<◌, ◌≤◌};
+ghost use Rattle.std.specs.Prelude.{◌<◌, ◌≤◌};
 ghost use Rattle.cpu_part.specs.Cpus.{times};
 ghost use Rattle.cpu_part.specs.Calls.{FastAnswers, IfGot, DropAnswers};
 ghost use Rattle.cpu_part.specs.Known.{KnowsItsPart};

@@ -81,7 +81,9 @@ impl<N: BootName> Cpu<N> {
         ensures zone { zone.new ≡ zone.old }
         ensures nothing { HasNothingOf zone.old frame × HasNothingOf self.old.frame_seat frame }
     {
-        tables.words.take_in(held, zone, &mut self.frame_seat, frame);
+        tables
+            .words
+            .take_in(held, zone, &mut self.frame_seat, frame);
         self.list.push_back_reserved(frame);
     }
 
@@ -107,7 +109,9 @@ impl<N: BootName> Cpu<N> {
         ensures borrowed { IfSome result (λ f. HasNothingOf zone.old f × IsLent zone.old f self.old.number) }
     {
         let frame = self.list.pop_front()?;
-        tables.words.pass_back(held, zone, &mut self.frame_seat, frame);
+        tables
+            .words
+            .pass_back(held, zone, &mut self.frame_seat, frame);
         Some(frame)
     }
 
@@ -146,7 +150,9 @@ impl<N: BootName> Cpu<N> {
             return None;
         }
         let frame = self.fresh.remove(0);
-        tables.words.pass_back(held, zone, &mut self.frame_seat, frame);
+        tables
+            .words
+            .pass_back(held, zone, &mut self.frame_seat, frame);
         report_passed(
             &tables.words,
             held,
@@ -180,7 +186,9 @@ impl<N: BootName> Cpu<N> {
         ensures own { IfSome result (λ f. HasNothingOf zone.old f × IsLentToNone zone.old f) }
     {
         let frame = self.back.pop_front()?;
-        tables.words.pass_back(held, zone, &mut self.frame_seat, frame);
+        tables
+            .words
+            .pass_back(held, zone, &mut self.frame_seat, frame);
         Some(frame)
     }
 
@@ -204,7 +212,9 @@ impl<N: BootName> Cpu<N> {
         ensures nothing { HasNothingOf zone.old frame × HasNothingOf self.old.frame_seat frame }
         ensures lent { IsLentToNone zone.old frame ⊎ IsLent zone.old frame self.old.number }
     {
-        tables.words.collect(held, zone, &mut self.frame_seat, frame);
+        tables
+            .words
+            .collect(held, zone, &mut self.frame_seat, frame);
     }
 }
 

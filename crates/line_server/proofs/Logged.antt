@@ -25,7 +25,7 @@ pub wrote_alone : (begun : KnownWatch) (steps : Run) (later : KnownWatch) → Is
 wrote_alone begun steps later new watched whole = (watched.wrote whole).added ∙ ap (λ (l : List ℕ). l ++ steps_text steps) new.none
 
 line_watched : (on : Terms) (line : Line) (s e : SystemState) (answer : List ℕ) (one : ServesLine on line s e answer)
-    → Watches s.locked.machine.watch one.steps e.locked.machine.watch
+    → Watches s.locked.machine.run.watch one.steps e.locked.machine.run.watch
 line_watched on line s e answer one = line_seen on.frames on.is_explained line s one.steps e one.tells.plain one.tells.so
 
 module _ {T E : Type 0} (r : Result T E) (on : Terms) (text : List ℕ) (line : Line) (before begun after : SystemState) (answer old new : List ℕ)
@@ -39,15 +39,15 @@ module _ {T E : Type 0} (r : Result T E) (on : Terms) (text : List ℕ) (line : 
   }
 
   -- its comment, its steps and its answer were added
-  pub line_logged : (front both told : List ℕ) → front ≡ old ++ line_comment text line → has_whole_log after.locked.machine.watch ≡ true
-      → both ≡ front ++ log_text after.locked.machine.watch → told ≡ answer → IfOk r (λ _. new ≡ both ++ answer_comments told)
+  pub line_logged : (front both told : List ℕ) → front ≡ old ++ line_comment text line → has_whole_log after.locked.machine.run.watch ≡ true
+      → both ≡ front ++ log_text after.locked.machine.run.watch → told ≡ answer → IfOk r (λ _. new ≡ both ++ answer_comments told)
       → AddsPart r old new (LogsLine on text line before after)
   line_logged front both told is_front whole is_both is_told added =
       let named = line_comment text line in
       let made = steps_text serves.serves.steps in
       let answered = answer_comments answer in
-      let is_new : IsNewLog begun.locked.machine.watch = subst IsNewLog (sym (ap (λ (x : SystemState). x.locked.machine.watch) renews.begun_is)) renews.is_new in
-      let wrote : log_text after.locked.machine.watch ≡ made = wrote_alone begun.locked.machine.watch serves.serves.steps after.locked.machine.watch
+      let is_new : IsNewLog begun.locked.machine.run.watch = subst IsNewLog (sym (ap (λ (x : SystemState). x.locked.machine.run.watch) renews.begun_is)) renews.is_new in
+      let wrote : log_text after.locked.machine.run.watch ≡ made = wrote_alone begun.locked.machine.run.watch serves.serves.steps after.locked.machine.run.watch
       is_new (line_watched on line begun after answer serves.serves) whole in
       line_part (IfOk-weaker r _ _ (λ done is. is ∙ ap (λ (l : List ℕ). both ++ answer_comments l) is_told
       ∙ ap (λ (l : List ℕ). l ++ answered) (is_both ∙ ap (λ (l : List ℕ). front ++ l) wrote ∙ ap (λ (l : List ℕ). l ++ made) is_front)

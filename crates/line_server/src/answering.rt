@@ -8,8 +8,8 @@ ghost use Rattle.line_server.specs.Turns.{AnswersServed, GivesAnswer};
 
 use crate::form::SessionForm;
 use crate::logging::log_line;
-use cpu_part::{BootName, Cpu, Tables};
-use mem_system::Locked;
+use cpu_part::{BootName, Tables};
+use mem_system::{Cpu, Locked};
 use script_lines::line::Line;
 use script_replay::serve_line;
 use std::alloc::{AllocError, Global};

@@ -8,8 +8,8 @@ ghost use Rattle.step_watch.specs.Watched.{has_whole_log, log_text};
 ghost use Rattle.line_server.specs.Logs.{AddsPart, LogsLine};
 
 use crate::comments::{add_answer, add_line};
-use cpu_part::{BootName, Cpu, Tables};
-use mem_system::Locked;
+use cpu_part::{BootName, Tables};
+use mem_system::{Cpu, Locked};
 use script_lines::line::Line;
 use script_replay::serve_line;
 use std::alloc::{AllocError, Global};

@@ -55,14 +55,14 @@ module _ {T E : Type 0} (r : Result T E) (t : KnownTable) (w : KnownStockTable) 
     added = added;
   }
 
-  pub end_logged : (both : List ℕ) → has_whole_log emptied.machine.watch ≡ true → both ≡ old ++ (codes "# end\n" ++ log_text emptied.machine.watch)
+  pub end_logged : (both : List ℕ) → has_whole_log emptied.machine.run.watch ≡ true → both ≡ old ++ (codes "# end\n" ++ log_text emptied.machine.run.watch)
       → OnOk r (new ≡ both ++ report) → AddsPart r old new (LogsEnd t w before)
   end_logged both whole is_both added =
       let front = codes "# end\n" in
       let made = steps_text leaves.steps in
-      let last = emptied.machine.watch in
-      let is_new : IsNewLog begun.locked.machine.watch = subst IsNewLog (sym (ap (λ (x : SystemState). x.locked.machine.watch) renews.begun_is)) renews.is_new in
-      let wrote : log_text last ≡ made = wrote_alone begun.locked.machine.watch leaves.steps last is_new leaves.watched whole in
+      let last = emptied.machine.run.watch in
+      let is_new : IsNewLog begun.locked.machine.run.watch = subst IsNewLog (sym (ap (λ (x : SystemState). x.locked.machine.run.watch) renews.begun_is)) renews.is_new in
+      let wrote : log_text last ≡ made = wrote_alone begun.locked.machine.run.watch leaves.steps last is_new leaves.watched whole in
       end_part (IfOk-weaker r _ _ (λ done is. is ∙ ap (λ (l : List ℕ). l ++ report) (is_both ∙ ap (λ (l : List ℕ). old ++ (front ++ l)) wrote)
       ∙ append_assoc old (front ++ made) report ∙ ap (λ (l : List ℕ). old ++ l) (append_assoc front made report)) added)
 

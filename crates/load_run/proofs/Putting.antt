@@ -81,11 +81,11 @@ none_put m (c ∷ cpus) none =
 -- ---- the watch
 
 each_watched : (frames : List ℕ) (before after : VisitState) (puts : PutsEach frames before after)
-    → Watches before.machine.watch (steps_of_puts frames before after puts) after.machine.watch
-each_watched [] before after puts = subst (λ (x : VisitState). Watches before.machine.watch [] x.machine.watch) (sym puts) (watches_none before.machine.watch)
+    → Watches before.machine.run.watch (steps_of_puts frames before after puts) after.machine.run.watch
+each_watched [] before after puts = subst (λ (x : VisitState). Watches before.machine.run.watch [] x.machine.run.watch) (sym puts) (watches_none before.machine.run.watch)
 each_watched (f ∷ frames) before after puts =
-    watches_both before.machine.watch (cpu_makes before.cpu.number (step.Put f) (put_answer puts.first.answer) ∷ []) puts.between.machine.watch
-    (steps_of_puts frames puts.between after puts.rest) after.machine.watch puts.first.watched (each_watched frames puts.between after puts.rest)
+    watches_both before.machine.run.watch (cpu_makes before.cpu.number (step.Put f) (put_answer puts.first.answer) ∷ []) puts.between.machine.run.watch
+    (steps_of_puts frames puts.between after puts.rest) after.machine.run.watch puts.first.watched (each_watched frames puts.between after puts.rest)
 
 -- the watch takes the steps of all puts
 pub puts_watched : (m : KnownMachine) (cpus : List KnownCpu) (n : KnownMachine) (left : List KnownCpu) (puts : ForEachCpu PutsAllPins m cpus n left)
@@ -116,7 +116,7 @@ leaves_nothing t w before held emptied locked cpus held_are puts sizes free visi
       visits = visits;
       steps = putting ++ visits.steps;
       steps_are = refl;
-      watched = watches_both before.locked.machine.watch putting locked.machine.watch visits.steps emptied.machine.watch
+      watched = watches_both before.locked.machine.run.watch putting locked.machine.run.watch visits.steps emptied.machine.run.watch
           (puts_watched before.locked.machine before.cpus locked.machine cpus puts) visits.watched;
     }
 

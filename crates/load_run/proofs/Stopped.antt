@@ -38,7 +38,7 @@ new_watched booted sizes t w locked cpus watch after sized same first sizes_are 
     sizes_are = ap (λ (l : KnownLocked). l.sizes) is ∙ sizes_are;
     cpus = are;
   };
-  watched = subst (λ (l : KnownLocked). IsNewWatch (zone_of t) l.machine.watch) (sym is) (new_watch booted sizes t w sized same watch new);
+  watched = subst (λ (l : KnownLocked). IsNewWatch (zone_of t) l.machine.run.watch) (sym is) (new_watch booted sizes t w sized same watch new);
 }
 
 -- it stopped before the end of the lines

@@ -22,9 +22,9 @@ use Rattle.load_run.specs.declared.boot_end.CheckedSteps.{CheckedSteps}
 pub record PutsHeldPin (frame : ℕ) (before after : VisitState) : Type 0 where
   pub answer : Put
   pub cpu : UnpinAnswers frame answer before.cpu after.cpu
-  pub machine : after.machine ≡ with_watch before.machine after.machine.watch
-  pub watched : Watches before.machine.watch
-      (cpu_makes before.cpu.number (step.Put frame) (put_answer answer) ∷ []) after.machine.watch
+  pub machine : after.machine ≡ with_watch before.machine after.machine.run.watch
+  pub watched : Watches before.machine.run.watch
+      (cpu_makes before.cpu.number (step.Put frame) (put_answer answer) ∷ []) after.machine.run.watch
 
 -- a pin of this frame is put, and then what is to be put after it
 pub record PutsFirstAndRest (frame : ℕ) (puts_rest : (before after : VisitState) → Type 0)
@@ -74,7 +74,7 @@ pub record LeavesNothing (table : KnownTable) (stock_table : KnownStockTable) (b
   pub steps : Run
   pub steps_are : steps
       ≡ steps_of_all_puts before.locked.machine before.cpus locked.machine cpus puts ++ visits.steps
-  pub watched : Watches before.locked.machine.watch steps emptied.machine.watch
+  pub watched : Watches before.locked.machine.run.watch steps emptied.machine.run.watch
 
 -- The boot ended, and says how many pins were held. Every pin was put, the last visits were made, and then the tables
 -- were closed.
@@ -89,8 +89,8 @@ pub record EndsChecked (table : KnownTable) (stock_table : KnownStockTable) (bef
     (seen : CheckedSteps)
     : Type 0 where
   pub ends : EndsHeld table stock_table before ended
-  pub is_legal : seen.is_legal ≡ has_legal_steps ends.emptied.machine.watch
-  pub steps : seen.steps ≡ steps_seen ends.emptied.machine.watch
+  pub is_legal : seen.is_legal ≡ has_legal_steps ends.emptied.machine.run.watch
+  pub steps : seen.steps ≡ steps_seen ends.emptied.machine.run.watch
 
 -- how many frames there are, and where
 abbrev pub audit_places_text : Audit → List ℕ

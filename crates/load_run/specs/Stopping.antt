@@ -24,7 +24,7 @@ use Rattle.load_run.specs.Starting.{IsNewBootState}
 pub record IsNewWatchedState (sizes : Config) (table : KnownTable) (stock_table : KnownStockTable)
     (start : SystemState) : Type 0 where
   pub first : IsNewBootState sizes table stock_table start
-  pub watched : IsNewWatch (zone_of table) start.locked.machine.watch
+  pub watched : IsNewWatch (zone_of table) start.locked.machine.run.watch
 
 -- A boot with these sizes served the lines up to one with a step that the watch didn't allow, and no line after it.
 -- That line has this number.
@@ -47,7 +47,7 @@ pub record StopsAtIllegalEnd (sizes : Config) (form : Form) (lines : List Line) 
   pub new : IsNewWatchedState sizes frames stocks start
   pub history : HasLegalHistory (form_terms frames stocks form) lines start end answers
   pub ends : EndsHeld frames stocks end ended
-  pub not_legal : has_legal_steps ends.emptied.machine.watch ≡ false
+  pub not_legal : has_legal_steps ends.emptied.machine.run.watch ≡ false
 
 -- why a boot with these sizes gives no answers to the lines
 abbrev pub IsCheckFault : Config → Form → List Line → ProgramFault → Type 0

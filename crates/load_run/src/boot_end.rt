@@ -9,9 +9,9 @@ ghost use Rattle.script_replay.specs.Lines.{system_state};
 ghost use Rattle.load_run.specs.Ending.{EndsChecked, EndsHeld, LeavesNothing, PutsAllPins, PutsHeldPin};
 ghost use Rattle.load_run.specs.Ending.{audit_counts_text, audit_places_text, audit_text, held_text};
 
-use cpu_part::{BootName, Cpu, Tables};
+use cpu_part::{BootName, Tables};
 use frame_word::{Frame, Put};
-use mem_system::{Audit, EmptiedBoot, Locked, Pinned, make_last_visits};
+use mem_system::{Audit, Cpu, EmptiedBoot, Locked, Pinned, make_last_visits};
 use std::alloc::AllocError;
 use step_rules::step::{Action, Answer};
 

@@ -13,10 +13,10 @@ ghost use Rattle.load_run.specs.Logs.{AreLoggedSteps, GrowsBy, LogsAll, LogsEnd,
 ghost use Rattle.load_run.specs.Logs.{sizes_comment, text_at, text_of_line};
 
 use crate::boot_end::{BootEnd, empty_cpus, write_boot_end};
-use cpu_part::{BootName, Cpu, Tables};
+use cpu_part::{BootName, Tables};
 use line_server::{add_answer, add_steps, log_line};
 use log_lines::write_zone;
-use mem_system::{Boot, Locked};
+use mem_system::{Boot, Cpu, Locked};
 use script_lines::line::Line;
 use script_lines::script::first_line;
 use std::alloc::{AllocError, Global};

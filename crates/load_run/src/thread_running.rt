@@ -9,8 +9,8 @@ ghost use Rattle.load_run.specs.Answers.{AreThreadAnswers};
 
 use crate::boot_end::end_boot;
 use crate::replaying::with_end;
-use cpu_part::{BootName, Cpu};
-use mem_system::{Boot, NoGate, System};
+use cpu_part::BootName;
+use mem_system::{Boot, Cpu, NoGate, System};
 use script_lines::line::Line;
 use script_replay::{Form, before_go, replay, run_each};
 use std::alloc::{AllocError, Global};

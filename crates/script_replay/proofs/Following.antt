@@ -172,8 +172,8 @@ shows_looked t run m n cpus looked shows = record {
 -- nothing was taken where nothing changed
 pub not_watched : (before after : KnownLocked) → after ≡ before → OnlyWatched [] before after
 not_watched before after same = record {
-  locked = same ∙ ap (λ (l : KnownLocked). locked_with_watch before l.machine.watch) (sym same);
-  watched = subst (λ (l : KnownLocked). Watches before.machine.watch [] l.machine.watch) (sym same) (watches_none before.machine.watch);
+  locked = same ∙ ap (λ (l : KnownLocked). locked_with_watch before l.machine.run.watch) (sym same);
+  watched = subst (λ (l : KnownLocked). Watches before.machine.run.watch [] l.machine.run.watch) (sym same) (watches_none before.machine.run.watch);
 }
 
 -- ---- one part of the whole
@@ -203,7 +203,7 @@ module _ (t : KnownTable) (w : KnownStockTable) (run : Run) (locked : KnownLocke
   unseen_follows after kept unseen =
       let d = after.cpu in (
         subst (λ (r : Run). ShowsAll t r after.locked.machine (slice_set cpus k d)) (sym (append-nil run))
-            (subst (λ (l : KnownLocked). ShowsAll t run l.machine (slice_set cpus k d)) (sym kept.locked) (shows_watched t run m (slice_set cpus k d) after.locked.machine.watch (record {
+            (subst (λ (l : KnownLocked). ShowsAll t run l.machine (slice_set cpus k d)) (sym kept.locked) (shows_watched t run m (slice_set cpus k d) after.locked.machine.run.watch (record {
               legal = shows.legal;
               free = shows.free;
               count = length-set cpus k d ∙ shows.count;
@@ -254,17 +254,17 @@ module _ (t : KnownTable) (w : KnownStockTable) (run : Run) (locked : KnownLocke
       Follows steps (locked_state left after.cpu) → Follows steps after
   watched_follows steps more left after only follows = (
     subst (λ (l : KnownLocked). ShowsAll t (run ++ steps) l.machine (slice_set cpus k after.cpu)) (sym only.locked)
-        (shows_watched t (run ++ steps) left.machine (slice_set cpus k after.cpu) after.locked.machine.watch follows.0),
+        (shows_watched t (run ++ steps) left.machine (slice_set cpus k after.cpu) after.locked.machine.run.watch follows.0),
     λ told. subst (λ (l : KnownLocked). AgreesWithRun t (run ++ steps) l.machine.ledger) (sym only.locked) (follows.1 told),
   )
 
   -- a step without the lock
   step_follows : (action : Action) (answer : StepAnswer) (after : LockedState) → (kept : OnlyWatched (cpu_makes p action answer ∷ []) locked after.locked) →
       after.cpu.number ≡ p → is_fast action ≡ true → answer ≢ step_answer.Illegal →
-      Makes t (visit_state m c) (cpu_makes p action answer ∷ []) (visit_state (record m { watch = after.locked.machine.watch }) after.cpu) →
+      Makes t (visit_state m c) (cpu_makes p action answer ∷ []) (visit_state (record m { watch = after.locked.machine.run.watch }) after.cpu) →
       GoesOn (cpu_makes p action answer ∷ []) → Follows (cpu_makes p action answer ∷ []) after
   step_follows action answer after kept number quick made leads legal =
-      let n : KnownMachine = record m { watch = after.locked.machine.watch } in
+      let n : KnownMachine = record m { watch = after.locked.machine.run.watch } in
       let serves : ServesFast t cpus k (visit_state m c) action answer (visit_state n after.cpu) = record {
         is_part = is_part;
         number = number;
@@ -292,7 +292,7 @@ module _ (t : KnownTable) (w : KnownStockTable) (run : Run) (locked : KnownLocke
       step_follows (step.Consume g) step_answer.Took after kept (ap (λ (x : KnownCpu). x.number) is.5) refl (λ e. cc)
       (fast_calls_lead.got t w run m cpus k c after.cpu this_part g f is
       (legal_fast_steps_are_decided t run cpus k m c (step.Consume g) step_answer.Took shows is_part refl (λ e. cc) legal)
-      after.locked.machine.watch kept.watched) legal
+      after.locked.machine.run.watch kept.watched) legal
 
   -- without the lock
   alone_follows : (command : Command) (said : UnlockedAnswer) (after : LockedState) → CommandInRange t.frames command → AnswersAlone command c after.cpu said
@@ -305,7 +305,7 @@ module _ (t : KnownTable) (w : KnownStockTable) (run : Run) (locked : KnownLocke
   alone_follows (command.Fast g) (unlocked.Fast (Got f)) after names is kept legal = got_follows g f after is kept legal
   alone_follows (command.Get f) (unlocked.Got Held) after inside is kept legal =
       step_follows (step.Get f) step_answer.Held after kept (ap (λ (x : KnownCpu). x.number) is.1.2) refl (λ e. cc)
-      (fast_calls_lead.held t w run m cpus k c after.cpu this_part f inside is.0 is.1 after.locked.machine.watch kept.watched) legal
+      (fast_calls_lead.held t w run m cpus k c after.cpu this_part f inside is.0 is.1 after.locked.machine.run.watch kept.watched) legal
   alone_follows (command.Get f) (unlocked.Got Zero) after inside is kept legal =
       unseen_follows after kept (unseen_seat t m c after.cpu is.1.0 f (looked is.1.1.0) is.1.2 is.1.1.2 (λ x. refl))
   alone_follows (command.Get f) (unlocked.Got (Raced found)) after inside is kept legal =
@@ -315,7 +315,7 @@ module _ (t : KnownTable) (w : KnownStockTable) (run : Run) (locked : KnownLocke
   alone_follows (command.Get f) (unlocked.Refused PinsFull) after inside is kept legal = unseen_follows after kept (unseen_same t m c after.cpu is.1)
   alone_follows (command.Put f) (unlocked.Put putted) after inside is kept legal =
       step_follows (step.Put f) (put_answer putted) after kept (put_number putted is.1) refl (put_made putted)
-      (fast_calls_lead.is_put t w run m cpus k c after.cpu this_part f putted is.1 after.locked.machine.watch kept.watched) legal
+      (fast_calls_lead.is_put t w run m cpus k c after.cpu this_part f putted is.1 after.locked.machine.run.watch kept.watched) legal
     where
       put_number : (x : Putted) → UnpinAnswers f x c after.cpu → after.cpu.number ≡ p
       put_number (put.Left n) a = ap (λ (y : KnownCpu). y.number) a.3
@@ -329,7 +329,7 @@ module _ (t : KnownTable) (w : KnownStockTable) (run : Run) (locked : KnownLocke
       step_follows (step.Credit f) step_answer.Stocked after kept (ap (λ (x : KnownCpu). x.number) is.listed.5) refl (λ e. cc)
       (fast_calls_lead.listed t w run m cpus k c after.cpu this_part f is.fresh is.listed
       (legal_fast_steps_are_decided t run cpus k m c (step.Credit f) step_answer.Stocked shows is_part refl (λ e. cc) legal)
-      after.locked.machine.watch kept.watched) legal
+      after.locked.machine.run.watch kept.watched) legal
   alone_follows command said after names is kept legal = absurd is
 
   unlocked_follows : (command : Command) (steps : Run) (after : LockedState) (said : UnlockedAnswer) → CommandInRange t.frames command
@@ -350,7 +350,7 @@ module _ (t : KnownTable) (w : KnownStockTable) (run : Run) (locked : KnownLocke
       let left_shut : AllShut is.left.machine = subst (λ (l : KnownLocked). AllShut l.machine) is.unlock.locked shut in
       as_made steps (under_lock p is.served.steps) after (is.steps_are ∙ ap (λ (q : ℕ). under_lock q is.served.steps) unseen.number)
       (λ all. watched_follows (under_lock p is.served.steps) (cpu_makes seen.number step.Unlock step_answer.Done ∷ []) is.left after is.unlock
-      (served_follows seen unseen is.found is_explained is.found.machine.watch is.lock.locked cmd reply (locked_state is.left after.cpu) is.served left_shut all)) legal
+      (served_follows seen unseen is.found is_explained is.found.machine.run.watch is.lock.locked cmd reply (locked_state is.left after.cpu) is.served left_shut all)) legal
 
   answer_follows : (is_explained : Bool) (command : Command) (steps : Run) (after : LockedState) (answer : LineAnswer) → CommandInRange t.frames command
       → AnswersCommand is_explained command (transition t before steps after) answer → AllShut after.locked.machine → GoesOn steps → Follows steps after

@@ -219,7 +219,7 @@ all_replayed on lines s e text all = record {
 
 -- and legally, if the watch allowed all their steps
 pub all_replayed_legally : (on : Terms) (lines : List Line) (s e : SystemState) (text : List ℕ) → ServesAllAndKeeps on lines s e text
-    → has_legal_steps e.locked.machine.watch ≡ true → ReplaysLegally on lines s e text
+    → has_legal_steps e.locked.machine.run.watch ≡ true → ReplaysLegally on lines s e text
 all_replayed_legally on lines s e text all allowed = let replays = all_replayed on lines s e text all in record {
   served = replays.served;
   history = λ shows tied told new. legal_history on lines s e text (replays.history [] shows tied) told new allowed;
@@ -250,7 +250,7 @@ line_of_stop lines i default inside =
 -- the watch allowed the steps of the lines so far, and not a step of the next line
 pub stops_illegal : (on : Terms) (s m e : SystemState) (lines : List Line) (i : ℕ) (default : Line) (text more : List ℕ)
     → i < length lines → ServesAllAndKeeps on (take i lines) s m text → ServesAndKeeps on (get_or lines i default) m e more
-    → has_legal_steps m.locked.machine.watch ≡ true → has_legal_steps e.locked.machine.watch ≡ false
+    → has_legal_steps m.locked.machine.run.watch ≡ true → has_legal_steps e.locked.machine.run.watch ≡ false
     → (n : ℕ) → n ≡ number_in_script (get_or lines i default) → StopsFor on lines s e (NotLegal n)
 unfolding keeps_stop
 stops_illegal on s m e lines i default text more inside all one allowed off n is =

@@ -36,14 +36,14 @@ use Rattle.script_replay.specs.Terms.{Terms}
 
 -- the watch before and after these steps
 abbrev Sees : Run → KnownLocked → KnownLocked → Type 0
-Sees steps before after = Watches before.machine.watch steps after.machine.watch
+Sees steps before after = Watches before.machine.run.watch steps after.machine.run.watch
 
 only_sees : (steps : Run) (before after : KnownLocked) → OnlyWatched steps before after → Sees steps before after
 only_sees steps before after only = only.watched
 
 stays_seen : (steps : Run) (before after : KnownLocked) → steps ≡ [] → after ≡ before → Sees steps before after
 stays_seen steps before after none same =
-    subst (λ (x : Run × KnownLocked). Sees x.0 before x.1) (λ i. (sym none i, sym same i)) (watches_none before.machine.watch)
+    subst (λ (x : Run × KnownLocked). Sees x.0 before x.1) (λ i. (sym none i, sym same i)) (watches_none before.machine.run.watch)
 
 module _ (t : KnownTable) (before : LockedState) (steps : Run) (after : LockedState) where
   abbrev SeesAll : Type 0
@@ -56,10 +56,10 @@ module _ (t : KnownTable) (before : LockedState) (steps : Run) (after : LockedSt
   locked_seen is_explained cmd seen reply is =
       let first : Run = cpu_makes seen.number step.Lock step_answer.Done ∷ [] in
       let last : Run = cpu_makes seen.number step.Unlock step_answer.Done ∷ [] in
-      let a : KnownWatch = before.locked.machine.watch in
-      let b : KnownWatch = is.found.machine.watch in
-      let d : KnownWatch = is.left.machine.watch in
-      let e : KnownWatch = after.locked.machine.watch in
+      let a : KnownWatch = before.locked.machine.run.watch in
+      let b : KnownWatch = is.found.machine.run.watch in
+      let d : KnownWatch = is.left.machine.run.watch in
+      let e : KnownWatch = after.locked.machine.run.watch in
       let rest : Watches b (is.served.steps ++ last) e =
       watches_both b is.served.steps d last e is.served.makes.watched (only_sees last is.left after.locked is.unlock) in
       subst (λ (r : Run). Watches a r e) (sym is.steps_are)
@@ -82,7 +82,7 @@ command_seen : (t : KnownTable) (before : LockedState) (steps : Run) (after : Lo
     → WritesCommand is_explained command (transition t before steps after) text → Sees steps before.locked after.locked
 command_seen t before steps after is_explained command text is =
     let looked = answer_looked t is_explained command is.answer text is.left after.locked.machine is.writes.told in
-    subst (λ (w : KnownWatch). Watches before.locked.machine.watch steps w) (sym looked.watch)
+    subst (λ (w : KnownWatch). Watches before.locked.machine.run.watch steps w) (sym looked.watch)
     (answer_seen t before steps is.left is_explained command is.answer is.answered)
 
 -- ---- a line, and all lines
@@ -97,7 +97,7 @@ line_seen t is_explained (At number cpu command) before steps after text is =
 -- the steps of all lines of a history, which the watch took
 record SawAll (begins : Past) (end : SystemState) : Type 0 where
   pub more : Run
-  pub seen : Watches begins.now.locked.machine.watch more end.locked.machine.watch
+  pub seen : Watches begins.now.locked.machine.run.watch more end.locked.machine.run.watch
 
 all_seen : (on : Terms) (lines : List Line) (begins : Past) (end : SystemState) (text : List ℕ) → HasHistory on lines begins end text
     → SawAll begins end
@@ -108,8 +108,8 @@ all_seen on [] begins end text tells = record {
 all_seen on (line ∷ lines) begins end text tells =
     let rest = all_seen on lines (past_line begins tells.steps tells.between) end tells.rest tells.tells in record {
       more = tells.steps ++ rest.more;
-      seen = watches_both begins.now.locked.machine.watch tells.steps tells.between.locked.machine.watch rest.more
-          end.locked.machine.watch tells.watched rest.seen;
+      seen = watches_both begins.now.locked.machine.run.watch tells.steps tells.between.locked.machine.run.watch rest.more
+          end.locked.machine.run.watch tells.watched rest.seen;
     }
 
 -- if the run of all steps is legal, the promise holds after each line
@@ -140,12 +140,12 @@ all_kept on (line ∷ lines) begins end text tells whole is legal told =
 
 -- if the watch was new before the lines and allowed all steps, the lines have a legal history
 pub legal_history : (on : Terms) (lines : List Line) (before after : SystemState) (text : List ℕ) → HasHistory on lines (past [] before) after text
-    → AgreesWithRun on.frames [] before.locked.machine.ledger → IsNewWatch (zone_of on.frames) before.locked.machine.watch
-    → has_legal_steps after.locked.machine.watch ≡ true → HasLegalHistory on lines before after text
+    → AgreesWithRun on.frames [] before.locked.machine.ledger → IsNewWatch (zone_of on.frames) before.locked.machine.run.watch
+    → has_legal_steps after.locked.machine.run.watch ≡ true → HasLegalHistory on lines before after text
 legal_history on lines before after text tells told new allowed =
     let all = all_seen on lines (past [] before) after text tells in
-    let saw : SawRun (zone_of on.frames) all.more after.locked.machine.watch =
-    watched_runs_are_legal (zone_of on.frames) before.locked.machine.watch all.more after.locked.machine.watch new all.seen allowed in record {
+    let saw : SawRun (zone_of on.frames) all.more after.locked.machine.run.watch =
+    watched_runs_are_legal (zone_of on.frames) before.locked.machine.run.watch all.more after.locked.machine.run.watch new all.seen allowed in record {
       run = all.more;
       saw = saw;
       history = all_kept on lines (past [] before) after text tells all.more refl saw.legal told;

@@ -11,10 +11,10 @@ use Rattle.script_lines.specs.declared.line.Command.TheVariants.{Put}
 use Rattle.script_replay.specs.Answers.{AnswersAlone, OnlyWatched}
 
 -- a watch that is off takes no step
-pub unwatched : (steps : Run) (l : KnownLocked) → l.machine.watch.is_on ≡ false → OnlyWatched steps l l
+pub unwatched : (steps : Run) (l : KnownLocked) → l.machine.run.watch.is_on ≡ false → OnlyWatched steps l l
 unwatched steps l off = record {
   locked = refl;
-  watched = watches_off l.machine.watch steps l.machine.watch off;
+  watched = watches_off l.machine.run.watch steps l.machine.run.watch off;
 }
 
 -- few references are left after a put

@@ -74,8 +74,8 @@ locked_with_unit_notes locked is_on = record locked { machine = with_unit_notes 
 
 -- the watch of the machine takes these steps, and nothing else changes behind the lock
 pub record OnlyWatched (steps : Run) (before after : KnownLocked) : Type 0 where
-  pub locked : after ≡ locked_with_watch before after.machine.watch
-  pub watched : Watches before.machine.watch steps after.machine.watch
+  pub locked : after ≡ locked_with_watch before after.machine.run.watch
+  pub watched : Watches before.machine.run.watch steps after.machine.run.watch
 
 -- ---- without the lock
 

@@ -55,7 +55,7 @@ pub record HasFirstAndRest (terms : Terms) (line : Line) (past : Past) (text : L
   pub between : SystemState
   pub steps : Run
   pub writes_first : WritesLineOnTerms terms line (transition terms.frames past.now steps between) first
-  pub watched : Watches past.now.locked.machine.watch steps between.locked.machine.watch
+  pub watched : Watches past.now.locked.machine.run.watch steps between.locked.machine.run.watch
   pub kept_where_legal : IsLegalRun (zone_of terms.frames) (past.run ++ steps)
       → HoldsPromise terms.frames past.run past.now (past.run ++ steps) between
   pub tells : has_rest (past_line past steps between) rest
@@ -99,7 +99,7 @@ KeepsHistory terms (line ∷ lines) past last text =
 pub record HasLegalHistory (terms : Terms) (lines : List Line) (before after : SystemState) (text : List ℕ)
     : Type 0 where
   pub run : Run
-  pub saw : SawRun (zone_of terms.frames) run after.locked.machine.watch
+  pub saw : SawRun (zone_of terms.frames) run after.locked.machine.run.watch
   pub history : KeepsHistory terms lines (past [] before) (past run after) text
 
 -- the lines are served one after the other; they have a history from each run that shows the state before them, if the
@@ -123,7 +123,7 @@ pub record ReplaysLegally (terms : Terms) (lines : List Line) (before after : Sy
   pub served : ServesAll terms lines before after text
   pub history : ShowsAll terms.frames [] before.locked.machine before.cpus
       → AreTied terms.frames terms.stocks before.cpus → AgreesWithRun terms.frames [] before.locked.machine.ledger
-      → IsNewWatch (zone_of terms.frames) before.locked.machine.watch
+      → IsNewWatch (zone_of terms.frames) before.locked.machine.run.watch
       → HasLegalHistory terms lines before after text
 
 -- The last of so many lines is the first one with a step that the watch doesn't allow: it allowed all steps of the
@@ -134,9 +134,9 @@ pub record IsFirstIllegalLine (terms : Terms) (lines : List Line) (number : ℕ)
   pub earlier : List ℕ
   pub last : List ℕ
   pub replays : Replays terms (take (number - 1) lines) before between earlier
-  pub allowed : has_legal_steps between.locked.machine.watch ≡ true
+  pub allowed : has_legal_steps between.locked.machine.run.watch ≡ true
   pub serves : ServesLine terms (get_or lines (number - 1) Go) between after last
-  pub not_allowed : has_legal_steps after.locked.machine.watch ≡ false
+  pub not_allowed : has_legal_steps after.locked.machine.run.watch ≡ false
 
 -- why a checked replay stopped after so many lines: memory ran out for the text of the last of them; or the last of
 -- them is the first one with a step that the watch doesn't allow, and has this number

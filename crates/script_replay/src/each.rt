@@ -9,8 +9,8 @@ ghost use Rattle.script_replay.specs.Own.{LineCommandInRange};
 ghost use Rattle.script_replay.specs.Each.{AreAllAnswers, workers_from};
 
 use crate::workers::{Job, Worker, start};
-use cpu_part::{BootName, Cpu};
-use mem_system::{Gate, System};
+use cpu_part::BootName;
+use mem_system::{Cpu, Gate, System};
 use script_lines::line::Line;
 use std::alloc::{AllocError, Global};
 use std::sync::Wait;

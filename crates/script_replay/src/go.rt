@@ -7,8 +7,8 @@ ghost use Rattle.script_replay.specs.Runs.{RunsLines, lines_before_go};
 
 use crate::each::run_each;
 use crate::replay_by_visits;
-use cpu_part::{BootName, Cpu};
-use mem_system::{Gate, System};
+use cpu_part::BootName;
+use mem_system::{Cpu, Gate, System};
 use script_lines::line::Line;
 use std::alloc::{AllocError, Global};
 use std::sync::Wait;

@@ -13,9 +13,9 @@ ghost use Rattle.mem_system.specs.Outcomes.{HasItsGroups, reply_of};
 ghost use Rattle.mem_system.specs.Visits.{locked_state};
 ghost use Rattle.script_replay.specs.Answers.{OnlyWatched, ServesUnderLock, locked_with_unit_notes};
 
-use cpu_part::{BootName, Cpu, Tables};
+use cpu_part::{BootName, Tables};
 use group_tree::group::GroupId;
-use mem_system::{Cmd, Locked, Outcome, serve_frame_outcome, serve_outcome};
+use mem_system::{Cmd, Cpu, Locked, Outcome, serve_frame_outcome, serve_outcome};
 use step_rules::step::{Action, Answer};
 
 // The watch takes the Lock of this CPU. It is asked first whether it is on, because an action has room for a path, and

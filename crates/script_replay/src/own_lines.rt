@@ -7,8 +7,8 @@ ghost use Rattle.script_replay.specs.Terms.{boot_tables};
 ghost use Rattle.script_replay.specs.Own.{LineCommandInRange, ServesOwn, ServesOwnLine, worker};
 
 use crate::{Visitor, visit_line, visit_numbered_line};
-use cpu_part::{BootName, Cpu};
-use mem_system::{Gate, System};
+use cpu_part::BootName;
+use mem_system::{Cpu, Gate, System};
 use script_lines::line::Line;
 use std::alloc::{AllocError, Global};
 use std::sync::Wait;

@@ -14,8 +14,8 @@ ghost use Rattle.script_replay.specs.Terms.{form_terms, numbered_terms, terms};
 use crate::form::{Form, write_numbered};
 use crate::server::serve_command;
 use crate::writer::write_answer;
-use cpu_part::{BootName, Cpu, Tables};
-use mem_system::Locked;
+use cpu_part::{BootName, Tables};
+use mem_system::{Cpu, Locked};
 use script_lines::line::{Command, Line};
 use std::alloc::{AllocError, Global};
 
@@ -69,7 +69,7 @@ pub fn replay_checked<N: BootName>(
     form: Form,
 ) -> Result<Vec<u8>, Stopped>
     requires there { All (LineInRange N.frames.frames (length cpus.old)) lines.now }
-    requires legal { has_legal_steps locked.old.machine.watch ≡ true }
+    requires legal { has_legal_steps locked.old.machine.run.watch ≡ true }
     ensures outcome { ReplaysCheckedOrStops (form_terms N.frames N.stocks form) lines.now
         (system_state locked.old cpus.old) (system_state locked.new cpus.new) result }
 {

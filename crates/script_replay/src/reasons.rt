@@ -84,7 +84,7 @@ fn borrower_of<N: BootName>(
     let Some(number) = head else {
         return None;
     };
-    let frame = tables.frames.frame(number).unwrap();
+    let frame = tables.words.frame(number).unwrap();
     match machine.place(frame) {
         Place::Lent(cpu) => Some(cpu),
         _ => None,

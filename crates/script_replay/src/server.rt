@@ -15,10 +15,10 @@ use crate::answer_value::AnswerValue;
 use crate::commands::{cmd_of, frame_path};
 use crate::locked_calls::{serve_frame_under_lock, serve_under_lock, settle_under_lock};
 use crate::unlocked_calls::{try_unlocked, watch_unlocked};
-use cpu_part::{BootName, Cpu, Fast, Tables};
+use cpu_part::{BootName, Fast, Tables};
 use group_tree::fault::Fault;
 use group_tree::group::GroupId;
-use mem_system::Locked;
+use mem_system::{Cpu, Locked};
 use reply_texts::UnlockedAnswer;
 use script_lines::line::Command;
 

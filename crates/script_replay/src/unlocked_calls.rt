@@ -8,11 +8,11 @@ ghost use Rattle.script_replay.specs.Answers.{AnswersAlone, CanNotList, ListsAga
 ghost use Rattle.script_replay.specs.Answers.{steps_alone};
 ghost use Rattle.script_replay.specs.Ranges.{CommandInRange};
 
-use cpu_part::{BootName, Cpu, Dropped, Fast, Tables};
+use cpu_part::{BootName, Dropped, Fast, Tables};
 use frame_word::{Get, Put};
 use group_tree::fault::Fault;
 use group_tree::group::GroupId;
-use mem_system::Locked;
+use mem_system::{Cpu, Locked};
 use reply_texts::UnlockedAnswer;
 use script_lines::line::Command;
 use step_rules::step::{Action, Answer};
@@ -50,7 +50,7 @@ fn pin<N: BootName>(tables: &Tables<N>, cpu: &mut Cpu<N>, frame_number: u32) -> 
     requires in_zone { frame_number < N.frames.frames }
     ensures { AnswersAlone (command.Get frame_number) cpu.old cpu.new result }
 {
-    let frame = tables.frames.frame(frame_number).unwrap();
+    let frame = tables.words.frame(frame_number).unwrap();
     match cpu.get(tables, frame) {
         Ok(got) => UnlockedAnswer::Got(got),
         Err(fault) => UnlockedAnswer::Refused(fault),
@@ -63,7 +63,7 @@ fn unpin<N: BootName>(tables: &Tables<N>, cpu: &mut Cpu<N>, frame_number: u32) -
     requires in_zone { frame_number < N.frames.frames }
     ensures { AnswersAlone (command.Put frame_number) cpu.old cpu.new result }
 {
-    let frame = tables.frames.frame(frame_number).unwrap();
+    let frame = tables.words.frame(frame_number).unwrap();
     if !cpu.has_pin(frame) {
         return UnlockedAnswer::Refused(Fault::NotPinned);
     }
@@ -76,7 +76,7 @@ fn try_relist<N: BootName>(tables: &Tables<N>, cpu: &mut Cpu<N>, frame_number: u
     ensures listed { MatchBool result (ListsAgain frame_number cpu.old cpu.new)
         (CanNotList frame_number cpu.old cpu.new) }
 {
-    let frame = tables.frames.frame(frame_number).unwrap();
+    let frame = tables.words.frame(frame_number).unwrap();
     if !cpu.has_fresh(frame) {
         return false;
     }

@@ -16,9 +16,9 @@ ghost use Rattle.script_replay.specs.ValueAnswers.{NamesItsGroups, SaysCommand, 
 use crate::answer_value::AnswerValue;
 use crate::owned_replay::prove_held;
 use crate::server::{serve_command, serve_frame_of};
-use cpu_part::{BootName, Cpu, Tables};
+use cpu_part::{BootName, Tables};
 use group_tree::group::GroupId;
-use mem_system::Locked;
+use mem_system::{Cpu, Locked};
 use script_lines::line::Command;
 
 /// Serves a command for the CPU of this number, from 1, as `replay` does, and returns its answer as a value. All that

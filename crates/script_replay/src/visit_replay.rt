@@ -8,8 +8,8 @@ ghost use Rattle.script_replay.specs.Terms.{boot_tables};
 ghost use Rattle.script_replay.specs.Visits.{VisitsAll, VisitsLine};
 
 use crate::visit_answers::{Visitor, visit_text};
-use cpu_part::{BootName, Cpu};
-use mem_system::{NoGate, System};
+use cpu_part::BootName;
+use mem_system::{Cpu, NoGate, System};
 use script_lines::line::Line;
 use std::alloc::{AllocError, Global};
 use std::sync::Wait;

@@ -7,8 +7,8 @@ ghost use Rattle.script_replay.specs.Own.{KnownWorker, LineCommandInRange, Serve
 ghost use Rattle.script_replay.specs.Each.{AreOwnAnswers, heading};
 
 use crate::own_lines::serve_own;
-use cpu_part::{BootName, Cpu};
-use mem_system::{Gate, System};
+use cpu_part::BootName;
+use mem_system::{Cpu, Gate, System};
 use script_lines::line::Line;
 use std::alloc::{AllocError, Global};
 use std::marker::Model;

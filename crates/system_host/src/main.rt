@@ -7,8 +7,8 @@ ghost use Rattle.mem_system.specs.Commands.{IsOfZone};
 ghost use Rattle.mem_system.specs.Ends.{AddsUp};
 
 use anyhow::{Context, Result, anyhow};
-use cpu_part::{BootName, Cpu, Tables};
-use mem_system::{Audit, Boot, Cmd, Reply, System, boot};
+use cpu_part::{BootName, Tables};
+use mem_system::{Audit, Boot, Cmd, Cpu, Reply, System, boot};
 use reply_texts::{write_fast, write_get, write_put, write_reply};
 use std::alloc::Global;
 use std::marker::Brand;
@@ -70,7 +70,7 @@ fn run_demo<N: BootName, R: Wait>(
     let Reply::Frame(number) = system.visit(rt, first, &Cmd::Alloc { path, order: 0 }) else {
         return Err(anyhow!("no frame"));
     };
-    let shared = tables.frames.frame(number).context("no such frame")?;
+    let shared = tables.words.frame(number).context("no such frame")?;
     write_fast(&first.alloc_fast(tables, group.number()), text)?;
     ask(rt, system, first, &Cmd::Settle, text)?;
     write_get(&second.get(tables, shared)?, text)?;

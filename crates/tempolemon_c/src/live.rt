@@ -18,11 +18,11 @@ ghost use Rattle.tempolemon_c.specs.Commands.{with_unread_answer};
 
 use crate::calls::{Call, CallAnswer, FileText, FrameCall};
 use control_files::file::{File, file_text};
-use cpu_part::{BootName, Cpu, Tables};
+use cpu_part::{BootName, Tables};
 use group_charge::charges::Charges;
 use group_tree::group::GroupId;
 use load_run::boot_end::{BootEnd, end_boot};
-use mem_system::{Boot, Locked};
+use mem_system::{Boot, Cpu, Locked};
 use script_lines::fault::ScriptFault;
 use script_lines::line::Command;
 use script_lines::script::parse_script;

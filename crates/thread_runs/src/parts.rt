@@ -85,7 +85,7 @@ pub(crate) fn set_up<N: BootName, const F: u32>(
 pub(crate) fn frame_of<N: BootName>(rt: &impl Abort, tables: &Tables<N>, number: u32) -> Frame
     ensures { (result ≡ number) × (result < N.frames.frames) }
 {
-    tables.frames.frame(number).expect(rt, "a frame")
+    tables.words.frame(number).expect(rt, "a frame")
 }
 
 // Takes a CPU apart that has no frame, page or pin left.

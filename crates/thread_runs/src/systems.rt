@@ -4,10 +4,10 @@ ghost use Rattle.std.specs.Prelude.{◌≡◌, ◌<◌, ◌≤◌, ◌^◌, All,
 ghost use Rattle.mem_system.specs.Boots.{IsSizedAs};
 ghost use Rattle.script_replay.specs.Ranges.{LineInRange};
 
-use cpu_part::{BootName, Cpu};
+use cpu_part::BootName;
 use load_run::boot_end::end_boot;
 use load_run::{Line, parse_script, replay_by_visits, run_lines};
-use mem_system::{Audit, Boot, Gate, System, boot};
+use mem_system::{Audit, Boot, Cpu, Gate, System, boot};
 use std::alloc::{AllocError, Global};
 use std::marker::Brand;
 use std::process::Abort;

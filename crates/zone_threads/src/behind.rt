@@ -3,8 +3,8 @@
 ghost use Rattle.std.specs.Prelude.{◌≡◌, ◌<◌, ◌++◌, ◌∷◌, [], IfNone, IfSome, length};
 ghost use Rattle.std.specs.List.{HoldsAt};
 
-use cpu_part::{BootName, Cpu};
-use mem_system::Locked;
+use cpu_part::BootName;
+use mem_system::{Cpu, Locked};
 use std::marker::Model;
 
 /// What lies behind the lock: the machine, and the parts of the CPUs that no thread has, in any order.

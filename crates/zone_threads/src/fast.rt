@@ -10,10 +10,10 @@ ghost use Rattle.zone_threads.specs.declared.calls.Call.TheVariants as call;
 use crate::calls::CallAnswer;
 use crate::home::Home;
 use crate::served::Missed;
-use cpu_part::{BootName, Cpu, Dropped, Fast, Tables};
+use cpu_part::{BootName, Dropped, Fast, Tables};
 use frame_word::Frame;
 use group_tree::fault::Fault;
-use mem_system::Cmd;
+use mem_system::{Cmd, Cpu};
 
 impl<N: BootName> Home<N> {
     /// Takes a frame of the CPU's list, paid from its stock; else allocates one under the lock.
@@ -49,7 +49,7 @@ impl<N: BootName> Home<N> {
         let Some(cpu) = &mut self.cpu else {
             unreachable!()
         };
-        let Some(frame) = zone.tables.frames.frame(number) else {
+        let Some(frame) = zone.tables.words.frame(number) else {
             return CallAnswer::NoFrame;
         };
         if relist(&zone.tables, cpu, frame) {
@@ -71,7 +71,7 @@ impl<N: BootName> Home<N> {
         let Some(cpu) = &mut self.cpu else {
             unreachable!()
         };
-        let Some(frame) = zone.tables.frames.frame(number) else {
+        let Some(frame) = zone.tables.words.frame(number) else {
             return CallAnswer::NoFrame;
         };
         match cpu.get(&zone.tables, frame) {
@@ -90,7 +90,7 @@ impl<N: BootName> Home<N> {
         let Some(cpu) = &mut self.cpu else {
             unreachable!()
         };
-        let Some(frame) = zone.tables.frames.frame(number) else {
+        let Some(frame) = zone.tables.words.frame(number) else {
             return CallAnswer::NoFrame;
         };
         if !cpu.has_pin(frame) {

@@ -5,9 +5,9 @@ ghost use Rattle.zone_threads.specs.Homes.{HasNoCpu, IfNotEntered, IfNotLeft, Pa
 
 use crate::behind::Behind;
 use crate::zone::Zone;
-use cpu_part::{BootName, Cpu};
+use cpu_part::BootName;
 use host_memory::try_cell::PutBack;
-use mem_system::Boot;
+use mem_system::{Boot, Cpu};
 use std::alloc::{AllocError, Global};
 use std::marker::Model;
 use std::mem::ManuallyDrop;
@@ -81,7 +81,7 @@ impl<N: BootName> Home<N> {
             return Err(NotEntered::HasCpu);
         }
         let zone = &*self.zone;
-        if number == 0 || number > zone.tables.frames.cpus() {
+        if number == 0 || number > zone.tables.words.cpus() {
             return Err(NotEntered::NoCpu);
         }
         let Some((mut behind, loan)) = zone.lock.take() else {

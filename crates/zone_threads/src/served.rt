@@ -10,10 +10,10 @@ ghost use Rattle.zone_threads.specs.Calling.{NoGroupBehindLock, IsMissingIn, IsR
 use crate::behind::Behind;
 use crate::calls::{ReadAnswer, ReadCall};
 use control_files::file::file_text;
-use cpu_part::{BootName, Cpu, Tables};
+use cpu_part::{BootName, Tables};
 use group_charge::charges::Charges;
 use group_tree::group::GroupId;
-use mem_system::{Cmd, Outcome, serve_frame_outcome, serve_outcome, settle};
+use mem_system::{Cmd, Cpu, Outcome, serve_frame_outcome, serve_outcome, settle};
 
 /// Why nothing was allocated under the lock.
 #[derive(Clone, Copy, Debug, PartialEq, Eq)]

@@ -7,8 +7,8 @@ ghost use Rattle.zone_threads.specs.declared.texts.TextCall.TheVariants.{Blocks,
 
 use crate::behind::Behind;
 use crate::home::Home;
-use cpu_part::{BootName, Cpu, Tables};
-use mem_system::{blocks_text, settle, show_text, write_own_stock, write_units_at};
+use cpu_part::{BootName, Tables};
+use mem_system::{Cpu, blocks_text, settle, show_text, write_own_stock, write_units_at};
 use std::alloc::Global;
 
 /// Which text a thread asks for. Its CPU is settled first.

@@ -36,7 +36,7 @@ impl<N: BootName> Home<N> {
         requires some { IsSome self.old.cpu }
         ensures { Calls N.frames N.stocks (Visit cmd.now) self.old self.new result }
     {
-        if !is_of_zone(cmd, self.zone.tables.frames.frames()) {
+        if !is_of_zone(cmd, self.zone.tables.words.frames()) {
             return CallAnswer::NoFrame;
         }
         match self.serve(cmd) {

@@ -5,8 +5,8 @@ ghost use Rattle.mem_system.specs.Ends.{AddsUp, pins_of_all};
 ghost use Rattle.zone_threads.specs.Homes.{EndsSome, EndsZone};
 
 use crate::behind::Behind;
-use cpu_part::{BootName, Cpu, Tables};
-use mem_system::{Audit, Locked, Pinned, end};
+use cpu_part::{BootName, Tables};
+use mem_system::{Audit, Cpu, Locked, Pinned, end};
 use std::mem::ManuallyDrop;
 
 /// What a zone reports at its end.
@@ -25,7 +25,7 @@ pub fn end_parts<N: BootName>(tables: Tables<N>, behind: Behind<N>) -> Option<Zo
     ensures held { IfSome result (λ ended. ended.held ≡ pins_of_all behind.parked) }
 {
     let Behind { locked, parked } = behind;
-    if parked.len() != tables.frames.cpus() as usize {
+    if parked.len() != tables.words.cpus() as usize {
         leave_parts(parked);
         return None;
     }

@@ -20,7 +20,7 @@ replay_checked-answers-requires-clause-there g c =
 
 pub replay_checked-answers-requires-clause-legal : goal.replay_checked-answers-requires-clause-legal
 replay_checked-answers-requires-clause-legal g c =
-    ap (λ (l : KnownLocked). has_legal_steps l.machine.watch) c.set_watch.ensures ∙ c.in_ok-watch.ensures.legal
+    ap (λ (l : KnownLocked). has_legal_steps l.machine.run.watch) c.set_watch.ensures ∙ c.in_ok-watch.ensures.legal
 
 pub end_checked_boot-requires : goal.end_checked_boot-requires
 end_checked_boot-requires g c =
@@ -81,8 +81,8 @@ returns g c =
     let replays = IfOk-at_ok _ c.in_ok-answers.was c.replay_checked-answers.ensures.outcome.replayed in
     let tells = replays.history (boot_shown _ _ _ _ new.first) (parts_tied _ _ _ _ new.first) (boot_agrees _ _ _ _ new.first) new.watched in
     let held = ends.ends in
-    let on : has_legal_steps held.emptied.machine.watch ≡ true = sym ends.is_legal ∙ c.if-not-seen.false in
-    let saw = saw_more (zone_of t) tells.run left.locked.machine.watch held.leaves.steps held.emptied.machine.watch tells.saw held.leaves.watched on in
+    let on : has_legal_steps held.emptied.machine.run.watch ≡ true = sym ends.is_legal ∙ c.if-not-seen.false in
+    let saw = saw_more (zone_of t) tells.run left.locked.machine.run.watch held.leaves.steps held.emptied.machine.run.watch tells.saw held.leaves.watched on in
     let answers = c.in_ok-answers.answers.items in
     let ending = boot_end_text c.args.is_audited told.0 in
     record {

@@ -1,4 +1,8 @@
-use Rattle.std.proofs.Common.{rules, ◌+◌, ◌<◌, length, arith}
+use Rattle.std.proofs.Common.{rules, ◌+◌, ◌<◌, length, arith, subst, sym}
+use Rattle.step_rules.specs.declared.step.Action.TheVariants.{Get}
+use Rattle.cpu_part.specs.Known.{KnowsItsPart}
+use Rattle.cpu_part.proofs.Knowing.{knows_held, knows_not_held, may_get}
+use Rattle.cpu_part.proofs.Making.{may_do_at, past_at}
 use Rattle.cpu_part.proofs.Answered.{pinned, not_pinned}
 use Rattle.cpu_part.proofs.Tied.{tied_held, tied_not_held}
 use Rattle.cpu_part.proofs.cpu.Cpu.get.Goals as goal
@@ -8,7 +12,7 @@ invariant_of-self g c =
     let bound = c.self.invariant.0.within.pin_bound in
     let room : length c.self.inside.back.items + length c.self.inside.pins.items < 256 = omega arith in (
       tied_held _ _ _ c.self.invariant.0 c.args.frame c.get.new.seat c.push_reserved.new.self.items c.in-Held.ensures.answer c.push_reserved.ensures.items
-          c.requires room,
+          c.requires.frame room,
       search rules,
     )
 
@@ -33,3 +37,23 @@ returns-in_default-clause-answer g c =
 
 pub returns-then-len-eq-MAX_PINS-clause-answer : goal.returns-then-len-eq-MAX_PINS-clause-answer
 returns-then-len-eq-MAX_PINS-clause-answer g c = search rules
+
+pub get-requires-clause-legal : goal.get-requires-clause-legal
+get-requires-clause-legal g c =
+    let bound = c.self.invariant.0.within.pin_bound in
+    let room : length c.self.inside.back.items + length c.self.inside.pins.items < 256 = omega arith in
+    let knows = subst (KnowsItsPart _ _) (sym c.self.view_is) c.requires.knows in
+    may_do_at _ _ c.args.tables.now.frames_are c.args.past.now (Get c.args.frame)
+    (may_get _ _ _ _ knows c.self.invariant.0 c.args.frame c.requires.frame room)
+
+pub returns-in-Held-clause-knows : goal.returns-in-Held-clause-knows
+returns-in-Held-clause-knows g c =
+    let knows = subst (KnowsItsPart _ _) (sym c.self.view_is) c.requires.knows in let told = c.in-Held.ensures in
+    knows_held _ _ _ _ knows c.self.invariant.0 c.get.new.past (past_at _ _ c.args.tables.now.frames_are c.get.new.past told.past)
+    c.args.frame c.push_reserved.new.self.items c.get.new.seat told.run c.push_reserved.ensures.items
+
+pub returns-in_default-clause-knows : goal.returns-in_default-clause-knows
+returns-in_default-clause-knows g c =
+    let knows = subst (KnowsItsPart _ _) (sym c.self.view_is) c.requires.knows in let told = c.get.ensures in
+    knows_not_held _ _ _ _ knows c.self.invariant.0 c.get.new.past (past_at _ _ c.args.tables.now.frames_are c.get.new.past told.past)
+    c.args.frame c.get.result c.get.new.seat c.in_default.not-Held told.run
