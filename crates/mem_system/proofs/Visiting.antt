@@ -64,6 +64,11 @@ command_shuts m entered mid x n c c1 c2 c3 found left shut opened same second th
     all_shut m x n c.number left shut (stays ∙ settled_opened entered mid c1 c2 settles ∙ ap (λ (k : KnownMachine). k.frame_seat.view.opened) opened)
     (after ∙ ap (λ (q : ℕ). with_run (with_visit_of x q 0) left) (third ∙ second ∙ ap (λ (y : KnownCpu). y.number) same))
 
+-- the visit was opened after the lock was taken and the notes forgotten; the run is another now in any case
+pub opened_so : (m m1 m2 entered : KnownMachine) (p : ℕ) (past : KnownPasts) (run : KnownRun) → m1 ≡ with_past m past → m2 ≡ without_notes m1
+    → entered ≡ with_run (with_visit_of m2 p 1) run → entered ≡ with_run (with_visit_of (without_notes m) p 1) run
+opened_so m m1 m2 entered p past run lock forgot is = is ∙ ap (λ (y : KnownMachine). with_run (with_visit_of y p 1) run) (forgot ∙ ap without_notes lock)
+
 -- what has another run has its own
 only_run : (k m : KnownMachine) (run : KnownRun) → k ≡ with_run m run → k ≡ with_run m k.run
 only_run k m run is = is ∙ ap (λ (z : KnownMachine). with_run m z.run) (sym is)
