@@ -69,19 +69,16 @@ pub lowered_visit : (t : KnownTable) (g limit : ℕ) (m n : KnownMachine) (c : K
     → KeepsVisit t (visit_state m c) (visit_state n c)
 lowered_visit t g limit m n c b v = usage_visit t g limit m n c b.steps b.does v
 
--- the same if usage is lowered only when it is above
-pub above_visit : (t : KnownTable) (g limit : ℕ) (m n : KnownMachine) (c : KnownCpu)
-    → BySteps MakesForAny t (LowersAbove g limit) m n → Visits t (visit_state m c)
-    → KeepsVisit t (visit_state m c) (visit_state n c)
-above_visit t g limit m n c b v = elim (cases_lt limit (current_of m.ledger g)) [
+-- no visit is opened or shut if usage is lowered only when it is above
+pub above_opened : (t : KnownTable) (g limit : ℕ) (m n : KnownMachine) → BySteps MakesForAny t (LowersAbove g limit) m n
+    → n.frame_seat.view.opened ≡ m.frame_seat.view.opened
+above_opened t g limit m n b = elim (cases_lt limit (current_of m.ledger g)) [
   | inl over ↦
       let h = b.does.above over in
       let x = h.lowered in
-      let told : Visits t (visit_state (with_limit_noted m g 0) c) = visits_noted t m c (with_limit_noted m g 0).notes v in
-      let first = usage_visit t g limit (with_limit_noted m g 0) x c h.lowering h.lowers told in
-      let kills = kills_lower None t g 0 x n h.killing h.kills in
-      record { visit = kills.visit c first.visit; opened = kills.opened ∙ first.opened; number = refl; back = refl }
-  | inr within ↦ subst (λ (k : KnownMachine). KeepsVisit t (visit_state m c) (visit_state k c)) (sym (b.does.within (omega (arith, within))).machine) (visit_same t m c v)
+      (kills_lower None t g 0 x n h.killing h.kills).opened ∙ h.lowers.keeps.opened
+      ∙ ap (λ (s : KnownSeat). s.view.opened) (all_same g t.cpus (with_limit_noted m g 0) h.lowers.drained h.lowers.drains h.lowers.drains_all).frame_seat
+  | inr within ↦ ap (λ (k : KnownMachine). k.frame_seat.view.opened) (b.does.within (omega (arith, within))).machine
 ]
 
 -- the stocks are drained, and then the rounds are made

@@ -1,10 +1,10 @@
-use Rattle.std.proofs.Common.{ap, ◌∙◌}
+use Rattle.std.proofs.Common.{refl, ap, ◌∙◌}
 use Rattle.group_tree.specs.Groups.{has_group}
 use Rattle.cpu_part.specs.Cpus.{KnownCpu}
 use Rattle.mem_machine.specs.Machines.{KnownMachine}
 use Rattle.mem_reclaim.proofs.Shown.{shown_after}
 use Rattle.mem_system.proofs.Found.{has_group-limited}
-use Rattle.mem_system.proofs.Keeping.{visit_keeps, visit_both, above_visit, limited_to, limited_none}
+use Rattle.mem_system.proofs.Keeping.{visit_keeps, above_opened, limited_to, limited_none}
 use Rattle.mem_system.proofs.files.set_limit.Goals as goal
 
 pub keep_to_limit-requires-clause-there : goal.keep_to_limit-requires-clause-there
@@ -19,7 +19,7 @@ pub returns-in-Some-clause-sets : goal.returns-in-Some-clause-sets
 returns-in-Some-clause-sets g c =
     limited_to g.N.BootName.frames c.args.group c.in-Some.limit c.args.limit c.args.machine.now
     c.set_max.new.self c.keep_to_limit.new.machine
-    c.in-Some.is c.set_max.ensures.machine c.set_max.ensures.steps c.keep_to_limit.ensures
+    c.in-Some.is c.set_max.ensures.machine c.set_max.ensures.steps c.keep_to_limit.ensures.lowers
 
 pub returns-in-Some-clause-stays : goal.returns-in-Some-clause-stays
 returns-in-Some-clause-stays g c =
@@ -29,7 +29,12 @@ returns-in-Some-clause-stays g c =
     let n = c.keep_to_limit.new.machine in
     λ (y : KnownCpu) v.
     let first = visit_keeps t m x y (ap (λ (k : KnownMachine). k.frame_seat) c.set_max.ensures.machine) _ c.set_max.ensures.steps v in
-    visit_both t m x n y first (above_visit t c.args.group c.in-Some.limit x n y c.keep_to_limit.ensures first.visit)
+    record {
+      visit = c.keep_to_limit.ensures.visit y first.visit;
+      opened = above_opened t c.args.group c.in-Some.limit x n c.keep_to_limit.ensures.lowers ∙ first.opened;
+      number = refl;
+      back = refl;
+    }
 
 pub returns-in_default-clause-sets : goal.returns-in_default-clause-sets
 returns-in_default-clause-sets g c =
