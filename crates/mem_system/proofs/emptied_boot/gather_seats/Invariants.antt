@@ -7,8 +7,8 @@ use Rattle.mem_system.specs.Ends.{SitsAt, frame_seat_of, stock_seat_of}
 use Rattle.mem_system.proofs.emptied_boot.gather_seats.Given as goal
 
 -- the seats of the CPUs so far are gathered, there is room for the others', and these have nothing left
-abbrev pub invariant-loop-cpus : goal.invariant-loop-cpus
-invariant-loop-cpus g l = record {
+abbrev pub invariant-loop-seats : goal.invariant-loop-seats
+invariant-loop-seats g l = record {
   idle : All IsIdle l.cpus.items;
   at : All (SitsAt g.N.BootName.frames.table) l.cpus.items;
   room : vec_len l.seats + length l.cpus.items ≤ vec_capacity l.seats;
@@ -17,5 +17,5 @@ invariant-loop-cpus g l = record {
   seated : AllOf (AreAt g.N.BootName.frames.table) l.seats.items;
 }
 
-abbrev pub decreases-loop-cpus : goal.decreases-loop-cpus
-decreases-loop-cpus g l = goal.left-loop-cpus g l
+abbrev pub decreases-loop-seats : goal.decreases-loop-seats
+decreases-loop-seats g l = goal.left-loop-seats g l
