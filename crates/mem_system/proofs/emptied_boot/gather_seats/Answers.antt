@@ -42,9 +42,9 @@ loop-seats-preserved g c =
       idle = subst (All IsIdle) (sym left) (all_rest IsIdle _ _ (subst (All IsIdle) front was.idle));
       at = subst (All (SitsAt id)) (sym left) (all_rest (SitsAt id) _ _ all);
       room = omega (arith, before, one, room, ap length front, ap length left);
-      frames = (λ i. frame_seats (pushed i) ++ map frame_seat_of (left i)) ∙ frames_more _ _ _ _ given.frames
+      frames = (λ i. frame_seats (pushed i) ++ map frame_seat_of (left i)) ∙ frames_more _ _ c.remove.result _ given.frames
           ∙ ap (λ (l : List KnownCpu). frame_seats c.loop-seats.seats.items ++ map frame_seat_of l) (sym front) ∙ was.frames;
-      stocks = (λ i. stock_seats (pushed i) ++ map stock_seat_of (left i)) ∙ stocks_more _ _ _ _ given.stocks
+      stocks = (λ i. stock_seats (pushed i) ++ map stock_seat_of (left i)) ∙ stocks_more _ _ c.remove.result _ given.stocks
           ∙ ap (λ (l : List KnownCpu). stock_seats c.loop-seats.seats.items ++ map stock_seat_of l) (sym front) ∙ was.stocks;
       seated = subst (AllOf (AreAt id)) (sym pushed)
           (of_more (AreAt id) _ _ was.seated (record { past = given.past; frames = ap (λ s. s.table) given.frames ∙ its.frames; stocks = ap (λ s. s.table) given.stocks ∙ its.stocks }));
