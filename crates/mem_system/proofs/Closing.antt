@@ -10,12 +10,12 @@ use Rattle.frame_word.specs.declared.view.FrameView.{FrameView}
 use Rattle.frame_word.specs.Views.{note_of}
 use Rattle.frame_word.specs.ReferenceRule.{mark_base, only, references_in}
 use Rattle.frame_word.specs.ReferenceRule.{opened_in}
-use Rattle.frame_word.specs.Seats.{KnownTable, KnownSeat, view_of, AreSeatsAt}
+use Rattle.frame_word.specs.Seats.{KnownTable, KnownSeat, view_of}
 use Rattle.stock_word.specs.declared.view.Stock.{Stock}
 use Rattle.stock_word.specs.declared.view.Stock.TheVariants.{NoGroup, HeldBy, DrainedOf}
 use Rattle.stock_word.specs.declared.view.StockView.{StockView}
 use Rattle.stock_word.specs.StockRule.{IsStockOf}
-use Rattle.stock_word.specs.Stock.{KnownStockTable, KnownStockSeat, AreOf, account_of, view_in, stock_pages_of, is_held}
+use Rattle.stock_word.specs.Stock.{KnownStockTable, KnownStockSeat, account_of, view_in, stock_pages_of, is_held}
 use Rattle.cpu_part.specs.Cpus.{KnownCpu, IsIdle, times}
 use Rattle.step_rules.specs.State.{one_if}
 use Rattle.mem_machine.specs.Machines.{KnownMachine, IsConsistent, home_of}

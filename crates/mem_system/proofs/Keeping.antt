@@ -27,7 +27,7 @@ use Rattle.mem_system.proofs.Found.{found_there}
 use Rattle.mem_system.specs.Files.{SetsLimit, with_limit_of}
 use Rattle.mem_machine.proofs.Followed.{makes_both, makes_none}
 use Rattle.mem_machine.proofs.Reached.{shown_same}
-use Rattle.mem_machine.proofs.Watched.{stays_then, visits_noted}
+use Rattle.mem_machine.proofs.Watched.{stays_then}
 
 -- ---- a visit
 

@@ -1,5 +1,5 @@
 -- Who has a unit, by the reference rule over all seats. Serves `no_unit_is_lost`.
-use Rattle.std.proofs.Common.{◌≡◌, ◌≢◌, ◌⊎◌, ℕ, ◌+◌, ◌-◌, ◌<◌, ◌≤◌, Option, Some, None, List, [], ◌∷◌, length, map, get_or, refl, sym, ap, ◌∙◌, subst, inl, inr, arith, zero, suc}
+use Rattle.std.proofs.Common.{◌≡◌, ◌≢◌, ◌⊎◌, ℕ, ◌+◌, ◌-◌, ◌<◌, ◌≤◌, Option, Some, None, List, [], ◌∷◌, map, get_or, refl, sym, ap, ◌∙◌, inl, inr, arith, zero, suc}
 use Rattle.std.specs.Prelude.{is_some, IfSome}
 use Rattle.std.specs.List.{slice_get}
 use Rattle.std.proofs.lemmas.Bool.{cases_lt, cases_eq}
@@ -8,8 +8,8 @@ use Rattle.std.proofs.lemmas.List.{get_or_past}
 use Rattle.frame_word.specs.Totals.{sum_over, total_over}
 use Rattle.frame_word.specs.declared.view.FrameNote.{FrameNote}
 use Rattle.frame_word.specs.declared.view.FrameView.{FrameView}
-use Rattle.frame_word.specs.Views.{note_of, in_hands, lent_count}
-use Rattle.frame_word.specs.ReferenceRule.{mark, mark_base, only, mark_count, visit_index, references_in, hands_in, lent_in, borrowed_in, opened_in}
+use Rattle.frame_word.specs.Views.{note_of, lent_count}
+use Rattle.frame_word.specs.ReferenceRule.{mark, mark_base, only, references_in, hands_in, lent_in, borrowed_in, opened_in}
 use Rattle.frame_word.specs.Seats.{KnownTable}
 use Rattle.frame_word.proofs.Notes.{only_here, only_else, marked_else, lent_yes, lent_no}
 use Rattle.stock_word.specs.Stock.{KnownStockTable}
@@ -18,11 +18,11 @@ use Rattle.step_rules.specs.declared.phase.ChargedUnit.{ChargedUnit}
 use Rattle.step_rules.specs.State.{one_if}
 use Rattle.lru_lists.specs.declared.record.Home.{Home}
 use Rattle.mem_machine.specs.declared.frame_state.FrameState.{FrameState}
-use Rattle.mem_machine.specs.declared.frame_state.FrameState.TheVariants.{Free, Lent, Head, Tail}
+use Rattle.mem_machine.specs.declared.frame_state.FrameState.TheVariants.{Free, Lent, Head}
 use Rattle.mem_machine.specs.FrameStates.{frame_state_at, is_in_hand, cpu_lent_to, head_group_of}
 use Rattle.mem_machine.specs.Machines.{KnownMachine, IsConsistent, home_of}
 use Rattle.mem_system.specs.Locked.{AllShut}
-use Rattle.mem_system.specs.Lost.{ConsistentMachinesLoseNoUnit, AreAllSeats, NoUnitIsLost, SomeCpu, IsKeptFor, HasUnit, HasLent}
+use Rattle.mem_system.specs.Lost.{ConsistentMachinesLoseNoUnit, AreAllSeats, SomeCpu, IsKeptFor, HasUnit, HasLent}
 use Rattle.mem_machine.proofs.Records.{no_cpu_is}
 use Rattle.mem_machine.proofs.NoneLent.{lent_is, lent_to_cpu}
 

@@ -2,14 +2,14 @@ use Rattle.std.proofs.Common.{◌≡◌, ℕ, ◌+◌, ◌≤◌, List, length, 
 use Rattle.frame_word.specs.Seats.{KnownSeat, LentIsBorrowed, NothingPasses}
 use Rattle.group_charge.specs.Charges.{Ledger}
 use Rattle.cpu_part.specs.Cpus.{KnownCpu}
-use Rattle.mem_machine.specs.Machines.{KnownMachine, with_run, without_notes}
+use Rattle.mem_machine.specs.Machines.{KnownMachine, without_notes}
 use Rattle.mem_machine.specs.Local.{MakesAs, visit_state}
 use Rattle.mem_machine.specs.Steps.{open_steps}
 use Rattle.mem_machine.proofs.Reached.{with_past}
 use Rattle.mem_system.specs.Locked.{KnownLocked}
 use Rattle.mem_system.specs.Outcomes.{HasItsGroups, reply_of}
 use Rattle.mem_system.specs.Commands.{FreshAfter}
-use Rattle.mem_system.specs.Visits.{with_visit_of, locked_state, IsServed}
+use Rattle.mem_system.specs.Visits.{locked_state, IsServed}
 use Rattle.mem_system.proofs.Lost.{no_unit_is_lost}
 use Rattle.mem_system.proofs.Visiting.{command_shuts, forgotten_shown, opened_so, served}
 use Rattle.mem_system.proofs.visits.serve_outcome.Goals as goal
