@@ -47,19 +47,6 @@ written_back k new old long all =
 pub idle_all : (t : KnownTable) (w : KnownStockTable) (m : KnownMachine) (cpus : List KnownCpu) → All (λ c. IsEmptied t w m c) cpus → All IsIdle cpus
 idle_all t w m cpus all = λ k any inside. (all k any inside).idle
 
--- the seats of the CPUs are at the tables
-pub frame_seats_at : (t : KnownTable) (w : KnownStockTable) (m : KnownMachine) (cpus : List KnownCpu) → All (λ c. IsEmptied t w m c) cpus
-    → AreSeatsAt t.table (map frame_seat_of cpus)
-frame_seats_at t w m [] all = tt
-frame_seats_at t w m (c ∷ cpus) all =
-    ((all 0 c (omega arith)).tied.seats.frame_table, frame_seats_at t w m cpus (λ k any inside. all (suc k) any (omega (arith, inside))))
-
-pub stock_seats_at : (t : KnownTable) (w : KnownStockTable) (m : KnownMachine) (cpus : List KnownCpu) → All (λ c. IsEmptied t w m c) cpus
-    → AreOf w.table (map stock_seat_of cpus)
-stock_seats_at t w m [] all = tt
-stock_seats_at t w m (c ∷ cpus) all =
-    ((all 0 c (omega arith)).tied.seats.stock_table, stock_seats_at t w m cpus (λ k any inside. all (suc k) any (omega (arith, inside))))
-
 pub long_frames : (cpus : List KnownCpu) → length (map frame_seat_of cpus) ≡ length cpus
 long_frames [] = refl
 long_frames (c ∷ cpus) = let rest = long_frames cpus in omega (arith, rest)
@@ -200,8 +187,8 @@ all_visits t w l cpus x rested k quiet no_pin drops rests empties = record {
   empties = empties;
   steps = steps_of_visits t SettlesInVisit l.machine cpus x rested rests ++ steps_of_visits t Empties x rested k.machine k.cpus empties;
   steps_are = refl;
-  watched = watches_both l.machine.watch (steps_of_visits t SettlesInVisit l.machine cpus x rested rests) x.watch
-      (steps_of_visits t Empties x rested k.machine k.cpus empties) k.machine.watch
+  watched = watches_both l.machine.run.watch (steps_of_visits t SettlesInVisit l.machine cpus x rested rests) x.run.watch
+      (steps_of_visits t Empties x rested k.machine k.cpus empties) k.machine.run.watch
       (visits_watched t SettlesInVisit l.machine cpus x rested rests) (visits_watched t Empties x rested k.machine k.cpus empties);
   drops = drops;
 }
@@ -229,6 +216,8 @@ all_closes t w k a frame_seats stock_seats shut all tells_then closing frames st
       stock_words = closed.stock_words;
       told = told_each t w y k.cpus shut all closed;
       frame_words = closed.frame_words;
+      run = closed.run;
+      is = closed.is;
       last_words = record { rule = closed.rule; references = word_of_frame t w y k.cpus shut all closed };
       counted = tells;
       adds_up = record {

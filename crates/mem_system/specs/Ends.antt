@@ -2,6 +2,7 @@
 -- the lock, and then the tables are closed.
 use Rattle.std.specs.Prelude.{◌≡◌, ℕ, ◌+◌, ◌≤◌, ◌<◌, false, is_some, List, [], ◌∷◌, ◌++◌, length, map, min}
 use Rattle.std.specs.Prelude.{sum_by, slice_index, All}
+use Rattle.atomic_table.specs.Seated.{TableId}
 use Rattle.frame_word.specs.ReferenceRule.{ReferenceRule}
 use Rattle.step_rules.specs.declared.step.Action.TheVariants.{Lock, Unlock}
 use Rattle.step_rules.specs.declared.step.Answer.TheVariants.{Done}
@@ -147,6 +148,11 @@ frame_seat_of cpu = cpu.frame_seat
 -- the CPU's seat at the stocks' table
 abbrev pub stock_seat_of : KnownCpu → KnownStockSeat
 stock_seat_of cpu = cpu.stock_seat
+
+-- both seats of the CPU are of this table
+pub record SitsAt (table : TableId) (cpu : KnownCpu) : Type 0 where
+  pub frames : cpu.frame_seat.table ≡ table
+  pub stocks : cpu.stock_seat.table ≡ table
 
 -- one of the seats is the CPU's
 pub record HasSeatOf (seats : List KnownStockSeat) (cpu : ℕ) : Type 0 where

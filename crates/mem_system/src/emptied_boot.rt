@@ -7,7 +7,7 @@ ghost use Rattle.boot_words.specs.Closing.{frame_seats, stock_seats, AreAt};
 ghost use Rattle.cpu_part.specs.Cpus.{IsIdle};
 ghost use Rattle.mem_machine.specs.Resting.{Rests};
 ghost use Rattle.mem_system.specs.Locked.{IsEmptyWithRoom};
-ghost use Rattle.mem_system.specs.Ends.{Closes, IsClosed, frame_seat_of, stock_seat_of};
+ghost use Rattle.mem_system.specs.Ends.{Closes, IsClosed, SitsAt, frame_seat_of, stock_seat_of};
 
 use crate::audit::{Audit, take_audit};
 use crate::cpus::Cpu;
@@ -73,6 +73,7 @@ impl<N: BootName> EmptiedBoot<N> {
 // The seats of CPUs that have nothing left, in a list that has room for them.
 fn gather_seats<N: BootName>(mut cpus: Vec<Cpu<N>>, mut seats: Vec<OwnSeats>) -> Vec<OwnSeats>
     requires idle { All IsIdle cpus.items }
+    requires at { All (SitsAt N.frames.table) cpus.items }
     requires room { IsEmptyWithRoom (length cpus.items) (length seats.items) (vec_capacity seats) }
     ensures frames { frame_seats result.items ≡ map frame_seat_of cpus.items }
     ensures stocks { stock_seats result.items ≡ map stock_seat_of cpus.items }

@@ -63,12 +63,11 @@ invariant_of-result g c =
       subst (λ (l : List KnownCpu). NothingIsLeft t w (record { machine = c.empty_all.new.machine; cpus = l; drops = c.count_drops-drops.result })) (sym last)
           (record {
             shut = c.empty_all.ensures.shut;
+            rests = c.empty_all.ensures.rests;
             all_emptied = c.empty_all.ensures.emptied;
             count = longer ∙ ap length same ∙ long ∙ c.requires;
             stock_count = sized.stock_cpus ∙ sym sized.cpus;
           }),
-      subst (λ (k : ℕ). IsEmptyWithRoom k (length c.locked.inside.frame_seats.items) (vec_capacity c.locked.inside.frame_seats)) (sym sized.cpus)
-          c.locked.invariant.frame_seats,
-      subst (λ (k : ℕ). IsEmptyWithRoom k (length c.locked.inside.stock_seats.items) (vec_capacity c.locked.inside.stock_seats)) (sym sized.cpus)
-          c.locked.invariant.stock_seats,
+      subst (λ (k : ℕ). IsEmptyWithRoom k (length c.locked.inside.seats.items) (vec_capacity c.locked.inside.seats)) (sym sized.cpus)
+          c.locked.invariant.seats,
     )

@@ -37,7 +37,7 @@ returns-clause-shut g c =
     let numbered = cut.number ∙ ap (λ (y : KnownCpu). y.number) c.open.ensures.cpu in
     let opened = ap (λ (k : KnownMachine). k.frame_seat.view.opened) c.drain_stock.ensures.drains.machine ∙ cut.opened
     ∙ ap (λ (k : KnownMachine). k.frame_seat.view.opened) c.open.ensures.machine in
-    all_shut c.args.machine.now x c.shut.new.self c.args.cpu.now.number c.requires.shut opened
+    all_shut c.args.machine.now x c.shut.new.self c.args.cpu.now.number c.shut.new.self.run c.requires.shut opened
     (c.shut.ensures.machine ∙ ap (λ (q : ℕ). with_run (with_visit_of x q 0) c.shut.new.self.run) numbered)
 
 pub returns-clause-emptied : goal.returns-clause-emptied

@@ -17,5 +17,5 @@ returns-clause-shut g c =
     let x = c.settle.new.self in
     let numbered = c.settle.ensures.others.number ∙ ap (λ (y : KnownCpu). y.number) c.open.ensures.cpu in
     let opened = settled_opened _ _ _ _ c.settle.ensures.settles ∙ ap (λ (k : KnownMachine). k.frame_seat.view.opened) c.open.ensures.machine in
-    all_shut c.args.machine.now x c.shut.new.self c.args.cpu.now.number c.requires.shut opened
+    all_shut c.args.machine.now x c.shut.new.self c.args.cpu.now.number c.shut.new.self.run c.requires.shut opened
     (c.shut.ensures.machine ∙ ap (λ (q : ℕ). with_run (with_visit_of x q 0) c.shut.new.self.run) numbered)
