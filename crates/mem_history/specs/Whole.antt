@@ -120,13 +120,13 @@ is_fast (Credit frame) = true
 is_fast _ = false
 
 -- the CPU whose part is at this index makes one such step, answered as all parts decide; what lies behind the lock
--- stays, except what the watch saw
+-- stays, except what is noted of the run
 pub record ServesFast (table : KnownTable) (cpus : List KnownCpu) (index : ℕ)
     (before : VisitState) (action : Action) (answer : Answer) (after : VisitState) : Type 0 where
   pub is_part : slice_get cpus index ≡ Some before.cpu
   pub number : after.cpu.number ≡ before.cpu.number
   pub fast : is_fast action ≡ true
-  pub machine : after.machine ≡ record before.machine { watch = after.machine.watch }
+  pub machine : after.machine ≡ record before.machine { run = after.machine.run }
   pub leads : Makes table before (cpu_makes before.cpu.number action answer ∷ []) after
   pub decided : AreDecided table cpus before (cpu_makes before.cpu.number action answer ∷ [])
 
