@@ -10,7 +10,7 @@ use Rattle.mem_machine.specs.Noted.{KnownRun}
 use Rattle.mem_machine.specs.Machines.{KnownMachine, VisitState, IsConsistent, visit_state, with_run}
 use Rattle.frame_word.specs.Seats.{IsOpen, LentIsBorrowed, NothingPasses}
 use Rattle.mem_machine.specs.Local.{IsShown, MakesAs, MakesForAny, StaysVisited, Visits}
-use Rattle.mem_machine.proofs.Reached.{shown_then}
+use Rattle.mem_machine.proofs.Reached.{shown_same, shown_then}
 use Rattle.mem_machine.specs.Lending.{LendsFrame, LendsOne, UnlistsOne}
 use Rattle.mem_machine.specs.Settling.{KeepsFresh, DropsFresh, ReturnsBack}
 use Rattle.mem_machine.specs.Releasing.{LeavesReferences, ReturnsUnit}
@@ -72,6 +72,15 @@ consistent_noted t w n k ok = record {
   bounded = ok.bounded;
   charged = ok.charged;
   balances = ok.balances;
+}
+
+-- a visit goes on where another note was made
+pub visits_noted : (t : KnownTable) (n : KnownMachine) (d : KnownCpu) (k : KnownNotes) → Visits t (visit_state n d) → Visits t (visit_state (record n { notes = k }) d)
+visits_noted t n d k visit = record {
+  is_open = visit.is_open;
+  still = visit.still;
+  lent = visit.lent;
+  shown = shown_same t (visit_state n d) (visit_state (record n { notes = k }) d) visit.shown refl refl refl;
 }
 
 pub open_noted : (t : KnownTable) (n : KnownMachine) (d : KnownCpu) (k : KnownNotes) → HasOpenVisit t (visit_state n d) → HasOpenVisit t (visit_state (record n { notes = k }) d)
