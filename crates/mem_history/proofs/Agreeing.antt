@@ -1,5 +1,5 @@
 -- The ledger goes on telling the run, line by line. Serves `a_boot_agrees`, `lines_agree`, `fast_lines_agree`.
-use Rattle.std.proofs.Common.{◌≡◌, ◌≢◌, ℕ, ◌==◌, ◌||◌, Bool, true, false, cond, Option, Some, None, [], ◌∷◌, ◌++◌, length, take, refl, sym, ◌∙◌, ap, subst, inl, inr, zero, suc, eq-eqb}
+use Rattle.std.proofs.Common.{◌≡◌, ℕ, ◌==◌, ◌||◌, Bool, true, false, cond, Option, Some, None, [], ◌∷◌, ◌++◌, length, take, refl, sym, ◌∙◌, ap, subst, inl, inr, zero, suc, eq-eqb}
 use Rattle.std.specs.Prelude.{IfSome}
 use Rattle.std.specs.List.{slice_get}
 use Rattle.std.specs.Option.{option_map_or}
@@ -39,7 +39,7 @@ use Rattle.mem_machine.specs.Interleaving.{zone_of}
 use Rattle.mem_machine.specs.Steps.{cpu_makes}
 use Rattle.mem_machine.specs.Agreeing.{AgreesWithRun}
 use Rattle.mem_machine.proofs.Followed.{is_still, still_peak, below_stays, at_stays}
-use Rattle.mem_machine.proofs.Tells.{ledgers_agree}
+use Rattle.mem_machine.proofs.Tells.{led_agree}
 use Rattle.mem_history.specs.Whole.{IsDecided, seen_together, under_lock, is_fast}
 use Rattle.mem_history.specs.Agreeing.{ABootAgrees, LinesAgree, FastLinesAgree}
 use Rattle.mem_history.proofs.Staying.{Stays, Along, stays_on, stays_made}
@@ -140,7 +140,7 @@ lines_agree t run cpus k before steps after_visit_state shows serves told =
     let made : Run = lock ++ steps in
     let own = own_all p (local_of t m c) steps (local_of t n d) serves.leads.leads in
     let told_made : AgreesWithRun t made n.ledger =
-    ledgers_agree t lock steps steps before after_visit_state took told_lock serves.leads (record { own = own; follows = mixed }) in
+    led_agree t lock steps steps before after_visit_state took told_lock serves.leads.leads serves.leads.follows (record { own = own; follows = mixed }) in
     let joined : pushed made (record { seat = p; action = Unlock }) Done ≡ run ++ under_lock p steps =
     append_assoc (run ++ cpu_makes p Lock Done ∷ []) steps (cpu_makes p Unlock Done ∷ [])
     ∙ append_assoc run (cpu_makes p Lock Done ∷ []) (steps ++ cpu_makes p Unlock Done ∷ []) in

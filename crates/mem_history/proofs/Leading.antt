@@ -45,12 +45,12 @@ use Rattle.mem_machine.specs.Steps.{cpu_makes}
 use Rattle.mem_machine.proofs.Takes.{without_front}
 use Rattle.mem_machine.proofs.Shown.{fresh_phase}
 use Rattle.mem_history.specs.Whole.{seen_together}
-use Rattle.mem_history.specs.Leading.{IsPart, put_answer, FastCallsLead, LeadsNoted}
+use Rattle.mem_history.specs.Leading.{IsPart, put_answer, FastCallsLead, LeadsWatched}
 use Rattle.mem_history.proofs.Covers.{plain, head_plain, lent_plain, same_times, cover}
 use Rattle.mem_history.proofs.Others.{HasOwn, has_own, own_shown, other_shown, own_references}
 use Rattle.mem_history.proofs.Wholes.{is_one, not_zone, whole_sound}
 use Rattle.mem_history.proofs.Currents.{frame_state_covers}
-use Rattle.mem_machine.proofs.Followed.{follows_same, LeadsAs, makes_noted}
+use Rattle.mem_machine.proofs.Followed.{follows_same, LeadsAs}
 
 -- ---- lists
 
@@ -441,23 +441,23 @@ consume_same p g x y same is = (
   subst (λ (part : Part). 1 ≤ part.stock.pages) same is.2,
 )
 
--- the steps lead to the machine with a run that notes them
-leads_noted : (t : KnownTable) (m : KnownMachine) (c d : KnownCpu) (steps : Run) → LeadsAs t c.number (visit_state m c) steps (visit_state m d)
-    → LeadsNoted t (visit_state m c) steps d
-leads_noted t m c d steps made run notes = makes_noted t c.number m m refl c d steps m made run notes
+-- the steps lead to the machine with a watch that took them
+watched : (t : KnownTable) (m : KnownMachine) (c d : KnownCpu) (steps : Run) → LeadsAs t c.number (visit_state m c) steps (visit_state m d)
+    → LeadsWatched t (visit_state m c) steps d
+watched t m c d steps made w took = record { leads = made.leads; follows = made.follows; counts = made.counts }
 
 pub fast_calls_lead : FastCallsLead
 fast_calls_lead = record {
   held = λ t w run m cpus k c d is f inside few answer.
-      leads_noted t m c d _ (leads_held t w run m cpus k c is d f inside few (c.pins ++ f ∷ []) answer.0 answer.1.0 answer.1.3 answer.2);
-  is_put = λ t w run m cpus k c d is f answer answers. leads_noted t m c d _ (puts t w run m cpus k c d is f answer answers);
+      watched t m c d _ (leads_held t w run m cpus k c is d f inside few (c.pins ++ f ∷ []) answer.0 answer.1.0 answer.1.3 answer.2);
+  is_put = λ t w run m cpus k c d is f answer answers. watched t m c d _ (puts t w run m cpus k c d is f answer answers);
   got = λ t w run m cpus k c d is g f answers decided.
       let stock = answers.4.2 in
-      leads_noted t m c d _ (leads_took t w run m cpus k c is d g f answers.1 (with_view c.stock_seat answers.3) answers.2 answers.0 answers.5
+      watched t m c d _ (leads_took t w run m cpus k c is d g f answers.1 (with_view c.stock_seat answers.3) answers.2 answers.0 answers.5
       (ap (λ (s : Stock). number_or_0 (stocks.group_of s)) answers.4.1) (ap (λ v. number_or_0 (stocks.group_of v.last)) stock)
       (decided_here t w run m cpus k c is (λ x. IsAnswer x c.number (Consume g) Took) (consume_same c.number g) (decided zero)));
   listed = λ t w run m cpus k c d is f stands answers decided.
-      leads_noted t m c d _ (leads_listed t w run m cpus k c is d f answers.0 (with_view c.stock_seat answers.3) _ answers.1 answers.2 answers.5
+      watched t m c d _ (leads_listed t w run m cpus k c is d f answers.0 (with_view c.stock_seat answers.3) _ answers.1 answers.2 answers.5
       (ap (λ v. stocks.group_of v.last) answers.4.3 ∙ sym (ap stocks.group_of answers.4.2))
       (decided_here t w run m cpus k c is (λ x. IsAnswer x c.number (Credit f) Stocked)
       (λ x y same h. ap (λ (part : Part). part.stock.is_drained) (sym same) ∙ h) (decided zero)));

@@ -13,21 +13,20 @@ use Rattle.step_rules.specs.declared.step.Action.TheVariants.{Get, Put, Consume,
 use Rattle.step_rules.specs.declared.step.Answer.{Answer}
 use Rattle.step_rules.specs.declared.step.Answer.TheVariants.{Held, Left, Last, Took, Stocked}
 use Rattle.step_rules.specs.After.{Run}
-use Rattle.mem_machine.specs.Machines.{KnownMachine, VisitState, visit_state}
-use Rattle.mem_machine.specs.Local.{Makes}
-use Rattle.mem_machine.specs.Noted.{KnownRun, Notes}
+use Rattle.mem_machine.specs.Machines.{KnownMachine, VisitState, visit_state, with_watch}
 use Rattle.mem_machine.specs.Steps.{cpu_makes}
-use Rattle.mem_history.specs.Whole.{ShowsAll, AreDecided}
+use Rattle.mem_history.specs.Whole.{ShowsAll, AreDecided, Leads}
+use Rattle.step_watch.specs.Watched.{KnownWatch, Watches}
 
 -- the answer of the step Put, for what the part's put answered
 abbrev pub put_answer : Putted → Answer
 put_answer (put.Left left) = Left left
 put_answer put.Last = Last
 
--- these steps lead the CPU to this part, and change nothing behind the lock, except that the machine notes them in its run
-abbrev pub LeadsNoted : KnownTable → VisitState → Run → KnownCpu → Type 0
-LeadsNoted table before steps later = (run : KnownRun) → Notes table before.machine.run steps run
-    → Makes table before steps (visit_state (record before.machine { run = run }) later)
+-- these steps lead the CPU to this part, and change nothing behind the lock, except that the machine's watch took them
+abbrev pub LeadsWatched : KnownTable → VisitState → Run → KnownCpu → Type 0
+LeadsWatched table before steps later = (watch : KnownWatch) → Watches before.machine.run.watch steps watch
+    → Leads table before steps (visit_state (with_watch before.machine watch) later)
 
 -- the run shows the whole, and this is its part at this index, tied to its seats
 pub record IsPart (table : KnownTable) (stock_table : KnownStockTable) (run : Run) (machine : KnownMachine)
@@ -45,21 +44,21 @@ pub record FastCallsLead : Type 0 where
       (cpus : List KnownCpu)
       (index : ℕ) (cpu later : KnownCpu) → IsPart table stock_table run machine cpus index cpu → (frame : ℕ)
       → frame < table.frames → length cpu.back + length cpu.pins < most_pins → PinAnswers frame get.Held cpu later
-      → LeadsNoted table (visit_state machine cpu) (cpu_makes cpu.number (Get frame) Held ∷ []) later
+      → LeadsWatched table (visit_state machine cpu) (cpu_makes cpu.number (Get frame) Held ∷ []) later
   pub is_put : (table : KnownTable) (stock_table : KnownStockTable) (run : Run) (machine : KnownMachine)
       (cpus : List KnownCpu)
       (index : ℕ) (cpu later : KnownCpu) → IsPart table stock_table run machine cpus index cpu → (frame : ℕ)
       (answer : Putted) → UnpinAnswers frame answer cpu later
-      → LeadsNoted table (visit_state machine cpu) (cpu_makes cpu.number (Put frame) (put_answer answer) ∷ []) later
+      → LeadsWatched table (visit_state machine cpu) (cpu_makes cpu.number (Put frame) (put_answer answer) ∷ []) later
   pub got : (table : KnownTable) (stock_table : KnownStockTable) (run : Run) (machine : KnownMachine)
       (cpus : List KnownCpu)
       (index : ℕ) (cpu later : KnownCpu) → IsPart table stock_table run machine cpus index cpu → (group frame : ℕ)
       → FastAnswers group (Got frame) cpu later
       → AreDecided table cpus (visit_state machine cpu) (cpu_makes cpu.number (Consume group) Took ∷ [])
-      → LeadsNoted table (visit_state machine cpu) (cpu_makes cpu.number (Consume group) Took ∷ []) later
+      → LeadsWatched table (visit_state machine cpu) (cpu_makes cpu.number (Consume group) Took ∷ []) later
   pub listed : (table : KnownTable) (stock_table : KnownStockTable) (run : Run) (machine : KnownMachine)
       (cpus : List KnownCpu)
       (index : ℕ) (cpu later : KnownCpu) → IsPart table stock_table run machine cpus index cpu → (frame : ℕ)
       → 1 ≤ times frame cpu.fresh → DropAnswers frame Listed cpu later
       → AreDecided table cpus (visit_state machine cpu) (cpu_makes cpu.number (Credit frame) Stocked ∷ [])
-      → LeadsNoted table (visit_state machine cpu) (cpu_makes cpu.number (Credit frame) Stocked ∷ []) later
+      → LeadsWatched table (visit_state machine cpu) (cpu_makes cpu.number (Credit frame) Stocked ∷ []) later

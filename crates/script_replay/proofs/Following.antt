@@ -1,5 +1,5 @@
 -- A line carries the whole on. Serves `replay`.
-use Rattle.std.proofs.Common.{Bool, true, false, ◌≡◌, ◌≢◌, ℕ, ◌==◌, ◌&&◌, ◌++◌, cond, Some, List, [], ◌∷◌, length, refl, sym, ◌∙◌, ap, subst, inl, inr, suc, zero, arith}
+use Rattle.std.proofs.Common.{Bool, true, false, ◌≡◌, ◌≢◌, ℕ, ◌==◌, ◌&&◌, ◌++◌, cond, Some, List, [], ◌∷◌, refl, sym, ◌∙◌, ap, subst, inl, inr, suc, zero}
 use Rattle.std.specs.Prelude.{nat_le, slice_set}
 use Rattle.std.specs.List.{slice_get}
 use Rattle.std.proofs.lemmas.Bool.{cases_eq}
@@ -36,14 +36,13 @@ use Rattle.step_watch.proofs.Watching.{watches_none}
 use Rattle.mem_machine.specs.declared.frame_state.FrameState.{FrameState}
 use Rattle.mem_machine.specs.declared.frame_state.FrameState.TheVariants as frame_state_is
 use Rattle.mem_machine.specs.FrameStates.{frame_state_at}
-use Rattle.mem_machine.specs.Machines.{KnownMachine, visit_state, with_run, with_unit_notes, with_watch}
-use Rattle.mem_machine.specs.Noted.{KnownRun, Notes}
-use Rattle.mem_machine.specs.Local.{local_of, phase_of, number_or_0, Makes, IsLocalRun}
+use Rattle.mem_machine.specs.Machines.{KnownMachine, visit_state, with_unit_notes, with_watch}
+use Rattle.mem_machine.specs.Local.{local_of, phase_of, number_or_0, IsLocalRun}
 use Rattle.mem_machine.specs.Interleaving.{zone_of}
 use Rattle.mem_machine.specs.Steps.{cpu_makes}
 use Rattle.mem_machine.proofs.Records.{holds_same}
 use Rattle.mem_machine.specs.Agreeing.{AgreesWithRun}
-use Rattle.mem_history.specs.Whole.{ShowsAll, ServesAt, ServesFast, IsSeenAt, seen_by_holder, under_lock, is_fast}
+use Rattle.mem_history.specs.Whole.{ShowsAll, Leads, ServesAt, ServesFast, IsSeenAt, seen_by_holder, under_lock, is_fast}
 use Rattle.mem_history.specs.Kept.{AreTied}
 use Rattle.mem_history.specs.Leading.{IsPart, put_answer}
 use Rattle.mem_history.proofs.Wholes.{set_here, set_else, lines_follow}
@@ -139,21 +138,17 @@ module _ (t : KnownTable) (m : KnownMachine) (c : KnownCpu) where
   vain_unseen (command.Put f) l d is = absurd is
   vain_unseen command l d is = unseen_same d is
 
--- ---- the pasts and the watch are seen by no one
+-- ---- the watch is seen by no one
 
--- the run that shows a machine shows it with other pasts and another watch too
-shows_noted : (t : KnownTable) (run : Run) (m : KnownMachine) (cpus : List KnownCpu) (noted : KnownRun) → ShowsAll t run m cpus
-    → ShowsAll t run (with_run m noted) cpus
-shows_noted t run m cpus noted shows = record {
+-- the run that shows a machine shows it with another watch too
+pub shows_watched : (t : KnownTable) (run : Run) (m : KnownMachine) (cpus : List KnownCpu) (watch : KnownWatch) → ShowsAll t run m cpus
+    → ShowsAll t run (with_watch m watch) cpus
+shows_watched t run m cpus watch shows = record {
   legal = shows.legal;
   free = shows.free;
   count = shows.count;
   each = λ j e at. let was = shows.each j e at in record { number = was.number; sees = was.sees };
 }
-
-pub shows_watched : (t : KnownTable) (run : Run) (m : KnownMachine) (cpus : List KnownCpu) (watch : KnownWatch) → ShowsAll t run m cpus
-    → ShowsAll t run (with_watch m watch) cpus
-shows_watched t run m cpus watch shows = shows_noted t run m cpus (record { past = m.run.past; watch = watch }) shows
 
 -- nor does it matter whether units are told
 pub shows_told : (t : KnownTable) (run : Run) (m : KnownMachine) (cpus : List KnownCpu) (is_on : Bool) (watch : KnownWatch) → ShowsAll t run m cpus
@@ -236,12 +231,11 @@ module _ (t : KnownTable) (w : KnownStockTable) (run : Run) (locked : KnownLocke
       let shown : ShowsAll t run n cpus = subst (λ (l : KnownLocked). ShowsAll t run l.machine cpus) (sym locks) (shows_told t run m cpus is_explained watch shows) in
       let same : local_of t n seen ≡ local_of t n c =
       subst (λ (l : KnownLocked). local_of t l.machine seen ≡ local_of t l.machine c) (sym locks) unseen.same in
-      let leads : Makes t (visit_state n c) is.steps (visit_state after.locked.machine after.cpu) = record {
+      let leads : Leads t (visit_state n c) is.steps (visit_state after.locked.machine after.cpu) = record {
         leads = subst (λ (x : ℕ × State). IsLocalRun x.0 x.1 is.steps (local_of t after.locked.machine after.cpu)) (λ i. (unseen.number i, same i))
             is.makes.leads;
         follows = subst (λ (x : State). FollowsSteps x n.ledger is.steps after.locked.machine.ledger) same is.makes.follows;
         counts = is.makes.counts ∙ ap (λ (x : State). counts_along x is.steps n.counts) same;
-        noted = is.makes.noted;
       } in
       let serves : ServesAt t cpus k (visit_state n c) is.steps (visit_state after.locked.machine after.cpu) = record {
         is_part = is_part;
@@ -263,51 +257,29 @@ module _ (t : KnownTable) (w : KnownStockTable) (run : Run) (locked : KnownLocke
     λ told. subst (λ (l : KnownLocked). AgreesWithRun t (run ++ steps) l.machine.ledger) (sym only.locked) (follows.1 told),
   )
 
-  -- The machine with pasts that say nothing. Nobody holds its lock, so a step without the lock is noted by the watch alone.
-  abbrev away : KnownMachine
-  away = with_run m (record { past = record { table = m.run.past.table; pasts = [] }; watch = m.run.watch })
-
-  -- the same with the watch that is left
-  abbrev away_then : LockedState → KnownMachine
-  away_then after = with_watch away after.locked.machine.run.watch
-
-  away_shown : ShowsAll t run away cpus
-  away_shown = shows_noted t run m cpus away.run shows
-
-  away_notes : (steps : Run) (after : LockedState) → OnlyWatched steps locked after.locked → Notes t away.run steps (away_then after).run
-  away_notes steps after kept = record {
-    grew = record {
-      held = λ held. absurd (omega (arith, ap length held.both));
-      holder = λ held. absurd (omega (arith, ap length held.both));
-      sees = λ held. absurd (omega (arith, ap length held.both));
-    };
-    watched = kept.watched;
-  }
-
   -- a step without the lock
   step_follows : (action : Action) (answer : StepAnswer) (after : LockedState) → (kept : OnlyWatched (cpu_makes p action answer ∷ []) locked after.locked) →
       after.cpu.number ≡ p → is_fast action ≡ true → answer ≢ step_answer.Illegal →
-      Makes t (visit_state away c) (cpu_makes p action answer ∷ []) (visit_state (away_then after) after.cpu) →
+      Leads t (visit_state m c) (cpu_makes p action answer ∷ []) (visit_state (with_watch m after.locked.machine.run.watch) after.cpu) →
       GoesOn (cpu_makes p action answer ∷ []) → Follows (cpu_makes p action answer ∷ []) after
   step_follows action answer after kept number quick made leads legal =
-      let n : KnownMachine = away_then after in
-      let serves : ServesFast t cpus k (visit_state away c) action answer (visit_state n after.cpu) = record {
+      let n : KnownMachine = with_watch m after.locked.machine.run.watch in
+      let serves : ServesFast t cpus k (visit_state m c) action answer (visit_state n after.cpu) = record {
         is_part = is_part;
         number = number;
         fast = quick;
         machine = refl;
         leads = leads;
-        decided = legal_fast_steps_are_decided t run cpus k away c action answer away_shown is_part quick made legal;
+        decided = legal_fast_steps_are_decided t run cpus k m c action answer shows is_part quick made legal;
       } in (
         subst (λ (l : KnownLocked). ShowsAll t (run ++ cpu_makes p action answer ∷ []) l.machine (slice_set cpus k after.cpu)) (sym kept.locked)
-            (shows_noted t (run ++ cpu_makes p action answer ∷ []) n (slice_set cpus k after.cpu) (with_watch m after.locked.machine.run.watch).run
-            (fast_lines_follow t run cpus k (visit_state away c) action answer (visit_state n after.cpu) away_shown serves)),
+            (fast_lines_follow t run cpus k (visit_state m c) action answer (visit_state n after.cpu) shows serves),
         λ told. subst (λ (l : KnownLocked). AgreesWithRun t (run ++ cpu_makes p action answer ∷ []) l.machine.ledger) (sym kept.locked)
-            (fast_lines_agree t run cpus k (visit_state away c) action answer (visit_state n after.cpu) away_shown serves told),
+            (fast_lines_agree t run cpus k (visit_state m c) action answer (visit_state n after.cpu) shows serves told),
       )
 
-  this_part : IsPart t w run away cpus k c
-  this_part = record { shows = away_shown; is_part = is_part; tied = (tied k c is_part).tied }
+  this_part : IsPart t w run m cpus k c
+  this_part = record { shows = shows; is_part = is_part; tied = (tied k c is_part).tied }
 
   -- the steps are those that were made
   as_made : (steps made : Run) (after : LockedState) → steps ≡ made → (GoesOn made → Follows made after) → GoesOn steps → Follows steps after
@@ -317,9 +289,9 @@ module _ (t : KnownTable) (w : KnownStockTable) (run : Run) (locked : KnownLocke
       → GoesOn (cpu_makes p (step.Consume g) step_answer.Took ∷ []) → Follows (cpu_makes p (step.Consume g) step_answer.Took ∷ []) after
   got_follows g f after is kept legal =
       step_follows (step.Consume g) step_answer.Took after kept (ap (λ (x : KnownCpu). x.number) is.5) refl (λ e. cc)
-      (fast_calls_lead.got t w run away cpus k c after.cpu this_part g f is
-      (legal_fast_steps_are_decided t run cpus k away c (step.Consume g) step_answer.Took away_shown is_part refl (λ e. cc) legal)
-      (away_then after).run (away_notes _ after kept)) legal
+      (fast_calls_lead.got t w run m cpus k c after.cpu this_part g f is
+      (legal_fast_steps_are_decided t run cpus k m c (step.Consume g) step_answer.Took shows is_part refl (λ e. cc) legal)
+      after.locked.machine.run.watch kept.watched) legal
 
   -- without the lock
   alone_follows : (command : Command) (said : UnlockedAnswer) (after : LockedState) → CommandInRange t.frames command → AnswersAlone command c after.cpu said
@@ -332,7 +304,7 @@ module _ (t : KnownTable) (w : KnownStockTable) (run : Run) (locked : KnownLocke
   alone_follows (command.Fast g) (unlocked.Fast (Got f)) after names is kept legal = got_follows g f after is kept legal
   alone_follows (command.Get f) (unlocked.Got Held) after inside is kept legal =
       step_follows (step.Get f) step_answer.Held after kept (ap (λ (x : KnownCpu). x.number) is.1.2) refl (λ e. cc)
-      (fast_calls_lead.held t w run away cpus k c after.cpu this_part f inside is.0 is.1 (away_then after).run (away_notes _ after kept)) legal
+      (fast_calls_lead.held t w run m cpus k c after.cpu this_part f inside is.0 is.1 after.locked.machine.run.watch kept.watched) legal
   alone_follows (command.Get f) (unlocked.Got Zero) after inside is kept legal =
       unseen_follows after kept (unseen_seat t m c after.cpu is.1.0 f (looked is.1.1.0) is.1.2 is.1.1.2 (λ x. refl))
   alone_follows (command.Get f) (unlocked.Got (Raced found)) after inside is kept legal =
@@ -342,7 +314,7 @@ module _ (t : KnownTable) (w : KnownStockTable) (run : Run) (locked : KnownLocke
   alone_follows (command.Get f) (unlocked.Refused PinsFull) after inside is kept legal = unseen_follows after kept (unseen_same t m c after.cpu is.1)
   alone_follows (command.Put f) (unlocked.Put putted) after inside is kept legal =
       step_follows (step.Put f) (put_answer putted) after kept (put_number putted is.1) refl (put_made putted)
-      (fast_calls_lead.is_put t w run away cpus k c after.cpu this_part f putted is.1 (away_then after).run (away_notes _ after kept)) legal
+      (fast_calls_lead.is_put t w run m cpus k c after.cpu this_part f putted is.1 after.locked.machine.run.watch kept.watched) legal
     where
       put_number : (x : Putted) → UnpinAnswers f x c after.cpu → after.cpu.number ≡ p
       put_number (put.Left n) a = ap (λ (y : KnownCpu). y.number) a.3
@@ -354,9 +326,9 @@ module _ (t : KnownTable) (w : KnownStockTable) (run : Run) (locked : KnownLocke
   alone_follows (command.Put f) (unlocked.Refused NotPinned) after inside is kept legal = unseen_follows after kept (unseen_same t m c after.cpu is.1)
   alone_follows (command.Release f) unlocked.Listed after inside is kept legal =
       step_follows (step.Credit f) step_answer.Stocked after kept (ap (λ (x : KnownCpu). x.number) is.listed.5) refl (λ e. cc)
-      (fast_calls_lead.listed t w run away cpus k c after.cpu this_part f is.fresh is.listed
-      (legal_fast_steps_are_decided t run cpus k away c (step.Credit f) step_answer.Stocked away_shown is_part refl (λ e. cc) legal)
-      (away_then after).run (away_notes _ after kept)) legal
+      (fast_calls_lead.listed t w run m cpus k c after.cpu this_part f is.fresh is.listed
+      (legal_fast_steps_are_decided t run cpus k m c (step.Credit f) step_answer.Stocked shows is_part refl (λ e. cc) legal)
+      after.locked.machine.run.watch kept.watched) legal
   alone_follows command said after names is kept legal = absurd is
 
   unlocked_follows : (command : Command) (steps : Run) (after : LockedState) (said : UnlockedAnswer) → CommandInRange t.frames command
