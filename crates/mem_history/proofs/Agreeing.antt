@@ -39,7 +39,7 @@ use Rattle.mem_machine.specs.Interleaving.{zone_of}
 use Rattle.mem_machine.specs.Steps.{cpu_makes}
 use Rattle.mem_machine.specs.Agreeing.{AgreesWithRun}
 use Rattle.mem_machine.proofs.Followed.{is_still, still_peak, below_stays, at_stays}
-use Rattle.mem_machine.proofs.Tells.{led_agree}
+use Rattle.mem_machine.proofs.Tells.{ledgers_agree}
 use Rattle.mem_history.specs.Whole.{IsDecided, seen_together, under_lock, is_fast}
 use Rattle.mem_history.specs.Agreeing.{ABootAgrees, LinesAgree, FastLinesAgree}
 use Rattle.mem_history.proofs.Staying.{Stays, Along, stays_on, stays_made}
@@ -140,7 +140,7 @@ lines_agree t run cpus k before steps after_visit_state shows serves told =
     let made : Run = lock ++ steps in
     let own = own_all p (local_of t m c) steps (local_of t n d) serves.leads.leads in
     let told_made : AgreesWithRun t made n.ledger =
-    led_agree t lock steps steps before after_visit_state took told_lock serves.leads.leads serves.leads.follows (record { own = own; follows = mixed }) in
+    ledgers_agree t lock steps steps before after_visit_state took told_lock serves.leads (record { own = own; follows = mixed }) in
     let joined : pushed made (record { seat = p; action = Unlock }) Done ≡ run ++ under_lock p steps =
     append_assoc (run ++ cpu_makes p Lock Done ∷ []) steps (cpu_makes p Unlock Done ∷ [])
     ∙ append_assoc run (cpu_makes p Lock Done ∷ []) (steps ++ cpu_makes p Unlock Done ∷ []) in

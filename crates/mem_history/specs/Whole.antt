@@ -16,7 +16,7 @@ use Rattle.step_rules.specs.After.{Run, after, state_of, IsLegalRun}
 use Rattle.step_rules.specs.Views.{seen_by}
 use Rattle.step_rules.specs.Reaches.{is_own}
 use Rattle.mem_machine.specs.Machines.{KnownMachine, VisitState, visit_state, with_watch}
-use Rattle.mem_machine.specs.Local.{IsLocalRun, local_at, local_of}
+use Rattle.mem_machine.specs.Local.{IsLocalRun, Makes, local_at, local_of}
 use Rattle.mem_machine.specs.Following.{FollowsSteps}
 use Rattle.mem_machine.specs.Counting.{counts_along}
 use Rattle.mem_machine.specs.Interleaving.{zone_of, Shows}
@@ -90,9 +90,9 @@ AreDecided table cpus before steps = (index : ℕ) → IfSome (slice_get steps i
     (seen_together cpus before.cpu.number
     (state_after (local_of table before.machine before.cpu) (take index steps))) made.0.seat made.0.action made.1)
 
--- These steps, of the CPU and of the zone's seat, lead from one visit state to another. The ledger's peaks and event counts
--- follow them, and so do the machine's counts. `Makes` says as much, and besides it how the machine's pasts have grown: a
--- step without the lock isn't in them.
+-- These steps, of the CPU and of the zone's seat, lead from one visit state to another. The ledger's peaks and event
+-- counts follow them, and so do the machine's counts. `Makes` says besides that the machine's pasts have grown by the
+-- steps, but those of a step without the lock have not.
 pub record Leads (table : KnownTable) (before : VisitState) (steps : Run) (after : VisitState) : Type 0 where
   pub leads : IsLocalRun before.cpu.number (local_at table before) steps (local_at table after)
   pub follows : FollowsSteps (local_at table before) before.machine.ledger steps after.machine.ledger
@@ -109,7 +109,7 @@ under_lock cpu steps = cpu_makes cpu Lock Done ∷ (steps ++ cpu_makes cpu Unloc
 pub record ServesAt (table : KnownTable) (cpus : List KnownCpu) (index : ℕ)
     (before : VisitState) (steps : Run) (after : VisitState) : Type 0 where
   pub is_part : slice_get cpus index ≡ Some before.cpu
-  pub leads : Leads table before steps after
+  pub leads : Makes table before steps after
   pub decided : AreDecided table cpus before steps
   pub shut : (cpu : ℕ) → IsShut after.machine.frame_seat cpu
 
