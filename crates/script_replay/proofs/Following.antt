@@ -37,7 +37,7 @@ use Rattle.mem_machine.specs.declared.frame_state.FrameState.{FrameState}
 use Rattle.mem_machine.specs.declared.frame_state.FrameState.TheVariants as frame_state_is
 use Rattle.mem_machine.specs.FrameStates.{frame_state_at}
 use Rattle.mem_machine.specs.Machines.{KnownMachine, visit_state, with_unit_notes, with_watch}
-use Rattle.mem_machine.specs.Local.{local_of, phase_of, number_or_0, IsLocalRun}
+use Rattle.mem_machine.specs.Local.{local_of, phase_of, number_or_0, Makes, IsLocalRun}
 use Rattle.mem_machine.specs.Interleaving.{zone_of}
 use Rattle.mem_machine.specs.Steps.{cpu_makes}
 use Rattle.mem_machine.proofs.Records.{holds_same}
@@ -231,15 +231,18 @@ module _ (t : KnownTable) (w : KnownStockTable) (run : Run) (locked : KnownLocke
       let shown : ShowsAll t run n cpus = subst (λ (l : KnownLocked). ShowsAll t run l.machine cpus) (sym locks) (shows_told t run m cpus is_explained watch shows) in
       let same : local_of t n seen ≡ local_of t n c =
       subst (λ (l : KnownLocked). local_of t l.machine seen ≡ local_of t l.machine c) (sym locks) unseen.same in
-      let leads : Leads t (visit_state n c) is.steps (visit_state after.locked.machine after.cpu) = record {
+      let makes : Makes t (visit_state n c) is.steps (visit_state after.locked.machine after.cpu) = record {
         leads = subst (λ (x : ℕ × State). IsLocalRun x.0 x.1 is.steps (local_of t after.locked.machine after.cpu)) (λ i. (unseen.number i, same i))
             is.makes.leads;
         follows = subst (λ (x : State). FollowsSteps x n.ledger is.steps after.locked.machine.ledger) same is.makes.follows;
         counts = is.makes.counts ∙ ap (λ (x : State). counts_along x is.steps n.counts) same;
+        noted = is.makes.noted;
       } in
+      let leads : Leads t (visit_state n c) is.steps (visit_state after.locked.machine after.cpu) =
+      record { leads = makes.leads; follows = makes.follows; counts = makes.counts } in
       let serves : ServesAt t cpus k (visit_state n c) is.steps (visit_state after.locked.machine after.cpu) = record {
         is_part = is_part;
-        leads = leads;
+        leads = makes;
         decided = legal_lines_are_decided t run cpus k (visit_state n c) is.steps (visit_state after.locked.machine after.cpu) shown is_part leads legal;
         shut = shut;
       } in (
