@@ -62,7 +62,7 @@ fn write_list<N: BootName>(
     for _seen in 0..count {
         machine.prove_consistent();
         let Some(entry) = next else { unreachable!() };
-        let Some(head) = tables.frames.frame(entry.number) else {
+        let Some(head) = tables.words.frame(entry.number) else {
             unreachable!()
         };
         next = machine.newer(group, list, head);

@@ -7,7 +7,7 @@ use Rattle.group_tree.specs.declared.group.Group.{Group}
 use Rattle.group_tree.specs.Groups.{has_group, has_child}
 use Rattle.group_charge.specs.Charges.{current_of}
 use Rattle.cpu_part.specs.Cpus.{KnownCpu}
-use Rattle.mem_machine.specs.Machines.{KnownMachine, with_watch}
+use Rattle.mem_machine.specs.Machines.{KnownMachine, with_run}
 use Rattle.mem_machine.specs.Local.{Visits, KeepsVisit}
 use Rattle.mem_machine.specs.Steps.{drain_stocks_steps, set_max_steps}
 use Rattle.mem_machine.specs.Stocks.{DrainsSubtree, AreDrained}
@@ -119,7 +119,7 @@ lowered_above t g limit m y x n over told of_y k =
         within = λ (less : current_of m.ledger g ≤ limit). absurd (omega (arith, over, less));
       };
       makes = λ c. makes_both t c.number b.steps k.steps (visit_state m c) (visit_state x c) (visit_state n c)
-          (record { leads = (b.makes c).leads; follows = (b.makes c).follows; counts = (b.makes c).counts; watched = (b.makes c).watched }) (k.makes c);
+          (record { leads = (b.makes c).leads; follows = (b.makes c).follows; counts = (b.makes c).counts; noted = (b.makes c).noted }) (k.makes c);
     }
 
 -- the usage is within it
@@ -135,14 +135,14 @@ lowered_none t g limit m within = record {
 }
 
 -- the limit is set, and then the usage is kept to it
-limited_by : (t : KnownTable) (g : ℕ) (of : Option ℕ) (m x n : KnownMachine) → x ≡ with_watch (with_limit_of m g of) x.watch
+limited_by : (t : KnownTable) (g : ℕ) (of : Option ℕ) (m x n : KnownMachine) → x ≡ with_run (with_limit_of m g of) x.run
     → MakesForAny t m (set_max_steps g of) x
     → BySteps MakesForAny t (KeepsToLimit g of) x n → BySteps MakesForAny t (SetsLimit g of) m n
 limited_by t g of m x n is first last = record {
   steps = set_max_steps g of ++ last.steps;
   does = record {
     lowering = last.steps;
-    seen = x.watch;
+    seen = x.run;
     keeps = subst (λ (k : KnownMachine). KeepsToLimit g of (transition t k last.steps n)) is last.does;
     steps_are = refl;
   };
@@ -152,7 +152,7 @@ limited_by t g of m x n is first last = record {
 
 -- there is one
 pub limited_to : (t : KnownTable) (g limit : ℕ) (of : Option ℕ) (m x n : KnownMachine) → of ≡ Some limit
-    → x ≡ with_watch (with_limit_of m g of) x.watch
+    → x ≡ with_run (with_limit_of m g of) x.run
     → MakesForAny t m (set_max_steps g of) x → BySteps MakesForAny t (LowersAbove g limit) x n
     → BySteps MakesForAny t (SetsLimit g of) m n
 limited_to t g limit of m x n some is first last =
@@ -160,7 +160,7 @@ limited_to t g limit of m x n some is first last =
     limited_by t g of m x n is first (record { steps = last.steps; does = keeps; makes = last.makes })
 
 -- there is none
-pub limited_none : (t : KnownTable) (g : ℕ) (of : Option ℕ) (m x : KnownMachine) → of ≡ None → x ≡ with_watch (with_limit_of m g of) x.watch
+pub limited_none : (t : KnownTable) (g : ℕ) (of : Option ℕ) (m x : KnownMachine) → of ≡ None → x ≡ with_run (with_limit_of m g of) x.run
     → MakesForAny t m (set_max_steps g of) x → BySteps MakesForAny t (SetsLimit g of) m x
 limited_none t g of m x none is first =
     let keeps = subst (λ (o : Option ℕ). KeepsToLimit g o (transition t x [] x)) (sym none) (record { machine = refl; steps_are = refl }) in

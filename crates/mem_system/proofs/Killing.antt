@@ -17,7 +17,7 @@ use Rattle.cpu_part.specs.Cpus.{KnownCpu}
 use Rattle.step_rules.specs.State.{State}
 use Rattle.step_rules.specs.After.{Run}
 use Rattle.mem_machine.specs.declared.releasing.Released.TheVariants as released
-use Rattle.mem_machine.specs.Machines.{KnownMachine, with_watch}
+use Rattle.mem_machine.specs.Machines.{KnownMachine, with_run}
 use Rattle.mem_machine.specs.Local.{IsLocalRun, VisitState, local_of, visit_state}
 use Rattle.mem_machine.specs.Releasing.{release_steps}
 use Rattle.mem_machine.specs.Settling.{return_all_steps, all_fresh_steps, fresh_steps, is_fresh_killed, return_steps, settle_steps}
@@ -152,7 +152,7 @@ module _ (t : KnownTable) (MayAsk : List Group → ℕ → ℕ → Type 0) (s : 
       → MayAsk (with_limit s.ledger.groups g of) g 0 → IsLocalRun c.number (local_of t s c) steps z
       → SetsLimit g of (transition t s steps n) → RashFree t MayAsk s c [] steps
   sets_rash g of steps n z there asked whole h =
-      let x = with_watch (with_limit_of s g of) h.seen in
+      let x = with_run (with_limit_of s g of) h.seen in
       let first = set_max_steps g of in
       let all = subst (λ (k : Run). IsLocalRun c.number (local_of t s c) k z) h.steps_are whole in
       let set = passes_same t c s x first (all.0, refl) refl refl (record { no_kill = refl; no_miss = λ f. refl }) in

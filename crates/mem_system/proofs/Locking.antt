@@ -7,7 +7,7 @@ use Rattle.step_rules.specs.declared.step.Action.TheVariants.{Lock, Unlock}
 use Rattle.step_rules.specs.declared.step.Answer.TheVariants.{Done}
 use Rattle.step_watch.specs.Watched.{KnownWatch, Watches}
 use Rattle.step_watch.proofs.Watching.{watches_none, watches_both}
-use Rattle.mem_machine.specs.Machines.{KnownMachine, with_watch}
+use Rattle.mem_machine.specs.Machines.{KnownMachine, with_run}
 use Rattle.mem_machine.specs.Local.{VisitState, visit_state, Makes}
 use Rattle.mem_machine.specs.Steps.{cpu_makes}
 use Rattle.mem_system.specs.Commands.{Transition, BySteps}
@@ -16,9 +16,9 @@ use Rattle.mem_system.specs.Ends.{ForEachCpu, IsEmptied, LendsAndFillsNone, Visi
 
 -- a visit between the Lock and the Unlock that the watch takes
 pub locked_visit : (t : KnownTable) (Does : Transition VisitState → Type 0) (m m1 n1 n : KnownMachine) (c d : KnownCpu) (p : ℕ) → p ≡ c.number
-    → m1 ≡ with_watch m m1.watch → Watches m.watch (cpu_makes p Lock Done ∷ []) m1.watch
+    → m1 ≡ with_run m m1.watch → Watches m.watch (cpu_makes p Lock Done ∷ []) m1.watch
     → BySteps Makes t Does (visit_state m1 c) (visit_state n1 d)
-    → n ≡ with_watch n1 n.watch → Watches n1.watch (cpu_makes p Unlock Done ∷ []) n.watch
+    → n ≡ with_run n1 n.watch → Watches n1.watch (cpu_makes p Unlock Done ∷ []) n.watch
     → VisitsUnderLock t Does (visit_state m c) (visit_state n d)
 locked_visit t Does m m1 n1 n c d p named found lock visit left unlock = record {
   found = m1.watch;
@@ -30,17 +30,17 @@ locked_visit t Does m m1 n1 n c d p named found lock visit left unlock = record 
 }
 
 -- the watch alone changed
-pub shut_seen : (m n : KnownMachine) (w : KnownWatch) → n ≡ with_watch m w → AllShut m → AllShut n
+pub shut_seen : (m n : KnownMachine) (w : KnownWatch) → n ≡ with_run m w → AllShut m → AllShut n
 shut_seen m n w is shut = subst AllShut (sym is) shut
 
-pub emptied_seen : (t : KnownTable) (s : KnownStockTable) (m n : KnownMachine) (w : KnownWatch) (c : KnownCpu) → n ≡ with_watch m w → IsEmptied t s m c
+pub emptied_seen : (t : KnownTable) (s : KnownStockTable) (m n : KnownMachine) (w : KnownWatch) (c : KnownCpu) → n ≡ with_run m w → IsEmptied t s m c
     → IsEmptied t s n c
 emptied_seen t s m n w c is emptied = subst (λ (k : KnownMachine). IsEmptied t s k c) (sym is)
     (record { tied = emptied.tied; idle = emptied.idle; none_lent = emptied.none_lent; drained = emptied.drained })
 
-pub alone_seen : (m m1 n1 n : KnownMachine) (v w : KnownWatch) → m1 ≡ with_watch m v → n ≡ with_watch n1 w → LendsAndFillsNone m1 n1 → LendsAndFillsNone m n
+pub alone_seen : (m m1 n1 n : KnownMachine) (v w : KnownWatch) → m1 ≡ with_run m v → n ≡ with_run n1 w → LendsAndFillsNone m1 n1 → LendsAndFillsNone m n
 alone_seen m m1 n1 n v w first last alone =
-    let here : LendsAndFillsNone (with_watch m v) n1 = subst (λ (k : KnownMachine). LendsAndFillsNone k n1) first alone in
+    let here : LendsAndFillsNone (with_run m v) n1 = subst (λ (k : KnownMachine). LendsAndFillsNone k n1) first alone in
     subst (λ (k : KnownMachine). LendsAndFillsNone m k) (sym last) (record { none_lent = here.none_lent; drained = here.drained })
 
 -- ---- the steps that the watch takes

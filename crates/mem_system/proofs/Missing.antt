@@ -10,7 +10,7 @@ use Rattle.control_files.specs.declared.file.File.{File}
 use Rattle.control_files.specs.declared.file.File.TheVariants.{Max, OomGroup, Reclaim}
 use Rattle.zone_blocks.specs.declared.config.Config.{Config}
 use Rattle.mem_machine.specs.declared.releasing.Released.TheVariants as released
-use Rattle.mem_machine.specs.Machines.{KnownMachine, with_watch}
+use Rattle.mem_machine.specs.Machines.{KnownMachine, with_run}
 use Rattle.mem_machine.specs.Local.{VisitState, visit_state}
 use Rattle.mem_machine.specs.Releasing.{release_steps}
 use Rattle.mem_machine.specs.Steps.{drain_list_steps, drain_stocks_steps, lend_steps, make_steps, remove_steps, set_max_steps, set_oom_group_steps}
@@ -77,7 +77,7 @@ keeps_counts g (Some limit) call h = above_counts g limit call h
 sets_counts : (g : ℕ) (of : Option ℕ) (call : Transition KnownMachine) → SetsLimit g of call → CountsMisses call
 sets_counts g of call h =
     let t = call.table in
-    let x = with_watch (with_limit_of call.before g of) h.seen in
+    let x = with_run (with_limit_of call.before g of) h.seen in
     counts_as t call.before call.after call.steps (set_max_steps g of ++ h.lowering) h.steps_are
     (counts_both t call.before x call.after (set_max_steps g of) h.lowering
     (counts_same t call.before x (set_max_steps g of) (record { no_kill = refl; no_miss = λ f. refl }) refl)

@@ -11,7 +11,7 @@ use Rattle.cpu_part.specs.Cpus.{KnownCpu}
 use Rattle.mem_machine.specs.declared.frame_state.FrameState.{FrameState}
 use Rattle.mem_machine.specs.declared.frame_state.FrameState.TheVariants.{Free, Lent}
 use Rattle.mem_machine.specs.FrameStates.{frame_state_at}
-use Rattle.mem_machine.specs.Machines.{KnownMachine, with_watch}
+use Rattle.mem_machine.specs.Machines.{KnownMachine, with_run}
 use Rattle.mem_machine.specs.Lending.{UnlistsMany}
 use Rattle.mem_machine.specs.Stocks.{Drains, stock_group}
 use Rattle.mem_machine.specs.Local.{visit_state, MakesAs, Makes}
@@ -27,15 +27,15 @@ use Rattle.mem_machine.proofs.Followed.{makes_both}
 
 -- the whole visit in which a CPU is settled, from its three parts
 pub rested : (t : KnownTable) (m n : KnownMachine) (c d : KnownCpu) (entered x : KnownMachine) (c1 c2 : KnownCpu)
-    → entered ≡ with_watch (with_visit_of m c.number 1) entered.watch → c1 ≡ c → c2.number ≡ c1.number
-    → n ≡ with_watch (with_visit_of x c2.number 0) n.watch → d ≡ c2
+    → entered ≡ with_run (with_visit_of m c.number 1) entered.run → c1 ≡ c → c2.number ≡ c1.number
+    → n ≡ with_run (with_visit_of x c2.number 0) n.run → d ≡ c2
     → MakesAs t c.number (visit_state m c) (open_steps c.number) (visit_state entered c1)
     → Settles (visit_state entered c1) (visit_state x c2) → MakesAs t c1.number (visit_state entered c1) (settle_steps (visit_state entered c1)) (visit_state x c2)
     → MakesAs t c2.number (visit_state x c2) (shut_steps c2.number) (visit_state n d)
     → BySteps Makes t SettlesInVisit (visit_state m c) (visit_state n d)
 rested t m n c d entered x c1 c2 opened same second shut after first settles rests last =
     let p = c.number in
-    let begins = with_watch (with_visit_of m p 1) entered.watch in
+    let begins = with_run (with_visit_of m p 1) entered.run in
     let two : c2.number ≡ p = second ∙ ap (λ (y : KnownCpu). y.number) same in
     let before : KnownMachine × KnownCpu → Type 0 = λ (y : KnownMachine × KnownCpu). MakesAs t p (visit_state m c) (open_steps p) (visit_state y.0 y.1) in
     let begun : MakesAs t p (visit_state m c) (open_steps p) (visit_state begins c) = subst before (λ i. (opened i, same i)) first in
@@ -46,9 +46,9 @@ rested t m n c d entered x c1 c2 opened same second shut after first settles res
       steps = open_steps p ++ (settle_steps (visit_state begins c) ++ shut_steps p);
       does = record {
         settled = x;
-        seen = entered.watch;
+        seen = entered.run;
         settles = subst (λ (y : KnownCpu). Settles (visit_state begins c) (visit_state x y)) (sym after) settled;
-        machine = shut ∙ ap (λ (q : ℕ). with_watch (with_visit_of x q 0) n.watch) two;
+        machine = shut ∙ ap (λ (q : ℕ). with_run (with_visit_of x q 0) n.run) two;
         steps_are = refl;
       };
       makes = makes_both t p (open_steps p) (settle_steps (visit_state begins c) ++ shut_steps p) (visit_state m c) (visit_state begins c) (visit_state n d) begun
@@ -106,8 +106,8 @@ taken_alone (f ∷ rest) m c n d t =
 
 -- the visit leaves alone whom a frame is lent to, and which stocks are drained
 pub emptied_alone : (m entered x y n : KnownMachine) (c1 c2 : KnownCpu) (frames : List ℕ) (p q k : ℕ)
-    → entered ≡ with_watch (with_visit_of m p 1) entered.watch
-    → UnlistsMany frames (visit_state entered c1) (visit_state x c2) → Drains q k x y → n ≡ with_watch (with_visit_of y p 0) n.watch → LendsAndFillsNone m n
+    → entered ≡ with_run (with_visit_of m p 1) entered.run
+    → UnlistsMany frames (visit_state entered c1) (visit_state x c2) → Drains q k x y → n ≡ with_run (with_visit_of y p 0) n.run → LendsAndFillsNone m n
 emptied_alone m entered x y n c1 c2 frames p q k opened takes drains shut =
     let taken = taken_alone frames entered c1 x c2 takes in
     let frame_states : n.frame_states ≡ x.frame_states = ap (λ (z : KnownMachine). z.frame_states) shut ∙ ap (λ (z : KnownMachine). z.frame_states) drains.machine in
@@ -125,15 +125,15 @@ emptied_alone m entered x y n c1 c2 frames p q k opened takes drains shut =
     }
 
 -- and the CPU's own stock is drained
-pub emptied_drained : (x y n : KnownMachine) (p q k : ℕ) → Drains q k x y → n ≡ with_watch (with_visit_of y p 0) n.watch → (account_of n.stock_seat.view q).filled ≡ false
+pub emptied_drained : (x y n : KnownMachine) (p q k : ℕ) → Drains q k x y → n ≡ with_run (with_visit_of y p 0) n.run → (account_of n.stock_seat.view q).filled ≡ false
 emptied_drained x y n p q k drains shut =
-    ap (λ (z : KnownMachine). (account_of z.stock_seat.view q).filled) (shut ∙ ap (λ (z : KnownMachine). with_watch (with_visit_of z p 0) n.watch) drains.machine)
+    ap (λ (z : KnownMachine). (account_of z.stock_seat.view q).filled) (shut ∙ ap (λ (z : KnownMachine). with_run (with_visit_of z p 0) n.run) drains.machine)
     ∙ ap (λ (a : StockAccount). a.filled) (drained_at x.stock_seat.view q k)
 
 -- the whole visit, from its four parts
 pub emptied : (t : KnownTable) (m n : KnownMachine) (c d : KnownCpu) (entered x y : KnownMachine) (c1 c2 : KnownCpu) (k q pages : ℕ)
-    → entered ≡ with_watch (with_visit_of m c.number 1) entered.watch → c1 ≡ c → c2.number ≡ c1.number → q ≡ c2.number
-    → n ≡ with_watch (with_visit_of y c2.number 0) n.watch → d ≡ c2
+    → entered ≡ with_run (with_visit_of m c.number 1) entered.run → c1 ≡ c → c2.number ≡ c1.number → q ≡ c2.number
+    → n ≡ with_run (with_visit_of y c2.number 0) n.run → d ≡ c2
     → take k c1.list ≡ c1.list → MakesAs t c.number (visit_state m c) (open_steps c.number) (visit_state entered c1)
     → UnlistsMany (take k c1.list) (visit_state entered c1) (visit_state x c2)
     → MakesAs t c1.number (visit_state entered c1) (drain_list_steps c1.number (take k c1.list)) (visit_state x c2)
@@ -143,7 +143,7 @@ pub emptied : (t : KnownTable) (m n : KnownMachine) (c d : KnownCpu) (entered x 
     → BySteps Makes t Empties (visit_state m c) (visit_state n d)
 emptied t m n c d entered x y c1 c2 k q pages opened same second named shut after whole first takes gives drains drips last =
     let p = c.number in
-    let begins = with_watch (with_visit_of m p 1) entered.watch in
+    let begins = with_run (with_visit_of m p 1) entered.run in
     let two : c2.number ≡ p = second ∙ ap (λ (z : KnownCpu). z.number) same in
     let its : q ≡ p = named ∙ two in
     let list : take k c1.list ≡ c.list = whole ∙ ap (λ (z : KnownCpu). z.list) same in
@@ -160,12 +160,12 @@ emptied t m n c d entered x y c1 c2 k q pages opened same second named shut afte
       steps = open_steps p ++ (drain_list_steps p c.list ++ (drain_steps p (stock_group x p) pages ++ shut_steps p));
       does = record {
         emptied = x;
-        seen = entered.watch;
+        seen = entered.run;
         takes = subst (λ (z : KnownCpu). UnlistsMany c.list (visit_state begins c) (visit_state x z)) (sym after) taken;
         pages = pages;
         drained = y;
         drains = subst (λ (r : ℕ). Drains r pages x y) its drains;
-        machine = shut ∙ ap (λ (r : ℕ). with_watch (with_visit_of y r 0) n.watch) two;
+        machine = shut ∙ ap (λ (r : ℕ). with_run (with_visit_of y r 0) n.run) two;
         steps_are = refl;
       };
       makes = makes_both t p (open_steps p) (drain_list_steps p c.list ++ (drain_steps p (stock_group x p) pages ++ shut_steps p)) (visit_state m c) (visit_state begins c)

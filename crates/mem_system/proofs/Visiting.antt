@@ -6,7 +6,7 @@ use Rattle.frame_word.specs.Views.{put_at}
 use Rattle.frame_word.specs.Seats.{KnownTable}
 use Rattle.frame_word.proofs.Notes.{put_here, put_else}
 use Rattle.cpu_part.specs.Cpus.{KnownCpu}
-use Rattle.mem_machine.specs.Machines.{KnownMachine, is_killed, with_watch, without_notes}
+use Rattle.mem_machine.specs.Machines.{KnownMachine, is_killed, with_run, without_notes}
 use Rattle.mem_machine.specs.Local.{local_of, group_of_fresh, visit_state, MakesAs, Makes}
 use Rattle.mem_machine.specs.Settling.{SettlesFresh, SettlesAllFresh, ReturnsAllBack, Settles, settle_steps}
 use Rattle.mem_machine.specs.Steps.{open_steps, shut_steps}
@@ -19,7 +19,7 @@ use Rattle.mem_system.specs.Commands.{BySteps, Executes, transition}
 use Rattle.mem_system.specs.Visits.{with_visit_of, locked_state, IsServed}
 use Rattle.mem_machine.proofs.Followed.{makes_both}
 
-pub all_shut : (m x n : KnownMachine) (p : ℕ) → AllShut m → x.frame_seat.view.opened ≡ put_at 0 m.frame_seat.view.opened p 1 → n ≡ with_watch (with_visit_of x p 0) n.watch → AllShut n
+pub all_shut : (m x n : KnownMachine) (p : ℕ) → AllShut m → x.frame_seat.view.opened ≡ put_at 0 m.frame_seat.view.opened p 1 → n ≡ with_run (with_visit_of x p 0) n.run → AllShut n
 all_shut m x n p shut opened is q =
     let now = ap (λ (k : KnownMachine). get_or k.frame_seat.view.opened q 0) is in
     elim (eqb_tells q p) [
@@ -48,17 +48,17 @@ settled_opened m n c d s = returned_all c.back s.mid.machine n s.mid.cpu d s.bac
 
 -- the visits after the whole command: the caller's was opened and shut, the others stayed shut
 pub command_shuts : (m entered mid x n : KnownMachine) (c c1 c2 c3 : KnownCpu) → AllShut m
-    → entered ≡ with_watch (with_visit_of (without_notes m) c.number 1) entered.watch → c1 ≡ c → c2.number ≡ c1.number → c3.number ≡ c2.number
+    → entered ≡ with_run (with_visit_of (without_notes m) c.number 1) entered.run → c1 ≡ c → c2.number ≡ c1.number → c3.number ≡ c2.number
     → Settles (visit_state entered c1) (visit_state mid c2) → x.frame_seat.view.opened ≡ mid.frame_seat.view.opened
-    → n ≡ with_watch (with_visit_of x c3.number 0) n.watch → AllShut n
+    → n ≡ with_run (with_visit_of x c3.number 0) n.run → AllShut n
 command_shuts m entered mid x n c c1 c2 c3 shut opened same second third settles stays after =
     all_shut m x n c.number shut (stays ∙ settled_opened entered mid c1 c2 settles ∙ ap (λ (k : KnownMachine). k.frame_seat.view.opened) opened)
-    (after ∙ ap (λ (q : ℕ). with_watch (with_visit_of x q 0) n.watch) (third ∙ second ∙ ap (λ (y : KnownCpu). y.number) same))
+    (after ∙ ap (λ (q : ℕ). with_run (with_visit_of x q 0) n.run) (third ∙ second ∙ ap (λ (y : KnownCpu). y.number) same))
 
 -- the whole command, from its four parts
 pub served : (t : KnownTable) (cmd : Cmd) (l k : KnownLocked) (c d : KnownCpu) (reply : Reply) (entered mid x : KnownMachine) (c1 c2 c3 : KnownCpu)
-    → entered ≡ with_watch (with_visit_of (without_notes l.machine) c.number 1) entered.watch → c1 ≡ c → c2.number ≡ c1.number → c3.number ≡ c2.number
-    → k.machine ≡ with_watch (with_visit_of x c3.number 0) k.machine.watch → d ≡ c3 → k.sizes ≡ l.sizes
+    → entered ≡ with_run (with_visit_of (without_notes l.machine) c.number 1) entered.run → c1 ≡ c → c2.number ≡ c1.number → c3.number ≡ c2.number
+    → k.machine ≡ with_run (with_visit_of x c3.number 0) k.machine.run → d ≡ c3 → k.sizes ≡ l.sizes
     → MakesAs t c.number (visit_state (without_notes l.machine) c) (open_steps c.number) (visit_state entered c1)
     → Settles (visit_state entered c1) (visit_state mid c2) → MakesAs t c1.number (visit_state entered c1) (settle_steps (visit_state entered c1)) (visit_state mid c2)
     → BySteps Makes t (Executes l.sizes cmd reply) (visit_state mid c2) (visit_state x c3)
@@ -66,12 +66,12 @@ pub served : (t : KnownTable) (cmd : Cmd) (l k : KnownLocked) (c d : KnownCpu) (
     → IsServed t cmd reply (locked_state l c) (locked_state k d)
 served t cmd l k c d reply entered mid x c1 c2 c3 opened same second third shut after sizes first settles rests executed last =
     let p = c.number in
-    let begins = with_watch (with_visit_of (without_notes l.machine) p 1) entered.watch in
+    let begins = with_run (with_visit_of (without_notes l.machine) p 1) entered.run in
     let two : c2.number ≡ p = second ∙ ap (λ (y : KnownCpu). y.number) same in
     let three : c3.number ≡ p = third ∙ two in
     let before : KnownMachine × KnownCpu → Type 0 = λ (y : KnownMachine × KnownCpu). MakesAs t p (visit_state l.machine c) (open_steps p) (visit_state y.0 y.1) in
     let begun : MakesAs t p (visit_state l.machine c) (open_steps p) (visit_state begins c) =
-    subst before (λ i. (opened i, same i)) (record { leads = first.leads; follows = first.follows; counts = first.counts; watched = first.watched }) in
+    subst before (λ i. (opened i, same i)) (record { leads = first.leads; follows = first.follows; counts = first.counts; noted = first.noted }) in
     let settled : Settles (visit_state begins c) (visit_state mid c2) = subst (λ (y : KnownMachine × KnownCpu). Settles (visit_state y.0 y.1) (visit_state mid c2)) (λ i. (opened i, same i)) settles in
     let rested : MakesAs t p (visit_state begins c) (settle_steps (visit_state begins c)) (visit_state mid c2) =
     subst (λ (y : KnownMachine × KnownCpu). MakesAs t y.1.number (visit_state y.0 y.1) (settle_steps (visit_state y.0 y.1)) (visit_state mid c2)) (λ i. (opened i, same i)) rests in
@@ -80,7 +80,7 @@ served t cmd l k c d reply entered mid x c1 c2 c3 opened same second third shut 
       steps = open_steps p ++ (settle_steps (visit_state begins c) ++ (executed.steps ++ shut_steps p));
       serves = record {
         settled = visit_state mid c2;
-        seen = entered.watch;
+        seen = entered.run;
         settles = settled;
         inner = executed.steps;
         done = x;
@@ -88,7 +88,7 @@ served t cmd l k c d reply entered mid x c1 c2 c3 opened same second third shut 
         no_rash = obeys_no_rash t l.sizes cmd reply mid c2 executed.steps (visit_state x c3) (local_of t x c3) executed.does executed.makes.leads;
         only_inner = around_quiet p (visit_state begins c);
         misses = obeys_counts l.sizes cmd reply (transition t (visit_state mid c2) executed.steps (visit_state x c3)) executed.does;
-        machine = shut ∙ ap (λ (q : ℕ). with_watch (with_visit_of x q 0) k.machine.watch) three;
+        machine = shut ∙ ap (λ (q : ℕ). with_run (with_visit_of x q 0) k.machine.run) three;
         sizes = sizes;
         steps_are = refl;
       };

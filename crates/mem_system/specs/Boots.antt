@@ -1,19 +1,22 @@
 -- What contracts see of a boot, of a system, and of the first parts of its CPUs.
-use Rattle.std.specs.Prelude.{◌≡◌, ℕ, zero, suc, ◌+◌, List, [], ◌∷◌}
-use Rattle.frame_word.specs.Seats.{KnownTable, KnownSeat, first_zone_view, first_cpu_view, first_cpu_seats}
-use Rattle.stock_word.specs.Stock.{KnownStockTable, KnownStockSeat, first_zone_stock_view, first_cpu_stock_view}
-use Rattle.stock_word.specs.Stock.{first_seats}
+use Rattle.std.specs.Prelude.{◌≡◌, ℕ, zero, suc, ◌+◌, ◌≤◌, List, [], ◌∷◌}
+use Rattle.frame_word.specs.Seats.{KnownTable, first_cpu_view}
+use Rattle.stock_word.specs.Stock.{KnownStockTable, first_cpu_stock_view}
+use Rattle.boot_words.specs.declared.seat.OwnSeats.{OwnSeats}
+use Rattle.boot_words.specs.Seating.{no_past}
+use Rattle.boot_words.specs.Opening.{opening_seats, seats_of, zone_seats}
 use Rattle.cpu_part.specs.Cpus.{KnownCpu, first_cpu}
 use Rattle.zone_blocks.specs.declared.config.Config.{Config}
 use Rattle.zone_blocks.specs.Config.{IsValidConfig}
 
--- a boot: its sizes and its two tables
+-- a boot: its sizes and its table, as the seats at its frames and at its stocks know it
 pub record KnownBoot : Type 0 where
   pub sizes : Config
   pub frames : KnownTable
   pub stocks : KnownStockTable
 
--- What CPUs share of a system: the two tables of its boot. No clause sees what lies behind its lock.
+-- What CPUs share of a system: the table of its boot, as the seats at its frames and at its stocks know it. No clause
+-- sees what lies behind its lock.
 pub record KnownSystem : Type 0 where
   pub frames : KnownTable
   pub stocks : KnownStockTable
@@ -24,16 +27,19 @@ pub record IsSizedAs (sizes : Config) (table : KnownTable) (stock_table : KnownS
   pub cpus : table.cpus ≡ sizes.cpus
   pub stock_cpus : stock_table.cpus ≡ sizes.cpus
 
--- The sizes are in their ranges, and the tables have them. The seats of the zone and of the CPUs are all the seats of
--- these tables, and none has made a step.
-pub record IsBooted (boot : KnownBoot) (frame_seat : KnownSeat) (stock_seat : KnownStockSeat)
-    (frame_seats : List KnownSeat) (stock_seats : List KnownStockSeat) : Type 0 where
+-- The sizes are in their ranges, and the table has them. The seats of the zone and of the CPUs are all the seats of the
+-- table, and none has made a step.
+pub record IsBooted (boot : KnownBoot) (zone : OwnSeats) (cpus : List OwnSeats) : Type 0 where
   pub valid : IsValidConfig boot.sizes
   pub sized : IsSizedAs boot.sizes boot.frames boot.stocks
-  pub frame_seat_is : frame_seat ≡ record { table = boot.frames.table; view = first_zone_view boot.frames.frames }
-  pub stock_seat_is : stock_seat ≡ record { table = boot.stocks.table; view = first_zone_stock_view }
-  pub frame_seats_are : frame_seats ≡ first_cpu_seats boot.frames.table 1 boot.sizes.cpus
-  pub stock_seats_are : stock_seats ≡ first_seats boot.stocks.table 1 boot.sizes.cpus
+  pub zone_is : zone ≡ zone_seats boot.frames.table boot.frames.frames
+  pub cpus_are : cpus ≡ opening_seats boot.frames.table 1 boot.sizes.cpus
+
+-- the seats are those of this CPU of the table, and none has made a step
+pub record AreFirstSeats (table : KnownTable) (cpu : ℕ) (seats : OwnSeats) : Type 0 where
+  pub low : 1 ≤ cpu
+  pub high : cpu ≤ table.cpus
+  pub are : seats ≡ seats_of table.table (no_past cpu) (first_cpu_view cpu) (first_cpu_stock_view cpu)
 
 -- the part of this CPU, which has done nothing yet
 abbrev pub part_at_first : KnownTable → KnownStockTable → (cpu : ℕ) → KnownCpu

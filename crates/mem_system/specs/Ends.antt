@@ -12,8 +12,11 @@ use Rattle.stock_word.specs.declared.view.Stock.{Stock}
 use Rattle.stock_word.specs.Stock.{KnownStockTable, KnownStockSeat, account_of, view_in, word_of, stock_pages_of}
 use Rattle.stock_word.specs.StockRule.{IsStockOf, stock_index, report_index}
 use Rattle.group_tree.specs.Room.{max_count}
+use Rattle.boot_words.specs.Seats.{zone_of_boot}
+use Rattle.boot_words.specs.Words.{IsRunOf}
 use Rattle.cpu_part.specs.Cpus.{KnownCpu, IsTied, IsIdle}
-use Rattle.mem_machine.specs.Machines.{KnownMachine, IsConsistent, home_of, with_watch}
+use Rattle.mem_machine.specs.Machines.{KnownMachine, IsConsistent, home_of, with_run}
+use Rattle.mem_machine.specs.Noted.{KnownRun}
 use Rattle.mem_machine.specs.Settling.{Settles}
 use Rattle.mem_machine.specs.Lending.{UnlistsMany}
 use Rattle.mem_machine.specs.Stocks.{Drains, stock_group}
@@ -23,8 +26,8 @@ use Rattle.mem_system.specs.declared.audit.Audit.{Audit}
 use Rattle.mem_system.specs.Locked.{KnownLocked, IsQuiet}
 use Rattle.mem_machine.specs.Local.{VisitState, visit_state, Makes}
 use Rattle.mem_system.specs.Commands.{Transition, BySteps}
-use Rattle.mem_system.specs.Visits.{with_visit_of, with_watch_at, visited, visit_steps}
-use Rattle.step_watch.specs.Watched.{KnownWatch, Watches}
+use Rattle.mem_system.specs.Visits.{with_visit_of, with_run_at, visited, visit_steps}
+use Rattle.step_watch.specs.Watched.{Watches}
 
 -- how many pins the CPUs have together
 abbrev pub pins_of_all : List KnownCpu → ℕ
@@ -37,37 +40,38 @@ drops_of cpus = sum_by (λ cpu. cpu.drops) cpus
 -- the CPU is settled in a visit
 pub record SettlesInVisit (call : Transition VisitState) : Type 0 where
   pub settled : KnownMachine
-  pub seen : KnownWatch
-  pub settles : Settles (with_watch_at (visited call.before) seen) (visit_state settled call.after.cpu)
+  pub seen : KnownRun
+  pub settles : Settles (with_run_at (visited call.before) seen) (visit_state settled call.after.cpu)
   pub machine : call.after.machine
-      ≡ with_watch (with_visit_of settled call.before.cpu.number 0) call.after.machine.watch
+      ≡ with_run (with_visit_of settled call.before.cpu.number 0) call.after.machine.run
   pub steps_are : call.steps ≡ visit_steps call.before []
 
 -- in a visit, all frames of the CPU's list are returned to the zone, and then its stock is drained
 pub record Empties (call : Transition VisitState) : Type 0 where
   pub emptied : KnownMachine
-  pub seen : KnownWatch
-  pub takes : UnlistsMany call.before.cpu.list (with_watch_at (visited call.before) seen)
+  pub seen : KnownRun
+  pub takes : UnlistsMany call.before.cpu.list (with_run_at (visited call.before) seen)
       (visit_state emptied call.after.cpu)
   pub pages : ℕ
   pub drained : KnownMachine
   pub drains : Drains call.before.cpu.number pages emptied drained
   pub machine : call.after.machine
-      ≡ with_watch (with_visit_of drained call.before.cpu.number 0) call.after.machine.watch
+      ≡ with_run (with_visit_of drained call.before.cpu.number 0) call.after.machine.run
   pub steps_are : call.steps ≡ open_steps call.before.cpu.number
       ++ (drain_list_steps call.before.cpu.number call.before.cpu.list
       ++ (drain_steps call.before.cpu.number (stock_group emptied call.before.cpu.number) pages
       ++ shut_steps call.before.cpu.number))
 
--- A visit that does this is made under the lock: the machine's watch takes the Lock before it and the Unlock after it.
+-- A visit that does this is made under the lock. The CPU takes the lock before it and releases it after it, and the
+-- machine's watch takes both steps.
 pub record VisitsUnderLock (table : KnownTable) (Does : Transition VisitState → Type 0) (before after : VisitState)
     : Type 0 where
-  pub found : KnownWatch
+  pub found : KnownRun
   pub left : KnownMachine
-  pub lock : Watches before.machine.watch (cpu_makes before.cpu.number Lock Done ∷ []) found
-  pub visit : BySteps Makes table Does (with_watch_at before found) (visit_state left after.cpu)
-  pub unlock : Watches left.watch (cpu_makes before.cpu.number Unlock Done ∷ []) after.machine.watch
-  pub machine : after.machine ≡ with_watch left after.machine.watch
+  pub lock : Watches before.machine.run.watch (cpu_makes before.cpu.number Lock Done ∷ []) found.watch
+  pub visit : BySteps Makes table Does (with_run_at before found) (visit_state left after.cpu)
+  pub unlock : Watches left.run.watch (cpu_makes before.cpu.number Unlock Done ∷ []) after.machine.run.watch
+  pub machine : after.machine ≡ with_run left after.machine.run
 
 -- `Visit` leads the machine and the first of several CPUs to a machine between, of which `Rest` holds
 pub record VisitsFirst (Visit : VisitState → VisitState → Type 0) (before : KnownMachine) (cpu cpu_left : KnownCpu)
@@ -156,9 +160,9 @@ abbrev pub StockWordsAgreeAt : (stock_words : List ℕ) → KnownMachine → (se
 StockWordsAgreeAt stock_words machine seats place =
     IsStockOf stock_words (view_in seats place).number machine.stock_seat.view (view_in seats place)
 
--- Both tables are closed with these seats and the machine's. The machine was consistent, and the frames' words keep the
--- reference rule. Each CPU has a seat at the stocks' table, and the stock words are what that seat and the machine's
--- know.
+-- The table is closed with these seats and the machine's. The machine was consistent, and the frames' words keep the
+-- reference rule. Each CPU has a seat at the stocks, and the stock words are what that seat and the machine's know. There
+-- is one legal run whose last state has just these words.
 pub record IsClosed (table : KnownTable) (stock_table : KnownStockTable) (machine : KnownMachine)
     (frame_seats : List KnownSeat) (stock_seats : List KnownStockSeat) : Type 0 where
   pub consistent : IsConsistent table stock_table machine
@@ -168,6 +172,8 @@ pub record IsClosed (table : KnownTable) (stock_table : KnownStockTable) (machin
   pub stock_words : List ℕ
   pub each : (cpu : ℕ) → 0 < cpu → cpu ≤ stock_table.cpus → HasSeatOf stock_seats cpu
   pub stocks : (place : ℕ) → place < length stock_seats → StockWordsAgreeAt stock_words machine stock_seats place
+  pub run : Run
+  pub is : IsRunOf (zone_of_boot table) (record { frames = frame_words; stocks = stock_words }) run
 
 -- The words of the frames' table at the end. They keep the reference rule with the views of all seats. A frame's word
 -- is 1, the zone's reference, if the frame heads a kept unit, else 0.
@@ -209,11 +215,12 @@ pub record MakesLastVisits (table : KnownTable) (stock_table : KnownStockTable) 
   pub steps_are : steps
       ≡ steps_of_visits table SettlesInVisit locked.machine cpus settled settled_cpus settles
       ++ steps_of_visits table Empties settled settled_cpus emptied.machine emptied.cpus empties
-  pub watched : Watches locked.machine.watch steps emptied.machine.watch
+  pub watched : Watches locked.machine.run.watch steps emptied.machine.run.watch
   pub drops : emptied.drops ≡ min (drops_of cpus) max_count
 
--- The tables of a boot are closed after its last visits. No frame is lent to anyone, and no stock has a page. The
--- closed words are what the seats know. The audit counts what the machine and the CPUs counted, and it adds up.
+-- The table of a boot is closed after its last visits. No frame is lent to anyone, and no stock has a page. The closed
+-- words are what the seats know, and there is one legal run whose last state has just these words. The audit counts what
+-- the machine and the CPUs counted, and it adds up.
 pub record Closes (table : KnownTable) (stock_table : KnownStockTable) (emptied : KnownEmptiedBoot)
     (audit : Audit) : Type 0 where
   pub all_emptied : All (λ cpu. IsEmptied table stock_table emptied.machine cpu) emptied.cpus
@@ -225,6 +232,8 @@ pub record Closes (table : KnownTable) (stock_table : KnownStockTable) (emptied 
       → HasNoPage emptied.machine stock_words cpu
   pub frame_words : List ℕ
   pub last_words : AreLastWords table emptied.machine emptied.cpus frame_words
+  pub run : Run
+  pub is : IsRunOf (zone_of_boot table) (record { frames = frame_words; stocks = stock_words }) run
   pub counted : IsAuditOf table emptied.machine emptied.drops audit
   pub adds_up : AddsUp audit
 

@@ -14,9 +14,10 @@ use Rattle.control_files.specs.Files.{name_of_file, file_text, is_writable}
 use Rattle.control_files.specs.Flag.{IsFlagText, IsNoFlagText}
 use Rattle.control_files.specs.Limit.{ReadsAmount, ReadsAs, IsTooGreat, IsNoAmountText, IsNoLimitText}
 use Rattle.step_rules.specs.After.{Run}
-use Rattle.mem_machine.specs.Machines.{KnownMachine, with_watch}
+use Rattle.mem_machine.specs.Machines.{KnownMachine, with_run}
 use Rattle.mem_machine.specs.Local.{KeepsVisit, Visits}
 use Rattle.mem_machine.specs.Local.{visit_state}
+use Rattle.mem_machine.specs.Noted.{KnownRun}
 use Rattle.mem_machine.specs.Steps.{set_max_steps, set_oom_group_steps}
 use Rattle.mem_reclaim.specs.Moves.{FreesBySteps}
 use Rattle.mem_reclaim.specs.Rounds.{ReclaimsAmount}
@@ -25,7 +26,6 @@ use Rattle.mem_machine.specs.Transitions.{Transition, MachineStays, transition}
 use Rattle.mem_system.specs.declared.command.Reply.{Reply}
 use Rattle.mem_system.specs.declared.command.Reply.TheVariants.{Text, Done, Refused}
 use Rattle.mem_system.specs.Usage.{KeepsToLimit}
-use Rattle.step_watch.specs.Watched.{KnownWatch}
 
 -- the visit of each CPU that was visited before is kept
 abbrev pub KeepsAnyVisit : KnownTable → (before after : KnownMachine) → Type 0
@@ -72,9 +72,9 @@ with_limit_of machine group limit = record machine { ledger = with_group_limit m
 -- the group gets the limit, and then its usage is kept to it
 pub record SetsLimit (group : ℕ) (limit : Option ℕ) (call : Transition KnownMachine) : Type 0 where
   pub lowering : Run
-  pub seen : KnownWatch
+  pub seen : KnownRun
   pub keeps : KeepsToLimit group limit
-      (transition call.table (with_watch (with_limit_of call.before group limit) seen) lowering call.after)
+      (transition call.table (with_run (with_limit_of call.before group limit) seen) lowering call.after)
   pub steps_are : call.steps ≡ set_max_steps group limit ++ lowering
 
 -- the value is the text of a limit, and the group gets that limit
@@ -89,7 +89,7 @@ with_flag_of machine group flag = record machine { ledger = with_oom_flag machin
 
 -- the group gets the flag, by one step, and nothing else changes: nobody is killed, and nothing is noted
 pub record SetsFlag (group : ℕ) (flag : Bool) (call : Transition KnownMachine) : Type 0 where
-  pub machine : call.after ≡ with_watch (with_flag_of call.before group flag) call.after.watch
+  pub machine : call.after ≡ with_run (with_flag_of call.before group flag) call.after.run
   pub steps_are : call.steps ≡ set_oom_group_steps group flag
 
 -- the value is the text of a flag, and the group gets that flag

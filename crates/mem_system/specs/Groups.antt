@@ -33,7 +33,7 @@ pub record RemovesGroup (path : List ℕ) (call : Transition KnownMachine) : Typ
   pub lowers : LowersUsage group 0 (transition call.table call.before lowering emptied)
   pub empty : current_of emptied.ledger group ≡ 0
   pub machine : call.after
-      ≡ record emptied { ledger = with_group_removed emptied.ledger group; watch = call.after.watch }
+      ≡ record emptied { ledger = with_group_removed emptied.ledger group; run = call.after.run }
   pub steps_are : call.steps ≡ lowering ++ remove_steps group
 
 -- the usage of the group is lowered as far as possible, and pages are still charged to it

@@ -15,7 +15,4 @@ locked_of fields = record { machine = fields.machine; sizes = fields.sizes }
 pub record IsSoundInside {N : Type 0} (table : KnownTable) (stock_table : KnownStockTable) (fields : Inside N)
     : Type 0 where
   pub quiet : IsQuiet table stock_table (locked_of fields)
-  pub frame_seats :
-      IsEmptyWithRoom fields.sizes.cpus (length fields.frame_seats.items) (vec_capacity fields.frame_seats)
-  pub stock_seats :
-      IsEmptyWithRoom fields.sizes.cpus (length fields.stock_seats.items) (vec_capacity fields.stock_seats)
+  pub seats : IsEmptyWithRoom fields.sizes.cpus (length fields.seats.items) (vec_capacity fields.seats)

@@ -6,6 +6,7 @@ use Rattle.zone_blocks.specs.declared.config.Config.{Config}
 use Rattle.zone_blocks.specs.Config.{IsValidConfig}
 use Rattle.group_charge.specs.Charges.{AreCharges}
 use Rattle.mem_machine.specs.Machines.{IsConsistent, KnownMachine}
+use Rattle.mem_machine.specs.Resting.{Rests}
 use Rattle.mem_system.specs.Boots.{IsSizedAs}
 
 -- what lies behind the lock: the machine, and the sizes of the boot
@@ -17,9 +18,11 @@ pub record KnownLocked : Type 0 where
 abbrev pub AllShut : KnownMachine → Type 0
 AllShut machine = (cpu : ℕ) → IsShut machine.frame_seat cpu
 
--- While the lock is free, no visit is open, the sizes are in their ranges, and the tables have these sizes.
+-- While the lock is free, no visit is open, and the machine is what the zone's past left. The sizes are in their ranges,
+-- and the tables have these sizes.
 pub record IsQuiet (table : KnownTable) (stock_table : KnownStockTable) (locked : KnownLocked) : Type 0 where
   pub shut : AllShut locked.machine
+  pub rests : Rests table locked.machine
   pub valid : IsValidConfig locked.sizes
   pub sized : IsSizedAs locked.sizes table stock_table
 
@@ -37,7 +40,7 @@ pub record BehindLock (table : KnownTable) (stock_table : KnownStockTable) (IsSo
   pub sound : IsSound table stock_table locked
   pub so : IsSo locked
 
--- a vector for the CPUs' seats of one kind: it is empty, and has room for one seat of each CPU
+-- a vector for the CPUs' seats: it is empty, and has room for those of each CPU
 pub record IsEmptyWithRoom (cpus count room : ℕ) : Type 0 where
   pub empty : count ≡ 0
   pub enough : cpus ≤ room

@@ -6,8 +6,9 @@ use Rattle.stock_word.specs.Stock.{KnownStockTable}
 use Rattle.group_tree.specs.Groups.{number_at}
 use Rattle.cpu_part.specs.Cpus.{KnownCpu}
 use Rattle.step_rules.specs.After.{Run}
-use Rattle.mem_machine.specs.Machines.{KnownMachine, with_watch, without_notes}
+use Rattle.mem_machine.specs.Machines.{KnownMachine, with_run, without_notes}
 use Rattle.mem_machine.specs.Local.{VisitState, visit_state, Makes}
+use Rattle.mem_machine.specs.Noted.{KnownRun}
 use Rattle.mem_machine.specs.Settling.{Settles, settle_steps}
 use Rattle.mem_machine.specs.Steps.{open_steps, shut_steps}
 use Rattle.mem_reclaim.specs.Moves.{has_kill}
@@ -23,7 +24,6 @@ use Rattle.mem_system.specs.Outcomes.{reply_of}
 use Rattle.mem_system.specs.Locked.{KnownLocked, IsSound}
 use Rattle.mem_system.specs.Asks.{MayAskFor}
 use Rattle.mem_system.specs.Commands.{Executes, ListAndFreshStayWithin}
-use Rattle.step_watch.specs.Watched.{KnownWatch}
 
 -- the machine with the CPU's visit open (1) or shut (0)
 abbrev pub with_visit_of : KnownMachine → (cpu state : ℕ) → KnownMachine
@@ -38,9 +38,9 @@ visited before = visit_state (with_visit_of before.machine before.cpu.number 1) 
 abbrev pub begun : VisitState → VisitState
 begun before = visited (visit_state (without_notes before.machine) before.cpu)
 
--- the visit state with another watch
-abbrev pub with_watch_at : VisitState → KnownWatch → VisitState
-with_watch_at now watch = visit_state (with_watch now.machine watch) now.cpu
+-- the visit state with another run
+abbrev pub with_run_at : VisitState → KnownRun → VisitState
+with_run_at now run = visit_state (with_run now.machine run) now.cpu
 
 -- what lies behind the lock, with the part of the CPU that holds it
 pub record LockedState : Type 0 where
@@ -65,8 +65,8 @@ visit_steps before inner =
 -- its own steps kill. The misses that are noted are those among its steps.
 pub record Serves (cmd : Cmd) (reply : Reply) (call : Transition LockedState) : Type 0 where
   pub settled : VisitState
-  pub seen : KnownWatch
-  pub settles : Settles (with_watch_at (begun (visit_state_of call.before)) seen) settled
+  pub seen : KnownRun
+  pub settles : Settles (with_run_at (begun (visit_state_of call.before)) seen) settled
   pub inner : Run
   pub done : KnownMachine
   pub executes : Executes call.before.locked.sizes cmd reply
@@ -75,7 +75,7 @@ pub record Serves (cmd : Cmd) (reply : Reply) (call : Transition LockedState) : 
   pub only_inner : has_kill (visit_steps (visit_state_of call.before) []) ≡ false
   pub misses : CountsMisses (transition call.table settled.machine inner done)
   pub machine : call.after.locked.machine
-      ≡ with_watch (with_visit_of done call.before.cpu.number 0) call.after.locked.machine.watch
+      ≡ with_run (with_visit_of done call.before.cpu.number 0) call.after.locked.machine.run
   pub sizes : call.after.locked.sizes ≡ call.before.locked.sizes
   pub steps_are : call.steps ≡ visit_steps (visit_state_of call.before) inner
 

@@ -10,7 +10,7 @@ ghost use Rattle.mem_system.specs.Outcomes.{ComesTo, HasItsGroups, reply_of};
 ghost use Rattle.mem_system.specs.Commands.{BySteps, ListAndFreshStayWithin, MayExecute};
 
 use crate::outcome::Outcome;
-use cpu_part::{BootName, Cpu, Tables};
+use cpu_part::{BootName, Cpu as CpuPart, Tables};
 use frame_word::Frame;
 use group_tree::fault::Fault;
 use group_tree::group::GroupId;
@@ -37,7 +37,7 @@ pub(crate) fn outcome_of(answer: &Result<Frame, AllocFault>) -> Outcome
 fn allocate_as<N: BootName>(
     machine: &mut Machine<N>,
     tables: &Tables<N>,
-    cpu: &mut Cpu<N>,
+    cpu: &mut CpuPart<N>,
     sizes: Config,
     group: GroupId,
     order: Order,
@@ -62,7 +62,7 @@ fn allocate_as<N: BootName>(
 pub(crate) fn allocate<N: BootName>(
     machine: &mut Machine<N>,
     tables: &Tables<N>,
-    cpu: &mut Cpu<N>,
+    cpu: &mut CpuPart<N>,
     sizes: Config,
     path: &[u8],
     order: u32,

@@ -31,7 +31,7 @@ pub(crate) fn take_audit<N: BootName>(machine: &Machine<N>, tables: &Tables<N>, 
     ensures { ((cpu : ℕ) → NoneLentTo cpu machine.now.frame_states) → IsAuditOf N.frames machine.now drops result }
 {
     machine.prove_consistent();
-    let frames = tables.frames.frames();
+    let frames = tables.words.frames();
     let charged = machine.count_charged(tables);
     let counts = machine.counts();
     Audit {

@@ -5,10 +5,11 @@ ghost use Rattle.group_tree.specs.Room.{max_count};
 ghost use Rattle.mem_system.specs.Ends.{Ends, MakesLastVisits, drops_of, pins_of_all};
 
 use crate::audit::Audit;
+use crate::cpus::Cpu;
 use crate::emptied_boot::EmptiedBoot;
 use crate::last_visits::{empty_all, settle_all};
 use crate::lock::Locked;
-use cpu_part::{BootName, Cpu, Tables};
+use cpu_part::{BootName, Tables};
 use mem_machine::prove_sizes;
 
 /// The parts of a boot, returned unchanged because pins remain.
@@ -74,8 +75,7 @@ pub fn make_last_visits<N: BootName>(
     let Locked {
         mut machine,
         sizes: _,
-        frame_seats,
-        stock_seats,
+        seats,
     } = locked;
     settle_all(&mut machine, &tables, &mut cpus);
     empty_all(&mut machine, &tables, &mut cpus);
@@ -83,8 +83,7 @@ pub fn make_last_visits<N: BootName>(
         machine,
         tables,
         cpus,
-        frame_seats,
-        stock_seats,
+        seats,
         drops,
     })
 }

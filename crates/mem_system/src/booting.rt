@@ -7,12 +7,11 @@ ghost use Rattle.mem_system.specs.declared.boots.BootFault.TheVariants.{BadConfi
 ghost use Rattle.zone_blocks.specs.Config.{IsValidConfig};
 
 use crate::boots::{Boot, BootFault};
-use frame_word::FrameWords;
+use boot_words::BootWords;
 use std::alloc::Global;
-use stock_word::StockWords;
 use zone_blocks::config::Config;
 
-/// Boots a zone of these sizes: makes its two tables, with all their seats. `BadConfig` is returned exactly if a size
+/// Boots a zone of these sizes: makes the table of its words, with all its seats. `BadConfig` is returned exactly if a size
 /// is out of its range, else `NoMemory` if memory runs out.
 pub fn boot(alloc: Global, sizes: Config) -> Result<Boot, BootFault>
     ensures sizes { IfOk result (λ boot. boot.sizes ≡ sizes) }
@@ -22,15 +21,11 @@ pub fn boot(alloc: Global, sizes: Config) -> Result<Boot, BootFault>
     if !sizes.is_valid() {
         return Err(BootFault::BadConfig);
     }
-    let (frames, frame_seat, frame_seats) = FrameWords::new(alloc, sizes.frames, sizes.cpus)?;
-    let (stocks, stock_seat, stock_seats) = StockWords::new(alloc, sizes.cpus)?;
+    let (words, zone, cpus) = BootWords::new(alloc, sizes.frames, sizes.cpus)?;
     Ok(Boot {
         sizes,
-        frames,
-        stocks,
-        frame_seat,
-        stock_seat,
-        frame_seats,
-        stock_seats,
+        words,
+        zone,
+        cpus,
     })
 }

@@ -1,22 +1,21 @@
-//! A boot: two tables with all their seats, and the machine, tables and CPUs' parts that it becomes.
+//! A boot: the table of its words with all its seats, and the machine, tables and CPUs' parts that it becomes.
 
 ghost use Rattle.std.specs.Prelude.{◌≡◌, length, All, IfOk};
-ghost use Rattle.frame_word.specs.Seats.{first_cpu_seats};
-ghost use Rattle.stock_word.specs.Stock.{first_seats};
+ghost use Rattle.boot_words.specs.Opening.{opening_seats};
 ghost use Rattle.mem_machine.specs.Machines.{IsFirst};
 ghost use Rattle.cpu_part.specs.Cpus.{IsIdle};
 ghost use Rattle.mem_system.specs.Locked.{IsQuiet};
 ghost use Rattle.mem_system.specs.Boots.{IsSizedAs, first_cpus};
 ghost use Rattle.mem_system.specs.declared.boots.BootFault.TheVariants.{NoMemory};
 
+use crate::cpus::Cpu;
 use crate::lock::Locked;
 use crate::system::System;
-use cpu_part::{BootName, Cpu, Tables};
-use frame_word::{FrameSeat, FrameWords};
+use boot_words::{BootWords, OwnSeats};
+use cpu_part::{BootName, Tables};
 use mem_machine::Machine;
 use std::alloc::{AllocError, Global};
 use std::marker::Model;
-use stock_word::{StockSeat, StockWords};
 use zone_blocks::config::Config;
 
 /// Why there is no boot.
@@ -36,29 +35,27 @@ impl From<AllocError> for BootFault {
     }
 }
 
-/// The two tables of a boot with all their seats, none of which was used yet.
+/// The table of a boot's words with all its seats, none of which was used yet.
 #[derive(Drop)]
 pub struct Boot {
     pub(crate) sizes: Config,
-    pub(crate) frames: FrameWords,
-    pub(crate) stocks: StockWords,
-    // The zone's seats at the two tables.
-    pub(crate) frame_seat: FrameSeat,
-    pub(crate) stock_seat: StockSeat,
+    pub(crate) words: BootWords,
+    // The zone's seats.
+    pub(crate) zone: OwnSeats,
     // The CPUs' seats, in order.
-    pub(crate) frame_seats: Vec<FrameSeat>,
-    pub(crate) stock_seats: Vec<StockSeat>,
+    pub(crate) cpus: Vec<OwnSeats>,
 }
 
 impl Model for Boot {
+    ghost use Rattle.cpu_part.specs.Cpus.{stock_table_of};
     ghost use Rattle.mem_system.specs.Boots.{KnownBoot, IsBooted};
 
     ghost Value = { KnownBoot };
 
-    ghost view = { λ b. record { sizes = b.sizes; frames = b.frames; stocks = b.stocks } };
+    ghost view = { λ b. record { sizes = b.sizes; frames = b.words; stocks = stock_table_of b.words } };
 
-    ghost invariant = { λ b. IsBooted (record { sizes = b.sizes; frames = b.frames; stocks = b.stocks })
-        b.frame_seat b.stock_seat b.frame_seats.items b.stock_seats.items };
+    ghost invariant = { λ b.
+        IsBooted (record { sizes = b.sizes; frames = b.words; stocks = stock_table_of b.words }) b.zone b.cpus.items };
 }
 
 impl Boot {
@@ -79,17 +76,14 @@ impl Boot {
     {
         let Boot {
             sizes,
-            frames,
-            stocks,
-            frame_seat,
-            stock_seat,
-            frame_seats,
-            stock_seats,
+            words,
+            zone,
+            cpus,
         } = self;
-        let tables = Tables::<N>::new(frames, stocks);
-        let machine = Machine::<N>::new(alloc, &tables, frame_seat, stock_seat)?;
+        let tables = Tables::<N>::new(words);
+        let machine = Machine::<N>::new(alloc, &tables, zone)?;
         let locked = new_locked(alloc, sizes, machine)?;
-        let cpus = make_cpus(alloc, sizes.cpus, frame_seats, stock_seats)?;
+        let cpus = make_cpus(alloc, sizes.cpus, cpus)?;
         Ok((locked, tables, cpus))
     }
 
@@ -117,34 +111,29 @@ fn new_locked<N: BootName>(
     ensures machine { IfOk result (λ locked. locked.machine ≡ machine) }
     ensures sizes { IfOk result (λ locked. locked.sizes ≡ sizes) }
 {
-    let frame_seats = Vec::with_capacity(alloc, sizes.cpus as usize)?;
-    let stock_seats = Vec::with_capacity(alloc, sizes.cpus as usize)?;
+    let seats = Vec::with_capacity(alloc, sizes.cpus as usize)?;
     Ok(Locked {
         machine,
         sizes,
-        frame_seats,
-        stock_seats,
+        seats,
     })
 }
 
-// A part for each CPU, from its two seats.
+// A part for each CPU, from its seats.
 fn make_cpus<N: BootName>(
     alloc: Global,
     cpus: u32,
-    mut frame_seats: Vec<FrameSeat>,
-    mut stock_seats: Vec<StockSeat>,
+    mut seats: Vec<OwnSeats>,
 ) -> Result<Vec<Cpu<N>>, AllocError>
-    requires frame_seats { frame_seats.items ≡ first_cpu_seats N.frames.table 1 cpus }
-    requires stock_seats { stock_seats.items ≡ first_seats N.stocks.table 1 cpus }
+    requires seats { seats.items ≡ opening_seats N.frames.table 1 cpus }
+    requires stocks { N.stocks.table ≡ N.frames.table }
     requires cpus { cpus ≡ N.frames.cpus }
     requires stock_cpus { cpus ≡ N.stocks.cpus }
     ensures { IfOk result (λ made. made.items ≡ first_cpus N.frames N.stocks 1 cpus) }
 {
     let mut made = Vec::with_capacity(alloc, cpus as usize)?;
     for _dealt in 0..cpus {
-        let frame_seat = frame_seats.remove(0);
-        let stock_seat = stock_seats.remove(0);
-        match Cpu::<N>::new(alloc, frame_seat, stock_seat) {
+        match Cpu::<N>::new(alloc, seats.remove(0)) {
             Ok(cpu) => made.push_reserved(cpu),
             Err(error) => {
                 take_apart(made);

@@ -13,7 +13,7 @@ use crate::owners::report_place;
 use crate::releases::release_frame;
 use crate::units::{note_dirt, touch_frame};
 use control_files::text::ArrayText;
-use cpu_part::{BootName, Cpu, Tables};
+use cpu_part::{BootName, Cpu as CpuPart, Tables};
 use group_tree::fault::Fault;
 use group_tree::group::GroupId;
 use group_tree::path::PathText;
@@ -110,7 +110,7 @@ pub enum Reply {
 pub(crate) fn execute<N: BootName>(
     machine: &mut Machine<N>,
     tables: &Tables<N>,
-    cpu: &mut Cpu<N>,
+    cpu: &mut CpuPart<N>,
     sizes: Config,
     cmd: &Cmd<'_>,
 ) -> Outcome
@@ -124,7 +124,7 @@ pub(crate) fn execute<N: BootName>(
     ensures at_most_high { ListAndFreshStayWithin sizes cpu.old cpu.new }
 {
     match cmd {
-        Cmd::Mkdir { path } => make_group(machine, path),
+        Cmd::Mkdir { path } => make_group(machine, tables, path),
         Cmd::Rmdir { path } => remove_group(machine, tables, cpu, path),
         Cmd::Write { path, file, value } => write_file(machine, tables, path, file, value),
         Cmd::Read { path, file } => read_file(machine.charges(), path, file),

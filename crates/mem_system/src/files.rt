@@ -3,7 +3,7 @@
 ghost use Rattle.std.specs.Prelude.{◌≢◌, ℕ, IsTrue, IfOk, IfErr, List};
 ghost use Rattle.group_tree.specs.Groups.{has_group};
 ghost use Rattle.mem_system.specs.Outcomes.{ComesToForAny, HasItsGroups, reply_of};
-ghost use Rattle.mem_machine.specs.Local.{MakesForAny};
+ghost use Rattle.mem_machine.specs.Local.{MakesForAny, SomeShown};
 ghost use Rattle.mem_machine.specs.Transitions.{BySteps};
 ghost use Rattle.mem_system.specs.Files.{IsFileOf, HasNoFile, Reads, Writes, WritesTo};
 ghost use Rattle.mem_system.specs.Files.{KeepsAnyVisit, SetsLimit};
@@ -56,10 +56,11 @@ fn set_limit<N: BootName>(
 )
     requires there { IsTrue (has_group machine.old.ledger.groups group) }
     requires below_root { group ≢ 0 }
+    requires shown { SomeShown N.frames machine.old }
     ensures sets { BySteps MakesForAny N.frames (SetsLimit group limit) machine.old machine.new }
     ensures stays { KeepsAnyVisit N.frames machine.old machine.new }
 {
-    machine.set_max(group, limit);
+    machine.set_max(tables, group, limit);
     if let Some(limit) = limit {
         keep_to_limit(machine, tables, group, limit);
     }
@@ -74,6 +75,7 @@ fn write_limit<N: BootName>(
 ) -> Outcome
     requires there { IsTrue (has_group machine.old.ledger.groups group) }
     requires below_root { group ≢ 0 }
+    requires shown { SomeShown N.frames machine.old }
     ensures written { ComesToForAny N.frames result (WritesTo File.Max value.now group) machine.old machine.new }
     ensures groups { HasItsGroups machine.new.ledger result }
     ensures stays { KeepsAnyVisit N.frames machine.old machine.new }
@@ -88,16 +90,22 @@ fn write_limit<N: BootName>(
 }
 
 // Sets whether the group is killed as a whole, as the value says. The value is refused if it is no flag.
-fn write_flag<N: BootName>(machine: &mut Machine<N>, group: GroupId, value: &[u8]) -> Outcome
+fn write_flag<N: BootName>(
+    machine: &mut Machine<N>,
+    tables: &Tables<N>,
+    group: GroupId,
+    value: &[u8],
+) -> Outcome
     requires there { IsTrue (has_group machine.old.ledger.groups group) }
     requires below_root { group ≢ 0 }
+    requires shown { SomeShown N.frames machine.old }
     ensures written { ComesToForAny N.frames result (WritesTo File.OomGroup value.now group) machine.old machine.new }
     ensures groups { HasItsGroups machine.new.ledger result }
     ensures stays { KeepsAnyVisit N.frames machine.old machine.new }
 {
     match read_flag(value) {
         Ok(flag) => {
-            machine.set_oom_group(group, flag);
+            machine.set_oom_group(tables, group, flag);
             Outcome::Done
         }
         Err(fault) => Outcome::Refused(fault),
@@ -111,7 +119,8 @@ fn reclaim_asked<N: BootName>(
     group: GroupId,
     asked: u64,
 ) -> Outcome
-    requires { IsTrue (has_group machine.old.ledger.groups group) }
+    requires there { IsTrue (has_group machine.old.ledger.groups group) }
+    requires shown { SomeShown N.frames machine.old }
     ensures written { (value : List ℕ) → ReadsAmount value asked
         → ComesToForAny N.frames result (WritesTo File.Reclaim value group) machine.old machine.new }
     ensures groups { HasItsGroups machine.new.ledger result }
@@ -131,7 +140,8 @@ fn write_reclaim<N: BootName>(
     group: GroupId,
     value: &[u8],
 ) -> Outcome
-    requires { IsTrue (has_group machine.old.ledger.groups group) }
+    requires there { IsTrue (has_group machine.old.ledger.groups group) }
+    requires shown { SomeShown N.frames machine.old }
     ensures written { ComesToForAny N.frames result (WritesTo File.Reclaim value.now group) machine.old machine.new }
     ensures groups { HasItsGroups machine.new.ledger result }
     ensures stays { KeepsAnyVisit N.frames machine.old machine.new }
@@ -150,6 +160,7 @@ pub(crate) fn write_file<N: BootName>(
     name: &[u8],
     value: &[u8],
 ) -> Outcome
+    requires shown { SomeShown N.frames machine.old }
     ensures written { ComesToForAny N.frames result (Writes path.now name.now value.now) machine.old machine.new }
     ensures groups { HasItsGroups machine.new.ledger result }
     ensures stays { KeepsAnyVisit N.frames machine.old machine.new }
@@ -160,7 +171,7 @@ pub(crate) fn write_file<N: BootName>(
     };
     match file {
         File::Max => write_limit(machine, tables, group, value),
-        File::OomGroup => write_flag(machine, group, value),
+        File::OomGroup => write_flag(machine, tables, group, value),
         File::Reclaim => write_reclaim(machine, tables, group, value),
         _ => Outcome::Refused(Fault::ReadOnly),
     }

@@ -1,7 +1,7 @@
 //! Making and removing groups.
 
 ghost use Rattle.std.specs.Prelude.{◌≡◌, ◌<◌, [], MatchResult};
-ghost use Rattle.mem_machine.specs.Local.{KeepsVisit, Visits};
+ghost use Rattle.mem_machine.specs.Local.{KeepsVisit, SomeShown, Visits};
 ghost use Rattle.mem_system.specs.Leaves.{IsLeafAt, HasNoLeaf};
 ghost use Rattle.mem_system.specs.Outcomes.{ComesTo, ComesToForAny, HasItsGroups};
 ghost use Rattle.mem_system.specs.Groups.{MakesGroup, Removes};
@@ -10,19 +10,24 @@ ghost use Rattle.mem_machine.specs.Local.{visit_state};
 
 use crate::outcome::Outcome;
 use crate::usage::lower_usage;
-use cpu_part::{BootName, Cpu, Tables};
+use cpu_part::{BootName, Cpu as CpuPart, Tables};
 use group_charge::charges::Charges;
 use group_tree::fault::Fault;
 use group_tree::group::GroupId;
 use mem_machine::Machine;
 
 // Makes the group of the path.
-pub(crate) fn make_group<N: BootName>(machine: &mut Machine<N>, path: &[u8]) -> Outcome
+pub(crate) fn make_group<N: BootName>(
+    machine: &mut Machine<N>,
+    tables: &Tables<N>,
+    path: &[u8],
+) -> Outcome
+    requires shown { SomeShown N.frames machine.old }
     ensures made { ComesToForAny N.frames result (MakesGroup path.now) machine.old machine.new }
     ensures groups { HasItsGroups machine.new.ledger result }
     ensures seat { machine.new.frame_seat ≡ machine.old.frame_seat }
 {
-    match machine.make(path) {
+    match machine.make(tables, path) {
         Ok(group) => Outcome::Group(group),
         Err(fault) => Outcome::Refused(fault),
     }
@@ -50,7 +55,7 @@ fn find_leaf(charges: &Charges, path: &[u8]) -> Result<GroupId, Fault>
 pub(crate) fn remove_group<N: BootName>(
     machine: &mut Machine<N>,
     tables: &Tables<N>,
-    cpu: &mut Cpu<N>,
+    cpu: &mut CpuPart<N>,
     path: &[u8],
 ) -> Outcome
     requires visit { Visits N.frames (visit_state machine.old cpu.old) }
@@ -69,6 +74,6 @@ pub(crate) fn remove_group<N: BootName>(
     if machine.current(group) > 0 {
         return Outcome::Refused(Fault::Busy);
     }
-    machine.remove(cpu, group);
+    machine.remove(tables, cpu, group);
     Outcome::Done
 }

@@ -2,23 +2,27 @@
 //! visit is made under the lock.
 
 ghost use Rattle.std.specs.Prelude.{◌≡◌, [], All};
+ghost use Rattle.mem_machine.specs.Resting.{Rests};
 ghost use Rattle.mem_system.specs.Locked.{AllShut};
 ghost use Rattle.mem_system.specs.Commands.{BySteps};
 ghost use Rattle.mem_system.specs.Ends.{Empties, ForEachCpu, SettlesInVisit, VisitsUnderLock};
 ghost use Rattle.mem_system.specs.Ends.{IsEmptied, IsSettledUnpinned, LendsAndFillsNone, pins_of_all};
-ghost use Rattle.mem_machine.specs.Local.{visit_state, Makes};
+ghost use Rattle.mem_machine.specs.Local.{IsShown, visit_state, Makes};
 
-use cpu_part::{BootName, Cpu, Tables};
+use crate::cpus::Cpu;
+use cpu_part::{BootName, Cpu as CpuPart, Tables};
 use mem_machine::Machine;
 use step_rules::step::{Action, Answer};
 
 // Settles the CPU in a visit.
-fn settle_cpu<N: BootName>(machine: &mut Machine<N>, tables: &Tables<N>, cpu: &mut Cpu<N>)
+fn settle_cpu<N: BootName>(machine: &mut Machine<N>, tables: &Tables<N>, cpu: &mut CpuPart<N>)
     requires shut { AllShut machine.old }
+    requires shown { IsShown N.frames (visit_state machine.old cpu.old) }
     requires no_pin { cpu.old.pins ≡ [] }
     ensures settles { BySteps Makes N.frames SettlesInVisit (visit_state machine.old cpu.old)
         (visit_state machine.new cpu.new) }
     ensures shut { AllShut machine.new }
+    ensures shown { IsShown N.frames (visit_state machine.new cpu.new) }
     ensures settled { IsSettledUnpinned cpu.new }
 {
     machine.open(tables, cpu);
@@ -27,12 +31,14 @@ fn settle_cpu<N: BootName>(machine: &mut Machine<N>, tables: &Tables<N>, cpu: &m
 }
 
 // Returns the list of the settled CPU to the zone and drains its stock, in a visit.
-fn empty_cpu<N: BootName>(machine: &mut Machine<N>, tables: &Tables<N>, cpu: &mut Cpu<N>)
+fn empty_cpu<N: BootName>(machine: &mut Machine<N>, tables: &Tables<N>, cpu: &mut CpuPart<N>)
     requires shut { AllShut machine.old }
+    requires shown { IsShown N.frames (visit_state machine.old cpu.old) }
     requires settled { IsSettledUnpinned cpu.old }
     ensures empties { BySteps Makes N.frames Empties (visit_state machine.old cpu.old)
         (visit_state machine.new cpu.new) }
     ensures shut { AllShut machine.new }
+    ensures shown { IsShown N.frames (visit_state machine.new cpu.new) }
     ensures emptied { IsEmptied N.frames N.stocks machine.new cpu.new }
     ensures others { LendsAndFillsNone machine.old machine.new }
 {
@@ -47,32 +53,40 @@ fn empty_cpu<N: BootName>(machine: &mut Machine<N>, tables: &Tables<N>, cpu: &mu
 // Settles the CPU in a visit under the lock.
 fn settle_under_lock<N: BootName>(machine: &mut Machine<N>, tables: &Tables<N>, cpu: &mut Cpu<N>)
     requires shut { AllShut machine.old }
+    requires rests { Rests N.frames machine.old }
     requires no_pin { cpu.old.pins ≡ [] }
     ensures settles { VisitsUnderLock N.frames SettlesInVisit
         (visit_state machine.old cpu.old) (visit_state machine.new cpu.new) }
     ensures shut { AllShut machine.new }
+    ensures rests { Rests N.frames machine.new }
     ensures settled { IsSettledUnpinned cpu.new }
 {
     let cpu_number = cpu.number();
+    machine.lock(tables, &cpu.part, &mut cpu.past);
     machine.take_step(cpu_number, Action::Lock, Answer::Done);
-    settle_cpu(machine, tables, cpu);
+    settle_cpu(machine, tables, &mut cpu.part);
     machine.take_step(cpu_number, Action::Unlock, Answer::Done);
+    machine.unlock(tables, &cpu.part, &mut cpu.past);
 }
 
 // Returns the list of the settled CPU to the zone and drains its stock, in a visit under the lock.
 fn empty_under_lock<N: BootName>(machine: &mut Machine<N>, tables: &Tables<N>, cpu: &mut Cpu<N>)
     requires shut { AllShut machine.old }
+    requires rests { Rests N.frames machine.old }
     requires settled { IsSettledUnpinned cpu.old }
     ensures empties { VisitsUnderLock N.frames Empties
         (visit_state machine.old cpu.old) (visit_state machine.new cpu.new) }
     ensures shut { AllShut machine.new }
+    ensures rests { Rests N.frames machine.new }
     ensures emptied { IsEmptied N.frames N.stocks machine.new cpu.new }
     ensures others { LendsAndFillsNone machine.old machine.new }
 {
     let cpu_number = cpu.number();
+    machine.lock(tables, &cpu.part, &mut cpu.past);
     machine.take_step(cpu_number, Action::Lock, Answer::Done);
-    empty_cpu(machine, tables, cpu);
+    empty_cpu(machine, tables, &mut cpu.part);
     machine.take_step(cpu_number, Action::Unlock, Answer::Done);
+    machine.unlock(tables, &cpu.part, &mut cpu.past);
 }
 
 // Settles the CPUs, one after the other.
@@ -82,10 +96,12 @@ pub(crate) fn settle_all<N: BootName>(
     cpus: &mut [Cpu<N>],
 )
     requires shut { AllShut machine.old }
+    requires rests { Rests N.frames machine.old }
     requires no_pin { pins_of_all cpus.old ≡ 0 }
     ensures settles { ForEachCpu (VisitsUnderLock N.frames SettlesInVisit)
         machine.old cpus.old machine.new cpus.new }
     ensures shut { AllShut machine.new }
+    ensures rests { Rests N.frames machine.new }
     ensures settled { All IsSettledUnpinned cpus.new }
 {
     for cpu in cpus.iter_mut() {
@@ -100,9 +116,11 @@ pub(crate) fn empty_all<N: BootName>(
     cpus: &mut [Cpu<N>],
 )
     requires shut { AllShut machine.old }
+    requires rests { Rests N.frames machine.old }
     requires settled { All IsSettledUnpinned cpus.old }
     ensures empties { ForEachCpu (VisitsUnderLock N.frames Empties) machine.old cpus.old machine.new cpus.new }
     ensures shut { AllShut machine.new }
+    ensures rests { Rests N.frames machine.new }
     ensures emptied { All (λ cpu. IsEmptied N.frames N.stocks machine.new cpu) cpus.new }
 {
     for cpu in cpus.iter_mut() {

@@ -8,15 +8,14 @@ ghost use Rattle.mem_machine.specs.Machines.{IsConsistent, with_unit_notes, with
 ghost use Rattle.mem_machine.specs.Steps.{cpu_makes};
 ghost use Rattle.mem_system.specs.Locked.{IsQuiet};
 
+use boot_words::OwnSeats;
 use cpu_part::BootName;
-use frame_word::FrameSeat;
 use group_charge::charges::Charges;
 use group_tree::group::GroupId;
 use mem_machine::{Machine, prove_charges};
 use std::marker::Model;
 use step_rules::step::{Action, Answer};
 use step_watch::Watch;
-use stock_word::StockSeat;
 use zone_blocks::config::Config;
 
 /// What lies behind the zone's lock: the machine, the sizes of the boot, and room for the CPUs' seats at the end.
@@ -24,8 +23,7 @@ use zone_blocks::config::Config;
 pub struct Locked<N: BootName> {
     pub(crate) machine: Machine<N>,
     pub(crate) sizes: Config,
-    pub(crate) frame_seats: Vec<FrameSeat>,
-    pub(crate) stock_seats: Vec<StockSeat>,
+    pub(crate) seats: Vec<OwnSeats>,
 }
 
 impl<N: BootName> Model for Locked<N> {
@@ -41,8 +39,8 @@ impl<N: BootName> Model for Locked<N> {
 }
 
 impl<N: BootName> Locked<N> {
-    /// Shows what always holds behind the lock. No visit is open, the sizes are in their ranges and are those of the
-    /// tables, the machine is consistent, and the groups make up a tree. It does nothing.
+    /// Shows what always holds behind the lock. No visit is open, the machine rests, the sizes are in their ranges
+    /// and are those of the tables, the machine is consistent, and the groups make up a tree. It does nothing.
     pub fn prove_quiet(&self)
         ensures quiet { IsQuiet N.frames N.stocks self.now }
         ensures consistent { IsConsistent N.frames N.stocks self.now.machine }
@@ -91,7 +89,7 @@ impl<N: BootName> Locked<N> {
 
     /// The watch of the machine.
     pub fn watch(&self) -> &Watch
-        ensures { result.now ≡ self.now.machine.watch }
+        ensures { result.now ≡ self.now.machine.run.watch }
     {
         self.machine.watch()
     }
@@ -100,8 +98,8 @@ impl<N: BootName> Locked<N> {
     /// CPU makes without the lock. Nothing else changes.
     #[inline(always)]
     pub fn take_step(&mut self, cpu: u32, action: Action, answer: Answer)
-        ensures locked { self.new ≡ record self.old { machine = with_watch self.old.machine self.new.machine.watch } }
-        ensures watched { Watches self.old.machine.watch (cpu_makes cpu action answer ∷ []) self.new.machine.watch }
+        ensures locked { self.new ≡ record self.old { machine = with_watch self.old.machine self.new.machine.run.watch } }
+        ensures watched { Watches self.old.machine.run.watch (cpu_makes cpu action answer ∷ []) self.new.machine.run.watch }
     {
         self.machine.take_step(cpu, action, answer);
     }

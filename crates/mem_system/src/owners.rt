@@ -18,7 +18,7 @@ pub(crate) fn report_place<N: BootName>(
     ensures place { ReportsPlace machine.now frame (reply_of machine.now.ledger result) }
     ensures groups { HasItsGroups machine.now.ledger result }
 {
-    let frame = tables.frames.frame(frame).unwrap();
+    let frame = tables.words.frame(frame).unwrap();
     match machine.place(frame) {
         Place::Free => Outcome::Free,
         Place::Lent(cpu) => Outcome::Lent(cpu),

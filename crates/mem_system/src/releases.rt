@@ -13,7 +13,7 @@ ghost use Rattle.mem_machine.specs.Local.{visit_state, Makes};
 
 use crate::outcome::Outcome;
 use crate::units::find_unit;
-use cpu_part::{BootName, Cpu, Tables};
+use cpu_part::{BootName, Cpu as CpuPart, Tables};
 use frame_word::Frame;
 use group_tree::fault::Fault;
 use mem_machine::{Machine, Released};
@@ -35,7 +35,7 @@ fn is_single<N: BootName>(machine: &Machine<N>, frame: Frame) -> bool
 fn cut_list<N: BootName>(
     machine: &mut Machine<N>,
     tables: &Tables<N>,
-    cpu: &mut Cpu<N>,
+    cpu: &mut CpuPart<N>,
     sizes: Config,
 )
     requires visit { Visits N.frames (visit_state machine.old cpu.old) }
@@ -55,7 +55,7 @@ fn cut_list<N: BootName>(
 fn list_frame<N: BootName>(
     machine: &mut Machine<N>,
     tables: &Tables<N>,
-    cpu: &mut Cpu<N>,
+    cpu: &mut CpuPart<N>,
     sizes: Config,
     frame: Frame,
 )
@@ -78,7 +78,7 @@ fn list_frame<N: BootName>(
 pub(crate) fn release_frame<N: BootName>(
     machine: &mut Machine<N>,
     tables: &Tables<N>,
-    cpu: &mut Cpu<N>,
+    cpu: &mut CpuPart<N>,
     sizes: Config,
     frame: u32,
 ) -> Outcome

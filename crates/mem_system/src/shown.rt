@@ -12,10 +12,11 @@ ghost use Rattle.mem_system.specs.Commands.{IsSettled};
 ghost use Rattle.mem_system.specs.Shown.{ReadsAfterSettling, UnitsAt};
 ghost use Rattle.mem_system.specs.Visits.{visit_state_of};
 
+use crate::cpus::Cpu;
 use crate::lock::Locked;
 use crate::system::System;
 use crate::visits::settle;
-use cpu_part::{BootName, Cpu, Tables};
+use cpu_part::{BootName, Tables};
 use machine_texts::{write_stock, write_units};
 use std::alloc::AllocError;
 use std::sync::Wait;
@@ -35,8 +36,8 @@ pub fn write_own_stock<N: BootName>(
     ensures locked { locked.new ≡ record locked.old { machine = with_look locked.old.machine } }
     ensures cpu { cpu.new ≡ cpu.old }
 {
-    let stock = locked.machine.look_at_stock(tables, cpu);
-    write_stock(locked.machine.charges().tree(), cpu, stock, text)
+    let stock = locked.machine.look_at_stock(tables, &mut cpu.part);
+    write_stock(locked.machine.charges().tree(), &cpu.part, stock, text)
 }
 
 impl<N: BootName> Locked<N> {
@@ -47,7 +48,7 @@ impl<N: BootName> Locked<N> {
         ensures locked { self.new ≡ record self.old { machine = with_look self.old.machine } }
         ensures cpu { cpu.new ≡ cpu.old }
     {
-        self.machine.look_at_stock(tables, cpu)
+        self.machine.look_at_stock(tables, &mut cpu.part)
     }
 }
 

@@ -3,16 +3,18 @@
 ghost use Rattle.std.specs.Prelude.{◌≡◌};
 ghost use Rattle.group_tree.specs.Groups.{number_at};
 ghost use Rattle.group_charge.specs.Charges.{AreCharges};
+ghost use Rattle.cpu_part.specs.Cpus.{stock_table_of};
 ghost use Rattle.mem_machine.specs.Machines.{IsConsistent};
 ghost use Rattle.mem_system.specs.Locked.{BehindLock, IsQuiet};
 ghost use Rattle.mem_system.specs.Commands.{IsOfZone, IsSettledAfter};
 ghost use Rattle.mem_system.specs.Visits.{IsServed, IsVisited};
 
 use crate::command::{Cmd, Reply};
+use crate::cpus::Cpu;
 use crate::gates::{Gate, NoGate};
 use crate::lock::Locked;
 use crate::visits::serve_into;
-use cpu_part::{BootName, Cpu, Tables};
+use cpu_part::{BootName, Tables};
 use group_tree::group::GroupId;
 use std::marker::Model;
 use std::sync::{Mutex, Wait};
@@ -25,19 +27,20 @@ pub struct System<N: BootName> {
 }
 
 impl<N: BootName> Model for System<N> {
+    ghost use Rattle.cpu_part.specs.Cpus.{stock_table_of};
     ghost use Rattle.mem_system.specs.Boots.{KnownSystem};
 
     ghost Value = { KnownSystem };
 
-    ghost view = { λ s. record { frames = s.tables.frames; stocks = s.tables.stocks } };
+    ghost view = { λ s. record { frames = s.tables.words; stocks = stock_table_of s.tables.words } };
 }
 
 impl<N: BootName> System<N> {
     /// The system with this behind its lock and with these tables; from now on CPUs share it. Clauses speak only of its
     /// tables, because none can look through the lock.
     pub fn of(locked: Locked<N>, tables: Tables<N>) -> System<N>
-        ensures frames { result.frames ≡ tables.frames }
-        ensures stocks { result.stocks ≡ tables.stocks }
+        ensures frames { result.frames ≡ tables.words }
+        ensures stocks { result.stocks ≡ stock_table_of tables.words }
     {
         let locked = Mutex::new(locked);
         System { locked, tables }
@@ -49,8 +52,8 @@ impl<N: BootName> System<N> {
         ensures quiet { IsQuiet N.frames N.stocks result.0 }
         ensures consistent { IsConsistent N.frames N.stocks result.0.machine }
         ensures charges { AreCharges result.0.machine.ledger }
-        ensures frames { result.1.frames ≡ self.frames }
-        ensures stocks { result.1.stocks ≡ self.stocks }
+        ensures frames { result.1.words ≡ self.frames }
+        ensures stocks { stock_table_of result.1.words ≡ self.stocks }
     {
         let System { locked, tables } = self;
         let locked = locked.into_inner();
@@ -60,8 +63,8 @@ impl<N: BootName> System<N> {
 
     /// The tables that N names, for the calls that take no lock.
     pub fn tables(&self) -> &Tables<N>
-        ensures frames { result.now.frames ≡ N.frames }
-        ensures stocks { result.now.stocks ≡ N.stocks }
+        ensures frames { result.now.words ≡ N.frames }
+        ensures stocks { stock_table_of result.now.words ≡ N.stocks }
     {
         &self.tables
     }

@@ -6,8 +6,9 @@ ghost use Rattle.mem_system.specs.Ends.{AddsUp, Ends, pins_of_all};
 
 use crate::audit::Audit;
 use crate::boot_end::{Pinned, end};
+use crate::cpus::Cpu;
 use crate::system::System;
-use cpu_part::{BootName, Cpu};
+use cpu_part::BootName;
 use std::sync::Mutex;
 
 /// A system that isn't shut down because pins remain. It and the CPUs' parts are unchanged.

@@ -8,10 +8,11 @@ ghost use Rattle.mem_system.specs.Shown.{ReadsUnderLock, SettlesCaller};
 ghost use Rattle.mem_system.specs.Commands.{IsSettled};
 ghost use Rattle.mem_system.specs.Visits.{EndsVisit, locked_state};
 
+use crate::cpus::Cpu;
 use crate::lock::Locked;
 use crate::system::System;
 use crate::visits::settle;
-use cpu_part::{BootName, Cpu, Tables};
+use cpu_part::{BootName, Tables};
 use machine_texts::{write_blocks, write_show};
 use std::alloc::{AllocError, Global};
 use std::sync::Wait;

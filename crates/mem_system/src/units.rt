@@ -22,7 +22,7 @@ pub(crate) fn find_unit<N: BootName>(
     ensures found { IfSome result (λ found. IsUnitOf machine.now frame found) }
     ensures none { IfNone result (home_of machine.now.links frame ≡ None) }
 {
-    let frame = tables.frames.frame(frame).unwrap();
+    let frame = tables.words.frame(frame).unwrap();
     if !machine.is_kept(frame) {
         return None;
     }

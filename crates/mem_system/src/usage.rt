@@ -2,7 +2,7 @@
 
 ghost use Rattle.std.specs.Prelude.{IsTrue};
 ghost use Rattle.group_tree.specs.Groups.{has_group};
-ghost use Rattle.mem_machine.specs.Local.{MakesForAny};
+ghost use Rattle.mem_machine.specs.Local.{MakesForAny, SomeShown};
 ghost use Rattle.mem_machine.specs.Transitions.{BySteps};
 ghost use Rattle.mem_system.specs.Usage.{LowersAbove, LowersUsage};
 
@@ -20,7 +20,8 @@ pub(crate) fn lower_usage<N: BootName>(
     group: GroupId,
     limit: u32,
 )
-    requires { IsTrue (has_group machine.old.ledger.groups group) }
+    requires there { IsTrue (has_group machine.old.ledger.groups group) }
+    requires shown { SomeShown N.frames machine.old }
     ensures { BySteps MakesForAny N.frames (LowersUsage group limit) machine.old machine.new }
 {
     machine.drain_stocks(tables, group);
@@ -35,7 +36,8 @@ pub(crate) fn keep_to_limit<N: BootName>(
     group: GroupId,
     limit: u32,
 )
-    requires { IsTrue (has_group machine.old.ledger.groups group) }
+    requires there { IsTrue (has_group machine.old.ledger.groups group) }
+    requires shown { SomeShown N.frames machine.old }
     ensures { BySteps MakesForAny N.frames (LowersAbove group limit) machine.old machine.new }
 {
     if limit < machine.current(group) {

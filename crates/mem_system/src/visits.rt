@@ -11,14 +11,16 @@ ghost use Rattle.mem_system.specs.Visits.{EndsVisit, ServesOutcome, ServesFrameO
 
 use crate::allocations::outcome_of;
 use crate::command::{Cmd, Reply, execute};
+use crate::cpus::Cpu;
 use crate::lock::Locked;
 use crate::outcome::{Outcome, set_reply};
-use cpu_part::{BootName, Cpu, Tables};
+use cpu_part::{BootName, Tables};
 use group_tree::group::GroupId;
 use mem_alloc::alloc_frame;
 
-/// Serves one command of the CPU, which holds the lock. Earlier notes are forgotten, the CPU's visit is opened, its
-/// fresh and back frames are settled, the command is executed, and the visit is shut. The notes are now of the limits
+/// Serves one command of the CPU, whose caller keeps others out. The CPU takes the lock in the run. Earlier notes are
+/// forgotten, the CPU's visit is opened, its fresh and back frames are settled, the command is executed, the visit is
+/// shut, and the lock is released. The notes are now of the limits
 /// without room that the command met, of what was tried there, and of who was killed. A frame that the command names is
 /// a frame of the zone. The result is an outcome without texts; `reply_of` makes it the reply of `serve`, by the
 /// charges as they are then.
@@ -37,11 +39,21 @@ pub fn serve_outcome<N: BootName>(
     ensures ends { EndsVisit N.frames (locked_state locked.old cpu.old) (locked_state locked.new cpu.new) }
     ensures lost { LosesNoUnit N.frames N.stocks locked.new.machine }
 {
+    locked.machine.lock(tables, &cpu.part, &mut cpu.past);
     locked.machine.forget_notes();
-    locked.machine.open(tables, cpu);
-    locked.machine.settle(tables, cpu);
-    let outcome = execute(&mut locked.machine, tables, cpu, locked.sizes, cmd);
-    locked.machine.shut(tables, cpu);
+    locked.machine.open(tables, &mut cpu.part);
+    locked.machine.settle(tables, &mut cpu.part);
+    let outcome = execute(
+        &mut locked.machine,
+        tables,
+        &mut cpu.part,
+        locked.sizes,
+        cmd,
+    );
+    locked.machine.shut(tables, &mut cpu.part);
+    locked
+        .machine
+        .unlock(tables, &cpu.part, &mut cpu.past);
     locked.machine.prove_consistent();
     outcome
 }
@@ -105,11 +117,13 @@ pub fn serve_frame_outcome<N: BootName>(
 {
     let sizes = locked.sizes;
     let machine = &mut locked.machine;
+    machine.lock(tables, &cpu.part, &mut cpu.past);
     machine.forget_notes();
-    machine.open(tables, cpu);
-    machine.settle(tables, cpu);
-    let answer = alloc_frame(machine, tables, cpu, sizes, group);
-    machine.shut(tables, cpu);
+    machine.open(tables, &mut cpu.part);
+    machine.settle(tables, &mut cpu.part);
+    let answer = alloc_frame(machine, tables, &mut cpu.part, sizes, group);
+    machine.shut(tables, &mut cpu.part);
+    machine.unlock(tables, &cpu.part, &mut cpu.past);
     machine.prove_consistent();
     outcome_of(&answer)
 }

@@ -17,7 +17,7 @@ unreachable-requires-in_default-frame g c =
     let fits : c.args.group < 64 = search rules in
     let lt = (is_met g.N.BootName.frames g.N.BootName.stocks c.args.group fits c.args.list c.args.machine.now c.loop-seen._seen c.loop-seen.next c.loop-seen.machine _
     c.prove_consistent.ensures c.loop-seen.invariant c.in-Some.entry c.in-Some.is).inside in
-    let le : c.args.tables.now.frames.frames ≤ c.in-Some.entry.number = c.in_default-frame.ensures {u = tt} in
+    let le : c.args.tables.now.words.frames ≤ c.in-Some.entry.number = c.in_default-frame.ensures {u = tt} in
     let tie = ap (λ (x : KnownTable). x.frames) c.args.tables.now.frames_are in
     omega (arith, lt, le, tie)
 

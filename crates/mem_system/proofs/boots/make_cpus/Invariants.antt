@@ -1,7 +1,6 @@
 use Rattle.std.proofs.Common.{◌≡◌, ◌+◌, ◌-◌, ◌≤◌}
 use Rattle.std.specs.Vec.{vec_len, vec_capacity}
-use Rattle.frame_word.specs.Seats.{first_cpu_seats}
-use Rattle.stock_word.specs.Stock.{first_seats}
+use Rattle.boot_words.specs.Opening.{opening_seats}
 use Rattle.mem_system.specs.Boots.{first_cpus}
 use Rattle.mem_system.proofs.boots.make_cpus.Given as goal
 
@@ -10,7 +9,6 @@ abbrev pub invariant-loop-dealt : goal.invariant-loop-dealt
 invariant-loop-dealt g l = record {
   room : l.cpus ≤ vec_capacity l.made;
   size : vec_len l.made ≡ l._dealt;
-  frame_seats : l.frame_seats.items ≡ first_cpu_seats g.N.BootName.frames.table (l._dealt + 1) (l.cpus - l._dealt);
-  stock_seats : l.stock_seats.items ≡ first_seats g.N.BootName.stocks.table (l._dealt + 1) (l.cpus - l._dealt);
+  seats : l.seats.items ≡ opening_seats g.N.BootName.frames.table (l._dealt + 1) (l.cpus - l._dealt);
   made : l.made.items ≡ first_cpus g.N.BootName.frames g.N.BootName.stocks 1 l._dealt;
 }

@@ -1,7 +1,7 @@
 use Rattle.std.proofs.Common.{ℕ, ap, sym, ◌∙◌, subst}
 use Rattle.cpu_part.specs.Cpus.{KnownCpu, IsTied}
 use Rattle.stock_word.specs.Stock.{account_of}
-use Rattle.mem_machine.specs.Machines.{KnownMachine, with_watch}
+use Rattle.mem_machine.specs.Machines.{KnownMachine, with_run}
 use Rattle.mem_system.specs.Visits.{with_visit_of}
 use Rattle.mem_system.proofs.Listing.{cut_off}
 use Rattle.mem_system.proofs.Visiting.{all_shut}
@@ -38,7 +38,7 @@ returns-clause-shut g c =
     let opened = ap (λ (k : KnownMachine). k.frame_seat.view.opened) c.drain_stock.ensures.drains.machine ∙ cut.opened
     ∙ ap (λ (k : KnownMachine). k.frame_seat.view.opened) c.open.ensures.machine in
     all_shut c.args.machine.now x c.shut.new.self c.args.cpu.now.number c.requires.shut opened
-    (c.shut.ensures.machine ∙ ap (λ (q : ℕ). with_watch (with_visit_of x q 0) c.shut.new.self.watch) numbered)
+    (c.shut.ensures.machine ∙ ap (λ (q : ℕ). with_run (with_visit_of x q 0) c.shut.new.self.run) numbered)
 
 pub returns-clause-emptied : goal.returns-clause-emptied
 returns-clause-emptied g c =
@@ -66,4 +66,4 @@ returns-clause-others g c =
     let cut = cut_off _ _ _ _ _ c.drain_list.ensures.takes in
     let numbered = cut.number ∙ ap (λ (y : KnownCpu). y.number) c.open.ensures.cpu in
     emptied_alone c.args.machine.now _ _ _ _ _ _ _ _ _ _ c.open.ensures.machine c.drain_list.ensures.takes c.drain_stock.ensures.drains
-    (c.shut.ensures.machine ∙ ap (λ (q : ℕ). with_watch (with_visit_of c.drain_stock.new.self q 0) c.shut.new.self.watch) numbered)
+    (c.shut.ensures.machine ∙ ap (λ (q : ℕ). with_run (with_visit_of c.drain_stock.new.self q 0) c.shut.new.self.run) numbered)

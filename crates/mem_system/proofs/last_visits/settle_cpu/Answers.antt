@@ -1,6 +1,6 @@
 use Rattle.std.proofs.Common.{ℕ, ap, ◌∙◌}
 use Rattle.cpu_part.specs.Cpus.{KnownCpu}
-use Rattle.mem_machine.specs.Machines.{KnownMachine, with_watch}
+use Rattle.mem_machine.specs.Machines.{KnownMachine, with_run}
 use Rattle.mem_system.specs.Visits.{with_visit_of}
 use Rattle.mem_system.proofs.Visiting.{all_shut, settled_opened}
 use Rattle.mem_system.proofs.Turns.{rested}
@@ -18,4 +18,4 @@ returns-clause-shut g c =
     let numbered = c.settle.ensures.others.number ∙ ap (λ (y : KnownCpu). y.number) c.open.ensures.cpu in
     let opened = settled_opened _ _ _ _ c.settle.ensures.settles ∙ ap (λ (k : KnownMachine). k.frame_seat.view.opened) c.open.ensures.machine in
     all_shut c.args.machine.now x c.shut.new.self c.args.cpu.now.number c.requires.shut opened
-    (c.shut.ensures.machine ∙ ap (λ (q : ℕ). with_watch (with_visit_of x q 0) c.shut.new.self.watch) numbered)
+    (c.shut.ensures.machine ∙ ap (λ (q : ℕ). with_run (with_visit_of x q 0) c.shut.new.self.run) numbered)

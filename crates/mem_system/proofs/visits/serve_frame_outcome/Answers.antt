@@ -3,7 +3,7 @@ use Rattle.group_tree.specs.declared.group.Group.{Group}
 use Rattle.group_tree.specs.Groups.{has_group, number_at}
 use Rattle.group_charge.specs.Charges.{Ledger}
 use Rattle.cpu_part.specs.Cpus.{KnownCpu}
-use Rattle.mem_machine.specs.Machines.{KnownMachine, with_watch}
+use Rattle.mem_machine.specs.Machines.{KnownMachine, with_run}
 use Rattle.mem_machine.specs.Local.{MakesAs, visit_state}
 use Rattle.mem_machine.specs.Steps.{open_steps}
 use Rattle.mem_system.specs.declared.command.Cmd.TheVariants.{Alloc}
@@ -23,7 +23,7 @@ pub alloc_frame-answer-requires-clause-there : goal.alloc_frame-answer-requires-
 alloc_frame-answer-requires-clause-there g c =
     let there : IsTrue (has_group c.locked.inside.machine.ledger.groups c.args.group) =
     subst (λ (l : KnownLocked). IsTrue (has_group l.machine.ledger.groups c.args.group)) (sym c.locked.view_is) c.requires.there in
-    let groups = settled_groups _ _ _ _ c.settle.ensures.settles ∙ ap (λ (k : KnownMachine). k.ledger.groups) (c.open.ensures.machine ∙ ap (λ (y : KnownMachine). with_watch (with_visit_of y c.args.cpu.now.number 1) c.open.new.self.watch) c.forget_notes.ensures) in
+    let groups = settled_groups _ _ _ _ c.settle.ensures.settles ∙ ap (λ (k : KnownMachine). k.ledger.groups) (c.open.ensures.machine ∙ ap (λ (y : KnownMachine). with_run (with_visit_of y c.args.cpu.now.number 1) c.open.new.self.run) c.forget_notes.ensures) in
     ap (λ (gs : List Group). has_group gs c.args.group) groups ∙ there
 
 pub invariant_of-locked : goal.invariant_of-locked
@@ -34,7 +34,7 @@ invariant_of-locked g c =
       quiet = record {
         shut = command_shuts c.locked.inside.machine c.open.new.self c.settle.new.self c.alloc_frame-answer.new.machine c.shut.new.self c.args.cpu.now
             c.open.new.cpu c.settle.new.cpu c.alloc_frame-answer.new.cpu quiet.shut
-            (c.open.ensures.machine ∙ ap (λ (y : KnownMachine). with_watch (with_visit_of y c.args.cpu.now.number 1) c.open.new.self.watch) c.forget_notes.ensures)
+            (c.open.ensures.machine ∙ ap (λ (y : KnownMachine). with_run (with_visit_of y c.args.cpu.now.number 1) c.open.new.self.run) c.forget_notes.ensures)
             c.open.ensures.cpu c.settle.ensures.others.number stays.number c.settle.ensures.settles stays.opened c.shut.ensures.machine;
         valid = quiet.valid;
         sized = quiet.sized;
@@ -54,7 +54,7 @@ returns-clause-served g c path at =
     let told : reply_of k.machine.ledger c.outcome_of.result ≡ reply =
     ap (λ (y : KnownMachine). reply_of y.ledger c.outcome_of.result) c.shut.ensures.machine
     ∙ ap (λ (o : Outcome). reply_of x.ledger o) c.outcome_of.ensures in
-    let groups = settled_groups _ _ _ _ c.settle.ensures.settles ∙ ap (λ (y : KnownMachine). y.ledger.groups) (c.open.ensures.machine ∙ ap (λ (y : KnownMachine). with_watch (with_visit_of y c.args.cpu.now.number 1) c.open.new.self.watch) c.forget_notes.ensures)
+    let groups = settled_groups _ _ _ _ c.settle.ensures.settles ∙ ap (λ (y : KnownMachine). y.ledger.groups) (c.open.ensures.machine ∙ ap (λ (y : KnownMachine). with_run (with_visit_of y c.args.cpu.now.number 1) c.open.new.self.run) c.forget_notes.ensures)
     ∙ ap (λ (y : KnownLocked). y.machine.ledger.groups) c.locked.view_is in
     let found : number_at c.settle.new.self.ledger.groups path.now ≡ Some c.args.group = ap (λ (gs : List Group). number_at gs path.now) groups ∙ at in
     let executed = frame_allocated t c.locked.inside.sizes path.now c.args.group c.settle.new.self x c.settle.new.cpu c.alloc_frame-answer.new.cpu answer found
@@ -63,7 +63,7 @@ returns-clause-served g c path at =
     (subst (λ (y : KnownLocked). IsServed t (Alloc path 0) reply (locked_state y c.args.cpu.now) (locked_state k c.shut.new.cpu)) c.locked.view_is
     (served t (Alloc path 0) l k c.args.cpu.now c.shut.new.cpu
     reply c.open.new.self c.settle.new.self x c.open.new.cpu c.settle.new.cpu c.alloc_frame-answer.new.cpu
-    (c.open.ensures.machine ∙ ap (λ (y : KnownMachine). with_watch (with_visit_of y c.args.cpu.now.number 1) c.open.new.self.watch) c.forget_notes.ensures)
+    (c.open.ensures.machine ∙ ap (λ (y : KnownMachine). with_run (with_visit_of y c.args.cpu.now.number 1) c.open.new.self.run) c.forget_notes.ensures)
     c.open.ensures.cpu c.settle.ensures.others.number c.alloc_frame-answer.ensures.stays.number
     c.shut.ensures.machine c.shut.ensures.cpu refl
     (subst (λ (y : KnownMachine). MakesAs t c.args.cpu.now.number (visit_state y c.args.cpu.now) (open_steps c.args.cpu.now.number)
@@ -84,5 +84,5 @@ returns-clause-lost g c =
     no_unit_is_lost g.N.BootName.frames g.N.BootName.stocks c.shut.new.self c.prove_consistent.ensures
     (command_shuts c.locked.inside.machine c.open.new.self c.settle.new.self c.alloc_frame-answer.new.machine c.shut.new.self c.args.cpu.now
     c.open.new.cpu c.settle.new.cpu c.alloc_frame-answer.new.cpu c.locked.invariant.quiet.shut
-    (c.open.ensures.machine ∙ ap (λ (y : KnownMachine). with_watch (with_visit_of y c.args.cpu.now.number 1) c.open.new.self.watch) c.forget_notes.ensures)
+    (c.open.ensures.machine ∙ ap (λ (y : KnownMachine). with_run (with_visit_of y c.args.cpu.now.number 1) c.open.new.self.run) c.forget_notes.ensures)
     c.open.ensures.cpu c.settle.ensures.others.number stays.number c.settle.ensures.settles stays.opened c.shut.ensures.machine)

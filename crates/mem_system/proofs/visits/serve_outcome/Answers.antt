@@ -1,7 +1,7 @@
 use Rattle.std.proofs.Common.{◌≡◌, ℕ, ◌+◌, ◌≤◌, List, length, ap, sym, ◌∙◌, refl, subst}
 use Rattle.group_charge.specs.Charges.{Ledger}
 use Rattle.cpu_part.specs.Cpus.{KnownCpu}
-use Rattle.mem_machine.specs.Machines.{KnownMachine, with_watch}
+use Rattle.mem_machine.specs.Machines.{KnownMachine, with_run}
 use Rattle.mem_machine.specs.Local.{MakesAs, visit_state}
 use Rattle.mem_machine.specs.Steps.{open_steps}
 use Rattle.mem_system.specs.Locked.{KnownLocked}
@@ -20,7 +20,7 @@ invariant_of-locked g c =
       quiet = record {
         shut = command_shuts c.locked.inside.machine c.open.new.self c.settle.new.self c.execute-outcome.new.machine c.shut.new.self c.args.cpu.now
             c.open.new.cpu c.settle.new.cpu c.execute-outcome.new.cpu quiet.shut
-            (c.open.ensures.machine ∙ ap (λ (y : KnownMachine). with_watch (with_visit_of y c.args.cpu.now.number 1) c.open.new.self.watch) c.forget_notes.ensures)
+            (c.open.ensures.machine ∙ ap (λ (y : KnownMachine). with_run (with_visit_of y c.args.cpu.now.number 1) c.open.new.self.run) c.forget_notes.ensures)
             c.open.ensures.cpu c.settle.ensures.others.number stays.number c.settle.ensures.settles stays.opened c.shut.ensures.machine;
         valid = quiet.valid;
         sized = quiet.sized;
@@ -37,7 +37,7 @@ returns g c =
     let same = c.shut.ensures.cpu in
     let reply = reply_of x.ledger c.execute-outcome.result in
     let kept : k.machine.ledger ≡ x.ledger = ap (λ (y : KnownMachine). y.ledger) c.shut.ensures.machine in
-    let opened = c.open.ensures.machine ∙ ap (λ (y : KnownMachine). with_watch (with_visit_of y c.args.cpu.now.number 1) c.open.new.self.watch) c.forget_notes.ensures in
+    let opened = c.open.ensures.machine ∙ ap (λ (y : KnownMachine). with_run (with_visit_of y c.args.cpu.now.number 1) c.open.new.self.run) c.forget_notes.ensures in
     let stays = c.execute-outcome.ensures.stays in
     let told : reply_of k.machine.ledger c.execute-outcome.result ≡ reply = ap (λ (l : Ledger). reply_of l c.execute-outcome.result) kept in
     rw told record {
