@@ -15,13 +15,14 @@ use Rattle.zone_blocks.specs.declared.config.Config.{Config}
 use Rattle.zone_blocks.specs.Config.{IsValidConfig}
 use Rattle.step_rules.specs.After.{Run}
 use Rattle.group_charge.specs.declared.note.Note.TheVariants.{Zone}
-use Rattle.mem_machine.specs.Machines.{KnownMachine, is_killed, with_note, with_watch}
+use Rattle.mem_machine.specs.Machines.{KnownMachine, is_killed, with_note, with_run}
 use Rattle.mem_machine.specs.Local.{Visits}
 use Rattle.mem_machine.specs.Local.{VisitState, visit_state, MakesAs, Makes}
 use Rattle.mem_machine.specs.Lending.{LendsMany, Refills}
 use Rattle.mem_machine.specs.Paying.{HoldsPage, PaysForFront}
 use Rattle.mem_machine.specs.Stocks.{Drains, Fills, stock_group, with_look}
 use Rattle.mem_machine.specs.Steps.{drain_steps, fill_steps, over_steps, refill_steps, take_front_steps}
+use Rattle.mem_machine.proofs.Draining.{looked_visits}
 use Rattle.mem_machine.proofs.Prepaying.{filled_account, filled_at}
 use Rattle.mem_alloc.specs.declared.faults.AllocFault.{AllocFault}
 use Rattle.mem_alloc.specs.declared.faults.AllocFault.TheVariants.{Over, NoFrames, RequesterKilled}
@@ -31,7 +32,7 @@ use Rattle.mem_alloc.specs.Charging.{ChargesAfterDrain, FillsDrainedStock, Charg
 use Rattle.mem_alloc.specs.Rounds.{FailsInRounds}
 use Rattle.mem_alloc.specs.Frames.{AllocatesFrame, FillsList, HasNoFreeFrame, LendsBatch, LendsNoFrame, RefillsInRounds, RefillsList}
 use Rattle.mem_alloc.proofs.Making.{answer_is}
-use Rattle.mem_alloc.proofs.Lowering.{Lowers, lowers_none, lowers_both, drain_lowers, looked_lowers, lowered_visit, watched_lowers}
+use Rattle.mem_alloc.proofs.Lowering.{Lowers, lowers_none, lowers_both, drain_lowers, looked_lowers, run_lowers}
 use Rattle.mem_alloc.proofs.Killing.{relieves_lower}
 use Rattle.mem_alloc.proofs.Rounding.{Spares, FailureSpares, InTheEnd, spares_same, noted_fails_spare, noted_in_the_end}
 use Rattle.mem_machine.proofs.Followed.{makes_both, makes_stay}
@@ -76,8 +77,8 @@ fills_keep g k m n c d f = record {
 pub refused_lowers : (t : KnownTable) (g pages over : ℕ) (answer : Result (Unit {0}) AllocFault) (m n : KnownMachine) (steps : Run)
     → IsRefusedAt g over pages answer (transition t m steps n) → Lowers t m n
 refused_lowers t g pages over answer m n steps r =
-    let x = with_watch m r.seen in
-    lowers_both t m x n (watched_lowers t m r.seen) (relieves_lower t g over pages x n r.relieving r.relieves)
+    let x = with_run m r.seen in
+    lowers_both t m x n (run_lowers t m r.seen) (relieves_lower t g over pages x n r.relieving r.relieves)
 
 pub makes_lower : (t : KnownTable) (g pages : ℕ) (before : List ℕ) (m n : KnownMachine) (steps : Run) → MakesRoom g before pages (transition t m steps n) → Lowers t m n
 makes_lower t g pages [] m n steps h = subst (λ (x : KnownMachine). Lowers t m x) (sym h.machine) (lowers_none t m)
@@ -109,11 +110,11 @@ charges_keep : (t : KnownTable) (sizes : Config) (g : ℕ) (r : Result (Unit {0}
     → FillsDrainedStock sizes g r (transition t (visit_state m c) steps (visit_state n d)) → KeepsPart m c n d
 charges_keep t sizes g (Ok v) m n c d steps (inl h) = fills_keep g sizes.stock m n c d h.fills
 charges_keep t sizes g (Ok v) m n c d steps (inr h) =
-    let x = with_watch m h.seen in
-    keeps_both m x n c c d (lowers_keep t m x c c (watched_lowers t m h.seen) refl) (one_keeps t g (Ok v) x n c d h.later h.does)
+    let x = with_run m h.seen in
+    keeps_both m x n c c d (lowers_keep t m x c c (run_lowers t m h.seen) refl) (one_keeps t g (Ok v) x n c d h.later h.does)
 charges_keep t sizes g (Err e) m n c d steps h =
-    let x = with_watch m h.seen in
-    keeps_both m x n c c d (lowers_keep t m x c c (watched_lowers t m h.seen) refl) (one_keeps t g (Err e) x n c d h.later h.does)
+    let x = with_run m h.seen in
+    keeps_both m x n c c d (lowers_keep t m x c c (run_lowers t m h.seen) refl) (one_keeps t g (Err e) x n c d h.later h.does)
 
 own_drain_keeps : (t : KnownTable) (m n : KnownMachine) (c d : KnownCpu) (steps : Run) → DrainsStock (transition t (visit_state m c) steps (visit_state n d)) → KeepsPart m c n d
 own_drain_keeps t m n c d steps h = lowers_keep t m n c d (drain_lowers t m n c.number h.drained h.drains) h.cpu
@@ -156,7 +157,8 @@ charged_page t sizes g (Err e) m n c d steps valid h none = tt
 
 module _ (t : KnownTable) (m n : KnownMachine) (c d : KnownCpu) (seen : n ≡ with_look m) (mine : d ≡ c) where
   pub looked_visit : Visits t (visit_state m c) → Visits t (visit_state n d)
-  looked_visit visit = lowered_visit t m n c d (subst (λ (x : KnownMachine). Lowers t m x) (sym seen) (looked_lowers t m)) mine visit
+  looked_visit visit = subst (λ (z : KnownMachine × KnownCpu). Visits t (visit_state z.0 z.1)) (λ i. (sym seen i, sym mine i))
+      (looked_visits t m m refl (with_look m).stock_seat refl c visit)
 
   pub looked_page : (g : ℕ) → HoldsPage (visit_state m c) g → HoldsPage (visit_state n d) g
   looked_page g page = subst (λ (z : KnownMachine × KnownCpu). HoldsPage (visit_state z.0 z.1) g) (λ i. (sym seen i, sym mine i))
@@ -224,7 +226,7 @@ pub batch_fits : (t : KnownTable) (sizes : Config) (g : ℕ) (m n : KnownMachine
 batch_fits t sizes g m n c d fills steps = record { steps = fill_steps c.number g sizes.stock; does = inl (record { fills = fills; steps_are = refl }); makes = steps }
 
 -- the batch doesn't fit, and then one page is charged, or is refused
-module _ (t : KnownTable) (sizes : Config) (g over : ℕ) (m x n : KnownMachine) (c y d : KnownCpu) (stays : x ≡ with_watch m x.watch) (its : y ≡ c)
+module _ (t : KnownTable) (sizes : Config) (g over : ℕ) (m x n : KnownMachine) (c y d : KnownCpu) (stays : x ≡ with_run m x.run) (its : y ≡ c)
     (lowest : IsLowestOver m.ledger.groups (current_of m.ledger) g sizes.stock over)
     (refused : MakesAs t c.number (visit_state m c) (over_steps g sizes.stock over) (visit_state x y)) where
   lacks : (r : Result (Unit {0}) AllocFault) → BySteps Makes t (ChargesOne g r) (visit_state x y) (visit_state n d)
@@ -232,8 +234,8 @@ module _ (t : KnownTable) (sizes : Config) (g over : ℕ) (m x n : KnownMachine)
   lacks r b =
       let here = subst (λ (z : KnownMachine × KnownCpu). BySteps Makes t (ChargesOne g r) (visit_state z.0 z.1) (visit_state n d)) (λ i. (stays i, its i)) b in record {
         steps = over_steps g sizes.stock over ++ here.steps;
-        does = record { over = over; batch = lowest; later = here.steps; seen = x.watch; does = here.does; steps_are = refl };
-        makes = makes_both t c.number (over_steps g sizes.stock over) here.steps (visit_state m c) (visit_state (with_watch m x.watch) c) (visit_state n d)
+        does = record { over = over; batch = lowest; later = here.steps; seen = x.run; does = here.does; steps_are = refl };
+        makes = makes_both t c.number (over_steps g sizes.stock over) here.steps (visit_state m c) (visit_state (with_run m x.run) c) (visit_state n d)
             (subst (λ (z : KnownMachine × KnownCpu). MakesAs t c.number (visit_state m c) (over_steps g sizes.stock over) (visit_state z.0 z.1))
             (λ i. (stays i, its i)) refused) here.makes;
       }
@@ -293,7 +295,7 @@ module _ (t : KnownTable) (pages q : ℕ) (m k x : KnownMachine) (c e : KnownCpu
                   steps_are = refl;
                 });
           };
-          makes = record { leads = looked.leads; follows = looked.follows; counts = looked.counts; watched = looked.watched };
+          makes = record { leads = looked.leads; follows = looked.follows; counts = looked.counts; noted = looked.noted };
         }
 
     pub pays_anew : (r : Result (Unit {0}) AllocFault) → BySteps Makes t (FillsDrainedStock sizes g r) (visit_state x e) (visit_state n d)

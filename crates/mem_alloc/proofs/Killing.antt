@@ -17,8 +17,9 @@ use Rattle.stock_word.specs.Stock.{KnownStockTable}
 use Rattle.step_rules.specs.State.{sum_to}
 use Rattle.step_rules.specs.After.{Run}
 use Rattle.group_charge.specs.declared.note.Note.TheVariants as notes
-use Rattle.mem_machine.specs.Machines.{IsConsistent, KnownMachine, is_killed, with_watch, with_note}
-use Rattle.mem_machine.specs.Local.{MakesForAny, visit_state}
+use Rattle.group_charge.specs.Notes.{noted}
+use Rattle.mem_machine.specs.Machines.{IsConsistent, KnownMachine, is_killed, with_run, with_note}
+use Rattle.mem_machine.specs.Local.{MakesForAny, SomeShown, StaysVisited, visit_state}
 use Rattle.mem_machine.specs.Steps.{note_oom_steps}
 use Rattle.mem_reclaim.specs.declared.sets.Killed.{Killed}
 use Rattle.mem_reclaim.specs.Killing.{IsKilledBy, OnlyDrains, OnlyReleases, with_all_killed}
@@ -29,9 +30,11 @@ use Rattle.mem_reclaim.proofs.Dying.{victims_die}
 use Rattle.mem_machine.specs.Transitions.{BySteps, MachineStays, transition}
 use Rattle.mem_alloc.specs.Kills.{NeedsRoom, KillsVictims, KillsForRoom, KillsOneVictim, has_room_at, with_oom_noted_at}
 use Rattle.mem_alloc.specs.Room.{KillsForFewPages, RelievesLimit}
-use Rattle.mem_alloc.proofs.Lowering.{Lowers, lowers_none, lowers_both, same_visit, clears_lower, keeps_lower, sum_less}
+use Rattle.mem_alloc.proofs.Lowering.{Lowers, lowers_none, lowers_both, clears_lower, keeps_lower, sum_less}
 use Rattle.mem_machine.proofs.Followed.{makes_both, makes_none}
-use Rattle.step_watch.specs.Watched.{KnownWatch}
+use Rattle.mem_machine.proofs.Watched.{visits_noted}
+use Rattle.mem_reclaim.proofs.Shown.{shown_after}
+use Rattle.mem_machine.specs.Noted.{KnownRun}
 
 -- ---- what is kept
 
@@ -53,7 +56,6 @@ one_lowers t groups m n marked stocks keeps = record {
   groups = keeps.groups;
   killed = λ j dead. ap (λ (k : List Bool). is_killed k j) marked ∙ all_stay_marked groups m.killed j dead;
   opened = keeps.opened;
-  visit = keeps.visit;
   falls = keeps.usage;
   emptied = stocks.drained;
 }
@@ -69,12 +71,11 @@ usage_noted : (groups : List Group) (xs : List charge.Account) (g m : ℕ) → u
 unfolding usage_charged
 usage_noted groups xs g m = sum-map_same (share groups m) (with_event_at Oom groups g) (λ a. refl) xs
 
-pub oom_lowers : (t : KnownTable) (m : KnownMachine) (g : ℕ) (w : KnownWatch) → Lowers t m (with_watch (with_oom_noted_at m g) w)
+pub oom_lowers : (t : KnownTable) (m : KnownMachine) (g : ℕ) (w : KnownRun) → Lowers t m (with_run (with_oom_noted_at m g) w)
 oom_lowers t m g w = record {
   groups = refl;
   killed = λ v dead. dead;
   opened = refl;
-  visit = same_visit t m (with_watch (with_oom_noted_at m g) w) refl;
   falls = λ h.
       let a : current_of (with_oom_noted_at m g).ledger h ≡ current_of m.ledger h = usage_noted m.ledger.groups m.ledger.accounts g h in
       omega (arith, a);
@@ -89,7 +90,7 @@ kills_lower r t g pages m n steps k = elim (cases_Bool (has_room_at m.ledger g p
   | inl room ↦ stays_lower t m n steps (k.room room)
   | inr over ↦
       let h = k.over over in
-      let x = with_watch (with_oom_noted_at m g) h.seen in
+      let x = with_run (with_oom_noted_at m g) h.seen in
       lowers_both t m x n (oom_lowers t m g h.seen) (each_lowers r t g pages h.victims x n h.killing h.kills)
 ]
 
@@ -186,27 +187,30 @@ kills_more r t g pages killed (u ∷ victims) m x n first last each one = record
 -- An `oom` was noted at the group, and these victims have been killed so far, with all groups that die with them.
 -- Nothing else happened.
 pub record KillsSoFar (r : Option ℕ) (t : KnownTable) (g pages : ℕ) (m n : KnownMachine) : Type 0 where
-  pub seen : KnownWatch
-  pub notes : MakesForAny t m (note_oom_steps g) (with_watch (with_oom_noted_at m g) seen)
+  pub seen : KnownRun
+  pub notes : MakesForAny t m (note_oom_steps g) (with_run (with_oom_noted_at m g) seen)
   pub victims : List Killed
   pub killing : Run
-  pub kills : KillsVictims r g pages victims (transition t (with_watch (with_oom_noted_at m g) seen) killing n)
-  pub runs : MakesForAny t (with_watch (with_oom_noted_at m g) seen) killing n
+  pub kills : KillsVictims r g pages victims (transition t (with_run (with_oom_noted_at m g) seen) killing n)
+  pub runs : MakesForAny t (with_run (with_oom_noted_at m g) seen) killing n
+  pub visit : StaysVisited t m n
 
 -- the note, after the event
 pub so_far_nobody : (r : Option ℕ) (t : KnownTable) (g pages : ℕ) (m x n : KnownMachine)
-    → x ≡ record m { ledger = with_oom_noted m.ledger g; watch = x.watch } → MakesForAny t m (note_oom_steps g) x → n ≡ with_note x (notes.Oom g)
-    → KillsSoFar r t g pages m n
-so_far_nobody r t g pages m x n event noting noted =
-    let noting_m : MakesForAny t m (note_oom_steps g) (record m { ledger = with_oom_noted m.ledger g; watch = x.watch }) =
+    → x ≡ record m { ledger = with_oom_noted m.ledger g; run = x.run } → MakesForAny t m (note_oom_steps g) x → StaysVisited t m x
+    → n ≡ with_note x (notes.Oom g) → KillsSoFar r t g pages m n
+so_far_nobody r t g pages m x n event noting visit told =
+    let counted : KnownMachine = record m { ledger = with_oom_noted m.ledger g; run = x.run } in
+    let noting_m : MakesForAny t m (note_oom_steps g) counted =
     subst (λ (y : KnownMachine). MakesForAny t m (note_oom_steps g) y) event noting in
-    subst (λ (y : KnownMachine). KillsSoFar r t g pages m y) (sym (noted ∙ (λ i. with_note (event i) (notes.Oom g)))) (record {
-      seen = x.watch;
-      notes = λ c. record { leads = (noting_m c).leads; follows = (noting_m c).follows; counts = (noting_m c).counts; watched = (noting_m c).watched };
+    subst (λ (y : KnownMachine). KillsSoFar r t g pages m y) (sym (told ∙ (λ i. with_note (event i) (notes.Oom g)))) (record {
+      seen = x.run;
+      notes = λ c. record { leads = (noting_m c).leads; follows = (noting_m c).follows; counts = (noting_m c).counts; noted = (noting_m c).noted };
       victims = [];
       killing = [];
       kills = record { machine = refl; steps_are = refl };
-      runs = λ c. makes_none t c.number (visit_state (with_watch (with_oom_noted_at m g) x.watch) c);
+      runs = λ c. makes_none t c.number (visit_state (with_run (with_oom_noted_at m g) x.run) c);
+      visit = λ c v. visits_noted t counted c (noted counted.notes (notes.Oom g)) (subst (StaysVisited t m) event visit c v);
     })
 
 pub so_far_killed : (r : Option ℕ) (t : KnownTable) (w : KnownStockTable) (g pages : ℕ) (killed : Killed) (m x n : KnownMachine) → KillsSoFar r t g pages m x
@@ -217,7 +221,7 @@ so_far_killed r t w g pages killed m x n so_far needs_room whole charges chosen 
   notes = so_far.notes;
   victims = so_far.victims ++ killed ∷ [];
   killing = so_far.killing ++ kills.steps;
-  kills = kills_more r t g pages killed so_far.victims (with_watch (with_oom_noted_at m g) so_far.seen) x n so_far.killing kills.steps so_far.kills (record {
+  kills = kills_more r t g pages killed so_far.victims (with_run (with_oom_noted_at m g) so_far.seen) x n so_far.killing kills.steps so_far.kills (record {
     needs_room = needs_room;
     chosen = chosen;
     stock_table = w;
@@ -229,14 +233,21 @@ so_far_killed r t w g pages killed m x n so_far needs_room whole charges chosen 
     stocks = stocks;
     keeps = keeps;
   });
-  runs = λ c. makes_both t c.number so_far.killing kills.steps (visit_state (with_watch (with_oom_noted_at m g) so_far.seen) c) (visit_state x c)
+  runs = λ c. makes_both t c.number so_far.killing kills.steps (visit_state (with_run (with_oom_noted_at m g) so_far.seen) c) (visit_state x c)
       (visit_state n c) (so_far.runs c) (kills.runs c);
+  visit = λ c v. keeps.visit c (so_far.visit c v);
 }
+
+-- what the CPU sees then
+pub so_far_shown : (r : Option ℕ) (t : KnownTable) (g pages : ℕ) (m n : KnownMachine) → KillsSoFar r t g pages m n → SomeShown t m → SomeShown t n
+so_far_shown r t g pages m n so_far shown =
+    let x = with_run (with_oom_noted_at m g) so_far.seen in
+    shown_after t x so_far.killing n so_far.runs (shown_after t m (note_oom_steps g) x so_far.notes shown)
 
 pub so_far_there : (r : Option ℕ) (t : KnownTable) (g pages : ℕ) (m n : KnownMachine) → KillsSoFar r t g pages m n → has_group m.ledger.groups g ≡ true
     → has_group n.ledger.groups g ≡ true
 so_far_there r t g pages m n so_far there =
-    let l = each_lowers r t g pages so_far.victims (with_watch (with_oom_noted_at m g) so_far.seen) n so_far.killing so_far.kills in
+    let l = each_lowers r t g pages so_far.victims (with_run (with_oom_noted_at m g) so_far.seen) n so_far.killing so_far.kills in
     ap (λ (x : List Group). has_group x g) l.groups ∙ there
 
 -- the kills are over
@@ -256,7 +267,7 @@ kills_end r t g pages m n over so_far ended = record {
       steps_are = refl;
     };
   };
-  makes = λ c. makes_both t c.number (note_oom_steps g) so_far.killing (visit_state m c) (visit_state (with_watch (with_oom_noted_at m g) so_far.seen) c)
+  makes = λ c. makes_both t c.number (note_oom_steps g) so_far.killing (visit_state m c) (visit_state (with_run (with_oom_noted_at m g) so_far.seen) c)
       (visit_state n c) (so_far.notes c) (so_far.runs c);
 }
 

@@ -1,10 +1,10 @@
--- What notes and drains keep: usage is no higher, no stock is filled, and groups and visits stay. Serves all calls.
+-- What notes and drains keep: usage is no higher, no stock is filled, and groups stay. Serves all calls.
 use Rattle.std.proofs.Common.{◌≡◌, ℕ, zero, suc, ◌+◌, ◌-◌, ◌<◌, ◌≤◌, ◌==◌, Bool, true, false, Option, Some, None, List, [], ◌∷◌, map, refl, sym, ap, ◌∙◌}
 use Rattle.std.proofs.Common.{subst, inl, inr, arith, cond, eq-eqb}
 use Rattle.std.specs.List.{sum_by}
 use Rattle.std.proofs.lemmas.Bool.{cases_eq, cases_lt, ne_eqb, cond-true, cond-false, false≢true}
 use Rattle.std.proofs.lemmas.List.Sums.{sum_by-cons}
-use Rattle.frame_word.specs.Seats.{KnownTable, KnownSeat, IsOpen, NothingPasses, LentIsBorrowed}
+use Rattle.frame_word.specs.Seats.{KnownTable}
 use Rattle.group_tree.specs.declared.group.Group.{Group}
 use Rattle.group_tree.specs.Groups.{has_group, in_subtree, limit_of}
 use Rattle.group_tree.specs.Room.{fits_limit, PathHasRoom}
@@ -17,11 +17,9 @@ use Rattle.stock_word.specs.declared.view.StockView.{StockView}
 use Rattle.stock_word.specs.Stock.{KnownStockSeat, account_of}
 use Rattle.stock_word.specs.Kinds.{with_steps, zone_after_drain}
 use Rattle.stock_word.specs.Calls.{with_view, after_look}
-use Rattle.cpu_part.specs.Cpus.{KnownCpu}
 use Rattle.step_rules.specs.State.{sum_to}
 use Rattle.step_rules.specs.After.{Run}
-use Rattle.mem_machine.specs.Machines.{KnownMachine, is_killed, with_watch}
-use Rattle.mem_machine.specs.Local.{Visits}
+use Rattle.mem_machine.specs.Machines.{KnownMachine, is_killed, with_run}
 use Rattle.mem_machine.specs.Paying.{HasRoomFor}
 use Rattle.mem_machine.specs.Steps.{Drain}
 use Rattle.mem_machine.specs.Stocks.{Drains, DrainsBelow, DrainsAllBelow, stock_group, uncharged, with_look}
@@ -30,32 +28,22 @@ use Rattle.mem_machine.proofs.Prepaying.{current_falls}
 use Rattle.mem_reclaim.specs.Staying.{Keeps}
 use Rattle.mem_machine.specs.Transitions.{transition}
 use Rattle.mem_alloc.specs.Room.{ClearsBelow, has_room_at, with_max_noted_at}
-use Rattle.mem_machine.specs.Local.{visit_state}
-use Rattle.step_watch.specs.Watched.{KnownWatch}
+use Rattle.mem_machine.specs.Noted.{KnownRun}
 
--- the groups and the visits stay, who was killed stays killed, no usage is higher, and no stock is filled that wasn't
+-- the groups stay, no visit is opened or shut, who was killed stays killed, no usage is higher, and no stock is filled that
+-- wasn't
 pub record Lowers (t : KnownTable) (m n : KnownMachine) : Type 0 where
   pub groups : n.ledger.groups ≡ m.ledger.groups
   pub killed : (v : ℕ) → is_killed m.killed v ≡ true → is_killed n.killed v ≡ true
   pub opened : n.frame_seat.view.opened ≡ m.frame_seat.view.opened
-  pub visit : (c : KnownCpu) → Visits t (visit_state m c) → Visits t (visit_state n c)
   pub falls : (h : ℕ) → current_of n.ledger h ≤ current_of m.ledger h
   pub emptied : (p : ℕ) → (account_of m.stock_seat.view p).filled ≡ false → (account_of n.stock_seat.view p).filled ≡ false
-
--- a visit stays if the zone's seat does
-pub same_visit : (t : KnownTable) (m n : KnownMachine) → n.frame_seat ≡ m.frame_seat → (c : KnownCpu) → Visits t (visit_state m c) → Visits t (visit_state n c)
-same_visit t m n seat c v = record {
-  is_open = subst (λ (s : KnownSeat). IsOpen s c.number) (sym seat) v.is_open;
-  still = subst (λ (s : KnownSeat). NothingPasses t s c.frame_seat) (sym seat) v.still;
-  lent = subst (λ (s : KnownSeat). LentIsBorrowed t s c.frame_seat) (sym seat) v.lent;
-}
 
 pub lowers_none : (t : KnownTable) (m : KnownMachine) → Lowers t m m
 lowers_none t m = record {
   groups = refl;
   killed = λ v dead. dead;
   opened = refl;
-  visit = λ c v. v;
   falls = λ h. omega arith;
   emptied = λ p is. is;
 }
@@ -65,7 +53,6 @@ lowers_both t m x n a b = record {
   groups = b.groups ∙ a.groups;
   killed = λ v dead. b.killed v (a.killed v dead);
   opened = b.opened ∙ a.opened;
-  visit = λ c v. b.visit c (a.visit c v);
   falls = λ h. let u = a.falls h in let v = b.falls h in omega (arith, u, v);
   emptied = λ p is. b.emptied p (a.emptied p is);
 }
@@ -80,7 +67,6 @@ pub drain_lowers : (t : KnownTable) (m n : KnownMachine) (q k : ℕ) → Drains 
 drain_lowers t m n q k d = record {
   killed = λ v dead. ap (λ (y : KnownMachine). is_killed y.killed v) d.machine ∙ dead;
   opened = ap (λ (y : KnownMachine). y.frame_seat.view.opened) d.machine;
-  visit = same_visit t m n (ap (λ (y : KnownMachine). y.frame_seat) d.machine);
   groups = ap (λ (y : KnownMachine). y.ledger.groups) d.machine ∙ groups_stay m.ledger (stock_group m q) k;
   falls = λ h.
       let a : current_of n.ledger h ≡ current_of (uncharged m.ledger (stock_group m q) k) h = ap (λ (y : KnownMachine). current_of y.ledger h) d.machine in
@@ -94,7 +80,6 @@ look_lowers : (t : KnownTable) (m n : KnownMachine) (q : ℕ) (o : Option ℕ) �
 look_lowers t m n q None is = record {
   killed = λ v dead. ap (λ (y : KnownMachine). is_killed y.killed v) is ∙ dead;
   opened = ap (λ (y : KnownMachine). y.frame_seat.view.opened) is;
-  visit = same_visit t m n (ap (λ (y : KnownMachine). y.frame_seat) is);
   groups = ap (λ (y : KnownMachine). y.ledger.groups) is;
   falls = λ h. let a : current_of n.ledger h ≡ current_of m.ledger h = ap (λ (y : KnownMachine). current_of y.ledger h) is in omega (arith, a);
   emptied = λ p e. ap (λ (y : KnownMachine). (account_of y.stock_seat.view p).filled) is ∙ emptied_at m.stock_seat.view q 0 p e;
@@ -102,7 +87,6 @@ look_lowers t m n q None is = record {
 look_lowers t m n q (Some g) is = record {
   killed = λ v dead. ap (λ (y : KnownMachine). is_killed y.killed v) is ∙ dead;
   opened = ap (λ (y : KnownMachine). y.frame_seat.view.opened) is;
-  visit = same_visit t m n (ap (λ (y : KnownMachine). y.frame_seat) is);
   groups = ap (λ (y : KnownMachine). y.ledger.groups) is;
   falls = λ h. let a : current_of n.ledger h ≡ current_of m.ledger h = ap (λ (y : KnownMachine). current_of y.ledger h) is in omega (arith, a);
   emptied = λ p e. ap (λ (y : KnownMachine). (account_of y.stock_seat.view p).filled) is ∙ e;
@@ -120,7 +104,6 @@ below_lowers t g q m n (drain ∷ []) h =
       groups = l.groups;
       killed = l.killed;
       opened = l.opened;
-      visit = same_visit t m n (ap (λ (y : KnownMachine). y.frame_seat) h.1.drains.drains.machine);
       falls = l.falls;
       emptied = l.emptied;
     }
@@ -134,23 +117,21 @@ usage_noted : (groups : List Group) (xs : List charge.Account) (g m : ℕ) → u
 unfolding usage_charged
 usage_noted groups xs g m = sum-map_same (share groups m) (max_noted groups g) (λ a. refl) xs
 
--- another watch changes nothing of this
-pub watched_lowers : (t : KnownTable) (m : KnownMachine) (w : KnownWatch) → Lowers t m (with_watch m w)
-watched_lowers t m w = record {
+-- another run changes nothing of this
+pub run_lowers : (t : KnownTable) (m : KnownMachine) (w : KnownRun) → Lowers t m (with_run m w)
+run_lowers t m w = record {
   groups = refl;
   killed = λ v dead. dead;
   opened = refl;
-  visit = same_visit t m (with_watch m w) refl;
   falls = λ h. omega arith;
   emptied = λ p is. is;
 }
 
-pub note_lowers : (t : KnownTable) (m : KnownMachine) (g pages : ℕ) (w : KnownWatch) → Lowers t m (with_watch (with_max_noted_at m g pages) w)
+pub note_lowers : (t : KnownTable) (m : KnownMachine) (g pages : ℕ) (w : KnownRun) → Lowers t m (with_run (with_max_noted_at m g pages) w)
 note_lowers t m g pages w = record {
   groups = refl;
   killed = λ v dead. dead;
   opened = refl;
-  visit = same_visit t m (with_watch (with_max_noted_at m g pages) w) refl;
   falls = λ h.
       let a : current_of (with_max_noted_at m g pages).ledger h ≡ current_of m.ledger h = usage_noted m.ledger.groups m.ledger.accounts g h in
       omega (arith, a);
@@ -159,7 +140,7 @@ note_lowers t m g pages w = record {
 
 pub clears_lower : (t : KnownTable) (g pages : ℕ) (m n : KnownMachine) (steps : Run) → ClearsBelow g pages (transition t m steps n) → Lowers t m n
 clears_lower t g pages m n steps c =
-    let x = with_watch (with_max_noted_at m g pages) c.seen in
+    let x = with_run (with_max_noted_at m g pages) c.seen in
     lowers_both t m x n (note_lowers t m g pages c.seen) (all_lower t g t.cpus x n c.drains c.all)
 
 -- reclaim keeps it too
@@ -168,15 +149,11 @@ keeps_lower t m n keeps = record {
   groups = keeps.groups;
   killed = λ v dead. ap (λ (k : List Bool). is_killed k v) keeps.killed ∙ dead;
   opened = keeps.opened;
-  visit = keeps.visit;
   falls = keeps.usage;
   emptied = λ p is. ap (λ (s : KnownStockSeat). (account_of s.view p).filled) keeps.stock_seat ∙ is;
 }
 
 -- ---- what stays
-
-pub lowered_visit : (t : KnownTable) (m n : KnownMachine) (c d : KnownCpu) → Lowers t m n → d ≡ c → Visits t (visit_state m c) → Visits t (visit_state n d)
-lowered_visit t m n c d l cpu v = subst (λ (x : KnownCpu). Visits t (visit_state n x)) (sym cpu) (l.visit c v)
 
 pub lowered_there : (t : KnownTable) (m n : KnownMachine) (g : ℕ) → Lowers t m n → has_group m.ledger.groups g ≡ true → has_group n.ledger.groups g ≡ true
 lowered_there t m n g l there = ap (λ (x : List Group). has_group x g) l.groups ∙ there

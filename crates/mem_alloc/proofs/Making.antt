@@ -9,8 +9,8 @@ use Rattle.group_tree.specs.Room.{IsLowestOver, fits_limit}
 use Rattle.group_charge.specs.Charges.{current_of, with_max_noted}
 use Rattle.cpu_part.specs.Cpus.{KnownCpu}
 use Rattle.step_rules.specs.After.{Run}
-use Rattle.mem_machine.specs.Machines.{KnownMachine, is_killed, with_watch}
-use Rattle.mem_machine.specs.Local.{MakesForAny, VisitState, visit_state, MakesAs, Makes}
+use Rattle.mem_machine.specs.Machines.{KnownMachine, is_killed, with_run}
+use Rattle.mem_machine.specs.Local.{MakesForAny, SomeShown, StaysVisited, Visits, VisitState, visit_state, MakesAs, Makes}
 use Rattle.mem_machine.specs.Steps.{over_steps, note_max_steps, drain_stocks_steps, fill_steps}
 use Rattle.mem_machine.specs.Stocks.{Fills, DrainsSubtree, DrainsAllBelow, AreDrained}
 use Rattle.mem_machine.specs.Transitions.{BySteps, Transition, transition}
@@ -22,9 +22,21 @@ use Rattle.mem_alloc.specs.Room.{KillsForFewPages, MakesRoom, ReclaimsBefore, Re
 use Rattle.mem_alloc.specs.Room.{with_limit_noted, with_max_noted_at}
 use Rattle.mem_alloc.specs.declared.faults.AllocFault.{AllocFault}
 use Rattle.mem_alloc.specs.Charging.{ChargesOne, FillsStock}
-use Rattle.mem_alloc.proofs.Lowering.{Lowers, lowers_none, lowers_both, watched_lowers}
+use Rattle.mem_alloc.proofs.Lowering.{Lowers, lowers_none, lowers_both, run_lowers}
 use Rattle.mem_alloc.proofs.Killing.{relieving_lowers}
 use Rattle.mem_machine.proofs.Followed.{makes_both, makes_none}
+use Rattle.mem_machine.proofs.Reached.{shown_same}
+use Rattle.mem_machine.proofs.Watched.{visits_noted}
+
+-- the note of a limit makes no step
+pub limit_visits : (t : KnownTable) (g pages : ℕ) (m x : KnownMachine) → x ≡ with_limit_noted m g pages → StaysVisited t m x
+limit_visits t g pages m x is =
+    subst (StaysVisited t m) (sym is) (λ c v. visits_noted t m c (with_limit_noted m g pages).notes v)
+
+pub limit_shown : (t : KnownTable) (g pages : ℕ) (m x : KnownMachine) → x ≡ with_limit_noted m g pages → SomeShown t m → SomeShown t x
+limit_shown t g pages m x is shown =
+    let c = shown.cpu in
+    subst (SomeShown t) (sym is) (record { cpu = c; is = shown_same t (visit_state m c) (visit_state (with_limit_noted m g pages) c) shown.is refl refl refl })
 
 note_then_drains : (t : KnownTable) (g pages : ℕ) (m x n : KnownMachine) → MakesForAny t m (note_max_steps g) x → (drains : DrainsSubtree t g pages x n)
     → MakesForAny t m (note_max_steps g ++ drain_stocks_steps drains.drains) n
@@ -32,18 +44,18 @@ note_then_drains t g pages m x n noting drains c =
     makes_both t c.number (note_max_steps g) (drain_stocks_steps drains.drains) (visit_state m c) (visit_state x c) (visit_state n c) (noting c) (drains.steps c)
 
 -- the notes, and then the drains. Serves `make_room`
-pub clears_by : (t : KnownTable) (g pages back : ℕ) (m y x n : KnownMachine) → y ≡ with_limit_noted m g pages → x ≡ record y { ledger = with_max_noted y.ledger g; watch = x.watch }
+pub clears_by : (t : KnownTable) (g pages back : ℕ) (m y x n : KnownMachine) → y ≡ with_limit_noted m g pages → x ≡ record y { ledger = with_max_noted y.ledger g; run = x.run }
     → MakesForAny t y (note_max_steps g) x → DrainsSubtree t g back x n → AreDrained g t.cpus n → BySteps MakesForAny t (ClearsBelow g pages) m n
 clears_by t g pages back m y x n told noted noting_y drains drained =
-    let both : x ≡ with_watch (with_max_noted_at m g pages) x.watch =
-    noted ∙ ap (λ (k : KnownMachine). record k { ledger = with_max_noted k.ledger g; watch = x.watch }) told in
+    let both : x ≡ with_run (with_max_noted_at m g pages) x.run =
+    noted ∙ ap (λ (k : KnownMachine). record k { ledger = with_max_noted k.ledger g; run = x.run }) told in
     let noting_told : MakesForAny t (with_limit_noted m g pages) (note_max_steps g) x =
     subst (λ (k : KnownMachine). MakesForAny t k (note_max_steps g) x) told noting_y in
-    let noting : MakesForAny t m (note_max_steps g) x = λ c. record { leads = (noting_told c).leads; follows = (noting_told c).follows; counts = (noting_told c).counts; watched = (noting_told c).watched } in record {
+    let noting : MakesForAny t m (note_max_steps g) x = λ c. record { leads = (noting_told c).leads; follows = (noting_told c).follows; counts = (noting_told c).counts; noted = (noting_told c).noted } in record {
       steps = note_max_steps g ++ drain_stocks_steps drains.drains;
       does = record {
         drains = drains.drains;
-        seen = x.watch;
+        seen = x.run;
         all = subst (λ (k : KnownMachine). DrainsAllBelow g t.cpus drains.drains k n) both drains.all;
         drained = drained;
         steps_are = refl;
@@ -109,6 +121,7 @@ pub record RoomSoFar (t : KnownTable) (g pages : ℕ) (c : KnownCpu) (m n : Know
   pub making : Run
   pub makes : MakesRoom g refused_at pages (transition t m making n)
   pub runs : MakesAs t c.number (visit_state m c) making (visit_state n c)
+  pub visit : Visits t (visit_state m c) → Visits t (visit_state n c)
   pub lowers : Lowers t m n
   pub alive : is_killed n.killed g ≡ false
 
@@ -118,13 +131,14 @@ so_far_none t g pages c m alive = record {
   making = [];
   makes = record { machine = refl; steps_are = refl };
   runs = makes_none t c.number (visit_state m c);
+  visit = λ v. v;
   lowers = lowers_none t m;
   alive = alive;
 }
 
 module _ (t : KnownTable) (g pages : ℕ) (c : KnownCpu) (m x : KnownMachine) (so_far : RoomSoFar t g pages c m x) where
   -- one more charge was refused, by its steps
-  module _ (y z n : KnownMachine) (d e : KnownCpu) (over : ℕ) (same : y ≡ with_watch x y.watch) (mine : d ≡ c) (mine_after : e ≡ c)
+  module _ (y z n : KnownMachine) (d e : KnownCpu) (over : ℕ) (same : y ≡ with_run x y.run) (mine : d ≡ c) (mine_after : e ≡ c)
       (low : IsLowestOver z.ledger.groups (current_of z.ledger) g pages over) (before_it : z ≡ x)
       (refusing : MakesAs t d.number (visit_state z d) (over_steps g pages over) (visit_state y e)) (relieves : BySteps MakesForAny t (RelievesLimit g over pages) y n) where
     refused : (answer : Result (Unit {0}) AllocFault) → IsRoomAnswer g over pages answer n
@@ -132,14 +146,14 @@ module _ (t : KnownTable) (g pages : ℕ) (c : KnownCpu) (m x : KnownMachine) (s
     refused answer room = record {
       lowest = subst (λ (k : KnownMachine). IsLowestOver k.ledger.groups (current_of k.ledger) g pages over) before_it low;
       relieving = relieves.steps;
-      seen = y.watch;
+      seen = y.run;
       relieves = subst (λ (k : KnownMachine). RelievesLimit g over pages (transition t k relieves.steps n)) same relieves.does;
       room = room;
       steps_are = refl;
     }
 
     lowered : Lowers t x n
-    lowered = lowers_both t x y n (subst (λ (k : KnownMachine). Lowers t x k) (sym same) (watched_lowers t x y.watch)) (relieving_lowers t g over pages y n relieves)
+    lowered = lowers_both t x y n (subst (λ (k : KnownMachine). Lowers t x k) (sym same) (run_lowers t x y.run)) (relieving_lowers t g over pages y n relieves)
 
     runs_on : MakesAs t c.number (visit_state m c) (so_far.making ++ (over_steps g pages over ++ relieves.steps))
         (visit_state n c)
@@ -152,13 +166,14 @@ module _ (t : KnownTable) (g pages : ℕ) (c : KnownCpu) (m x : KnownMachine) (s
         (relieves.makes c))
 
     -- and its group has room now
-    pub so_far_more : HasMadeRoom g over pages n → RoomSoFar t g pages c m n
-    so_far_more room = record {
+    pub so_far_more : HasMadeRoom g over pages n → Visits t (visit_state n e) → RoomSoFar t g pages c m n
+    so_far_more room visit = record {
       refused_at = so_far.refused_at ++ over ∷ [];
       making = so_far.making ++ (over_steps g pages over ++ relieves.steps);
       makes = room_more t g pages over so_far.refused_at m x n so_far.making
           (over_steps g pages over ++ relieves.steps) so_far.makes (refused (Ok tt) room);
       runs = runs_on;
+      visit = λ v. subst (λ (k : KnownCpu). Visits t (visit_state n k)) mine_after visit;
       lowers = lowers_both t m x n so_far.lowers lowered;
       alive = room.alive;
     }

@@ -7,7 +7,7 @@ use Rattle.frame_word.specs.Views.{collected_from, passed_out_to, unfrozen}
 use Rattle.zone_blocks.specs.declared.config.Config.{Config}
 use Rattle.step_rules.specs.After.{Run}
 use Rattle.group_charge.specs.declared.note.Note.TheVariants.{Zone}
-use Rattle.mem_machine.specs.Machines.{KnownMachine, with_note, with_watch}
+use Rattle.mem_machine.specs.Machines.{KnownMachine, with_note, with_run}
 use Rattle.mem_machine.specs.Local.{VisitState, visit_state}
 use Rattle.mem_machine.specs.Blocks.{taken_steps, unplaced_steps}
 use Rattle.mem_machine.specs.Lending.{LendsMany, UnlistsMany}
@@ -27,7 +27,7 @@ use Rattle.mem_alloc.specs.Rounds.{AfterZoneNote, FailsInRounds, FreesInRound, M
 use Rattle.mem_alloc.specs.Frames.{AllocatesFrame, FillsList, HasNoFreeFrame, LendsBatch, LendsNoFrame, MakesRefillRounds, RefillsInRounds}
 use Rattle.mem_alloc.specs.Blocks.{AllocatesBlock, ChargesBlock, FindsNoBlock, MakesTakeRounds, RetriesBlock, TakesAfterDrain, TakesFreeBlock, TakesInRounds, TakesOrReclaims}
 use Rattle.mem_alloc.proofs.NoRash.{all_same}
-use Rattle.step_watch.specs.Watched.{KnownWatch}
+use Rattle.mem_machine.specs.Noted.{KnownRun}
 
 -- ---- one after another
 
@@ -93,7 +93,7 @@ counts_kills r t g pages m n steps k = elim (cases_Bool (has_room_at m.ledger g 
   | inl room ↦ counts_rest t m n steps (k.room room).machine (k.room room).steps_are
   | inr over ↦
       let h = k.over over in
-      let x = with_watch (with_oom_noted_at m g) h.seen in
+      let x = with_run (with_oom_noted_at m g) h.seen in
       counts_as t m n steps (note_oom_steps g ++ h.killing) h.steps_are (counts_both t m x n (note_oom_steps g) h.killing
       (counts_same t m x (note_oom_steps g) (record { no_kill = refl; no_miss = λ f. refl }) refl) (counts_each r t g pages h.victims x n h.killing h.kills))
 ]
@@ -108,7 +108,7 @@ counts_few t r g pages m n steps k = elim (cases_lt 8 pages) [
 
 counts_clear : (t : KnownTable) (g pages : ℕ) (m n : KnownMachine) (steps : Run) → ClearsBelow g pages (transition t m steps n) → CountsMisses (transition t m steps n)
 counts_clear t g pages m n steps h =
-    let x = with_watch (with_max_noted_at m g pages) h.seen in
+    let x = with_run (with_max_noted_at m g pages) h.seen in
     let note = counts_same t m x (note_max_steps g) (record { no_kill = refl; no_miss = λ f. refl }) refl in
     counts_as t m n steps (note_max_steps g ++ drain_stocks_steps h.drains) h.steps_are
     (counts_both t m x n (note_max_steps g) (drain_stocks_steps h.drains) note (counts_drains t g t.cpus x n h.drains h.all))
@@ -124,15 +124,15 @@ counts_relief t r g pages m n steps h =
     (counts_as t x n h.later (next.earlier ++ next.later) next.steps_are
     (counts_both t x y n next.earlier next.later next.first.moves.misses (counts_few t r g pages y n next.later next.second))))
 
-over_counts : (t : KnownTable) (g pages over : ℕ) (m : KnownMachine) (w : KnownWatch) → CountsMisses (transition t m (over_steps g pages over) (with_watch m w))
-over_counts t g pages over m w = counts_same t m (with_watch m w) (over_steps g pages over) (record { no_kill = refl; no_miss = λ f. refl }) refl
+over_counts : (t : KnownTable) (g pages over : ℕ) (m : KnownMachine) (w : KnownRun) → CountsMisses (transition t m (over_steps g pages over) (with_run m w))
+over_counts t g pages over m w = counts_same t m (with_run m w) (over_steps g pages over) (record { no_kill = refl; no_miss = λ f. refl }) refl
 
 counts_refused : (t : KnownTable) (g pages over : ℕ) (answer : Result (Unit {0}) AllocFault) (m n : KnownMachine) (steps : Run)
     → IsRefusedAt g over pages answer (transition t m steps n) → CountsMisses (transition t m steps n)
 counts_refused t g pages over answer m n steps h =
     counts_as t m n steps (over_steps g pages over ++ h.relieving) h.steps_are
-    (counts_both t m (with_watch m h.seen) n (over_steps g pages over) h.relieving (over_counts t g pages over m h.seen)
-    (counts_relief t g over pages (with_watch m h.seen) n h.relieving h.relieves))
+    (counts_both t m (with_run m h.seen) n (over_steps g pages over) h.relieving (over_counts t g pages over m h.seen)
+    (counts_relief t g over pages (with_run m h.seen) n h.relieving h.relieves))
 
 counts_room : (t : KnownTable) (g pages : ℕ) (refused : List ℕ) (m n : KnownMachine) (steps : Run) → MakesRoom g refused pages (transition t m steps n)
     → CountsMisses (transition t m steps n)
@@ -277,9 +277,9 @@ lacks_counts sizes g answer call h =
     let t = call.table in
     let m = call.before.machine in
     let first = over_steps g sizes.stock h.over in
-    counts_as t m call.after.machine call.steps (first ++ h.later) h.steps_are (counts_both t m (with_watch m h.seen) call.after.machine first h.later
+    counts_as t m call.after.machine call.steps (first ++ h.later) h.steps_are (counts_both t m (with_run m h.seen) call.after.machine first h.later
     (over_counts t g sizes.stock h.over m h.seen)
-    (one_counts g answer (transition t (visit_state (with_watch m h.seen) call.before.cpu) h.later call.after) h.does))
+    (one_counts g answer (transition t (visit_state (with_run m h.seen) call.before.cpu) h.later call.after) h.does))
 
 charges_count : (sizes : Config) (g : ℕ) (answer : Result (Unit {0}) AllocFault) → AllCounted (FillsDrainedStock sizes g answer)
 charges_count sizes g (Ok v) call (inl h) = stock_counts g sizes.stock call h

@@ -20,7 +20,7 @@ use Rattle.step_rules.specs.declared.step.Answer.{Answer}
 use Rattle.step_rules.specs.declared.step.Step.{Step}
 use Rattle.step_rules.specs.State.{State}
 use Rattle.step_rules.specs.After.{Run, after}
-use Rattle.mem_machine.specs.Machines.{KnownMachine, home_of, with_note, with_watch}
+use Rattle.mem_machine.specs.Machines.{KnownMachine, home_of, with_note, with_run}
 use Rattle.mem_machine.specs.Local.{IsLocalRun, MakesForAny, VisitState, local_of, visit_state}
 use Rattle.mem_machine.specs.Steps.{Drain, drain_stocks_steps, note_group_kill_steps, note_max_steps, note_oom_steps, over_steps}
 use Rattle.mem_machine.specs.Stocks.{AreDrained, Drains, DrainsBelow, DrainsAllBelow, of_subtree, stock_group}
@@ -442,7 +442,7 @@ module _ (t : KnownTable) (MayAsk : List Group → ℕ → ℕ → Type 0) (s : 
   tame_victims : (r : Option ℕ) (g pages : ℕ) (made : Run) (m : KnownMachine) (steps : Run) (n : KnownMachine) → MayAsk m.ledger.groups g pages
       → Passes t c s made m → AreDrained g t.cpus m → MissedAll g s m → KillsUntilRoom r g pages (transition t m steps n) → Tame made m steps n
   tame_victims r g pages made m steps n asked since drained missed h =
-      let x = with_watch (with_oom_noted_at m g) h.seen in
+      let x = with_run (with_oom_noted_at m g) h.seen in
       let note = passes_same t c m x (note_oom_steps g) (h.notes c).leads refl refl (record { no_kill = refl; no_miss = λ f. refl }) in
       let ready : Ready g (made ++ note_oom_steps g) x = record {
         since = passes_both t c s m x made (note_oom_steps g) since note;
@@ -478,7 +478,7 @@ module _ (t : KnownTable) (MayAsk : List Group → ℕ → ℕ → Type 0) (s : 
 
   clears_tame : (g pages : ℕ) (made : Run) (m : KnownMachine) (steps : Run) (n : KnownMachine) → ClearsBelow g pages (transition t m steps n) → Tame made m steps n
   clears_tame g pages made m steps n h =
-      let same = all_same g t.cpus (with_watch (with_max_noted_at m g pages) h.seen) n h.drains h.all in
+      let same = all_same g t.cpus (with_run (with_max_noted_at m g pages) h.seen) n h.drains h.all in
       let quiet = quiet_both (note_max_steps g) (drain_stocks_steps h.drains) (record { no_kill = refl; no_miss = λ f. refl }) (quiet_drains h.drains) in
       let here = subst AreQuiet (sym h.steps_are) quiet in
       tame_quiet made m steps n (passes_same t c m n steps (h.runs c).leads same.frame_seat same.links here) same.groups here.no_kill
@@ -524,7 +524,7 @@ module _ (t : KnownTable) (MayAsk : List Group → ℕ → ℕ → Type 0) (s : 
         let first = over_steps g pages over in
         let grant = over_runs c.number g pages over (h.relieving ++ rest) (local_of t m c) z
         (subst (λ (k : Run). IsLocalRun c.number (local_of t m c) (k ++ rest) z) h.steps_are whole) in
-        let x = with_watch m h.seen in
+        let x = with_run m h.seen in
         let refused = passes_same t c m x first grant refl refl (record { no_kill = refl; no_miss = λ f. refl }) in
         let here : in_subtree base over g ≡ true = ap (λ (l : List Group). in_subtree l over g) (sym is) ∙ h.lowest.on_path in
         let asked = λ (few : pages ≤ 8). subst (λ (l : List Group). MayAsk l over pages) (sym is) (asks over here few) in

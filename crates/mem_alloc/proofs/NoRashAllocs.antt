@@ -13,7 +13,7 @@ use Rattle.step_rules.specs.declared.step.Step.{Step}
 use Rattle.step_rules.specs.State.{State}
 use Rattle.step_rules.specs.After.{Run}
 use Rattle.group_charge.specs.declared.note.Note.TheVariants.{Zone}
-use Rattle.mem_machine.specs.Machines.{KnownMachine, with_note, with_watch}
+use Rattle.mem_machine.specs.Machines.{KnownMachine, with_note, with_run}
 use Rattle.mem_machine.specs.Local.{IsLocalRun, VisitState, local_of, visit_state}
 use Rattle.mem_machine.specs.Stocks.{stock_group, with_look}
 use Rattle.mem_machine.specs.Steps.{drain_list_steps, drain_steps, over_steps, take_front_steps}
@@ -159,7 +159,7 @@ module _ (t : KnownTable) (MayAsk : List Group → ℕ → ℕ → Type 0) (s : 
         let first = over_steps g sizes.stock h.over in
         let all = subst (λ (k : Run). IsLocalRun c.number (local_of t x c) (k ++ rest) z) h.steps_are whole in
         let grant = over_runs c.number g sizes.stock h.over (h.later ++ rest) (local_of t x c) z all in
-        let y = with_watch x h.seen in
+        let y = with_run x h.seen in
         let refused = passes_same t c x y first grant refl refl (record { no_kill = refl; no_miss = λ f. refl }) in
         let on = run_rest c.number first (h.later ++ rest) (local_of t x c) (local_of t x c) z grant all in
         subst (λ (k : Run). RashFree t MayAsk s c made k) (sym h.steps_are) (rash_both t MayAsk s c made first h.later

@@ -7,6 +7,7 @@ use Rattle.cpu_part.specs.Cpus.{KnownCpu}
 use Rattle.step_rules.specs.After.{Run}
 use Rattle.group_charge.specs.declared.note.Note.{Note}
 use Rattle.group_charge.specs.declared.note.Note.TheVariants.{Zone}
+use Rattle.group_charge.specs.Notes.{noted}
 use Rattle.mem_machine.specs.Machines.{KnownMachine, with_note}
 use Rattle.mem_machine.specs.Local.{Visits}
 use Rattle.mem_machine.specs.Local.{VisitState, visit_state, MakesAs, Makes}
@@ -18,6 +19,7 @@ use Rattle.mem_machine.specs.Transitions.{BySteps, Transition, transition}
 use Rattle.mem_alloc.specs.Rounds.{AfterZoneNote, FailsInRounds, FreesInRound, MakesRound, SucceedsInRounds}
 use Rattle.mem_alloc.proofs.Lowering.{Lowers, lowers_none, lowers_both, keeps_lower}
 use Rattle.mem_machine.proofs.Followed.{makes_both, makes_none}
+use Rattle.mem_machine.proofs.Watched.{visits_noted}
 
 -- ---- what a failed try keeps
 
@@ -113,7 +115,6 @@ spares_after_note t m n c d note s =
         groups = l.groups;
         killed = l.killed;
         opened = l.opened;
-        visit = λ e v. l.visit e (record { is_open = v.is_open; still = v.still; lent = v.lent });
         falls = l.falls;
         emptied = l.emptied;
       };
@@ -124,7 +125,7 @@ spares_after_note t m n c d note s =
 
 -- a visit stays open at a note
 pub noted_visit : (t : KnownTable) (m : KnownMachine) (c : KnownCpu) (note : Note) → Visits t (visit_state m c) → Visits t (visit_state (with_note m note) c)
-noted_visit t m c note v = record { is_open = v.is_open; still = v.still; lent = v.lent }
+noted_visit t m c note v = visits_noted t m c (noted m.notes note) v
 
 -- a note of the zone, and then what follows it
 pub zone_noted : (t : KnownTable) (order : ℕ) (Does : Transition VisitState → Type 0) (m x : KnownMachine) (c : KnownCpu) (n : VisitState)
@@ -135,7 +136,7 @@ zone_noted t order Does m x c n noted by =
     record {
       steps = here.steps;
       does = here.does;
-      makes = record { leads = k.leads; follows = k.follows; counts = k.counts; watched = k.watched };
+      makes = record { leads = k.leads; follows = k.follows; counts = k.counts; noted = k.noted };
     }
 
 module _ (t : KnownTable) (want : ℕ) (Fails : Transition VisitState → Type 0) (failure : FailureSpares t Fails) (order : ℕ) where
@@ -170,6 +171,7 @@ pub record RoundsSoFar (t : KnownTable) (want : ℕ) (Fails : Transition VisitSt
       → SucceedsInRounds (16 - made) want (Succeeds k) Fails (transition t (visit_state now d) rest n)
       → SucceedsInRounds 16 want (Succeeds k) Fails (transition t (visit_state m c) (steps ++ rest) n)
   pub runs : MakesAs t c.number (visit_state m c) steps (visit_state now d)
+  pub visit : Visits t (visit_state m c) → Visits t (visit_state now d)
   pub spares : Spares t m c now d
 
 module _ (t : KnownTable) (want : ℕ) (Fails : Transition VisitState → Type 0) (Succeeds : ℕ → Transition VisitState → Type 0)
@@ -180,6 +182,7 @@ module _ (t : KnownTable) (want : ℕ) (Fails : Transition VisitState → Type 0
     fails = λ rest n h. h;
     succeeds = λ k rest n h. h;
     runs = makes_none t c.number (visit_state m c);
+    visit = λ v. v;
     spares = spares_none t m c;
   }
 
@@ -257,8 +260,8 @@ module _ (t : KnownTable) (want : ℕ) (Fails : Transition VisitState → Type 0
         gave_pages gave = record { freed = freed; some = omega (arith, gave); round = round Fails does }
 
         -- the try failed, and pages were freed
-        pub rounds_more : freed ≢ 0 → Spares t x d then e → RoundsSoFar t want Fails Succeeds m c (made + 1) then e
-        rounds_more gave spares = record {
+        pub rounds_more : freed ≢ 0 → Spares t x d then e → Visits t (visit_state then e) → RoundsSoFar t want Fails Succeeds m c (made + 1) then e
+        rounds_more gave spares visit = record {
           steps = so.steps ++ first;
           fails = λ rest n h.
               let one : FailsInRounds (suc (16 - (made + 1))) want Fails (transition t (visit_state now d) (first ++ rest) n) =
@@ -273,6 +276,7 @@ module _ (t : KnownTable) (want : ℕ) (Fails : Transition VisitState → Type 0
               (so.succeeds k (first ++ rest) n
               (subst (λ (j : ℕ). SucceedsInRounds j want (Succeeds k) Fails (transition t (visit_state now d) (first ++ rest) n)) next_left one));
           runs = runs_on;
+          visit = λ _. visit;
           spares = spares_both t m now then c d e so.spares
               (spares_both t now x then d d e (spares_reclaim t now x d keeps) spares);
         }

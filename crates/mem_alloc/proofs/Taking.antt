@@ -15,7 +15,7 @@ use Rattle.step_rules.specs.After.{Run}
 use Rattle.mem_machine.specs.declared.blocks.TakeFault.{TakeFault}
 use Rattle.mem_machine.specs.declared.blocks.TakeFault.TheVariants as fault
 use Rattle.group_charge.specs.declared.note.Note.{Note}
-use Rattle.mem_machine.specs.Machines.{KnownMachine, is_killed, with_note, with_watch}
+use Rattle.mem_machine.specs.Machines.{KnownMachine, is_killed, with_note, with_run}
 use Rattle.mem_machine.specs.Local.{visit_state, MakesAs, VisitState, Makes}
 use Rattle.mem_machine.specs.Lending.{UnlistsMany}
 use Rattle.mem_machine.specs.Blocks.{TakesBlock, TakesNoBlock, RefusesBlock, block_steps, taken_steps, unplaced_steps}
@@ -27,7 +27,7 @@ use Rattle.mem_machine.specs.Transitions.{BySteps, Transition, transition}
 use Rattle.mem_alloc.specs.Room.{AfterRoom, IsRefusedFor, IsRoomAnswer}
 use Rattle.mem_alloc.specs.Blocks.{AllocatesBlock, ChargesBlock, FindsNoBlock, MayHaveBlock, RetriesBlock}
 use Rattle.mem_alloc.specs.Blocks.{TakesAfterDrain, TakesFreeBlock, TakesInRounds, TakesOrReclaims}
-use Rattle.mem_alloc.proofs.Lowering.{same_visit, lowered_fits, usage_back, room_back}
+use Rattle.mem_alloc.proofs.Lowering.{lowered_fits, usage_back, room_back}
 use Rattle.mem_alloc.proofs.Making.{RoomSoFar, so_far_does, so_far_none}
 use Rattle.mem_alloc.proofs.Rounding.{FailureSpares, noted_fails_spare, noted_in_the_end}
 use Rattle.mem_machine.proofs.Followed.{makes_both}
@@ -36,7 +36,7 @@ use Rattle.mem_machine.proofs.Followed.{makes_both}
 
 -- the limit of a group had no room
 pub is_refused : (m n : KnownMachine) (g k : ℕ) (e : TakeFault) (o : OverLimit) → e ≡ fault.Over o → RefusesBlock g k e m n
-    → IsLowestOver m.ledger.groups (current_of m.ledger) g (2 ^ k) o.group × (n ≡ with_watch m n.watch)
+    → IsLowestOver m.ledger.groups (current_of m.ledger) g (2 ^ k) o.group × (n ≡ with_run m n.run)
 is_refused m n g k e o is refuses = subst (λ (x : TakeFault). RefusesBlock g k x m n) is refuses
 
 pub by_refusal : {t : KnownTable} (p g k : ℕ) (a b : VisitState) (e : TakeFault) (o : OverLimit) → e ≡ fault.Over o → MakesAs t p a (block_steps g k (Err e)) b
@@ -168,7 +168,6 @@ none_spares t g k m n c d steps h = record {
     groups = ap (λ (y : KnownMachine). y.ledger.groups) h.none.machine;
     killed = λ v dead. ap (λ (y : KnownMachine). is_killed y.killed v) h.none.machine ∙ dead;
     opened = ap (λ (y : KnownMachine). y.frame_seat.view.opened) h.none.machine;
-    visit = same_visit t m n (ap (λ (y : KnownMachine). y.frame_seat) h.none.machine);
     falls = λ j.
         let ledger = ap (λ (y : KnownMachine). current_of y.ledger j) h.none.machine in
         let back : current_of n.ledger j ≡ current_of m.ledger j = ledger ∙ usage_back m.ledger g (2 ^ k) j in

@@ -2,7 +2,7 @@
 use Rattle.std.specs.Prelude.{◌≡◌, ◌⊎◌, ℕ, Result, Ok, Err, ◌++◌}
 use Rattle.zone_blocks.specs.declared.config.Config.{Config}
 use Rattle.step_rules.specs.After.{Run}
-use Rattle.mem_machine.specs.Machines.{LacksRoom, with_watch}
+use Rattle.mem_machine.specs.Machines.{LacksRoom, with_run}
 use Rattle.mem_machine.specs.Stocks.{Drains, Fills, stock_group, with_look}
 use Rattle.mem_machine.specs.Steps.{drain_steps, fill_steps, over_steps}
 use Rattle.mem_machine.specs.Paying.{HoldsPage}
@@ -10,7 +10,7 @@ use Rattle.mem_machine.specs.Local.{Makes, VisitState, visit_state}
 use Rattle.mem_alloc.specs.declared.faults.AllocFault.{AllocFault}
 use Rattle.mem_machine.specs.Transitions.{Finds, InTurn, Stays, Transition, transition}
 use Rattle.mem_alloc.specs.Room.{AfterRoom, IsRefusedFor}
-use Rattle.step_watch.specs.Watched.{KnownWatch}
+use Rattle.mem_machine.specs.Noted.{KnownRun}
 
 -- the limits have room for this many pages, which are charged to the group and fill the CPU's stock
 pub record FillsStock (group pages : ℕ) (call : Transition VisitState) : Type 0 where
@@ -23,16 +23,16 @@ abbrev pub ChargesOne : ℕ → Result (Unit {0}) AllocFault → Transition Visi
 ChargesOne group (Ok done) call = AfterRoom group 1 (FillsStock group 1) call
 ChargesOne group (Err cause) call = IsRefusedFor group 1 cause call
 
--- the limit of some group has no room for all pages of a whole stock, which is no event but which the watch sees, and
+-- the limit of some group has no room for all pages of a whole stock, which is no event but which the run notes, and
 -- then `Does` holds
 pub record AfterBatchRefused (sizes : Config) (group : ℕ) (Does : Transition VisitState → Type 0)
     (call : Transition VisitState) : Type 0 where
   pub over : ℕ
   pub batch : LacksRoom call.before.machine group sizes.stock over
   pub later : Run
-  pub seen : KnownWatch
+  pub seen : KnownRun
   pub does : Does
-      (transition call.table (visit_state (with_watch call.before.machine seen) call.before.cpu) later call.after)
+      (transition call.table (visit_state (with_run call.before.machine seen) call.before.cpu) later call.after)
   pub steps_are : call.steps ≡ over_steps group sizes.stock over ++ later
 
 -- The CPU's drained stock is filled with `sizes.stock` pages or, if a limit has no room for them, with one. Or the

@@ -6,7 +6,7 @@ use Rattle.stock_word.specs.Stock.{KnownStockTable}
 use Rattle.step_rules.specs.After.{Run}
 use Rattle.group_charge.specs.declared.note.Note.TheVariants.{Oom}
 use Rattle.group_charge.specs.Notes.{noted}
-use Rattle.mem_machine.specs.Machines.{IsConsistent, KnownMachine, is_killed, with_watch}
+use Rattle.mem_machine.specs.Machines.{IsConsistent, KnownMachine, is_killed, with_run}
 use Rattle.mem_machine.specs.Local.{MakesForAny}
 use Rattle.mem_machine.specs.Steps.{note_oom_steps}
 use Rattle.mem_reclaim.specs.declared.sets.Killed.{Killed}
@@ -14,7 +14,7 @@ use Rattle.mem_reclaim.specs.Killing.{IsKilledBy, OnlyDrains, OnlyReleases, with
 use Rattle.mem_reclaim.specs.Sets.{kill_set}
 use Rattle.mem_reclaim.specs.Victim.{IsVictim}
 use Rattle.mem_machine.specs.Transitions.{InTurn, MachineStays, Transition, transition}
-use Rattle.step_watch.specs.Watched.{KnownWatch}
+use Rattle.mem_machine.specs.Noted.{KnownRun}
 
 -- the most pages of one charge for which groups are killed: those of an order of 3
 abbrev pub most_killed_for : ℕ
@@ -63,17 +63,17 @@ KillsVictims requester limited pages [] call = MachineStays call
 KillsVictims requester limited pages (killed ∷ others) call =
     InTurn (KillsOneVictim requester limited pages killed) (KillsVictims requester limited pages others) call
 
--- One `oom` is noted at the group, which the watch sees. Then victims of it are killed, one after the other, each with
+-- One `oom` is noted at the group, which the run notes. Then victims of it are killed, one after the other, each with
 -- all groups that die with it. This ends when its limit has room for this many pages, when the group that asks for them
 -- is killed, or when no victim is left.
 pub record KillsUntilRoom (requester : Option ℕ) (limited pages : ℕ) (call : Transition KnownMachine) : Type 0 where
   pub victims : List Killed
   pub killing : Run
-  pub seen : KnownWatch
+  pub seen : KnownRun
   pub notes : MakesForAny call.table call.before (note_oom_steps limited)
-      (with_watch (with_oom_noted_at call.before limited) seen)
+      (with_run (with_oom_noted_at call.before limited) seen)
   pub kills : KillsVictims requester limited pages victims
-      (transition call.table (with_watch (with_oom_noted_at call.before limited) seen) killing call.after)
+      (transition call.table (with_run (with_oom_noted_at call.before limited) seen) killing call.after)
   pub ended : NeedsRoom requester limited pages call.after → IsVictim call.after limited None
   pub steps_are : call.steps ≡ note_oom_steps limited ++ killing
 

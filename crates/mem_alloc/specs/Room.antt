@@ -6,7 +6,7 @@ use Rattle.group_charge.specs.Charges.{Ledger, current_of, with_max_noted}
 use Rattle.group_charge.specs.declared.note.Note.TheVariants.{Limit}
 use Rattle.group_charge.specs.Notes.{KnownNotes, noted}
 use Rattle.step_rules.specs.After.{Run}
-use Rattle.mem_machine.specs.Machines.{KnownMachine, LacksRoom, is_killed, with_watch}
+use Rattle.mem_machine.specs.Machines.{KnownMachine, LacksRoom, is_killed, with_run}
 use Rattle.mem_machine.specs.Local.{MakesForAny, VisitState, visit_state}
 use Rattle.mem_machine.specs.Steps.{Drain, over_steps, note_max_steps, drain_stocks_steps}
 use Rattle.mem_machine.specs.Stocks.{DrainsAllBelow, AreDrained}
@@ -17,7 +17,7 @@ use Rattle.mem_reclaim.specs.Staying.{Keeps, MissedAll}
 use Rattle.mem_alloc.specs.declared.faults.AllocFault.{AllocFault}
 use Rattle.mem_alloc.specs.declared.faults.AllocFault.TheVariants.{Over, NoFrames, RequesterKilled}
 use Rattle.mem_machine.specs.Transitions.{InTurn, MachineStays, OfMachineAlone, Transition, transition}
-use Rattle.step_watch.specs.Watched.{KnownWatch}
+use Rattle.mem_machine.specs.Noted.{KnownRun}
 -- what is killed, and whether there is room
 pub use Rattle.mem_alloc.specs.Kills.{KillsForRoom, NeedsRoom, has_room_at, most_killed_for}
 
@@ -39,13 +39,13 @@ with_max_noted_at machine group pages = record machine {
   notes = limit_notes (limit_of machine.ledger.groups group) machine.ledger group pages machine.notes;
 }
 
--- It is noted that this many pages were about to take the group's usage over its limit, and the watch sees it. Then
+-- It is noted that this many pages were about to take the group's usage over its limit, and the run notes it. Then
 -- the stocks of its subtree are drained by these steps, whichever CPU holds the lock.
 pub record ClearsBelow (limited pages : ℕ) (call : Transition KnownMachine) : Type 0 where
   pub drains : List Drain
-  pub seen : KnownWatch
+  pub seen : KnownRun
   pub all : DrainsAllBelow limited call.table.cpus drains
-      (with_watch (with_max_noted_at call.before limited pages) seen) call.after
+      (with_run (with_max_noted_at call.before limited pages) seen) call.after
   pub drained : AreDrained limited call.table.cpus call.after
   pub steps_are : call.steps ≡ note_max_steps limited ++ drain_stocks_steps drains
   pub runs : MakesForAny call.table call.before call.steps call.after
@@ -95,14 +95,14 @@ IsRoomAnswer requester limited pages (Err RequesterKilled) after = is_killed aft
 IsRoomAnswer requester limited pages (Err NoFrames) after = ⊥
 
 -- A charge of this many pages to the group `requester` is refused at the group `limited`, the lowest without room on
--- its path, which the watch sees. Then that limit is relieved, and this is the answer.
+-- its path, which the run notes. Then that limit is relieved, and this is the answer.
 pub record IsRefusedAt (requester limited pages : ℕ) (answer : Result (Unit {0}) AllocFault)
     (call : Transition KnownMachine) : Type 0 where
   pub lowest : LacksRoom call.before requester pages limited
   pub relieving : Run
-  pub seen : KnownWatch
+  pub seen : KnownRun
   pub relieves : RelievesLimit requester limited pages
-      (transition call.table (with_watch call.before seen) relieving call.after)
+      (transition call.table (with_run call.before seen) relieving call.after)
   pub room : IsRoomAnswer requester limited pages answer call.after
   pub steps_are : call.steps ≡ over_steps requester pages limited ++ relieving
 

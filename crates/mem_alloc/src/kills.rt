@@ -4,7 +4,7 @@ ghost use Rattle.std.specs.Prelude.{◌≡◌, ◌↔◌, IsTrue};
 ghost use Rattle.group_tree.specs.Groups.{has_group};
 ghost use Rattle.mem_alloc.specs.Kills.{KillsForRoom, NeedsRoom, has_room_at};
 ghost use Rattle.mem_alloc.specs.Room.{KillsForFewPages};
-ghost use Rattle.mem_machine.specs.Local.{MakesForAny};
+ghost use Rattle.mem_machine.specs.Local.{MakesForAny, SomeShown, StaysVisited};
 ghost use Rattle.mem_machine.specs.Transitions.{BySteps};
 
 use cpu_part::{BootName, Tables};
@@ -59,13 +59,15 @@ pub fn kill_for<N: BootName>(
     limited: GroupId,
     pages: u32,
 )
-    requires { IsTrue (has_group machine.old.ledger.groups limited) }
-    ensures { BySteps MakesForAny N.frames (KillsForRoom requester limited pages) machine.old machine.new }
+    requires there { IsTrue (has_group machine.old.ledger.groups limited) }
+    requires shown { SomeShown N.frames machine.old }
+    ensures kills { BySteps MakesForAny N.frames (KillsForRoom requester limited pages) machine.old machine.new }
+    ensures visit { StaysVisited N.frames machine.old machine.new }
 {
     if has_room_at(machine.charges(), limited, pages) {
         return;
     }
-    machine.note_oom(limited);
+    machine.note_oom(tables, limited);
     machine.note(Note::Oom { group: limited });
     'kills: loop {
         machine.prove_consistent();
@@ -88,8 +90,10 @@ pub(crate) fn kill_for_few_pages<N: BootName>(
     limited: GroupId,
     pages: u32,
 )
-    requires { IsTrue (has_group machine.old.ledger.groups limited) }
-    ensures { BySteps MakesForAny N.frames (KillsForFewPages requester limited pages) machine.old machine.new }
+    requires there { IsTrue (has_group machine.old.ledger.groups limited) }
+    requires shown { SomeShown N.frames machine.old }
+    ensures kills { BySteps MakesForAny N.frames (KillsForFewPages requester limited pages) machine.old machine.new }
+    ensures visit { StaysVisited N.frames machine.old machine.new }
 {
     if pages <= MAX_KILLED_FOR {
         kill_for(machine, tables, Some(requester), limited, pages);

@@ -3,7 +3,7 @@
 ghost use Rattle.std.specs.Prelude.{◌≡◌, ◌<◌, IsTrue};
 ghost use Rattle.group_tree.specs.Bounds.{most_groups};
 ghost use Rattle.group_tree.specs.Groups.{has_group};
-ghost use Rattle.mem_machine.specs.Local.{MakesForAny};
+ghost use Rattle.mem_machine.specs.Local.{MakesForAny, SomeShown, StaysVisited};
 ghost use Rattle.mem_machine.specs.Transitions.{BySteps};
 ghost use Rattle.mem_alloc.specs.Room.{IsRoomAnswer, ReclaimsFor, RelievesLimit, with_limit_noted};
 
@@ -22,8 +22,10 @@ fn reclaim_for<N: BootName>(
     limited: GroupId,
     pages: u32,
 )
-    requires { IsTrue (has_group machine.old.ledger.groups limited) }
+    requires there { IsTrue (has_group machine.old.ledger.groups limited) }
+    requires shown { SomeShown N.frames machine.old }
     ensures reclaims { BySteps MakesForAny N.frames (ReclaimsFor limited pages) machine.old machine.new }
+    ensures visit { StaysVisited N.frames machine.old machine.new }
 {
     if let Some(limit) = machine.charges().max(limited) {
         reclaim_to_limit(machine, tables, limited, pages, limit);
@@ -65,14 +67,16 @@ pub(crate) fn make_room<N: BootName>(
     limited: GroupId,
     pages: u32,
 ) -> Result<(), AllocFault>
-    requires { IsTrue (has_group machine.old.ledger.groups limited) }
+    requires there { IsTrue (has_group machine.old.ledger.groups limited) }
+    requires shown { SomeShown N.frames machine.old }
     ensures relieves { BySteps MakesForAny N.frames (RelievesLimit requester limited pages) machine.old machine.new }
+    ensures visit { StaysVisited N.frames machine.old machine.new }
     ensures room { IsRoomAnswer requester limited pages result machine.new }
     ensures below { limited < most_groups }
 {
     prove_number(limited);
     note_limit(machine, limited, pages);
-    machine.note_max(limited);
+    machine.note_max(tables, limited);
     machine.drain_stocks(tables, limited);
     reclaim_for(machine, tables, limited, pages);
     kill_for_few_pages(machine, tables, requester, limited, pages);

@@ -1,6 +1,6 @@
 -- A legal run is answered as all parts together decide. Serves `legal_lines_are_decided`,
 -- `legal_fast_steps_are_decided`.
-use Rattle.std.proofs.Common.{◌≡◌, ℕ, true, false, List, [], ◌∷◌, ◌++◌, ◌⊎◌, take, Some, refl, sym, ◌∙◌, ap, subst, inl, inr, zero, suc}
+use Rattle.std.proofs.Common.{◌≡◌, ℕ, true, List, [], ◌∷◌, ◌++◌, ◌⊎◌, take, Some, refl, sym, ◌∙◌, ap, subst, inl, inr, zero, suc}
 use Rattle.std.specs.Prelude.{IfSome}
 use Rattle.std.specs.List.{slice_get}
 use Rattle.std.proofs.lemmas.Bool.{false≢true}

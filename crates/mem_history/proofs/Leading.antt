@@ -50,7 +50,7 @@ use Rattle.mem_history.proofs.Covers.{plain, head_plain, lent_plain, same_times,
 use Rattle.mem_history.proofs.Others.{HasOwn, has_own, own_shown, other_shown, own_references}
 use Rattle.mem_history.proofs.Wholes.{is_one, not_zone, whole_sound}
 use Rattle.mem_history.proofs.Currents.{frame_state_covers}
-use Rattle.mem_machine.proofs.Followed.{follows_same, LeadsAs, makes_watched}
+use Rattle.mem_machine.proofs.Followed.{follows_same, LeadsAs}
 
 -- ---- lists
 
@@ -444,7 +444,7 @@ consume_same p g x y same is = (
 -- the steps lead to the machine with a watch that took them
 watched : (t : KnownTable) (m : KnownMachine) (c d : KnownCpu) (steps : Run) → LeadsAs t c.number (visit_state m c) steps (visit_state m d)
     → LeadsWatched t (visit_state m c) steps d
-watched t m c d steps made w took = makes_watched t c.number m m refl c d steps m made w took
+watched t m c d steps made w took = record { leads = made.leads; follows = made.follows; counts = made.counts }
 
 pub fast_calls_lead : FastCallsLead
 fast_calls_lead = record {

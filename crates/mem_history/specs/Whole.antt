@@ -15,8 +15,10 @@ use Rattle.step_rules.specs.Legal.{IsAnswer, IsCounted}
 use Rattle.step_rules.specs.After.{Run, after, state_of, IsLegalRun}
 use Rattle.step_rules.specs.Views.{seen_by}
 use Rattle.step_rules.specs.Reaches.{is_own}
-use Rattle.mem_machine.specs.Machines.{KnownMachine, VisitState, visit_state}
-use Rattle.mem_machine.specs.Local.{local_of, Makes}
+use Rattle.mem_machine.specs.Machines.{KnownMachine, VisitState, visit_state, with_watch}
+use Rattle.mem_machine.specs.Local.{IsLocalRun, Makes, local_at, local_of}
+use Rattle.mem_machine.specs.Following.{FollowsSteps}
+use Rattle.mem_machine.specs.Counting.{counts_along}
 use Rattle.mem_machine.specs.Interleaving.{zone_of, Shows}
 use Rattle.mem_machine.specs.Steps.{cpu_makes}
 
@@ -88,6 +90,14 @@ AreDecided table cpus before steps = (index : ℕ) → IfSome (slice_get steps i
     (seen_together cpus before.cpu.number
     (state_after (local_of table before.machine before.cpu) (take index steps))) made.0.seat made.0.action made.1)
 
+-- These steps, of the CPU and of the zone's seat, lead from one visit state to another. The ledger's peaks and event
+-- counts follow them, and so do the machine's counts. `Makes` says besides that the machine's pasts have grown by the
+-- steps, but those of a step without the lock have not.
+pub record Leads (table : KnownTable) (before : VisitState) (steps : Run) (after : VisitState) : Type 0 where
+  pub leads : IsLocalRun before.cpu.number (local_at table before) steps (local_at table after)
+  pub follows : FollowsSteps (local_at table before) before.machine.ledger steps after.machine.ledger
+  pub counts : after.machine.counts ≡ counts_along (local_at table before) steps before.machine.counts
+
 -- ---- a line under the lock
 
 -- the CPU takes the lock, makes these steps with the zone's seat, and releases the lock
@@ -126,8 +136,8 @@ pub record ServesFast (table : KnownTable) (cpus : List KnownCpu) (index : ℕ)
   pub is_part : slice_get cpus index ≡ Some before.cpu
   pub number : after.cpu.number ≡ before.cpu.number
   pub fast : is_fast action ≡ true
-  pub machine : after.machine ≡ record before.machine { watch = after.machine.watch }
-  pub leads : Makes table before (cpu_makes before.cpu.number action answer ∷ []) after
+  pub machine : after.machine ≡ with_watch before.machine after.machine.run.watch
+  pub leads : Leads table before (cpu_makes before.cpu.number action answer ∷ []) after
   pub decided : AreDecided table cpus before (cpu_makes before.cpu.number action answer ∷ [])
 
 -- if a run shows the whole, then the run that continues with that step shows the whole after the step

@@ -1,5 +1,5 @@
 -- A back frame's unit is freed. Serves `return_one`.
-use Rattle.std.proofs.Common.{true, false, ◌≡◌, ℕ, ◌+◌, ◌^◌, ◌<◌, ◌≤◌, Bool, Option, Some, None, List, ◌∷◌, length, get_or}
+use Rattle.std.proofs.Common.{true, false, ◌≡◌, ℕ, ◌+◌, ◌^◌, ◌<◌, ◌≤◌, Bool, Option, Some, None, List, [], ◌∷◌, length, get_or}
 use Rattle.std.proofs.Common.{refl, sym, ap, ◌∙◌, subst, arith}
 use Rattle.std.specs.Prelude.{is_some, IfSome}
 use Rattle.std.proofs.lemmas.List.{get_or_default}
@@ -40,6 +40,15 @@ use Rattle.mem_machine.proofs.Balances.{balanced_last_put}
 use Rattle.mem_machine.proofs.Followed.{follows_still, LeadsAs}
 use Rattle.mem_machine.proofs.Counted.{comes_back}
 use Rattle.group_charge.proofs.CallerLemmas.{uncharge_peaks, uncharge_events}
+use Rattle.step_rules.specs.declared.step.Action.TheVariants.{PassBack, Collect, Return}
+use Rattle.step_rules.specs.declared.step.Answer.TheVariants.{Done}
+use Rattle.boot_words.specs.Pasts.{KnownPasts, MakesStep, MayMake}
+use Rattle.step_watch.specs.Watched.{KnownWatch, Watches}
+use Rattle.mem_machine.specs.Steps.{zone_makes, cpu_makes}
+use Rattle.mem_machine.specs.Noted.{AreLocal, KnownRun, MayTake, MayTakeAll, Notes}
+use Rattle.mem_machine.proofs.Noted.{notes_both, notes_one, run_steps}
+use Rattle.mem_machine.proofs.Reached.{may_make}
+use Rattle.mem_machine.proofs.Watched.{HasOpenVisit}
 
 -- what is known of a back frame that was handed over
 pub record WasBack (t : KnownTable) (m : KnownMachine) (f : ℕ) : Type 0 where
@@ -143,7 +152,7 @@ module _ (t : KnownTable) (w : KnownStockTable) (m : KnownMachine) (c : KnownCpu
   returned_counts = counted
       ∙ comes_back s f (phase.Head unit (BackAt c.number)) (back_phase c f (frame_state_at m.frame_states f) unit heads at.once) true false refl refl m.counts
 
-  pub returned_visits : Visits t (visit_state returned d)
+  pub returned_visits : HasOpenVisit t (visit_state returned d)
   returned_visits = handed_visits t w m c tied visit f (collected_from c.number) (λ k. refl) returned d refl refl refl
 
   pub returned_does : ReturnsBack f (visit_state m c) (visit_state returned d)
@@ -157,6 +166,46 @@ module _ (t : KnownTable) (w : KnownStockTable) (m : KnownMachine) (c : KnownCpu
     cpu = refl;
   }
 
+-- ---- the run
+
+-- The steps behind the first may be made once it is known of the frame that it was a back frame. The first may be made
+-- by the run alone.
+module _ (t : KnownTable) (w : KnownStockTable) (m now : KnownMachine) (same : m ≡ now) (c : KnownCpu) (tied : IsTied t w c) (ok : IsConsistent t w m)
+    (visit : Visits t (visit_state now c)) (f : ℕ) (was : WasBack t m f) (rest : List ℕ) (front : c.back ≡ f ∷ rest) (p : ℕ) (number : p ≡ c.number) (back : KnownPasts)
+    (passed : MakesStep t m.run.past c.number (PassBack f) Done back) where
+  return_may : MayTakeAll t m.run.past (return_steps c.number f)
+  return_may =
+      let its : Visits t (visit_state m c) = subst (λ (x : KnownMachine). Visits t (visit_state x c)) (sym same) visit in
+      let s = local_of t m c in
+      let heads = back_heads t w m ok f was in
+      let v = is_visited t w m c tied its f was.inside in
+      let once = (back_front t w c tied f rest front).once in
+      may_make t m now same c visit.shown (return_steps c.number f) (subst (λ (x : KnownMachine). AreLocal c.number (local_of t x c) (return_steps c.number f)) same
+      (run_steps c.number s (return_steps c.number f) _
+      (return_run s c.number f heads.0 _ v (own_part m c) _ (back_phase c f (frame_state_at m.frame_states f) heads.0 heads.1 once) refl)))
+
+  pub may_collect_back : MayMake t back 0 (Collect f p)
+  may_collect_back = subst (λ (x : ℕ). MayMake t back 0 (Collect f x)) (sym number) (return_may.1 back passed).0.legal
+
+  pub may_return_back : (i : ℕ) → i ≡ f → (later : KnownPasts) → MakesStep t back 0 (Collect f p) Done later → MayTake t later (zone_makes (Return i) Done)
+  may_return_back i index later collected = subst (λ (x : ℕ). MayTake t later (zone_makes (Return x) Done)) (sym index)
+      ((return_may.1 back passed).1 later (subst (λ (x : ℕ). MakesStep t back 0 (Collect f x) Done later) number collected)).0
+
+-- they were made, and the watch took them
+pub returned_notes : (t : KnownTable) (run : KnownRun) (n f i p q : ℕ) → i ≡ f → p ≡ n → q ≡ n → (back later : KnownPasts) (mid watch : KnownWatch) (last : KnownRun)
+    → MakesStep t run.past n (PassBack f) Done back → MakesStep t back 0 (Collect f p) Done later
+    → Watches run.watch (cpu_makes q (PassBack i) Done ∷ []) mid → Watches mid (zone_makes (Collect i q) Done ∷ []) watch
+    → Notes t (record { past = later; watch = watch }) (zone_makes (Return i) Done ∷ []) last → Notes t run (return_steps n f) last
+returned_notes t run n f i p q index handed number back later mid watch last passed collected saw saw_too returned =
+    notes_both t run (cpu_makes n (PassBack f) Done ∷ []) (record { past = back; watch = mid }) (zone_makes (Collect f n) Done ∷ zone_makes (Return f) Done ∷ []) last
+    (notes_one t run (cpu_makes n (PassBack f) Done) (record { past = back; watch = mid }) passed
+    (subst (λ (x : ℕ × ℕ). Watches run.watch (cpu_makes x.1 (PassBack x.0) Done ∷ []) mid) (λ j. (index j, number j)) saw))
+    (notes_both t (record { past = back; watch = mid }) (zone_makes (Collect f n) Done ∷ []) (record { past = later; watch = watch }) (zone_makes (Return f) Done ∷ []) last
+    (notes_one t (record { past = back; watch = mid }) (zone_makes (Collect f n) Done) (record { past = later; watch = watch })
+    (subst (λ (x : ℕ). MakesStep t back 0 (Collect f x) Done later) handed collected)
+    (subst (λ (x : ℕ × ℕ). Watches mid (zone_makes (Collect x.0 x.1) Done ∷ []) watch) (λ j. (index j, number j)) saw_too))
+    (subst (λ (x : ℕ). Notes t (record { past = later; watch = watch }) (zone_makes (Return x) Done ∷ []) last) index returned))
+
 -- ---- all of it, of the machine as it was seen before
 
 pub record AllReturned (t : KnownTable) (w : KnownStockTable) (now : KnownMachine) (c : KnownCpu) (f : ℕ) (n : KnownMachine) (d : KnownCpu) (free : List Bool)
@@ -164,7 +213,7 @@ pub record AllReturned (t : KnownTable) (w : KnownStockTable) (now : KnownMachin
   pub consistent : IsConsistent t w n
   pub free_is : free ≡ free_of n.frame_states
   pub returns : ReturnsBack f (visit_state now c) (visit_state n d)
-  pub visit : Visits t (visit_state n d)
+  pub visit : HasOpenVisit t (visit_state n d)
   pub steps : LeadsAs t c.number (visit_state now c) (return_steps c.number f) (visit_state n d)
 
 pub return_all : (t : KnownTable) (w : KnownStockTable) (m now : KnownMachine) → m ≡ now → (c h d : KnownCpu) → IsTied t w c → IsConsistent t w m → Visits t (visit_state now c)

@@ -9,7 +9,7 @@ use Rattle.std.proofs.lemmas.Option.{none-some}
 use Rattle.frame_word.specs.Seats.{KnownTable}
 use Rattle.stock_word.specs.declared.view.StockAccount.{StockAccount}
 use Rattle.stock_word.specs.declared.view.StockView.{StockView}
-use Rattle.stock_word.specs.Stock.{KnownStockTable, KnownStockSeat, IsZoneView, account_of}
+use Rattle.stock_word.specs.Stock.{KnownStockTable, KnownStockSeat, IsZoneView, account_of, no_account, with_account_at}
 use Rattle.stock_word.specs.Kinds.{with_steps, zone_after_drain}
 use Rattle.stock_word.specs.Calls.{with_view}
 use Rattle.stock_word.proofs.CallerLemmas.{account_of-with_account, account_of-with_account_other}
@@ -18,6 +18,7 @@ use Rattle.group_tree.proofs.GroupLemmas.{is_some-find}
 use Rattle.group_charge.specs.declared.account.Account as charge
 use Rattle.group_charge.specs.Charges.{Ledger, AreCharges, account_at, pages_of, taken}
 use Rattle.group_charge.proofs.CallerLemmas.{has_account, uncharge_pages, uncharge_peaks, uncharge_events}
+use Rattle.boot_words.specs.Pasts.{MayMake}
 use Rattle.cpu_part.specs.Cpus.{KnownCpu}
 use Rattle.step_rules.specs.declared.step.Action.TheVariants.{DrainStock, Ungrant}
 use Rattle.step_rules.specs.declared.step.Answer.TheVariants.{Done, Pages}
@@ -27,12 +28,13 @@ use Rattle.step_rules.proofs.Basics.{at_same, at_other, at_each, at_itself, cond
 use Rattle.step_rules.proofs.Sums.{sum_part, sum_change}
 use Rattle.mem_machine.specs.FrameStates.{one_if_is}
 use Rattle.mem_machine.specs.Machines.{KnownMachine, IsConsistent, booked, frames_charged, pages_booked}
-use Rattle.mem_machine.specs.Local.{local_of, part_of, part_with, IsLocalRun, MakesAs, visit_state}
+use Rattle.mem_machine.specs.Local.{IsShown, SomeShown, StaysVisited, local_of, part_of, part_with, IsLocalRun, MakesAs, visit_state}
 use Rattle.mem_machine.specs.Steps.{ungrant_steps, drain_steps, zone_makes}
 use Rattle.mem_machine.specs.Stocks.{uncharged, stock_group, steps_to_drain, with_look, Drains, DrainsBy}
 use Rattle.mem_machine.proofs.Reaching.{zone_step, run_one}
 use Rattle.mem_machine.proofs.Holds.{zone_may_act}
 use Rattle.mem_machine.proofs.Followed.{follows_same, follows_still, LeadsAs}
+use Rattle.mem_machine.proofs.Reached.{may_first}
 use Rattle.mem_machine.specs.Following.{FollowsSteps}
 use Rattle.mem_machine.specs.declared.counts.Counts.{Counts}
 use Rattle.mem_machine.specs.Counting.{counts_along}
@@ -93,6 +95,26 @@ module _ (view : StockView) (q n : ℕ) where
         (ap h drained_at ∙ sym (at_same (λ k. h (account_of view k)) q (h drained_account)))
     | inr ne ↦ ap h (drained_else p ne) ∙ sym (at_other (λ k. h (account_of view k)) q (h drained_account) p ne)
   ]
+
+-- the later of two accounts of a CPU
+placed_twice : (accounts : List StockAccount) (q : ℕ) (a b : StockAccount) → with_account_at (with_account_at accounts q a) q b ≡ with_account_at accounts q b
+placed_twice [] zero a b = refl
+placed_twice [] (suc q) a b = ap (◌∷◌ no_account) (placed_twice [] q a b)
+placed_twice (x ∷ accounts) zero a b = refl
+placed_twice (x ∷ accounts) (suc q) a b = ap (◌∷◌ x) (placed_twice accounts q a b)
+
+-- a stock of no group: a look drains no page, and so does the next one
+drained_twice : (view : StockView) (q : ℕ) → with_steps 1 (zone_after_drain (with_steps 1 (zone_after_drain view q 0)) q 0) ≡ with_steps 2 (zone_after_drain view q 0)
+drained_twice view q =
+    let book : (account_of view q).book - 0 - 0 ≡ (account_of view q).book - 0 = omega arith in
+    let account : (let a = account_of (zone_after_drain view q 0) q in record a { book = a.book - 0; filled = false }) ≡ drained_account view q 0 =
+    ap (λ (a : StockAccount). record a { book = a.book - 0; filled = false }) (drained_at view q 0)
+    ∙ (λ i. record (account_of view q) { book = book i; filled = false }) in
+    let steps : view.steps + 1 + 1 ≡ view.steps + 2 = omega arith in
+    let accounts = placed_twice view.accounts q (drained_account view q 0)
+    (let a = account_of (zone_after_drain view q 0) q in record a { book = a.book - 0; filled = false })
+    ∙ ap (with_account_at view.accounts q) account in
+    λ i. record view { accounts = accounts i; steps = steps i }
 
 pub booked_is : (h : ℕ) (a : StockAccount) (c : ℕ) → one_if_is h a.group ≡ c → booked h a ≡ cond (c == 0) 0 a.book
 booked_is h a c is = ap (λ (k : ℕ). cond (k == 0) 0 a.book) is
@@ -372,17 +394,34 @@ drained_within t w m now same ok facts q k inside enough g of some id is =
     subst (λ (h : ℕ). (has_group m.ledger.groups h ≡ true) × (k ≤ pages_of m.ledger h)) (sym is)
     (drained_there t w m ok 0 q k inside enough g facts (ap (λ (x : KnownMachine). stock_group x q) same ∙ of) some)
 
--- a stock of no group: the look for its group drained nothing
+-- a stock of no group: looks drain nothing
 pub never_drained : (t : KnownTable) (w : KnownStockTable) (m now : KnownMachine) → m ≡ now → IsConsistent t w m → (q : ℕ) → 1 ≤ q → q ≤ t.cpus
-    → None ≡ stock_group m q → (stock : KnownStockSeat) → stock ≡ with_view m.stock_seat (with_steps 1 (zone_after_drain m.stock_seat.view q 0))
-    → Drained t w m now 1 q 0 m.ledger stock
-never_drained t w m now same ok q some inside none stock emptied =
-    drained_all t w m now 1 q 0 same ok (λ one. absurd (omega (arith, one))) some inside (omega arith) (λ e. refl) None
+    → None ≡ stock_group m q → (steps : ℕ) (stock : KnownStockSeat) → stock ≡ with_view m.stock_seat (with_steps steps (zone_after_drain m.stock_seat.view q 0))
+    → Drained t w m now steps q 0 m.ledger stock
+never_drained t w m now same ok q some inside none steps stock emptied =
+    drained_all t w m now steps q 0 same ok (λ one. absurd (omega (arith, one))) some inside (omega arith) (λ e. refl) None
     (sym (ap (λ (x : KnownMachine). stock_group x q) same) ∙ sym none) (λ e. refl)
     m.ledger stock refl emptied
 
--- and that look is all
-pub drained_never : (m now n : KnownMachine) → m ≡ now → (q : ℕ) → None ≡ stock_group m q → DrainsBy 1 q 0 now n → Drains q 0 now n
+-- the look for its group, and the look that notes the drain
+pub looked_twice : (m : KnownStockSeat) (q : ℕ) (one two : KnownStockSeat) → one ≡ with_view m (with_steps 1 (zone_after_drain m.view q 0))
+    → two ≡ with_view one (with_steps 1 (zone_after_drain one.view q 0)) → two ≡ with_view m (with_steps 2 (zone_after_drain m.view q 0))
+looked_twice m q one two first second = second ∙ ap (λ (x : KnownStockSeat). with_view x (with_steps 1 (zone_after_drain x.view q 0))) first
+    ∙ ap (with_view m) (drained_twice m.view q)
+
+-- the first look leaves it of no group
+pub looked_no_group : (m : KnownStockSeat) (q : ℕ) (one : KnownStockSeat) → one ≡ with_view m (with_steps 1 (zone_after_drain m.view q 0))
+    → None ≡ (account_of m.view q).group → (account_of one.view q).group ≡ None
+looked_no_group m q one first none = ap (λ (x : KnownStockSeat). (account_of x.view q).group) first
+    ∙ ap (λ (a : StockAccount). a.group) (drained_at m.view q 0) ∙ sym none
+
+-- and counts it as drained
+pub looked_never_filled : (m : KnownStockSeat) (q : ℕ) (one : KnownStockSeat) → one ≡ with_view m (with_steps 1 (zone_after_drain m.view q 0))
+    → (account_of one.view q).filled ≡ false
+looked_never_filled m q one first = ap (λ (x : KnownStockSeat). (account_of x.view q).filled) first ∙ ap (λ (a : StockAccount). a.filled) (drained_at m.view q 0)
+
+-- these looks are all
+pub drained_never : (m now n : KnownMachine) → m ≡ now → (q : ℕ) → None ≡ stock_group m q → DrainsBy 2 q 0 now n → Drains q 0 now n
 drained_never m now n same q none drains = subst (λ (o : Option ℕ). DrainsBy (steps_to_drain o) q 0 now n)
     (none ∙ ap (λ (x : KnownMachine). stock_group x q) same) drains
 
@@ -430,4 +469,33 @@ module _ (m now : KnownMachine) (same : m ≡ now) (stock : KnownStockSeat) (is 
   runs_looked t runs c =
       let here : MakesAs t c.number (visit_state (with_look now) c) (drain_steps q (stock_group (with_look now) q) k) (visit_state n c) =
       subst (λ (x : KnownMachine). MakesAs t c.number (visit_state x c) (drain_steps q (stock_group x q) k) (visit_state n c)) (looked_now m now same stock is) (runs c) in
-      record { leads = here.leads; follows = here.follows; counts = here.counts; watched = here.watched }
+      record { leads = here.leads; follows = here.follows; counts = here.counts; noted = here.noted }
+
+-- ---- under the lock
+
+-- a stock may be drained, whatever is in it
+pub drain_may : (t : KnownTable) (m now : KnownMachine) → m ≡ now → (c : KnownCpu) → IsShown t (visit_state now c) → (q : ℕ) → 1 ≤ q → q ≤ t.cpus
+    → MayMake t m.run.past 0 (DrainStock q)
+drain_may t m now same c at q some inside =
+    let acts = zone_may_act now.frame_seat c.number in
+    (may_first t m now same c at (zone_makes (DrainStock q) (Pages 0)) [] (
+      zone_step (local_of t now c) c.number (DrainStock q) (Pages 0) refl
+          (and_from _ _ acts (and_from (nat_le 1 q) (nat_le q t.cpus) (le-leb 1 q some) (le-leb q t.cpus inside))) tt,
+      tt,
+    )).legal
+
+-- after a look the same is seen, and each visit is open
+pub looked_shown : (t : KnownTable) (m now : KnownMachine) → m ≡ now → (stock : KnownStockSeat) → stock ≡ with_view m.stock_seat (with_steps 1 m.stock_seat.view)
+    → SomeShown t now → SomeShown t (record m { stock_seat = stock })
+looked_shown t m now same stock is some = subst (SomeShown t) (sym (looked_now m now same stock is))
+    (record { cpu = some.cpu; is = record { held = some.is.held; who = some.is.who; here = some.is.here } })
+
+pub looked_visits : (t : KnownTable) (m now : KnownMachine) → m ≡ now → (stock : KnownStockSeat) → stock ≡ with_view m.stock_seat (with_steps 1 m.stock_seat.view)
+    → StaysVisited t now (record m { stock_seat = stock })
+looked_visits t m now same stock is = subst (StaysVisited t now) (sym (looked_now m now same stock is))
+    (λ c visit. record {
+      is_open = visit.is_open;
+      still = visit.still;
+      lent = visit.lent;
+      shown = record { held = visit.shown.held; who = visit.shown.who; here = visit.shown.here };
+    })

@@ -22,7 +22,7 @@ use Rattle.group_charge.specs.Notes.{KnownNotes, noted as added}
 use Rattle.mem_machine.specs.Machines.{KnownMachine}
 use Rattle.step_rules.specs.State.{Part}
 use Rattle.step_rules.specs.After.{Run}
-use Rattle.mem_machine.specs.Local.{local_of, part_with, MakesAs, visit_state}
+use Rattle.mem_machine.specs.Local.{StaysVisited, local_of, part_with, MakesAs, visit_state}
 use Rattle.mem_machine.specs.Steps.{Drain, drain_steps, drain_stocks_steps, pages_drained}
 use Rattle.mem_machine.specs.Stocks.{stock_group, steps_to_drain, with_look, DrainsBy, DrainsNoted, DrainsIf, DrainsAllIf, DrainsBySteps, AreDrainedIf}
 use Rattle.mem_machine.proofs.Draining.{drained_at, drained_else, drained_looked, groups_stay, runs_looked}
@@ -169,6 +169,7 @@ pub record DrainedSoFar (t : KnownTable) (test : List Group → Option ℕ → B
   pub drained : AreDrainedIf test k n
   pub steps : (c : KnownCpu) → MakesAs t c.number (visit_state m c) (drain_stocks_steps drains) (visit_state n c)
   pub small : pages ≤ k * 4294967295
+  pub visit : StaysVisited t m n
 
 pub drained_start : (t : KnownTable) (test : List Group → Option ℕ → Bool) (m : KnownMachine) → DrainedSoFar t test 0 0 m m
 drained_start t test m = record {
@@ -179,6 +180,7 @@ drained_start t test m = record {
   drained = λ q some few. absurd (omega (arith, some, few));
   steps = λ c. makes_none t c.number (visit_state m c);
   small = omega arith;
+  visit = λ c visit. visit;
 }
 
 drained_now : (test : List Group → Option ℕ → Bool) (k : ℕ) (x n : KnownMachine) (last : List Drain) → DrainsIf test (k + 1) last x n → AreDrainedIf test k x → AreDrainedIf test (k + 1) n
@@ -196,8 +198,8 @@ drained_now test k x n last d before q some few below =
     ]
 
 pub drained_more : (t : KnownTable) (test : List Group → Option ℕ → Bool) (k pages more : ℕ) (m x n : KnownMachine) → DrainedSoFar t test k pages m x → DrainsBySteps t (DrainsIf test (k + 1)) more x n
-    → more ≤ 4294967295 → DrainedSoFar t test (k + 1) (pages + more) m n
-drained_more t test k pages more m x n before last bound =
+    → StaysVisited t x n → more ≤ 4294967295 → DrainedSoFar t test (k + 1) (pages + more) m n
+drained_more t test k pages more m x n before last stays bound =
     let next : suc k ≡ k + 1 = omega arith in
     let both = sum_by-append (λ (d : Drain). d.pages) before.drains last.drains in
     let a = before.sum in
@@ -223,6 +225,7 @@ drained_more t test k pages more m x n before last bound =
           (makes_both t c.number (drain_stocks_steps before.drains) (drain_stocks_steps last.drains) (visit_state m c) (visit_state x c) (visit_state n c)
           (before.steps c) (last.steps c));
       small = omega (arith, low, bound);
+      visit = λ c visit. stays c (before.visit c visit);
     }
 
 pub drained_end : (t : KnownTable) (test : List Group → Option ℕ → Bool) (k pages : ℕ) (m n : KnownMachine) → DrainedSoFar t test k pages m n → k ≡ t.cpus → DrainsBySteps t (DrainsAllIf test t.cpus) pages m n

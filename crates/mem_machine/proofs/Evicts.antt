@@ -1,5 +1,5 @@
 -- A kept unit is tried: it is missed, or it is frozen and freed. Serves `evict`.
-use Rattle.std.proofs.Common.{◌≡◌, ◌≢◌, ℕ, ◌^◌, ◌<◌, ◌==◌, Bool, true, false, Option, Some, None, List, length, refl, sym, ap, ◌∙◌}
+use Rattle.std.proofs.Common.{◌≡◌, ◌≢◌, ℕ, ◌^◌, ◌<◌, ◌==◌, Bool, true, false, Option, Some, None, List, [], ◌∷◌, length, refl, sym, ap, ◌∙◌}
 use Rattle.std.proofs.Common.{subst, arith, cond}
 use Rattle.std.specs.Prelude.{IfSome}
 use Rattle.std.proofs.lemmas.Bool.{and_from, lt-ltb, le-leb}
@@ -20,13 +20,15 @@ use Rattle.step_rules.specs.declared.phase.ChargedUnit.{ChargedUnit}
 use Rattle.step_rules.specs.declared.step.Action.TheVariants.{Freeze}
 use Rattle.step_rules.specs.declared.step.Answer.TheVariants as answer
 use Rattle.step_rules.specs.Legal.{is_legal}
+use Rattle.step_rules.specs.Laws.{IsLocalStep}
 use Rattle.mem_machine.specs.declared.counts.Counts.{Counts}
 use Rattle.mem_machine.specs.declared.frame_state.FrameState.{FrameState}
 use Rattle.mem_machine.specs.declared.frame_state.FrameState.TheVariants.{Head}
 use Rattle.mem_machine.specs.FrameStates.{frame_state_at, free_of, head_group_of, some_cpu}
 use Rattle.mem_machine.specs.Machines.{KnownMachine, FitsFrameState, IsConsistent, home_of, group_lists, lists_of}
-use Rattle.mem_machine.specs.Local.{Visits}
-use Rattle.mem_machine.specs.Local.{local_of, references_of, visit_state}
+use Rattle.mem_machine.specs.Local.{IsShown, Visits, local_of, references_of, visit_state}
+use Rattle.mem_machine.specs.Noted.{AreLocal, MayTakeAll}
+use Rattle.mem_machine.specs.Steps.{zone_makes}
 use Rattle.mem_machine.specs.Freeing.{FreesFrames}
 use Rattle.mem_machine.specs.Counts.{with_freeze, with_miss}
 use Rattle.mem_machine.specs.Counting.{one_more_freeze}
@@ -36,9 +38,10 @@ use Rattle.group_charge.specs.Notes.{KnownNotes, unit_noted}
 use Rattle.mem_machine.proofs.Balances.{balanced_freeze}
 use Rattle.mem_machine.proofs.Reaching.{zone_step}
 use Rattle.mem_machine.proofs.Holds.{zone_may_act}
+use Rattle.mem_machine.proofs.Reached.{may_make}
 use Rattle.mem_machine.proofs.Releases.{TakesInHand, note_keeps, visit_stays, held_once, back_all}
 use Rattle.mem_machine.proofs.Followed.{follows_same, LeadsForAny}
-use Rattle.mem_machine.proofs.Watched.{consistent_noted, visits_noted}
+use Rattle.mem_machine.proofs.Watched.{HasOpenVisit, consistent_noted, open_noted}
 
 frozen_in_hand : TakesInHand (frozen 1)
 frozen_in_hand = record { own = λ k. refl; borrowed = λ k. refl; lent = λ k. refl; references = λ k. refl; passed_out = λ k. refl; collected = λ k. refl }
@@ -63,7 +66,7 @@ references_stay seat c f word q x =
 pub record AllMissed (t : KnownTable) (w : KnownStockTable) (now : KnownMachine) (f : ℕ) (n : KnownMachine) : Type 0 where
   pub consistent : IsConsistent t w n
   pub misses : MissesUnit f now n
-  pub visit : (c : KnownCpu) → Visits t (visit_state now c) → Visits t (visit_state n c)
+  pub visit : (c : KnownCpu) → Visits t (visit_state now c) → HasOpenVisit t (visit_state n c)
   pub steps : LeadsForAny t now (evict_steps f None) n
 
 missed_fits : (t : KnownTable) (w : KnownStockTable) (m : KnownMachine) → IsConsistent t w m → (f word g : ℕ) → g < t.frames
@@ -132,7 +135,7 @@ pub record AllEvicted (t : KnownTable) (w : KnownStockTable) (now : KnownMachine
   pub consistent : IsConsistent t w n
   pub free_is : free ≡ free_of n.frame_states
   pub evicts : EvictsUnit f pages now n
-  pub visit : (c : KnownCpu) → Visits t (visit_state now c) → Visits t (visit_state n c)
+  pub visit : (c : KnownCpu) → Visits t (visit_state now c) → HasOpenVisit t (visit_state n c)
   pub steps : LeadsForAny t now (evict_steps f (Some pages)) n
 
 pub evicted_all : (t : KnownTable) (w : KnownStockTable) (m now : KnownMachine) → m ≡ now → IsConsistent t w m → (f i : ℕ)
@@ -197,6 +200,15 @@ evicted_all t w m now same ok f i inside is kept_now links lists left_list stand
           run = m.run;
         };
       };
-      visit = λ c visit. visits_noted t n c notes (back.visit c visit);
+      visit = λ c visit. open_noted t n c notes (back.visit c visit);
       steps = λ c. let made = back.runs c in record { leads = made.leads; follows = made.follows; counts = made.counts };
     }
+
+-- the zone's last reference may be frozen, whatever the answer
+pub freeze_may : (t : KnownTable) (w : KnownStockTable) (m now : KnownMachine) → m ≡ now → (c : KnownCpu) → IsShown t (visit_state now c) → IsConsistent t w m → (f : ℕ) → f < t.frames
+    → home_of now.links f ≢ None → MayTakeAll t m.run.past (zone_makes (Freeze f 1) answer.Done ∷ [])
+freeze_may t w m now same c at ok f inside kept_now =
+    let held = kept_held t w m now same ok f inside kept_now in
+    let step : IsLocalStep (local_of t m c) c.number 0 (Freeze f 1) answer.Done = zone_step (local_of t m c) c.number (Freeze f 1) answer.Done refl (may_freeze t m f inside held c) tt in
+    may_make t m now same c at (zone_makes (Freeze f 1) answer.Done ∷ [])
+    (subst (λ (x : KnownMachine). AreLocal c.number (local_of t x c) (zone_makes (Freeze f 1) answer.Done ∷ [])) same (step, tt))

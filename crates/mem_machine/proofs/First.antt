@@ -1,12 +1,12 @@
 -- The first machine is consistent. Serves `new`.
 use Rattle.std.proofs.Common.{◌≡◌, ℕ, ◌+◌, ◌<◌, ◌≤◌, Bool, true, false, Option, None, List, [], ◌∷◌, length, replicate, get_or, refl, sym, ap, ◌∙◌}
-use Rattle.std.proofs.Common.{subst, inl, inr, arith, zero, suc, ◌==◌, ◌++◌}
+use Rattle.std.proofs.Common.{subst, inl, inr, arith, cond, zero, suc, ◌==◌, ◌++◌}
 use Rattle.std.proofs.lemmas.Bool.{cases_lt, cases_eq, ne_eqb}
 use Rattle.std.proofs.lemmas.List.{get_or-replicate, length-replicate, length_push, get_or_append_left, get_or_push}
 use Rattle.zone_blocks.specs.Areas.{AreMaximalBlocks}
 use Rattle.frame_word.specs.declared.view.FrameNote.{FrameNote}
 use Rattle.frame_word.specs.Views.{note_of, blank}
-use Rattle.frame_word.specs.Seats.{KnownTable, KnownSeat, seat_number, first_zone_view}
+use Rattle.frame_word.specs.Seats.{KnownTable, KnownSeat, seat_number, seat_references, first_zone_view}
 use Rattle.stock_word.specs.Stock.{KnownStockTable, KnownStockSeat, account_of, first_zone_stock_view}
 use Rattle.group_charge.specs.Charges.{Ledger, initial_ledger, pages_of, account_at}
 use Rattle.group_charge.specs.Notes.{no_notes}
@@ -22,7 +22,15 @@ use Rattle.mem_machine.specs.declared.frame_state.FrameState.TheVariants.{Free, 
 use Rattle.mem_machine.specs.FrameStates.{frame_state_at, free_of, frame_state_group, one_if_is, AreUnits}
 use Rattle.mem_machine.specs.Start.{AreEmpty}
 use Rattle.mem_machine.specs.Counts.{no_counts}
-use Rattle.mem_machine.specs.Machines.{KnownMachine, FitsFrameState, IsConsistent, IsFirst, BalancesCounts, home_of, frames_charged, pages_booked, booked}
+use Rattle.mem_machine.specs.Machines.{KnownMachine, FitsFrameState, IsConsistent, IsFirst, BalancesCounts, home_of, frames_charged, is_killed, pages_booked, booked}
+use Rattle.step_rules.specs.State.{is_unheld}
+use Rattle.step_rules.specs.After.{state_of}
+use Rattle.boot_words.specs.Hidden.{hide}
+use Rattle.boot_words.specs.Pasts.{IsZonePast, KnownPasts, own_past}
+use Rattle.boot_words.specs.Seating.{no_past}
+use Rattle.boot_words.specs.Seats.{zone_of_boot}
+use Rattle.mem_machine.specs.Local.{part_with}
+use Rattle.mem_machine.specs.Resting.{Rests, hidden_of, phase_hidden}
 
 pub empty_none : (lists : List Lru) → lists ≡ [] → AreEmpty lists 0
 empty_none lists none = record {
@@ -173,3 +181,30 @@ first_is t w m frames sized frame_states ledger nowhere seat stock killed counts
   counts = counts;
   notes = notes;
 }
+
+-- ---- nobody holds the lock, and nothing was done
+
+no_reference : (n f : ℕ) → (get_or (replicate n (record blank { own = 1 })) f blank).references ≡ 0
+no_reference zero f = refl
+no_reference (suc n) zero = refl
+no_reference (suc n) (suc f) = no_reference n f
+
+module _ (t : KnownTable) (w : KnownStockTable) (m : KnownMachine) (first : IsFirst t w m) (unmade : m.run.past ≡ record { table = t.table; pasts = no_past 0 ∷ [] }) where
+  references_first : (f : ℕ) → seat_references m.frame_seat f ≡ 0
+  references_first f = ap (λ (s : KnownSeat). seat_references s f) first.frame_seat ∙ no_reference t.frames f
+
+  alive_first : (g : ℕ) → is_killed m.killed g ≡ false
+  alive_first g = ap (λ (l : List Bool). get_or l g false) first.killed ∙ repeated 64 g false
+
+  pub rests_first : Rests t m
+  rests_first = record {
+    past_is = subst (IsZonePast t) (sym unmade) (record { table_is = refl; alone = refl; zone_is = refl; legal = λ k. tt });
+    free = ap (λ (s : KnownPasts). is_unheld (state_of (zone_of_boot t) (own_past s).seen).hold) unmade;
+    left = ap (λ (s : KnownPasts). hide (state_of (zone_of_boot t) (own_past s).seen)) unmade ∙ sym (λ i. record (hidden_of t m) {
+      groups = ap (λ (l : Ledger). l.groups) first.ledger i;
+      killed = λ g. alive_first g i;
+      phases = λ f. phase_hidden (all_free t w m first f i);
+      references = λ seat f. cond (seat == 0) (references_first f i) 0;
+      parts = λ cpu. part_with [] [] [] (account_of (first.stock_seat i).view cpu);
+    });
+  }

@@ -38,7 +38,7 @@ use Rattle.mem_machine.specs.Blocks.{PlacesUnit}
 use Rattle.mem_machine.specs.Counts.{with_killed_fresh}
 use Rattle.mem_machine.specs.Counting.{counts_along}
 use Rattle.mem_machine.specs.Freeing.{FreesFrames}
-use Rattle.mem_machine.specs.Settling.{KeepsFresh, DropsFresh, with_page_absorbed, keep_steps, drop_steps}
+use Rattle.mem_machine.specs.Settling.{KeepsFresh, DropsFresh, with_page_absorbed, collect_steps, keep_steps, drop_steps}
 use Rattle.mem_machine.proofs.Holds.{own_part}
 use Rattle.mem_machine.proofs.Records.{free_at, free_set, lent_frame_state, frame_states_changed, units_stay, charges_stay}
 use Rattle.mem_machine.proofs.PlacesUnits.{head_of_block, off_block}
@@ -54,6 +54,15 @@ use Rattle.mem_machine.proofs.Shown.{references_same}
 use Rattle.mem_machine.proofs.Balances.{balanced_killed_fresh}
 use Rattle.mem_machine.proofs.Followed.{follows_same, follows_still, LeadsAs}
 use Rattle.mem_machine.proofs.Counted.{collects_none, comes_back}
+use Rattle.step_rules.specs.After.{Run}
+use Rattle.boot_words.specs.Pasts.{KnownPasts, MakesStep, MayMake}
+use Rattle.cpu_part.specs.Made.{MakesAll, MayMakeAll}
+use Rattle.step_watch.specs.Watched.{KnownWatch, Watches}
+use Rattle.mem_machine.specs.Noted.{AreLocal, KnownRun, MayTake, MayTakeAll, Notes}
+use Rattle.mem_machine.proofs.Noted.{all_grow, are_legal, may_behind, may_front, notes_both, notes_one, run_steps}
+use Rattle.mem_machine.proofs.Reached.{may_make}
+use Rattle.mem_machine.proofs.Holder.{fresh_lent}
+use Rattle.mem_machine.proofs.Watched.{HasOpenVisit}
 
 -- what is known of a frame that was collected fresh, and of its page
 pub record WasFresh (t : KnownTable) (m : KnownMachine) (c : KnownCpu) (f g : ℕ) : Type 0 where
@@ -182,7 +191,7 @@ module _ (t : KnownTable) (w : KnownStockTable) (m : KnownMachine) (c : KnownCpu
         (keep_run s c.number f (fresh_unit c) _ v (own_part m c) (local_of t kept d)
         (λ i. record s { phases = λ x. sym (ph x) i; references = λ q x. sym (re q x) i; parts = λ q. sym (pa q) i }))
 
-    kept_visits : Visits t (visit_state kept d)
+    kept_visits : HasOpenVisit t (visit_state kept d)
     kept_visits = handed_visits t w m c tied visit f used (λ k. refl) kept d refl refl refl
 
     kept_does : KeepsFresh g f (visit_state m c) (visit_state kept d)
@@ -266,11 +275,108 @@ module _ (t : KnownTable) (w : KnownStockTable) (m : KnownMachine) (c : KnownCpu
     dropped_counts killed = counted ∙ comes_back s f (phase.Head (fresh_unit c) (FreshAt c.number)) fresh_now false true refl
         (ap (is_killed m.killed) was.named ∙ killed) m.counts
 
-    dropped_visits : Visits t (visit_state dropped d)
+    dropped_visits : HasOpenVisit t (visit_state dropped d)
     dropped_visits = handed_visits t w m c tied visit f (collected_from c.number) (λ k. refl) dropped d refl refl refl
 
     dropped_does : DropsFresh g f (visit_state m c) (visit_state dropped d)
     dropped_does = record { frees = frees; areas = areas; machine = λ i. record dropped { counts = counted i }; cpu = record { front = front; cpu = refl } }
+
+-- ---- the run
+
+-- the steps are legal, wherever they lead
+module _ (t : KnownTable) (w : KnownStockTable) (m : KnownMachine) (c : KnownCpu) (tied : IsTied t w c) (ok : IsConsistent t w m) (visit : Visits t (visit_state m c))
+    (f : ℕ) (rest : List ℕ) (front : c.fresh ≡ f ∷ rest) where
+  abbrev seen : State
+  seen = local_of t m c
+
+  inside : f < t.frames
+  inside = (fresh_lent t w m c tied visit f rest front).inside
+
+  fresh_seen : seen.phases f ≡ phase.Head (fresh_unit c) (FreshAt c.number)
+  fresh_seen = fresh_phase c f (frame_state_at m.frame_states f)
+      (lent_frame_state (frame_state_at m.frame_states f) c.number tied.seats.some_number
+      (ap some_cpu (sym (fresh_lent t w m c tied visit f rest front).lent) ∙ (ok.frame_states f inside).lent))
+      (fresh_front t w c tied f rest front).once
+
+  keep_local : AreLocal c.number seen (keep_steps c.number f)
+  keep_local =
+      let v = is_visited t w m c tied visit f inside in
+      run_steps c.number seen (keep_steps c.number f) _
+      (collect_run seen c.number f (fresh_unit c) _ v (own_part m c) fresh_seen (ok.absorbed c.number) (zone_makes (Unfreeze f 1) Done ∷ zone_makes (Publish f) Done ∷ []) _
+      (keep_run seen c.number f (fresh_unit c) _ v (own_part m c) _ refl))
+
+  drop_local : is_killed m.killed (group_of_fresh c) ≡ true → AreLocal c.number seen (drop_steps c.number f)
+  drop_local killed =
+      let v = is_visited t w m c tied visit f inside in
+      run_steps c.number seen (drop_steps c.number f) _
+      (collect_run seen c.number f (fresh_unit c) _ v (own_part m c) fresh_seen (ok.absorbed c.number) (zone_makes (Return f) Done ∷ []) _
+      (drop_run seen c.number f (fresh_unit c) _ v (own_part m c) _ killed refl))
+
+-- so they may be made, by what was known before the call
+module _ (t : KnownTable) (w : KnownStockTable) (m now : KnownMachine) (same : m ≡ now) (c : KnownCpu) (tied : IsTied t w c) (ok : IsConsistent t w m)
+    (visit : Visits t (visit_state now c)) (f : ℕ) (rest : List ℕ) (front : c.fresh ≡ f ∷ rest) where
+  its : Visits t (visit_state m c)
+  its = subst (λ (x : KnownMachine). Visits t (visit_state x c)) (sym same) visit
+
+  made : (steps : Run) → AreLocal c.number (local_of t m c) steps → MayTakeAll t m.run.past steps
+  made steps all = may_make t m now same c visit.shown steps (subst (λ (x : KnownMachine). AreLocal c.number (local_of t x c) steps) same all)
+
+  keep_may : MayTakeAll t m.run.past (keep_steps c.number f)
+  keep_may = made (keep_steps c.number f) (keep_local t w m c tied ok its f rest front)
+
+  pub may_collect_kept : MayMakeAll t m.run.past (collect_steps c.number f)
+  may_collect_kept = are_legal t m.run.past (collect_steps c.number f)
+      (may_front t m.run.past (collect_steps c.number f) (zone_makes (Unfreeze f 1) Done ∷ zone_makes (Publish f) Done ∷ []) keep_may)
+
+  keep_behind : (later : KnownPasts) → MakesAll t m.run.past (collect_steps c.number f) later
+      → MayTakeAll t later (zone_makes (Unfreeze f 1) Done ∷ zone_makes (Publish f) Done ∷ [])
+  keep_behind later all = may_behind t m.run.past (collect_steps c.number f) (zone_makes (Unfreeze f 1) Done ∷ zone_makes (Publish f) Done ∷ []) later keep_may all
+
+  pub may_unfreeze : (u : KnownTable) → u ≡ t → (later : KnownPasts) → MakesAll t m.run.past (collect_steps c.number f) later → MayMake u later 0 (Unfreeze f 1)
+  may_unfreeze u words later all = subst (λ (x : KnownTable). MayMake x later 0 (Unfreeze f 1)) (sym words) (keep_behind later all).0.legal
+
+  pub may_publish : (u : KnownTable) → u ≡ t → (i : ℕ) → i ≡ f → (later last : KnownPasts) → MakesAll t m.run.past (collect_steps c.number f) later
+      → MakesStep u later 0 (Unfreeze f 1) Done last → MayTake t last (zone_makes (Publish i) Done)
+  may_publish u words i index later last all one = subst (λ (x : ℕ). MayTake t last (zone_makes (Publish x) Done)) (sym index)
+      ((keep_behind later all).1 last (subst (λ (x : KnownTable). MakesStep x later 0 (Unfreeze f 1) Done last) words one)).0
+
+  module _ (killed : is_killed now.killed (group_of_fresh c) ≡ true) where
+    drop_may : MayTakeAll t m.run.past (drop_steps c.number f)
+    drop_may = made (drop_steps c.number f)
+        (drop_local t w m c tied ok its f rest front (ap (λ (x : KnownMachine). is_killed x.killed (group_of_fresh c)) same ∙ killed))
+
+    pub may_collect_dropped : MayMakeAll t m.run.past (collect_steps c.number f)
+    may_collect_dropped = are_legal t m.run.past (collect_steps c.number f)
+        (may_front t m.run.past (collect_steps c.number f) (zone_makes (Return f) Done ∷ []) drop_may)
+
+    pub may_return_dropped : (i : ℕ) → i ≡ f → (later : KnownPasts) → MakesAll t m.run.past (collect_steps c.number f) later → MayTake t later (zone_makes (Return i) Done)
+    may_return_dropped i index later all = subst (λ (x : ℕ). MayTake t later (zone_makes (Return x) Done)) (sym index)
+        (may_behind t m.run.past (collect_steps c.number f) (zone_makes (Return f) Done ∷ []) later drop_may all).0
+
+-- they were made, and the watch took them
+module _ (t : KnownTable) (run : KnownRun) (p f i q : ℕ) (index : i ≡ f) (number : q ≡ p) (later : KnownPasts) (mid : KnownWatch)
+    (all : MakesAll t run.past (collect_steps p f) later) (saw : Watches run.watch (collect_steps q i) mid) where
+  collect_notes : Notes t run (collect_steps p f) (record { past = later; watch = mid })
+  collect_notes = record {
+    grew = all_grow t run.past (collect_steps p f) later all;
+    watched = subst (λ (x : ℕ × ℕ). Watches run.watch (collect_steps x.0 x.1) mid) (λ j. (number j, index j)) saw;
+  }
+
+  pub kept_notes : (u : KnownTable) → u ≡ t → (back : KnownPasts) (watch : KnownWatch) (last : KnownRun) → MakesStep u later 0 (Unfreeze f 1) Done back
+      → Watches mid (zone_makes (Unfreeze i 1) Done ∷ []) watch → Notes t (record { past = back; watch = watch }) (zone_makes (Publish i) Done ∷ []) last
+      → Notes t run (keep_steps p f) last
+  kept_notes u words back watch last one saw_too published =
+      notes_both t run (collect_steps p f) (record { past = later; watch = mid }) (zone_makes (Unfreeze f 1) Done ∷ zone_makes (Publish f) Done ∷ []) last collect_notes
+      (notes_both t (record { past = later; watch = mid }) (zone_makes (Unfreeze f 1) Done ∷ []) (record { past = back; watch = watch }) (zone_makes (Publish f) Done ∷ []) last
+      (notes_one t (record { past = later; watch = mid }) (zone_makes (Unfreeze f 1) Done) (record { past = back; watch = watch })
+      (subst (λ (x : KnownTable). MakesStep x later 0 (Unfreeze f 1) Done back) words one)
+      (subst (λ (x : ℕ). Watches mid (zone_makes (Unfreeze x 1) Done ∷ []) watch) index saw_too))
+      (subst (λ (x : ℕ). Notes t (record { past = back; watch = watch }) (zone_makes (Publish x) Done ∷ []) last) index published))
+
+  pub dropped_notes : (last : KnownRun) → Notes t (record { past = later; watch = mid }) (zone_makes (Return i) Done ∷ []) last → Notes t run (drop_steps p f) last
+  dropped_notes last returned =
+      notes_both t run (collect_steps p f) (record { past = later; watch = mid }) (zone_makes (Return f) Done ∷ []) last collect_notes
+      (subst (λ (x : ℕ). Notes t (record { past = later; watch = mid }) (zone_makes (Return x) Done ∷ []) last) index returned)
 
 -- ---- all of it, of the machine as it was seen before
 
@@ -279,7 +385,7 @@ pub record AllKept (t : KnownTable) (w : KnownStockTable) (now : KnownMachine) (
   pub consistent : IsConsistent t w n
   pub free_is : free ≡ free_of n.frame_states
   pub keeps : KeepsFresh g f (visit_state now c) (visit_state n d)
-  pub visit : Visits t (visit_state n d)
+  pub visit : HasOpenVisit t (visit_state n d)
   pub steps : LeadsAs t c.number (visit_state now c) (keep_steps c.number f) (visit_state n d)
 
 pub keep_all : (t : KnownTable) (w : KnownStockTable) (m now : KnownMachine) → m ≡ now → (c h : KnownCpu) → IsTied t w c → IsConsistent t w m → Visits t (visit_state now c)
@@ -333,7 +439,7 @@ pub record AllDropped (t : KnownTable) (w : KnownStockTable) (now : KnownMachine
   pub consistent : IsConsistent t w n
   pub free_is : free ≡ free_of n.frame_states
   pub drops : DropsFresh g f (visit_state now c) (visit_state n d)
-  pub visit : Visits t (visit_state n d)
+  pub visit : HasOpenVisit t (visit_state n d)
   pub steps : LeadsAs t c.number (visit_state now c) (drop_steps c.number f) (visit_state n d)
 
 pub drop_all : (t : KnownTable) (w : KnownStockTable) (m now : KnownMachine) → m ≡ now → (c h : KnownCpu) → IsTied t w c → IsConsistent t w m → Visits t (visit_state now c)

@@ -12,6 +12,7 @@ use Rattle.stock_word.specs.Stock.{KnownStockTable, KnownStockSeat, account_of, 
 use Rattle.stock_word.specs.Stock.{is_held}
 use Rattle.stock_word.specs.Kinds.{after_took}
 use Rattle.stock_word.specs.Calls.{with_view}
+use Rattle.boot_words.specs.Pasts.{MayMake}
 use Rattle.cpu_part.specs.Cpus.{KnownCpu, IsTied, times}
 use Rattle.cpu_part.specs.Calls.{TakesFront}
 use Rattle.step_rules.specs.declared.step.Action.TheVariants.{Consume}
@@ -20,6 +21,7 @@ use Rattle.step_rules.specs.State.{Part, with_at, one_if, sum_to, front_of, with
 use Rattle.step_rules.specs.Usage.{is_in_subtree}
 use Rattle.step_rules.specs.After.{paid, consumed}
 use Rattle.step_rules.specs.Legal.{is_legal, IsAnswer}
+use Rattle.step_rules.specs.Laws.{IsLocalStep}
 use Rattle.step_rules.proofs.Basics.{at_same, at_other}
 use Rattle.mem_machine.specs.declared.frame_state.FrameState.{FrameState}
 use Rattle.mem_machine.specs.declared.frame_state.FrameState.TheVariants.{Free, Lent, Head, Tail}
@@ -27,9 +29,9 @@ use Rattle.mem_machine.specs.FrameStates.{frame_state_at, some_cpu}
 use Rattle.mem_machine.specs.FrameStates.{frame_state_group as charged_to}
 use Rattle.mem_machine.proofs.Ledgers.{ledger_visit_state}
 use Rattle.mem_machine.specs.Machines.{KnownMachine, IsConsistent}
-use Rattle.mem_machine.specs.Local.{Visits}
-use Rattle.mem_machine.specs.Local.{local_of, phase_of, part_of, part_with, visit_state}
-use Rattle.mem_machine.specs.Steps.{take_front_steps}
+use Rattle.mem_machine.specs.Noted.{AreLocal}
+use Rattle.mem_machine.specs.Local.{IsShown, Visits, local_of, phase_of, part_of, part_with, visit_state}
+use Rattle.mem_machine.specs.Steps.{cpu_makes, take_front_steps}
 use Rattle.mem_machine.specs.Paying.{IsOfSize, IsOwnStock, HoldsPage, PaysForFront, HasRoomFor, pages_held}
 use Rattle.mem_machine.proofs.Reaching.{cpu_step, run_one}
 use Rattle.mem_machine.proofs.Holds.{own_part, seated_cpu}
@@ -39,6 +41,8 @@ use Rattle.mem_machine.proofs.Takes.{without_front}
 use Rattle.cpu_part.proofs.Counts.{test_here, times_front}
 use Rattle.mem_machine.proofs.Shown.{fresh_phase}
 use Rattle.mem_machine.proofs.Followed.{follows_same, LeadsAs}
+use Rattle.mem_machine.proofs.Reached.{may_first}
+use Rattle.mem_machine.proofs.Watched.{HasOpenVisit}
 
 -- ---- the own stock
 
@@ -126,6 +130,36 @@ and_no false = refl
 abbrev paid_cpu : KnownMachine → KnownCpu → ℕ → ℕ → List ℕ → KnownCpu
 paid_cpu m c g f rest = record c { list = rest; fresh = c.fresh ++ f ∷ []; stock_seat = with_view c.stock_seat (after_took c.stock_seat.view g (pages_held (visit_state m c) - 1)) }
 
+-- the front may be consumed, paid for with a page of the stock
+module _ (t : KnownTable) (w : KnownStockTable) (m : KnownMachine) (c : KnownCpu) (tied : IsTied t w c) (ok : IsConsistent t w m) (g : ℕ)
+    (page : HoldsPage (visit_state m c) g) (none : c.fresh ≡ []) (listed : 1 ≤ length c.list) where
+  pub consume_step : IsLocalStep (local_of t m c) c.number c.number (Consume g) Took
+  consume_step =
+      let p = c.number in
+      let s = local_of t m c in
+      let own = own_part m c in
+      let a = account_of m.stock_seat.view p in
+      let some : nat_le 1 (length (part_of m.stock_seat c p).list) ≡ true = ap (λ (x : Part). nat_le 1 (length x.list)) own ∙ le-leb 1 (length c.list) listed in
+      let room : nat_lt (length (part_of m.stock_seat c p).fresh) 32 ≡ true = ap (λ (x : Part). nat_lt (length x.fresh) 32) own
+      ∙ ap (λ (l : List ℕ). nat_lt (length l) 32) none in
+      let cpu : is_cpu s.zone p ≡ true = seated_cpu t c (record { some_number = tied.seats.some_number; cpus = tied.seats.frame_cpus }) in
+      let legal : is_legal s p (Consume g) ≡ true = and_from _ _ (and_from _ _ cpu some) room in
+      let pages : 1 ≤ (part_of m.stock_seat c p).stock.pages
+      = subst (λ (x : Part). 1 ≤ x.stock.pages) (sym own) (let k = page.some in let n = ok.absorbed p in omega (arith, k, n)) in
+      let drained : (part_of m.stock_seat c p).stock.is_drained ≡ false = ap (λ (x : Part). x.stock.is_drained) own
+      ∙ ap (λ (b : Bool). is_some a.group && not b) page.held ∙ and_no (is_some a.group) in
+      let answer : IsAnswer s p (Consume g) Took = (ap (λ (x : Part). x.stock.group) own ∙ page.group, drained, pages) in
+      cpu_step s p (Consume g) Took refl legal answer
+
+-- the same, of the machine as it was seen before
+pub front_may : (t : KnownTable) (w : KnownStockTable) (m now : KnownMachine) → m ≡ now → (c : KnownCpu) → IsShown t (visit_state now c) → IsTied t w c → IsConsistent t w m
+    → (g : ℕ) → HoldsPage (visit_state now c) g → c.fresh ≡ [] → 1 ≤ length c.list → MayMake t m.run.past c.number (Consume g)
+front_may t w m now same c at tied ok g page none listed =
+    let here : HoldsPage (visit_state m c) g = subst (λ (x : KnownMachine). HoldsPage (visit_state x c) g) (sym same) page in
+    let step : AreLocal c.number (local_of t m c) (cpu_makes c.number (Consume g) Took ∷ []) = (consume_step t w m c tied ok g here none listed, tt) in
+    (may_first t m now same c at (cpu_makes c.number (Consume g) Took) []
+    (subst (λ (x : KnownMachine). AreLocal c.number (local_of t x c) (cpu_makes c.number (Consume g) Took ∷ [])) same step)).legal
+
 module _ (t : KnownTable) (w : KnownStockTable) (m : KnownMachine) (c : KnownCpu) (tied : IsTied t w c) (ok : IsConsistent t w m) (visit : Visits t (visit_state m c))
     (g f : ℕ) (rest : List ℕ) (front : c.list ≡ f ∷ rest) (inside : f < t.frames) (page : HoldsPage (visit_state m c) g) (none : c.fresh ≡ []) where
   abbrev d : KnownCpu
@@ -187,22 +221,11 @@ module _ (t : KnownTable) (w : KnownStockTable) (m : KnownMachine) (c : KnownCpu
       let p = c.number in
       let s = local_of t m c in
       let own = own_part m c in
-      let a = account_of m.stock_seat.view p in
-      let some : nat_le 1 (length (part_of m.stock_seat c p).list) ≡ true =
-      ap (λ (x : Part). nat_le 1 (length x.list)) own ∙ le-leb 1 (length c.list) (let l = ap length front in omega (arith, l)) in
-      let room : nat_lt (length (part_of m.stock_seat c p).fresh) 32 ≡ true = ap (λ (x : Part). nat_lt (length x.fresh) 32) own
-      ∙ ap (λ (l : List ℕ). nat_lt (length l) 32) none in
-      let cpu : is_cpu s.zone p ≡ true = seated_cpu t c (record { some_number = tied.seats.some_number; cpus = tied.seats.frame_cpus }) in
-      let legal : is_legal s p (Consume g) ≡ true = and_from _ _ (and_from _ _ cpu some) room in
-      let pages : 1 ≤ (part_of m.stock_seat c p).stock.pages
-      = subst (λ (x : Part). 1 ≤ x.stock.pages) (sym own) (let k = page.some in let n = ok.absorbed p in omega (arith, k, n)) in
-      let drained : (part_of m.stock_seat c p).stock.is_drained ≡ false = ap (λ (x : Part). x.stock.is_drained) own
-      ∙ ap (λ (b : Bool). is_some a.group && not b) page.held ∙ and_no (is_some a.group) in
-      let answer : IsAnswer s p (Consume g) Took = (ap (λ (x : Part). x.stock.group) own ∙ page.group, drained, pages) in
+      let some : 1 ≤ length c.list = let l = ap length front in omega (arith, l) in
       let at : front_of (part_of m.stock_seat c p).list ≡ f = ap (λ (x : Part). front_of x.list) own ∙ fronted in
       let parts = parts_changed m.stock_seat c rest (c.fresh ++ f ∷ []) c.back (paid (part_of m.stock_seat c p)) part_paid in
       record {
-        leads = run_one p s (local_of t m d) p (Consume g) Took (cpu_step s p (Consume g) Took refl legal answer)
+        leads = run_one p s (local_of t m d) p (Consume g) Took (consume_step t w m c tied ok g page none some)
             ((λ i. record s { phases = λ h. phases_paid h i; parts = λ q. parts q i })
             ∙ (λ i. record s { phases = with_at s.phases (sym at i) (consumed p g); parts = with_at s.parts p (paid (part_of m.stock_seat c p)) }));
         follows = follows_same _ _ _ refl;
@@ -213,7 +236,7 @@ module _ (t : KnownTable) (w : KnownStockTable) (m : KnownMachine) (c : KnownCpu
 pub record FrontPaid (t : KnownTable) (w : KnownStockTable) (now : KnownMachine) (g f : ℕ) (c : KnownCpu) (n : KnownMachine) (d : KnownCpu) : Type 0 where
   pub consistent : IsConsistent t w n
   pub pays : PaysForFront g f (visit_state now c) (visit_state n d)
-  pub visit : Visits t (visit_state n d)
+  pub visit : HasOpenVisit t (visit_state n d)
   pub steps : LeadsAs t c.number (visit_state now c) (take_front_steps c.number g) (visit_state n d)
 
 pub front_paid : (t : KnownTable) (w : KnownStockTable) (m now : KnownMachine) → m ≡ now → (c : KnownCpu) → IsTied t w c → IsConsistent t w m → Visits t (visit_state now c)

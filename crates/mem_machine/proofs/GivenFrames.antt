@@ -18,13 +18,14 @@ use Rattle.mem_machine.specs.Local.{visit_state}
 use Rattle.mem_machine.proofs.Records.{free_at, free_taken}
 use Rattle.mem_machine.proofs.Lends.{lend_consistent, lend_runs, lend_visits, zone_hand}
 use Rattle.mem_machine.proofs.Followed.{LeadsAs}
+use Rattle.mem_machine.proofs.Watched.{HasOpenVisit}
 
 -- all of it, of the machine as it was seen before
 pub record AllGiven (t : KnownTable) (w : KnownStockTable) (now : KnownMachine) (c : KnownCpu) (f : ℕ) (n : KnownMachine) (d : KnownCpu) (free : List Bool) : Type 0 where
   pub consistent : IsConsistent t w n
   pub free_is : free ≡ free_of n.frame_states
   pub lends : LendsFrame f (visit_state now c) (visit_state n d)
-  pub visit : Visits t (visit_state n d)
+  pub visit : HasOpenVisit t (visit_state n d)
   pub steps : LeadsAs t c.number (visit_state now c) (lend_steps c.number f) (visit_state n d)
 
 pub given_all : (t : KnownTable) (w : KnownStockTable) (m now : KnownMachine) → m ≡ now → (c d : KnownCpu) → IsTied t w c → IsConsistent t w m → Visits t (visit_state now c)

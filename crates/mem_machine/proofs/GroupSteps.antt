@@ -1,11 +1,11 @@
 -- Steps on the groups alone. Serves `note_max`, `note_oom`, `note_group_kill`, `mark_killed`, `set_max`,
--- `set_oom_group`, `remove`.
+-- `set_oom_group`, `make`, `remove`, and `fill_stock`, which leaves the visit open.
 use Rattle.std.proofs.Common.{◌≡◌, ◌≢◌, ℕ, ◌<◌, Bool, true, false, Option, Some, List, [], ◌∷◌, length, get_or, refl, sym, ap, ◌∙◌, subst}
 use Rattle.std.specs.Prelude.{not, None, is_none}
 use Rattle.std.specs.Prelude.{slice_set}
 use Rattle.std.proofs.lemmas.Bool.{and_from, ne_eqb, eq-eqb}
 use Rattle.std.proofs.lemmas.List.{get_or-set_same, get_or-set_other}
-use Rattle.frame_word.specs.Seats.{KnownTable}
+use Rattle.frame_word.specs.Seats.{KnownSeat, KnownTable}
 use Rattle.group_tree.specs.Groups.{has_group, has_child, with_group, make_fault, IsLeastFreeNumber}
 use Rattle.group_tree.specs.declared.event.EventKey.{EventKey}
 use Rattle.group_tree.specs.declared.event.EventKey.TheVariants.{Max, Oom, OomKill, OomGroupKill}
@@ -21,16 +21,18 @@ use Rattle.step_rules.specs.Usage.{usage_of}
 use Rattle.step_rules.specs.Events.{event_of}
 use Rattle.step_rules.specs.Legal.{is_removable}
 use Rattle.step_rules.specs.State.{State, with_at}
+use Rattle.step_rules.specs.After.{Run}
 use Rattle.step_rules.proofs.Basics.{at_each}
 use Rattle.mem_machine.specs.declared.counts.Counts.{Counts}
 use Rattle.mem_machine.specs.Counting.{counts_after}
 use Rattle.mem_machine.specs.Machines.{KnownMachine, is_killed, AddsGroup}
-use Rattle.mem_machine.specs.Local.{local_of, visit_state, IsLocalRun}
+use Rattle.mem_machine.specs.Local.{local_of, visit_state, IsLocalRun, MakesAs, Visits}
 use Rattle.mem_machine.specs.Steps.{zone_makes, kill_steps, note_max_steps, note_oom_steps, note_group_kill_steps, set_max_steps, set_oom_group_steps, make_steps, remove_steps}
 use Rattle.mem_machine.proofs.Reaching.{zone_step, run_one}
 use Rattle.mem_machine.proofs.Holds.{zone_may_act}
 use Rattle.mem_machine.proofs.LedgerMoves.{follows_note, follows_limit, follows_flag, follows_make, follows_remove}
 use Rattle.mem_machine.proofs.Followed.{LeadsAs}
+use Rattle.mem_machine.proofs.Watched.{HasOpenVisit, visits_then}
 
 -- a step notes an event of this kind at the group, and changes nothing that is seen
 note_runs : (kind : EventKey) (action : Action) (g : ℕ) → event_of action Done ≡ Some (kind, g)
@@ -195,3 +197,11 @@ removes t m now same c d cpu g there leaf below empty usage l is =
     subst (λ (x : KnownCpu). LeadsAs t c.number (visit_state now c) (remove_steps g) (visit_state (record m { ledger = l }) x)) (sym cpu)
     (remove_runs t now (record m { ledger = l }) c g there leaf below empty usage
     ((λ i. record m { ledger = is i }) ∙ ap (λ (k : KnownMachine). record k { ledger = with_group_removed k.ledger g }) same))
+
+-- steps that leave the zone's seat at the frames leave the CPU's visit open
+pub still_visited : (t : KnownTable) (m now : KnownMachine) → m ≡ now → (n : KnownMachine) → n.frame_seat ≡ m.frame_seat → (c : KnownCpu) (steps : Run)
+    → Visits t (visit_state now c) → MakesAs t c.number (visit_state now c) steps (visit_state n c) → Visits t (visit_state n c)
+still_visited t m now same n seat c steps visit makes =
+    visits_then t (visit_state now c) (visit_state n c) steps visit.shown makes refl
+    (subst (λ (x : KnownSeat). HasOpenVisit t (visit_state (record n { frame_seat = x }) c)) (sym (seat ∙ ap (λ (k : KnownMachine). k.frame_seat) same))
+    (record { is_open = visit.is_open; still = visit.still; lent = visit.lent }))

@@ -33,6 +33,7 @@ use Rattle.mem_machine.specs.Local.{IsLocalRun, visit_state}
 use Rattle.mem_machine.specs.Steps.{zone_makes, cpu_makes}
 use Rattle.mem_machine.specs.Settling.{collect_steps, return_steps}
 use Rattle.mem_machine.proofs.Reaching.{zone_step, cpu_step}
+use Rattle.mem_machine.proofs.Watched.{HasOpenVisit}
 
 -- ---- the visit
 
@@ -75,7 +76,7 @@ module _ (t : KnownTable) (w : KnownStockTable) (m : KnownMachine) (c : KnownCpu
         (λ i. (sym (note_else m.frame_seat.view f g (collected_from c.number) ne) i, sym (note_else c.frame_seat.view f g passed_back_by_cpu ne) i)) (visit.lent g inside)
   ]
 
-  pub handed_visits : (n : KnownMachine) (d : KnownCpu) → n.frame_seat ≡ zone → d.frame_seat ≡ cpu → d.number ≡ c.number → Visits t (visit_state n d)
+  pub handed_visits : (n : KnownMachine) (d : KnownCpu) → n.frame_seat ≡ zone → d.frame_seat ≡ cpu → d.number ≡ c.number → HasOpenVisit t (visit_state n d)
   handed_visits n d zone_is cpu_is number = record {
     is_open = subst (λ (x : KnownSeat × ℕ). IsOpen x.0 x.1) (λ i. (sym zone_is i, sym number i)) visit.is_open;
     still = subst (λ (x : KnownSeat × KnownSeat). (g : ℕ) → g < t.frames

@@ -39,6 +39,12 @@ use Rattle.mem_machine.proofs.Reaching.{zone_step, cpu_step}
 use Rattle.mem_machine.proofs.Holds.{IsSeated, zone_may_act, visits_open, seated_cpu}
 use Rattle.mem_machine.proofs.Records.{free_at, free_is, free_inside, covers_one, free_taken, some_cpu_is, frame_states_changed, holds_same, units_stay, charges_stay}
 use Rattle.mem_machine.proofs.Followed.{follows_same, LeadsAs}
+use Rattle.boot_words.specs.Pasts.{KnownPasts, MakesStep, MayMake}
+use Rattle.step_watch.specs.Watched.{KnownWatch, Watches, zone_makes, cpu_makes}
+use Rattle.mem_machine.specs.Noted.{AreLocal, MayTakeAll, Notes}
+use Rattle.mem_machine.proofs.Noted.{notes_both, notes_one}
+use Rattle.mem_machine.proofs.Reached.{may_make}
+use Rattle.mem_machine.proofs.Watched.{HasOpenVisit}
 
 -- ---- parts of the local state
 
@@ -148,7 +154,7 @@ module _ (t : KnownTable) (w : KnownStockTable) (m : KnownMachine) (c : KnownCpu
     balances = ok.balances;
   }
 
-  pub lend_visits : (blocks : List Block) → Visits t (visit_state (record m { blocks = blocks; frame_states = slice_set m.frame_states f (Lent c.number); frame_seat = seat_with m.frame_seat f (passed_out_to c.number) }) (record c { list = c.list ++ f ∷ []; frame_seat = seat_with c.frame_seat f took_in }))
+  pub lend_visits : (blocks : List Block) → HasOpenVisit t (visit_state (record m { blocks = blocks; frame_states = slice_set m.frame_states f (Lent c.number); frame_seat = seat_with m.frame_seat f (passed_out_to c.number) }) (record c { list = c.list ++ f ∷ []; frame_seat = seat_with c.frame_seat f took_in }))
   lend_visits blocks = record {
     is_open = visit.is_open;
     still = accepted_is_still t m.frame_seat c.frame_seat c.number tied.seats.frame_number f visit.still (seat_with m.frame_seat f (passed_out_to c.number))
@@ -162,11 +168,10 @@ module _ (t : KnownTable) (w : KnownStockTable) (m : KnownMachine) (c : KnownCpu
     ];
   }
 
-  pub lend_runs : (blocks : List Block) → in_hands (note_of c.frame_seat.view f) ≡ 0 → LeadsAs t c.number (visit_state m c) (lend_steps c.number f)
-      (visit_state (record m { blocks = blocks; frame_states = slice_set m.frame_states f (Lent c.number); frame_seat = seat_with m.frame_seat f (passed_out_to c.number) }) (record c { list = c.list ++ f ∷ []; frame_seat = seat_with c.frame_seat f took_in }))
-  lend_runs blocks none =
+  -- the steps are legal, wherever they lead
+  pub lend_local : AreLocal c.number (local_of t m c) (lend_steps c.number f)
+  lend_local =
       let s = local_of t m c in
-      let d : KnownCpu = record c { list = c.list ++ f ∷ []; frame_seat = seat_with c.frame_seat f took_in } in
       let out : State = after s 0 (PassOut f c.number) Done in
       let framed : is_frame s.zone f ≡ true = lt-ltb f t.frames inside in
       let is_zone_free : phases.is_free (phase_of c f (frame_state_at m.frame_states f)) ≡ true = ap (λ (x : FrameState). phases.is_free (phase_of c f x)) free in
@@ -175,6 +180,13 @@ module _ (t : KnownTable) (w : KnownStockTable) (m : KnownMachine) (c : KnownCpu
       let passing : phases.passes_out c.number (with_at s.phases f (phase.Lent c.number PassingOut) f) ≡ true =
       ap (phases.passes_out c.number) (at_same s.phases f (phase.Lent c.number PassingOut)) ∙ eq-eqb c.number c.number refl in
       let may_take : is_legal out c.number (TakeIn f) ≡ true = and_from _ _ (and_from _ _ (seated_cpu t c seated) framed) passing in
+      (zone_step s c.number (PassOut f c.number) Done refl may_pass tt, (cpu_step out c.number (TakeIn f) Done refl may_take tt, tt))
+
+  pub lend_runs : (blocks : List Block) → in_hands (note_of c.frame_seat.view f) ≡ 0 → LeadsAs t c.number (visit_state m c) (lend_steps c.number f)
+      (visit_state (record m { blocks = blocks; frame_states = slice_set m.frame_states f (Lent c.number); frame_seat = seat_with m.frame_seat f (passed_out_to c.number) }) (record c { list = c.list ++ f ∷ []; frame_seat = seat_with c.frame_seat f took_in }))
+  lend_runs blocks none =
+      let s = local_of t m c in
+      let d : KnownCpu = record c { list = c.list ++ f ∷ []; frame_seat = seat_with c.frame_seat f took_in } in
       let borrowed = (tied.noted f).borrowed_is in
       let not_fresh : times f d.fresh ≡ 0 = omega (arith, borrowed, none) in
       let ph = phases_changed c d m.frame_states f (Lent c.number) (phase.Lent c.number PassingOut) (phase.Lent c.number OnList) within
@@ -190,9 +202,9 @@ module _ (t : KnownTable) (w : KnownStockTable) (m : KnownMachine) (c : KnownCpu
       let pa = parts_changed m.stock_seat c (c.list ++ f ∷ []) c.fresh c.back _ listed in
       record {
         leads = (
-          zone_step s c.number (PassOut f c.number) Done refl may_pass tt,
+          lend_local.0,
           (
-            cpu_step out c.number (TakeIn f) Done refl may_take tt,
+            lend_local.1.0,
             (λ i. record s { phases = λ g. sym (ph g) i; references = λ q x. sym (re q x) i; parts = λ q. sym (pa q) i }),
           ),
         );
@@ -212,7 +224,7 @@ pub record AllLent (t : KnownTable) (w : KnownStockTable) (now : KnownMachine) (
   pub free_is : free ≡ free_of n.frame_states
   pub lends : LendsOne f (visit_state now c) (visit_state n d)
   pub steps : LeadsAs t c.number (visit_state now c) (lend_steps c.number f) (visit_state n d)
-  pub visit : Visits t (visit_state n d)
+  pub visit : HasOpenVisit t (visit_state n d)
 
 pub lend_all : (t : KnownTable) (w : KnownStockTable) (m now : KnownMachine) → m ≡ now → (c d : KnownCpu) → IsTied t w c → IsConsistent t w m → Visits t (visit_state now c)
     → (before free : List Bool) (k : ℕ) (b : Block) (blocks : List Block) (f i q : ℕ) (seat seat' : KnownSeat)
@@ -286,3 +298,37 @@ passes_to t w m now same c tied visit f q seat inside number is =
 pub lent_to_it : (zone seat : KnownSeat) (f p q : ℕ) → q ≡ p → seat ≡ seat_with zone f (passed_out_to q) → IsLent seat f p
 lent_to_it zone seat f p q number is = ap (λ (s : KnownSeat). (note_of s.view f).lent) is
     ∙ ap (λ (k : FrameNote). k.lent) (note_here zone.view f (passed_out_to q)) ∙ number
+
+-- ---- the run
+
+module _ (t : KnownTable) (w : KnownStockTable) (m now : KnownMachine) (same : m ≡ now) (u : KnownTable) (words : u ≡ t) (c : KnownCpu) (f q : ℕ)
+    (number : q ≡ c.number) where
+  out_made : (later : KnownPasts) → MakesStep u m.run.past 0 (PassOut f q) Done later → MakesStep t m.run.past 0 (PassOut f c.number) Done later
+  out_made later made = subst (λ (x : KnownTable × ℕ). MakesStep x.0 m.run.past 0 (PassOut f x.1) Done later) (λ j. (words j, number j)) made
+
+  -- the steps may be made, by what was known before the call
+  module _ (tied : IsTied t w c) (ok : IsConsistent t w m) (visit : Visits t (visit_state now c)) (inside : f < t.frames) (free : frame_state_at m.frame_states f ≡ Free) where
+    lend_may : MayTakeAll t m.run.past (lend_steps c.number f)
+    lend_may =
+        let its : Visits t (visit_state m c) = subst (λ (x : KnownMachine). Visits t (visit_state x c)) (sym same) visit in
+        may_make t m now same c visit.shown (lend_steps c.number f)
+        (subst (λ (x : KnownMachine). AreLocal c.number (local_of t x c) (lend_steps c.number f)) same (lend_local t w m c tied ok its f inside free))
+
+    pub may_pass_out : MayMake u m.run.past 0 (PassOut f q)
+    may_pass_out = subst (λ (x : KnownTable × ℕ). MayMake x.0 m.run.past 0 (PassOut f x.1)) (λ j. (sym words j, sym number j)) lend_may.0.legal
+
+    pub may_take_in : (later : KnownPasts) → MakesStep u m.run.past 0 (PassOut f q) Done later → MayMake t later c.number (TakeIn f)
+    may_take_in later made = (lend_may.1 later (out_made later made)).0.legal
+
+  -- they were made, and the watch took them
+  pub lent_notes : (i : ℕ) → i ≡ f → (out later : KnownPasts) (mid watch : KnownWatch) → MakesStep u m.run.past 0 (PassOut f q) Done out
+      → MakesStep t out c.number (TakeIn f) Done later → Watches m.run.watch (zone_makes (PassOut i q) Done ∷ []) mid
+      → Watches mid (cpu_makes q (TakeIn i) Done ∷ []) watch → Notes t m.run (lend_steps c.number f) (record { past = later; watch = watch })
+  lent_notes i index out later mid watch passed taken saw saw_too =
+      notes_both t m.run (zone_makes (PassOut f c.number) Done ∷ []) (record { past = out; watch = mid }) (cpu_makes c.number (TakeIn f) Done ∷ [])
+      (record { past = later; watch = watch })
+      (notes_one t m.run (zone_makes (PassOut f c.number) Done) (record { past = out; watch = mid })
+      (out_made out passed)
+      (subst (λ (x : ℕ × ℕ). Watches m.run.watch (zone_makes (PassOut x.0 x.1) Done ∷ []) mid) (λ j. (index j, number j)) saw))
+      (notes_one t (record { past = out; watch = mid }) (cpu_makes c.number (TakeIn f) Done) (record { past = later; watch = watch }) taken
+      (subst (λ (x : ℕ × ℕ). Watches mid (cpu_makes x.1 (TakeIn x.0) Done ∷ []) watch) (λ j. (index j, number j)) saw_too))

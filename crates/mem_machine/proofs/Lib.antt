@@ -4,10 +4,13 @@ pub mod Reaching
 pub mod Followed
 pub mod Noted
 pub mod Reached
+pub mod AtTable
 pub mod Watched
 pub mod Counted
 pub mod LedgerMoves
 pub mod Holds
+pub mod Holder
+pub mod Collecting
 pub mod First
 pub mod GroupSteps
 pub mod Records
@@ -51,3 +54,5 @@ pub mod Fronts
 pub mod Depths
 pub mod Looks
 pub mod Listing
+pub mod Seen
+pub mod Locks

@@ -7,13 +7,14 @@ use Rattle.stock_word.specs.declared.view.Stock.TheVariants.{NoGroup, HeldBy, Dr
 use Rattle.stock_word.specs.Stock.{KnownStockTable, group_of, is_held, stock_pages_of}
 use Rattle.cpu_part.specs.Cpus.{KnownCpu}
 use Rattle.mem_machine.specs.FrameStates.{frame_state_at, some_cpu}
-use Rattle.mem_machine.specs.Machines.{KnownMachine, FitsFrameState, IsConsistent, VisitState, home_of}
+use Rattle.mem_machine.specs.Machines.{KnownMachine, FitsFrameState, IsConsistent, VisitState, home_of, visit_state}
 use Rattle.mem_machine.specs.Local.{StaysVisited}
 use Rattle.mem_machine.specs.Paying.{IsOwnStock}
 use Rattle.mem_machine.specs.Showing.{ListedUnit, seat_with_look, seat_with_looks, stock_as, stock_now, with_look_at, with_looks_at}
 use Rattle.mem_machine.specs.Local.{local_of, references_of, MakesForAny}
 use Rattle.mem_machine.proofs.Releases.{note_keeps, visit_stays}
 use Rattle.mem_machine.proofs.Followed.{makes_stay}
+use Rattle.mem_machine.proofs.Watched.{visits_then}
 
 -- ---- one look at a word
 
@@ -48,6 +49,7 @@ pub record AllLooked (t : KnownTable) (w : KnownStockTable) (now : KnownMachine)
 looked_once : (t : KnownTable) (w : KnownStockTable) (m : KnownMachine) → IsConsistent t w m → (f pins : ℕ) → AllLooked t w m f pins (with_look_at m f pins)
 looked_once t w m ok f pins =
     let n : KnownMachine = with_look_at m f pins in
+    let makes : MakesForAny t m [] n = λ c. makes_stay t m n c c (sym (look_unseen t m f pins c)) refl refl refl in
     record {
       consistent = record {
         sizes = let s = ok.sizes in record { frame_states = s.frame_states; links = s.links; lists = s.lists; killed = s.killed; cpus = s.cpus };
@@ -62,8 +64,9 @@ looked_once t w m ok f pins =
         balances = ok.balances;
       };
       machine = refl;
-      visit = λ c visit. visit_stays t m n c f (looked (pins + 1)) refl (λ k. refl) (λ k. refl) (λ k. refl) visit;
-      steps = λ c. makes_stay t m n c c (sym (look_unseen t m f pins c)) refl refl refl;
+      visit = λ c visit. visits_then t (visit_state m c) (visit_state n c) [] visit.shown (makes c) refl
+          (visit_stays t m n c f (looked (pins + 1)) refl (λ k. refl) (λ k. refl) (λ k. refl) visit);
+      steps = makes;
     }
 
 -- the same, of the machine as it was seen before, and of the word that was found

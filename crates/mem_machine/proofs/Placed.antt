@@ -25,6 +25,7 @@ use Rattle.mem_machine.specs.declared.frame_state.FrameState.TheVariants.{Head, 
 use Rattle.mem_machine.specs.FrameStates.{frame_state_at}
 use Rattle.mem_machine.specs.Machines.{KnownMachine, is_killed}
 use Rattle.mem_machine.specs.Local.{hold_of_cpu, references_of, phase_of, part_of, local_of, visit_state}
+use Rattle.mem_machine.specs.Noted.{AreLocal}
 use Rattle.mem_machine.specs.Blocks.{placed_frame_state, taken_steps}
 use Rattle.mem_machine.proofs.Reaching.{zone_step}
 use Rattle.mem_machine.proofs.Holds.{zone_may_act}
@@ -94,6 +95,16 @@ module _ (t : KnownTable) (m : KnownMachine) (c : KnownCpu) (g : ℕ) (b : Block
   may_publish =
       and_from _ _ (and_from _ _ (and_from _ _ (zone_may_act m.frame_seat c.number) (lt-ltb b.at t.frames inside)) (ap is_head head_live))
       (le-leb 1 (kept.references 0 b.at) (let e = head_held in omega arith))
+
+  -- the steps are legal, wherever they lead
+  pub place_local : AreLocal c.number s (taken_steps g b.order b.at)
+  place_local = (
+    is_granted t m c g (2 ^ b.order) there alive usage path,
+    (
+      zone_step granted c.number (PlaceBlock g b.order) (Placed b) refl may_place (refl, free),
+      (zone_step placed c.number (Unfreeze b.at 1) Done refl may_unfreeze tt, (zone_step kept c.number (Publish b.at) Done refl may_publish tt, tt)),
+    ),
+  )
 
   module _ (n : KnownMachine) (is : IsPlaced m c g b n) where
     head_phase : phase_of c b.at (frame_state_at n.frame_states b.at) ≡ phase.Head unit Live

@@ -1,7 +1,7 @@
 -- Pages are charged and fill the CPU's stock. Serves `fill_stock` and `prepay`.
 use Rattle.std.proofs.Common.{◌≡◌, ℕ, ◌++◌, ◌+◌, ◌-◌, ◌<◌, ◌≤◌, ◌==◌, ◌||◌, Bool, true, false, ◌^◌, Option, Some, None, List, [], ◌∷◌, length}
 use Rattle.std.proofs.Common.{map, refl, sym, ap, ◌∙◌, subst, inl, inr, arith, cond, eq-eqb}
-use Rattle.std.specs.Prelude.{nat_le, Result, Ok, Err, OnOk, OnErr, IfErr}
+use Rattle.std.specs.Prelude.{◌⊎◌, is_some, nat_le, not, ◌&&◌, Result, Ok, Err, OnOk, OnErr, IfErr}
 use Rattle.std.proofs.lemmas.Bool.{cases_eq, ne_eqb, and_from, cond-true, cond-false, cond_both, le-leb, false≢true}
 use Rattle.std.proofs.lemmas.List.Sums.{sum_by-cons}
 use Rattle.frame_word.specs.Seats.{KnownTable}
@@ -20,21 +20,26 @@ use Rattle.group_charge.specs.declared.account.Account as charge
 use Rattle.group_charge.specs.Charges.{Ledger, AreCharges, current_of, usage_charged, taken, with_charge, PagesRise}
 use Rattle.group_charge.proofs.CallerLemmas.{charge_pages}
 use Rattle.group_charge.proofs.SumLemmas.{share}
+use Rattle.boot_words.specs.Pasts.{cpu_past}
+use Rattle.boot_words.specs.Seats.{zone_of_boot}
+use Rattle.boot_words.proofs.Returning.{none_booked}
 use Rattle.cpu_part.specs.Cpus.{KnownCpu, IsTied, times}
-use Rattle.step_rules.specs.declared.step.Action.TheVariants.{Fill}
-use Rattle.step_rules.specs.declared.step.Answer.TheVariants.{Done}
+use Rattle.step_rules.specs.Laws.{IsLocalStep}
+use Rattle.step_rules.specs.declared.step.Action.TheVariants.{Fill, Grant}
+use Rattle.step_rules.specs.declared.step.Answer.TheVariants.{Done, Granted}
 use Rattle.step_rules.specs.State.{State, Part, with_at, sum_to}
 use Rattle.step_rules.specs.Legal.{takes_fill, is_of_group}
-use Rattle.step_rules.specs.After.{filled, with_pending}
+use Rattle.step_rules.specs.After.{filled, state_of, with_pending}
 use Rattle.step_rules.specs.Usage as local
 use Rattle.step_rules.proofs.Basics.{at_same, at_other, at_each}
+use Rattle.step_rules.proofs.CoverParts.{own_part as own_seen}
 use Rattle.step_rules.proofs.Sums.{sum_change}
 use Rattle.mem_machine.specs.declared.frame_state.FrameState.{FrameState}
 use Rattle.mem_machine.specs.declared.frame_state.FrameState.TheVariants.{Free, Lent, Head, Tail}
 use Rattle.mem_machine.specs.FrameStates.{frame_state_at, one_if_is}
 use Rattle.mem_machine.specs.Machines.{KnownMachine, IsConsistent, is_killed, booked, pages_booked}
-use Rattle.mem_machine.specs.Local.{Visits}
-use Rattle.mem_machine.specs.Local.{local_of, phase_of, part_of, part_with, Makes, visit_state, MakesAs}
+use Rattle.mem_machine.specs.Noted.{AreLocal, MayTake}
+use Rattle.mem_machine.specs.Local.{IsShown, Visits, local_of, phase_of, part_of, part_with, Makes, visit_state, MakesAs}
 use Rattle.mem_machine.specs.Steps.{drain_steps, fill_steps, over_steps, zone_makes}
 use Rattle.mem_machine.specs.Stocks.{uncharged, stock_group, with_look, Drains, Fills, Prepays, IsOver, own_drain_steps, pages_held}
 use Rattle.mem_machine.specs.Paying.{IsOwnStock}
@@ -46,6 +51,8 @@ use Rattle.mem_machine.proofs.Usage.{usage_is, balanced_alone}
 use Rattle.mem_machine.proofs.Grants.{is_granted, refused_run}
 use Rattle.mem_machine.proofs.Followed.{makes_both, same_events, LeadsAs}
 use Rattle.mem_machine.proofs.LedgerMoves.{follows_grant}
+use Rattle.mem_machine.proofs.Reached.{may_first}
+use Rattle.mem_machine.proofs.Watched.{HasOpenVisit}
 
 -- ---- the accounts
 
@@ -205,7 +212,7 @@ fill_runs t w m c g k ok facts tied visit none there alive empty has =
 pub record Filled (t : KnownTable) (w : KnownStockTable) (m now : KnownMachine) (g k : ℕ) (c : KnownCpu) (l : Ledger) (stock : KnownStockSeat) (d : KnownCpu) : Type 0 where
   pub consistent : IsConsistent t w (record m { ledger = l; stock_seat = stock })
   pub fills : Fills g k (visit_state now c) (visit_state (record m { ledger = l; stock_seat = stock }) d)
-  pub visit : Visits t (visit_state (record m { ledger = l; stock_seat = stock }) d)
+  pub visit : HasOpenVisit t (visit_state (record m { ledger = l; stock_seat = stock }) d)
   pub steps : LeadsAs t c.number (visit_state now c) (fill_steps c.number g k) (visit_state (record m { ledger = l; stock_seat = stock }) d)
 
 filled_here : (t : KnownTable) (w : KnownStockTable) (m : KnownMachine) (c : KnownCpu) (g k : ℕ) → IsConsistent t w m
@@ -253,6 +260,41 @@ refused_all t w m now same c g k over ok facts tied visit none there alive low =
     (ap (λ (x : KnownMachine). is_killed x.killed g) same ∙ alive) usage
     over (subst (λ (x : KnownMachine). room.IsLowestOver x.ledger.groups (current_of x.ledger) g k over) (sym same) low))
 
+-- the grant may be taken, before it is known what the fill finds
+pub granted_may : (t : KnownTable) (w : KnownStockTable) (m now : KnownMachine) → m ≡ now → (c : KnownCpu) (g k : ℕ) → IsConsistent t w m
+    → AreCharges m.ledger → IsTied t w c → Visits t (visit_state now c) → c.fresh ≡ [] → has_group now.ledger.groups g ≡ true → is_killed now.killed g ≡ false
+    → room.PathHasRoom m.ledger.groups (current_of m.ledger) g k → MayTake t m.run.past (zone_makes (Grant g k) Granted)
+granted_may t w m now same c g k ok facts tied visit none there alive has =
+    let its : Visits t (visit_state m c) = subst (λ (x : KnownMachine). Visits t (visit_state x c)) (sym same) visit in
+    let usage : (h : ℕ) → local.usage_of (local_of t m c) h ≡ current_of m.ledger h = usage_is t w m c ok facts its.lent tied (balanced_alone m c none) in
+    let step : IsLocalStep (local_of t m c) c.number 0 (Grant g k) Granted = is_granted t m c g k (ap (λ (x : KnownMachine). has_group x.ledger.groups g) same ∙ there)
+    (ap (λ (x : KnownMachine). is_killed x.killed g) same ∙ alive) usage has in
+    may_first t m now same c visit.shown (zone_makes (Grant g k) Granted) [] (subst (λ (x : KnownMachine). AreLocal c.number (local_of t x c) (zone_makes (Grant g k) Granted ∷ [])) same (step, tt))
+
+-- a stock that isn't filled was drained, or never filled
+drained_or_none : (o : Option ℕ) (f : Bool) → f ≡ false → (o ≡ None) ⊎ ((is_some o && not f) ≡ true)
+drained_or_none None f is = inl refl
+drained_or_none (Some g) f is = inr (ap not is)
+
+-- by the run nothing is booked for the CPU, if it has no fresh frame and its stock isn't filled
+pub nothing_booked : (t : KnownTable) (w : KnownStockTable) (m now : KnownMachine) → m ≡ now → (c : KnownCpu) → IsShown t (visit_state now c) → IsConsistent t w m
+    → c.fresh ≡ [] → (account_of now.stock_seat.view c.number).filled ≡ false → (account_of m.stock_seat.view c.number).book ≡ 0
+nothing_booked t w m now same c at ok none drained =
+    let p = c.number in
+    let past = now.run.past in
+    let s = state_of (zone_of_boot t) (cpu_past past).seen in
+    let a = account_of now.stock_seat.view p in
+    let part : s.parts p ≡ part_with c.list c.fresh c.back a = sym (own_seen (cpu_past past).number s.parts p (sym at.who))
+    ∙ ap (λ (x : State). x.parts p) at.here ∙ own_part now c in
+    let absorbed : a.unabsorbed ≡ 0 = ap (λ (x : KnownMachine). (account_of x.stock_seat.view p).unabsorbed) (sym same) ∙ ok.absorbed p in
+    let book : (s.parts p).book ≡ 0 = none_booked (zone_of_boot t) (cpu_past past).seen p at.held.holds.shows.legal (record {
+      fresh = ap (λ (x : Part). x.fresh) part ∙ none;
+      unreported = ap (λ (x : Part). x.unreported) part;
+      reported = ap (λ (x : Part). x.reported) part ∙ absorbed;
+      drained = subst (λ (x : Part). (x.stock.group ≡ None) ⊎ (x.stock.is_drained ≡ true)) (sym part) (drained_or_none a.group a.filled drained);
+    }) in
+    ap (λ (x : KnownMachine). (account_of x.stock_seat.view p).book) same ∙ ap (λ (x : Part). x.book) (sym part) ∙ book
+
 -- what two clauses of an answer say together
 pub on_ok_both : {T E : Type 0} (r : Result T E) {P Q R : Type 0} → (P → Q → R) → OnOk r P → OnOk r Q → OnOk r R
 on_ok_both (Ok x) both p q = both p q
@@ -290,14 +332,6 @@ none_in (HeldBy g n) is = absurd (false≢true (sym is))
 none_in (DrainedOf g) is = refl
 
 module _ (m x : KnownMachine) (q p k : ℕ) (named : q ≡ p) (d : Drains q k m x) where
-  pub emptied_visits : (t : KnownTable) (c : KnownCpu) → Visits t (visit_state m c) → Visits t (visit_state x c)
-  emptied_visits t c visit = subst (λ (y : KnownMachine). Visits t (visit_state y c)) (sym d.machine) (record {
-    is_open = visit.is_open;
-    still =
-        visit.still;
-    lent = visit.lent;
-  })
-
   pub emptied_has : (g : ℕ) → has_group m.ledger.groups g ≡ true → has_group x.ledger.groups g ≡ true
   emptied_has g there = ap (λ (y : KnownMachine). has_group y.ledger.groups g) d.machine
       ∙ ap (λ (y : List Group). has_group y g) (groups_stay m.ledger (stock_group m q) k) ∙ there
@@ -349,7 +383,7 @@ module _ (m x : KnownMachine) (q p k : ℕ) (named : q ≡ p) (d : Drains q k m 
     own_drain = subst (λ (z : ℕ × ℕ). Drains z.0 z.1 m x) (λ i. (its_number i, whole i)) d
 
     looked_own : MakesAs t c.number (visit_state m c) (own_drain_steps (visit_state m c)) (visit_state (with_look x) c)
-    looked_own = record { leads = drained_own.leads; follows = drained_own.follows; counts = drained_own.counts; watched = drained_own.watched }
+    looked_own = record { leads = drained_own.leads; follows = drained_own.follows; counts = drained_own.counts; noted = drained_own.noted }
 
     -- what follows begins at the machine and the part after the look
     module _ (y : KnownMachine) (e : KnownCpu) (same : y ≡ with_look x) (stays : e ≡ c) (g pages : ℕ) (n : KnownMachine) (f : KnownCpu) where

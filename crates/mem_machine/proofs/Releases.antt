@@ -39,8 +39,11 @@ use Rattle.mem_machine.specs.declared.frame_state.FrameState.{FrameState}
 use Rattle.mem_machine.specs.declared.frame_state.FrameState.TheVariants.{Free, Head}
 use Rattle.mem_machine.specs.FrameStates.{frame_state_at, free_of, head_group_of, cpu_lent_to, some_cpu}
 use Rattle.mem_machine.specs.Machines.{KnownMachine, FitsFrameState, IsConsistent, BalancesCounts, home_of, is_killed, group_lists, lists_of}
-use Rattle.mem_machine.specs.Local.{Visits}
-use Rattle.mem_machine.specs.Local.{IsLocalRun, local_of, phase_of, references_of, visit_state}
+use Rattle.mem_machine.specs.Local.{IsLocalRun, IsShown, Visits, local_of, phase_of, references_of, visit_state}
+use Rattle.boot_words.specs.Pasts.{KnownPasts, MakesStep}
+use Rattle.step_watch.specs.Watched.{Watches}
+use Rattle.mem_machine.specs.Noted.{AreLocal, KnownRun, MayTake, MayTakeAll, Notes}
+use Rattle.mem_machine.proofs.Noted.{notes_both, notes_one}
 use Rattle.mem_machine.specs.Counts.{with_last_put}
 use Rattle.mem_machine.specs.Counting.{counts_after, one_more_last_put, one_more_return}
 use Rattle.mem_machine.specs.Freeing.{FreesFrames}
@@ -55,6 +58,8 @@ use Rattle.mem_machine.proofs.Holds.{zone_may_act}
 use Rattle.mem_machine.proofs.Freeing.{free_block_given, unit_freed_consistent}
 use Rattle.mem_machine.proofs.Balances.{balanced_last_put}
 use Rattle.mem_machine.proofs.Followed.{follows_same, follows_still, is_still, LeadsAs, LeadsForAny}
+use Rattle.mem_machine.proofs.Reached.{may_make}
+use Rattle.mem_machine.proofs.Watched.{HasOpenVisit}
 use Rattle.group_charge.proofs.CallerLemmas.{uncharge_peaks, uncharge_events}
 
 -- ---- one note of the zone's seat changed
@@ -72,7 +77,7 @@ module _ (s : KnownSeat) (f : ℕ) (change : FrameNote → FrameNote) where
 -- a visit stays open, with no frame in transit, if the change leaves what was lent and handed over
 pub visit_stays : (t : KnownTable) (m n : KnownMachine) (c : KnownCpu) (f : ℕ) (change : FrameNote → FrameNote) → n.frame_seat ≡ seat_with m.frame_seat f change
     → ((k : FrameNote) → (change k).lent ≡ k.lent) → ((k : FrameNote) → (change k).passed_out ≡ k.passed_out)
-    → ((k : FrameNote) → (change k).collected ≡ k.collected) → Visits t (visit_state m c) → Visits t (visit_state n c)
+    → ((k : FrameNote) → (change k).collected ≡ k.collected) → Visits t (visit_state m c) → HasOpenVisit t (visit_state n c)
 visit_stays t m n c f change seat lent out back visit = record {
   is_open = subst (λ (s : KnownSeat). get_or s.view.opened c.number 0 ≡ 1) (sym seat) visit.is_open;
   still = λ g inside. subst (λ (s : KnownSeat). get_or (note_of s.view g).passed_out (seat_number c.frame_seat) 0 + (note_of c.frame_seat.view g).passed_back
@@ -302,7 +307,7 @@ read_head t w m ok f i inside is x unit read head =
 
 pub record AllLeft (t : KnownTable) (w : KnownStockTable) (now : KnownMachine) (f left : ℕ) (n : KnownMachine) : Type 0 where
   pub consistent : IsConsistent t w n
-  pub visit : (c : KnownCpu) → Visits t (visit_state now c) → Visits t (visit_state n c)
+  pub visit : (c : KnownCpu) → Visits t (visit_state now c) → HasOpenVisit t (visit_state n c)
   pub steps : LeadsForAny t now (release_steps f (Left left)) n
 
 pub left_all : (t : KnownTable) (w : KnownStockTable) (m now : KnownMachine) → m ≡ now → IsConsistent t w m → (f i : ℕ) → f < t.frames → i ≡ f → home_of now.links f ≢ None → (links : List Link) (lists : List Lru) → LeavesList i (lists_of m) (group_lists links lists) → AllLinked links lists
@@ -328,7 +333,7 @@ pub record AllBack (t : KnownTable) (w : KnownStockTable) (now : KnownMachine) (
   pub list : LeavesList f (lists_of now) (lists_of n)
   pub frees : FreesFrames f (2 ^ unit.order) now.frame_states n.frame_states
   pub areas : AreMaximalBlocks (free_of n.frame_states) n.blocks
-  pub visit : (c : KnownCpu) → Visits t (visit_state now c) → Visits t (visit_state n c)
+  pub visit : (c : KnownCpu) → Visits t (visit_state now c) → HasOpenVisit t (visit_state n c)
   pub runs : LeadsForAny t now steps n
 
 -- the step before the last one leaves the state that the zone's last put leaves
@@ -416,7 +421,7 @@ pub record AllReturned (t : KnownTable) (w : KnownStockTable) (now : KnownMachin
   pub consistent : IsConsistent t w n
   pub free_is : free ≡ free_of n.frame_states
   pub returns : ReturnsUnit f now n
-  pub visit : (c : KnownCpu) → Visits t (visit_state now c) → Visits t (visit_state n c)
+  pub visit : (c : KnownCpu) → Visits t (visit_state now c) → HasOpenVisit t (visit_state n c)
   pub steps : LeadsForAny t now (release_steps f Returned) n
 
 pub returned_all : (t : KnownTable) (w : KnownStockTable) (m now : KnownMachine) → m ≡ now → IsConsistent t w m → (f i : ℕ)
@@ -464,3 +469,31 @@ returned_all t w m now same ok f i inside is kept_now links lists left_list stan
       visit = back.visit;
       steps = back.runs;
     }
+
+-- the zone's last reference may be put, whatever the answer
+pub put_may : (t : KnownTable) (w : KnownStockTable) (m now : KnownMachine) → m ≡ now → (c : KnownCpu) → IsShown t (visit_state now c) → IsConsistent t w m → (f : ℕ) → f < t.frames
+    → home_of now.links f ≢ None → MayTakeAll t m.run.past (zone_makes (Put f) answer.Last ∷ [])
+put_may t w m now same c at ok f inside kept_now =
+    let held = held_once t w m ok f inside (subst (λ (x : KnownMachine). home_of x.links f ≢ None) (sym same) kept_now) in
+    let step : IsLocalStep (local_of t m c) c.number 0 (Put f) answer.Last = zone_step (local_of t m c) c.number (Put f) answer.Last refl (may_put_one t m f inside held c) tt in
+    may_make t m now same c at (zone_makes (Put f) answer.Last ∷ []) (subst (λ (x : KnownMachine). AreLocal c.number (local_of t x c) (zone_makes (Put f) answer.Last ∷ [])) same (step, tt))
+
+-- a step of the zone's seat on frame f, which the watch names i
+pub notes_of_zone : (t : KnownTable) (a b : KnownRun) (f i : ℕ) → i ≡ f → (action : ℕ → Action) (answered : Answer) → MakesStep t a.past 0 (action f) answered b.past
+    → Watches a.watch (zone_makes (action i) answered ∷ []) b.watch → Notes t a (zone_makes (action f) answered ∷ []) b
+notes_of_zone t a b f i is action answered made watched =
+    notes_one t a (zone_makes (action f) answered) b made (subst (λ (x : ℕ). Watches a.watch (zone_makes (action x) answered ∷ []) b.watch) is watched)
+
+-- and then the unit's return
+pub notes_back : (t : KnownTable) (a b : KnownRun) (f i : ℕ) → i ≡ f → (action : ℕ → Action) (answered : Answer) → Notes t a (zone_makes (action f) answered ∷ []) b
+    → (d : KnownRun) → Notes t b (zone_makes (Return i) answer.Done ∷ []) d → Notes t a (zone_makes (action f) answered ∷ zone_makes (Return f) answer.Done ∷ []) d
+notes_back t a b f i is action answered first d second =
+    notes_both t a (zone_makes (action f) answered ∷ []) b (zone_makes (Return f) answer.Done ∷ []) d first
+    (subst (λ (x : ℕ). Notes t b (zone_makes (Return x) answer.Done ∷ []) d) is second)
+
+-- the return may be made behind that step
+pub return_may : (t : KnownTable) (past later : KnownPasts) (f i : ℕ) → i ≡ f → (action : Action) (answered : Answer)
+    → MayTakeAll t past (zone_makes action answered ∷ zone_makes (Return f) answer.Done ∷ []) → MakesStep t past 0 action answered later
+    → MayTake t later (zone_makes (Return i) answer.Done)
+return_may t past later f i is action answered may made =
+    subst (λ (x : ℕ). MayTake t later (zone_makes (Return x) answer.Done)) (sym is) (may.1 later made).0

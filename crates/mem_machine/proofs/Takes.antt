@@ -32,7 +32,7 @@ use Rattle.mem_machine.specs.FrameStates.{frame_state_at, is_free_state, free_of
 use Rattle.mem_machine.specs.FrameStates.{some_cpu}
 use Rattle.mem_machine.specs.Machines.{KnownMachine, FitsFrameState, IsConsistent, home_of}
 use Rattle.mem_machine.specs.Local.{Visits}
-use Rattle.mem_machine.specs.Lending.{UnlistsOne, UnlistsNone}
+use Rattle.mem_machine.specs.Lending.{UnlistsOne}
 use Rattle.mem_machine.specs.Local.{local_of, phase_of, part_of, part_with, visit_state}
 use Rattle.mem_machine.specs.Steps.{unlist_steps}
 use Rattle.mem_machine.proofs.Reaching.{zone_step, cpu_step}
@@ -41,6 +41,13 @@ use Rattle.mem_machine.proofs.Records.{free_at, one_covered, length_free, free_g
 use Rattle.mem_machine.proofs.Lends.{parts_changed, references_stay, lent_listed, phases_changed}
 use Rattle.mem_machine.proofs.Followed.{follows_same, LeadsAs}
 use Rattle.mem_machine.proofs.Counted.{collects_none}
+use Rattle.boot_words.specs.Pasts.{KnownPasts, MakesStep, MayMake}
+use Rattle.step_watch.specs.Watched.{KnownWatch, Watches, zone_makes, cpu_makes}
+use Rattle.mem_machine.specs.Noted.{AreLocal, MayTakeAll, Notes}
+use Rattle.mem_machine.proofs.Noted.{notes_both, notes_one, run_steps}
+use Rattle.mem_machine.proofs.Reached.{may_make}
+use Rattle.mem_machine.proofs.Holder.{listed_lent}
+use Rattle.mem_machine.proofs.Watched.{HasOpenVisit}
 
 -- a list that hasn't the frame stays without it
 pub without_none : (f : ℕ) (xs : List ℕ) → times f xs ≡ 0 → without f xs ≡ xs
@@ -128,7 +135,7 @@ module _ (t : KnownTable) (w : KnownStockTable) (m : KnownMachine) (c : KnownCpu
   no_one : ◌≡◌ {A = ℕ} 0 1 → ⊥
   no_one is = omega (arith, is)
 
-  pub take_visits : (blocks : List Block) → Visits t (visit_state (record m { blocks = blocks; frame_states = slice_set m.frame_states f Free; frame_seat = seat_with m.frame_seat f (collected_from c.number) }) (record c { list = rest; frame_seat = seat_with c.frame_seat f passed_back_by_cpu }))
+  pub take_visits : (blocks : List Block) → HasOpenVisit t (visit_state (record m { blocks = blocks; frame_states = slice_set m.frame_states f Free; frame_seat = seat_with m.frame_seat f (collected_from c.number) }) (record c { list = rest; frame_seat = seat_with c.frame_seat f passed_back_by_cpu }))
   take_visits blocks = record {
     is_open = visit.is_open;
     still = collected_is_still t m.frame_seat c.frame_seat c.number tied.seats.frame_number f visit.still (seat_with c.frame_seat f passed_back_by_cpu)
@@ -201,7 +208,7 @@ pub record AllTaken (t : KnownTable) (w : KnownStockTable) (now : KnownMachine) 
   pub free_is : free ≡ free_of n.frame_states
   pub takes : UnlistsOne f (visit_state now c) (visit_state n d)
   pub steps : LeadsAs t c.number (visit_state now c) (unlist_steps c.number f) (visit_state n d)
-  pub visit : Visits t (visit_state n d)
+  pub visit : HasOpenVisit t (visit_state n d)
 
 pub take_all : (t : KnownTable) (w : KnownStockTable) (m now : KnownMachine) → m ≡ now → (c h d : KnownCpu) → IsTied t w c → IsConsistent t w m → Visits t (visit_state now c)
     → (before free : List Bool) (k : ℕ) (blocks : List Block) (f i : ℕ) (seat : KnownSeat)
@@ -240,11 +247,6 @@ take_all t w m now same c h d tied ok visit_now before free k blocks f i seat wa
 
 -- ---- what the steps on the way ask for
 
--- the list is empty
-pub taken_none : (m now : KnownMachine) → m ≡ now → (c d : KnownCpu) (seat : KnownSeat) → (c.list ≡ []) × (d ≡ c) → seat ≡ m.frame_seat
-    → UnlistsNone (visit_state now c) (visit_state (record m { frame_seat = seat }) d)
-taken_none m now same c d seat none is = record { none = none.0; stays = record { machine = (λ i. record m { frame_seat = is i }) ∙ same; cpu = none.1 } }
-
 -- the frame passes for the CPU once it was handed
 pub passes_back_to : (t : KnownTable) (w : KnownStockTable) (m now : KnownMachine) → m ≡ now → (c h : KnownCpu) → IsTied t w c → Visits t (visit_state now c)
     → (f : ℕ) (seat : KnownSeat)
@@ -270,3 +272,36 @@ may_give t w m c tied ok before f i k was inside lent index zero_is =
       block = record { order = omega arith; aligned = omega arith; inside = omega (arith, long, within) };
       none_free = λ g covers is. false≢true (sym used ∙ ap (λ (x : ℕ). get_or before x false) (sym (one_covered f g covers)) ∙ is);
     })
+
+-- ---- the run
+
+module _ (t : KnownTable) (w : KnownStockTable) (m now : KnownMachine) (same : m ≡ now) (c : KnownCpu) where
+  -- the steps may be made, by what was known before the call
+  module _ (tied : IsTied t w c) (ok : IsConsistent t w m) (visit : Visits t (visit_state now c)) (f : ℕ) (rest : List ℕ) (front : c.list ≡ f ∷ rest) where
+    take_may : MayTakeAll t m.run.past (unlist_steps c.number f)
+    take_may =
+        let its : Visits t (visit_state m c) = subst (λ (x : KnownMachine). Visits t (visit_state x c)) (sym same) visit in
+        let is = listed_lent t w m c tied its f rest front in
+        may_make t m now same c visit.shown (unlist_steps c.number f)
+        (subst (λ (x : KnownMachine). AreLocal c.number (local_of t x c) (unlist_steps c.number f)) same
+        (run_steps c.number (local_of t m c) (unlist_steps c.number f) _ (take_runs t w m c tied ok its f rest front is.inside is.lent m.blocks).leads))
+
+    pub may_pass_front : MayMake t m.run.past c.number (PassBack f)
+    may_pass_front = take_may.0.legal
+
+    pub may_collect_front : (p : ℕ) → p ≡ c.number → (later : KnownPasts) → MakesStep t m.run.past c.number (PassBack f) Done later → MayMake t later 0 (Collect f p)
+    may_collect_front p number later made = subst (λ (x : ℕ). MayMake t later 0 (Collect f x)) (sym number) (take_may.1 later made).0.legal
+
+  -- they were made, and the watch took them
+  pub taken_notes : (f i p q : ℕ) → i ≡ f → p ≡ c.number → q ≡ c.number → (back later : KnownPasts) (mid watch : KnownWatch)
+      → MakesStep t m.run.past c.number (PassBack f) Done back → MakesStep t back 0 (Collect f p) Done later
+      → Watches m.run.watch (cpu_makes q (PassBack i) Done ∷ []) mid → Watches mid (zone_makes (Collect i q) Done ∷ []) watch
+      → Notes t m.run (unlist_steps c.number f) (record { past = later; watch = watch })
+  taken_notes f i p q index handed number back later mid watch passed collected saw saw_too =
+      notes_both t m.run (cpu_makes c.number (PassBack f) Done ∷ []) (record { past = back; watch = mid }) (zone_makes (Collect f c.number) Done ∷ [])
+      (record { past = later; watch = watch })
+      (notes_one t m.run (cpu_makes c.number (PassBack f) Done) (record { past = back; watch = mid }) passed
+      (subst (λ (x : ℕ × ℕ). Watches m.run.watch (cpu_makes x.1 (PassBack x.0) Done ∷ []) mid) (λ j. (index j, number j)) saw))
+      (notes_one t (record { past = back; watch = mid }) (zone_makes (Collect f c.number) Done) (record { past = later; watch = watch })
+      (subst (λ (x : ℕ). MakesStep t back 0 (Collect f x) Done later) handed collected)
+      (subst (λ (x : ℕ × ℕ). Watches mid (zone_makes (Collect x.0 x.1) Done ∷ []) watch) (λ j. (index j, number j)) saw_too))

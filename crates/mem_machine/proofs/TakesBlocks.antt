@@ -1,5 +1,5 @@
 -- A block is charged to a group and taken, or none is there. Serves `take_block`.
-use Rattle.std.proofs.Common.{◌≡◌, ℕ, zero, suc, ◌+◌, ◌-◌, ◌^◌, ◌≤◌, ◌<◌, ◌==◌, Bool, true, false, cond, List, [], length, get_or}
+use Rattle.std.proofs.Common.{◌≡◌, ℕ, zero, suc, ◌+◌, ◌-◌, ◌^◌, ◌≤◌, ◌<◌, ◌==◌, Bool, true, false, cond, List, [], ◌∷◌, length, get_or}
 use Rattle.std.proofs.Common.{refl, sym, ap, ◌∙◌, subst, arith, inl, inr}
 use Rattle.std.specs.Prelude.{slice_index}
 use Rattle.std.specs.Cmp.{both_ways}
@@ -34,15 +34,25 @@ use Rattle.mem_machine.specs.declared.frame_state.FrameState.TheVariants.{Free, 
 use Rattle.mem_machine.specs.FrameStates.{frame_state_at, is_free_state, is_in_hand, cpu_lent_to, free_of}
 use Rattle.mem_machine.specs.FrameStates.{frame_state_group}
 use Rattle.mem_machine.specs.Machines.{KnownMachine, IsConsistent, is_killed}
-use Rattle.mem_machine.specs.Local.{Visits}
+use Rattle.boot_words.specs.Pasts.{MakesStep}
+use Rattle.step_watch.specs.Watched.{Watches}
+use Rattle.mem_machine.specs.Noted.{AreLocal, KnownRun, MayTakeAll, Notes}
+use Rattle.mem_machine.specs.Steps.{zone_makes}
+use Rattle.mem_machine.proofs.Noted.{notes_both}
+use Rattle.mem_machine.proofs.Releases.{notes_of_zone}
+use Rattle.step_rules.specs.After.{Run}
+use Rattle.step_rules.specs.declared.step.Action.TheVariants.{Grant, PlaceBlock, Publish, Ungrant, Unfreeze}
+use Rattle.step_rules.specs.declared.step.Answer.TheVariants.{Done, Granted, NoFreeBlock, Placed}
 use Rattle.mem_machine.specs.Blocks.{PlacesUnit, TakesBlock, TakesNoBlock, taken_steps, unplaced_steps}
-use Rattle.mem_machine.specs.Local.{local_of, phase_of, visit_state}
+use Rattle.mem_machine.specs.Local.{IsShown, MakesAs, Visits, local_of, phase_of, visit_state}
 use Rattle.mem_machine.proofs.Records.{length_free, free_at, free_is, free_inside, no_cpu_is}
 use Rattle.mem_machine.proofs.PlacesUnits.{in_block, off_block}
 use Rattle.mem_machine.proofs.Joins.{AllJoin}
 use Rattle.mem_machine.proofs.KeptUnits.{IsUsed, JoinsCharges, unit_kept}
-use Rattle.mem_machine.proofs.Placed.{taken_run}
-use Rattle.mem_machine.proofs.Grants.{unplaced_run}
+use Rattle.mem_machine.proofs.Placed.{place_local, taken_run}
+use Rattle.mem_machine.proofs.Grants.{is_granted, unplaced_run}
+use Rattle.mem_machine.proofs.Reached.{may_lead_all, may_make}
+use Rattle.mem_machine.proofs.Watched.{HasOpenVisit, visits_then}
 use Rattle.mem_machine.proofs.Followed.{same_events, LeadsAs}
 use Rattle.group_charge.proofs.CallerLemmas.{uncharge_peaks, uncharge_events}
 
@@ -133,7 +143,7 @@ note_kept s f n h same x = elim (cases_eq x f) [
   | inr ne ↦ ap h (note_else s.view f x (unfrozen n) ne)
 ]
 
-pub unfrozen_visits : (t : KnownTable) (m n : KnownMachine) (c : KnownCpu) (f : ℕ) → n.frame_seat ≡ seat_with m.frame_seat f (unfrozen 1) → Visits t (visit_state m c) → Visits t (visit_state n c)
+pub unfrozen_visits : (t : KnownTable) (m n : KnownMachine) (c : KnownCpu) (f : ℕ) → n.frame_seat ≡ seat_with m.frame_seat f (unfrozen 1) → Visits t (visit_state m c) → HasOpenVisit t (visit_state n c)
 unfrozen_visits t m n c f is visit =
     let p = c.frame_seat.view.number in
     let out : (x : ℕ) → (note_of (seat_with m.frame_seat f (unfrozen 1)).view x).passed_out ≡ (note_of m.frame_seat.view x).passed_out =
@@ -174,7 +184,7 @@ pub record AllTaken (t : KnownTable) (w : KnownStockTable) (now : KnownMachine) 
   pub consistent : IsConsistent t w n
   pub free_is : free ≡ free_of n.frame_states
   pub takes : TakesBlock g k at now n
-  pub visit : Visits t (visit_state n d)
+  pub visit : HasOpenVisit t (visit_state n d)
   pub steps : LeadsAs t c.number (visit_state now c) (taken_steps g k at) (visit_state n d)
 
 -- what is asked of the CPU and of the group
@@ -292,6 +302,49 @@ taken_all t w m now same c d stays ok facts g fits k pages size may room ledger 
     ))
     (taken_here t w m c ok facts g fits b may_here room_here rise_here before free blocks was front_here takes areas frame_states placed unreferred_here links lists joined_here)
 
+-- the grant may be made, if there is room
+pub granted_may : (t : KnownTable) (m now : KnownMachine) → m ≡ now → (c : KnownCpu) → IsShown t (visit_state now c) → (g pages : ℕ) → MayTake t now c g
+    → PathHasRoom m.ledger.groups (current_of m.ledger) g pages → MayTakeAll t m.run.past (zone_makes (Grant g pages) Granted ∷ [])
+granted_may t m now same c at g pages may room =
+    let here : MayTake t m c g = subst (λ (x : KnownMachine). MayTake t x c g) (sym same) may in
+    may_make t m now same c at (zone_makes (Grant g pages) Granted ∷ [])
+    (subst (λ (x : KnownMachine). AreLocal c.number (local_of t x c) (zone_makes (Grant g pages) Granted ∷ [])) same
+    (is_granted t m c g pages here.there here.alive here.usage room, tt))
+
+-- the steps, with the pages and the frame as the code names them
+abbrev pub taken_as : (g pages k at : ℕ) → Run
+taken_as g pages k at =
+    zone_makes (Grant g pages) Granted ∷ zone_makes (PlaceBlock g k) (Placed (record { at = at; order = k })) ∷ zone_makes (Unfreeze at 1) Done ∷ zone_makes (Publish at) Done ∷ []
+
+-- they may be made, once the block is known
+pub taken_may : (t : KnownTable) (w : KnownStockTable) (m now : KnownMachine) → m ≡ now → (c : KnownCpu) → IsShown t (visit_state now c) → IsConsistent t w m → (g k pages : ℕ) → pages ≡ 2 ^ k
+    → MayTake t now c g → PathHasRoom m.ledger.groups (current_of m.ledger) g pages → (before free : List Bool) (b : Block) → before ≡ free_of m.frame_states
+    → IsFrontOfSmallest m.blocks k b → TakesFrames before b free → (f u : ℕ) → f ≡ b.at → u ≡ f → MayTakeAll t m.run.past (taken_as g pages k u)
+taken_may t w m now same c at ok g k pages size may room before free b was front takes f u head named =
+    let order : k ≡ b.order = sym front.order_is in
+    let so_many : pages ≡ 2 ^ b.order = size ∙ ap (λ (x : ℕ). 2 ^ x) order in
+    let here : MayTake t m c g = subst (λ (x : KnownMachine). MayTake t x c g) (sym same) may in
+    let front_b : IsFrontOfSmallest m.blocks b.order b = subst (λ (x : ℕ). IsFrontOfSmallest m.blocks x b) order front in
+    let were_free = taken_free m.frame_states m.blocks ok.areas before free was b.order b front_b takes in
+    let sized = ok.sizes.frame_states in
+    let inside : b.at < t.frames = let h = head_inside m.frame_states m.blocks ok.areas before free was b.order b front_b takes in omega (arith, h, sized) in
+    let all = place_local t m c g b here.there here.alive here.usage (subst (PathHasRoom m.ledger.groups (current_of m.ledger) g) so_many room) inside
+    (seen_free t m c sized b (taken_inside m.frame_states m.blocks ok.areas before free was b.order b front_b takes) were_free) (ap (times b.at) here.none_back) in
+    subst (λ (x : ℕ × ℕ × ℕ). MayTakeAll t m.run.past (taken_as g x.0 x.1 x.2)) (λ j. (sym so_many j, sym order j, sym (named ∙ head) j))
+    (may_make t m now same c at (taken_steps g b.order b.at) (subst (λ (x : KnownMachine). AreLocal c.number (local_of t x c) (taken_steps g b.order b.at)) same all))
+
+-- the table takes the third step of frame f, which the code names u elsewhere
+pub taken_notes : (t : KnownTable) (a b d e s : KnownRun) (g k pages f u : ℕ) → pages ≡ 2 ^ k → u ≡ f → Notes t a (zone_makes (Grant g pages) Granted ∷ []) b
+    → Notes t b (zone_makes (PlaceBlock g k) (Placed (record { at = u; order = k })) ∷ []) d → MakesStep t d.past 0 (Unfreeze f 1) Done e.past
+    → Watches d.watch (zone_makes (Unfreeze u 1) Done ∷ []) e.watch → Notes t e (zone_makes (Publish u) Done ∷ []) s → Notes t a (taken_steps g k f) s
+taken_notes t a b d e s g k pages f u size named grants places made watched publishes =
+    let third = notes_of_zone t d e f u named (λ x. Unfreeze x 1) Done made watched in
+    let last : Notes t e (zone_makes (Publish f) Done ∷ []) s = subst (λ (x : ℕ). Notes t e (zone_makes (Publish x) Done ∷ []) s) named publishes in
+    let second : Notes t b (zone_makes (PlaceBlock g k) (Placed (record { at = f; order = k })) ∷ []) d =
+    subst (λ (x : ℕ). Notes t b (zone_makes (PlaceBlock g k) (Placed (record { at = x; order = k })) ∷ []) d) named places in
+    let first : Notes t a (zone_makes (Grant g (2 ^ k)) Granted ∷ []) b = subst (λ (x : ℕ). Notes t a (zone_makes (Grant g x) Granted ∷ []) b) size grants in
+    notes_both t a _ b _ s first (notes_both t b _ d _ s second (notes_both t d _ e _ s third last))
+
 -- ---- no block
 
 -- what it leaves if there is none
@@ -316,3 +369,30 @@ none_all t w m now same c d stays ok facts g k pages size may room charged ledge
       steps = unplaced_run t m c g (2 ^ k) may_here.there may_here.alive may_here.usage k enough ok.sizes.frame_states ok.areas none facts room_here n refl refl
           (uncharge_peaks (with_charge m.ledger g (2 ^ k)) g (2 ^ k)) (uncharge_events (with_charge m.ledger g (2 ^ k)) g (2 ^ k));
     })
+
+-- the steps, with the pages as the code names them
+abbrev pub unplaced_as : (g pages k : ℕ) → Run
+unplaced_as g pages k = zone_makes (Grant g pages) Granted ∷ zone_makes (PlaceBlock g k) NoFreeBlock ∷ zone_makes (Ungrant g pages) Done ∷ []
+
+pub unplaced_notes : (t : KnownTable) (a b d s : KnownRun) (g k pages : ℕ) → pages ≡ 2 ^ k → Notes t a (zone_makes (Grant g pages) Granted ∷ []) b
+    → Notes t b (zone_makes (PlaceBlock g k) NoFreeBlock ∷ []) d → Notes t d (zone_makes (Ungrant g pages) Done ∷ []) s → Notes t a (unplaced_steps g k) s
+unplaced_notes t a b d s g k pages size grants places takes =
+    subst (λ (x : ℕ). Notes t a (unplaced_as g x k) s) size (notes_both t a _ b _ s grants (notes_both t b _ d _ s places takes))
+
+-- they may be made, if there is none
+pub unplaced_may : (t : KnownTable) (w : KnownStockTable) (m now : KnownMachine) → m ≡ now → (c : KnownCpu) → IsShown t (visit_state now c) → IsConsistent t w m → AreCharges m.ledger
+    → (g k pages : ℕ) → pages ≡ 2 ^ k → MayTake t now c g → PathHasRoom m.ledger.groups (current_of m.ledger) g pages → HasNoneFrom m.blocks k
+    → MayTakeAll t m.run.past (unplaced_as g pages k)
+unplaced_may t w m now same c at ok facts g k pages size may room none =
+    let all = none_all t w m now same c c refl ok facts g k pages size may room _ _ refl refl m.blocks refl none in
+    subst (λ (x : ℕ). MayTakeAll t m.run.past (unplaced_as g x k)) (sym size)
+    (may_lead_all t m now same c at (unplaced_steps g k) _ all.steps)
+
+-- steps that leave the zone's seat at the frames leave the CPU's visit open
+pub visit_kept : (t : KnownTable) (m now : KnownMachine) → m ≡ now → (c : KnownCpu) (n : KnownMachine) → n.frame_seat ≡ m.frame_seat → (steps : Run)
+    → MakesAs t c.number (visit_state now c) steps (visit_state n c) → Visits t (visit_state now c) → Visits t (visit_state n c)
+visit_kept t m now same c n seat steps makes visit =
+    let seat_now : now.frame_seat ≡ n.frame_seat = sym (seat ∙ ap (λ (k : KnownMachine). k.frame_seat) same) in
+    visits_then t (visit_state now c) (visit_state n c) steps visit.shown makes refl
+    (subst (λ (x : KnownSeat). HasOpenVisit t (visit_state (record n { frame_seat = x }) c)) seat_now
+    (record { is_open = visit.is_open; still = visit.still; lent = visit.lent }))

@@ -74,6 +74,7 @@ consistent_noted t w n k ok = record {
   balances = ok.balances;
 }
 
+-- a visit goes on where another note was made
 pub visits_noted : (t : KnownTable) (n : KnownMachine) (d : KnownCpu) (k : KnownNotes) → Visits t (visit_state n d) → Visits t (visit_state (record n { notes = k }) d)
 visits_noted t n d k visit = record {
   is_open = visit.is_open;
@@ -81,6 +82,9 @@ visits_noted t n d k visit = record {
   lent = visit.lent;
   shown = shown_same t (visit_state n d) (visit_state (record n { notes = k }) d) visit.shown refl refl refl;
 }
+
+pub open_noted : (t : KnownTable) (n : KnownMachine) (d : KnownCpu) (k : KnownNotes) → HasOpenVisit t (visit_state n d) → HasOpenVisit t (visit_state (record n { notes = k }) d)
+open_noted t n d k visit = record { is_open = visit.is_open; still = visit.still; lent = visit.lent }
 
 module _ (a : VisitState) (n : KnownMachine) (d : KnownCpu) (v : KnownRun) where
   pub lends_still : (f : ℕ) → LendsFrame f a (visit_state n d) → LendsFrame f a (visit_state (with_run n v) d)

@@ -115,12 +115,13 @@ impl<N: BootName> BookedSeat<N> {
         pages
     }
 
-    /// Notes the drain of the CPU's stock, which was never filled, by a look.
+    /// Notes the drain of the CPU's stock, which a look found to be of no group, by a second look.
     pub(crate) fn drain_none(&mut self, tables: &Tables<N>, held: &mut PastSeat, cpu: u32)
         requires held { IsHeld N.frames held.old }
         requires legal { MayMake N.frames held.old 0 (step.DrainStock cpu) }
         requires cpu { IsCpuOf N.frames cpu }
         requires group { (account_of self.old.view cpu).group ≡ None }
+        requires drained { (account_of self.old.view cpu).filled ≡ false }
         ensures run { MakesStep N.frames held.old 0 (step.DrainStock cpu) (Pages 0) held.new }
         ensures seat { self.new ≡ with_view self.old (with_steps 1 (zone_after_drain self.old.view cpu 0)) }
     {
@@ -211,6 +212,7 @@ impl<N: BootName> BookedSeat<N> {
         requires visited { IsVisitedAt N.frames zone.old cpu.old }
         requires fresh { cpu.old.fresh ≢ [] }
         requires group { group_of cpu.old.stock_seat.view.last ≡ Some group }
+        requires absorbed { (account_of self.old.view cpu.old.number).unabsorbed ≡ 0 }
         ensures known { KnowsFresh N.frames zone.old self.old cpu.old result }
         ensures run { MakesAll N.frames held.old (collect_steps cpu.old.number result) held.new }
         ensures cpu { PassesFresh result cpu.old cpu.new }

@@ -37,6 +37,8 @@ impl<N: BootName> Machine<N> {
         ensures knows { KnowsItsPart N.frames past.new cpu.now }
     {
         prove_tied(cpu);
+        // a CPU that saw no stock yet has no fresh frame
+        let _last = cpu.last_stock();
         tables.words.unlock(&mut self.past, past);
     }
 }

@@ -1,9 +1,9 @@
 -- What stays, from one call to the next, and in one call. Serves the clauses on what stays.
-use Rattle.std.proofs.Common.{◌≡◌, ◌≢◌, ℕ, ◌+◌, ◌≤◌, Bool, true, false, Option, Some, None, List, refl, sym, ap, ◌∙◌, subst, arith, cond}
+use Rattle.std.proofs.Common.{◌≡◌, ◌≢◌, ℕ, ◌+◌, ◌≤◌, Bool, true, false, Option, Some, None, List, [], refl, sym, ap, ◌∙◌, subst, arith, cond}
 use Rattle.std.proofs.lemmas.Bool.{true≢false}
 use Rattle.std.proofs.lemmas.Option.{none-some}
 use Rattle.std.specs.Prelude.{unwrap_or}
-use Rattle.frame_word.specs.Seats.{KnownTable, KnownSeat, IsOpen, NothingPasses, LentIsBorrowed, misses_of}
+use Rattle.frame_word.specs.Seats.{KnownTable, misses_of}
 use Rattle.group_tree.specs.Groups.{in_subtree}
 use Rattle.group_charge.specs.Charges.{current_of}
 use Rattle.lru_lists.specs.declared.record.Link.{Link}
@@ -13,8 +13,9 @@ use Rattle.lru_lists.specs.Queue.{link_at}
 use Rattle.lru_lists.specs.Lists.{SameOwners, owner_of}
 use Rattle.cpu_part.specs.Cpus.{KnownCpu}
 use Rattle.mem_machine.specs.Machines.{KnownMachine, home_of, visit_state}
-use Rattle.mem_machine.specs.Local.{Visits}
+use Rattle.mem_machine.specs.Local.{MakesForAny, Visits}
 use Rattle.mem_machine.specs.Evicting.{MissesUnit, EvictsUnit, Evicts}
+use Rattle.mem_machine.proofs.Watched.{stays_then}
 use Rattle.mem_reclaim.specs.Staying.{IsDirtyUnit, Keeps, OnlyLeave, IsMissed}
 use Rattle.mem_reclaim.proofs.Moving.{misses_rose, misses_stay}
 
@@ -71,20 +72,15 @@ missed_still t a b c d first last only f h is home clean =
 
 -- ---- the lists of a group changed, and nothing else
 
-pub keeps_owners : (t : KnownTable) (m n : KnownMachine) → n ≡ record m { links = n.links; lists = n.lists } → SameOwners m.links n.links → Keeps t m n
-keeps_owners t m n is owners = record {
+pub keeps_owners : (t : KnownTable) (m n : KnownMachine) → n ≡ record m { links = n.links; lists = n.lists } → SameOwners m.links n.links → MakesForAny t m [] n
+    → Keeps t m n
+keeps_owners t m n is owners runs = record {
   stock_seat = ap (λ (x : KnownMachine). x.stock_seat) is;
   killed = ap (λ (x : KnownMachine). x.killed) is;
   groups = ap (λ (x : KnownMachine). x.ledger.groups) is;
   opened = ap (λ (x : KnownMachine). x.frame_seat.view.opened) is;
   usage = λ g. let e = ap (λ (x : KnownMachine). current_of x.ledger g) is in omega (arith, e);
-  visit = λ c v.
-      let seat : m.frame_seat ≡ n.frame_seat = sym (ap (λ (x : KnownMachine). x.frame_seat) is) in
-      record {
-        is_open = subst (λ (s : KnownSeat). IsOpen s c.number) seat v.is_open;
-        still = subst (λ (s : KnownSeat). NothingPasses t s c.frame_seat) seat v.still;
-        lent = subst (λ (s : KnownSeat). LentIsBorrowed t s c.frame_seat) seat v.lent;
-      };
+  visit = stays_then t m m refl n (ap (λ (x : KnownMachine). x.frame_seat) is) [] runs;
   dirty = λ f d. record { kept = still_kept (home_of m.links f) (home_of n.links f) (owners.owner f) d.kept; dirty = owners.dirty f ∙ d.dirty };
   owners = λ f kept. owners.owner f;
   dirt = λ f kept. owners.dirty f;

@@ -17,11 +17,13 @@ use Rattle.step_rules.specs.declared.step.Step.{Step}
 use Rattle.step_rules.specs.After.{Run}
 use Rattle.step_rules.specs.Legal.{is_of_group}
 use Rattle.group_charge.specs.declared.note.Note.{Note}
+use Rattle.group_charge.specs.Notes.{noted}
 use Rattle.mem_machine.specs.Machines.{KnownMachine, is_killed, visit_state, with_note}
 use Rattle.mem_machine.specs.Local.{MakesForAny}
 use Rattle.mem_machine.specs.Steps.{kill_steps, note_group_kill_steps}
 use Rattle.mem_machine.specs.Stocks.{AreOwnDrained}
 use Rattle.mem_machine.proofs.Followed.{makes_both, makes_none}
+use Rattle.mem_machine.proofs.Watched.{visits_noted}
 use Rattle.mem_reclaim.specs.declared.noting.CountsBeforeKill.{CountsBeforeKill}
 use Rattle.mem_reclaim.specs.declared.sets.Killed.{Killed}
 use Rattle.mem_reclaim.specs.Killing.{HasNoKeptUnit, IsKilledBy, KillsGroups, KillsRootOrVictim, KillsGroupBySteps, KillsGroupNoted, KillsGroupsBySteps}
@@ -103,7 +105,7 @@ lets_before_note t m b last k = record {
   groups = k.groups;
   opened = k.opened;
   usage = k.usage;
-  visit = λ c v. let x = k.visit c v in record { is_open = x.is_open; still = x.still; lent = x.lent };
+  visit = λ c v. visits_noted t b c (noted b.notes last) (k.visit c v);
   leaves = k.leaves;
   dirt = k.dirt;
   misses = k.misses;
@@ -114,7 +116,7 @@ lets_after_note t m n first k = record {
   groups = k.groups;
   opened = k.opened;
   usage = k.usage;
-  visit = λ c v. k.visit c (record { is_open = v.is_open; still = v.still; lent = v.lent });
+  visit = λ c v. k.visit c (visits_noted t m c (noted m.notes first) v);
   leaves = k.leaves;
   dirt = k.dirt;
   misses = k.misses;
@@ -150,7 +152,7 @@ one_killed t limited g m b n had had_is kills marked drained stocks none_kept ke
       kills = record {
         steps = kills.steps;
         kills = record { killed = b; kills = kills.kills; noted = refl };
-        runs = λ c. record { leads = (kills.runs c).leads; follows = (kills.runs c).follows; counts = (kills.runs c).counts; watched = (kills.runs c).watched };
+        runs = λ c. record { leads = (kills.runs c).leads; follows = (kills.runs c).follows; counts = (kills.runs c).counts; noted = (kills.runs c).noted };
         these = record {
           killed = ap kills_in once.front ∙ ap (λ (l : List ℕ). g ∷ l) (quiet_kills once.later once.no_kill);
           no_miss = λ f.
@@ -275,7 +277,7 @@ below_all t limited root m k now s all = subst (λ (x : ℕ). KilledSo t (alive_
 
 pub subtree_killed : (t : KnownTable) (limited root : ℕ) (m a b n : KnownMachine) → a ≡ with_note m (group_kill_note m root)
     → KilledSo t (alive_in_subtree a root) (KillsGroups t limited (alive_in_subtree a root)) a b
-    → n ≡ record b { ledger = with_group_kill_noted b.ledger root; watch = n.watch } → ((g : ℕ) → current_of n.ledger g ≡ current_of b.ledger g)
+    → n ≡ record b { ledger = with_group_kill_noted b.ledger root; run = n.run } → ((g : ℕ) → current_of n.ledger g ≡ current_of b.ledger g)
     → MakesForAny t b (note_group_kill_steps root) n → KilledSo t (alive_in_subtree m root) (KillsSubtree t limited root) m n
 subtree_killed t limited root m a b n noted so_a counted usage runs =
     let note : Note = group_kill_note m root in
@@ -289,7 +291,7 @@ subtree_killed t limited root m a b n noted so_a counted usage runs =
         kills = record { between = b; killing = killing; kills = so.kills.kills; counted = counted; steps_are = refl };
         runs = λ c.
             makes_both t c.number killing (note_group_kill_steps root) (visit_state m c) (visit_state b c) (visit_state n c)
-            (record { leads = (so.kills.runs c).leads; follows = (so.kills.runs c).follows; counts = (so.kills.runs c).counts; watched = (so.kills.runs c).watched }) (runs c);
+            (record { leads = (so.kills.runs c).leads; follows = (so.kills.runs c).follows; counts = (so.kills.runs c).counts; noted = (so.kills.runs c).noted }) (runs c);
         these = record {
           killed = kills_both killing (note_group_kill_steps root) ∙ append-nil (kills_in killing) ∙ these.killed;
           no_miss = λ f.
@@ -313,7 +315,7 @@ subtree_killed t limited root m a b n noted so_a counted usage runs =
           (λ k d lt. so.none_kept k d lt);
       keeps = only_lets_both t m b n (lets_after_note t m b note so.keeps)
           (only_lets_same t b n (ap (λ (x : KnownMachine). x.ledger.groups) counted) (λ g. let e = usage g in omega (arith, e))
-          (ap (λ (x : KnownMachine). x.frame_seat) counted) (ap (λ (x : KnownMachine). x.links) counted));
+          (ap (λ (x : KnownMachine). x.frame_seat) counted) (ap (λ (x : KnownMachine). x.links) counted) (note_group_kill_steps root) runs);
     }
 
 -- ---- the victim, and all that die with it
@@ -347,7 +349,7 @@ victim_killed t limited killed m a n told head_a flag flag_a so_flag =
         killed_root_is = subst (λ (x : KnownMachine). IsKilledRoot x.ledger.groups limited killed) told.machine head_a;
         steps = so.kills.steps;
         kills = so.kills.kills;
-        runs = λ c. record { leads = (so.kills.runs c).leads; follows = (so.kills.runs c).follows; counts = (so.kills.runs c).counts; watched = (so.kills.runs c).watched };
+        runs = λ c. record { leads = (so.kills.runs c).leads; follows = (so.kills.runs c).follows; counts = (so.kills.runs c).counts; noted = (so.kills.runs c).noted };
         these = record { killed = so.kills.these.killed; no_miss = so.kills.these.no_miss; returned = so.kills.these.returned };
       };
       marked = so.marked;

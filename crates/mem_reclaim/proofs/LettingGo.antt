@@ -7,7 +7,7 @@ use Rattle.std.proofs.lemmas.Option.{none-some}
 use Rattle.std.proofs.lemmas.List.{append_assoc, append-nil}
 use Rattle.frame_word.specs.declared.view.FrameNote.{FrameNote}
 use Rattle.frame_word.specs.Views.{put_left, put_last}
-use Rattle.frame_word.specs.Seats.{KnownTable, KnownSeat, IsOpen, NothingPasses, LentIsBorrowed, misses_of, seat_with}
+use Rattle.frame_word.specs.Seats.{KnownTable, KnownSeat, misses_of, seat_with}
 use Rattle.frame_word.proofs.Notes.{note_here, note_else}
 use Rattle.stock_word.specs.Stock.{KnownStockSeat, KnownStockTable, account_of}
 use Rattle.group_tree.specs.declared.group.Group.{Group}
@@ -22,7 +22,7 @@ use Rattle.cpu_part.specs.Cpus.{KnownCpu}
 use Rattle.step_rules.specs.After.{Run}
 use Rattle.mem_machine.specs.declared.releasing.Released.{Released}
 use Rattle.mem_machine.specs.declared.releasing.Released.TheVariants.{Left, Returned}
-use Rattle.mem_machine.specs.Machines.{KnownMachine, IsConsistent, home_of, visit_state, lists_of, with_watch}
+use Rattle.mem_machine.specs.Machines.{KnownMachine, IsConsistent, home_of, visit_state, lists_of, with_run}
 use Rattle.mem_machine.specs.Local.{Visits}
 use Rattle.mem_machine.specs.Local.{MakesForAny}
 use Rattle.mem_machine.specs.Ageing.{entries_in}
@@ -48,6 +48,7 @@ use Rattle.mem_reclaim.specs.Killing.{KillsGroupBySteps, HasNoKeptUnit, KeepsSto
 use Rattle.mem_machine.proofs.Listing.{has_unit, listed_is, home_inside, has_mid}
 use Rattle.mem_reclaim.proofs.Rising.{drains_return_none, returned_both, rises_both, units_rise}
 use Rattle.mem_machine.proofs.Followed.{makes_both, makes_none}
+use Rattle.mem_machine.proofs.Watched.{stays_then}
 
 -- ---- what stays
 
@@ -82,16 +83,13 @@ only_lets_both t a b c p q = record {
 
 -- the links and the zone's seat at the frames stay
 pub only_lets_same : (t : KnownTable) (m n : KnownMachine) → n.ledger.groups ≡ m.ledger.groups
-    → ((g : ℕ) → current_of n.ledger g ≤ current_of m.ledger g) → n.frame_seat ≡ m.frame_seat → n.links ≡ m.links → OnlyReleases t m n
-only_lets_same t m n groups usage seat links = record {
+    → ((g : ℕ) → current_of n.ledger g ≤ current_of m.ledger g) → n.frame_seat ≡ m.frame_seat → n.links ≡ m.links → (steps : Run) → MakesForAny t m steps n
+    → OnlyReleases t m n
+only_lets_same t m n groups usage seat links steps runs = record {
   groups = groups;
   usage = usage;
   opened = ap (λ (s : KnownSeat). s.view.opened) seat;
-  visit = λ c v. record {
-    is_open = subst (λ (s : KnownSeat). IsOpen s c.number) (sym seat) v.is_open;
-    still = subst (λ (s : KnownSeat). NothingPasses t s c.frame_seat) (sym seat) v.still;
-    lent = subst (λ (s : KnownSeat). LentIsBorrowed t s c.frame_seat) (sym seat) v.lent;
-  };
+  visit = stays_then t m m refl n seat steps runs;
   leaves = λ f h is. ap (λ (l : List Link). home_of l f) (sym links) ∙ is;
   dirt = λ f kept. ap (λ (l : List Link). (link_at l f).is_dirty) links;
   misses = λ f. ap (λ (s : KnownSeat). misses_of s f) seat;
@@ -408,7 +406,7 @@ quiet_drains (d ∷ rest) = quiet_both (drain_steps d.cpu d.group d.pages) (drai
 -- ---- a group is killed
 
 -- the last puts that are counted grew by the units that the steps of a kill return: drains return none
-last_puts_rise : (v : ℕ) (m a d b n : KnownMachine) → a ≡ with_watch (with_killed m v) a.watch → d.counts ≡ a.counts → (drains : List Drain) (first last : Run)
+last_puts_rise : (v : ℕ) (m a d b n : KnownMachine) → a ≡ with_run (with_killed m v) a.run → d.counts ≡ a.counts → (drains : List Drain) (first last : Run)
     → Rises d.counts.last_puts (returned_in first) b.counts.last_puts → Rises b.counts.last_puts (returned_in last) n.counts.last_puts
     → Rises m.counts.last_puts (returned_in (drain_stocks_steps drains ++ (first ++ last))) n.counts.last_puts
 last_puts_rise v m a d b n is drained drains first last one two =
@@ -443,7 +441,7 @@ keeps_none_of : (t : KnownTable) (w : KnownStockTable) (b n : KnownMachine) → 
 keeps_none_of t w b n ok_b ok_n v fits first last leaves f Inactive home = none_listed t w b ok_b v fits Inactive first f (leaves f _ home)
 keeps_none_of t w b n ok_b ok_n v fits first last leaves f Active home = none_listed t w n ok_n v fits Active last f home
 
-pub all_killed : (t : KnownTable) (w : KnownStockTable) (v : ℕ) → v < 64 → (m a d b n : KnownMachine) → a ≡ with_watch (with_killed m v) a.watch
+pub all_killed : (t : KnownTable) (w : KnownStockTable) (v : ℕ) → v < 64 → (m a d b n : KnownMachine) → a ≡ with_run (with_killed m v) a.run
     → ((g : ℕ) → current_of a.ledger g ≡ current_of m.ledger g) → MakesForAny t m (kill_steps v) a
     → (pages : ℕ) → DrainsGroup t v pages a d → AreOwnDrained v t.cpus d
     → ReleasesUnitsBySteps t (entries_in d v Inactive) d b → entries_in b v Inactive ≡ [] → OnlyReleases t d b → KeepsStocks d b → IsConsistent t w b
@@ -454,8 +452,8 @@ all_killed t w v fits m a d b n is usage killed pages drains drained first first
     let groups : n.ledger.groups ≡ d.ledger.groups = last_keeps.groups ∙ first_keeps.groups in
     let at_first : OnlyReleases t m a = only_lets_same t m a (ap (λ (x : KnownMachine). x.ledger.groups) is)
     (λ g. let e = usage g in omega (arith, e)) (ap (λ (x : KnownMachine). x.frame_seat) is)
-    (ap (λ (x : KnownMachine). x.links) is) in
-    let at_drain : OnlyReleases t a d = only_lets_same t a d unit.groups unit.usage unit.frame_seat unit.links in
+    (ap (λ (x : KnownMachine). x.links) is) (kill_steps v) killed in
+    let at_drain : OnlyReleases t a d = only_lets_same t a d unit.groups unit.usage unit.frame_seat unit.links (drain_stocks_steps drains.drains) drains.steps in
     let later : Run = drain_stocks_steps drains.drains ++ (first.steps ++ last.steps) in
     let quiet : AreQuiet later = quiet_both (drain_stocks_steps drains.drains) (first.steps ++ last.steps) (quiet_drains drains.drains)
     (quiet_both first.steps last.steps (quiet_units (entries_in d v Inactive) d first.steps b first.releases)
@@ -469,7 +467,7 @@ all_killed t w v fits m a d b n is usage killed pages drains drained first first
           drains = drains.drains;
           first = first.steps;
           last = last.steps;
-          seen = a.watch;
+          seen = a.run;
           stocks = subst (λ (x : KnownMachine). DrainsAllIf (of_group v) t.cpus drains.drains x d) is drains.all;
           inactive = first.releases;
           active = last.releases;

@@ -1,6 +1,7 @@
 pub mod Wanting
 pub mod Moving
 pub mod Keeping
+pub mod Shown
 pub mod Meeting
 pub mod Scanning
 pub mod Passing

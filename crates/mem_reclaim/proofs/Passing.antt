@@ -40,8 +40,8 @@ aged_leads t m aged n g want freed ages runs scans =
           (moves_none t m aged runs (ap (λ (x : KnownMachine). x.frame_seat) ages.machine) (ap (λ (x : KnownMachine). x.counts) ages.machine)) scans.moves);
     }
 
-pub aged_keeps : (t : KnownTable) (m aged : KnownMachine) (g : ℕ) → AgesGroup g m aged → Keeps t m aged
-aged_keeps t m aged g ages = keeps_owners t m aged ages.machine ages.owners
+pub aged_keeps : (t : KnownTable) (m aged : KnownMachine) (g : ℕ) → AgesGroup g m aged → MakesForAny t m [] aged → Keeps t m aged
+aged_keeps t m aged g ages runs = keeps_owners t m aged ages.machine ages.owners runs
 
 -- usage falls by both parts
 pub usage_both : (t : KnownTable) (a b c : KnownMachine) (g x some more : ℕ) → Keeps t a b

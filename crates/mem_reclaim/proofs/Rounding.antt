@@ -8,7 +8,9 @@ use Rattle.group_charge.specs.Charges.{current_of}
 use Rattle.step_rules.specs.After.{Run}
 use Rattle.group_charge.specs.declared.note.Note.{Note}
 use Rattle.group_charge.specs.declared.note.Note.TheVariants.{Asked}
+use Rattle.group_charge.specs.Notes.{noted}
 use Rattle.mem_machine.specs.Machines.{KnownMachine, with_note}
+use Rattle.mem_machine.proofs.Watched.{visits_noted}
 use Rattle.mem_reclaim.specs.Wanted.{AfterNote, FreesNothing, Reclaiming, progress}
 use Rattle.mem_reclaim.specs.Moves.{FreesPages, FreesBySteps}
 use Rattle.mem_reclaim.specs.Passes.{Reclaims}
@@ -27,7 +29,7 @@ keeps_noted t m n note k = record {
   groups = k.groups;
   opened = k.opened;
   usage = k.usage;
-  visit = λ c v. let x = k.visit c v in record { is_open = x.is_open; still = x.still; lent = x.lent };
+  visit = λ c v. visits_noted t n c (noted n.notes note) (k.visit c v);
   dirty = λ f is. let x = k.dirty f is in record { kept = x.kept; dirty = x.dirty };
   owners = k.owners;
   dirt = k.dirt;
@@ -42,7 +44,7 @@ keeps_after_note t m n note k = record {
   groups = k.groups;
   opened = k.opened;
   usage = k.usage;
-  visit = λ c v. k.visit c (record { is_open = v.is_open; still = v.still; lent = v.lent });
+  visit = λ c v. k.visit c (visits_noted t m c (noted m.notes note) v);
   dirty = λ f is. k.dirty f (record { kept = is.kept; dirty = is.dirty });
   owners = k.owners;
   dirt = k.dirt;
@@ -57,7 +59,7 @@ leads_after_note t freed m n note Does leads =
       steps = leads.steps;
       does = leads.does;
       moves = record {
-        runs = λ c. let r = k.runs c in record { leads = r.leads; follows = r.follows; counts = r.counts; watched = r.watched };
+        runs = λ c. let r = k.runs c in record { leads = r.leads; follows = r.follows; counts = r.counts; noted = r.noted };
         pages = k.pages;
         no_kill = k.no_kill;
         misses = k.misses;
@@ -108,7 +110,7 @@ round_noted t g number want m freed x n leads keeps noted =
           missed = leads.moves.missed;
         };
         moves = record {
-          runs = λ c. record { leads = (leads.moves.runs c).leads; follows = (leads.moves.runs c).follows; counts = (leads.moves.runs c).counts; watched = (leads.moves.runs c).watched };
+          runs = λ c. record { leads = (leads.moves.runs c).leads; follows = (leads.moves.runs c).follows; counts = (leads.moves.runs c).counts; noted = (leads.moves.runs c).noted };
           pages = leads.moves.pages;
           no_kill = leads.moves.no_kill;
           misses = leads.moves.misses;

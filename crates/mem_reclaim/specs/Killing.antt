@@ -13,10 +13,10 @@ use Rattle.step_rules.specs.After.{Run}
 use Rattle.mem_machine.specs.declared.releasing.Released.{Released}
 use Rattle.group_charge.specs.declared.note.Note.{Note}
 use Rattle.group_charge.specs.declared.note.Note.TheVariants as note
-use Rattle.step_watch.specs.Watched.{KnownWatch}
+use Rattle.mem_machine.specs.Noted.{KnownRun}
 use Rattle.mem_machine.specs.Machines.{HeadsKeptUnit, KnownMachine, active_in, home_of, inactive_in}
 use Rattle.mem_machine.specs.Local.{Visits}
-use Rattle.mem_machine.specs.Machines.{visit_state, with_watch}
+use Rattle.mem_machine.specs.Machines.{visit_state, with_run}
 use Rattle.mem_machine.specs.Machines.{with_note}
 use Rattle.mem_machine.specs.Local.{MakesForAny}
 use Rattle.mem_machine.specs.Releasing.{Releases, release_steps}
@@ -58,7 +58,7 @@ with_killed machine group = record machine {
   killed = slice_set machine.killed group true;
 }
 
--- A group is killed. First it is marked as killed, which the watch sees. Then its own stocks are drained, one CPU after
+-- A group is killed. First it is marked as killed, which the run notes. Then its own stocks are drained, one CPU after
 -- the other. Then its kept units, dirty ones included, are released: first the inactive units, then the active ones,
 -- each list from the oldest on.
 pub record KillsGroup (table : KnownTable) (group : ℕ) (before : KnownMachine) (steps : Run)
@@ -68,8 +68,8 @@ pub record KillsGroup (table : KnownTable) (group : ℕ) (before : KnownMachine)
   pub drains : List Drain
   pub first : Run
   pub last : Run
-  pub seen : KnownWatch
-  pub stocks : DrainsAllIf (of_group group) table.cpus drains (with_watch (with_killed before group) seen) drained
+  pub seen : KnownRun
+  pub stocks : DrainsAllIf (of_group group) table.cpus drains (with_run (with_killed before group) seen) drained
   pub inactive : ReleasesUnits (inactive_in drained group) drained first between
   pub active : ReleasesUnits (active_in between group) between last after
   pub steps_are : steps ≡ kill_steps group ++ (drain_stocks_steps drains ++ (first ++ last))
@@ -143,8 +143,7 @@ pub record KillsSubtree (table : KnownTable) (limited killed_root : ℕ) (before
       killing between
   pub counted : after ≡ record between {
     ledger = with_group_kill_noted between.ledger killed_root;
-    watch =
-        after.watch;
+    run = after.run;
   }
   pub steps_are : steps ≡ killing ++ note_group_kill_steps killed_root
 

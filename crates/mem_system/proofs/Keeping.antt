@@ -2,13 +2,13 @@
 use Rattle.std.proofs.Common.{◌≡◌, ℕ, ◌+◌, ◌<◌, ◌≤◌, ◌++◌, [], List, Option, Some, None, true, false}
 use Rattle.std.proofs.Common.{refl, sym, ap, ◌∙◌, subst, inl, inr, arith}
 use Rattle.std.proofs.lemmas.Bool.{cases_lt}
-use Rattle.frame_word.specs.Seats.{KnownTable, KnownSeat, IsOpen, NothingPasses, LentIsBorrowed}
+use Rattle.frame_word.specs.Seats.{KnownTable, KnownSeat}
 use Rattle.group_tree.specs.declared.group.Group.{Group}
 use Rattle.group_tree.specs.Groups.{has_group, has_child}
 use Rattle.group_charge.specs.Charges.{current_of}
 use Rattle.cpu_part.specs.Cpus.{KnownCpu}
 use Rattle.mem_machine.specs.Machines.{KnownMachine, with_run}
-use Rattle.mem_machine.specs.Local.{Visits, KeepsVisit}
+use Rattle.mem_machine.specs.Local.{Visits, KeepsVisit, SomeShown}
 use Rattle.mem_machine.specs.Steps.{drain_stocks_steps, set_max_steps}
 use Rattle.mem_machine.specs.Stocks.{DrainsSubtree, AreDrained}
 use Rattle.mem_machine.specs.Local.{MakesForAny, visit_state}
@@ -26,22 +26,24 @@ use Rattle.mem_system.specs.Usage.{LowersUsage, LowersAbove, KeepsToLimit}
 use Rattle.mem_system.proofs.Found.{found_there}
 use Rattle.mem_system.specs.Files.{SetsLimit, with_limit_of}
 use Rattle.mem_machine.proofs.Followed.{makes_both, makes_none}
+use Rattle.mem_machine.proofs.Reached.{shown_same}
+use Rattle.mem_machine.proofs.Watched.{stays_then, visits_noted}
 
 -- ---- a visit
 
--- the visit stays if the zone's seat does
-pub visit_keeps : (t : KnownTable) (m n : KnownMachine) (c : KnownCpu) → n.frame_seat ≡ m.frame_seat → Visits t (visit_state m c)
-    → KeepsVisit t (visit_state m c) (visit_state n c)
-visit_keeps t m n c seat v = record {
-  visit = record {
-    is_open = subst (λ (s : KnownSeat). IsOpen s c.number) (sym seat) v.is_open;
-    still = subst (λ (s : KnownSeat). NothingPasses t s c.frame_seat) (sym seat) v.still;
-    lent = subst (λ (s : KnownSeat). LentIsBorrowed t s c.frame_seat) (sym seat) v.lent;
-  };
+-- the visit stays behind steps that leave the zone's seat
+pub visit_keeps : (t : KnownTable) (m n : KnownMachine) (c : KnownCpu) → n.frame_seat ≡ m.frame_seat → (steps : Run) → MakesForAny t m steps n
+    → Visits t (visit_state m c) → KeepsVisit t (visit_state m c) (visit_state n c)
+visit_keeps t m n c seat steps makes v = record {
+  visit = stays_then t m m refl n seat steps makes c v;
   opened = ap (λ (s : KnownSeat). s.view.opened) seat;
   number = refl;
   back = refl;
 }
+
+-- nothing changed
+pub visit_same : (t : KnownTable) (m : KnownMachine) (c : KnownCpu) → Visits t (visit_state m c) → KeepsVisit t (visit_state m c) (visit_state m c)
+visit_same t m c v = record { visit = v; opened = refl; number = refl; back = refl }
 
 -- one call after another
 pub visit_both : (t : KnownTable) (m x n : KnownMachine) (c : KnownCpu) → KeepsVisit t (visit_state m c) (visit_state x c)
@@ -59,7 +61,7 @@ usage_visit : (t : KnownTable) (g limit : ℕ) (m n : KnownMachine) (c : KnownCp
     → Visits t (visit_state m c) → KeepsVisit t (visit_state m c) (visit_state n c)
 usage_visit t g limit m n c steps h v =
     let x = h.drained in
-    let first = visit_keeps t m x c (all_same g t.cpus m x h.drains h.drains_all).frame_seat v in
+    let first = visit_keeps t m x c (all_same g t.cpus m x h.drains h.drains_all).frame_seat (drain_stocks_steps h.drains) h.drain_runs v in
     record { visit = h.keeps.visit c first.visit; opened = h.keeps.opened ∙ first.opened; number = refl; back = refl }
 
 pub lowered_visit : (t : KnownTable) (g limit : ℕ) (m n : KnownMachine) (c : KnownCpu)
@@ -67,19 +69,16 @@ pub lowered_visit : (t : KnownTable) (g limit : ℕ) (m n : KnownMachine) (c : K
     → KeepsVisit t (visit_state m c) (visit_state n c)
 lowered_visit t g limit m n c b v = usage_visit t g limit m n c b.steps b.does v
 
--- the same if usage is lowered only when it is above
-pub above_visit : (t : KnownTable) (g limit : ℕ) (m n : KnownMachine) (c : KnownCpu)
-    → BySteps MakesForAny t (LowersAbove g limit) m n → Visits t (visit_state m c)
-    → KeepsVisit t (visit_state m c) (visit_state n c)
-above_visit t g limit m n c b v = elim (cases_lt limit (current_of m.ledger g)) [
+-- no visit is opened or shut if usage is lowered only when it is above
+pub above_opened : (t : KnownTable) (g limit : ℕ) (m n : KnownMachine) → BySteps MakesForAny t (LowersAbove g limit) m n
+    → n.frame_seat.view.opened ≡ m.frame_seat.view.opened
+above_opened t g limit m n b = elim (cases_lt limit (current_of m.ledger g)) [
   | inl over ↦
       let h = b.does.above over in
       let x = h.lowered in
-      let told : Visits t (visit_state (with_limit_noted m g 0) c) = record { is_open = v.is_open; still = v.still; lent = v.lent } in
-      let first = usage_visit t g limit (with_limit_noted m g 0) x c h.lowering h.lowers told in
-      let kills = kills_lower None t g 0 x n h.killing h.kills in
-      record { visit = kills.visit c first.visit; opened = kills.opened ∙ first.opened; number = refl; back = refl }
-  | inr within ↦ visit_keeps t m n c (ap (λ (k : KnownMachine). k.frame_seat) (b.does.within (omega (arith, within))).machine) v
+      (kills_lower None t g 0 x n h.killing h.kills).opened ∙ h.lowers.keeps.opened
+      ∙ ap (λ (s : KnownSeat). s.view.opened) (all_same g t.cpus (with_limit_noted m g 0) h.lowers.drained h.lowers.drains h.lowers.drains_all).frame_seat
+  | inr within ↦ ap (λ (k : KnownMachine). k.frame_seat.view.opened) (b.does.within (omega (arith, within))).machine
 ]
 
 -- the stocks are drained, and then the rounds are made
@@ -106,6 +105,13 @@ lowered_by t g limit pages freed m x n sub none leads missed keeps = record {
 }
 
 -- ---- a limit that is set
+
+-- a note of a limit leaves what the lock's holder sees
+pub limit_shown : (t : KnownTable) (m n : KnownMachine) (g : ℕ) → n ≡ with_limit_noted m g 0 → SomeShown t m → SomeShown t n
+limit_shown t m n g is shown = subst (SomeShown t) (sym is) (record {
+  cpu = shown.cpu;
+  is = shown_same t (visit_state m shown.cpu) (visit_state (with_limit_noted m g 0) shown.cpu) shown.is refl refl refl;
+})
 
 -- the usage is above it
 pub lowered_above : (t : KnownTable) (g limit : ℕ) (m y x n : KnownMachine) → limit < current_of m.ledger g → y ≡ with_limit_noted m g 0

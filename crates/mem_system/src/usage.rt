@@ -2,7 +2,7 @@
 
 ghost use Rattle.std.specs.Prelude.{IsTrue};
 ghost use Rattle.group_tree.specs.Groups.{has_group};
-ghost use Rattle.mem_machine.specs.Local.{MakesForAny, SomeShown};
+ghost use Rattle.mem_machine.specs.Local.{MakesForAny, SomeShown, StaysVisited};
 ghost use Rattle.mem_machine.specs.Transitions.{BySteps};
 ghost use Rattle.mem_system.specs.Usage.{LowersAbove, LowersUsage};
 
@@ -38,7 +38,8 @@ pub(crate) fn keep_to_limit<N: BootName>(
 )
     requires there { IsTrue (has_group machine.old.ledger.groups group) }
     requires shown { SomeShown N.frames machine.old }
-    ensures { BySteps MakesForAny N.frames (LowersAbove group limit) machine.old machine.new }
+    ensures lowers { BySteps MakesForAny N.frames (LowersAbove group limit) machine.old machine.new }
+    ensures visit { StaysVisited N.frames machine.old machine.new }
 {
     if limit < machine.current(group) {
         note_limit(machine, group, 0);

@@ -2,11 +2,12 @@ use Rattle.std.proofs.Common.{◌≡◌, ℕ, ◌^◌, true, refl, sym, ap, ◌�
 use Rattle.std.specs.Prelude.{Err, IfErr}
 use Rattle.group_tree.specs.Groups.{has_group}
 use Rattle.group_tree.proofs.CallerLemmas.{in_subtree-above}
+use Rattle.cpu_part.specs.Cpus.{KnownCpu}
 use Rattle.mem_machine.specs.Machines.{KnownMachine}
-use Rattle.mem_machine.specs.Local.{MakesForAny}
+use Rattle.mem_machine.specs.Local.{MakesForAny, Visits, visit_state}
 use Rattle.mem_machine.specs.Transitions.{BySteps}
 use Rattle.mem_alloc.specs.Room.{HasMadeRoom, IsRoomAnswer, RelievesLimit, has_room_at}
-use Rattle.mem_alloc.proofs.Lowering.{Lowers, lowered_visit, lowers_both, usages_fall, watched_lowers}
+use Rattle.mem_alloc.proofs.Lowering.{Lowers, lowers_both, usages_fall, run_lowers}
 use Rattle.mem_alloc.proofs.Killing.{relieving_lowers}
 use Rattle.mem_alloc.proofs.Making.{answer_is, so_far_more, so_far_none, so_far_over}
 use Rattle.mem_alloc.proofs.Taking.{is_refused, by_refusal, is_none, by_none, so_far_takes, so_far_no_block, room_still, none_opened, over_charges, over_not_none}
@@ -36,8 +37,15 @@ returns-in-Err-NoBlock-clause-room g c _ =
     room_still g.N.BootName.frames c.args.group c.args.order c.args.cpu.now c.args.machine.now c.tries.machine c.tries.invariant.0 c.tries.cpu
     c.tries.invariant.1 c.take_block.new.self c.take_block.new.cpu none c.requires.may_charge.there c.requires.may_charge.fits
 
-pub make_room-requires : goal.make_room-requires
-make_room-requires g c =
+pub take_block-requires-clause-visit : goal.take_block-requires-clause-visit
+take_block-requires-clause-visit g c =
+    subst (λ (k : KnownCpu). Visits g.N.BootName.frames (visit_state c.tries.machine k)) (sym c.tries.invariant.1) (c.tries.invariant.0.visit c.requires.visit)
+
+pub make_room-requires-clause-shown : goal.make_room-requires-clause-shown
+make_room-requires-clause-shown g c = record { cpu = c.take_block.new.cpu; is = c.in-Err-Over.ensures.visit.shown }
+
+pub make_room-requires-clause-there : goal.make_room-requires-clause-there
+make_room-requires-clause-there g c =
     let r = is_refused _ _ c.args.group c.args.order c.in-Err-Over.field-0 c.in-Err-Over.over c.in-Err-Over.field-0-is c.in-Err-Over.ensures.refuses in
     subst (λ (y : KnownMachine). has_group y.ledger.groups c.in-Err-Over.over.group ≡ true) (sym r.1)
     (in_subtree-above c.tries.machine.ledger.groups c.in-Err-Over.over.group c.args.group r.0.on_path)
@@ -48,7 +56,7 @@ tries-smaller g c =
     usages_fall g.N.BootName.frames c.tries.machine c.make_room.new.machine c.in-Err-Over.over.group (2 ^ c.args.order)
     (lowers_both g.N.BootName.frames _ _ _
     (subst (λ (y : KnownMachine). Lowers g.N.BootName.frames c.tries.machine y) (sym r.1)
-    (watched_lowers g.N.BootName.frames c.tries.machine c.take_block.new.self.watch))
+    (run_lowers g.N.BootName.frames c.tries.machine c.take_block.new.self.run))
     (relieving_lowers g.N.BootName.frames c.args.group c.in-Err-Over.over.group c.frames-pages.result c.take_block.new.self c.make_room.new.machine
     c.make_room.ensures.relieves)) c.make_room.ensures.below r.0.over
     (subst (λ (n : ℕ). has_room_at c.make_room.new.machine.ledger c.in-Err-Over.over.group n ≡ true) c.frames-pages.ensures.frames
@@ -66,7 +74,8 @@ tries-preserved g c =
           c.make_room.new.machine c.tries.cpu c.take_block.new.cpu c.in-Err-Over.over.group r.1 c.tries.invariant.1
           (c.in-Err-Over.ensures.cpu ∙ c.tries.invariant.1) r.0 refl run relieves
           (subst (λ (n : ℕ). HasMadeRoom c.args.group c.in-Err-Over.over.group n c.make_room.new.machine) c.frames-pages.ensures.frames
-          c.in_ok-make_room-in-Err-Over.ensures.room),
+          c.in_ok-make_room-in-Err-Over.ensures.room)
+          (c.make_room.ensures.visit c.take_block.new.cpu c.in-Err-Over.ensures.visit),
       c.in-Err-Over.ensures.cpu ∙ c.tries.invariant.1,
     )
 
@@ -90,8 +99,7 @@ returns-in_err-make_room-in-Err-Over-clause-charges g c =
 
 pub returns-in_err-make_room-in-Err-Over-clause-visit : goal.returns-in_err-make_room-in-Err-Over-clause-visit
 returns-in_err-make_room-in-Err-Over-clause-visit g c =
-    lowered_visit g.N.BootName.frames _ _ _ c.take_block.new.cpu (relieving_lowers g.N.BootName.frames c.args.group c.in-Err-Over.over.group c.frames-pages.result _ _ c.make_room.ensures.relieves) refl
-    c.in-Err-Over.ensures.visit
+    c.make_room.ensures.visit c.take_block.new.cpu c.in-Err-Over.ensures.visit
 
 pub returns-in_err-make_room-in-Err-Over-clause-opened : goal.returns-in_err-make_room-in-Err-Over-clause-opened
 returns-in_err-make_room-in-Err-Over-clause-opened g c =

@@ -15,6 +15,14 @@ loop-round-init g c =
     rounds_none g.N.BootName.frames (2 ^ c.args.order) (FindsNoBlock c.args.group c.args.order) (TakesFreeBlock c.args.group c.args.order)
     c.args.machine.now c.args.cpu.now
 
+pub reclaim_anywhere-freed-requires : goal.reclaim_anywhere-freed-requires
+reclaim_anywhere-freed-requires g c =
+    record { shown = record { cpu = c.loop-round.cpu; is = (c.loop-round.invariant.visit c.requires.visit).shown } }
+
+pub take_block-requires-clause-visit : goal.take_block-requires-clause-visit
+take_block-requires-clause-visit g c =
+    c.reclaim_anywhere-freed.ensures.keeps.visit c.loop-round.cpu (c.loop-round.invariant.visit c.requires.visit)
+
 pub returns-in-Ok-clause-takes : goal.returns-in-Ok-clause-takes
 returns-in-Ok-clause-takes g c =
     let t = g.N.BootName.frames in
@@ -63,10 +71,13 @@ loop-round-preserved g c =
     missed c.reclaim_anywhere-freed.ensures.keeps c.take_block.new.self c.take_block.new.cpu (unplaced_steps c.args.group c.args.order) vain
     does c.if-freed-eq0.false
     (none_spares t c.args.group c.args.order x c.take_block.new.self c.loop-round.cpu c.take_block.new.cpu
-    (unplaced_steps c.args.group c.args.order) does)
+    (unplaced_steps c.args.group c.args.order) does) c.take_block.ensures.visit
 
 pub returns-clause-takes : goal.returns-clause-takes
 returns-clause-takes g c =
     rounds_done g.N.BootName.frames (2 ^ c.args.order) (FindsNoBlock c.args.group c.args.order) (TakesFreeBlock c.args.group c.args.order)
     c.args.machine.now c.args.cpu.now c.loop-round.round c.loop-round.machine c.loop-round.cpu c.loop-round.invariant
     c.loop-round-test.false
+
+pub returns-clause-visit : goal.returns-clause-visit
+returns-clause-visit g c = c.loop-round.invariant.visit c.requires.visit

@@ -2,8 +2,10 @@ use Rattle.std.proofs.Common.{◌≡◌, true, refl, sym, ◌∙◌, subst, rule
 use Rattle.std.specs.Prelude.{IfErr}
 use Rattle.group_tree.specs.Groups.{has_group}
 use Rattle.group_tree.proofs.CallerLemmas.{in_subtree-above}
+use Rattle.cpu_part.specs.Cpus.{KnownCpu}
 use Rattle.mem_machine.specs.Machines.{KnownMachine}
-use Rattle.mem_alloc.proofs.Lowering.{Lowers, lowered_visit, lowers_both, usages_fall, watched_lowers}
+use Rattle.mem_machine.specs.Local.{Visits, visit_state}
+use Rattle.mem_alloc.proofs.Lowering.{Lowers, lowers_both, usages_fall, run_lowers}
 use Rattle.mem_alloc.proofs.Killing.{relieving_lowers}
 use Rattle.mem_alloc.proofs.Making.{answer_is, refuses_one, so_far_fills, so_far_none, so_far_more, so_far_over}
 use Rattle.mem_alloc.proofs.charging.fill_one.Goals as goal
@@ -13,8 +15,15 @@ returns-in_default-clause-charges g c =
     so_far_fills g.N.BootName.frames c.args.group 1 c.args.cpu.now c.args.machine.now c.tries.machine c.tries.invariant.0 c.tries.cpu c.tries.invariant.1
     c.fill_stock.new.self c.fill_stock.new.cpu c.in_default.ensures.fills c.in_default.ensures.steps
 
-pub make_room-requires : goal.make_room-requires
-make_room-requires g c =
+pub fill_stock-requires-clause-visit : goal.fill_stock-requires-clause-visit
+fill_stock-requires-clause-visit g c =
+    subst (λ (k : KnownCpu). Visits g.N.BootName.frames (visit_state c.tries.machine k)) (sym c.tries.invariant.1) (c.tries.invariant.0.visit c.requires.visit)
+
+pub make_room-requires-clause-shown : goal.make_room-requires-clause-shown
+make_room-requires-clause-shown g c = record { cpu = c.fill_stock.new.cpu; is = c.in-Err.ensures.visit.shown }
+
+pub make_room-requires-clause-there : goal.make_room-requires-clause-there
+make_room-requires-clause-there g c =
     subst (λ (y : KnownMachine). has_group y.ledger.groups c.in-Err.over.group ≡ true) (sym c.in-Err.ensures.unchanged.machine)
     (in_subtree-above c.tries.machine.ledger.groups c.in-Err.over.group c.args.group c.in-Err.ensures.over.on_path)
 
@@ -23,7 +32,7 @@ tries-smaller g c =
     usages_fall g.N.BootName.frames c.tries.machine c.make_room.new.machine c.in-Err.over.group 1
     (lowers_both g.N.BootName.frames _ _ _
     (subst (λ (y : KnownMachine). Lowers g.N.BootName.frames c.tries.machine y) (sym c.in-Err.ensures.unchanged.machine)
-    (watched_lowers g.N.BootName.frames c.tries.machine c.fill_stock.new.self.watch))
+    (run_lowers g.N.BootName.frames c.tries.machine c.fill_stock.new.self.run))
     (relieving_lowers g.N.BootName.frames c.args.group c.in-Err.over.group 1 c.fill_stock.new.self c.make_room.new.machine c.make_room.ensures.relieves)) c.make_room.ensures.below c.in-Err.ensures.over.over c.in_ok-make_room.ensures.room.room
 
 pub tries-preserved : goal.tries-preserved
@@ -31,7 +40,8 @@ tries-preserved g c = (
   so_far_more g.N.BootName.frames c.args.group 1 c.args.cpu.now c.args.machine.now c.tries.machine c.tries.invariant.0 c.fill_stock.new.self c.tries.machine
       c.make_room.new.machine c.tries.cpu c.fill_stock.new.cpu c.in-Err.over.group c.in-Err.ensures.unchanged.machine c.tries.invariant.1
       (c.in-Err.ensures.unchanged.cpu ∙ c.tries.invariant.1) c.in-Err.ensures.over refl
-      c.in-Err.ensures.refused c.make_room.ensures.relieves c.in_ok-make_room.ensures.room,
+      c.in-Err.ensures.refused c.make_room.ensures.relieves c.in_ok-make_room.ensures.room
+      (c.make_room.ensures.visit c.fill_stock.new.cpu c.in-Err.ensures.visit),
   c.in-Err.ensures.unchanged.cpu ∙ c.tries.invariant.1,
 )
 
@@ -49,8 +59,7 @@ returns-in_err-make_room-clause-charges g c =
 
 pub returns-in_err-make_room-clause-visit : goal.returns-in_err-make_room-clause-visit
 returns-in_err-make_room-clause-visit g c =
-    lowered_visit g.N.BootName.frames _ _ _ c.fill_stock.new.cpu (relieving_lowers g.N.BootName.frames c.args.group c.in-Err.over.group 1 _ _ c.make_room.ensures.relieves) refl
-    c.in-Err.ensures.visit
+    c.make_room.ensures.visit c.fill_stock.new.cpu c.in-Err.ensures.visit
 
 pub tries-init : goal.tries-init
 tries-init g c = (so_far_none g.N.BootName.frames c.args.group 1 c.args.cpu.now c.args.machine.now c.requires.may_charge.alive, refl)

@@ -2,7 +2,7 @@ use Rattle.std.proofs.Common.{sym, refl, ap, ◌∙◌}
 use Rattle.std.proofs.lemmas.Bool.{false≢true}
 use Rattle.group_tree.specs.Groups.{has_group}
 use Rattle.mem_machine.specs.Machines.{KnownMachine, is_killed}
-use Rattle.mem_machine.proofs.Prepaying.{emptied_alive, emptied_drained, emptied_has, emptied_visits}
+use Rattle.mem_machine.proofs.Prepaying.{emptied_alive, emptied_drained, emptied_has}
 use Rattle.mem_alloc.proofs.Filling.{charged_page, looked_page, looked_visit, pays_anew, pays_none}
 use Rattle.mem_alloc.proofs.charging.pay_for_frame.Goals as goal
 
@@ -17,11 +17,15 @@ returns-then-holds_page g c =
       page = looked_page t _ _ _ _ looked.machine looked.cpu c.args.group page;
     }
 
+pub drain_stock-requires-clause-shown : goal.drain_stock-requires-clause-shown
+drain_stock-requires-clause-shown g c =
+    let seen = looked_visit g.N.BootName.frames _ _ _ _ c.holds_page.ensures.machine c.holds_page.ensures.cpu c.requires.visit in
+    record { cpu = c.holds_page.new.cpu; is = seen.shown }
+
 pub fill_drained_stock-requires-clause-visit : goal.fill_drained_stock-requires-clause-visit
 fill_drained_stock-requires-clause-visit g c =
     let t = g.N.BootName.frames in
-    emptied_visits _ _ _ _ _ c.number-cpu_number.ensures.number c.drain_stock.ensures.drains t _
-    (looked_visit t _ _ _ _ c.holds_page.ensures.machine c.holds_page.ensures.cpu c.requires.visit)
+    c.drain_stock.ensures.visit c.holds_page.new.cpu (looked_visit t _ _ _ _ c.holds_page.ensures.machine c.holds_page.ensures.cpu c.requires.visit)
 
 pub fill_drained_stock-requires-clause-there : goal.fill_drained_stock-requires-clause-there
 fill_drained_stock-requires-clause-there g c =

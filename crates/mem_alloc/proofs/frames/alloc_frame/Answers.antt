@@ -1,4 +1,4 @@
-use Rattle.std.proofs.Common.{◌≡◌, ℕ, ◌∷◌, ◌++◌, [], length, false, sym, ap, ◌∙◌, subst, arith, rules}
+use Rattle.std.proofs.Common.{◌≡◌, ℕ, ◌∷◌, ◌++◌, [], length, false, inl, refl, sym, ap, ◌∙◌, subst, arith, rules}
 use Rattle.std.specs.Prelude.{Err, IfErr, Ok, Result}
 use Rattle.std.proofs.lemmas.Result.{err_from_is_err_and}
 use Rattle.mem_machine.specs.Machines.{KnownMachine, is_killed}
@@ -6,6 +6,8 @@ use Rattle.cpu_part.specs.Cpus.{KnownCpu}
 use Rattle.mem_alloc.specs.declared.faults.AllocFault.{AllocFault}
 use Rattle.mem_alloc.proofs.Making.{refused_with, if_ok_none}
 use Rattle.mem_alloc.proofs.Filling.{keeps_both, pays_keep, no_frame_keeps, filled_part, not_paid, not_found, gets_frame}
+use Rattle.mem_machine.proofs.Followed.{makes_none}
+use Rattle.mem_machine.specs.Local.{visit_state}
 use Rattle.mem_alloc.proofs.frames.alloc_frame.Goals as goal
 
 pub returns-in_err-pay_for_frame : goal.returns-in_err-pay_for_frame
@@ -89,3 +91,10 @@ returns g c =
           omega (arith, full, d, e, f);
       frame = c.take_front.ensures.frame;
     }
+
+pub returns-then-is_killed-clause-allocates : goal.returns-then-is_killed-clause-allocates
+returns-then-is_killed-clause-allocates g c = record {
+  steps = [];
+  does = inl (record { is = sym c.is_killed.ensures ∙ c.if-is_killed.true; does = record { machine = refl; cpu = refl; steps_are = refl } });
+  makes = makes_none g.N.BootName.frames c.args.cpu.now.number (visit_state c.args.machine.now c.args.cpu.now);
+}

@@ -9,6 +9,14 @@ pub loop-round-init : goal.loop-round-init
 loop-round-init g c =
     rounds_none g.N.BootName.frames 1 LendsNoFrame (λ _. LendsBatch c.args.batch) c.args.machine.now c.args.cpu.now
 
+pub reclaim_anywhere-freed-requires : goal.reclaim_anywhere-freed-requires
+reclaim_anywhere-freed-requires g c =
+    record { shown = record { cpu = c.loop-round.cpu; is = (c.loop-round.invariant.visit c.requires.visit).shown } }
+
+pub refill-requires-clause-visit : goal.refill-requires-clause-visit
+refill-requires-clause-visit g c =
+    c.reclaim_anywhere-freed.ensures.keeps.visit c.loop-round.cpu (c.loop-round.invariant.visit c.requires.visit)
+
 pub returns-then-refill-gt0-clause-refills : goal.returns-then-refill-gt0-clause-refills
 returns-then-refill-gt0-clause-refills g c =
     let t = g.N.BootName.frames in
@@ -44,9 +52,12 @@ loop-round-preserved g c =
     c.reclaim_anywhere-freed.new.machine c.reclaim_anywhere-freed.ensures.reclaims c.reclaim_anywhere-freed.ensures.missed
     c.reclaim_anywhere-freed.ensures.keeps
     c.refill.new.self c.refill.new.cpu none.steps none.makes none.does c.if-freed-eq0.false
-    (no_frame_spares t _ _ _ _ none.steps none.does)
+    (no_frame_spares t _ _ _ _ none.steps none.does) done.visit
 
 pub returns-clause-refills : goal.returns-clause-refills
 returns-clause-refills g c =
     rounds_done g.N.BootName.frames 1 LendsNoFrame (λ _. LendsBatch c.args.batch) c.args.machine.now c.args.cpu.now
     c.loop-round.round c.loop-round.machine c.loop-round.cpu c.loop-round.invariant c.loop-round-test.false
+
+pub returns-clause-visit : goal.returns-clause-visit
+returns-clause-visit g c = c.loop-round.invariant.visit c.requires.visit

@@ -10,33 +10,43 @@ use Rattle.mem_reclaim.specs.Victim.{IsVictim}
 use Rattle.mem_alloc.specs.Kills.{KillsForRoom, has_room_at}
 use Rattle.mem_machine.specs.Local.{MakesForAny}
 use Rattle.mem_machine.specs.Transitions.{BySteps}
-use Rattle.mem_alloc.proofs.Killing.{enough_room, fewer_alive, kills_end, so_far_killed, so_far_nobody, so_far_there}
+use Rattle.mem_alloc.proofs.Killing.{enough_room, fewer_alive, kills_end, so_far_killed, so_far_nobody, so_far_shown, so_far_there}
 use Rattle.mem_alloc.proofs.kills.kill_for.Goals as goal
 
 pub kills-init : goal.kills-init
 kills-init g c =
     so_far_nobody c.args.requester g.N.BootName.frames c.args.limited c.args.pages c.args.machine.now c.note_oom.new.self c.note.new.self
-    c.note_oom.ensures.machine c.note_oom.ensures.steps c.note.ensures
+    c.note_oom.ensures.machine c.note_oom.ensures.steps c.note_oom.ensures.visit c.note.ensures
 
 pub needs_room-requires : goal.needs_room-requires
 needs_room-requires g c =
     so_far_there c.args.requester g.N.BootName.frames c.args.limited c.args.pages c.args.machine.now c.kills.machine
-    c.kills.invariant c.requires
+    c.kills.invariant c.requires.there
 
-pub returns-then-not-needs_room : goal.returns-then-not-needs_room
-returns-then-not-needs_room g c =
+pub returns-then-not-needs_room-clause-kills : goal.returns-then-not-needs_room-clause-kills
+returns-then-not-needs_room-clause-kills g c =
     let over : has_room_at c.args.machine.now.ledger c.args.limited c.args.pages ≡ false =
     ap (λ (l : Ledger). has_room_at l c.args.limited c.args.pages) (sym c.charges.ensures) ∙ sym c.has_room_at.ensures ∙ c.if-has_room_at.false in
     kills_end c.args.requester g.N.BootName.frames c.args.limited c.args.pages c.args.machine.now c.kills.machine over c.kills.invariant
     (λ needs_room. absurd (false≢true (sym c.if-not-needs_room.true ∙ c.needs_room.ensures.1 needs_room)))
 
-pub kill-requires : goal.kill-requires
-kill-requires g c =
+pub kill-requires-clause-there : goal.kill-requires-clause-there
+kill-requires-clause-there g c =
     so_far_there c.args.requester g.N.BootName.frames c.args.limited c.args.pages c.args.machine.now c.kills.machine
-    c.kills.invariant c.requires
+    c.kills.invariant c.requires.there
 
-pub returns-in_default : goal.returns-in_default
-returns-in_default g c =
+pub kill-requires-clause-shown : goal.kill-requires-clause-shown
+kill-requires-clause-shown g c =
+    so_far_shown c.args.requester g.N.BootName.frames c.args.limited c.args.pages c.args.machine.now c.kills.machine c.kills.invariant c.requires.shown
+
+pub returns-then-not-needs_room-clause-visit : goal.returns-then-not-needs_room-clause-visit
+returns-then-not-needs_room-clause-visit g c = c.kills.invariant.visit
+
+pub returns-in_default-clause-visit : goal.returns-in_default-clause-visit
+returns-in_default-clause-visit g c p v = c.kill.ensures.keeps.visit p (c.kills.invariant.visit p v)
+
+pub returns-in_default-clause-kills : goal.returns-in_default-clause-kills
+returns-in_default-clause-kills g c =
     let t = g.N.BootName.frames in
     let over : has_room_at c.args.machine.now.ledger c.args.limited c.args.pages ≡ false =
     ap (λ (l : Ledger). has_room_at l c.args.limited c.args.pages) (sym c.charges.ensures) ∙ sym c.has_room_at.ensures ∙ c.if-has_room_at.false in
@@ -77,6 +87,8 @@ kills-preserved g c =
     marked c.kill.ensures.stocks c.kill.ensures.keeps
 
 pub returns-then-has_room_at : goal.returns-then-has_room_at
-returns-then-has_room_at g c =
-    enough_room c.args.requester g.N.BootName.frames c.args.limited c.args.pages c.args.machine.now
-    (ap (λ (l : Ledger). has_room_at l c.args.limited c.args.pages) (sym c.charges.ensures) ∙ sym c.has_room_at.ensures ∙ c.if-has_room_at.true)
+returns-then-has_room_at g c = record {
+  kills = enough_room c.args.requester g.N.BootName.frames c.args.limited c.args.pages c.args.machine.now
+      (ap (λ (l : Ledger). has_room_at l c.args.limited c.args.pages) (sym c.charges.ensures) ∙ sym c.has_room_at.ensures ∙ c.if-has_room_at.true);
+  visit = λ p v. v;
+}

@@ -6,42 +6,71 @@ use Rattle.mem_machine.specs.Machines.{KnownMachine}
 use Rattle.mem_alloc.specs.Kills.{has_room_at}
 use Rattle.mem_alloc.proofs.Lowering.{Lowers, lowers_both, note_lowers, all_lower, lowered_there}
 use Rattle.mem_alloc.proofs.Killing.{few_lower}
-use Rattle.mem_alloc.proofs.Making.{clears_by, relieves_by}
+use Rattle.mem_machine.specs.Steps.{drain_stocks_steps, note_max_steps}
+use Rattle.mem_reclaim.proofs.Shown.{shown_after}
+use Rattle.mem_alloc.proofs.Making.{clears_by, limit_shown, limit_visits, relieves_by}
 use Rattle.mem_alloc.proofs.room.make_room.Goals as goal
 
-pub reclaim_for-requires : goal.reclaim_for-requires
-reclaim_for-requires g c =
-    let sub = c.drain_stocks.ensures.drains in
-    let noted : Lowers g.N.BootName.frames c.args.machine.now c.note_max.new.self =
-    subst (λ (y : KnownMachine). Lowers g.N.BootName.frames c.args.machine.now y)
-    (sym (c.note_max.ensures.machine ∙ ap (λ (y : KnownMachine). record y { ledger = with_max_noted y.ledger c.args.limited; watch = c.note_max.new.self.watch }) c.note_limit.ensures))
-    (note_lowers g.N.BootName.frames c.args.machine.now c.args.limited c.args.pages c.note_max.new.self.watch) in
-    let lowers = lowers_both g.N.BootName.frames _ _ _ noted (all_lower g.N.BootName.frames c.args.limited g.N.BootName.frames.cpus _ _ sub.drains sub.all) in
-    lowered_there g.N.BootName.frames _ _ c.args.limited lowers c.requires
+pub note_max-requires-clause-shown : goal.note_max-requires-clause-shown
+note_max-requires-clause-shown g c =
+    limit_shown g.N.BootName.frames c.args.limited c.args.pages c.args.machine.now c.note_limit.new.machine c.note_limit.ensures c.requires.shown
 
-pub kill_for_few_pages-requires : goal.kill_for_few_pages-requires
-kill_for_few_pages-requires g c =
+pub drain_stocks-requires-clause-shown : goal.drain_stocks-requires-clause-shown
+drain_stocks-requires-clause-shown g c =
+    shown_after g.N.BootName.frames c.note_limit.new.machine (note_max_steps c.args.limited) c.note_max.new.self c.note_max.ensures.steps
+    (limit_shown g.N.BootName.frames c.args.limited c.args.pages c.args.machine.now c.note_limit.new.machine c.note_limit.ensures c.requires.shown)
+
+pub reclaim_for-requires-clause-shown : goal.reclaim_for-requires-clause-shown
+reclaim_for-requires-clause-shown g c =
+    let t = g.N.BootName.frames in
+    let drains = c.drain_stocks.ensures.drains in
+    shown_after t c.note_max.new.self (drain_stocks_steps drains.drains) c.drain_stocks.new.self drains.steps
+    (shown_after t c.note_limit.new.machine (note_max_steps c.args.limited) c.note_max.new.self c.note_max.ensures.steps
+    (limit_shown t c.args.limited c.args.pages c.args.machine.now c.note_limit.new.machine c.note_limit.ensures c.requires.shown))
+
+pub kill_for_few_pages-requires-clause-shown : goal.kill_for_few_pages-requires-clause-shown
+kill_for_few_pages-requires-clause-shown g c =
+    let t = g.N.BootName.frames in
+    let drains = c.drain_stocks.ensures.drains in
+    let reclaims = c.reclaim_for.ensures.reclaims in
+    shown_after t c.drain_stocks.new.self reclaims.steps c.reclaim_for.new.machine reclaims.makes
+    (shown_after t c.note_max.new.self (drain_stocks_steps drains.drains) c.drain_stocks.new.self drains.steps
+    (shown_after t c.note_limit.new.machine (note_max_steps c.args.limited) c.note_max.new.self c.note_max.ensures.steps
+    (limit_shown t c.args.limited c.args.pages c.args.machine.now c.note_limit.new.machine c.note_limit.ensures c.requires.shown)))
+
+pub reclaim_for-requires-clause-there : goal.reclaim_for-requires-clause-there
+reclaim_for-requires-clause-there g c =
     let sub = c.drain_stocks.ensures.drains in
     let noted : Lowers g.N.BootName.frames c.args.machine.now c.note_max.new.self =
     subst (λ (y : KnownMachine). Lowers g.N.BootName.frames c.args.machine.now y)
-    (sym (c.note_max.ensures.machine ∙ ap (λ (y : KnownMachine). record y { ledger = with_max_noted y.ledger c.args.limited; watch = c.note_max.new.self.watch }) c.note_limit.ensures))
-    (note_lowers g.N.BootName.frames c.args.machine.now c.args.limited c.args.pages c.note_max.new.self.watch) in
+    (sym (c.note_max.ensures.machine ∙ ap (λ (y : KnownMachine). record y { ledger = with_max_noted y.ledger c.args.limited; run = c.note_max.new.self.run }) c.note_limit.ensures))
+    (note_lowers g.N.BootName.frames c.args.machine.now c.args.limited c.args.pages c.note_max.new.self.run) in
+    let lowers = lowers_both g.N.BootName.frames _ _ _ noted (all_lower g.N.BootName.frames c.args.limited g.N.BootName.frames.cpus _ _ sub.drains sub.all) in
+    lowered_there g.N.BootName.frames _ _ c.args.limited lowers c.requires.there
+
+pub kill_for_few_pages-requires-clause-there : goal.kill_for_few_pages-requires-clause-there
+kill_for_few_pages-requires-clause-there g c =
+    let sub = c.drain_stocks.ensures.drains in
+    let noted : Lowers g.N.BootName.frames c.args.machine.now c.note_max.new.self =
+    subst (λ (y : KnownMachine). Lowers g.N.BootName.frames c.args.machine.now y)
+    (sym (c.note_max.ensures.machine ∙ ap (λ (y : KnownMachine). record y { ledger = with_max_noted y.ledger c.args.limited; run = c.note_max.new.self.run }) c.note_limit.ensures))
+    (note_lowers g.N.BootName.frames c.args.machine.now c.args.limited c.args.pages c.note_max.new.self.run) in
     let lowers = lowers_both g.N.BootName.frames _ _ _ noted (all_lower g.N.BootName.frames c.args.limited g.N.BootName.frames.cpus _ _ sub.drains sub.all) in
     ap (λ (x : List Group). has_group x c.args.limited) c.reclaim_for.ensures.reclaims.does.keeps.groups
-    ∙ lowered_there g.N.BootName.frames _ _ c.args.limited lowers c.requires
+    ∙ lowered_there g.N.BootName.frames _ _ c.args.limited lowers c.requires.there
 
 pub has_room_at-requires : goal.has_room_at-requires
 has_room_at-requires g c =
     let sub = c.drain_stocks.ensures.drains in
     let noted : Lowers g.N.BootName.frames c.args.machine.now c.note_max.new.self =
     subst (λ (y : KnownMachine). Lowers g.N.BootName.frames c.args.machine.now y)
-    (sym (c.note_max.ensures.machine ∙ ap (λ (y : KnownMachine). record y { ledger = with_max_noted y.ledger c.args.limited; watch = c.note_max.new.self.watch }) c.note_limit.ensures))
-    (note_lowers g.N.BootName.frames c.args.machine.now c.args.limited c.args.pages c.note_max.new.self.watch) in
+    (sym (c.note_max.ensures.machine ∙ ap (λ (y : KnownMachine). record y { ledger = with_max_noted y.ledger c.args.limited; run = c.note_max.new.self.run }) c.note_limit.ensures))
+    (note_lowers g.N.BootName.frames c.args.machine.now c.args.limited c.args.pages c.note_max.new.self.run) in
     let lowers = lowers_both g.N.BootName.frames _ _ _ noted (all_lower g.N.BootName.frames c.args.limited g.N.BootName.frames.cpus _ _ sub.drains sub.all) in
     let there : has_group c.reclaim_for.new.machine.ledger.groups c.args.limited ≡ true =
     ap (λ (x : List Group). has_group x c.args.limited) c.reclaim_for.ensures.reclaims.does.keeps.groups
-    ∙ lowered_there g.N.BootName.frames _ _ c.args.limited lowers c.requires in
-    let killed = c.kill_for_few_pages.ensures in
+    ∙ lowered_there g.N.BootName.frames _ _ c.args.limited lowers c.requires.there in
+    let killed = c.kill_for_few_pages.ensures.kills in
     subst (λ (l : Ledger). has_group l.groups c.args.limited ≡ true) (sym c.charges.ensures)
     (lowered_there g.N.BootName.frames _ _ c.args.limited
     (few_lower g.N.BootName.frames c.args.requester c.args.limited c.args.pages c.reclaim_for.new.machine c.kill_for_few_pages.new.machine killed.steps
@@ -53,7 +82,7 @@ returns-then-is_killed-clause-relieves g c =
     c.kill_for_few_pages.new.machine
     (clears_by g.N.BootName.frames c.args.limited c.args.pages c.drain_stocks.result c.args.machine.now c.note_limit.new.machine c.note_max.new.self
     c.drain_stocks.new.self c.note_limit.ensures c.note_max.ensures.machine c.note_max.ensures.steps c.drain_stocks.ensures.drains c.drain_stocks.ensures.drained)
-    c.reclaim_for.ensures.reclaims c.kill_for_few_pages.ensures
+    c.reclaim_for.ensures.reclaims c.kill_for_few_pages.ensures.kills
 
 pub returns-then-has_room_at-clause-relieves : goal.returns-then-has_room_at-clause-relieves
 returns-then-has_room_at-clause-relieves g c =
@@ -61,7 +90,7 @@ returns-then-has_room_at-clause-relieves g c =
     c.kill_for_few_pages.new.machine
     (clears_by g.N.BootName.frames c.args.limited c.args.pages c.drain_stocks.result c.args.machine.now c.note_limit.new.machine c.note_max.new.self
     c.drain_stocks.new.self c.note_limit.ensures c.note_max.ensures.machine c.note_max.ensures.steps c.drain_stocks.ensures.drains c.drain_stocks.ensures.drained)
-    c.reclaim_for.ensures.reclaims c.kill_for_few_pages.ensures
+    c.reclaim_for.ensures.reclaims c.kill_for_few_pages.ensures.kills
 
 pub returns-else-has_room_at-clause-relieves : goal.returns-else-has_room_at-clause-relieves
 returns-else-has_room_at-clause-relieves g c =
@@ -69,7 +98,7 @@ returns-else-has_room_at-clause-relieves g c =
     c.kill_for_few_pages.new.machine
     (clears_by g.N.BootName.frames c.args.limited c.args.pages c.drain_stocks.result c.args.machine.now c.note_limit.new.machine c.note_max.new.self
     c.drain_stocks.new.self c.note_limit.ensures c.note_max.ensures.machine c.note_max.ensures.steps c.drain_stocks.ensures.drains c.drain_stocks.ensures.drained)
-    c.reclaim_for.ensures.reclaims c.kill_for_few_pages.ensures
+    c.reclaim_for.ensures.reclaims c.kill_for_few_pages.ensures.kills
 
 pub returns-then-is_killed-clause-room : goal.returns-then-is_killed-clause-room
 returns-then-is_killed-clause-room g c = sym c.is_killed.ensures ∙ c.if-is_killed.true
@@ -88,3 +117,18 @@ returns-else-has_room_at-clause-room g c = (
     alive = sym c.is_killed.ensures ∙ c.if-is_killed.false;
   },
 )
+
+pub returns-then-is_killed-clause-visit : goal.returns-then-is_killed-clause-visit
+returns-then-is_killed-clause-visit g c p v =
+    c.kill_for_few_pages.ensures.visit p (c.reclaim_for.ensures.visit p (c.drain_stocks.ensures.visit p (c.note_max.ensures.visit p
+    (limit_visits g.N.BootName.frames c.args.limited c.args.pages c.args.machine.now c.note_limit.new.machine c.note_limit.ensures p v))))
+
+pub returns-then-has_room_at-clause-visit : goal.returns-then-has_room_at-clause-visit
+returns-then-has_room_at-clause-visit g c p v =
+    c.kill_for_few_pages.ensures.visit p (c.reclaim_for.ensures.visit p (c.drain_stocks.ensures.visit p (c.note_max.ensures.visit p
+    (limit_visits g.N.BootName.frames c.args.limited c.args.pages c.args.machine.now c.note_limit.new.machine c.note_limit.ensures p v))))
+
+pub returns-else-has_room_at-clause-visit : goal.returns-else-has_room_at-clause-visit
+returns-else-has_room_at-clause-visit g c p v =
+    c.kill_for_few_pages.ensures.visit p (c.reclaim_for.ensures.visit p (c.drain_stocks.ensures.visit p (c.note_max.ensures.visit p
+    (limit_visits g.N.BootName.frames c.args.limited c.args.pages c.args.machine.now c.note_limit.new.machine c.note_limit.ensures p v))))

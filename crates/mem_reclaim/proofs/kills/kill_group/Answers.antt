@@ -1,6 +1,33 @@
 use Rattle.std.proofs.Common.{◌<◌, rules}
 use Rattle.mem_reclaim.proofs.LettingGo.{all_killed}
+use Rattle.mem_machine.specs.Steps.{drain_stocks_steps, kill_steps}
+use Rattle.mem_reclaim.proofs.Shown.{shown_after}
 use Rattle.mem_reclaim.proofs.kills.kill_group.Goals as goal
+
+pub drain_group_stocks-requires : goal.drain_group_stocks-requires
+drain_group_stocks-requires g c = record {
+  shown = shown_after g.N.BootName.frames c.args.machine.now (kill_steps c.args.group) c.mark_killed.new.self c.mark_killed.ensures.steps c.requires.shown;
+}
+
+pub release_units-requires : goal.release_units-requires
+release_units-requires g c =
+    let t = g.N.BootName.frames in
+    let marked = c.mark_killed.new.self in
+    let drains = c.drain_group_stocks.ensures.drains in record {
+      shown = shown_after t marked (drain_stocks_steps drains.drains) c.drain_group_stocks.new.self drains.steps
+          (shown_after t c.args.machine.now (kill_steps c.args.group) marked c.mark_killed.ensures.steps c.requires.shown);
+    }
+
+pub release_units-requires-2 : goal.release_units-requires-2
+release_units-requires-2 g c =
+    let t = g.N.BootName.frames in
+    let marked = c.mark_killed.new.self in
+    let drained = c.drain_group_stocks.new.self in
+    let drains = c.drain_group_stocks.ensures.drains in
+    let first = c.release_units.ensures.releases in record {
+      shown = shown_after t drained first.steps c.release_units.new.machine first.runs (shown_after t marked (drain_stocks_steps drains.drains) drained drains.steps
+          (shown_after t c.args.machine.now (kill_steps c.args.group) marked c.mark_killed.ensures.steps c.requires.shown));
+    }
 
 pub returns : goal.returns
 returns g c =

@@ -1,7 +1,10 @@
-use Rattle.std.proofs.Common.{◌<◌, ◌≤◌, length, ap, arith, rules}
+use Rattle.std.proofs.Common.{◌<◌, ◌≤◌, length, ap, sym, ◌∙◌, arith, rules}
+use Rattle.std.proofs.lemmas.Option.{none-some}
 use Rattle.frame_word.specs.Seats.{KnownTable}
+use Rattle.mem_machine.specs.Machines.{home_of}
 use Rattle.mem_machine.specs.Ageing.{entries_in}
 use Rattle.mem_reclaim.proofs.LettingGo.{let_go_done, let_go_empty, let_go_first, let_go_more, oldest_is}
+use Rattle.mem_reclaim.proofs.Shown.{shown_after}
 use Rattle.mem_reclaim.proofs.kills.release_units.Goals as goal
 
 pub loop-unit-init : goal.loop-unit-init
@@ -13,9 +16,21 @@ unreachable-requires-in_default-frame g c =
     let o = oldest_is g.N.BootName.frames g.N.BootName.stocks c.args.group fits c.args.list c.loop-unit.machine c.prove_consistent.ensures
     c.in-Some.unit c.oldest.result c.oldest.ensures c.in-Some.is in
     let lt = o.inside in
-    let le : c.args.tables.now.frames.frames ≤ c.in-Some.unit.number = c.in_default-frame.ensures {u = tt} in
+    let le : c.args.tables.now.words.frames ≤ c.in-Some.unit.number = c.in_default-frame.ensures {u = tt} in
     let tie = ap (λ (x : KnownTable). x.frames) c.args.tables.now.frames_are in
     omega (arith, lt, le, tie)
+
+pub put_zone_reference-requires-clause-kept : goal.put_zone_reference-requires-clause-kept
+put_zone_reference-requires-clause-kept g c none =
+    let fits : c.args.group < 64 = search rules in
+    let o = oldest_is g.N.BootName.frames g.N.BootName.stocks c.args.group fits c.args.list c.loop-unit.machine c.prove_consistent.ensures
+    c.in-Some.unit c.oldest.result c.oldest.ensures c.in-Some.is in
+    none-some _ (sym none ∙ ap (home_of c.loop-unit.machine.links) c.in-Some-frame.ensures.0 ∙ o.home)
+
+pub put_zone_reference-requires-clause-shown : goal.put_zone_reference-requires-clause-shown
+put_zone_reference-requires-clause-shown g c =
+    let so = c.loop-unit.invariant in
+    shown_after g.N.BootName.frames c.args.machine.now so.steps c.loop-unit.machine so.runs c.requires.shown
 
 pub loop-unit-preserved : goal.loop-unit-preserved
 loop-unit-preserved g c =

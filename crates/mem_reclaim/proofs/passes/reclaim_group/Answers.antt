@@ -41,8 +41,8 @@ returns-else-is_first-clause-usage g c =
     c.scan_both.ensures.usage c.args.group
     (ap (λ (l : Ledger). in_subtree l.groups c.args.group c.args.turn) (sym c.charges.ensures) ∙ sym c.is_in_subtree.ensures ∙ c.if-not-is_in_subtree.false)
 
-pub age_and_scan-requires : goal.age_and_scan-requires
-age_and_scan-requires g c = in_subtree-below c.args.machine.now.ledger.groups c.args.group c.args.turn
+pub age_and_scan-requires-clause-there : goal.age_and_scan-requires-clause-there
+age_and_scan-requires-clause-there g c = in_subtree-below c.args.machine.now.ledger.groups c.args.group c.args.turn
     (ap (λ (l : Ledger). in_subtree l.groups c.args.group c.args.turn) (sym c.charges.ensures) ∙ sym c.is_in_subtree.ensures ∙ c.if-not-is_in_subtree.false)
 
 pub scan_both-requires-clause-there : goal.scan_both-requires-clause-there

@@ -1,5 +1,6 @@
 use Rattle.std.proofs.Common.{rules}
 use Rattle.mem_reclaim.proofs.Passing.{pass_none, pass_more, pass_enough, pass_done}
+use Rattle.mem_reclaim.proofs.Shown.{shown_after}
 use Rattle.mem_reclaim.proofs.passes.reclaim_pass.Goals as goal
 
 pub loop-number-init : goal.loop-number-init
@@ -9,6 +10,11 @@ pub returns-then-want-freed-clause-passes : goal.returns-then-want-freed-clause-
 returns-then-want-freed-clause-passes g c =
     (pass_enough g.N.BootName.frames c.args.is_first c.args.group c.args.want c.args.machine.now c.loop-number.number c.loop-number.freed c.loop-number.machine
     c.loop-number.invariant c.if-want-freed.true).passes
+
+pub reclaim_group-freed-requires-clause-shown : goal.reclaim_group-freed-requires-clause-shown
+reclaim_group-freed-requires-clause-shown g c =
+    let so = c.loop-number.invariant.so_far in
+    shown_after g.N.BootName.frames c.args.machine.now so.steps c.loop-number.machine so.moves.runs c.requires.shown
 
 pub loop-number-preserved : goal.loop-number-preserved
 loop-number-preserved g c =

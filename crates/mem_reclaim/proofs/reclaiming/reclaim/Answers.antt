@@ -4,6 +4,7 @@ use Rattle.mem_reclaim.proofs.Wanting.{first_enough, both_done}
 use Rattle.mem_reclaim.proofs.Keeping.{keeps_both}
 use Rattle.mem_reclaim.proofs.Moving.{moves_rest}
 use Rattle.mem_reclaim.proofs.Passing.{missed_then}
+use Rattle.mem_reclaim.proofs.Shown.{shown_after}
 use Rattle.mem_reclaim.proofs.reclaiming.reclaim.Goals as goal
 
 pub returns-then-want-first-clause-reclaims : goal.returns-then-want-first-clause-reclaims
@@ -11,6 +12,11 @@ returns-then-want-first-clause-reclaims g c =
     first_enough g.N.BootName.frames (ReclaimsPass c.args.group) true false c.args.want c.args.machine.now
     (let ne = c.if-want-eq0.false in omega (arith, ne)) c.reclaim_pass-first.result
     c.reclaim_pass-first.new.machine c.reclaim_pass-first.ensures.passes c.if-want-first.true
+
+pub reclaim_pass-requires-clause-shown : goal.reclaim_pass-requires-clause-shown
+reclaim_pass-requires-clause-shown g c =
+    let first = c.reclaim_pass-first.ensures.passes in
+    shown_after g.N.BootName.frames c.args.machine.now first.steps c.reclaim_pass-first.new.machine first.moves.runs c.requires.shown
 
 pub returns-clause-reclaims : goal.returns-clause-reclaims
 returns-clause-reclaims g c =

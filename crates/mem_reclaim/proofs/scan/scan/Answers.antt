@@ -4,6 +4,7 @@ use Rattle.group_tree.proofs.CallerLemmas.{in_subtree-refl}
 use Rattle.lru_lists.specs.Lists.{entry_of}
 use Rattle.mem_machine.specs.Machines.{home_of}
 use Rattle.mem_reclaim.proofs.Scanning.{scan_first, scan_here, scan_more, scan_done, scan_enough}
+use Rattle.mem_reclaim.proofs.Shown.{shown_after}
 use Rattle.mem_reclaim.proofs.scan.scan.Goals as goal
 
 pub loop-met-init : goal.loop-met-init
@@ -26,7 +27,7 @@ unreachable-requires-in_default-frame g c =
     c.loop-met._met c.loop-met.freed c.loop-met.next c.loop-met.machine c.prove_consistent-in-loop-met.ensures c.loop-met.invariant c.list_len-units.result
     c.list_len-units.ensures c.loop-met-test.true c.in-Some.unit c.in-Some.is in
     let lt = h.inside in
-    let le : c.args.tables.now.frames.frames ≤ c.in-Some.unit.number = c.in_default-frame.ensures {u = tt} in
+    let le : c.args.tables.now.words.frames ≤ c.in-Some.unit.number = c.in_default-frame.ensures {u = tt} in
     let tie = ap (λ (x : KnownTable). x.frames) c.args.tables.now.frames_are in
     omega (arith, lt, le, tie)
 
@@ -53,6 +54,11 @@ try_reclaim-requires-clause-home g c =
     c.loop-met._met c.loop-met.freed c.loop-met.next c.loop-met.machine c.prove_consistent-in-loop-met.ensures c.loop-met.invariant c.list_len-units.result
     c.list_len-units.ensures c.loop-met-test.true c.in-Some.unit c.in-Some.is in
     ap (home_of c.loop-met.machine.links) c.in-Some-frame.ensures.0 ∙ h.home
+
+pub try_reclaim-requires-clause-shown : goal.try_reclaim-requires-clause-shown
+try_reclaim-requires-clause-shown g c =
+    let so = c.loop-met.invariant.so_far in
+    shown_after g.N.BootName.frames c.args.machine.now so.steps c.loop-met.machine so.moves.runs c.requires.shown
 
 pub loop-met-preserved : goal.loop-met-preserved
 loop-met-preserved g c =

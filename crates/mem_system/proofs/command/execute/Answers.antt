@@ -4,7 +4,14 @@ use Rattle.mem_machine.specs.Local.{visit_state}
 use Rattle.mem_machine.proofs.Followed.{makes_none}
 use Rattle.mem_system.specs.Files.{Reads}
 use Rattle.mem_system.specs.Outcomes.{reply_of}
+use Rattle.mem_system.proofs.Keeping.{visit_keeps}
 use Rattle.mem_system.proofs.command.execute.Goals as goal
+
+pub make_group-requires : goal.make_group-requires
+make_group-requires g c = record { shown = record { cpu = c.args.cpu.now; is = c.requires.visit.visit.shown } }
+
+pub write_file-requires : goal.write_file-requires
+write_file-requires g c = record { shown = record { cpu = c.args.cpu.now; is = c.requires.visit.visit.shown } }
 
 pub returns-in-Mkdir-clause-executed : goal.returns-in-Mkdir-clause-executed
 returns-in-Mkdir-clause-executed g c =
@@ -53,3 +60,23 @@ returns-in-Settle-clause-executed g c =
       does = (refl, record { machine = refl; cpu = refl; steps_are = refl });
       makes = makes_none g.N.BootName.frames c.args.cpu.now.number (visit_state c.args.machine.now c.args.cpu.now);
     })
+
+pub returns-in-Mkdir-clause-stays : goal.returns-in-Mkdir-clause-stays
+returns-in-Mkdir-clause-stays g c =
+    let made = c.make_group.ensures.made in
+    visit_keeps g.N.BootName.frames c.args.machine.now c.make_group.new.machine c.args.cpu.now c.make_group.ensures.seat made.steps made.makes c.requires.visit.visit
+
+pub returns-in-Touch-clause-stays : goal.returns-in-Touch-clause-stays
+returns-in-Touch-clause-stays g c =
+    let made = c.touch_frame.ensures.touched in
+    visit_keeps g.N.BootName.frames c.args.machine.now c.touch_frame.new.machine c.args.cpu.now c.touch_frame.ensures.seat made.steps made.makes c.requires.visit.visit
+
+pub returns-in-Dirty-clause-stays : goal.returns-in-Dirty-clause-stays
+returns-in-Dirty-clause-stays g c =
+    let made = c.note_dirt.ensures.noted in
+    visit_keeps g.N.BootName.frames c.args.machine.now c.note_dirt.new.machine c.args.cpu.now c.note_dirt.ensures.seat made.steps made.makes c.requires.visit.visit
+
+pub returns-in-Clean-clause-stays : goal.returns-in-Clean-clause-stays
+returns-in-Clean-clause-stays g c =
+    let made = c.note_dirt-in-Clean.ensures.noted in
+    visit_keeps g.N.BootName.frames c.args.machine.now c.note_dirt-in-Clean.new.machine c.args.cpu.now c.note_dirt-in-Clean.ensures.seat made.steps made.makes c.requires.visit.visit

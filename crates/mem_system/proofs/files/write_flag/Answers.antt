@@ -23,7 +23,7 @@ pub returns-in-Ok-clause-stays : goal.returns-in-Ok-clause-stays
 returns-in-Ok-clause-stays g c =
     λ (y : KnownCpu) v.
     visit_keeps g.N.BootName.frames c.args.machine.now c.set_oom_group.new.self y
-    (ap (λ (k : KnownMachine). k.frame_seat) c.set_oom_group.ensures.machine) v
+    (ap (λ (k : KnownMachine). k.frame_seat) c.set_oom_group.ensures.machine) _ c.set_oom_group.ensures.steps v
 
 pub returns-in-Err-clause-written : goal.returns-in-Err-clause-written
 returns-in-Err-clause-written g c =

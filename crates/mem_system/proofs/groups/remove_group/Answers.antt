@@ -1,19 +1,22 @@
 use Rattle.std.proofs.Common.{rules, ◌≡◌, ◌++◌, ap, sym, ◌∙◌, refl, subst, arith}
 use Rattle.group_charge.specs.Charges.{Ledger}
 use Rattle.mem_machine.specs.Machines.{KnownMachine}
-use Rattle.mem_machine.specs.Local.{visit_state}
+use Rattle.mem_machine.specs.Local.{KeepsVisit, visit_state}
 use Rattle.mem_machine.specs.Steps.{remove_steps}
 use Rattle.mem_system.specs.Leaves.{HasNoLeaf, IsLeafAt}
 use Rattle.mem_system.proofs.Found.{found_there}
-use Rattle.mem_system.proofs.Keeping.{lowered_groups, lowered_visit, visit_keeps, visit_both, leaf_keeps}
+use Rattle.mem_system.proofs.Keeping.{lowered_groups, lowered_visit, visit_both, leaf_keeps}
 use Rattle.mem_system.proofs.Refusing.{none_removed}
 use Rattle.mem_system.proofs.groups.remove_group.Goals as goal
 use Rattle.mem_machine.proofs.Followed.{makes_both}
 
-pub lower_usage-requires : goal.lower_usage-requires
-lower_usage-requires g c =
+pub lower_usage-requires-clause-there : goal.lower_usage-requires-clause-there
+lower_usage-requires-clause-there g c =
     let leaf = subst (λ (l : Ledger). IsLeafAt l.groups c.args.path.now c.in-Ok.group) c.charges.ensures c.in-Ok.ensures in
     found_there _ _ _ leaf.number
+
+pub lower_usage-requires-clause-shown : goal.lower_usage-requires-clause-shown
+lower_usage-requires-clause-shown g c = record { cpu = c.args.cpu.now; is = c.requires.visit.shown }
 
 pub current-requires : goal.current-requires
 current-requires g c =
@@ -66,7 +69,12 @@ returns-clause-stays g c =
     let n = c.remove.new.self in
     let before = c.args.cpu.now in
     let first = lowered_visit t c.in-Ok.group _ m x before c.lower_usage.ensures c.requires.visit in
-    let last = visit_keeps t x n before (ap (λ (k : KnownMachine). k.frame_seat) c.remove.ensures.machine) first.visit in
+    let last : KeepsVisit t (visit_state x before) (visit_state n before) = record {
+      visit = c.remove.ensures.visit;
+      opened = ap (λ (k : KnownMachine). k.frame_seat.view.opened) c.remove.ensures.machine;
+      number = refl;
+      back = refl;
+    } in
     visit_both t m x n before first last
 
 pub returns-then-current-gt0-clause-removed : goal.returns-then-current-gt0-clause-removed

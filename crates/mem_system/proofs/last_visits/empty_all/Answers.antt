@@ -23,6 +23,7 @@ loop-cpu-preserved g c =
           (all_still (IsEmptied t w c.loop-cpu.machine) (IsEmptied t w c.empty_under_lock.new.machine) (take c.loop-cpu.cpu-index c.loop-cpu.cpus)
           (emptied_still t w c.loop-cpu.machine c.empty_under_lock.new.machine done.others) c.loop-cpu.invariant.1) done.emptied,
       done.shut,
+      done.rests,
     )
 
 pub returns-clause-empties : goal.returns-clause-empties

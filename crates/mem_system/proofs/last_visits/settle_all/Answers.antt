@@ -16,6 +16,7 @@ loop-cpu-preserved g c =
       so_far_more (VisitsUnderLock g.N.BootName.frames SettlesInVisit) _ _ _ _ _ _ c.cpu-item.result _ c.loop-cpu.invariant.0 inside done.settles,
       all_more IsSettledUnpinned c.loop-cpu.cpus c.loop-cpu.cpu-index c.settle_under_lock.new.cpu inside c.loop-cpu.invariant.1 done.settled,
       done.shut,
+      done.rests,
     )
 
 pub returns-clause-settles : goal.returns-clause-settles

@@ -1,15 +1,58 @@
-use Rattle.mem_system.specs.Ends.{SettlesInVisit}
-use Rattle.mem_system.proofs.Locking.{locked_visit, shut_seen}
+use Rattle.std.proofs.Common.{◌∙◌, ap, rules, subst, sym}
+use Rattle.cpu_part.specs.Cpus.{KnownCpu}
+use Rattle.mem_machine.specs.Local.{visit_state}
+use Rattle.mem_system.specs.Ends.{SettlesInVisit, VisitsUnderLock}
+use Rattle.mem_system.proofs.Locking.{locked_visit, run_twice, shown_seen, shut_seen}
 use Rattle.mem_system.proofs.last_visits.settle_under_lock.Goals as goal
 
 pub settle_cpu-requires-clause-shut : goal.settle_cpu-requires-clause-shut
-settle_cpu-requires-clause-shut g c = shut_seen c.args.machine.now c.take_step.new.self _ c.take_step.ensures.machine c.requires.shut
+settle_cpu-requires-clause-shut g c =
+    shut_seen c.args.machine.now c.take_step.new.self _ (run_twice c.args.machine.now _ _ _ _ c.lock.ensures.machine c.take_step.ensures.machine) c.requires.shut
+
+pub settle_cpu-requires-clause-shown : goal.settle_cpu-requires-clause-shown
+settle_cpu-requires-clause-shown g c =
+    shown_seen g.N.BootName.frames c.lock.new.self c.take_step.new.self _ c.take_step.ensures.machine c.lock.ensures.shown
+
+pub unlock-requires-clause-shown : goal.unlock-requires-clause-shown
+unlock-requires-clause-shown g c =
+    shown_seen g.N.BootName.frames c.settle_cpu.new.machine c.take_step-2.new.self _ c.take_step-2.ensures.machine c.settle_cpu.ensures.shown
+
+pub unlock-requires-clause-shut : goal.unlock-requires-clause-shut
+unlock-requires-clause-shut g c =
+    shut_seen c.settle_cpu.new.machine c.take_step-2.new.self _ c.take_step-2.ensures.machine c.settle_cpu.ensures.shut _
 
 pub returns-clause-settles : goal.returns-clause-settles
 returns-clause-settles g c =
-    locked_visit g.N.BootName.frames SettlesInVisit c.args.machine.now c.take_step.new.self c.settle_cpu.new.machine c.take_step-2.new.self c.args.cpu.now
-    c.settle_cpu.new.cpu c.number-cpu_number.result c.number-cpu_number.ensures.number c.take_step.ensures.machine c.take_step.ensures.watched c.settle_cpu.ensures.settles
-    c.take_step-2.ensures.machine c.take_step-2.ensures.watched
+    subst (λ (x : KnownCpu). VisitsUnderLock g.N.BootName.frames SettlesInVisit (visit_state c.args.machine.now x) (visit_state c.unlock.new.self c.settle_cpu.new.cpu)) c.cpu.view_is
+    (locked_visit g.N.BootName.frames SettlesInVisit c.args.machine.now c.lock.new.self c.take_step.new.self c.settle_cpu.new.machine c.take_step-2.new.self
+    c.unlock.new.self c.cpu.inside.part c.settle_cpu.new.cpu c.number-cpu_number.result (c.number-cpu_number.ensures.number ∙ sym (ap (λ (x : KnownCpu). x.number) c.cpu.view_is))
+    c.lock.ensures.machine c.take_step.ensures.machine c.take_step.ensures.watched c.settle_cpu.ensures.settles c.take_step-2.ensures.machine c.take_step-2.ensures.watched
+    c.unlock.ensures.machine)
 
 pub returns-clause-shut : goal.returns-clause-shut
-returns-clause-shut g c = shut_seen c.settle_cpu.new.machine c.take_step-2.new.self _ c.take_step-2.ensures.machine c.settle_cpu.ensures.shut
+returns-clause-shut g c =
+    shut_seen c.settle_cpu.new.machine c.unlock.new.self _ (run_twice c.settle_cpu.new.machine _ _ _ _ c.take_step-2.ensures.machine c.unlock.ensures.machine) c.settle_cpu.ensures.shut
+
+pub settle_cpu-requires-clause-no_pin : goal.settle_cpu-requires-clause-no_pin
+settle_cpu-requires-clause-no_pin g c = search rules
+
+pub returns-clause-settled : goal.returns-clause-settled
+returns-clause-settled g c = search rules
+
+pub lock-requires-clause-rests : goal.lock-requires-clause-rests
+lock-requires-clause-rests g c = search rules
+
+pub lock-requires-clause-shut : goal.lock-requires-clause-shut
+lock-requires-clause-shut g c = search rules
+
+pub lock-requires-clause-knows : goal.lock-requires-clause-knows
+lock-requires-clause-knows g c = search rules
+
+pub unlock-requires-clause-given : goal.unlock-requires-clause-given
+unlock-requires-clause-given g c = search rules
+
+pub returns-clause-rests : goal.returns-clause-rests
+returns-clause-rests g c = search rules
+
+pub invariant_of-cpu : goal.invariant_of-cpu
+invariant_of-cpu g c = search rules

@@ -1,4 +1,4 @@
-use Rattle.mem_system.proofs.UnitsSeen.{units_shut}
+use Rattle.mem_system.proofs.UnitsSeen.{units_rest, units_shut}
 use Rattle.mem_system.proofs.shown.write_units_at.Goals as goal
 
 pub invariant_of-locked : goal.invariant_of-locked
@@ -6,11 +6,11 @@ invariant_of-locked g c =
     let q = c.locked.invariant.quiet in record {
       quiet = record {
         shut = units_shut c.in-Some.group _ c.locked.inside.machine c.write_units.new.machine c.write_units.ensures.units q.shut;
+        rests = units_rest g.N.BootName.frames c.in-Some.group _ c.locked.inside.machine c.write_units.new.machine c.write_units.ensures.units q.rests;
         valid = q.valid;
         sized = q.sized;
       };
-      frame_seats = c.locked.invariant.frame_seats;
-      stock_seats = c.locked.invariant.stock_seats;
+      seats = c.locked.invariant.seats;
     }
 
 pub invariant_of-locked-2 : goal.invariant_of-locked-2
@@ -18,9 +18,9 @@ invariant_of-locked-2 g c =
     let q = c.locked.invariant.quiet in record {
       quiet = record {
         shut = units_shut c.in-Some.group _ c.locked.inside.machine c.write_units.new.machine c.write_units.ensures.units q.shut;
+        rests = units_rest g.N.BootName.frames c.in-Some.group _ c.locked.inside.machine c.write_units.new.machine c.write_units.ensures.units q.rests;
         valid = q.valid;
         sized = q.sized;
       };
-      frame_seats = c.locked.invariant.frame_seats;
-      stock_seats = c.locked.invariant.stock_seats;
+      seats = c.locked.invariant.seats;
     }

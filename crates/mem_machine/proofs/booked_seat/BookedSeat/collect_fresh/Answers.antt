@@ -4,6 +4,7 @@ use Rattle.stock_word.specs.Stock.{account_of}
 use Rattle.cpu_part.proofs.CallerLemmas.{handed_passes}
 use Rattle.cpu_part.specs.Cpus.{KnownCpu}
 use Rattle.mem_machine.proofs.Booking.{after_absorb, after_note, noted_group, within_count}
+use Rattle.mem_machine.proofs.Collecting.{may_hand_over, may_collect_handed, may_absorb, collects_all, one_absorbed}
 use Rattle.mem_machine.proofs.booked_seat.BookedSeat.collect_fresh.Goals as goal
 
 pub collect-requires-clause-passes : goal.collect-requires-clause-passes
@@ -33,3 +34,29 @@ invariant_of-self g c =
     let are = after_note g.N.BootName.frames g.N.BootName.stocks _ _ c.self.invariant n 1 c.number-cpu_number.ensures.tied.seats.frame_cpus _ c.in-Some.ensures.zone_stock in
     after_absorb g.N.BootName.frames g.N.BootName.stocks _ _ are _ _ _ inside c.number-owner.ensures.below group _ refl c.absorb-pages.ensures.reported
     c.absorb-pages.ensures.booked _ c.absorb-pages.ensures.zone
+
+pub pass_fresh-requires-clause-legal : goal.pass_fresh-requires-clause-legal
+pass_fresh-requires-clause-legal g c f rest front = may_hand_over g.N.BootName.frames _ _ f (c.requires.legal f rest front)
+
+pub collect-requires-clause-legal : goal.collect-requires-clause-legal
+collect-requires-clause-legal g c =
+    let hands = c.in-Some.ensures.answer in
+    let may = c.requires.legal c.in-Some.frame hands.0 hands.1 in
+    let handed = ap (λ (k : KnownCpu). k.number) hands.2 in
+    may_collect_handed g.N.BootName.frames _ c.args.tables.now.frames_are _ _ c.in-Some.frame _ _ handed c.number-cpu_number.ensures.number _ c.in-Some.ensures.run may
+
+pub absorb-pages-requires-clause-legal : goal.absorb-pages-requires-clause-legal
+absorb-pages-requires-clause-legal g c =
+    let hands = c.in-Some.ensures.answer in
+    let may = c.requires.legal c.in-Some.frame hands.0 hands.1 in
+    let handed = ap (λ (k : KnownCpu). k.number) hands.2 in
+    may_absorb g.N.BootName.frames _ c.args.tables.now.frames_are _ _ c.in-Some.frame _ _ handed c.number-cpu_number.ensures.number _ c.in-Some.ensures.run may _
+    c.collect.ensures.run
+
+pub returns-clause-run : goal.returns-clause-run
+returns-clause-run g c =
+    let handed = ap (λ (k : KnownCpu). k.number) c.in-Some.ensures.answer.2 in
+    let one = one_absorbed _ _ _ c.self.view_is _ _ c.absorb-pages.result c.number-cpu_number.ensures.number c.in-Some.ensures.zone_stock c.requires.absorbed
+    c.absorb-pages.ensures.reported in
+    collects_all g.N.BootName.frames _ c.args.tables.now.frames_are _ _ c.in-Some.frame _ _ handed c.number-cpu_number.ensures.number _ c.in-Some.ensures.run _ _ _ one
+    c.collect.ensures.run c.absorb-pages.ensures.run

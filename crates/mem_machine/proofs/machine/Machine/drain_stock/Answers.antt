@@ -1,32 +1,59 @@
-use Rattle.std.proofs.Common.{◌≡◌, ℕ, Option, None, ap, ◌∙◌, subst}
-use Rattle.mem_machine.proofs.Draining.{drained_looked, drained_never, looked_consistent, never_drained, runs_looked}
-use Rattle.step_watch.specs.Watched.{Watches}
+use Rattle.std.proofs.Common.{◌≡◌, ℕ, Option, None, ◌∷◌, ap, refl, ◌∙◌, subst}
+use Rattle.step_rules.specs.declared.step.Action.TheVariants.{DrainStock}
+use Rattle.step_rules.specs.declared.step.Answer.TheVariants.{Pages}
+use Rattle.mem_machine.proofs.Draining.{drain_may, drained_looked, drained_never, looked_consistent, looked_never_filled, looked_no_group, looked_shown, looked_twice, looked_visits, never_drained, runs_looked}
 use Rattle.mem_machine.specs.Machines.{KnownMachine}
+use Rattle.cpu_part.specs.Cpus.{KnownCpu}
+use Rattle.mem_machine.specs.Kept.{machine_of}
+use Rattle.mem_machine.specs.Local.{MakesAs, visit_state}
+use Rattle.mem_machine.specs.Noted.{KnownRun, Notes}
 use Rattle.mem_machine.specs.Stocks.{stock_group}
-use Rattle.mem_machine.specs.Steps.{drain_steps}
+use Rattle.mem_machine.specs.Steps.{drain_steps, zone_makes}
 use Rattle.mem_machine.proofs.Followed.{makes_noted}
-use Rattle.mem_machine.proofs.Watched.{drains_still, consistent_still}
+use Rattle.mem_machine.proofs.Noted.{notes_one}
+use Rattle.mem_machine.proofs.Reached.{held_here}
+use Rattle.mem_machine.proofs.Watched.{drains_still, consistent_still, stays_then}
 use Rattle.mem_machine.proofs.machine.Machine.drain_stock.Goals as goal
+
+pub drain_none-requires-clause-held : goal.drain_none-requires-clause-held
+drain_none-requires-clause-held g c = held_here g.N.BootName.frames _ _ c.self.view_is c.requires.shown.cpu c.requires.shown.is
+
+pub drain_none-requires-clause-legal : goal.drain_none-requires-clause-legal
+drain_none-requires-clause-legal g c =
+    drain_may g.N.BootName.frames _ _ c.self.view_is c.requires.shown.cpu c.requires.shown.is c.args.cpu c.requires.cpu.0 c.requires.cpu.1
+
+pub drain_none-requires-clause-group : goal.drain_none-requires-clause-group
+drain_none-requires-clause-group g c = looked_no_group _ _ _ c.in-None.ensures.seat c.in-None.ensures.group
+
+pub drain_none-requires-clause-drained : goal.drain_none-requires-clause-drained
+drain_none-requires-clause-drained g c = looked_never_filled _ _ _ c.in-None.ensures.seat
 
 pub invariant_of-self : goal.invariant_of-self
 invariant_of-self g c = record {
   consistent = consistent_still _ _ _ _ (never_drained g.N.BootName.frames g.N.BootName.stocks _ _ c.self.view_is c.self.invariant.consistent c.args.cpu c.requires.cpu.0
-      c.requires.cpu.1 c.in-None.ensures.group _
-      c.in-None.ensures.seat).consistent;
+      c.requires.cpu.1 c.in-None.ensures.group 2 _
+      (looked_twice _ _ _ _ c.in-None.ensures.seat c.drain_none.ensures.seat)).consistent;
   free = c.self.invariant.free;
 }
 
 pub returns-in-None : goal.returns-in-None
 returns-in-None g c =
     let all = never_drained g.N.BootName.frames g.N.BootName.stocks _ _ c.self.view_is c.self.invariant.consistent c.args.cpu c.requires.cpu.0
-    c.requires.cpu.1 c.in-None.ensures.group _
-    c.in-None.ensures.seat in
+    c.requires.cpu.1 c.in-None.ensures.group 2 _
+    (looked_twice _ _ _ _ c.in-None.ensures.seat c.drain_none.ensures.seat) in
     let none : None ≡ stock_group c.args.self.now c.args.cpu = c.in-None.ensures.group
     ∙ ap (λ (x : KnownMachine). stock_group x c.args.cpu) c.self.view_is in
+    let first : KnownRun = record { past = c.self.inside.past; watch = c.self.inside.watch } in
+    let last : KnownRun = record { past = c.drain_none.new.held; watch = c.drained.new.self } in
+    let one = notes_one g.N.BootName.frames first (zone_makes (DrainStock c.args.cpu) (Pages 0)) last c.drain_none.ensures.run c.drained.ensures in
+    let steps : (cpu : KnownCpu) → MakesAs g.N.BootName.frames cpu.number (visit_state c.args.self.now cpu)
+    (drain_steps c.args.cpu (stock_group c.args.self.now c.args.cpu) 0) (visit_state (record (machine_of c.self.inside)
+    { stock_seat = c.drain_none.new.self; run = last }) cpu) = λ cpu. makes_noted _ _ _ _ c.self.view_is cpu cpu _ _ (all.steps cpu) _
+    (subst (λ (o : Option ℕ). Notes g.N.BootName.frames first (drain_steps c.args.cpu o 0) last) none one) in
     record {
       drains = drained_never _ _ _ c.self.view_is c.args.cpu c.in-None.ensures.group (drains_still _ _ _ _ _ _ all.drains);
-      steps = λ cpu. makes_noted _ _ _ _ c.self.view_is cpu cpu _ _ (all.steps cpu) _
-          (subst (λ (o : Option ℕ). Watches c.self.inside.watch (drain_steps c.args.cpu o 0) c.drained.new.self) none c.drained.ensures);
+      steps = steps;
+      visit = stays_then g.N.BootName.frames _ _ c.self.view_is _ refl _ steps;
     }
 
 pub invariant_of-self-in-Some : goal.invariant_of-self-in-Some
@@ -35,10 +62,14 @@ invariant_of-self-in-Some g c = record {
   free = c.self.invariant.free;
 }
 
+pub drain_of-requires-clause-shown : goal.drain_of-requires-clause-shown
+drain_of-requires-clause-shown g c = looked_shown g.N.BootName.frames _ _ c.self.view_is _ c.in-Some.ensures.seat c.requires.shown
+
 pub returns-in-Some : goal.returns-in-Some
 returns-in-Some g c = record {
   drains = drained_looked _ _ c.self.view_is _ c.in-Some.ensures.seat c.args.cpu c.drain_of.result c.in-Some.group c.in-Some.ensures.group _
       c.drain_of.ensures.drains;
   steps = runs_looked _ _ c.self.view_is _ c.in-Some.ensures.seat c.args.cpu c.drain_of.result c.in-Some.group c.in-Some.ensures.group _
       g.N.BootName.frames c.drain_of.ensures.steps;
+  visit = λ cpu visit. c.drain_of.ensures.visit cpu (looked_visits g.N.BootName.frames _ _ c.self.view_is _ c.in-Some.ensures.seat cpu visit);
 }

@@ -1,11 +1,24 @@
-use Rattle.std.proofs.Common.{◌≡◌, ℕ, ◌<◌, rules, subst}
-use Rattle.mem_machine.proofs.Fresh.{drop_all, was_fresh, drop_charged, drop_in_use}
-use Rattle.step_watch.specs.Watched.{Watches}
-use Rattle.step_watch.proofs.Watching.{watches_both}
-use Rattle.mem_machine.specs.Settling.{drop_steps}
+use Rattle.std.proofs.Common.{◌≡◌, true, ◌<◌, rules, ap, ◌∙◌}
+use Rattle.cpu_part.specs.Cpus.{KnownCpu}
+use Rattle.mem_machine.specs.Machines.{is_killed}
+use Rattle.mem_machine.specs.Local.{group_of_fresh, number_or_0}
+use Rattle.mem_machine.proofs.Fresh.{drop_all, was_fresh, drop_charged, drop_in_use, may_collect_dropped, may_return_dropped, dropped_notes}
 use Rattle.mem_machine.proofs.Followed.{makes_noted}
-use Rattle.mem_machine.proofs.Watched.{consistent_still, drops_still, visits_still}
+use Rattle.mem_machine.proofs.Watched.{consistent_still, drops_still, open_still, visits_then}
 use Rattle.mem_machine.proofs.machine.Machine.drop_one.Goals as goal
+
+pub collect_fresh-frame-requires-clause-legal : goal.collect_fresh-frame-requires-clause-legal
+collect_fresh-frame-requires-clause-legal g c f rest front =
+    let killed : is_killed c.args.self.now.killed (group_of_fresh c.args.cpu.now) ≡ true = ap (is_killed c.args.self.now.killed) (ap number_or_0 c.requires.group) ∙ c.requires.killed in
+    may_collect_dropped g.N.BootName.frames g.N.BootName.stocks _ _ c.self.view_is c.args.cpu.now c.number-cpu_number.ensures.tied c.self.invariant.consistent c.requires.visit
+    f rest front killed
+
+pub make_step-requires-clause-legal : goal.make_step-requires-clause-legal
+make_step-requires-clause-legal g c =
+    let e = c.collect_fresh-frame.ensures in
+    let killed : is_killed c.args.self.now.killed (group_of_fresh c.args.cpu.now) ≡ true = ap (is_killed c.args.self.now.killed) (ap number_or_0 c.requires.group) ∙ c.requires.killed in
+    may_return_dropped g.N.BootName.frames g.N.BootName.stocks _ _ c.self.view_is c.args.cpu.now c.number-cpu_number.ensures.tied c.self.invariant.consistent c.requires.visit
+    c.collect_fresh-frame.result e.cpu.0 e.cpu.1 killed _ c.number-at.ensures _ e.run
 
 pub free_unit-requires-clause-in_use : goal.free_unit-requires-clause-in_use
 free_unit-requires-clause-in_use g c =
@@ -53,10 +66,11 @@ returns g c =
     c.requires.visit _ _ c.self.invariant.free _ c.args.group was c.requires.killed e.cpu _ c.unwrap-order.result c.number-at.ensures k0 _ e.zone _ e.seat
     _ u.frame_states _ u.frames u.areas _ u.charges _
     c.with_killed_fresh-self-inside.ensures in
-    let took = subst (λ (x : ℕ × ℕ). Watches c.self.inside.watch (drop_steps x.0 x.1) c.returned.new.self)
-    (λ i. (c.number-cpu_number.ensures.number i, c.number-at.ensures i)) (watches_both _ _ _ _ _ c.watch_collected.ensures c.returned.ensures) in
+    let notes = dropped_notes g.N.BootName.frames _ _ c.collect_fresh-frame.result _ _ c.number-at.ensures c.number-cpu_number.ensures.number _ _ e.run c.watch_collected.ensures
+    _ c.make_step.ensures.notes in
+    let makes = makes_noted _ _ _ _ c.self.view_is _ _ _ _ all.steps _ notes in
     record {
       drops = drops_still _ _ _ _ _ _ all.drops;
-      visit = visits_still _ _ _ _ all.visit;
-      steps = makes_noted _ _ _ _ c.self.view_is _ _ _ _ all.steps _ took;
+      visit = visits_then _ _ _ _ c.requires.visit.shown makes (ap (λ (k : KnownCpu). k.number) e.cpu.2) (open_still _ _ _ _ all.visit);
+      steps = makes;
     }

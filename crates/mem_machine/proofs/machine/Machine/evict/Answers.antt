@@ -1,12 +1,13 @@
-use Rattle.std.proofs.Common.{ℕ, Some, None, subst}
+use Rattle.std.proofs.Common.{◌^◌, refl}
 use Rattle.mem_machine.proofs.Freeing.{unit_in_use, unit_charged}
-use Rattle.mem_machine.proofs.Releases.{read_head}
-use Rattle.mem_machine.proofs.Evicts.{missed_all, evicted_all}
-use Rattle.step_watch.specs.Watched.{Watches}
-use Rattle.step_watch.proofs.Watching.{watches_both}
-use Rattle.mem_machine.specs.Evicting.{evict_steps}
+use Rattle.step_rules.specs.declared.step.Action.TheVariants.{Freeze}
+use Rattle.step_rules.specs.declared.step.Answer.TheVariants.{Done, Missed}
+use Rattle.mem_machine.proofs.Releases.{notes_back, notes_of_zone, read_head, return_may}
+use Rattle.mem_machine.proofs.Evicts.{evicted_all, freeze_may, missed_all}
+use Rattle.mem_machine.proofs.AtTable.{held_at, made_at, may_at}
 use Rattle.mem_machine.proofs.Followed.{makes_noted}
-use Rattle.mem_machine.proofs.Watched.{consistent_still, misses_still, evicts_still, visits_still}
+use Rattle.mem_machine.proofs.Reached.{held_here, may_lead_all}
+use Rattle.mem_machine.proofs.Watched.{consistent_still, misses_still, evicts_still, open_still, visits_then}
 use Rattle.mem_machine.proofs.machine.Machine.evict.Goals as goal
 
 pub invariant_of-self : goal.invariant_of-self
@@ -16,16 +17,33 @@ invariant_of-self g c = record {
   free = c.self.invariant.free;
 }
 
-pub returns-then-not-freeze : goal.returns-then-not-freeze
-returns-then-not-freeze g c =
+pub freeze-requires-clause-held : goal.freeze-requires-clause-held
+freeze-requires-clause-held g c = held_at _ _ c.args.tables.now.frames_are _ (held_here g.N.BootName.frames _ _ c.self.view_is c.requires.shown.cpu c.requires.shown.is)
+
+pub freeze-requires-clause-legal : goal.freeze-requires-clause-legal
+freeze-requires-clause-legal g c =
+    may_at _ _ c.args.tables.now.frames_are 0 refl c.self.inside.past (Freeze c.args.head 1)
+    (freeze_may g.N.BootName.frames g.N.BootName.stocks _ _ c.self.view_is c.requires.shown.cpu c.requires.shown.is c.self.invariant.consistent c.args.head c.requires.frame
+    c.requires.kept).0.legal
+
+pub returns-then-not-freeze-clause-steps : goal.returns-then-not-freeze-clause-steps
+returns-then-not-freeze-clause-steps g c =
     let all = missed_all g.N.BootName.frames g.N.BootName.stocks _ _ c.self.view_is c.self.invariant.consistent c.args.head c.requires.frame c.requires.kept _
     c.if-not-freeze.ensures.answer _ c.with_miss-self-inside.ensures in
-    let took = subst (λ (x : ℕ). Watches c.self.inside.watch (evict_steps x None) c.missed.new.self) c.number-at.ensures c.missed.ensures in
-    record {
-      evicts = misses_still _ _ _ _ all.misses;
-      visit = λ cpu visit. visits_still _ _ _ _ (all.visit cpu visit);
-      steps = λ cpu. makes_noted _ _ _ _ c.self.view_is cpu cpu _ _ (all.steps cpu) _ took;
-    }
+    λ cpu. makes_noted _ _ _ _ c.self.view_is cpu cpu _ _ (all.steps cpu) _
+    (notes_of_zone g.N.BootName.frames _ _ c.args.head _ c.number-at.ensures (λ x. Freeze x 1) Missed
+    (made_at _ _ c.args.tables.now.frames_are 0 refl _ _ _ _ c.if-not-freeze.ensures.run) c.missed.ensures)
+
+pub returns-then-not-freeze-clause-visit : goal.returns-then-not-freeze-clause-visit
+returns-then-not-freeze-clause-visit g c =
+    let all = missed_all g.N.BootName.frames g.N.BootName.stocks _ _ c.self.view_is c.self.invariant.consistent c.args.head c.requires.frame c.requires.kept _
+    c.if-not-freeze.ensures.answer _ c.with_miss-self-inside.ensures in
+    λ cpu visit. visits_then _ _ _ _ visit.shown (returns-then-not-freeze-clause-steps g c cpu) refl (open_still _ _ _ _ (all.visit cpu visit))
+
+pub returns-then-not-freeze-clause-evicts : goal.returns-then-not-freeze-clause-evicts
+returns-then-not-freeze-clause-evicts g c =
+    misses_still _ _ _ _ (missed_all g.N.BootName.frames g.N.BootName.stocks _ _ c.self.view_is c.self.invariant.consistent c.args.head c.requires.frame c.requires.kept _
+    c.if-not-freeze.ensures.answer _ c.with_miss-self-inside.ensures).misses
 
 pub free_unit-requires-clause-in_use : goal.free_unit-requires-clause-in_use
 free_unit-requires-clause-in_use g c =
@@ -56,8 +74,23 @@ invariant_of-self-2 g c =
     c.with_freeze-self-inside.ensures c.frames-pages.ensures.frames in
     record { consistent = consistent_still _ _ _ _ all.consistent; free = all.free_is }
 
-pub returns : goal.returns
-returns g c =
+pub make_step-requires-clause-held : goal.make_step-requires-clause-held
+make_step-requires-clause-held g c = (made_at _ _ c.args.tables.now.frames_are 0 refl _ _ _ _ c.if-not-freeze.ensures.run).held
+
+pub make_step-requires-clause-legal : goal.make_step-requires-clause-legal
+make_step-requires-clause-legal g c =
+    let head = read_head g.N.BootName.frames g.N.BootName.stocks _ c.self.invariant.consistent c.args.head _ c.requires.frame c.number-at.ensures _ c.in-Head.unit
+    c.index.ensures c.in-Head.is in
+    let all = evicted_all g.N.BootName.frames g.N.BootName.stocks _ _ c.self.view_is c.self.invariant.consistent c.args.head _
+    c.requires.frame c.number-at.ensures c.requires.kept _ _ c.leave_list.ensures.leaves c.leave_list.ensures.lists.stand c.leave_list.ensures.frames
+    c.leave_list.ensures.lists.groups _ c.if-not-freeze.ensures.answer c.in-Head.unit head _ _ _ _ _ _ (2 ^ c.in-Head.unit.order) _ refl c.self.invariant.free
+    c.free_unit.ensures.frame_states c.free_unit.ensures.frames c.free_unit.ensures.areas c.free_unit.ensures.charges c.free_unit.ensures.usage refl refl in
+    return_may g.N.BootName.frames _ _ c.args.head _ c.number-at.ensures _ _
+    (may_lead_all g.N.BootName.frames _ _ c.self.view_is c.requires.shown.cpu c.requires.shown.is _ _ (all.steps c.requires.shown.cpu))
+    (made_at _ _ c.args.tables.now.frames_are 0 refl _ _ _ _ c.if-not-freeze.ensures.run)
+
+pub returns-clause-steps : goal.returns-clause-steps
+returns-clause-steps g c =
     let head = read_head g.N.BootName.frames g.N.BootName.stocks _ c.self.invariant.consistent c.args.head _ c.requires.frame c.number-at.ensures _ c.in-Head.unit
     c.index.ensures c.in-Head.is in
     let all = evicted_all g.N.BootName.frames g.N.BootName.stocks _ _ c.self.view_is c.self.invariant.consistent c.args.head _
@@ -65,10 +98,29 @@ returns g c =
     c.leave_list.ensures.lists.groups _ c.if-not-freeze.ensures.answer c.in-Head.unit head _ _ _ _ _ _ _ _ c.note_unit.ensures c.self.invariant.free c.free_unit.ensures.frame_states
     c.free_unit.ensures.frames c.free_unit.ensures.areas c.free_unit.ensures.charges c.free_unit.ensures.usage
     c.with_freeze-self-inside.ensures c.frames-pages.ensures.frames in
-    let took = subst (λ (x : ℕ). Watches c.self.inside.watch (evict_steps x (Some c.frames-pages.result)) c.returned.new.self)
-    c.number-at.ensures (watches_both _ _ _ _ _ c.froze.ensures c.returned.ensures) in
-    record {
-      evicts = evicts_still _ _ _ _ _ all.evicts;
-      visit = λ cpu visit. visits_still _ _ _ _ (all.visit cpu visit);
-      steps = λ cpu. makes_noted _ _ _ _ c.self.view_is cpu cpu _ _ (all.steps cpu) _ took;
-    }
+    λ cpu. makes_noted _ _ _ _ c.self.view_is cpu cpu _ _ (all.steps cpu) _
+    (notes_back g.N.BootName.frames _ _ c.args.head _ c.number-at.ensures (λ x. Freeze x 1) Done
+    (notes_of_zone g.N.BootName.frames _ _ c.args.head _ c.number-at.ensures (λ x. Freeze x 1) Done
+    (made_at _ _ c.args.tables.now.frames_are 0 refl _ _ _ _ c.if-not-freeze.ensures.run) c.froze.ensures) _ c.make_step.ensures.notes)
+
+pub returns-clause-visit : goal.returns-clause-visit
+returns-clause-visit g c =
+    let head = read_head g.N.BootName.frames g.N.BootName.stocks _ c.self.invariant.consistent c.args.head _ c.requires.frame c.number-at.ensures _ c.in-Head.unit
+    c.index.ensures c.in-Head.is in
+    let all = evicted_all g.N.BootName.frames g.N.BootName.stocks _ _ c.self.view_is c.self.invariant.consistent c.args.head _
+    c.requires.frame c.number-at.ensures c.requires.kept _ _ c.leave_list.ensures.leaves c.leave_list.ensures.lists.stand c.leave_list.ensures.frames
+    c.leave_list.ensures.lists.groups _ c.if-not-freeze.ensures.answer c.in-Head.unit head _ _ _ _ _ _ _ _ c.note_unit.ensures c.self.invariant.free c.free_unit.ensures.frame_states
+    c.free_unit.ensures.frames c.free_unit.ensures.areas c.free_unit.ensures.charges c.free_unit.ensures.usage
+    c.with_freeze-self-inside.ensures c.frames-pages.ensures.frames in
+    λ cpu visit. visits_then _ _ _ _ visit.shown (returns-clause-steps g c cpu) refl (open_still _ _ _ _ (all.visit cpu visit))
+
+pub returns-clause-evicts : goal.returns-clause-evicts
+returns-clause-evicts g c =
+    let head = read_head g.N.BootName.frames g.N.BootName.stocks _ c.self.invariant.consistent c.args.head _ c.requires.frame c.number-at.ensures _ c.in-Head.unit
+    c.index.ensures c.in-Head.is in
+    let all = evicted_all g.N.BootName.frames g.N.BootName.stocks _ _ c.self.view_is c.self.invariant.consistent c.args.head _
+    c.requires.frame c.number-at.ensures c.requires.kept _ _ c.leave_list.ensures.leaves c.leave_list.ensures.lists.stand c.leave_list.ensures.frames
+    c.leave_list.ensures.lists.groups _ c.if-not-freeze.ensures.answer c.in-Head.unit head _ _ _ _ _ _ _ _ c.note_unit.ensures c.self.invariant.free c.free_unit.ensures.frame_states
+    c.free_unit.ensures.frames c.free_unit.ensures.areas c.free_unit.ensures.charges c.free_unit.ensures.usage
+    c.with_freeze-self-inside.ensures c.frames-pages.ensures.frames in
+    evicts_still _ _ _ _ _ all.evicts

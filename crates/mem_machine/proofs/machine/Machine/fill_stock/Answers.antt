@@ -1,17 +1,59 @@
-use Rattle.std.proofs.Common.{ℕ, refl, sym, ◌∙◌, subst, rules}
+use Rattle.std.proofs.Common.{ℕ, refl, sym, ap, ◌∙◌, [], ◌∷◌, subst, rules}
 use Rattle.group_tree.specs.Room.{IsLowestOver}
 use Rattle.group_charge.specs.Charges.{current_of}
-use Rattle.mem_machine.proofs.Booking.{room_booked}
-use Rattle.mem_machine.proofs.Prepaying.{filled_all, refused_all}
+use Rattle.cpu_part.specs.Cpus.{KnownCpu}
+use Rattle.step_rules.specs.declared.step.Action.TheVariants.{Fill, Grant}
+use Rattle.step_rules.specs.declared.step.Answer.TheVariants.{Done, Granted}
 use Rattle.step_watch.specs.Watched.{Watches}
-use Rattle.step_watch.proofs.Watching.{watches_both}
 use Rattle.mem_machine.specs.Kept.{machine_of}
 use Rattle.mem_machine.specs.Machines.{KnownMachine}
+use Rattle.mem_machine.specs.Noted.{KnownRun}
 use Rattle.mem_machine.specs.Local.{visit_state}
-use Rattle.mem_machine.specs.Steps.{fill_steps, over_steps}
+use Rattle.mem_machine.specs.Steps.{over_steps, zone_makes}
+use Rattle.mem_machine.proofs.Booking.{room_booked}
 use Rattle.mem_machine.proofs.Followed.{LeadsAs, makes_noted}
-use Rattle.mem_machine.proofs.Watched.{consistent_still}
+use Rattle.mem_machine.proofs.GroupSteps.{still_visited}
+use Rattle.mem_machine.proofs.Noted.{notes_both, notes_one}
+use Rattle.mem_machine.proofs.Prepaying.{filled_all, granted_may, nothing_booked, refused_all}
+use Rattle.mem_machine.proofs.Reached.{held_here, may_lead, may_lead_all, who_here}
+use Rattle.mem_machine.proofs.Watched.{consistent_still, open_still, visits_then}
 use Rattle.mem_machine.proofs.machine.Machine.fill_stock.Goals as goal
+
+pub make_step-requires-clause-held : goal.make_step-requires-clause-held
+make_step-requires-clause-held g c = held_here g.N.BootName.frames _ _ c.self.view_is c.args.cpu.now c.requires.visit.shown
+
+pub make_step-requires-clause-legal : goal.make_step-requires-clause-legal
+make_step-requires-clause-legal g c =
+    let m = c.args.self.now in
+    let low : IsLowestOver m.ledger.groups (current_of m.ledger) c.args.group c.args.pages c.in-Err.over.group = search rules in
+    may_lead g.N.BootName.frames _ _ c.self.view_is c.args.cpu.now c.requires.visit.shown _ _ _
+    (refused_all g.N.BootName.frames g.N.BootName.stocks _ _ c.self.view_is c.args.cpu.now c.args.group c.args.pages c.in-Err.over.group c.self.invariant.consistent c.prove_charges.ensures.legal
+    c.number-cpu_number.ensures.tied c.requires.visit c.requires.none_fresh c.requires.charges.there c.requires.charges.alive low)
+
+pub make_step-requires-2-clause-held : goal.make_step-requires-2-clause-held
+make_step-requires-2-clause-held g c = held_here g.N.BootName.frames _ _ c.self.view_is c.args.cpu.now c.requires.visit.shown
+
+pub make_step-requires-2-clause-legal : goal.make_step-requires-2-clause-legal
+make_step-requires-2-clause-legal g c =
+    granted_may g.N.BootName.frames g.N.BootName.stocks _ _ c.self.view_is c.args.cpu.now c.args.group c.args.pages c.self.invariant.consistent c.prove_charges.ensures.legal
+    c.number-cpu_number.ensures.tied c.requires.visit c.requires.none_fresh c.requires.charges.there c.requires.charges.alive (c.in_default.ensures.granted.0 refl)
+
+pub fill-requires-clause-held : goal.fill-requires-clause-held
+fill-requires-clause-held g c = c.make_step-2.ensures.run.held
+
+pub fill-requires-clause-holder : goal.fill-requires-clause-holder
+fill-requires-clause-holder g c =
+    sym (c.make_step-2.ensures.run.cpu_grew.number ∙ who_here g.N.BootName.frames _ _ c.self.view_is c.args.cpu.now c.requires.visit.shown)
+
+-- the fill is the second step, legal because nothing is booked for the CPU
+pub fill-requires-clause-legal : goal.fill-requires-clause-legal
+fill-requires-clause-legal g c =
+    let all = filled_all g.N.BootName.frames g.N.BootName.stocks _ _ c.args.cpu.now c.args.group c.args.pages c.self.view_is c.self.invariant.consistent c.prove_charges.ensures.legal
+    c.number-cpu_number.ensures.tied c.requires.visit c.requires.none_fresh c.requires.pages.1 c.requires.charges.there c.requires.charges.alive
+    (nothing_booked g.N.BootName.frames g.N.BootName.stocks _ _ c.self.view_is c.args.cpu.now c.requires.visit.shown c.self.invariant.consistent
+    c.requires.none_fresh c.requires.drained) (c.in_default.ensures.granted.0 refl)
+    _ _ _ _ refl c.in_default.ensures.charged refl refl in
+    ((may_lead_all g.N.BootName.frames _ _ c.self.view_is c.args.cpu.now c.requires.visit.shown _ _ all.steps).1 _ c.make_step-2.ensures.run).0.legal
 
 pub fill-requires-clause-fits : goal.fill-requires-clause-fits
 fill-requires-clause-fits g c =
@@ -33,9 +75,22 @@ returns-clause-steps g c =
     c.number-cpu_number.ensures.tied c.requires.visit c.requires.none_fresh c.requires.pages.1 c.requires.charges.there c.requires.charges.alive
     c.fill.ensures.nothing_booked (c.in_default.ensures.granted.0 refl)
     _ _ _ _ refl c.in_default.ensures.charged c.fill.ensures.seat c.fill.ensures.cpu in
+    let first : KnownRun = record { past = c.self.inside.past; watch = c.self.inside.watch } in
+    let granted : KnownRun = record { past = c.make_step-2.new.past; watch = c.make_step-2.new.watch } in
+    let filled : KnownRun = record { past = c.fill.new.held; watch = c.filled.new.self } in
+    let watched = subst (λ (n : ℕ). Watches granted.watch (zone_makes (Fill n c.args.group c.args.pages) Done ∷ []) filled.watch)
+    c.number-cpu_number.ensures.number c.filled.ensures in
+    let took = notes_one g.N.BootName.frames granted (zone_makes (Fill c.args.cpu.now.number c.args.group c.args.pages) Done) filled c.fill.ensures.run watched in
     makes_noted _ _ _ _ c.self.view_is _ _ _ _ all.steps _
-    (subst (λ (n : ℕ). Watches c.self.inside.watch (fill_steps n c.args.group c.args.pages) c.filled.new.self) c.number-cpu_number.ensures.number
-    (watches_both _ _ _ _ _ c.granted.ensures c.filled.ensures))
+    (notes_both g.N.BootName.frames first (zone_makes (Grant c.args.group c.args.pages) Granted ∷ []) granted _ filled c.make_step-2.ensures.notes took)
+
+pub returns-clause-visit : goal.returns-clause-visit
+returns-clause-visit g c =
+    let all = filled_all g.N.BootName.frames g.N.BootName.stocks _ _ c.args.cpu.now c.args.group c.args.pages c.self.view_is c.self.invariant.consistent c.prove_charges.ensures.legal
+    c.number-cpu_number.ensures.tied c.requires.visit c.requires.none_fresh c.requires.pages.1 c.requires.charges.there c.requires.charges.alive
+    c.fill.ensures.nothing_booked (c.in_default.ensures.granted.0 refl)
+    _ _ _ _ refl c.in_default.ensures.charged c.fill.ensures.seat c.fill.ensures.cpu in
+    visits_then _ _ _ _ c.requires.visit.shown (returns-clause-steps g c) (ap (λ (x : KnownCpu). x.number) c.fill.ensures.cpu) (open_still _ _ _ _ all.visit)
 
 pub returns-in-Err-clause-refused : goal.returns-in-Err-clause-refused
 returns-in-Err-clause-refused g c =
@@ -46,9 +101,12 @@ returns-in-Err-clause-refused g c =
     let same = (λ i. record (machine_of c.self.inside) { ledger = c.in-Err.ensures.unchanged i }) ∙ c.self.view_is in
     let refused = subst (λ (x : KnownMachine). LeadsAs t c.args.cpu.now.number (visit_state m c.args.cpu.now) (over_steps c.args.group c.args.pages over)
     (visit_state x c.args.cpu.now)) (sym same)
-    (refused_all t g.N.BootName.stocks _ _ c.self.view_is c.args.cpu.now c.args.group c.args.pages over c.self.invariant.consistent c.prove_charges.ensures.legal
+    (refused_all g.N.BootName.frames g.N.BootName.stocks _ _ c.self.view_is c.args.cpu.now c.args.group c.args.pages c.in-Err.over.group c.self.invariant.consistent c.prove_charges.ensures.legal
     c.number-cpu_number.ensures.tied c.requires.visit c.requires.none_fresh c.requires.charges.there c.requires.charges.alive low) in
-    makes_noted _ _ _ _ c.self.view_is _ _ _ _ refused _ c.refused.ensures
+    makes_noted _ _ _ _ c.self.view_is _ _ _ _ refused _ c.make_step.ensures.notes
+
+pub returns-in-Err-clause-visit : goal.returns-in-Err-clause-visit
+returns-in-Err-clause-visit g c = still_visited g.N.BootName.frames _ _ c.self.view_is _ refl c.args.cpu.now _ c.requires.visit (returns-in-Err-clause-refused g c)
 
 pub invariant_of-self : goal.invariant_of-self
 invariant_of-self g c = search rules

@@ -1,11 +1,25 @@
-use Rattle.std.proofs.Common.{◌≡◌, ℕ, ◌<◌, rules, subst}
-use Rattle.mem_machine.proofs.Fresh.{keep_all, was_fresh, in_hand_then}
-use Rattle.step_watch.specs.Watched.{Watches}
-use Rattle.step_watch.proofs.Watching.{watches_both}
-use Rattle.mem_machine.specs.Settling.{keep_steps}
+use Rattle.std.proofs.Common.{◌≡◌, ◌<◌, rules, ap}
+use Rattle.cpu_part.specs.Cpus.{KnownCpu}
+use Rattle.mem_machine.proofs.Fresh.{keep_all, was_fresh, in_hand_then, may_collect_kept, may_unfreeze, may_publish, kept_notes}
 use Rattle.mem_machine.proofs.Followed.{makes_noted}
-use Rattle.mem_machine.proofs.Watched.{consistent_still, keeps_still, visits_still}
+use Rattle.mem_machine.proofs.Watched.{consistent_still, keeps_still, open_still, visits_then}
 use Rattle.mem_machine.proofs.machine.Machine.keep_one.Goals as goal
+
+pub collect_fresh-frame-requires-clause-legal : goal.collect_fresh-frame-requires-clause-legal
+collect_fresh-frame-requires-clause-legal g c =
+    may_collect_kept g.N.BootName.frames g.N.BootName.stocks _ _ c.self.view_is c.args.cpu.now c.number-cpu_number.ensures.tied c.self.invariant.consistent c.requires.visit
+
+pub unfreeze-requires-clause-legal : goal.unfreeze-requires-clause-legal
+unfreeze-requires-clause-legal g c =
+    let e = c.collect_fresh-frame.ensures in
+    may_unfreeze g.N.BootName.frames g.N.BootName.stocks _ _ c.self.view_is c.args.cpu.now c.number-cpu_number.ensures.tied c.self.invariant.consistent c.requires.visit
+    c.collect_fresh-frame.result e.cpu.0 e.cpu.1 _ c.args.tables.now.frames_are _ e.run
+
+pub make_step-requires-clause-legal : goal.make_step-requires-clause-legal
+make_step-requires-clause-legal g c =
+    let e = c.collect_fresh-frame.ensures in
+    may_publish g.N.BootName.frames g.N.BootName.stocks _ _ c.self.view_is c.args.cpu.now c.number-cpu_number.ensures.tied c.self.invariant.consistent c.requires.visit
+    c.collect_fresh-frame.result e.cpu.0 e.cpu.1 _ c.args.tables.now.frames_are _ c.number-at.ensures _ _ e.run c.unfreeze.ensures.run
 
 pub unfreeze-requires-clause-hand : goal.unfreeze-requires-clause-hand
 unfreeze-requires-clause-hand g c = in_hand_then _ _ _ _ c.collect_fresh-frame.ensures.zone
@@ -36,10 +50,11 @@ returns g c =
     c.requires.visit _ c.self.invariant.free _ c.args.group was e.cpu _ c.unwrap-order.result c.number-at.ensures k0 _ _
     e.zone c.unfreeze.ensures.seat _ e.seat _ _
     (record { joins = a.joins; stand = a.lists.stand; frames = a.frames; groups = a.lists.groups }) in
-    let took = subst (λ (x : ℕ × ℕ). Watches c.self.inside.watch (keep_steps x.0 x.1) c.published.new.self)
-    (λ i. (c.number-cpu_number.ensures.number i, c.number-at.ensures i)) (watches_both _ _ _ _ _ c.watch_collected.ensures (watches_both _ _ _ _ _ c.unfroze.ensures c.published.ensures)) in
+    let notes = kept_notes g.N.BootName.frames _ _ c.collect_fresh-frame.result _ _ c.number-at.ensures c.number-cpu_number.ensures.number _ _ e.run c.watch_collected.ensures
+    _ c.args.tables.now.frames_are _ _ _ c.unfreeze.ensures.run c.unfroze.ensures c.make_step.ensures.notes in
+    let makes = makes_noted _ _ _ _ c.self.view_is _ _ _ _ all.steps _ notes in
     record {
       keeps = keeps_still _ _ _ _ _ _ all.keeps;
-      visit = visits_still _ _ _ _ all.visit;
-      steps = makes_noted _ _ _ _ c.self.view_is _ _ _ _ all.steps _ took;
+      visit = visits_then _ _ _ _ c.requires.visit.shown makes (ap (λ (k : KnownCpu). k.number) e.cpu.2) (open_still _ _ _ _ all.visit);
+      steps = makes;
     }

@@ -1,11 +1,14 @@
-use Rattle.std.proofs.Common.{ℕ, subst}
-use Rattle.mem_machine.proofs.Lends.{passes_to, lent_to_it}
+use Rattle.std.proofs.Common.{◌≡◌, ap, ◌∙◌}
+use Rattle.mem_machine.specs.declared.frame_state.FrameState.TheVariants.{Free}
+use Rattle.mem_machine.specs.FrameStates.{frame_state_at}
+use Rattle.mem_machine.specs.Machines.{KnownMachine}
+use Rattle.mem_machine.proofs.Lends.{passes_to, lent_to_it, lent_notes, may_pass_out, may_take_in}
+use Rattle.cpu_part.specs.Cpus.{KnownCpu}
+use Rattle.mem_machine.proofs.Holder.{held_at, held_then, holder_here, holder_then}
+use Rattle.mem_machine.proofs.Reached.{held_here}
 use Rattle.mem_machine.proofs.GivenFrames.{given_all, given_free, given_hand}
-use Rattle.step_watch.specs.Watched.{Watches}
-use Rattle.step_watch.proofs.Watching.{watches_both}
-use Rattle.mem_machine.specs.Steps.{lend_steps}
 use Rattle.mem_machine.proofs.Followed.{makes_noted}
-use Rattle.mem_machine.proofs.Watched.{consistent_still, lends_still, visits_still}
+use Rattle.mem_machine.proofs.Watched.{consistent_still, lends_still, open_still, visits_then}
 use Rattle.mem_machine.proofs.machine.Machine.lend.Goals as goal
 
 pub take_frame-requires : goal.take_frame-requires
@@ -16,6 +19,28 @@ take_frame-requires g c =
 pub pass_out-requires-clause-hand : goal.pass_out-requires-clause-hand
 pass_out-requires-clause-hand g c =
     given_hand g.N.BootName.frames g.N.BootName.stocks _ _ c.self.view_is c.self.invariant.consistent _ c.requires.frame c.requires.free
+
+pub pass_out-requires-clause-held : goal.pass_out-requires-clause-held
+pass_out-requires-clause-held g c = held_at _ _ c.args.tables.now.frames_are _
+    (held_here g.N.BootName.frames _ _ c.self.view_is c.args.cpu.now c.requires.visit.shown)
+
+pub pass_out-requires-clause-legal : goal.pass_out-requires-clause-legal
+pass_out-requires-clause-legal g c =
+    let free : frame_state_at c.self.inside.frame_states.items c.args.frame ≡ Free = ap (λ (x : KnownMachine). frame_state_at x.frame_states c.args.frame) c.self.view_is ∙ c.requires.free in
+    may_pass_out g.N.BootName.frames g.N.BootName.stocks _ _ c.self.view_is _ c.args.tables.now.frames_are c.args.cpu.now c.args.frame _ c.number-cpu_number.ensures.number
+    c.number-cpu_number.ensures.tied c.self.invariant.consistent c.requires.visit c.requires.frame free
+
+pub take_in-requires-clause-held : goal.take_in-requires-clause-held
+take_in-requires-clause-held g c = held_then _ _ c.args.tables.now.frames_are _ _ _ _ _ c.pass_out.ensures.run
+
+pub take_in-requires-clause-holder : goal.take_in-requires-clause-holder
+take_in-requires-clause-holder g c = holder_then _ _ _ _ _ _ _ c.pass_out.ensures.run (holder_here g.N.BootName.frames _ _ c.self.view_is c.args.cpu.now c.requires.visit.shown)
+
+pub take_in-requires-clause-legal : goal.take_in-requires-clause-legal
+take_in-requires-clause-legal g c =
+    let free : frame_state_at c.self.inside.frame_states.items c.args.frame ≡ Free = ap (λ (x : KnownMachine). frame_state_at x.frame_states c.args.frame) c.self.view_is ∙ c.requires.free in
+    may_take_in g.N.BootName.frames g.N.BootName.stocks _ _ c.self.view_is _ c.args.tables.now.frames_are c.args.cpu.now c.args.frame _ c.number-cpu_number.ensures.number
+    c.number-cpu_number.ensures.tied c.self.invariant.consistent c.requires.visit c.requires.frame free _ c.pass_out.ensures.run
 
 pub take_in-requires-clause-passes : goal.take_in-requires-clause-passes
 take_in-requires-clause-passes g c =
@@ -37,11 +62,11 @@ returns g c =
     let all = given_all g.N.BootName.frames g.N.BootName.stocks _ _ c.self.view_is c.args.cpu.now _ c.number-cpu_number.ensures.tied c.self.invariant.consistent c.requires.visit
     _ _ _ c.args.frame _ c.number-cpu_number.result _ _ c.self.invariant.free c.requires.frame c.requires.free c.take_frame.ensures.frames c.take_frame.ensures.areas
     c.number-given.ensures c.number-cpu_number.ensures.number c.pass_out.ensures.zone c.take_in.ensures.zone c.take_in.ensures.cpu c.take_in.ensures.nothing.1.1 in
-    let took = subst (λ (x : ℕ × ℕ). Watches c.self.inside.watch (lend_steps x.0 x.1) c.took_in.new.self)
-    (λ i. (c.number-cpu_number.ensures.number i, c.number-given.ensures i))
-    (watches_both _ _ _ _ _ c.passed_out.ensures c.took_in.ensures) in
+    let notes = lent_notes g.N.BootName.frames g.N.BootName.stocks _ _ c.self.view_is _ c.args.tables.now.frames_are c.args.cpu.now c.args.frame _ c.number-cpu_number.ensures.number _ c.number-given.ensures _ _ _ _
+    c.pass_out.ensures.run c.take_in.ensures.run c.passed_out.ensures c.took_in.ensures in
+    let makes = makes_noted _ _ _ _ c.self.view_is _ _ _ _ all.steps _ notes in
     record {
       lends = lends_still _ _ _ _ _ all.lends;
-      visit = visits_still _ _ _ _ all.visit;
-      steps = makes_noted _ _ _ _ c.self.view_is _ _ _ _ all.steps _ took;
+      visit = visits_then _ _ _ _ c.requires.visit.shown makes (ap (λ (e : KnownCpu). e.number) c.take_in.ensures.cpu) (open_still _ _ _ _ all.visit);
+      steps = makes;
     }

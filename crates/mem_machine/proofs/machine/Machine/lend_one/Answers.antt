@@ -1,11 +1,12 @@
-use Rattle.std.proofs.Common.{◌≡◌, ℕ, ◌<◌, ◌≤◌, rules, ap, subst, arith}
+use Rattle.std.proofs.Common.{◌≡◌, ◌<◌, ◌≤◌, rules, ap, ◌∙◌, arith}
 use Rattle.zone_blocks.specs.Zone.{BuddyZone}
-use Rattle.mem_machine.proofs.Lends.{lend_all, lent_to_none, block_inside, zone_hand, passes_to, lent_to_it}
-use Rattle.step_watch.specs.Watched.{Watches}
-use Rattle.step_watch.proofs.Watching.{watches_both}
-use Rattle.mem_machine.specs.Steps.{lend_steps}
+use Rattle.cpu_part.specs.Cpus.{KnownCpu}
+use Rattle.mem_machine.specs.FrameStates.{frame_state_at}
+use Rattle.mem_machine.proofs.Lends.{lend_all, lent_to_none, block_inside, zone_hand, passes_to, lent_to_it, lent_notes, may_pass_out, may_take_in}
+use Rattle.mem_machine.proofs.Holder.{held_at, held_then, holder_here, holder_then}
+use Rattle.mem_machine.proofs.Reached.{held_here}
 use Rattle.mem_machine.proofs.Followed.{makes_noted}
-use Rattle.mem_machine.proofs.Watched.{consistent_still, lends_one_still, visits_still}
+use Rattle.mem_machine.proofs.Watched.{consistent_still, lends_one_still, open_still, visits_then}
 use Rattle.mem_machine.proofs.machine.Machine.lend_one.Goals as goal
 
 pub returns-in_default-clause-lends : goal.returns-in_default-clause-lends
@@ -18,6 +19,34 @@ pass_out-requires-clause-hand g c =
     let k0 : c.unwrap.result ≡ 0 = search rules in
     let there = block_inside _ _ _ _ c.unwrap.result c.in-Some.block c.self.invariant.free k0 c.in-Some.ensures.taken c.in-Some.ensures.frames in
     zone_hand _ _ _ c.self.invariant.consistent _ _ there.0 there.1 c.in-Some-frame.ensures.0
+
+pub pass_out-requires-clause-held : goal.pass_out-requires-clause-held
+pass_out-requires-clause-held g c = held_at _ _ c.args.tables.now.frames_are _
+    (held_here g.N.BootName.frames _ _ c.self.view_is c.args.cpu.now c.requires.visit.shown)
+
+pub pass_out-requires-clause-legal : goal.pass_out-requires-clause-legal
+pass_out-requires-clause-legal g c =
+    let k0 : c.unwrap.result ≡ 0 = search rules in
+    let there = block_inside _ _ _ _ c.unwrap.result c.in-Some.block c.self.invariant.free k0 c.in-Some.ensures.taken c.in-Some.ensures.frames in
+    let inside : c.in-Some-frame.frame < g.N.BootName.frames.frames = search rules in
+    may_pass_out g.N.BootName.frames g.N.BootName.stocks _ _ c.self.view_is _ c.args.tables.now.frames_are c.args.cpu.now c.in-Some-frame.frame _
+    c.number-cpu_number.ensures.number c.number-cpu_number.ensures.tied c.self.invariant.consistent c.requires.visit inside
+    (ap (frame_state_at _) c.in-Some-frame.ensures.0 ∙ there.1)
+
+pub take_in-requires-clause-held : goal.take_in-requires-clause-held
+take_in-requires-clause-held g c = held_then _ _ c.args.tables.now.frames_are _ _ _ _ _ c.pass_out.ensures.run
+
+pub take_in-requires-clause-holder : goal.take_in-requires-clause-holder
+take_in-requires-clause-holder g c = holder_then _ _ _ _ _ _ _ c.pass_out.ensures.run (holder_here g.N.BootName.frames _ _ c.self.view_is c.args.cpu.now c.requires.visit.shown)
+
+pub take_in-requires-clause-legal : goal.take_in-requires-clause-legal
+take_in-requires-clause-legal g c =
+    let k0 : c.unwrap.result ≡ 0 = search rules in
+    let there = block_inside _ _ _ _ c.unwrap.result c.in-Some.block c.self.invariant.free k0 c.in-Some.ensures.taken c.in-Some.ensures.frames in
+    let inside : c.in-Some-frame.frame < g.N.BootName.frames.frames = search rules in
+    may_take_in g.N.BootName.frames g.N.BootName.stocks _ _ c.self.view_is _ c.args.tables.now.frames_are c.args.cpu.now c.in-Some-frame.frame _
+    c.number-cpu_number.ensures.number c.number-cpu_number.ensures.tied c.self.invariant.consistent c.requires.visit inside
+    (ap (frame_state_at _) c.in-Some-frame.ensures.0 ∙ there.1) _ c.pass_out.ensures.run
 
 pub take_in-requires-clause-passes : goal.take_in-requires-clause-passes
 take_in-requires-clause-passes g c =
@@ -45,16 +74,16 @@ returns g c =
     c.unwrap.result c.in-Some.block _ c.in-Some-frame.frame _ c.number-cpu_number.result _ _ c.self.invariant.free k0 c.in-Some.ensures.taken c.in-Some.ensures.frames
     c.in-Some.ensures.areas c.in-Some-frame.ensures.0 c.number-at.ensures c.number-cpu_number.ensures.number c.pass_out.ensures.zone c.take_in.ensures.zone
     c.take_in.ensures.cpu c.take_in.ensures.nothing.1.1 in
-    let took = subst (λ (x : ℕ × ℕ). Watches c.self.inside.watch (lend_steps x.0 x.1) c.took_in.new.self)
-    (λ i. (c.number-cpu_number.ensures.number i, c.number-at.ensures i))
-    (watches_both _ _ _ _ _ c.passed_out.ensures c.took_in.ensures) in
+    let notes = lent_notes g.N.BootName.frames g.N.BootName.stocks _ _ c.self.view_is _ c.args.tables.now.frames_are c.args.cpu.now c.in-Some-frame.frame _
+    c.number-cpu_number.ensures.number _ c.number-at.ensures _ _ _ _ c.pass_out.ensures.run c.take_in.ensures.run c.passed_out.ensures c.took_in.ensures in
+    let makes = makes_noted _ _ _ _ c.self.view_is _ _ _ _ all.steps _ notes in
     record {
       lends = record {
         frame = c.in-Some-frame.frame;
         lends = lends_one_still _ _ _ _ _ all.lends;
-        steps = makes_noted _ _ _ _ c.self.view_is _ _ _ _ all.steps _ took;
+        steps = makes;
       };
-      visit = visits_still _ _ _ _ all.visit;
+      visit = visits_then _ _ _ _ c.requires.visit.shown makes (ap (λ (e : KnownCpu). e.number) c.take_in.ensures.cpu) (open_still _ _ _ _ all.visit);
     }
 
 pub unreachable-requires : goal.unreachable-requires

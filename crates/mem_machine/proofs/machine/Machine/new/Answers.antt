@@ -1,14 +1,21 @@
-use Rattle.std.proofs.Common.{◌≡◌, refl, rules, ◌∙◌}
-use Rattle.mem_machine.proofs.First.{starts, first_is}
+use Rattle.std.proofs.Common.{◌≡◌, refl, rules, ap, sym, ◌∙◌}
+use Rattle.frame_word.specs.Seats.{KnownTable}
+use Rattle.stock_word.specs.Stock.{KnownStockTable, first_zone_stock_view}
+use Rattle.boot_words.specs.declared.seat.OwnSeats.{OwnSeats}
+use Rattle.mem_machine.proofs.First.{starts, first_is, rests_first}
 use Rattle.mem_machine.proofs.machine.Machine.new.Goals as goal
 
 pub invariant_of-result : goal.invariant_of-result
 invariant_of-result g c =
     let sized : c.frames.result ≡ g.N.BootName.frames.frames = search rules in
+    let same_table : g.N.BootName.frames.table ≡ g.N.BootName.stocks.table =
+    sym (ap (λ (u : KnownTable). u.table) c.args.tables.now.frames_are) ∙ ap (λ (u : KnownStockTable). u.table) c.args.tables.now.stocks_are in
+    let stock = ap (λ (s : OwnSeats). s.stocks) c.requires.seats
+    ∙ (λ i. record { table = same_table i; view = first_zone_stock_view }) in
     let kept = starts g.N.BootName.frames g.N.BootName.stocks _ _ c.frames.result
     (first_is g.N.BootName.frames g.N.BootName.stocks _ c.frames.result sized c.in_ok-zone.ensures.frame_states c.in_ok-charges.ensures.charges
     c.in_ok-zone.ensures.nowhere
-    c.requires.frame_seat (c.new-2.ensures ∙ c.requires.stock_seat) c.in_ok-charges.ensures.killed refl c.in_ok-notes.ensures)
+    (ap (λ (s : OwnSeats). s.frames) c.requires.seats) (c.new-2.ensures ∙ stock) c.in_ok-charges.ensures.killed refl c.in_ok-notes.ensures)
     sized c.in_ok-zone.ensures.frames c.in_ok-charges.ensures.lists c.in_ok-zone.ensures.free
     c.in_ok-zone.ensures.areas c.requires.cpus in
     record { consistent = kept.0; free = kept.1 }
@@ -16,6 +23,14 @@ invariant_of-result g c =
 pub returns-clause-first : goal.returns-clause-first
 returns-clause-first g c =
     let sized : c.frames.result ≡ g.N.BootName.frames.frames = search rules in
+    let same_table : g.N.BootName.frames.table ≡ g.N.BootName.stocks.table =
+    sym (ap (λ (u : KnownTable). u.table) c.args.tables.now.frames_are) ∙ ap (λ (u : KnownStockTable). u.table) c.args.tables.now.stocks_are in
+    let stock = ap (λ (s : OwnSeats). s.stocks) c.requires.seats
+    ∙ (λ i. record { table = same_table i; view = first_zone_stock_view }) in
     first_is g.N.BootName.frames g.N.BootName.stocks _ c.frames.result sized c.in_ok-zone.ensures.frame_states c.in_ok-charges.ensures.charges
     c.in_ok-zone.ensures.nowhere
-    c.requires.frame_seat (c.new-2.ensures ∙ c.requires.stock_seat) c.in_ok-charges.ensures.killed refl c.in_ok-notes.ensures
+    (ap (λ (s : OwnSeats). s.frames) c.requires.seats) (c.new-2.ensures ∙ stock) c.in_ok-charges.ensures.killed refl c.in_ok-notes.ensures
+
+pub returns-clause-rests : goal.returns-clause-rests
+returns-clause-rests g c =
+    rests_first g.N.BootName.frames g.N.BootName.stocks _ (returns-clause-first g c) (ap (λ (s : OwnSeats). s.past) c.requires.seats)

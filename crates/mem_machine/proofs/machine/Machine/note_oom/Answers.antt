@@ -1,12 +1,23 @@
-use Rattle.std.proofs.Common.{rules}
+use Rattle.std.proofs.Common.{◌≡◌, refl, rules}
 use Rattle.mem_machine.proofs.GroupSteps.{notes_oom}
 use Rattle.mem_machine.proofs.Followed.{makes_noted}
+use Rattle.mem_machine.proofs.Reached.{held_here, may_lead}
+use Rattle.mem_machine.proofs.Watched.{stays_then}
 use Rattle.mem_machine.proofs.machine.Machine.note_oom.Goals as goal
 
+pub make_step-requires-clause-held : goal.make_step-requires-clause-held
+make_step-requires-clause-held g c = held_here g.N.BootName.frames _ _ c.self.view_is c.requires.shown.cpu c.requires.shown.is
+
+pub make_step-requires-clause-legal : goal.make_step-requires-clause-legal
+make_step-requires-clause-legal g c = may_lead g.N.BootName.frames _ _ c.self.view_is c.requires.shown.cpu c.requires.shown.is _ _ _
+    (notes_oom g.N.BootName.frames _ _ c.self.view_is c.args.group c.requires.there _ c.note_oom.ensures.noted c.note_oom.ensures.counts c.note_oom.ensures.peaks c.requires.shown.cpu)
+
 pub returns-clause-steps : goal.returns-clause-steps
-returns-clause-steps g c =
-    λ cpu. makes_noted _ _ _ _ c.self.view_is cpu cpu _ _
-    (notes_oom g.N.BootName.frames _ _ c.self.view_is c.args.group c.requires _ c.note_oom.ensures.noted c.note_oom.ensures.counts c.note_oom.ensures.peaks cpu) _ c.zone_made.ensures
+returns-clause-steps g c = λ cpu. makes_noted _ _ _ _ c.self.view_is cpu cpu _ _
+    (notes_oom g.N.BootName.frames _ _ c.self.view_is c.args.group c.requires.there _ c.note_oom.ensures.noted c.note_oom.ensures.counts c.note_oom.ensures.peaks cpu) _ c.make_step.ensures.notes
+
+pub returns-clause-visit : goal.returns-clause-visit
+returns-clause-visit g c = stays_then g.N.BootName.frames _ _ c.self.view_is _ refl _ (returns-clause-steps g c)
 
 pub invariant_of-self : goal.invariant_of-self
 invariant_of-self g c = search rules

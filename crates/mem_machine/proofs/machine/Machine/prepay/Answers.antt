@@ -3,6 +3,7 @@ use Rattle.group_charge.specs.Charges.{current_of}
 use Rattle.stock_word.specs.Stock.{account_of}
 use Rattle.cpu_part.specs.Cpus.{KnownCpu}
 use Rattle.mem_machine.specs.Machines.{KnownMachine}
+use Rattle.mem_machine.specs.Local.{Visits, visit_state}
 use Rattle.mem_machine.proofs.Prepaying.{emptied_fits, emptied_drained, emptied_whole, prepays, prepay_runs, is_refused, refused_runs, on_ok_both, if_err_both}
 use Rattle.mem_machine.proofs.machine.Machine.prepay.Goals as goal
 
@@ -64,3 +65,17 @@ returns-clause-refused g c =
     (λ e same low run. refused_runs _ _ _ _ _ number drains g.N.BootName.frames c.args.cpu.now refl whole steps _ _ c.look_at_stock-emptied.ensures.machine
     c.look_at_stock-emptied.ensures.cpu c.args.group c.args.pages _ _ e.group same.machine same.cpu run)
     c.fill_stock.ensures.unchanged c.fill_stock.ensures.over c.fill_stock.ensures.refused
+
+pub drain_stock-requires-clause-shown : goal.drain_stock-requires-clause-shown
+drain_stock-requires-clause-shown g c = record { cpu = c.args.cpu.now; is = c.requires.visit.shown }
+
+pub fill_stock-requires-clause-visit : goal.fill_stock-requires-clause-visit
+fill_stock-requires-clause-visit g c =
+    let visit = c.drain_stock.ensures.visit c.args.cpu.now c.requires.visit in
+    subst (λ (z : KnownMachine × KnownCpu). Visits g.N.BootName.frames (visit_state z.0 z.1))
+    (λ i. (sym c.look_at_stock-emptied.ensures.machine i, sym c.look_at_stock-emptied.ensures.cpu i)) (record {
+      is_open = visit.is_open;
+      still = visit.still;
+      lent = visit.lent;
+      shown = record { held = visit.shown.held; who = visit.shown.who; here = visit.shown.here };
+    })

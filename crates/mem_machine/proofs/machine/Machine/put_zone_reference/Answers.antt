@@ -1,12 +1,12 @@
-use Rattle.std.proofs.Common.{ℕ, rules, subst}
+use Rattle.std.proofs.Common.{inl, refl, rules}
 use Rattle.mem_machine.proofs.Freeing.{unit_in_use, unit_charged}
-use Rattle.mem_machine.proofs.Releases.{left_all, read_head, returned_all}
-use Rattle.step_watch.specs.Watched.{Watches}
-use Rattle.step_watch.proofs.Watching.{watches_both}
-use Rattle.mem_machine.specs.declared.releasing.Released.TheVariants.{Left, Returned}
-use Rattle.mem_machine.specs.Releasing.{release_steps}
+use Rattle.step_rules.specs.declared.step.Action.TheVariants.{Put}
+use Rattle.step_rules.specs.declared.step.Answer.TheVariants.{Last, Left}
+use Rattle.mem_machine.proofs.Releases.{left_all, notes_back, notes_of_zone, put_may, read_head, return_may, returned_all}
+use Rattle.mem_machine.proofs.AtTable.{held_at, made_at, may_at}
 use Rattle.mem_machine.proofs.Followed.{makes_noted}
-use Rattle.mem_machine.proofs.Watched.{consistent_still, returned_still, visits_still}
+use Rattle.mem_machine.proofs.Reached.{held_here, may_lead_all}
+use Rattle.mem_machine.proofs.Watched.{consistent_still, open_still, returned_still, visits_then}
 use Rattle.mem_machine.proofs.machine.Machine.put_zone_reference.Goals as goal
 
 pub free_unit-requires-clause-in_use : goal.free_unit-requires-clause-in_use
@@ -35,18 +35,37 @@ invariant_of-self g c = record {
   free = c.self.invariant.free;
 }
 
-pub returns-in-Left : goal.returns-in-Left
-returns-in-Left g c =
+pub put_held-requires-clause-held : goal.put_held-requires-clause-held
+put_held-requires-clause-held g c =
+    held_at _ _ c.args.tables.now.frames_are _ (held_here g.N.BootName.frames _ _ c.self.view_is c.requires.shown.cpu c.requires.shown.is)
+
+pub put_held-requires-clause-number : goal.put_held-requires-clause-number
+put_held-requires-clause-number g c = inl c.self.invariant.consistent.seats.frames.1
+
+pub put_held-requires-clause-legal : goal.put_held-requires-clause-legal
+put_held-requires-clause-legal g c =
+    may_at _ _ c.args.tables.now.frames_are _ c.self.invariant.consistent.seats.frames.1 c.self.inside.past (Put c.args.head)
+    (put_may g.N.BootName.frames g.N.BootName.stocks _ _ c.self.view_is c.requires.shown.cpu c.requires.shown.is c.self.invariant.consistent c.args.head c.requires.frame
+    c.requires.kept).0.legal
+
+pub returns-in-Left-clause-releases : goal.returns-in-Left-clause-releases
+returns-in-Left-clause-releases g c = search rules
+
+pub returns-in-Left-clause-steps : goal.returns-in-Left-clause-steps
+returns-in-Left-clause-steps g c =
     let all = left_all g.N.BootName.frames g.N.BootName.stocks _ _ c.self.view_is c.self.invariant.consistent c.args.head _
     c.requires.frame c.number-at.ensures c.requires.kept _ _ c.leave_list.ensures.leaves c.leave_list.ensures.lists.stand c.leave_list.ensures.frames
     c.leave_list.ensures.lists.groups c.in-Left.left _ c.in-Left.ensures.answer.2 in
-    let took = subst (λ (x : ℕ). Watches c.self.inside.watch (release_steps x (Left c.in-Left.left)) c.put_left.new.self)
-    c.number-at.ensures c.put_left.ensures in
-    record {
-      releases = search rules;
-      visit = λ cpu visit. visits_still _ _ _ _ (all.visit cpu visit);
-      steps = λ cpu. makes_noted _ _ _ _ c.self.view_is cpu cpu _ _ (all.steps cpu) _ took;
-    }
+    λ cpu. makes_noted _ _ _ _ c.self.view_is cpu cpu _ _ (all.steps cpu) _
+    (notes_of_zone g.N.BootName.frames _ _ c.args.head _ c.number-at.ensures (λ x. Put x) (Left c.in-Left.left)
+    (made_at _ _ c.args.tables.now.frames_are _ c.self.invariant.consistent.seats.frames.1 _ _ _ _ c.in-Left.ensures.run) c.put_left.ensures)
+
+pub returns-in-Left-clause-visit : goal.returns-in-Left-clause-visit
+returns-in-Left-clause-visit g c =
+    let all = left_all g.N.BootName.frames g.N.BootName.stocks _ _ c.self.view_is c.self.invariant.consistent c.args.head _
+    c.requires.frame c.number-at.ensures c.requires.kept _ _ c.leave_list.ensures.leaves c.leave_list.ensures.lists.stand c.leave_list.ensures.frames
+    c.leave_list.ensures.lists.groups c.in-Left.left _ c.in-Left.ensures.answer.2 in
+    λ cpu visit. visits_then _ _ _ _ visit.shown (returns-in-Left-clause-steps g c cpu) refl (open_still _ _ _ _ (all.visit cpu visit))
 
 pub invariant_of-self-in-Last : goal.invariant_of-self-in-Last
 invariant_of-self-in-Last g c =
@@ -58,18 +77,50 @@ invariant_of-self-in-Last g c =
     c.free_unit.ensures.frames c.free_unit.ensures.areas c.free_unit.ensures.charges c.with_last_put-self-inside.ensures in
     record { consistent = consistent_still _ _ _ _ all.consistent; free = all.free_is }
 
-pub returns-in-Head : goal.returns-in-Head
-returns-in-Head g c =
+pub make_step-requires-clause-held : goal.make_step-requires-clause-held
+make_step-requires-clause-held g c = (made_at _ _ c.args.tables.now.frames_are _ c.self.invariant.consistent.seats.frames.1 _ _ _ _ c.in-Last.ensures.run).held
+
+pub make_step-requires-clause-legal : goal.make_step-requires-clause-legal
+make_step-requires-clause-legal g c =
+    let head = read_head g.N.BootName.frames g.N.BootName.stocks _ c.self.invariant.consistent c.args.head _ c.requires.frame c.number-at.ensures _ c.in-Head.unit
+    c.index.ensures c.in-Head.is in
+    let all = returned_all g.N.BootName.frames g.N.BootName.stocks _ _ c.self.view_is c.self.invariant.consistent c.args.head _
+    c.requires.frame c.number-at.ensures c.requires.kept _ _ c.leave_list.ensures.leaves c.leave_list.ensures.lists.stand c.leave_list.ensures.frames
+    c.leave_list.ensures.lists.groups _ c.in-Last.ensures.answer.0 c.in-Head.unit head _ _ _ _ _ _ c.self.invariant.free c.free_unit.ensures.frame_states
+    c.free_unit.ensures.frames c.free_unit.ensures.areas c.free_unit.ensures.charges refl in
+    return_may g.N.BootName.frames _ _ c.args.head _ c.number-at.ensures _ _
+    (may_lead_all g.N.BootName.frames _ _ c.self.view_is c.requires.shown.cpu c.requires.shown.is _ _ (all.steps c.requires.shown.cpu))
+    (made_at _ _ c.args.tables.now.frames_are _ c.self.invariant.consistent.seats.frames.1 _ _ _ _ c.in-Last.ensures.run)
+
+pub returns-in-Head-clause-steps : goal.returns-in-Head-clause-steps
+returns-in-Head-clause-steps g c =
     let head = read_head g.N.BootName.frames g.N.BootName.stocks _ c.self.invariant.consistent c.args.head _ c.requires.frame c.number-at.ensures _ c.in-Head.unit
     c.index.ensures c.in-Head.is in
     let all = returned_all g.N.BootName.frames g.N.BootName.stocks _ _ c.self.view_is c.self.invariant.consistent c.args.head _
     c.requires.frame c.number-at.ensures c.requires.kept _ _ c.leave_list.ensures.leaves c.leave_list.ensures.lists.stand c.leave_list.ensures.frames
     c.leave_list.ensures.lists.groups _ c.in-Last.ensures.answer.0 c.in-Head.unit head _ _ _ _ _ _ c.self.invariant.free c.free_unit.ensures.frame_states
     c.free_unit.ensures.frames c.free_unit.ensures.areas c.free_unit.ensures.charges c.with_last_put-self-inside.ensures in
-    let took = subst (λ (x : ℕ). Watches c.self.inside.watch (release_steps x Returned) c.returned.new.self)
-    c.number-at.ensures (watches_both _ _ _ _ _ c.put_last.ensures c.returned.ensures) in
-    record {
-      releases = returned_still _ _ _ _ all.returns;
-      visit = λ cpu visit. visits_still _ _ _ _ (all.visit cpu visit);
-      steps = λ cpu. makes_noted _ _ _ _ c.self.view_is cpu cpu _ _ (all.steps cpu) _ took;
-    }
+    λ cpu. makes_noted _ _ _ _ c.self.view_is cpu cpu _ _ (all.steps cpu) _
+    (notes_back g.N.BootName.frames _ _ c.args.head _ c.number-at.ensures (λ x. Put x) Last
+    (notes_of_zone g.N.BootName.frames _ _ c.args.head _ c.number-at.ensures (λ x. Put x) Last
+    (made_at _ _ c.args.tables.now.frames_are _ c.self.invariant.consistent.seats.frames.1 _ _ _ _ c.in-Last.ensures.run) c.put_last.ensures) _ c.make_step.ensures.notes)
+
+pub returns-in-Head-clause-visit : goal.returns-in-Head-clause-visit
+returns-in-Head-clause-visit g c =
+    let head = read_head g.N.BootName.frames g.N.BootName.stocks _ c.self.invariant.consistent c.args.head _ c.requires.frame c.number-at.ensures _ c.in-Head.unit
+    c.index.ensures c.in-Head.is in
+    let all = returned_all g.N.BootName.frames g.N.BootName.stocks _ _ c.self.view_is c.self.invariant.consistent c.args.head _
+    c.requires.frame c.number-at.ensures c.requires.kept _ _ c.leave_list.ensures.leaves c.leave_list.ensures.lists.stand c.leave_list.ensures.frames
+    c.leave_list.ensures.lists.groups _ c.in-Last.ensures.answer.0 c.in-Head.unit head _ _ _ _ _ _ c.self.invariant.free c.free_unit.ensures.frame_states
+    c.free_unit.ensures.frames c.free_unit.ensures.areas c.free_unit.ensures.charges c.with_last_put-self-inside.ensures in
+    λ cpu visit. visits_then _ _ _ _ visit.shown (returns-in-Head-clause-steps g c cpu) refl (open_still _ _ _ _ (all.visit cpu visit))
+
+pub returns-in-Head-clause-releases : goal.returns-in-Head-clause-releases
+returns-in-Head-clause-releases g c =
+    let head = read_head g.N.BootName.frames g.N.BootName.stocks _ c.self.invariant.consistent c.args.head _ c.requires.frame c.number-at.ensures _ c.in-Head.unit
+    c.index.ensures c.in-Head.is in
+    let all = returned_all g.N.BootName.frames g.N.BootName.stocks _ _ c.self.view_is c.self.invariant.consistent c.args.head _
+    c.requires.frame c.number-at.ensures c.requires.kept _ _ c.leave_list.ensures.leaves c.leave_list.ensures.lists.stand c.leave_list.ensures.frames
+    c.leave_list.ensures.lists.groups _ c.in-Last.ensures.answer.0 c.in-Head.unit head _ _ _ _ _ _ c.self.invariant.free c.free_unit.ensures.frame_states
+    c.free_unit.ensures.frames c.free_unit.ensures.areas c.free_unit.ensures.charges c.with_last_put-self-inside.ensures in
+    returned_still _ _ _ _ all.returns

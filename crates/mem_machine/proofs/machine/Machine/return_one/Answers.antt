@@ -1,14 +1,51 @@
-use Rattle.std.proofs.Common.{ℕ, ◌<◌, rules, ap, subst, ◌∙◌}
+use Rattle.std.proofs.Common.{◌<◌, rules, ap, ◌∙◌}
+use Rattle.cpu_part.specs.Cpus.{KnownCpu}
 use Rattle.frame_word.specs.Views.{collected_from}
 use Rattle.frame_word.specs.Seats.{KnownSeat, seat_with}
 use Rattle.mem_machine.proofs.Freeing.{unit_charged}
-use Rattle.mem_machine.proofs.Back.{WasBack, back_passes, read_head, back_in_use, back_inside, return_all}
-use Rattle.step_watch.specs.Watched.{Watches}
-use Rattle.step_watch.proofs.Watching.{watches_both}
-use Rattle.mem_machine.specs.Settling.{return_steps}
+use Rattle.mem_machine.proofs.Back.{WasBack, back_passes, read_head, back_in_use, back_inside, return_all, may_collect_back, may_return_back, returned_notes}
+use Rattle.mem_machine.proofs.Holder.{back_may_pass, back_number, holder_here, holder_then}
+use Rattle.mem_machine.proofs.Reached.{held_here}
 use Rattle.mem_machine.proofs.Followed.{makes_noted}
-use Rattle.mem_machine.proofs.Watched.{consistent_still, returns_still, visits_still}
+use Rattle.mem_machine.proofs.Watched.{consistent_still, returns_still, open_still, visits_then}
 use Rattle.mem_machine.proofs.machine.Machine.return_one.Goals as goal
+
+pub pass_back_unit-requires-clause-held : goal.pass_back_unit-requires-clause-held
+pass_back_unit-requires-clause-held g c = held_here g.N.BootName.frames _ _ c.self.view_is c.args.cpu.now c.requires.shown
+
+pub pass_back_unit-requires-clause-holder : goal.pass_back_unit-requires-clause-holder
+pass_back_unit-requires-clause-holder g c = holder_here g.N.BootName.frames _ _ c.self.view_is c.args.cpu.now c.requires.shown
+
+pub pass_back_unit-requires-clause-legal : goal.pass_back_unit-requires-clause-legal
+pass_back_unit-requires-clause-legal g c = back_may_pass g.N.BootName.frames _ _ c.self.view_is c.args.cpu.now c.requires
+
+pub collect-requires-clause-held : goal.collect-requires-clause-held
+collect-requires-clause-held g c = c.in-Some.ensures.run.held
+
+pub collect-requires-clause-holder : goal.collect-requires-clause-holder
+collect-requires-clause-holder g c = back_number _ _ _ c.in-Some.ensures.answer
+    ∙ holder_then _ _ _ _ _ _ _ c.in-Some.ensures.run (holder_here g.N.BootName.frames _ _ c.self.view_is c.args.cpu.now c.requires.shown)
+
+pub collect-requires-clause-legal : goal.collect-requires-clause-legal
+collect-requires-clause-legal g c =
+    let inside : c.in-Some.frame < g.N.BootName.frames.frames = search rules in
+    let was : WasBack g.N.BootName.frames _ c.in-Some.frame =
+    record { inside = inside; nothing = c.in-Some.ensures.own.0; lent = c.in-Some.ensures.own.1 } in
+    let hands = c.in-Some.ensures.answer in
+    may_collect_back g.N.BootName.frames g.N.BootName.stocks _ _ c.self.view_is c.args.cpu.now c.number-cpu_number.ensures.tied c.self.invariant.consistent c.requires
+    c.in-Some.frame was hands.0 hands.1 _ (back_number _ _ _ hands) _ c.in-Some.ensures.run
+
+pub make_step-requires-clause-held : goal.make_step-requires-clause-held
+make_step-requires-clause-held g c = c.collect.ensures.run.held
+
+pub make_step-requires-clause-legal : goal.make_step-requires-clause-legal
+make_step-requires-clause-legal g c =
+    let inside : c.in-Some.frame < g.N.BootName.frames.frames = search rules in
+    let was : WasBack g.N.BootName.frames _ c.in-Some.frame =
+    record { inside = inside; nothing = c.in-Some.ensures.own.0; lent = c.in-Some.ensures.own.1 } in
+    let hands = c.in-Some.ensures.answer in
+    may_return_back g.N.BootName.frames g.N.BootName.stocks _ _ c.self.view_is c.args.cpu.now c.number-cpu_number.ensures.tied c.self.invariant.consistent c.requires
+    c.in-Some.frame was hands.0 hands.1 _ (back_number _ _ _ hands) _ c.in-Some.ensures.run _ c.number-at.ensures _ c.collect.ensures.run
 
 pub collect-requires-clause-passes : goal.collect-requires-clause-passes
 collect-requires-clause-passes g c =
@@ -69,10 +106,12 @@ returns g c =
     c.self.invariant.consistent c.requires _ _ c.self.invariant.free _ was c.in-Some.ensures.answer c.collect.ensures.cpu _ c.number-at.ensures _ heads _ collected
     _ u.frame_states _ u.frames u.areas _ u.charges _
     c.with_last_put-self-inside.ensures in
-    let took = subst (λ (x : ℕ × ℕ). Watches c.self.inside.watch (return_steps x.0 x.1) c.returned.new.self)
-    (λ i. (c.number-cpu_number.ensures.number i, c.number-at.ensures i)) (watches_both _ _ _ _ _ c.passed_back.ensures (watches_both _ _ _ _ _ c.collected.ensures c.returned.ensures)) in
+    let handed = back_number _ _ _ c.in-Some.ensures.answer in
+    let notes = returned_notes g.N.BootName.frames _ _ c.in-Some.frame _ _ _ c.number-at.ensures handed c.number-cpu_number.ensures.number _ _ _ _ _
+    c.in-Some.ensures.run c.collect.ensures.run c.passed_back.ensures c.collected.ensures c.make_step.ensures.notes in
+    let makes = makes_noted _ _ _ _ c.self.view_is _ _ _ _ all.steps _ notes in
     record {
       returns = returns_still _ _ _ _ _ all.returns;
-      visit = visits_still _ _ _ _ all.visit;
-      steps = makes_noted _ _ _ _ c.self.view_is _ _ _ _ all.steps _ took;
+      visit = visits_then _ _ _ _ c.requires.shown makes (ap (λ (e : KnownCpu). e.number) c.collect.ensures.cpu ∙ handed) (open_still _ _ _ _ all.visit);
+      steps = makes;
     }

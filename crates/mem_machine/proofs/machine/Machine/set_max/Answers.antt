@@ -1,12 +1,23 @@
-use Rattle.std.proofs.Common.{rules}
+use Rattle.std.proofs.Common.{◌≡◌, refl, rules}
 use Rattle.mem_machine.proofs.GroupSteps.{sets_max}
 use Rattle.mem_machine.proofs.Followed.{makes_noted}
+use Rattle.mem_machine.proofs.Reached.{held_here, may_lead}
+use Rattle.mem_machine.proofs.Watched.{stays_then}
 use Rattle.mem_machine.proofs.machine.Machine.set_max.Goals as goal
 
+pub make_step-requires-clause-held : goal.make_step-requires-clause-held
+make_step-requires-clause-held g c = held_here g.N.BootName.frames _ _ c.self.view_is c.requires.shown.cpu c.requires.shown.is
+
+pub make_step-requires-clause-legal : goal.make_step-requires-clause-legal
+make_step-requires-clause-legal g c = may_lead g.N.BootName.frames _ _ c.self.view_is c.requires.shown.cpu c.requires.shown.is _ _ _
+    (sets_max g.N.BootName.frames _ _ c.self.view_is c.args.group c.requires.there _ _ c.requires.below_root c.set_max.ensures.limited c.requires.shown.cpu)
+
 pub returns-clause-steps : goal.returns-clause-steps
-returns-clause-steps g c =
-    λ cpu. makes_noted _ _ _ _ c.self.view_is cpu cpu _ _
-    (sets_max g.N.BootName.frames _ _ c.self.view_is c.args.group c.requires.there _ _ c.requires.below_root c.set_max.ensures.limited cpu) _ c.zone_made.ensures
+returns-clause-steps g c = λ cpu. makes_noted _ _ _ _ c.self.view_is cpu cpu _ _
+    (sets_max g.N.BootName.frames _ _ c.self.view_is c.args.group c.requires.there _ _ c.requires.below_root c.set_max.ensures.limited cpu) _ c.make_step.ensures.notes
+
+pub returns-clause-visit : goal.returns-clause-visit
+returns-clause-visit g c = stays_then g.N.BootName.frames _ _ c.self.view_is _ refl _ (returns-clause-steps g c)
 
 pub invariant_of-self : goal.invariant_of-self
 invariant_of-self g c = search rules

@@ -1,4 +1,4 @@
-use Rattle.std.proofs.Common.{ℕ, [], ◌∷◌, ◌≤◌, ◌<◌, ◌^◌, ap, refl, sym, subst, ◌∙◌, rules, arith}
+use Rattle.std.proofs.Common.{ℕ, ◌≤◌, ◌<◌, ◌^◌, ap, refl, sym, subst, ◌∙◌, rules, arith}
 use Rattle.group_tree.specs.Room.{IsLowestOver}
 use Rattle.group_charge.specs.Charges.{current_of}
 use Rattle.mem_machine.specs.Kept.{machine_of}
@@ -9,12 +9,15 @@ use Rattle.mem_machine.proofs.Prepaying.{refused_all}
 use Rattle.zone_blocks.specs.Zone.{BuddyZone}
 use Rattle.mem_machine.proofs.Usage.{usage_seen, balanced_alone}
 use Rattle.mem_machine.proofs.TakesBlocks.{taken_all, none_all, taken_inside, head_inside, head_free, free_in_hand}
-use Rattle.step_watch.specs.Watched.{Watches}
-use Rattle.step_watch.proofs.Watching.{watches_both}
-use Rattle.step_rules.specs.declared.step.Action.TheVariants.{Grant, Ungrant, PlaceBlock, Unfreeze, Publish}
-use Rattle.step_rules.specs.declared.step.Answer.TheVariants.{Done, Granted, Placed, NoFreeBlock}
+use Rattle.mem_machine.proofs.TakesBlocks.{granted_may, taken_may, taken_notes, unplaced_may, unplaced_notes, visit_kept}
+use Rattle.boot_words.specs.Pasts.{MakesStep}
+use Rattle.step_rules.specs.declared.step.Action.TheVariants.{Unfreeze}
+use Rattle.step_rules.specs.declared.step.Answer.TheVariants.{Done}
+use Rattle.mem_machine.specs.Noted.{MayTake, Notes}
+use Rattle.mem_machine.proofs.AtTable.{made_at, may_at}
 use Rattle.mem_machine.proofs.Followed.{LeadsAs, makes_noted}
-use Rattle.mem_machine.proofs.Watched.{consistent_still, takes_block_still, takes_none_still, visits_still}
+use Rattle.mem_machine.proofs.Reached.{may_lead}
+use Rattle.mem_machine.proofs.Watched.{consistent_still, open_still, takes_block_still, takes_none_still, visits_then}
 use Rattle.mem_machine.proofs.machine.Machine.take_block.Goals as goal
 
 pub returns-in_default-take : goal.returns-in_default-take
@@ -30,16 +33,15 @@ returns-in_default-take g c =
       alive = c.requires.charges.alive;
     }) (c.in_default.ensures.granted.0 refl) _ _ c.in_default.ensures.charged c.uncharge.ensures.uncharged _
     (ap (λ (z : BuddyZone). z.blocks) c.in_default-take.ensures.none) c.in_default-take.ensures.taken in
-    let took = subst (λ (n : ℕ). Watches c.self.inside.watch
-    (zone_makes (Grant c.args.group n) Granted ∷ zone_makes (PlaceBlock c.args.group c.args.order) NoFreeBlock ∷ zone_makes (Ungrant c.args.group n) Done ∷ [])
-    c.ungranted.new.self) c.frames-pages.ensures.frames
-    (watches_both _ _ _ _ _ c.granted.ensures (watches_both _ _ _ _ _ c.found_no_block.ensures c.ungranted.ensures)) in
+    let makes = makes_noted _ _ _ _ c.self.view_is _ _ _ _ all.steps _
+    (unplaced_notes g.N.BootName.frames _ _ _ _ c.args.group c.args.order _ c.frames-pages.ensures.frames c.make_step-2.ensures.notes
+    c.make_step-in_default-take.ensures.notes c.make_step-in_default-take-2.ensures.notes) in
     record {
       takes = search rules;
       refuses = takes_none_still _ _ _ _ _ all.none;
       cpu = search rules;
-      visit = search rules;
-      steps = makes_noted _ _ _ _ c.self.view_is _ _ _ _ all.steps _ took;
+      visit = visit_kept g.N.BootName.frames _ _ c.self.view_is c.args.cpu.now _ refl _ makes c.requires.visit;
+      steps = makes;
     }
 
 pub unreachable-requires : goal.unreachable-requires
@@ -96,18 +98,16 @@ returns g c =
     c.in-Some.ensures.taken c.in-Some.ensures.frames c.in-Some.ensures.areas _ c.place_unit.ensures c.in-Some-frame.head _ c.in-Some-frame.ensures.0
     c.number-at.ensures c.unfreeze.ensures.no_reference _ c.unfreeze.ensures.seat _ _
     (record { joins = j.joins; stand = j.lists.stand; frames = j.frames; groups = j.lists.groups }) in
-    let took = subst (λ (x : ℕ × ℕ). Watches c.self.inside.watch
-    (zone_makes (Grant c.args.group x.0) Granted ∷ zone_makes (PlaceBlock c.args.group c.args.order) (Placed (record { at = x.1; order = c.args.order }))
-    ∷ zone_makes (Unfreeze x.1 1) Done ∷ zone_makes (Publish x.1) Done ∷ []) c.published.new.self)
-    (λ i. (c.frames-pages.ensures.frames i, c.number-at.ensures i))
-    (watches_both _ _ _ _ _ c.granted.ensures (watches_both _ _ _ _ _ c.placed.ensures
-    (watches_both _ _ _ _ _ c.unfroze.ensures c.published.ensures))) in
+    let makes = makes_noted _ _ _ _ c.self.view_is _ _ _ _ all.steps _
+    (taken_notes g.N.BootName.frames _ _ _ _ _ c.args.group c.args.order _ c.in-Some-frame.head _ c.frames-pages.ensures.frames c.number-at.ensures
+    c.make_step-2.ensures.notes c.make_step-3.ensures.notes (made_at _ _ c.args.tables.now.frames_are 0 refl _ _ _ _ c.unfreeze.ensures.run) c.unfroze.ensures
+    c.make_step-4.ensures.notes) in
     record {
       takes = takes_block_still _ _ _ _ _ _ all.takes;
       refuses = search rules;
       cpu = search rules;
-      visit = visits_still _ _ _ _ all.visit;
-      steps = makes_noted _ _ _ _ c.self.view_is _ _ _ _ all.steps _ took;
+      visit = visits_then _ _ _ _ c.requires.visit.shown makes refl (open_still _ _ _ _ all.visit);
+      steps = makes;
     }
 
 pub invariant_of-self : goal.invariant_of-self
@@ -129,4 +129,112 @@ returns-in-Err-clause-steps g c =
     c.prove_tied.ensures c.requires.visit c.requires.none_fresh c.requires.charges.there c.requires.charges.alive
     (subst (λ (n : ℕ). IsLowestOver m.ledger.groups (current_of m.ledger) c.args.group n over) c.frames-pages.ensures.frames low)) in
     makes_noted _ _ _ _ c.self.view_is _ _ _ _ refused _
-    (subst (λ (n : ℕ). Watches c.self.inside.watch (over_steps c.args.group n over) c.refused.new.self) c.frames-pages.ensures.frames c.refused.ensures)
+    (subst (λ (n : ℕ). Notes t (machine_of c.self.inside).run (over_steps c.args.group n over) (record { past = c.make_step.new.past; watch = c.make_step.new.watch }))
+    c.frames-pages.ensures.frames c.make_step.ensures.notes)
+
+pub returns-in-Err-clause-visit : goal.returns-in-Err-clause-visit
+returns-in-Err-clause-visit g c = 
+    visit_kept g.N.BootName.frames _ _ c.self.view_is c.args.cpu.now _ refl _ (returns-in-Err-clause-steps g c) c.requires.visit
+
+pub make_step-requires-clause-legal : goal.make_step-requires-clause-legal
+make_step-requires-clause-legal g c =
+    let m = c.args.self.now in
+    let low : IsLowestOver m.ledger.groups (current_of m.ledger) c.args.group c.frames-pages.result c.in-Err.over.group = search rules in
+    may_lead g.N.BootName.frames _ _ c.self.view_is c.args.cpu.now c.requires.visit.shown _ _ _
+    (refused_all g.N.BootName.frames g.N.BootName.stocks _ _ c.self.view_is c.args.cpu.now c.args.group c.frames-pages.result c.in-Err.over.group c.self.invariant.consistent
+    c.prove_charges.ensures.legal c.prove_tied.ensures c.requires.visit c.requires.none_fresh c.requires.charges.there c.requires.charges.alive low)
+
+pub make_step-requires-2-clause-legal : goal.make_step-requires-2-clause-legal
+make_step-requires-2-clause-legal g c =
+    (granted_may g.N.BootName.frames _ _ c.self.view_is c.args.cpu.now c.requires.visit.shown c.args.group c.frames-pages.result
+    (record {
+      visit = c.requires.visit;
+      none_back = c.requires.none_back;
+      usage = usage_seen g.N.BootName.frames g.N.BootName.stocks _ _ c.self.view_is c.args.cpu.now c.self.invariant.consistent c.prove_charges.ensures.legal
+          c.requires.visit.lent c.prove_tied.ensures (balanced_alone _ _ c.requires.none_fresh);
+      there = c.requires.charges.there;
+      alive = c.requires.charges.alive;
+    })
+    (c.in_default.ensures.granted.0 refl)).0
+
+pub make_step-requires-in_default-take-clause-legal : goal.make_step-requires-in_default-take-clause-legal
+make_step-requires-in_default-take-clause-legal g c =
+    let may = unplaced_may g.N.BootName.frames g.N.BootName.stocks _ _ c.self.view_is c.args.cpu.now c.requires.visit.shown
+    c.self.invariant.consistent c.prove_charges.ensures.legal c.args.group c.args.order _ c.frames-pages.ensures.frames
+    (record {
+      visit = c.requires.visit;
+      none_back = c.requires.none_back;
+      usage = usage_seen g.N.BootName.frames g.N.BootName.stocks _ _ c.self.view_is c.args.cpu.now c.self.invariant.consistent c.prove_charges.ensures.legal
+          c.requires.visit.lent c.prove_tied.ensures (balanced_alone _ _ c.requires.none_fresh);
+      there = c.requires.charges.there;
+      alive = c.requires.charges.alive;
+    })
+    (c.in_default.ensures.granted.0 refl) c.in_default-take.ensures.taken in
+    (may.1 _ c.make_step-2.ensures.run).0
+
+pub make_step-requires-in_default-take-2-clause-legal : goal.make_step-requires-in_default-take-2-clause-legal
+make_step-requires-in_default-take-2-clause-legal g c =
+    let may = unplaced_may g.N.BootName.frames g.N.BootName.stocks _ _ c.self.view_is c.args.cpu.now c.requires.visit.shown
+    c.self.invariant.consistent c.prove_charges.ensures.legal c.args.group c.args.order _ c.frames-pages.ensures.frames
+    (record {
+      visit = c.requires.visit;
+      none_back = c.requires.none_back;
+      usage = usage_seen g.N.BootName.frames g.N.BootName.stocks _ _ c.self.view_is c.args.cpu.now c.self.invariant.consistent c.prove_charges.ensures.legal
+          c.requires.visit.lent c.prove_tied.ensures (balanced_alone _ _ c.requires.none_fresh);
+      there = c.requires.charges.there;
+      alive = c.requires.charges.alive;
+    })
+    (c.in_default.ensures.granted.0 refl) c.in_default-take.ensures.taken in
+    ((may.1 _ c.make_step-2.ensures.run).1 _ c.make_step-in_default-take.ensures.run).0
+
+pub make_step-requires-3-clause-legal : goal.make_step-requires-3-clause-legal
+make_step-requires-3-clause-legal g c =
+    let may = taken_may g.N.BootName.frames g.N.BootName.stocks _ _ c.self.view_is c.args.cpu.now c.requires.visit.shown
+    c.self.invariant.consistent c.args.group c.args.order _ c.frames-pages.ensures.frames
+    (record {
+      visit = c.requires.visit;
+      none_back = c.requires.none_back;
+      usage = usage_seen g.N.BootName.frames g.N.BootName.stocks _ _ c.self.view_is c.args.cpu.now c.self.invariant.consistent c.prove_charges.ensures.legal
+          c.requires.visit.lent c.prove_tied.ensures (balanced_alone _ _ c.requires.none_fresh);
+      there = c.requires.charges.there;
+      alive = c.requires.charges.alive;
+    })
+    (c.in_default.ensures.granted.0 refl) _ _ c.in-Some.block c.self.invariant.free
+    c.in-Some.ensures.taken c.in-Some.ensures.frames c.in-Some-frame.head _ c.in-Some-frame.ensures.0 c.number-at.ensures in
+    (may.1 _ c.make_step-2.ensures.run).0
+
+pub unfreeze-requires-clause-legal : goal.unfreeze-requires-clause-legal
+unfreeze-requires-clause-legal g c =
+    let may = taken_may g.N.BootName.frames g.N.BootName.stocks _ _ c.self.view_is c.args.cpu.now c.requires.visit.shown
+    c.self.invariant.consistent c.args.group c.args.order _ c.frames-pages.ensures.frames
+    (record {
+      visit = c.requires.visit;
+      none_back = c.requires.none_back;
+      usage = usage_seen g.N.BootName.frames g.N.BootName.stocks _ _ c.self.view_is c.args.cpu.now c.self.invariant.consistent c.prove_charges.ensures.legal
+          c.requires.visit.lent c.prove_tied.ensures (balanced_alone _ _ c.requires.none_fresh);
+      there = c.requires.charges.there;
+      alive = c.requires.charges.alive;
+    })
+    (c.in_default.ensures.granted.0 refl) _ _ c.in-Some.block c.self.invariant.free
+    c.in-Some.ensures.taken c.in-Some.ensures.frames c.in-Some-frame.head _ c.in-Some-frame.ensures.0 c.number-at.ensures in
+    may_at _ _ c.args.tables.now.frames_are 0 refl c.make_step-3.new.past (Unfreeze c.in-Some-frame.head 1)
+    (subst (λ (x : ℕ). MayTake g.N.BootName.frames c.make_step-3.new.past (zone_makes (Unfreeze x 1) Done)) c.number-at.ensures
+    ((may.1 _ c.make_step-2.ensures.run).1 _ c.make_step-3.ensures.run).0).legal
+
+pub make_step-requires-4-clause-legal : goal.make_step-requires-4-clause-legal
+make_step-requires-4-clause-legal g c =
+    let may = taken_may g.N.BootName.frames g.N.BootName.stocks _ _ c.self.view_is c.args.cpu.now c.requires.visit.shown
+    c.self.invariant.consistent c.args.group c.args.order _ c.frames-pages.ensures.frames
+    (record {
+      visit = c.requires.visit;
+      none_back = c.requires.none_back;
+      usage = usage_seen g.N.BootName.frames g.N.BootName.stocks _ _ c.self.view_is c.args.cpu.now c.self.invariant.consistent c.prove_charges.ensures.legal
+          c.requires.visit.lent c.prove_tied.ensures (balanced_alone _ _ c.requires.none_fresh);
+      there = c.requires.charges.there;
+      alive = c.requires.charges.alive;
+    })
+    (c.in_default.ensures.granted.0 refl) _ _ c.in-Some.block c.self.invariant.free
+    c.in-Some.ensures.taken c.in-Some.ensures.frames c.in-Some-frame.head _ c.in-Some-frame.ensures.0 c.number-at.ensures in
+    (((may.1 _ c.make_step-2.ensures.run).1 _ c.make_step-3.ensures.run).1 _
+    (subst (λ (x : ℕ). MakesStep g.N.BootName.frames c.make_step-3.new.past 0 (Unfreeze x 1) Done c.unfreeze.new.held) (sym c.number-at.ensures)
+    (made_at _ _ c.args.tables.now.frames_are 0 refl _ _ _ _ c.unfreeze.ensures.run))).0

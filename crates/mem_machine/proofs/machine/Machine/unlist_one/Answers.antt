@@ -1,13 +1,36 @@
-use Rattle.std.proofs.Common.{◌≡◌, ℕ, ◌<◌, rules, ap, subst, ◌∙◌}
+use Rattle.std.proofs.Common.{◌≡◌, ◌<◌, rules, ap, ◌∙◌}
 use Rattle.frame_word.specs.Views.{collected_from}
 use Rattle.frame_word.specs.Seats.{KnownSeat, seat_with}
-use Rattle.mem_machine.proofs.Takes.{take_all, may_give, passes_back_to}
-use Rattle.step_watch.specs.Watched.{Watches}
-use Rattle.step_watch.proofs.Watching.{watches_both}
-use Rattle.mem_machine.specs.Steps.{unlist_steps}
+use Rattle.mem_machine.proofs.Takes.{take_all, may_give, passes_back_to, may_pass_front, may_collect_front, taken_notes}
+use Rattle.cpu_part.specs.Cpus.{KnownCpu}
+use Rattle.mem_machine.proofs.Holder.{front_number, holder_here, holder_then}
+use Rattle.mem_machine.proofs.Reached.{held_here}
 use Rattle.mem_machine.proofs.Followed.{makes_noted}
-use Rattle.mem_machine.proofs.Watched.{consistent_still, takes_still, visits_still}
+use Rattle.mem_machine.proofs.Watched.{consistent_still, takes_still, open_still, visits_then}
 use Rattle.mem_machine.proofs.machine.Machine.unlist_one.Goals as goal
+
+pub pass_front-requires-clause-held : goal.pass_front-requires-clause-held
+pass_front-requires-clause-held g c = held_here g.N.BootName.frames _ _ c.self.view_is c.args.cpu.now c.requires.shown
+
+pub pass_front-requires-clause-holder : goal.pass_front-requires-clause-holder
+pass_front-requires-clause-holder g c = holder_here g.N.BootName.frames _ _ c.self.view_is c.args.cpu.now c.requires.shown
+
+pub pass_front-requires-clause-legal : goal.pass_front-requires-clause-legal
+pass_front-requires-clause-legal g c =
+    may_pass_front g.N.BootName.frames g.N.BootName.stocks _ _ c.self.view_is c.args.cpu.now c.number-cpu_number.ensures.tied c.self.invariant.consistent c.requires
+
+pub collect-requires-clause-held : goal.collect-requires-clause-held
+collect-requires-clause-held g c = c.in-Some.ensures.run.held
+
+pub collect-requires-clause-holder : goal.collect-requires-clause-holder
+collect-requires-clause-holder g c = front_number _ _ _ c.in-Some.ensures.answer
+    ∙ holder_then _ _ _ _ _ _ _ c.in-Some.ensures.run (holder_here g.N.BootName.frames _ _ c.self.view_is c.args.cpu.now c.requires.shown)
+
+pub collect-requires-clause-legal : goal.collect-requires-clause-legal
+collect-requires-clause-legal g c =
+    let hands = c.in-Some.ensures.answer in
+    may_collect_front g.N.BootName.frames g.N.BootName.stocks _ _ c.self.view_is c.args.cpu.now c.number-cpu_number.ensures.tied c.self.invariant.consistent c.requires
+    c.in-Some.frame hands.0 hands.1 _ (front_number _ _ _ hands) _ c.in-Some.ensures.run
 
 pub collect-requires-clause-passes : goal.collect-requires-clause-passes
 collect-requires-clause-passes g c =
@@ -44,16 +67,17 @@ returns g c =
     let all = take_all g.N.BootName.frames g.N.BootName.stocks _ _ c.self.view_is c.args.cpu.now c.pass_front.new.self _ c.number-cpu_number.ensures.tied c.self.invariant.consistent
     c.requires _ _ c.unwrap.result _ c.in-Some.frame _ _ c.self.invariant.free k0 c.give.ensures.frames c.give.ensures.areas inside c.in-Some.ensures.borrowed.1
     c.number-at.ensures c.in-Some.ensures.answer collected c.collect.ensures.cpu in
-    let took = subst (λ (x : ℕ × ℕ). Watches c.self.inside.watch (unlist_steps x.0 x.1) c.collected.new.self)
-    (λ i. (c.number-cpu_number.ensures.number i, c.number-at.ensures i))
-    (watches_both _ _ _ _ _ c.passed_back.ensures c.collected.ensures) in
+    let handed = front_number _ _ _ c.in-Some.ensures.answer in
+    let notes = taken_notes g.N.BootName.frames g.N.BootName.stocks _ _ c.self.view_is c.args.cpu.now c.in-Some.frame _ _ _ c.number-at.ensures handed c.number-cpu_number.ensures.number
+    _ _ _ _ c.in-Some.ensures.run c.collect.ensures.run c.passed_back.ensures c.collected.ensures in
+    let makes = makes_noted _ _ _ _ c.self.view_is _ _ _ _ all.steps _ notes in
     record {
       takes = record {
         frame = c.in-Some.frame;
         takes = takes_still _ _ _ _ _ all.takes;
-        steps = makes_noted _ _ _ _ c.self.view_is _ _ _ _ all.steps _ took;
+        steps = makes;
       };
-      visit = visits_still _ _ _ _ all.visit;
+      visit = visits_then _ _ _ _ c.requires.shown makes (ap (λ (e : KnownCpu). e.number) c.collect.ensures.cpu ∙ handed) (open_still _ _ _ _ all.visit);
     }
 
 pub invariant_of-self : goal.invariant_of-self
