@@ -21,7 +21,8 @@ pub lower_usage-requires-clause-shown : goal.lower_usage-requires-clause-shown
 lower_usage-requires-clause-shown g c = limit_shown g.N.BootName.frames _ _ c.args.group c.note_limit.ensures c.requires.shown
 
 pub kill_for-requires-clause-shown : goal.kill_for-requires-clause-shown
-kill_for-requires-clause-shown g c = shown_after g.N.BootName.frames _ _ _ c.lower_usage.ensures.makes (lower_usage-requires-clause-shown g c)
+kill_for-requires-clause-shown g c = shown_after g.N.BootName.frames _ _ _ c.lower_usage.ensures.makes
+    (limit_shown g.N.BootName.frames _ _ c.args.group c.note_limit.ensures c.requires.shown)
 
 pub returns-then-limit-current-clause-lowers : goal.returns-then-limit-current-clause-lowers
 returns-then-limit-current-clause-lowers g c =

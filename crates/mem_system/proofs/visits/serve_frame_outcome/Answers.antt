@@ -1,4 +1,4 @@
-use Rattle.std.proofs.Common.{◌≡◌, ℕ, ◌+◌, ◌≤◌, List, length, IsTrue, Some, ap, sym, ◌∙◌, refl, subst}
+use Rattle.std.proofs.Common.{◌≡◌, ℕ, ◌+◌, ◌≤◌, List, length, IsTrue, Some, ap, sym, ◌∙◌, refl, subst, arith}
 use Rattle.group_tree.specs.declared.group.Group.{Group}
 use Rattle.group_tree.specs.Groups.{has_group, number_at}
 use Rattle.group_charge.specs.Charges.{Ledger}
@@ -29,7 +29,7 @@ alloc_frame-answer-requires-clause-there g c =
     let there : IsTrue (has_group c.locked.inside.machine.ledger.groups c.args.group) =
     subst (λ (l : KnownLocked). IsTrue (has_group l.machine.ledger.groups c.args.group)) (sym c.locked.view_is) c.requires.there in
     let groups = settled_groups _ _ _ _ c.settle.ensures.settles
-    ∙ ap (λ (k : KnownMachine). k.ledger.groups) (opened_so _ _ _ _ _ _ _ c.lock.ensures.machine c.forget_notes.ensures c.open.ensures.machine) in
+    ∙ ap (λ (k : KnownMachine). k.ledger.groups) (opened_so c.locked.inside.machine _ _ _ _ c.lock.new.self.run.past _ c.lock.ensures.machine c.forget_notes.ensures c.open.ensures.machine) in
     ap (λ (gs : List Group). has_group gs c.args.group) groups ∙ there
 
 pub invariant_of-locked : goal.invariant_of-locked
@@ -40,7 +40,7 @@ invariant_of-locked g c =
       quiet = record {
         shut = command_shuts c.locked.inside.machine c.open.new.self c.settle.new.self c.alloc_frame-answer.new.machine c.unlock.new.self c.cpu.inside.part
             c.open.new.cpu c.settle.new.cpu c.alloc_frame-answer.new.cpu _ _ quiet.shut
-            (opened_so _ _ _ _ _ _ _ c.lock.ensures.machine c.forget_notes.ensures c.open.ensures.machine)
+            (opened_so c.locked.inside.machine _ _ _ _ c.lock.new.self.run.past _ c.lock.ensures.machine c.forget_notes.ensures c.open.ensures.machine)
             c.open.ensures.cpu c.settle.ensures.others.number stays.number c.settle.ensures.settles stays.opened
             (c.unlock.ensures.machine ∙ (λ i. with_past (c.shut.ensures.machine i) c.unlock.new.self.run.past));
         rests = c.unlock.ensures.rests;
@@ -64,7 +64,7 @@ returns-clause-served g c path at =
     let told : reply_of k.machine.ledger c.outcome_of.result ≡ reply =
     ap (λ (y : KnownMachine). reply_of y.ledger c.outcome_of.result) (c.unlock.ensures.machine ∙ (λ i. with_past (c.shut.ensures.machine i) k.machine.run.past))
     ∙ ap (λ (o : Outcome). reply_of x.ledger o) c.outcome_of.ensures in
-    let opened = opened_so _ _ _ _ _ _ _ c.lock.ensures.machine c.forget_notes.ensures c.open.ensures.machine in
+    let opened = opened_so c.locked.inside.machine _ _ _ _ c.lock.new.self.run.past _ c.lock.ensures.machine c.forget_notes.ensures c.open.ensures.machine in
     let groups = settled_groups _ _ _ _ c.settle.ensures.settles ∙ ap (λ (y : KnownMachine). y.ledger.groups) opened
     ∙ ap (λ (y : KnownLocked). y.machine.ledger.groups) c.locked.view_is in
     let found : number_at c.settle.new.self.ledger.groups path.now ≡ Some c.args.group = ap (λ (gs : List Group). number_at gs path.now) groups ∙ at in
@@ -98,7 +98,11 @@ returns-clause-ends g c =
     record {
       at_most_high = subst (λ (y : KnownLocked × KnownCpu). length y.1.list ≤ y.0.sizes.high → length d.list + length d.fresh ≤ y.0.sizes.high)
           (λ i. (c.locked.view_is i, c.cpu.view_is i))
-          (λ within. ?);
+          (λ within.
+          let listed = ap length (c.settle.ensures.others.list ∙ ap (λ (y : KnownCpu). y.list) c.open.ensures.cpu) in
+          let none = ap length c.settle.ensures.none_fresh in
+          subst (λ (y : KnownCpu). length y.list + length y.fresh ≤ c.locked.inside.sizes.high) (sym c.shut.ensures.cpu)
+          (c.alloc_frame-answer.ensures.at_most_high (omega (arith, listed, none, within))));
       still = subst (λ (s : KnownSeat). NothingPasses t s d.frame_seat) seat c.shut.ensures.still;
       lent = subst (λ (s : KnownSeat). LentIsBorrowed t s d.frame_seat) seat c.shut.ensures.lent;
     }
@@ -109,6 +113,6 @@ returns-clause-lost g c =
     no_unit_is_lost g.N.BootName.frames g.N.BootName.stocks c.unlock.new.self c.prove_consistent.ensures
     (command_shuts c.locked.inside.machine c.open.new.self c.settle.new.self c.alloc_frame-answer.new.machine c.unlock.new.self c.cpu.inside.part
     c.open.new.cpu c.settle.new.cpu c.alloc_frame-answer.new.cpu _ _ c.locked.invariant.quiet.shut
-    (opened_so _ _ _ _ _ _ _ c.lock.ensures.machine c.forget_notes.ensures c.open.ensures.machine)
+    (opened_so c.locked.inside.machine _ _ _ _ c.lock.new.self.run.past _ c.lock.ensures.machine c.forget_notes.ensures c.open.ensures.machine)
     c.open.ensures.cpu c.settle.ensures.others.number stays.number c.settle.ensures.settles stays.opened
     (c.unlock.ensures.machine ∙ (λ i. with_past (c.shut.ensures.machine i) c.unlock.new.self.run.past)))

@@ -25,7 +25,7 @@ invariant_of-locked g c =
       quiet = record {
         shut = command_shuts c.locked.inside.machine c.open.new.self c.settle.new.self c.execute-outcome.new.machine c.unlock.new.self c.cpu.inside.part
             c.open.new.cpu c.settle.new.cpu c.execute-outcome.new.cpu _ _ quiet.shut
-            (opened_so _ _ _ _ _ _ _ c.lock.ensures.machine c.forget_notes.ensures c.open.ensures.machine)
+            (opened_so c.locked.inside.machine _ _ _ _ c.lock.new.self.run.past _ c.lock.ensures.machine c.forget_notes.ensures c.open.ensures.machine)
             c.open.ensures.cpu c.settle.ensures.others.number stays.number c.settle.ensures.settles stays.opened
             (c.unlock.ensures.machine ∙ (λ i. with_past (c.shut.ensures.machine i) c.unlock.new.self.run.past));
         rests = c.unlock.ensures.rests;
@@ -48,7 +48,7 @@ returns g c =
     let kept : k.machine.ledger ≡ x.ledger =
     ap (λ (y : KnownMachine). y.ledger) c.unlock.ensures.machine ∙ ap (λ (y : KnownMachine). y.ledger) c.shut.ensures.machine in
     let seat : n.frame_seat ≡ k.machine.frame_seat = sym (ap (λ (y : KnownMachine). y.frame_seat) c.unlock.ensures.machine) in
-    let opened = opened_so _ _ _ _ _ _ _ c.lock.ensures.machine c.forget_notes.ensures c.open.ensures.machine in
+    let opened = opened_so c.locked.inside.machine _ _ _ _ c.lock.new.self.run.past _ c.lock.ensures.machine c.forget_notes.ensures c.open.ensures.machine in
     let stays = c.execute-outcome.ensures.stays in
     let told : reply_of k.machine.ledger c.execute-outcome.result ≡ reply = ap (λ (l : Ledger). reply_of l c.execute-outcome.result) kept in
     rw told record {
