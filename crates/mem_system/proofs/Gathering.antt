@@ -1,7 +1,6 @@
 -- The seats of the CPUs are gathered, one CPU after the other. Serves the end of a system.
-use Rattle.std.proofs.Common.{◌≡◌, ℕ, zero, suc, ◌<◌, List, [], ◌∷◌, ◌++◌, ◌∙◌, All, length, map, get_or, refl, sym, ap, subst, arith, append-nil}
+use Rattle.std.proofs.Common.{◌≡◌, ℕ, suc, ◌<◌, List, [], ◌∷◌, ◌++◌, ◌∙◌, All, length, map, get_or, refl, sym, ap, subst, arith, append-nil}
 use Rattle.std.specs.List.{remove}
-use Rattle.atomic_table.specs.Seated.{TableId}
 use Rattle.boot_words.specs.declared.seat.OwnSeats.{OwnSeats}
 use Rattle.boot_words.specs.Closing.{IsClosedTable, frame_seats, stock_seats}
 use Rattle.boot_words.specs.Rule.{AllOf, words_in}

@@ -4,7 +4,7 @@ use Rattle.frame_word.specs.Seats.{seat_number}
 use Rattle.boot_words.specs.declared.seat.OwnSeats.{OwnSeats}
 use Rattle.boot_words.specs.Opening.{opening_seats}
 use Rattle.cpu_part.specs.Cpus.{IsIdle}
-use Rattle.mem_system.specs.Boots.{AreFirstSeats, first_cpus, part_at_first}
+use Rattle.mem_system.specs.Boots.{first_cpus, part_at_first}
 use Rattle.mem_system.proofs.Parts.{seats_left, front_is, first_seats_at, cpus_next, cpus_idle}
 use Rattle.mem_system.proofs.boots.make_cpus.Goals as goal
 
