@@ -127,7 +127,7 @@ fn alloc_and_release<N: BootName, R: Wait>(
     let Reply::Frame(number) = *reply else {
         return false;
     };
-    let Some(frame) = system.tables().frames.frame(number) else {
+    let Some(frame) = system.tables().words.frame(number) else {
         return false;
     };
     let frame = frame.number();

@@ -46,7 +46,7 @@ fn are_same(rt: &impl Abort, one: &Seen, other: &Seen) {
 fn first_frame<N: BootName>(rt: &impl Abort, system: &System<N>) -> Frame
     ensures { result < N.frames.frames }
 {
-    system.tables().frames.frame(0).expect(rt, "a frame")
+    system.tables().words.frame(0).expect(rt, "a frame")
 }
 
 // The first CPU makes `/a`, charges frame 0 to it and pins the frame.

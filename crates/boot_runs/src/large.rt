@@ -1,106 +1,75 @@
-//! A machine of the greatest size, 1,048,576 frames and 64 CPUs. The last CPU is lent frames and returns them.
-ghost use Rattle.std.specs.Prelude.{◌≡◌, ◌≤◌};
-ghost use Rattle.frame_word.specs.Seats.{IsShut, first_zone_view, first_cpu_view};
-ghost use Rattle.stock_word.specs.Stock.{first_zone_stock_view, first_cpu_stock_view};
+//! A boot of the greatest size, 1,048,576 frames and 64 CPUs. The last CPU is lent frames, which the end takes back.
+ghost use Rattle.std.specs.Prelude.{◌≡◌};
 
-use crate::life::expect_true;
-use crate::seats::{CpuSeats, close_cpu, new_cpu};
-use cpu_part::{BootName, Tables};
-use frame_word::{FrameSeat, FrameWords};
-use mem_machine::Machine;
-use mem_system::Cpu;
+use crate::life::{answers, ends, expect_true};
+use cpu_part::{BootName, Dropped};
+use group_tree::group::GroupId;
+use mem_system::{Audit, Boot, Cmd, Cpu, Reply, System, boot};
 use std::alloc::Global;
 use std::marker::Brand;
 use std::process::Abort;
-use stock_word::{StockSeat, StockWords};
+use std::sync::Wait;
+use zone_blocks::config::Config;
 
-/// The tables of F frames and 64 CPUs, and the seats of the machine and of CPU 64, all new.
-#[derive(Drop)]
-struct LargeParts<const F: u32> {
-    frames: FrameWords,
-    stocks: StockWords,
-    zone: FrameSeat,
-    zone_stock: StockSeat,
-    last: CpuSeats,
-    ghost sizes: { (frames.frames ≡ F) × (frames.cpus ≡ 64) × (stocks.cpus ≡ 64) },
-    ghost zone_is: { (zone.table ≡ frames.table) × (zone.view ≡ first_zone_view F) },
-    ghost zone_stock_is: { (zone_stock.table ≡ stocks.table) × (zone_stock.view ≡ first_zone_stock_view) },
-    ghost last_is: { (last.frames.table ≡ frames.table) × (last.frames.view ≡ first_cpu_view 64) },
-    ghost last_pays: { (last.stock.table ≡ stocks.table) × (last.stock.view ≡ first_cpu_stock_view 64) },
-}
+// All sizes are the greatest.
+const LARGEST: Config = Config {
+    frames: 1_048_576,
+    cpus: 64,
+    batch: 64,
+    high: 256,
+    stock: 64,
+};
 
-// The parts of a new boot.
-fn make_large_parts<const F: u32>(rt: &impl Abort, alloc: Global) -> LargeParts<F>
-    requires { 1 ≤ F }
-{
-    let (frames, zone, mut seats) = FrameWords::new(alloc, F, 64).expect(rt, "memory");
-    let (stocks, zone_stock, mut cpu_stocks) = StockWords::new(alloc, 64).expect(rt, "memory");
-    let last = CpuSeats {
-        frames: seats.pop().expect(rt, "a seat"),
-        stock: cpu_stocks.pop().expect(rt, "a stock seat"),
-    };
-    LargeParts {
-        frames,
-        stocks,
-        zone,
-        zone_stock,
-        last,
-    }
-}
+// All frames are free again. One was paid for and dropped.
+const ALL_FREE: Audit = Audit {
+    frames: 1_048_576,
+    free: 1_048_576,
+    charged: 0,
+    last_puts: 0,
+    freezes: 0,
+    drops: 1,
+    returns: 1,
+};
 
-// In one visit the CPU's list is refilled with this many frames. It is drained of three, and then of the rest.
-fn lends_and_takes_back<N: BootName>(
-    rt: &impl Abort,
-    tables: &Tables<N>,
-    machine: &mut Machine<N>,
+// An allocation by the CPU lends it this many frames, of which the first is paid for. That one is dropped, to the end
+// of the list.
+fn is_lent<N: BootName, R: Wait + Abort>(
+    rt: &R,
+    system: &System<N>,
     cpu: &mut Cpu<N>,
-    frames: u32,
-)
-    requires { IsShut machine.old.frame_seat cpu.old.number }
-{
-    machine.open(tables, cpu);
-    assert!(rt; frames <= 64 && cpu.list_len() == 0 && cpu.fresh_len() == 0);
-    let refilled = machine.refill(tables, cpu, frames);
-    expect_true(rt, refilled == frames);
-    let listed = cpu.list_len();
-    expect_true(rt, listed == frames as usize);
-    let first = machine.drain_list(tables, cpu, 3);
-    expect_true(rt, first == 3);
-    let rest = machine.drain_list(tables, cpu, frames);
-    expect_true(rt, rest == frames.saturating_sub(3));
-    machine.shut(tables, cpu);
+    frames: usize,
+) {
+    let path: &[u8] = b"/a";
+    let group = GroupId::of(1).expect(rt, "a group");
+    answers(rt, system, cpu, &Cmd::Mkdir { path }, &Reply::Group(group));
+    let alloc = Cmd::Alloc { path, order: 0 };
+    answers(rt, system, cpu, &alloc, &Reply::Frame(0));
+    let tables = system.tables();
+    let paid = tables.words.frame(0).expect(rt, "a frame");
+    assert!(rt; cpu.has_fresh(paid));
+    expect_true(rt, cpu.drop_fresh(tables, paid) == Dropped::Listed);
+    expect_true(rt, cpu.list_len() == frames && cpu.fresh_len() == 0);
 }
 
-// A machine of F frames: in one visit the list of CPU 64 is refilled with 64 frames and drained.
-fn lends<const F: u32, N: BootName>(rt: &impl Abort, alloc: Global, parts: LargeParts<F>)
-    requires { (parts.frames ≡ N.frames) × (parts.stocks ≡ N.stocks) }
+// The list of CPU 64 is filled with 64 frames. At the end all frames are free.
+fn lends_and_takes_back<N: BootName, R: Wait + Abort>(rt: &R, alloc: Global, boot: Boot)
+    requires { (boot.frames ≡ N.frames) × (boot.stocks ≡ N.stocks) }
 {
-    let LargeParts {
-        frames,
-        stocks,
-        zone,
-        zone_stock,
-        last,
-    } = parts;
-    let tables = Tables::<N>::new(frames, stocks);
-    let mut cpu = new_cpu::<N>(rt, alloc, last);
-    let mut machine = Machine::<N>::new(alloc, &tables, zone, zone_stock).expect(rt, "memory");
-    expect_true(rt, cpu.number() == 64);
-    lends_and_takes_back(rt, &tables, &mut machine, &mut cpu, 64);
-    close_cpu(rt, cpu);
-    let _ = machine.into_seats();
-    let _ = tables.into_tables();
+    let (system, mut cpus) = boot.start::<N>(alloc).expect(rt, "memory");
+    expect_true(rt, cpus.len() == 64);
+    lends_to_last(rt, &system, &mut cpus);
+    expect_true(rt, ends(rt, system, cpus) == ALL_FREE);
 }
 
-// The same with 1,048,576 frames.
-fn lends_of_many<N: BootName>(rt: &impl Abort, alloc: Global, parts: LargeParts<1048576>)
-    requires { (parts.frames ≡ N.frames) × (parts.stocks ≡ N.stocks) }
-{
-    lends::<1048576, N>(rt, alloc, parts);
+// Frames are lent to the last CPU.
+fn lends_to_last<N: BootName, R: Wait + Abort>(rt: &R, system: &System<N>, cpus: &mut [Cpu<N>]) {
+    let last = cpus.last_mut().expect(rt, "a CPU");
+    expect_true(rt, last.number() == 64);
+    is_lent(rt, system, last, 64);
 }
 
 #[test]
 fn frames_are_lent_and_taken_back(rt: HostRuntime) {
-    let parts = make_large_parts::<1048576>(&rt, rt.alloc());
-    lends_of_many::<Brand>(&rt, rt.alloc(), parts);
+    let boot = boot(rt.alloc(), LARGEST).expect(&rt, "a boot");
+    lends_and_takes_back::<Brand, _>(&rt, rt.alloc(), boot);
 }

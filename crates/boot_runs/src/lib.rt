@@ -1,5 +1,5 @@
-//! Tests of boots from start to end, by visits and by value, and of a machine of the greatest size. Tests of the
-//! program over readers and writers in memory that fail, and of its command line. This crate has nothing but tests.
+//! Tests of boots from start to end, by visits and by value, of which one has the greatest size. Tests of the program
+//! over readers and writers in memory that fail, and of its command line. This crate has nothing but tests.
 #![tactic(auto)]
 
 #[cfg(test)]
@@ -12,8 +12,6 @@ mod faults;
 mod large;
 #[cfg(test)]
 mod life;
-#[cfg(test)]
-mod seats;
 #[cfg(test)]
 mod second;
 #[cfg(test)]

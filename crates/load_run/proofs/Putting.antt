@@ -89,13 +89,13 @@ each_watched (f ∷ frames) before after puts =
 
 -- the watch takes the steps of all puts
 pub puts_watched : (m : KnownMachine) (cpus : List KnownCpu) (n : KnownMachine) (left : List KnownCpu) (puts : ForEachCpu PutsAllPins m cpus n left)
-    → Watches m.watch (steps_of_all_puts m cpus n left puts) n.watch
-puts_watched m [] n [] puts = subst (λ (k : KnownMachine). Watches m.watch [] k.watch) (sym puts) (watches_none m.watch)
+    → Watches m.run.watch (steps_of_all_puts m cpus n left puts) n.run.watch
+puts_watched m [] n [] puts = subst (λ (k : KnownMachine). Watches m.run.watch [] k.run.watch) (sym puts) (watches_none m.run.watch)
 puts_watched m [] n (d ∷ left) puts = absurd puts
 puts_watched m (c ∷ cpus) n [] puts = absurd puts
 puts_watched m (c ∷ cpus) n (d ∷ left) puts =
-    watches_both m.watch (steps_of_puts puts.first.frames (visit_state m c) (visit_state puts.between d) puts.first.puts) puts.between.watch
-    (steps_of_all_puts puts.between cpus n left puts.rest) n.watch
+    watches_both m.run.watch (steps_of_puts puts.first.frames (visit_state m c) (visit_state puts.between d) puts.first.puts) puts.between.run.watch
+    (steps_of_all_puts puts.between cpus n left puts.rest) n.run.watch
     (each_watched puts.first.frames (visit_state m c) (visit_state puts.between d) puts.first.puts) (puts_watched puts.between cpus n left puts.rest)
 
 -- ---- nothing is left

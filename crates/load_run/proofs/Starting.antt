@@ -11,7 +11,7 @@ use Rattle.step_rules.specs.State.{Zone}
 use Rattle.step_watch.specs.Watched.{IsNewWatch, KnownWatch}
 use Rattle.mem_core.specs.Shown as core
 use Rattle.mem_machine.specs.Interleaving.{zone_of}
-use Rattle.mem_machine.specs.Machines.{KnownMachine, IsFirst}
+use Rattle.mem_machine.specs.Machines.{KnownMachine, IsFirst, with_watch}
 use Rattle.mem_history.specs.Whole.{ShowsAll}
 use Rattle.mem_history.specs.Kept.{AreTied, IsTiedPart}
 use Rattle.mem_history.proofs.Booting.{a_boot_is_shown}
@@ -98,7 +98,7 @@ pub given_back : (len : ℕ) (given lent now : List KnownCpu) → lent ≡ given
 given_back len given lent now same count long = written_back len now given (long ∙ ap length same) (sym count ∙ ap length same)
 
 -- the machine of a new boot is that of one with any watch
-pub watched_first : (t : KnownTable) (w : KnownStockTable) (m : KnownMachine) (watch : KnownWatch) → IsFirst t w m → IsFirst t w (record m { watch = watch })
+pub watched_first : (t : KnownTable) (w : KnownStockTable) (m : KnownMachine) (watch : KnownWatch) → IsFirst t w m → IsFirst t w (with_watch m watch)
 watched_first t w m watch first = record {
   frame_states = first.frame_states;
   ledger = first.ledger;

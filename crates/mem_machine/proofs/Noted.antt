@@ -1,5 +1,5 @@
 -- The steps of the open visit, as the pasts have them. Serves each call that makes steps.
-use Rattle.std.proofs.Common.{◌≡◌, ℕ, ◌++◌, List, [], ◌∷◌, refl, sym, ◌∙◌, ap, subst}
+use Rattle.std.proofs.Common.{◌≡◌, ℕ, ◌++◌, [], ◌∷◌, refl, sym, ◌∙◌, ap, subst}
 use Rattle.std.specs.List.{fold}
 use Rattle.std.proofs.lemmas.List.Sums.{fold-append}
 use Rattle.frame_word.specs.Seats.{KnownTable}

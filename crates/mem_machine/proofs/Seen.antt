@@ -118,7 +118,7 @@ pub shown_here : (t : KnownTable) (w : KnownStockTable) (m : KnownMachine) (c : 
 shown_here t w m c s sound found has group tied shut =
     let n = c.number in let part = s.parts n in let low = tied.seats.some_number in
     let own = part_is part c.list c.fresh c.back (account_of m.stock_seat.view n) has.list_is has.fresh_is has.back_is (sound.booked n)
-        (ap (λ (u : State). u.parts n) found) in
+    (ap (λ (u : State). u.parts n) found) in
     sees_both s n sound ∙ ap (show_own n part (s.references n)) found
     ∙ (λ i. record (local_of t m c) {
       hold = sym (hold_shut m.frame_seat n shut) i;

@@ -1,4 +1,4 @@
--- What the closed tables say when each CPU has nothing left. Serves the end of a system.
+-- What the closed table says when each CPU has nothing left. Serves the end of a system.
 use Rattle.std.proofs.Common.{◌≡◌, ℕ, zero, suc, ◌+◌, ◌-◌, ◌<◌, ◌≤◌, ◌==◌, false, true, List, [], ◌∷◌, ◌++◌, length, map, take, drop, get_or, refl, sym, ap}
 use Rattle.std.proofs.Common.{◌∙◌, subst, inl, inr, arith, append-nil, eq-eqb}
 use Rattle.std.specs.Prelude.{All, is_some, min, slice_index}
@@ -73,7 +73,7 @@ not_held NoGroup is = refl
 not_held (HeldBy g n) is = absurd (false≢true (sym is))
 not_held (DrainedOf g) is = refl
 
--- a machine all of whose visits are shut, and CPUs that have nothing left, with their seats at the closed tables
+-- a machine all of whose visits are shut, and CPUs that have nothing left, with their seats at the closed table
 module _ (t : KnownTable) (w : KnownStockTable) (m : KnownMachine) (cpus : List KnownCpu) (shut : AllShut m) (all : All (λ c. IsEmptied t w m c) cpus)
     (closed : IsClosed t w m (map frame_seat_of cpus) (map stock_seat_of cpus)) where
   ok : IsConsistent t w m
@@ -193,7 +193,7 @@ all_visits t w l cpus x rested k quiet no_pin drops rests empties = record {
   drops = drops;
 }
 
--- the tables are closed
+-- the table is closed
 pub all_closes : (t : KnownTable) (w : KnownStockTable) (k : KnownEmptiedBoot) (a : Audit) (frame_seats : List KnownSeat) (stock_seats : List KnownStockSeat)
     → AllShut k.machine → All (λ c. IsEmptied t w k.machine c) k.cpus
     → (((p : ℕ) → NoneLentTo p k.machine.frame_states) → IsAuditOf t k.machine k.drops a)

@@ -1,5 +1,5 @@
 -- How a system ends. Each CPU is settled, then each CPU's list is returned and its stock drained, each in a visit under
--- the lock, and then the tables are closed.
+-- the lock, and then the table is closed.
 use Rattle.std.specs.Prelude.{◌≡◌, ℕ, ◌+◌, ◌≤◌, ◌<◌, false, is_some, List, [], ◌∷◌, ◌++◌, length, map, min}
 use Rattle.std.specs.Prelude.{sum_by, slice_index, All}
 use Rattle.atomic_table.specs.Seated.{TableId}
@@ -141,11 +141,11 @@ pub record AddsUp (audit : Audit) : Type 0 where
   pub places : audit.free + audit.charged ≡ audit.frames
   pub balances : audit.returns ≡ min (audit.last_puts + audit.freezes + audit.drops) max_count
 
--- the CPU's seat at the frames' table
+-- the CPU's seat at the frames
 abbrev pub frame_seat_of : KnownCpu → KnownSeat
 frame_seat_of cpu = cpu.frame_seat
 
--- the CPU's seat at the stocks' table
+-- the CPU's seat at the stocks
 abbrev pub stock_seat_of : KnownCpu → KnownStockSeat
 stock_seat_of cpu = cpu.stock_seat
 
@@ -181,7 +181,7 @@ pub record IsClosed (table : KnownTable) (stock_table : KnownStockTable) (machin
   pub run : Run
   pub is : IsRunOf (zone_of_boot table) (record { frames = frame_words; stocks = stock_words }) run
 
--- The words of the frames' table at the end. They keep the reference rule with the views of all seats. A frame's word
+-- The words of the frames at the end. They keep the reference rule with the views of all seats. A frame's word
 -- is 1, the zone's reference, if the frame heads a kept unit, else 0.
 pub record AreLastWords (table : KnownTable) (machine : KnownMachine) (cpus : List KnownCpu)
     (last : List ℕ) : Type 0 where
@@ -243,7 +243,7 @@ pub record Closes (table : KnownTable) (stock_table : KnownStockTable) (emptied 
   pub counted : IsAuditOf table emptied.machine emptied.drops audit
   pub adds_up : AddsUp audit
 
--- the end of a boot without pins: its last visits are made, and then its tables are closed
+-- the end of a boot without pins: its last visits are made, and then its table is closed
 pub record Ends (table : KnownTable) (stock_table : KnownStockTable) (locked : KnownLocked) (cpus : List KnownCpu)
     (audit : Audit) : Type 0 where
   pub emptied : KnownEmptiedBoot

@@ -1,4 +1,4 @@
-//! The end of a system: the last visits of its CPUs are made, and then the tables are closed.
+//! The end of a system: the last visits of its CPUs are made, and then the table is closed.
 
 ghost use Rattle.std.specs.Prelude.{◌≡◌, ◌<◌, ◌≤◌, ◌^◌, min, length, IfOk, IfErr};
 ghost use Rattle.group_tree.specs.Room.{max_count};
@@ -89,7 +89,7 @@ pub fn make_last_visits<N: BootName>(
 }
 
 /// Ends a boot, from all its parts, with those of all its CPUs in any order. If no pin remains, it makes the last
-/// visits of the CPUs, closes the tables and returns what was counted. If a pin remains, it does nothing and returns
+/// visits of the CPUs, closes the table and returns what was counted. If a pin remains, it does nothing and returns
 /// all parts.
 pub fn end<N: BootName>(
     locked: Locked<N>,

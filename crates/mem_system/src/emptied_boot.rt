@@ -1,4 +1,4 @@
-//! A boot at which nothing is left: its tables can be closed.
+//! A boot at which nothing is left: its table can be closed.
 
 ghost use Rattle.std.specs.Prelude.{◌≡◌, length, map, All};
 ghost use Rattle.std.specs.Vec.{vec_capacity};
@@ -52,7 +52,7 @@ impl<N: BootName> EmptiedBoot<N> {
         self.machine.watch()
     }
 
-    /// Closes the tables and returns what was counted.
+    /// Closes the table and returns what was counted.
     pub fn close(self) -> Audit
         ensures { Closes N.frames N.stocks self result }
     {

@@ -51,9 +51,7 @@ pub fn serve_outcome<N: BootName>(
         cmd,
     );
     locked.machine.shut(tables, &mut cpu.part);
-    locked
-        .machine
-        .unlock(tables, &cpu.part, &mut cpu.past);
+    locked.machine.unlock(tables, &cpu.part, &mut cpu.past);
     locked.machine.prove_consistent();
     outcome
 }

@@ -42,7 +42,7 @@ use Rattle.mem_machine.specs.Interleaving.{zone_of}
 use Rattle.mem_machine.specs.Steps.{cpu_makes}
 use Rattle.mem_machine.proofs.Records.{holds_same}
 use Rattle.mem_machine.specs.Agreeing.{AgreesWithRun}
-use Rattle.mem_history.specs.Whole.{ShowsAll, ServesAt, ServesFast, IsSeenAt, seen_by_holder, under_lock, is_fast}
+use Rattle.mem_history.specs.Whole.{ShowsAll, Leads, ServesAt, ServesFast, IsSeenAt, seen_by_holder, under_lock, is_fast}
 use Rattle.mem_history.specs.Kept.{AreTied}
 use Rattle.mem_history.specs.Leading.{IsPart, put_answer}
 use Rattle.mem_history.proofs.Wholes.{set_here, set_else, lines_follow}
@@ -142,7 +142,7 @@ module _ (t : KnownTable) (m : KnownMachine) (c : KnownCpu) where
 
 -- the run that shows a machine shows it with another watch too
 pub shows_watched : (t : KnownTable) (run : Run) (m : KnownMachine) (cpus : List KnownCpu) (watch : KnownWatch) → ShowsAll t run m cpus
-    → ShowsAll t run (record m { watch = watch }) cpus
+    → ShowsAll t run (with_watch m watch) cpus
 shows_watched t run m cpus watch shows = record {
   legal = shows.legal;
   free = shows.free;
@@ -231,16 +231,18 @@ module _ (t : KnownTable) (w : KnownStockTable) (run : Run) (locked : KnownLocke
       let shown : ShowsAll t run n cpus = subst (λ (l : KnownLocked). ShowsAll t run l.machine cpus) (sym locks) (shows_told t run m cpus is_explained watch shows) in
       let same : local_of t n seen ≡ local_of t n c =
       subst (λ (l : KnownLocked). local_of t l.machine seen ≡ local_of t l.machine c) (sym locks) unseen.same in
-      let leads : Makes t (visit_state n c) is.steps (visit_state after.locked.machine after.cpu) = record {
+      let makes : Makes t (visit_state n c) is.steps (visit_state after.locked.machine after.cpu) = record {
         leads = subst (λ (x : ℕ × State). IsLocalRun x.0 x.1 is.steps (local_of t after.locked.machine after.cpu)) (λ i. (unseen.number i, same i))
             is.makes.leads;
         follows = subst (λ (x : State). FollowsSteps x n.ledger is.steps after.locked.machine.ledger) same is.makes.follows;
         counts = is.makes.counts ∙ ap (λ (x : State). counts_along x is.steps n.counts) same;
-        watched = is.makes.watched;
+        noted = is.makes.noted;
       } in
+      let leads : Leads t (visit_state n c) is.steps (visit_state after.locked.machine after.cpu) =
+      record { leads = makes.leads; follows = makes.follows; counts = makes.counts } in
       let serves : ServesAt t cpus k (visit_state n c) is.steps (visit_state after.locked.machine after.cpu) = record {
         is_part = is_part;
-        leads = leads;
+        leads = makes;
         decided = legal_lines_are_decided t run cpus k (visit_state n c) is.steps (visit_state after.locked.machine after.cpu) shown is_part leads legal;
         shut = shut;
       } in (
@@ -261,10 +263,10 @@ module _ (t : KnownTable) (w : KnownStockTable) (run : Run) (locked : KnownLocke
   -- a step without the lock
   step_follows : (action : Action) (answer : StepAnswer) (after : LockedState) → (kept : OnlyWatched (cpu_makes p action answer ∷ []) locked after.locked) →
       after.cpu.number ≡ p → is_fast action ≡ true → answer ≢ step_answer.Illegal →
-      Makes t (visit_state m c) (cpu_makes p action answer ∷ []) (visit_state (record m { watch = after.locked.machine.run.watch }) after.cpu) →
+      Leads t (visit_state m c) (cpu_makes p action answer ∷ []) (visit_state (with_watch m after.locked.machine.run.watch) after.cpu) →
       GoesOn (cpu_makes p action answer ∷ []) → Follows (cpu_makes p action answer ∷ []) after
   step_follows action answer after kept number quick made leads legal =
-      let n : KnownMachine = record m { watch = after.locked.machine.run.watch } in
+      let n : KnownMachine = with_watch m after.locked.machine.run.watch in
       let serves : ServesFast t cpus k (visit_state m c) action answer (visit_state n after.cpu) = record {
         is_part = is_part;
         number = number;

@@ -24,14 +24,14 @@ use Rattle.script_replay.proofs.Telling.{at_ok}
 pub record IsLookedAt (t : KnownTable) (m n : KnownMachine) : Type 0 where
   pub same : (c : KnownCpu) → local_of t n c ≡ local_of t m c
   pub ledger : n.ledger ≡ m.ledger
-  pub watch : n.watch ≡ m.watch
+  pub watch : n.run.watch ≡ m.run.watch
   pub opened : n.frame_seat.view.opened ≡ m.frame_seat.view.opened
 
 looked_none : (t : KnownTable) (m n : KnownMachine) → n ≡ m → IsLookedAt t m n
 looked_none t m n is = record {
   same = λ c. ap (λ (x : KnownMachine). local_of t x c) is;
   ledger = ap (λ (x : KnownMachine). x.ledger) is;
-  watch = ap (λ (x : KnownMachine). x.watch) is;
+  watch = ap (λ (x : KnownMachine). x.run.watch) is;
   opened = ap (λ (x : KnownMachine). x.frame_seat.view.opened) is;
 }
 

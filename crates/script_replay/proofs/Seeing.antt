@@ -61,7 +61,7 @@ module _ (t : KnownTable) (before : LockedState) (steps : Run) (after : LockedSt
       let d : KnownWatch = is.left.machine.run.watch in
       let e : KnownWatch = after.locked.machine.run.watch in
       let rest : Watches b (is.served.steps ++ last) e =
-      watches_both b is.served.steps d last e is.served.makes.watched (only_sees last is.left after.locked is.unlock) in
+      watches_both b is.served.steps d last e is.served.makes.noted.watched (only_sees last is.left after.locked is.unlock) in
       subst (λ (r : Run). Watches a r e) (sym is.steps_are)
       (watches_both a first b (is.served.steps ++ last) e is.lock.watched rest)
 

@@ -9,19 +9,19 @@ use Rattle.std.specs.Coded.{coded_option}
 use Rattle.std.specs.Global.{Global}
 use Rattle.core.specs.contracts.marker.Brand as Brand
 use Rattle.std_heap.specs.contracts.GlobalAllocator.TheImpl.{ghosts}
+use Rattle.boot_words.specs.contracts.raw.BootWords as BootWords
 use Rattle.frame_word.specs.Seats.{KnownTable}
-use Rattle.frame_word.specs.contracts.words.FrameWords as FrameWords
 use Rattle.stock_word.specs.Stock.{KnownStockTable}
 use Rattle.stock_word.specs.contracts.kinds.StockWords as StockWords
 use Rattle.tempolemon_c.specs.Known.{KnownLive}
 use Rattle.tempolemon_c.specs.contracts.live.Live as Live
 use Rattle.tempolemon_c.specs.declared.live.Live as Known
 
--- how a table of the frames' words is stored
+-- how a table of a boot's words is stored
 abbrev pub frames_coded : Coded KnownTable
-frames_coded = FrameWords.the_row.coded
+frames_coded = BootWords.the_row.coded
 
--- how a table of the stocks' words is stored
+-- how a table of stocks is stored
 abbrev pub stocks_coded : Coded KnownStockTable
 stocks_coded = StockWords.the_row.coded
 

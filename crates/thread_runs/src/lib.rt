@@ -1,5 +1,5 @@
-//! Tests of the words that CPUs share, and of scripts for two and for four CPUs, each in a thread. This crate has
-//! nothing but tests.
+//! Tests of words that CPUs share, of the CPUs of a system, and of scripts for two and for four CPUs, each in a thread.
+//! This crate has nothing but tests.
 #![tactic(auto)]
 
 #[cfg(test)]

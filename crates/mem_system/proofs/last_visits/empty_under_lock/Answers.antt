@@ -1,4 +1,4 @@
-use Rattle.std.proofs.Common.{◌∙◌, ap, rules, subst, sym}
+use Rattle.std.proofs.Common.{◌∙◌, ap, subst, sym}
 use Rattle.cpu_part.specs.Cpus.{KnownCpu}
 use Rattle.mem_machine.specs.Local.{visit_state}
 use Rattle.mem_system.specs.Ends.{Empties, VisitsUnderLock}
@@ -43,24 +43,3 @@ returns-clause-others g c =
     alone_seen c.args.machine.now c.take_step.new.self c.empty_cpu.new.machine c.unlock.new.self _ _
     (run_twice c.args.machine.now _ _ _ _ c.lock.ensures.machine c.take_step.ensures.machine) (run_twice c.empty_cpu.new.machine _ _ _ _ c.take_step-2.ensures.machine c.unlock.ensures.machine)
     c.empty_cpu.ensures.others
-
-pub empty_cpu-requires-clause-settled : goal.empty_cpu-requires-clause-settled
-empty_cpu-requires-clause-settled g c = search rules
-
-pub lock-requires-clause-rests : goal.lock-requires-clause-rests
-lock-requires-clause-rests g c = search rules
-
-pub lock-requires-clause-shut : goal.lock-requires-clause-shut
-lock-requires-clause-shut g c = search rules
-
-pub lock-requires-clause-knows : goal.lock-requires-clause-knows
-lock-requires-clause-knows g c = search rules
-
-pub unlock-requires-clause-given : goal.unlock-requires-clause-given
-unlock-requires-clause-given g c = search rules
-
-pub returns-clause-rests : goal.returns-clause-rests
-returns-clause-rests g c = search rules
-
-pub invariant_of-cpu : goal.invariant_of-cpu
-invariant_of-cpu g c = search rules

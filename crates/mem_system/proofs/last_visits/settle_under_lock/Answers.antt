@@ -1,4 +1,4 @@
-use Rattle.std.proofs.Common.{◌∙◌, ap, rules, subst, sym}
+use Rattle.std.proofs.Common.{◌∙◌, ap, subst, sym}
 use Rattle.cpu_part.specs.Cpus.{KnownCpu}
 use Rattle.mem_machine.specs.Local.{visit_state}
 use Rattle.mem_system.specs.Ends.{SettlesInVisit, VisitsUnderLock}
@@ -32,27 +32,3 @@ returns-clause-settles g c =
 pub returns-clause-shut : goal.returns-clause-shut
 returns-clause-shut g c =
     shut_seen c.settle_cpu.new.machine c.unlock.new.self _ (run_twice c.settle_cpu.new.machine _ _ _ _ c.take_step-2.ensures.machine c.unlock.ensures.machine) c.settle_cpu.ensures.shut
-
-pub settle_cpu-requires-clause-no_pin : goal.settle_cpu-requires-clause-no_pin
-settle_cpu-requires-clause-no_pin g c = search rules
-
-pub returns-clause-settled : goal.returns-clause-settled
-returns-clause-settled g c = search rules
-
-pub lock-requires-clause-rests : goal.lock-requires-clause-rests
-lock-requires-clause-rests g c = search rules
-
-pub lock-requires-clause-shut : goal.lock-requires-clause-shut
-lock-requires-clause-shut g c = search rules
-
-pub lock-requires-clause-knows : goal.lock-requires-clause-knows
-lock-requires-clause-knows g c = search rules
-
-pub unlock-requires-clause-given : goal.unlock-requires-clause-given
-unlock-requires-clause-given g c = search rules
-
-pub returns-clause-rests : goal.returns-clause-rests
-returns-clause-rests g c = search rules
-
-pub invariant_of-cpu : goal.invariant_of-cpu
-invariant_of-cpu g c = search rules

@@ -1,4 +1,4 @@
 use Rattle.thread_runs.proofs.parts.drops_beside_pins.Given as goal
 
-abbrev pub ghosts-works_beside : goal.ghosts-works_beside
-ghosts-works_beside g a = record { frames = a.parts.frames; stocks = a.parts.stocks }
+abbrev pub ghosts-lives_beside : goal.ghosts-lives_beside
+ghosts-lives_beside g a = record { frames = a.boot.frames; stocks = a.boot.stocks }

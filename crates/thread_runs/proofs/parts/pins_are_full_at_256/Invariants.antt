@@ -1,4 +1,4 @@
 use Rattle.thread_runs.proofs.parts.pins_are_full_at_256.Given as goal
 
-abbrev pub ghosts-pins_run_out : goal.ghosts-pins_run_out
-ghosts-pins_run_out g a = record { frames = a.parts.frames; stocks = a.parts.stocks }
+abbrev pub ghosts-lives_and_pins : goal.ghosts-lives_and_pins
+ghosts-lives_and_pins g a = record { frames = a.boot.frames; stocks = a.boot.stocks }

@@ -1,4 +1,4 @@
-use Rattle.std.proofs.Common.{◌≡◌, ℕ, Option, None, ◌∷◌, ap, refl, ◌∙◌, subst}
+use Rattle.std.proofs.Common.{◌≡◌, ℕ, Option, None, ap, refl, ◌∙◌, subst}
 use Rattle.step_rules.specs.declared.step.Action.TheVariants.{DrainStock}
 use Rattle.step_rules.specs.declared.step.Answer.TheVariants.{Pages}
 use Rattle.mem_machine.proofs.Draining.{drain_may, drained_looked, drained_never, looked_consistent, looked_never_filled, looked_no_group, looked_shown, looked_twice, looked_visits, never_drained, runs_looked}

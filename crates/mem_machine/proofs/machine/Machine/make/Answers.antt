@@ -1,4 +1,4 @@
-use Rattle.std.proofs.Common.{◌≡◌, refl, rules, ℕ, ◌<◌, ◌∷◌, List, false, length, arith, ap, sym, subst}
+use Rattle.std.proofs.Common.{refl, rules, ℕ, ◌<◌, List, false, length, arith, ap, sym, subst}
 use Rattle.std.specs.Prelude.{slice_set}
 use Rattle.group_tree.proofs.GroupLemmas.{can_make}
 use Rattle.step_rules.specs.declared.step.Action.TheVariants.{Make}

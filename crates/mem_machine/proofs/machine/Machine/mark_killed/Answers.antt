@@ -1,4 +1,4 @@
-use Rattle.std.proofs.Common.{◌≡◌, ℕ, ◌<◌, true, length, arith, ap, refl}
+use Rattle.std.proofs.Common.{ℕ, ◌<◌, true, length, arith, ap, refl}
 use Rattle.std.specs.Prelude.{slice_set}
 use Rattle.mem_machine.proofs.GroupSteps.{kills}
 use Rattle.mem_machine.proofs.Followed.{makes_noted}

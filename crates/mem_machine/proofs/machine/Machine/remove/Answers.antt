@@ -1,4 +1,4 @@
-use Rattle.std.proofs.Common.{◌≡◌, rules, refl}
+use Rattle.std.proofs.Common.{rules, refl}
 use Rattle.mem_machine.proofs.GroupSteps.{removes, still_visited}
 use Rattle.mem_machine.proofs.Usage.{usage_seen, balanced_alone}
 use Rattle.mem_machine.proofs.Followed.{makes_noted}

@@ -133,7 +133,7 @@ returns-in-Err-clause-steps g c =
     c.frames-pages.ensures.frames c.make_step.ensures.notes)
 
 pub returns-in-Err-clause-visit : goal.returns-in-Err-clause-visit
-returns-in-Err-clause-visit g c = 
+returns-in-Err-clause-visit g c =
     visit_kept g.N.BootName.frames _ _ c.self.view_is c.args.cpu.now _ refl _ (returns-in-Err-clause-steps g c) c.requires.visit
 
 pub make_step-requires-clause-legal : goal.make_step-requires-clause-legal

@@ -1,4 +1,4 @@
-use Rattle.std.proofs.Common.{ℕ, refl, sym, ap, ◌∙◌, [], ◌∷◌, subst}
+use Rattle.std.proofs.Common.{ℕ, refl, sym, ap, [], ◌∷◌, subst}
 use Rattle.step_rules.specs.declared.step.Action.TheVariants.{Consume}
 use Rattle.step_rules.specs.declared.step.Answer.TheVariants.{Took}
 use Rattle.cpu_part.specs.Cpus.{KnownCpu}
