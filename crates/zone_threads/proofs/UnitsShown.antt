@@ -1,5 +1,5 @@
 -- The units that are shown are those of a group that is there. Serves `units`.
-use Rattle.std.proofs.Common.{◌≡◌, ℕ, Bool, true, false, List, Ok, Some, None, sym, subst}
+use Rattle.std.proofs.Common.{◌≡◌, ℕ, Bool, true, false, List, Ok, Some, None, refl, sym, subst}
 use Rattle.std.specs.Prelude.{Option, Result}
 use Rattle.mem_machine.specs.Machines.{KnownMachine}
 use Rattle.mem_system.specs.Shown.{UnitsAt}
@@ -9,6 +9,12 @@ pub units_shown : (group : Option ℕ) (none : Type 0) (says other : List ℕ �
     → ((shown : List ℕ) → says shown → other shown) → UnitsAt group none says m n → UnitsAt group ⊥ other m n
 units_shown None none says other m n absent more is = absurd (absent is.0)
 units_shown (Some group) none says other m n absent more is = record { pins = is.pins; looks = is.looks; told = more _ is.told }
+
+-- no text says that a group is there, so there is none
+pub units_missing : (group : Option ℕ) (none : Type 0) (says : List ℕ → Type 0) (m n : KnownMachine) → ((shown : List ℕ) → says shown → ⊥)
+    → UnitsAt group none says m n → group ≡ None
+units_missing None none says m n not is = refl
+units_missing (Some group) none says m n not is = absurd (not _ is.told)
 
 module _ {E : Type 0} where
   abbrev SaysThere : Result Bool E → Type 0

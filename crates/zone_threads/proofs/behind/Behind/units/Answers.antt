@@ -1,8 +1,33 @@
 -- Serves `units`: the CPU was settled, and one look at the word of each unit was made.
-use Rattle.std.proofs.Common.{rules, ◌≡◌, ◌∙◌, ◌++◌, List, ℕ, ap, true}
+use Rattle.std.proofs.Common.{rules, ◌≡◌, ◌∙◌, ◌++◌, List, ℕ, ap, sym, true, false, true≢false}
 use Rattle.std.specs.String.{string_bytes}
-use Rattle.zone_threads.proofs.UnitsShown.{there_is, units_shown}
+use Rattle.zone_threads.proofs.UnitsShown.{there_is, units_missing, units_shown}
 use Rattle.zone_threads.proofs.behind.Behind.units.Goals as goal
+
+pub returns-in_default : goal.returns-in_default
+returns-in_default g c =
+    record {
+      found = c.self.inside.locked;
+      settled = c.settle.new.locked;
+      left = c.write_units_at-shown.new.locked;
+      sound_before = search rules;
+      settles = c.settle.ensures.served;
+      sound_after = search rules;
+      told = tt;
+    }
+
+pub returns-then-not-is_there : goal.returns-then-not-is_there
+returns-then-not-is_there g c =
+    let gone : c.in-Ok.is_there ≡ false = search rules in
+    record {
+      found = c.self.inside.locked;
+      settled = c.settle.new.locked;
+      left = c.write_units_at-shown.new.locked;
+      sound_before = search rules;
+      settles = c.settle.ensures.served;
+      sound_after = search rules;
+      told = units_missing _ _ _ _ _ (λ shown told. true≢false (sym told.0 ∙ gone)) c.in-Ok.ensures.units;
+    }
 
 pub returns : goal.returns
 returns g c =
