@@ -19,7 +19,7 @@ use Rattle.step_rules.specs.After.{Run}
 use Rattle.group_charge.specs.declared.note.Note.TheVariants as notes
 use Rattle.group_charge.specs.Notes.{noted}
 use Rattle.mem_machine.specs.Machines.{IsConsistent, KnownMachine, is_killed, with_run, with_note}
-use Rattle.mem_machine.specs.Local.{MakesForAny, SomeShown, StaysVisited, visit_state}
+use Rattle.mem_machine.specs.Local.{MakesForAny, SomeSeenByRun, StaysVisited, visit_state}
 use Rattle.mem_machine.specs.Steps.{note_oom_steps}
 use Rattle.mem_reclaim.specs.declared.sets.Killed.{Killed}
 use Rattle.mem_reclaim.specs.Killing.{IsKilledBy, OnlyDrains, OnlyReleases, with_all_killed}
@@ -239,7 +239,7 @@ so_far_killed r t w g pages killed m x n so_far needs_room whole charges chosen 
 }
 
 -- what the CPU sees then
-pub so_far_shown : (r : Option ℕ) (t : KnownTable) (g pages : ℕ) (m n : KnownMachine) → KillsSoFar r t g pages m n → SomeShown t m → SomeShown t n
+pub so_far_shown : (r : Option ℕ) (t : KnownTable) (g pages : ℕ) (m n : KnownMachine) → KillsSoFar r t g pages m n → SomeSeenByRun t m → SomeSeenByRun t n
 so_far_shown r t g pages m n so_far shown =
     let x = with_run (with_oom_noted_at m g) so_far.seen in
     shown_after t x so_far.killing n so_far.runs (shown_after t m (note_oom_steps g) x so_far.notes shown)

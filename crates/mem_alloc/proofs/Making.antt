@@ -10,7 +10,7 @@ use Rattle.group_charge.specs.Charges.{current_of, with_max_noted}
 use Rattle.cpu_part.specs.Cpus.{KnownCpu}
 use Rattle.step_rules.specs.After.{Run}
 use Rattle.mem_machine.specs.Machines.{KnownMachine, is_killed, with_run}
-use Rattle.mem_machine.specs.Local.{MakesForAny, SomeShown, StaysVisited, Visits, VisitState, visit_state, MakesAs, Makes}
+use Rattle.mem_machine.specs.Local.{MakesForAny, SomeSeenByRun, StaysVisited, Visits, VisitState, visit_state, MakesAs, Makes}
 use Rattle.mem_machine.specs.Steps.{over_steps, note_max_steps, drain_stocks_steps, fill_steps}
 use Rattle.mem_machine.specs.Stocks.{Fills, DrainsSubtree, DrainsAllBelow, AreDrained}
 use Rattle.mem_machine.specs.Transitions.{BySteps, Transition, transition}
@@ -33,10 +33,10 @@ pub limit_visits : (t : KnownTable) (g pages : ℕ) (m x : KnownMachine) → x �
 limit_visits t g pages m x is =
     subst (StaysVisited t m) (sym is) (λ c v. visits_noted t m c (with_limit_noted m g pages).notes v)
 
-pub limit_shown : (t : KnownTable) (g pages : ℕ) (m x : KnownMachine) → x ≡ with_limit_noted m g pages → SomeShown t m → SomeShown t x
+pub limit_shown : (t : KnownTable) (g pages : ℕ) (m x : KnownMachine) → x ≡ with_limit_noted m g pages → SomeSeenByRun t m → SomeSeenByRun t x
 limit_shown t g pages m x is shown =
     let c = shown.cpu in
-    subst (SomeShown t) (sym is) (record { cpu = c; is = shown_same t (visit_state m c) (visit_state (with_limit_noted m g pages) c) shown.is refl refl refl })
+    subst (SomeSeenByRun t) (sym is) (record { cpu = c; is = shown_same t (visit_state m c) (visit_state (with_limit_noted m g pages) c) shown.is refl refl refl })
 
 note_then_drains : (t : KnownTable) (g pages : ℕ) (m x n : KnownMachine) → MakesForAny t m (note_max_steps g) x → (drains : DrainsSubtree t g pages x n)
     → MakesForAny t m (note_max_steps g ++ drain_stocks_steps drains.drains) n

@@ -4,7 +4,7 @@ ghost use Rattle.std.specs.Prelude.{◌≡◌, ◌↔◌, IsTrue};
 ghost use Rattle.group_tree.specs.Groups.{has_group};
 ghost use Rattle.mem_alloc.specs.Kills.{KillsForRoom, NeedsRoom, has_room_at};
 ghost use Rattle.mem_alloc.specs.Room.{KillsForFewPages};
-ghost use Rattle.mem_machine.specs.Local.{MakesForAny, SomeShown, StaysVisited};
+ghost use Rattle.mem_machine.specs.Local.{MakesForAny, SomeSeenByRun, StaysVisited};
 ghost use Rattle.mem_machine.specs.Transitions.{BySteps};
 
 use cpu_part::{BootName, Tables};
@@ -60,7 +60,7 @@ pub fn kill_for<N: BootName>(
     pages: u32,
 )
     requires there { IsTrue (has_group machine.old.ledger.groups limited) }
-    requires shown { SomeShown N.frames machine.old }
+    requires shown { SomeSeenByRun N.frames machine.old }
     ensures kills { BySteps MakesForAny N.frames (KillsForRoom requester limited pages) machine.old machine.new }
     ensures visit { StaysVisited N.frames machine.old machine.new }
 {
@@ -91,7 +91,7 @@ pub(crate) fn kill_for_few_pages<N: BootName>(
     pages: u32,
 )
     requires there { IsTrue (has_group machine.old.ledger.groups limited) }
-    requires shown { SomeShown N.frames machine.old }
+    requires shown { SomeSeenByRun N.frames machine.old }
     ensures kills { BySteps MakesForAny N.frames (KillsForFewPages requester limited pages) machine.old machine.new }
     ensures visit { StaysVisited N.frames machine.old machine.new }
 {

@@ -9,7 +9,7 @@ use Rattle.step_rules.specs.After.{Run, IsLegalRun}
 use Rattle.mem_machine.specs.Machines.{KnownMachine, VisitState, visit_state}
 use Rattle.mem_machine.specs.Interleaving.{zone_of}
 use Rattle.mem_machine.specs.Steps.{cpu_makes}
-use Rattle.mem_history.specs.Whole.{ShowsAll, AreDecided, Leads, under_lock, is_fast}
+use Rattle.mem_history.specs.Whole.{ShowsAll, AreDecided, LeadsOn, under_lock, is_fast}
 
 -- Suppose a run shows the whole, and continues legally with the steps of a line under the lock. Then each of these
 -- steps was answered as all parts together decide.
@@ -17,7 +17,7 @@ abbrev pub LegalLinesAreDecided : Type 0
 LegalLinesAreDecided = (table : KnownTable) (run : Run) (cpus : List KnownCpu) (index : ℕ) (before : VisitState)
     (steps : Run)
     (after : VisitState) → ShowsAll table run before.machine cpus → slice_get cpus index ≡ Some before.cpu
-    → Leads table before steps after → IsLegalRun (zone_of table) (run ++ under_lock before.cpu.number steps)
+    → LeadsOn table before steps after → IsLegalRun (zone_of table) (run ++ under_lock before.cpu.number steps)
     → AreDecided table cpus before steps
 
 -- The same holds for a step that takes no lock, if the run that continues with it is legal and it wasn't answered

@@ -15,7 +15,7 @@ use Rattle.step_rules.specs.declared.step.Answer.TheVariants.{Held, Left, Last, 
 use Rattle.step_rules.specs.After.{Run}
 use Rattle.mem_machine.specs.Machines.{KnownMachine, VisitState, visit_state, with_watch}
 use Rattle.mem_machine.specs.Steps.{cpu_makes}
-use Rattle.mem_history.specs.Whole.{ShowsAll, AreDecided, Leads}
+use Rattle.mem_history.specs.Whole.{ShowsAll, AreDecided, LeadsOn}
 use Rattle.step_watch.specs.Watched.{KnownWatch, Watches}
 
 -- the answer of the step Put, for what the part's put answered
@@ -26,7 +26,7 @@ put_answer put.Last = Last
 -- these steps lead the CPU to this part, and change nothing behind the lock, except that the machine's watch took them
 abbrev pub LeadsWatched : KnownTable → VisitState → Run → KnownCpu → Type 0
 LeadsWatched table before steps later = (watch : KnownWatch) → Watches before.machine.run.watch steps watch
-    → Leads table before steps (visit_state (with_watch before.machine watch) later)
+    → LeadsOn table before steps (visit_state (with_watch before.machine watch) later)
 
 -- the run shows the whole, and this is its part at this index, tied to its seats
 pub record IsPart (table : KnownTable) (stock_table : KnownStockTable) (run : Run) (machine : KnownMachine)

@@ -93,7 +93,7 @@ AreDecided table cpus before steps = (index : ℕ) → IfSome (slice_get steps i
 -- These steps, of the CPU and of the zone's seat, lead from one visit state to another. The ledger's peaks and event
 -- counts follow them, and so do the machine's counts. `Makes` says besides that the machine's pasts have grown by the
 -- steps, but those of a step without the lock have not.
-pub record Leads (table : KnownTable) (before : VisitState) (steps : Run) (after : VisitState) : Type 0 where
+pub record LeadsOn (table : KnownTable) (before : VisitState) (steps : Run) (after : VisitState) : Type 0 where
   pub leads : IsLocalRun before.cpu.number (local_at table before) steps (local_at table after)
   pub follows : FollowsSteps (local_at table before) before.machine.ledger steps after.machine.ledger
   pub counts : after.machine.counts ≡ counts_along (local_at table before) steps before.machine.counts
@@ -137,7 +137,7 @@ pub record ServesFast (table : KnownTable) (cpus : List KnownCpu) (index : ℕ)
   pub number : after.cpu.number ≡ before.cpu.number
   pub fast : is_fast action ≡ true
   pub machine : after.machine ≡ with_watch before.machine after.machine.run.watch
-  pub leads : Leads table before (cpu_makes before.cpu.number action answer ∷ []) after
+  pub leads : LeadsOn table before (cpu_makes before.cpu.number action answer ∷ []) after
   pub decided : AreDecided table cpus before (cpu_makes before.cpu.number action answer ∷ [])
 
 -- if a run shows the whole, then the run that continues with that step shows the whole after the step

@@ -28,7 +28,7 @@ use Rattle.step_rules.proofs.Basics.{at_same, at_other, at_each, at_itself, cond
 use Rattle.step_rules.proofs.Sums.{sum_part, sum_change}
 use Rattle.mem_machine.specs.FrameStates.{one_if_is}
 use Rattle.mem_machine.specs.Machines.{KnownMachine, IsConsistent, booked, frames_charged, pages_booked}
-use Rattle.mem_machine.specs.Local.{IsShown, SomeShown, StaysVisited, local_of, part_of, part_with, IsLocalRun, MakesAs, visit_state}
+use Rattle.mem_machine.specs.Local.{IsSeenByRun, SomeSeenByRun, StaysVisited, local_of, part_of, part_with, IsLocalRun, MakesAs, visit_state}
 use Rattle.mem_machine.specs.Steps.{ungrant_steps, drain_steps, zone_makes}
 use Rattle.mem_machine.specs.Stocks.{uncharged, stock_group, steps_to_drain, with_look, Drains, DrainsBy}
 use Rattle.mem_machine.proofs.Reaching.{zone_step, run_one}
@@ -474,7 +474,7 @@ module _ (m now : KnownMachine) (same : m ≡ now) (stock : KnownStockSeat) (is 
 -- ---- under the lock
 
 -- a stock may be drained, whatever is in it
-pub drain_may : (t : KnownTable) (m now : KnownMachine) → m ≡ now → (c : KnownCpu) → IsShown t (visit_state now c) → (q : ℕ) → 1 ≤ q → q ≤ t.cpus
+pub drain_may : (t : KnownTable) (m now : KnownMachine) → m ≡ now → (c : KnownCpu) → IsSeenByRun t (visit_state now c) → (q : ℕ) → 1 ≤ q → q ≤ t.cpus
     → MayMake t m.run.past 0 (DrainStock q)
 drain_may t m now same c at q some inside =
     let acts = zone_may_act now.frame_seat c.number in
@@ -486,8 +486,8 @@ drain_may t m now same c at q some inside =
 
 -- after a look the same is seen, and each visit is open
 pub looked_shown : (t : KnownTable) (m now : KnownMachine) → m ≡ now → (stock : KnownStockSeat) → stock ≡ with_view m.stock_seat (with_steps 1 m.stock_seat.view)
-    → SomeShown t now → SomeShown t (record m { stock_seat = stock })
-looked_shown t m now same stock is some = subst (SomeShown t) (sym (looked_now m now same stock is))
+    → SomeSeenByRun t now → SomeSeenByRun t (record m { stock_seat = stock })
+looked_shown t m now same stock is some = subst (SomeSeenByRun t) (sym (looked_now m now same stock is))
     (record { cpu = some.cpu; is = record { held = some.is.held; who = some.is.who; here = some.is.here } })
 
 pub looked_visits : (t : KnownTable) (m now : KnownMachine) → m ≡ now → (stock : KnownStockSeat) → stock ≡ with_view m.stock_seat (with_steps 1 m.stock_seat.view)

@@ -26,7 +26,7 @@ use Rattle.mem_machine.specs.declared.frame_state.FrameState.{FrameState}
 use Rattle.mem_machine.specs.declared.frame_state.FrameState.TheVariants.{Head}
 use Rattle.mem_machine.specs.FrameStates.{frame_state_at, free_of, head_group_of, some_cpu}
 use Rattle.mem_machine.specs.Machines.{KnownMachine, FitsFrameState, IsConsistent, home_of, group_lists, lists_of}
-use Rattle.mem_machine.specs.Local.{IsShown, Visits, local_of, references_of, visit_state}
+use Rattle.mem_machine.specs.Local.{IsSeenByRun, Visits, local_of, references_of, visit_state}
 use Rattle.mem_machine.specs.Noted.{AreLocal, MayTakeAll}
 use Rattle.mem_machine.specs.Steps.{zone_makes}
 use Rattle.mem_machine.specs.Freeing.{FreesFrames}
@@ -205,7 +205,7 @@ evicted_all t w m now same ok f i inside is kept_now links lists left_list stand
     }
 
 -- the zone's last reference may be frozen, whatever the answer
-pub freeze_may : (t : KnownTable) (w : KnownStockTable) (m now : KnownMachine) → m ≡ now → (c : KnownCpu) → IsShown t (visit_state now c) → IsConsistent t w m → (f : ℕ) → f < t.frames
+pub freeze_may : (t : KnownTable) (w : KnownStockTable) (m now : KnownMachine) → m ≡ now → (c : KnownCpu) → IsSeenByRun t (visit_state now c) → IsConsistent t w m → (f : ℕ) → f < t.frames
     → home_of now.links f ≢ None → MayTakeAll t m.run.past (zone_makes (Freeze f 1) answer.Done ∷ [])
 freeze_may t w m now same c at ok f inside kept_now =
     let held = kept_held t w m now same ok f inside kept_now in

@@ -30,7 +30,7 @@ use Rattle.mem_machine.specs.FrameStates.{frame_state_group as charged_to}
 use Rattle.mem_machine.proofs.Ledgers.{ledger_visit_state}
 use Rattle.mem_machine.specs.Machines.{KnownMachine, IsConsistent}
 use Rattle.mem_machine.specs.Noted.{AreLocal}
-use Rattle.mem_machine.specs.Local.{IsShown, Visits, local_of, phase_of, part_of, part_with, visit_state}
+use Rattle.mem_machine.specs.Local.{IsSeenByRun, Visits, local_of, phase_of, part_of, part_with, visit_state}
 use Rattle.mem_machine.specs.Steps.{cpu_makes, take_front_steps}
 use Rattle.mem_machine.specs.Paying.{IsOfSize, IsOwnStock, HoldsPage, PaysForFront, HasRoomFor, pages_held}
 use Rattle.mem_machine.proofs.Reaching.{cpu_step, run_one}
@@ -152,7 +152,7 @@ module _ (t : KnownTable) (w : KnownStockTable) (m : KnownMachine) (c : KnownCpu
       cpu_step s p (Consume g) Took refl legal answer
 
 -- the same, of the machine as it was seen before
-pub front_may : (t : KnownTable) (w : KnownStockTable) (m now : KnownMachine) → m ≡ now → (c : KnownCpu) → IsShown t (visit_state now c) → IsTied t w c → IsConsistent t w m
+pub front_may : (t : KnownTable) (w : KnownStockTable) (m now : KnownMachine) → m ≡ now → (c : KnownCpu) → IsSeenByRun t (visit_state now c) → IsTied t w c → IsConsistent t w m
     → (g : ℕ) → HoldsPage (visit_state now c) g → c.fresh ≡ [] → 1 ≤ length c.list → MayMake t m.run.past c.number (Consume g)
 front_may t w m now same c at tied ok g page none listed =
     let here : HoldsPage (visit_state m c) g = subst (λ (x : KnownMachine). HoldsPage (visit_state x c) g) (sym same) page in

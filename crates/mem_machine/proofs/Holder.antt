@@ -17,11 +17,11 @@ use Rattle.boot_words.specs.Seats.{zone_of_boot}
 use Rattle.boot_words.specs.Sight.{MayPassBack, FromBack}
 use Rattle.boot_words.proofs.Returning.{fronts_pass_back}
 use Rattle.mem_machine.specs.Machines.{KnownMachine}
-use Rattle.mem_machine.specs.Local.{IsShown, Visits, local_of, visit_state}
+use Rattle.mem_machine.specs.Local.{IsSeenByRun, Visits, local_of, visit_state}
 use Rattle.mem_machine.proofs.Holds.{own_part, visits_open}
 use Rattle.mem_machine.proofs.Reached.{who_here}
 
-pub holder_here : (t : KnownTable) (m now : KnownMachine) → m ≡ now → (c : KnownCpu) → IsShown t (visit_state now c) → IsHolder m.run.past c.number
+pub holder_here : (t : KnownTable) (m now : KnownMachine) → m ≡ now → (c : KnownCpu) → IsSeenByRun t (visit_state now c) → IsHolder m.run.past c.number
 holder_here t m now same c at = sym (who_here t m now same c at)
 
 -- at a table that is known by another name

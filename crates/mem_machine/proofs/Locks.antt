@@ -25,7 +25,7 @@ use Rattle.cpu_part.specs.Cpus.{KnownCpu, IsTied}
 use Rattle.cpu_part.specs.Known.{KnowsItsPart, last_state}
 use Rattle.cpu_part.proofs.Knowing.{HasLists, has_same, own_group, own_lists}
 use Rattle.mem_machine.specs.Machines.{KnownMachine, visit_state}
-use Rattle.mem_machine.specs.Local.{IsShown, local_of}
+use Rattle.mem_machine.specs.Local.{IsSeenByRun, local_of}
 use Rattle.mem_machine.specs.Resting.{Rests, hidden_of}
 use Rattle.mem_machine.proofs.Seen.{group_here, hidden_here, may_unlock, part_here, references_here, shown_here}
 
@@ -66,7 +66,7 @@ module _ (t : KnownTable) (w : KnownStockTable) (m : KnownMachine) (c : KnownCpu
       (has_same (last_state t past) (own_past past).number c.list c.fresh c.back c.pins (own_lists t past c knows) seen_then locks.own)
 
   -- it sees what the machine and its own part show
-  pub is_shown_then : IsShown t (visit_state (with_past m later) c)
+  pub is_shown_then : IsSeenByRun t (visit_state (with_past m later) c)
   unfolding seen_then
   is_shown_then =
       let who : (cpu_past later).number ≡ c.number = locks.cpu_grew.number ∙ knows.number in
@@ -79,7 +79,7 @@ module _ (t : KnownTable) (w : KnownStockTable) (m : KnownMachine) (c : KnownCpu
       }
 
 -- the CPU that holds the lock releases it
-module _ (t : KnownTable) (w : KnownStockTable) (m : KnownMachine) (c : KnownCpu) (shown : IsShown t (visit_state m c))
+module _ (t : KnownTable) (w : KnownStockTable) (m : KnownMachine) (c : KnownCpu) (shown : IsSeenByRun t (visit_state m c))
     (shut : IsShut m.frame_seat c.number) (tied : IsTied t w c) where
   pub may_release : MayMake t m.run.past (cpu_past m.run.past).number Unlock
   may_release = subst (λ (x : State × ℕ). is_legal x.0 x.1 Unlock ≡ true) (λ i. (sym shown.here i, sym shown.who i)) (may_unlock t w m c tied shut)

@@ -14,15 +14,15 @@ use Rattle.boot_words.specs.Pasts.{KnownPasts, IsHeld, MakesStep, cpu_past, loca
 use Rattle.cpu_part.specs.Made.{MakesAll, MayMakeAll}
 use Rattle.step_watch.specs.Watched.{Watches}
 use Rattle.step_watch.proofs.Watching.{watches_none, watches_both}
-use Rattle.mem_machine.specs.Noted.{AreLocal, GrowsBy, KnownRun, MayTake, MayTakeAll, Notes, after_made}
+use Rattle.mem_machine.specs.Noted.{AreLocal, PastsGrowBy, KnownRun, MayTake, MayTakeAll, Notes, after_made}
 
 -- ---- how the pasts grow
 
-pub grows_none : (t : KnownTable) (s : KnownPasts) → GrowsBy t s [] s
+pub grows_none : (t : KnownTable) (s : KnownPasts) → PastsGrowBy t s [] s
 grows_none t s = record { held = λ held. held; holder = λ _. refl; sees = λ _. refl }
 
-pub grows_both : (t : KnownTable) (a : KnownPasts) (one : Run) (b : KnownPasts) (two : Run) (c : KnownPasts) → GrowsBy t a one b → GrowsBy t b two c
-    → GrowsBy t a (one ++ two) c
+pub grows_both : (t : KnownTable) (a : KnownPasts) (one : Run) (b : KnownPasts) (two : Run) (c : KnownPasts) → PastsGrowBy t a one b → PastsGrowBy t b two c
+    → PastsGrowBy t a (one ++ two) c
 grows_both t a one b two c first second = record {
   held = λ held. second.held (first.held held);
   holder = λ held. second.holder (first.held held) ∙ first.holder held;
@@ -31,11 +31,11 @@ grows_both t a one b two c first second = record {
 }
 
 pub made_grows : (t : KnownTable) (s : KnownPasts) (seat : ℕ) (action : Action) (answer : Answer) (s' : KnownPasts) → MakesStep t s seat action answer s'
-    → GrowsBy t s ((record { seat = seat; action = action }, answer) ∷ []) s'
+    → PastsGrowBy t s ((record { seat = seat; action = action }, answer) ∷ []) s'
 made_grows t s seat action answer s' made = record { held = λ _. made.held; holder = λ _. made.cpu_grew.number; sees = λ _. made.local_is }
 
-pub all_grow : (t : KnownTable) (s : KnownPasts) (steps : Run) (s' : KnownPasts) → MakesAll t s steps s' → GrowsBy t s steps s'
-all_grow t s [] s' is = subst (GrowsBy t s []) (sym is) (grows_none t s)
+pub all_grow : (t : KnownTable) (s : KnownPasts) (steps : Run) (s' : KnownPasts) → MakesAll t s steps s' → PastsGrowBy t s steps s'
+all_grow t s [] s' is = subst (PastsGrowBy t s []) (sym is) (grows_none t s)
 all_grow t s (e ∷ rest) s' made = grows_both t s (e ∷ []) made.0 rest s' (made_grows t s e.0.seat e.0.action e.1 made.0 made.1) (all_grow t made.0 rest s' made.2)
 
 -- ---- the pasts and the watch
@@ -74,7 +74,7 @@ first_made t past p a who at e rest all =
 
 -- behind steps of the list that were made, the next may be taken
 pub next_made : (t : KnownTable) (past : KnownPasts) (p : ℕ) (a : State) → IsHeld t past → (cpu_past past).number ≡ p → local_by_pasts t past ≡ a → (steps : Run) (later : KnownPasts)
-    → GrowsBy t past steps later → (e : Step × Answer) (rest : Run) → AreLocal p a (steps ++ e ∷ rest) → MayTake t later e
+    → PastsGrowBy t past steps later → (e : Step × Answer) (rest : Run) → AreLocal p a (steps ++ e ∷ rest) → MayTake t later e
 next_made t past p a held who at steps later grew e rest all =
     first_made t later p (fold after_made a steps) (grew.holder held ∙ who) (grew.sees held ∙ ap (λ (s : State). fold after_made s steps) at)
     e rest (behind p a steps (e ∷ rest) all)

@@ -39,7 +39,7 @@ use Rattle.mem_machine.specs.declared.frame_state.FrameState.TheVariants.{Free, 
 use Rattle.mem_machine.specs.FrameStates.{frame_state_at, one_if_is}
 use Rattle.mem_machine.specs.Machines.{KnownMachine, IsConsistent, is_killed, booked, pages_booked}
 use Rattle.mem_machine.specs.Noted.{AreLocal, MayTake}
-use Rattle.mem_machine.specs.Local.{IsShown, Visits, local_of, phase_of, part_of, part_with, Makes, visit_state, MakesAs}
+use Rattle.mem_machine.specs.Local.{IsSeenByRun, Visits, local_of, phase_of, part_of, part_with, Makes, visit_state, MakesAs}
 use Rattle.mem_machine.specs.Steps.{drain_steps, fill_steps, over_steps, zone_makes}
 use Rattle.mem_machine.specs.Stocks.{uncharged, stock_group, with_look, Drains, Fills, Prepays, IsOver, own_drain_steps, pages_held}
 use Rattle.mem_machine.specs.Paying.{IsOwnStock}
@@ -277,7 +277,7 @@ drained_or_none None f is = inl refl
 drained_or_none (Some g) f is = inr (ap not is)
 
 -- by the run nothing is booked for the CPU, if it has no fresh frame and its stock isn't filled
-pub nothing_booked : (t : KnownTable) (w : KnownStockTable) (m now : KnownMachine) → m ≡ now → (c : KnownCpu) → IsShown t (visit_state now c) → IsConsistent t w m
+pub nothing_booked : (t : KnownTable) (w : KnownStockTable) (m now : KnownMachine) → m ≡ now → (c : KnownCpu) → IsSeenByRun t (visit_state now c) → IsConsistent t w m
     → c.fresh ≡ [] → (account_of now.stock_seat.view c.number).filled ≡ false → (account_of m.stock_seat.view c.number).book ≡ 0
 nothing_booked t w m now same c at ok none drained =
     let p = c.number in

@@ -9,13 +9,13 @@ use Rattle.step_rules.specs.State.{State}
 use Rattle.step_rules.specs.After.{Run}
 use Rattle.boot_words.specs.Pasts.{KnownPasts, IsHeld, cpu_past, local_by_pasts, own_past}
 use Rattle.mem_machine.specs.Machines.{KnownMachine, VisitState, visit_state}
-use Rattle.mem_machine.specs.Local.{IsShown, MakesAs, local_at, local_of}
-use Rattle.mem_machine.specs.Noted.{AreLocal, GrowsBy, MayTake, MayTakeAll, after_made}
+use Rattle.mem_machine.specs.Local.{IsSeenByRun, MakesAs, local_at, local_of}
+use Rattle.mem_machine.specs.Noted.{AreLocal, PastsGrowBy, MayTake, MayTakeAll, after_made}
 use Rattle.mem_machine.proofs.Noted.{first_made, may_all, next_made, run_ends, run_steps}
 use Rattle.mem_machine.proofs.Followed.{LeadsAs}
 
 -- after the steps of a call the CPU sees what machine and part show then
-pub shown_then : (t : KnownTable) (a b : VisitState) (steps : Run) → IsShown t a → MakesAs t a.cpu.number a steps b → b.cpu.number ≡ a.cpu.number → IsShown t b
+pub shown_then : (t : KnownTable) (a b : VisitState) (steps : Run) → IsSeenByRun t a → MakesAs t a.cpu.number a steps b → b.cpu.number ≡ a.cpu.number → IsSeenByRun t b
 shown_then t a b steps now makes number = record {
   held = makes.noted.grew.held now.held;
   who = makes.noted.grew.holder now.held ∙ now.who ∙ sym number;
@@ -24,8 +24,8 @@ shown_then t a b steps now makes number = record {
 }
 
 -- what the CPU sees depends on the pasts and the local state alone
-pub shown_same : (t : KnownTable) (a b : VisitState) → IsShown t a → b.machine.run.past ≡ a.machine.run.past → b.cpu.number ≡ a.cpu.number → local_at t a ≡ local_at t b
-    → IsShown t b
+pub shown_same : (t : KnownTable) (a b : VisitState) → IsSeenByRun t a → b.machine.run.past ≡ a.machine.run.past → b.cpu.number ≡ a.cpu.number → local_at t a ≡ local_at t b
+    → IsSeenByRun t b
 shown_same t a b now past number same = record {
   held = subst (IsHeld t) (sym past) now.held;
   who = ap (λ (s : KnownPasts). (cpu_past s).number) past ∙ now.who ∙ sym number;
@@ -33,7 +33,7 @@ shown_same t a b now past number same = record {
 }
 
 -- of the machine as its fields show it
-module _ (t : KnownTable) (m now : KnownMachine) (same : m ≡ now) (c : KnownCpu) (at : IsShown t (visit_state now c)) where
+module _ (t : KnownTable) (m now : KnownMachine) (same : m ≡ now) (c : KnownCpu) (at : IsSeenByRun t (visit_state now c)) where
   pub held_here : IsHeld t m.run.past
   held_here = subst (λ (k : KnownMachine). IsHeld t k.run.past) (sym same) at.held
 
@@ -48,7 +48,7 @@ module _ (t : KnownTable) (m now : KnownMachine) (same : m ≡ now) (c : KnownCp
   may_first e rest all = first_made t m.run.past c.number (local_of t now c) who_here here e rest all
 
   -- the next one, behind steps of the list that were made
-  pub may_next : (steps : Run) (later : KnownPasts) → GrowsBy t m.run.past steps later → (e : Step × Answer) (rest : Run)
+  pub may_next : (steps : Run) (later : KnownPasts) → PastsGrowBy t m.run.past steps later → (e : Step × Answer) (rest : Run)
       → AreLocal c.number (local_of t now c) (steps ++ e ∷ rest) → MayTake t later e
   may_next steps later grew e rest all = next_made t m.run.past c.number (local_of t now c) held_here who_here here steps later grew e rest all
 

@@ -39,7 +39,7 @@ use Rattle.mem_machine.specs.declared.frame_state.FrameState.{FrameState}
 use Rattle.mem_machine.specs.declared.frame_state.FrameState.TheVariants.{Free, Head}
 use Rattle.mem_machine.specs.FrameStates.{frame_state_at, free_of, head_group_of, cpu_lent_to, some_cpu}
 use Rattle.mem_machine.specs.Machines.{KnownMachine, FitsFrameState, IsConsistent, BalancesCounts, home_of, is_killed, group_lists, lists_of}
-use Rattle.mem_machine.specs.Local.{IsLocalRun, IsShown, Visits, local_of, phase_of, references_of, visit_state}
+use Rattle.mem_machine.specs.Local.{IsLocalRun, IsSeenByRun, Visits, local_of, phase_of, references_of, visit_state}
 use Rattle.boot_words.specs.Pasts.{KnownPasts, MakesStep}
 use Rattle.step_watch.specs.Watched.{Watches}
 use Rattle.mem_machine.specs.Noted.{AreLocal, KnownRun, MayTake, MayTakeAll, Notes}
@@ -471,7 +471,7 @@ returned_all t w m now same ok f i inside is kept_now links lists left_list stan
     }
 
 -- the zone's last reference may be put, whatever the answer
-pub put_may : (t : KnownTable) (w : KnownStockTable) (m now : KnownMachine) → m ≡ now → (c : KnownCpu) → IsShown t (visit_state now c) → IsConsistent t w m → (f : ℕ) → f < t.frames
+pub put_may : (t : KnownTable) (w : KnownStockTable) (m now : KnownMachine) → m ≡ now → (c : KnownCpu) → IsSeenByRun t (visit_state now c) → IsConsistent t w m → (f : ℕ) → f < t.frames
     → home_of now.links f ≢ None → MayTakeAll t m.run.past (zone_makes (Put f) answer.Last ∷ [])
 put_may t w m now same c at ok f inside kept_now =
     let held = held_once t w m ok f inside (subst (λ (x : KnownMachine). home_of x.links f ≢ None) (sym same) kept_now) in

@@ -44,7 +44,7 @@ use Rattle.step_rules.specs.After.{Run}
 use Rattle.step_rules.specs.declared.step.Action.TheVariants.{Grant, PlaceBlock, Publish, Ungrant, Unfreeze}
 use Rattle.step_rules.specs.declared.step.Answer.TheVariants.{Done, Granted, NoFreeBlock, Placed}
 use Rattle.mem_machine.specs.Blocks.{PlacesUnit, TakesBlock, TakesNoBlock, taken_steps, unplaced_steps}
-use Rattle.mem_machine.specs.Local.{IsShown, MakesAs, Visits, local_of, phase_of, visit_state}
+use Rattle.mem_machine.specs.Local.{IsSeenByRun, MakesAs, Visits, local_of, phase_of, visit_state}
 use Rattle.mem_machine.proofs.Records.{length_free, free_at, free_is, free_inside, no_cpu_is}
 use Rattle.mem_machine.proofs.PlacesUnits.{in_block, off_block}
 use Rattle.mem_machine.proofs.Joins.{AllJoin}
@@ -303,7 +303,7 @@ taken_all t w m now same c d stays ok facts g fits k pages size may room ledger 
     (taken_here t w m c ok facts g fits b may_here room_here rise_here before free blocks was front_here takes areas frame_states placed unreferred_here links lists joined_here)
 
 -- the grant may be made, if there is room
-pub granted_may : (t : KnownTable) (m now : KnownMachine) → m ≡ now → (c : KnownCpu) → IsShown t (visit_state now c) → (g pages : ℕ) → MayTake t now c g
+pub granted_may : (t : KnownTable) (m now : KnownMachine) → m ≡ now → (c : KnownCpu) → IsSeenByRun t (visit_state now c) → (g pages : ℕ) → MayTake t now c g
     → PathHasRoom m.ledger.groups (current_of m.ledger) g pages → MayTakeAll t m.run.past (zone_makes (Grant g pages) Granted ∷ [])
 granted_may t m now same c at g pages may room =
     let here : MayTake t m c g = subst (λ (x : KnownMachine). MayTake t x c g) (sym same) may in
@@ -317,7 +317,7 @@ taken_as g pages k at =
     zone_makes (Grant g pages) Granted ∷ zone_makes (PlaceBlock g k) (Placed (record { at = at; order = k })) ∷ zone_makes (Unfreeze at 1) Done ∷ zone_makes (Publish at) Done ∷ []
 
 -- they may be made, once the block is known
-pub taken_may : (t : KnownTable) (w : KnownStockTable) (m now : KnownMachine) → m ≡ now → (c : KnownCpu) → IsShown t (visit_state now c) → IsConsistent t w m → (g k pages : ℕ) → pages ≡ 2 ^ k
+pub taken_may : (t : KnownTable) (w : KnownStockTable) (m now : KnownMachine) → m ≡ now → (c : KnownCpu) → IsSeenByRun t (visit_state now c) → IsConsistent t w m → (g k pages : ℕ) → pages ≡ 2 ^ k
     → MayTake t now c g → PathHasRoom m.ledger.groups (current_of m.ledger) g pages → (before free : List Bool) (b : Block) → before ≡ free_of m.frame_states
     → IsFrontOfSmallest m.blocks k b → TakesFrames before b free → (f u : ℕ) → f ≡ b.at → u ≡ f → MayTakeAll t m.run.past (taken_as g pages k u)
 taken_may t w m now same c at ok g k pages size may room before free b was front takes f u head named =
@@ -380,7 +380,7 @@ unplaced_notes t a b d s g k pages size grants places takes =
     subst (λ (x : ℕ). Notes t a (unplaced_as g x k) s) size (notes_both t a _ b _ s grants (notes_both t b _ d _ s places takes))
 
 -- they may be made, if there is none
-pub unplaced_may : (t : KnownTable) (w : KnownStockTable) (m now : KnownMachine) → m ≡ now → (c : KnownCpu) → IsShown t (visit_state now c) → IsConsistent t w m → AreCharges m.ledger
+pub unplaced_may : (t : KnownTable) (w : KnownStockTable) (m now : KnownMachine) → m ≡ now → (c : KnownCpu) → IsSeenByRun t (visit_state now c) → IsConsistent t w m → AreCharges m.ledger
     → (g k pages : ℕ) → pages ≡ 2 ^ k → MayTake t now c g → PathHasRoom m.ledger.groups (current_of m.ledger) g pages → HasNoneFrom m.blocks k
     → MayTakeAll t m.run.past (unplaced_as g pages k)
 unplaced_may t w m now same c at ok facts g k pages size may room none =

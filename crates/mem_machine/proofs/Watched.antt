@@ -9,7 +9,7 @@ use Rattle.group_charge.specs.Notes.{KnownNotes}
 use Rattle.mem_machine.specs.Noted.{KnownRun}
 use Rattle.mem_machine.specs.Machines.{KnownMachine, VisitState, IsConsistent, visit_state, with_run}
 use Rattle.frame_word.specs.Seats.{IsOpen, LentIsBorrowed, NothingPasses}
-use Rattle.mem_machine.specs.Local.{IsShown, MakesAs, MakesForAny, StaysVisited, Visits}
+use Rattle.mem_machine.specs.Local.{IsSeenByRun, MakesAs, MakesForAny, StaysVisited, Visits}
 use Rattle.mem_machine.proofs.Reached.{shown_same, shown_then}
 use Rattle.mem_machine.specs.Lending.{LendsFrame, LendsOne, UnlistsOne}
 use Rattle.mem_machine.specs.Settling.{KeepsFresh, DropsFresh, ReturnsBack}
@@ -40,7 +40,7 @@ pub record HasOpenVisit (t : KnownTable) (now : VisitState) : Type 0 where
   pub lent : LentIsBorrowed t now.machine.frame_seat now.cpu.frame_seat
 
 -- the visit goes on behind the steps of a call
-pub visits_then : (t : KnownTable) (a b : VisitState) (steps : Run) → IsShown t a → MakesAs t a.cpu.number a steps b → b.cpu.number ≡ a.cpu.number → HasOpenVisit t b → Visits t b
+pub visits_then : (t : KnownTable) (a b : VisitState) (steps : Run) → IsSeenByRun t a → MakesAs t a.cpu.number a steps b → b.cpu.number ≡ a.cpu.number → HasOpenVisit t b → Visits t b
 visits_then t a b steps now makes number visit = record {
   is_open = visit.is_open;
   still = visit.still;

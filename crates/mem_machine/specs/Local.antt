@@ -121,15 +121,15 @@ MakesForAny table before steps after = (cpu : KnownCpu)
     → Makes table (visit_state before cpu) steps (visit_state after cpu)
 
 -- The CPU holds the lock, and sees by the run what the machine and its own part show.
-pub record IsShown (table : KnownTable) (now : VisitState) : Type 0 where
+pub record IsSeenByRun (table : KnownTable) (now : VisitState) : Type 0 where
   pub held : IsHeld table now.machine.run.past
   pub who : (cpu_past now.machine.run.past).number ≡ now.cpu.number
   pub here : local_by_pasts table now.machine.run.past ≡ local_at table now
 
 -- the same of some CPU, whose part the call does not need
-pub record SomeShown (table : KnownTable) (machine : KnownMachine) : Type 0 where
+pub record SomeSeenByRun (table : KnownTable) (machine : KnownMachine) : Type 0 where
   pub cpu : KnownCpu
-  pub is : IsShown table (visit_state machine cpu)
+  pub is : IsSeenByRun table (visit_state machine cpu)
 
 -- The CPU is visited. It holds the lock, its visit is open, and no frame is in transit between it and the zone. The
 -- frames lent to it are those that its seat has borrowed: its listed and its fresh frames.
@@ -137,7 +137,7 @@ pub record Visits (table : KnownTable) (now : VisitState) : Type 0 where
   pub is_open : IsOpen now.machine.frame_seat now.cpu.number
   pub still : NothingPasses table now.machine.frame_seat now.cpu.frame_seat
   pub lent : LentIsBorrowed table now.machine.frame_seat now.cpu.frame_seat
-  pub shown : IsShown table now
+  pub shown : IsSeenByRun table now
 
 -- each CPU that was visited before is visited after
 abbrev pub StaysVisited : KnownTable → KnownMachine → KnownMachine → Type 0

@@ -20,14 +20,14 @@ abbrev pub after_made : State → Step × Answer → State
 after_made s made = after s made.0.seat made.0.action made.1
 
 -- The pasts have grown by these steps: if a CPU held the lock, it still does, and sees what the steps make of what it saw.
-pub record GrowsBy (table : KnownTable) (before : KnownPasts) (steps : Run) (later : KnownPasts) : Type 0 where
+pub record PastsGrowBy (table : KnownTable) (before : KnownPasts) (steps : Run) (later : KnownPasts) : Type 0 where
   pub held : IsHeld table before → IsHeld table later
   pub holder : IsHeld table before → (cpu_past later).number ≡ (cpu_past before).number
   pub sees : IsHeld table before → local_by_pasts table later ≡ fold after_made (local_by_pasts table before) steps
 
 -- the pasts have grown by these steps, and the watch took them
 pub record Notes (table : KnownTable) (before : KnownRun) (steps : Run) (later : KnownRun) : Type 0 where
-  pub grew : GrowsBy table before.past steps later.past
+  pub grew : PastsGrowBy table before.past steps later.past
   pub watched : Watches before.watch steps later.watch
 
 -- each step of the list is a local step of this CPU behind those before it

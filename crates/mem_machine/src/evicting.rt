@@ -2,7 +2,7 @@
 
 ghost use Rattle.std.specs.Prelude.{◌<◌};
 ghost use Rattle.mem_machine.specs.Machines.{HeadsKeptUnit};
-ghost use Rattle.mem_machine.specs.Local.{SomeShown, StaysVisited};
+ghost use Rattle.mem_machine.specs.Local.{SomeSeenByRun, StaysVisited};
 ghost use Rattle.mem_machine.specs.Evicting.{Evicts, evict_steps};
 ghost use Rattle.mem_machine.specs.Local.{MakesForAny};
 
@@ -22,7 +22,7 @@ impl<N: BootName> Machine<N> {
     pub fn evict(&mut self, tables: &Tables<N>, head: Frame) -> Option<u32>
         requires frame { head < N.frames.frames }
         requires kept { HeadsKeptUnit self.old head }
-        requires shown { SomeShown N.frames self.old }
+        requires shown { SomeSeenByRun N.frames self.old }
         ensures evicts { Evicts head result self.old self.new }
         ensures visit { StaysVisited N.frames self.old self.new }
         ensures steps { MakesForAny N.frames self.old (evict_steps head result) self.new }

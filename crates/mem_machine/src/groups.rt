@@ -7,7 +7,7 @@ ghost use Rattle.group_charge.specs.Charges.{current_of, SameUsage, with_group_l
 ghost use Rattle.group_charge.specs.Charges.{with_oom_flag, with_group_kill_noted, with_kill_noted, with_max_noted};
 ghost use Rattle.group_charge.specs.Charges.{with_oom_noted};
 ghost use Rattle.mem_machine.specs.Machines.{is_killed, AddsGroup};
-ghost use Rattle.mem_machine.specs.Local.{Makes, MakesForAny, SomeShown, StaysVisited, Visits, visit_state};
+ghost use Rattle.mem_machine.specs.Local.{Makes, MakesForAny, SomeSeenByRun, StaysVisited, Visits, visit_state};
 ghost use Rattle.mem_machine.specs.Steps.{kill_steps, note_group_kill_steps, note_max_steps, note_oom_steps};
 ghost use Rattle.mem_machine.specs.Steps.{make_steps, remove_steps, set_max_steps, set_oom_group_steps};
 
@@ -25,7 +25,7 @@ impl<N: BootName> Machine<N> {
     /// events, and in its local events.
     pub fn note_max(&mut self, tables: &Tables<N>, group: GroupId)
         requires there { IsTrue (has_group self.old.ledger.groups group) }
-        requires shown { SomeShown N.frames self.old }
+        requires shown { SomeSeenByRun N.frames self.old }
         ensures machine { self.new ≡ record self.old {
           ledger = with_max_noted self.old.ledger group;
           run = self.new.run;
@@ -47,7 +47,7 @@ impl<N: BootName> Machine<N> {
     /// events, and in its local events.
     pub fn note_oom(&mut self, tables: &Tables<N>, group: GroupId)
         requires there { IsTrue (has_group self.old.ledger.groups group) }
-        requires shown { SomeShown N.frames self.old }
+        requires shown { SomeSeenByRun N.frames self.old }
         ensures machine { self.new ≡ record self.old {
           ledger = with_oom_noted self.old.ledger group;
           run = self.new.run;
@@ -72,7 +72,7 @@ impl<N: BootName> Machine<N> {
     pub fn mark_killed(&mut self, tables: &Tables<N>, group: GroupId)
         requires there { IsTrue (has_group self.old.ledger.groups group) }
         requires alive { is_killed self.old.killed group ≡ false }
-        requires shown { SomeShown N.frames self.old }
+        requires shown { SomeSeenByRun N.frames self.old }
         ensures machine { self.new ≡ record self.old {
           ledger = with_kill_noted self.old.ledger group;
           killed = slice_set self.old.killed group true;
@@ -98,7 +98,7 @@ impl<N: BootName> Machine<N> {
     pub fn note_group_kill(&mut self, tables: &Tables<N>, group: GroupId)
         requires there { IsTrue (has_group self.old.ledger.groups group) }
         requires below_root { group ≢ 0 }
-        requires shown { SomeShown N.frames self.old }
+        requires shown { SomeSeenByRun N.frames self.old }
         ensures machine { self.new ≡ record self.old {
           ledger = with_group_kill_noted self.old.ledger group;
           run = self.new.run;
@@ -119,7 +119,7 @@ impl<N: BootName> Machine<N> {
 
     /// Makes a group, as `Tree::make` does. It has no pages, peak 0 and all counts 0, and isn't killed.
     pub fn make(&mut self, tables: &Tables<N>, path: &[u8]) -> Result<GroupId, Fault>
-        requires shown { SomeShown N.frames self.old }
+        requires shown { SomeSeenByRun N.frames self.old }
         ensures made { IfOk result (λ number. AddsGroup number path.now self.old self.new) }
         ensures refused { result_err result ≡ make_fault self.old.ledger.groups path.now }
         ensures unchanged { OnErr result (self.new ≡ self.old) }
@@ -176,7 +176,7 @@ impl<N: BootName> Machine<N> {
     pub fn set_max(&mut self, tables: &Tables<N>, group: GroupId, limit: Option<u32>)
         requires there { IsTrue (has_group self.old.ledger.groups group) }
         requires below_root { group ≢ 0 }
-        requires shown { SomeShown N.frames self.old }
+        requires shown { SomeSeenByRun N.frames self.old }
         ensures machine { self.new ≡ record self.old {
           ledger = with_group_limit self.old.ledger group limit;
           run = self.new.run;
@@ -198,7 +198,7 @@ impl<N: BootName> Machine<N> {
     pub fn set_oom_group(&mut self, tables: &Tables<N>, group: GroupId, oom_group: bool)
         requires there { IsTrue (has_group self.old.ledger.groups group) }
         requires below_root { group ≢ 0 }
-        requires shown { SomeShown N.frames self.old }
+        requires shown { SomeSeenByRun N.frames self.old }
         ensures machine { self.new ≡ record self.old {
           ledger = with_oom_flag self.old.ledger group oom_group;
           run = self.new.run;

@@ -12,7 +12,7 @@
 //!   whose last reference the CPU put.
 //! - The pages booked to a stock are all that were charged through it: the pages in it, those that paid for fresh
 //!   frames, and those that are reported and not absorbed yet. In the stock's account they are its `book`.
-//! - A `VisitState` is the machine with the part of the CPU that holds its lock. `IsShown` says that the CPU sees by the
+//! - A `VisitState` is the machine with the part of the CPU that holds its lock. `IsSeenByRun` says that the CPU sees by the
 //!   run what the two show, and `Visits` also that its visit is open. A visit lasts from `open` to `shut`, and frames are handed over only inside it.
 //! - `local_of` is what a visit state shows, in the words of the rules. `Makes` says that a list of steps leads from
 //!   one visit state to another.

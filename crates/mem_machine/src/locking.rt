@@ -3,7 +3,7 @@
 ghost use Rattle.std.specs.Prelude.{◌≡◌, []};
 ghost use Rattle.cpu_part.specs.Known.{KnowsItsPart};
 ghost use Rattle.frame_word.specs.Seats.{IsShut, NothingPasses};
-ghost use Rattle.mem_machine.specs.Local.{IsShown, visit_state};
+ghost use Rattle.mem_machine.specs.Local.{IsSeenByRun, visit_state};
 ghost use Rattle.mem_machine.specs.Resting.{Rests};
 
 use crate::machine::Machine;
@@ -19,7 +19,7 @@ impl<N: BootName> Machine<N> {
         requires shut { IsShut self.old.frame_seat cpu.now.number }
         requires knows { KnowsItsPart N.frames past.old cpu.now }
         ensures machine { self.new ≡ record self.old { run = record (self.old.run) { past = self.new.run.past } } }
-        ensures shown { IsShown N.frames (visit_state self.new cpu.now) }
+        ensures shown { IsSeenByRun N.frames (visit_state self.new cpu.now) }
         ensures given { past.new ≡ record { table = N.frames.table; pasts = [] } }
     {
         prove_tied(cpu);
@@ -29,7 +29,7 @@ impl<N: BootName> Machine<N> {
     /// The CPU releases the lock, and has its own past again. Its visit is shut, and it knows its own part as the machine's
     /// calls left it.
     pub fn unlock(&mut self, tables: &Tables<N>, cpu: &Cpu<N>, past: &mut PastSeat)
-        requires shown { IsShown N.frames (visit_state self.old cpu.now) }
+        requires shown { IsSeenByRun N.frames (visit_state self.old cpu.now) }
         requires shut { IsShut self.old.frame_seat cpu.now.number }
         requires given { past.old ≡ record { table = N.frames.table; pasts = [] } }
         ensures machine { self.new ≡ record self.old { run = record (self.old.run) { past = self.new.run.past } } }

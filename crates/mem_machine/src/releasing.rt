@@ -2,7 +2,7 @@
 
 ghost use Rattle.std.specs.Prelude.{◌<◌};
 ghost use Rattle.mem_machine.specs.Machines.{HeadsKeptUnit};
-ghost use Rattle.mem_machine.specs.Local.{SomeShown, StaysVisited, Visits};
+ghost use Rattle.mem_machine.specs.Local.{SomeSeenByRun, StaysVisited, Visits};
 ghost use Rattle.mem_machine.specs.Releasing.{Releases, release_steps};
 ghost use Rattle.mem_machine.specs.Local.{Makes, MakesForAny, visit_state};
 
@@ -31,7 +31,7 @@ impl<N: BootName> Machine<N> {
     pub fn put_zone_reference(&mut self, tables: &Tables<N>, head: Frame) -> Released
         requires frame { head < N.frames.frames }
         requires kept { HeadsKeptUnit self.old head }
-        requires shown { SomeShown N.frames self.old }
+        requires shown { SomeSeenByRun N.frames self.old }
         ensures releases { Releases head result self.old self.new }
         ensures visit { StaysVisited N.frames self.old self.new }
         ensures steps { MakesForAny N.frames self.old (release_steps head result) self.new }

@@ -3,7 +3,7 @@
 ghost use Rattle.std.specs.Prelude.{◌≡◌, ◌<◌, [], Some, IsTrue, OnOk, OnErr, IfErr};
 ghost use Rattle.group_tree.specs.Groups.{has_group, in_subtree};
 ghost use Rattle.mem_machine.specs.Machines.{IsCpuOf, LacksRoom, OnlyWatches};
-ghost use Rattle.mem_machine.specs.Local.{SomeShown, StaysVisited, Visits};
+ghost use Rattle.mem_machine.specs.Local.{SomeSeenByRun, StaysVisited, Visits};
 ghost use Rattle.mem_machine.specs.Stocks.{IsDrained, AreDrained, AreOwnDrained, FitsStock, stock_group, of_group};
 ghost use Rattle.mem_machine.specs.Stocks.{of_subtree, Drains, DrainsBy, DrainsIf, DrainsBySteps, DrainsNoted};
 ghost use Rattle.mem_machine.specs.Stocks.{DrainsGroup, DrainsSubtree, Fills, Prepays, IsOver, RefusesGrant};
@@ -45,7 +45,7 @@ impl<N: BootName> Machine<N> {
     fn drain_of(&mut self, tables: &Tables<N>, cpu: u32, group: GroupId) -> u32
         requires cpu { IsCpuOf N.frames cpu }
         requires group { stock_group self.old cpu ≡ Some group }
-        requires shown { SomeShown N.frames self.old }
+        requires shown { SomeSeenByRun N.frames self.old }
         ensures drains { DrainsBy 2 cpu result self.old self.new }
         ensures steps { MakesForAny N.frames self.old
             (drain_steps cpu (stock_group self.old cpu) result) self.new }
@@ -72,7 +72,7 @@ impl<N: BootName> Machine<N> {
     fn drain_noted(&mut self, tables: &Tables<N>, cpu: u32, group: GroupId) -> u32
         requires cpu { IsCpuOf N.frames cpu }
         requires group { stock_group self.old cpu ≡ Some group }
-        requires shown { SomeShown N.frames self.old }
+        requires shown { SomeSeenByRun N.frames self.old }
         ensures drains { DrainsNoted 2 cpu result self.old self.new }
         ensures steps { MakesForAny N.frames self.old
             (drain_steps cpu (stock_group self.old cpu) result) self.new }
@@ -87,7 +87,7 @@ impl<N: BootName> Machine<N> {
     /// the stock, nor charged to its group. That CPU may go on with its own calls meanwhile.
     pub fn drain_stock(&mut self, tables: &Tables<N>, cpu: u32) -> u32
         requires cpu { IsCpuOf N.frames cpu }
-        requires shown { SomeShown N.frames self.old }
+        requires shown { SomeSeenByRun N.frames self.old }
         ensures drains { Drains cpu result self.old self.new }
         ensures steps { MakesForAny N.frames self.old
             (drain_steps cpu (stock_group self.old cpu) result) self.new }
@@ -117,7 +117,7 @@ impl<N: BootName> Machine<N> {
     fn drain_if_in_subtree(&mut self, tables: &Tables<N>, cpu: u32, group: GroupId) -> u32
         requires cpu { IsCpuOf N.frames cpu }
         requires there { IsTrue (has_group self.old.ledger.groups group) }
-        requires shown { SomeShown N.frames self.old }
+        requires shown { SomeSeenByRun N.frames self.old }
         ensures drains { DrainsBySteps N.frames (DrainsIf (of_subtree group) cpu) result self.old self.new }
         ensures visit { StaysVisited N.frames self.old self.new }
     {
@@ -133,7 +133,7 @@ impl<N: BootName> Machine<N> {
     /// once at the stock of each CPU.
     pub fn drain_stocks(&mut self, tables: &Tables<N>, group: GroupId) -> u64
         requires there { IsTrue (has_group self.old.ledger.groups group) }
-        requires shown { SomeShown N.frames self.old }
+        requires shown { SomeSeenByRun N.frames self.old }
         ensures drains { DrainsSubtree N.frames group result self.old self.new }
         ensures drained { AreDrained group N.frames.cpus self.new }
         ensures visit { StaysVisited N.frames self.old self.new }
@@ -149,7 +149,7 @@ impl<N: BootName> Machine<N> {
     // Drains and notes the CPU's stock if it is of the group itself, and returns how many pages were in it.
     fn drain_if_own(&mut self, tables: &Tables<N>, cpu: u32, group: GroupId) -> u32
         requires cpu { IsCpuOf N.frames cpu }
-        requires shown { SomeShown N.frames self.old }
+        requires shown { SomeSeenByRun N.frames self.old }
         ensures drains { DrainsBySteps N.frames (DrainsIf (of_group group) cpu) result self.old self.new }
         ensures visit { StaysVisited N.frames self.old self.new }
     {
@@ -164,7 +164,7 @@ impl<N: BootName> Machine<N> {
     /// no longer booked to the stocks, nor charged to the group, and each drain is noted. It looks once at the stock of
     /// each CPU.
     pub fn drain_group_stocks(&mut self, tables: &Tables<N>, group: GroupId) -> u64
-        requires shown { SomeShown N.frames self.old }
+        requires shown { SomeSeenByRun N.frames self.old }
         ensures drains { DrainsGroup N.frames group result self.old self.new }
         ensures drained { AreOwnDrained group N.frames.cpus self.new }
         ensures visit { StaysVisited N.frames self.old self.new }

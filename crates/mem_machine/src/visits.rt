@@ -3,7 +3,7 @@
 ghost use Rattle.std.specs.Prelude.{◌≡◌};
 ghost use Rattle.frame_word.specs.Seats.{IsShut, NothingPasses, LentIsBorrowed, seat_with_visit};
 ghost use Rattle.mem_machine.specs.Local.{Visits};
-ghost use Rattle.mem_machine.specs.Local.{IsShown, Makes, visit_state};
+ghost use Rattle.mem_machine.specs.Local.{IsSeenByRun, Makes, visit_state};
 ghost use Rattle.mem_machine.specs.Steps.{open_steps, shut_steps};
 
 use crate::machine::Machine;
@@ -13,7 +13,7 @@ impl<N: BootName> Machine<N> {
     /// Opens the visit of the CPU, which is shut. Frames are handed over and pages reported only inside a visit.
     pub fn open(&mut self, tables: &Tables<N>, cpu: &mut Cpu<N>)
         requires shut { IsShut self.old.frame_seat cpu.old.number }
-        requires shown { IsShown N.frames (visit_state self.old cpu.old) }
+        requires shown { IsSeenByRun N.frames (visit_state self.old cpu.old) }
         ensures machine { self.new ≡ record self.old {
           frame_seat = seat_with_visit self.old.frame_seat cpu.old.number 1;
           run = self.new.run;
@@ -39,7 +39,7 @@ impl<N: BootName> Machine<N> {
         ensures shut { IsShut self.new.frame_seat cpu.new.number }
         ensures still { NothingPasses N.frames self.new.frame_seat cpu.new.frame_seat }
         ensures lent { LentIsBorrowed N.frames self.new.frame_seat cpu.new.frame_seat }
-        ensures shown { IsShown N.frames (visit_state self.new cpu.new) }
+        ensures shown { IsSeenByRun N.frames (visit_state self.new cpu.new) }
         ensures steps { Makes N.frames (visit_state self.old cpu.old) (shut_steps cpu.old.number)
             (visit_state self.new cpu.new) }
     {

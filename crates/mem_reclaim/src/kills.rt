@@ -5,7 +5,7 @@ ghost use Rattle.group_tree.specs.Groups.{has_group};
 ghost use Rattle.lru_lists.specs.declared.record.LruList.{LruList};
 ghost use Rattle.mem_machine.specs.Machines.{is_killed};
 ghost use Rattle.mem_machine.specs.Ageing.{entries_in};
-ghost use Rattle.mem_machine.specs.Local.{SomeShown};
+ghost use Rattle.mem_machine.specs.Local.{SomeSeenByRun};
 ghost use Rattle.mem_machine.specs.Stocks.{AreOwnDrained};
 ghost use Rattle.mem_reclaim.specs.Victim.{IsVictim};
 ghost use Rattle.mem_reclaim.specs.Sets.{alive_in_subtree, kill_set};
@@ -28,7 +28,7 @@ fn release_units<N: BootName>(
     group: GroupId,
     list: LruList,
 )
-    requires shown { SomeShown N.frames machine.old }
+    requires shown { SomeSeenByRun N.frames machine.old }
     ensures releases { ReleasesUnitsBySteps N.frames (entries_in machine.old group list) machine.old machine.new }
     ensures empty { entries_in machine.new group list ≡ [] }
     ensures keeps { OnlyReleases N.frames machine.old machine.new }
@@ -50,7 +50,7 @@ fn release_units<N: BootName>(
 fn kill_group<N: BootName>(machine: &mut Machine<N>, tables: &Tables<N>, group: GroupId)
     requires there { IsTrue (has_group machine.old.ledger.groups group) }
     requires alive { is_killed machine.old.killed group ≡ false }
-    requires shown { SomeShown N.frames machine.old }
+    requires shown { SomeSeenByRun N.frames machine.old }
     ensures kills { KillsGroupBySteps N.frames group machine.old machine.new }
     ensures marked { machine.new.killed ≡ slice_set machine.old.killed group true }
     ensures drained { AreOwnDrained group N.frames.cpus machine.new }
@@ -76,7 +76,7 @@ fn kill_noted<N: BootName>(
     requires limited { IsTrue (has_group machine.old.ledger.groups limited) }
     requires there { IsTrue (has_group machine.old.ledger.groups group) }
     requires alive { is_killed machine.old.killed group ≡ false }
-    requires shown { SomeShown N.frames machine.old }
+    requires shown { SomeSeenByRun N.frames machine.old }
     ensures kills { KillsGroupsBySteps N.frames (group ∷ []) (KillsGroupNoted N.frames limited group) machine.old
         machine.new }
     ensures marked { machine.new.killed ≡ slice_set machine.old.killed group true }
@@ -99,7 +99,7 @@ fn kill_below<N: BootName>(
 )
     requires limited { IsTrue (has_group machine.old.ledger.groups limited) }
     requires killed_root { IsTrue (has_group machine.old.ledger.groups killed_root) }
-    requires shown { SomeShown N.frames machine.old }
+    requires shown { SomeSeenByRun N.frames machine.old }
     ensures kills { KillsGroupsBySteps N.frames (alive_in_subtree machine.old killed_root)
         (KillsGroups N.frames limited (alive_in_subtree machine.old killed_root)) machine.old machine.new }
     ensures marked { machine.new.killed ≡ with_all_killed machine.old.killed
@@ -130,7 +130,7 @@ fn kill_subtree<N: BootName>(
     requires limited { IsTrue (has_group machine.old.ledger.groups limited) }
     requires killed_root { IsTrue (has_group machine.old.ledger.groups killed_root) }
     requires below_root { killed_root ≢ 0 }
-    requires shown { SomeShown N.frames machine.old }
+    requires shown { SomeSeenByRun N.frames machine.old }
     ensures kills { KillsGroupsBySteps N.frames (alive_in_subtree machine.old killed_root)
         (KillsSubtree N.frames limited killed_root) machine.old machine.new }
     ensures marked { machine.new.killed ≡ with_all_killed machine.old.killed
@@ -160,7 +160,7 @@ pub fn kill<N: BootName>(
     group: GroupId,
 ) -> Option<Killed>
     requires there { IsTrue (has_group machine.old.ledger.groups group) }
-    requires shown { SomeShown N.frames machine.old }
+    requires shown { SomeSeenByRun N.frames machine.old }
     ensures victim { IsVictim machine.old group (victim_of result) }
     ensures kills { KillsVictim N.frames group result machine.old machine.new }
     ensures marked { IfSome result (λ killed.

@@ -8,7 +8,7 @@ use Rattle.group_tree.specs.Groups.{has_group, has_child}
 use Rattle.group_charge.specs.Charges.{current_of}
 use Rattle.cpu_part.specs.Cpus.{KnownCpu}
 use Rattle.mem_machine.specs.Machines.{KnownMachine, with_run}
-use Rattle.mem_machine.specs.Local.{Visits, KeepsVisit, SomeShown}
+use Rattle.mem_machine.specs.Local.{Visits, KeepsVisit, SomeSeenByRun}
 use Rattle.mem_machine.specs.Steps.{drain_stocks_steps, set_max_steps}
 use Rattle.mem_machine.specs.Stocks.{DrainsSubtree, AreDrained}
 use Rattle.mem_machine.specs.Local.{MakesForAny, visit_state}
@@ -107,8 +107,8 @@ lowered_by t g limit pages freed m x n sub none leads missed keeps = record {
 -- ---- a limit that is set
 
 -- a note of a limit leaves what the lock's holder sees
-pub limit_shown : (t : KnownTable) (m n : KnownMachine) (g : ℕ) → n ≡ with_limit_noted m g 0 → SomeShown t m → SomeShown t n
-limit_shown t m n g is shown = subst (SomeShown t) (sym is) (record {
+pub limit_shown : (t : KnownTable) (m n : KnownMachine) (g : ℕ) → n ≡ with_limit_noted m g 0 → SomeSeenByRun t m → SomeSeenByRun t n
+limit_shown t m n g is shown = subst (SomeSeenByRun t) (sym is) (record {
   cpu = shown.cpu;
   is = shown_same t (visit_state m shown.cpu) (visit_state (with_limit_noted m g 0) shown.cpu) shown.is refl refl refl;
 })

@@ -9,7 +9,7 @@ use Rattle.step_watch.specs.Watched.{KnownWatch, Watches}
 use Rattle.step_watch.proofs.Watching.{watches_none, watches_both}
 use Rattle.mem_machine.specs.Machines.{KnownMachine, with_run, with_watch}
 use Rattle.mem_machine.specs.Noted.{KnownRun}
-use Rattle.mem_machine.specs.Local.{IsShown, VisitState, visit_state, Makes}
+use Rattle.mem_machine.specs.Local.{IsSeenByRun, VisitState, visit_state, Makes}
 use Rattle.mem_machine.proofs.Reached.{with_past}
 use Rattle.mem_machine.specs.Steps.{cpu_makes}
 use Rattle.mem_system.specs.Commands.{Transition, BySteps}
@@ -38,8 +38,8 @@ locked_visit t Does m m0 m1 n1 n2 n c d p named locks found lock visit left unlo
 }
 
 -- what the CPU sees, behind a step that the watch takes
-pub shown_seen : (t : KnownTable) (m n : KnownMachine) (c : KnownCpu) → n ≡ with_watch m n.run.watch → IsShown t (visit_state m c) → IsShown t (visit_state n c)
-shown_seen t m n c is shown = subst (λ (k : KnownMachine). IsShown t (visit_state k c)) (sym is) (record { held = shown.held; who = shown.who; here = shown.here })
+pub shown_seen : (t : KnownTable) (m n : KnownMachine) (c : KnownCpu) → n ≡ with_watch m n.run.watch → IsSeenByRun t (visit_state m c) → IsSeenByRun t (visit_state n c)
+shown_seen t m n c is shown = subst (λ (k : KnownMachine). IsSeenByRun t (visit_state k c)) (sym is) (record { held = shown.held; who = shown.who; here = shown.here })
 
 -- the run alone changed
 pub shut_seen : (m n : KnownMachine) (r : KnownRun) → n ≡ with_run m r → AllShut m → AllShut n

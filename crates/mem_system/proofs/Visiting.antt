@@ -7,7 +7,7 @@ use Rattle.frame_word.specs.Seats.{KnownTable}
 use Rattle.frame_word.proofs.Notes.{put_here, put_else}
 use Rattle.cpu_part.specs.Cpus.{KnownCpu}
 use Rattle.mem_machine.specs.Machines.{KnownMachine, is_killed, with_run, without_notes}
-use Rattle.mem_machine.specs.Local.{IsShown, local_of, group_of_fresh, visit_state, MakesAs, Makes}
+use Rattle.mem_machine.specs.Local.{IsSeenByRun, local_of, group_of_fresh, visit_state, MakesAs, Makes}
 use Rattle.mem_machine.specs.Settling.{SettlesFresh, SettlesAllFresh, ReturnsAllBack, Settles, settle_steps}
 use Rattle.mem_machine.specs.Steps.{open_steps, shut_steps}
 use Rattle.mem_system.specs.declared.command.Cmd.{Cmd}
@@ -51,8 +51,8 @@ pub settled_opened : (m n : KnownMachine) (c d : KnownCpu) → Settles (visit_st
 settled_opened m n c d s = returned_all c.back s.mid.machine n s.mid.cpu d s.back ∙ settled_all c.fresh m s.mid.machine c s.mid.cpu s.fresh
 
 -- notes that are forgotten leave what the lock's holder sees
-pub forgotten_shown : (t : KnownTable) (m n : KnownMachine) (c : KnownCpu) → n ≡ without_notes m → IsShown t (visit_state m c) → IsShown t (visit_state n c)
-forgotten_shown t m n c is shown = subst (λ (k : KnownMachine). IsShown t (visit_state k c)) (sym is)
+pub forgotten_shown : (t : KnownTable) (m n : KnownMachine) (c : KnownCpu) → n ≡ without_notes m → IsSeenByRun t (visit_state m c) → IsSeenByRun t (visit_state n c)
+forgotten_shown t m n c is shown = subst (λ (k : KnownMachine). IsSeenByRun t (visit_state k c)) (sym is)
     (shown_same t (visit_state m c) (visit_state (without_notes m) c) shown refl refl refl)
 
 -- the visits after the whole command: the caller's was opened and shut, the others stayed shut

@@ -7,7 +7,7 @@ ghost use Rattle.mem_system.specs.Locked.{AllShut};
 ghost use Rattle.mem_system.specs.Commands.{BySteps};
 ghost use Rattle.mem_system.specs.Ends.{Empties, ForEachCpu, SettlesInVisit, VisitsUnderLock};
 ghost use Rattle.mem_system.specs.Ends.{IsEmptied, IsSettledUnpinned, LendsAndFillsNone, pins_of_all};
-ghost use Rattle.mem_machine.specs.Local.{IsShown, visit_state, Makes};
+ghost use Rattle.mem_machine.specs.Local.{IsSeenByRun, visit_state, Makes};
 
 use crate::cpus::Cpu;
 use cpu_part::{BootName, Cpu as CpuPart, Tables};
@@ -17,12 +17,12 @@ use step_rules::step::{Action, Answer};
 // Settles the CPU in a visit.
 fn settle_cpu<N: BootName>(machine: &mut Machine<N>, tables: &Tables<N>, cpu: &mut CpuPart<N>)
     requires shut { AllShut machine.old }
-    requires shown { IsShown N.frames (visit_state machine.old cpu.old) }
+    requires shown { IsSeenByRun N.frames (visit_state machine.old cpu.old) }
     requires no_pin { cpu.old.pins ≡ [] }
     ensures settles { BySteps Makes N.frames SettlesInVisit (visit_state machine.old cpu.old)
         (visit_state machine.new cpu.new) }
     ensures shut { AllShut machine.new }
-    ensures shown { IsShown N.frames (visit_state machine.new cpu.new) }
+    ensures shown { IsSeenByRun N.frames (visit_state machine.new cpu.new) }
     ensures settled { IsSettledUnpinned cpu.new }
 {
     machine.open(tables, cpu);
@@ -33,12 +33,12 @@ fn settle_cpu<N: BootName>(machine: &mut Machine<N>, tables: &Tables<N>, cpu: &m
 // Returns the list of the settled CPU to the zone and drains its stock, in a visit.
 fn empty_cpu<N: BootName>(machine: &mut Machine<N>, tables: &Tables<N>, cpu: &mut CpuPart<N>)
     requires shut { AllShut machine.old }
-    requires shown { IsShown N.frames (visit_state machine.old cpu.old) }
+    requires shown { IsSeenByRun N.frames (visit_state machine.old cpu.old) }
     requires settled { IsSettledUnpinned cpu.old }
     ensures empties { BySteps Makes N.frames Empties (visit_state machine.old cpu.old)
         (visit_state machine.new cpu.new) }
     ensures shut { AllShut machine.new }
-    ensures shown { IsShown N.frames (visit_state machine.new cpu.new) }
+    ensures shown { IsSeenByRun N.frames (visit_state machine.new cpu.new) }
     ensures emptied { IsEmptied N.frames N.stocks machine.new cpu.new }
     ensures others { LendsAndFillsNone machine.old machine.new }
 {

@@ -42,7 +42,7 @@ use Rattle.mem_machine.specs.Interleaving.{zone_of}
 use Rattle.mem_machine.specs.Steps.{cpu_makes}
 use Rattle.mem_machine.proofs.Records.{holds_same}
 use Rattle.mem_machine.specs.Agreeing.{AgreesWithRun}
-use Rattle.mem_history.specs.Whole.{ShowsAll, Leads, ServesAt, ServesFast, IsSeenAt, seen_by_holder, under_lock, is_fast}
+use Rattle.mem_history.specs.Whole.{ShowsAll, LeadsOn, ServesAt, ServesFast, IsSeenAt, seen_by_holder, under_lock, is_fast}
 use Rattle.mem_history.specs.Kept.{AreTied}
 use Rattle.mem_history.specs.Leading.{IsPart, put_answer}
 use Rattle.mem_history.proofs.Wholes.{set_here, set_else, lines_follow}
@@ -238,7 +238,7 @@ module _ (t : KnownTable) (w : KnownStockTable) (run : Run) (locked : KnownLocke
         counts = is.makes.counts ∙ ap (λ (x : State). counts_along x is.steps n.counts) same;
         noted = is.makes.noted;
       } in
-      let leads : Leads t (visit_state n c) is.steps (visit_state after.locked.machine after.cpu) =
+      let leads : LeadsOn t (visit_state n c) is.steps (visit_state after.locked.machine after.cpu) =
       record { leads = makes.leads; follows = makes.follows; counts = makes.counts } in
       let serves : ServesAt t cpus k (visit_state n c) is.steps (visit_state after.locked.machine after.cpu) = record {
         is_part = is_part;
@@ -263,7 +263,7 @@ module _ (t : KnownTable) (w : KnownStockTable) (run : Run) (locked : KnownLocke
   -- a step without the lock
   step_follows : (action : Action) (answer : StepAnswer) (after : LockedState) → (kept : OnlyWatched (cpu_makes p action answer ∷ []) locked after.locked) →
       after.cpu.number ≡ p → is_fast action ≡ true → answer ≢ step_answer.Illegal →
-      Leads t (visit_state m c) (cpu_makes p action answer ∷ []) (visit_state (with_watch m after.locked.machine.run.watch) after.cpu) →
+      LeadsOn t (visit_state m c) (cpu_makes p action answer ∷ []) (visit_state (with_watch m after.locked.machine.run.watch) after.cpu) →
       GoesOn (cpu_makes p action answer ∷ []) → Follows (cpu_makes p action answer ∷ []) after
   step_follows action answer after kept number quick made leads legal =
       let n : KnownMachine = with_watch m after.locked.machine.run.watch in
