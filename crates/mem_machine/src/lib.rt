@@ -12,12 +12,13 @@
 //!   whose last reference the CPU put.
 //! - The pages booked to a stock are all that were charged through it: the pages in it, those that paid for fresh
 //!   frames, and those that are reported and not absorbed yet. In the stock's account they are its `book`.
-//! - A `VisitState` is the machine with the part of the CPU that holds its lock. `IsSeenByRun` says that the CPU sees by the
-//!   run what the two show, and `Visits` also that its visit is open. A visit lasts from `open` to `shut`, and frames are handed over only inside it.
+//! - A `VisitState` is the machine with the part of the CPU that holds its lock. `IsSeenByRun` says that this CPU sees
+//!   by the run what the two show, and `Visits` says also that its visit is open. A visit lasts from `open` to `shut`,
+//!   and frames are handed over only inside it.
 //! - `local_of` is what a visit state shows, in the words of the rules. `Makes` says that a list of steps leads from
 //!   one visit state to another.
-//! - Each of these steps is legal where it is made, and the pasts grow by it. The watch takes it right behind, if it is on.
-//!   `Notes`, a part of `Makes`, says so.
+//! - Each of these steps is legal where it is made, and the pasts grow by it. The watch takes it right behind, if it is
+//!   on. `Notes`, a part of `Makes`, says so.
 //!
 //! A call of a function `prove_..`, or of `list_laws`, does nothing: a proof needs its contract.
 #![tactic(auto)]

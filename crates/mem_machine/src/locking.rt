@@ -12,8 +12,8 @@ use boot_words::PastSeat;
 use cpu_part::{BootName, Cpu, Tables};
 
 impl<N: BootName> Machine<N> {
-    /// The CPU takes the lock, which is free. Its past, which it gives away, is the machine's until `unlock`. By the run it
-    /// sees what the machine and its own part show. The caller holds the mutex that keeps other CPUs out meanwhile.
+    /// The CPU takes the lock, which is free. Its past, which it gives away, is the machine's until `unlock`. By the run
+    /// it sees what the machine and its own part show. The caller holds the mutex that keeps other CPUs out meanwhile.
     pub fn lock(&mut self, tables: &Tables<N>, cpu: &Cpu<N>, past: &mut PastSeat)
         requires rests { Rests N.frames self.old }
         requires shut { IsShut self.old.frame_seat cpu.now.number }
@@ -26,8 +26,8 @@ impl<N: BootName> Machine<N> {
         tables.words.lock(&mut self.past, past);
     }
 
-    /// The CPU releases the lock, and has its own past again. Its visit is shut, and it knows its own part as the machine's
-    /// calls left it.
+    /// The CPU releases the lock, and has its own past again. Its visit is shut, and it knows its own part as the
+    /// machine's calls left it.
     pub fn unlock(&mut self, tables: &Tables<N>, cpu: &Cpu<N>, past: &mut PastSeat)
         requires shown { IsSeenByRun N.frames (visit_state self.old cpu.now) }
         requires shut { IsShut self.old.frame_seat cpu.now.number }

@@ -5,7 +5,7 @@ use Rattle.stock_word.specs.Stock.{KnownStockTable}
 use Rattle.mem_system.specs.Boots.{KnownSystem}
 use Rattle.script_replay.specs.declared.form.Form.{Form}
 
--- what CPUs share of a boot with these two tables
+-- what CPUs share of a boot whose table the seats at its frames and at its stocks know like this
 abbrev pub boot_tables : KnownTable → KnownStockTable → KnownSystem
 boot_tables frames stock_table = record { frames = frames; stocks = stock_table }
 
