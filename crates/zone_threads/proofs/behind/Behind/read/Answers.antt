@@ -22,15 +22,15 @@ returns g c =
     let told = c.file_text.ensures.text group ∙ ap (λ (l : Ledger). files.file_text l c.in-Text.group c.in-Text.file) c.charges.ensures in
     let reply = ap (reply_of ledger) c.in-Text.is ∙ sym (ap text_reply told) in
     let visited : IsVisited t w (IsServed t (cmd.Read c.args.asked.now.path c.args.asked.now.file) (text_reply c.file_text.result)) c.args.cpu.now c.serve_outcome-outcome.new.cpu =
-        record {
-          found = c.self.inside.locked;
-          left = c.serve_outcome-outcome.new.locked;
-          sound_before = record { quiet = c.prove_quiet.ensures.quiet; consistent = c.prove_quiet.ensures.consistent; charges = c.prove_quiet.ensures.charges };
-          served = subst (λ (r : Reply). IsServed t (cmd.Read c.args.asked.now.path c.args.asked.now.file) r (locked_state c.self.inside.locked c.args.cpu.now)
-              (locked_state c.serve_outcome-outcome.new.locked c.serve_outcome-outcome.new.cpu)) reply c.serve_outcome-outcome.ensures.served;
-          sound_after = record { quiet = c.prove_quiet-2.ensures.quiet; consistent = c.prove_quiet-2.ensures.consistent; charges = c.prove_quiet-2.ensures.charges };
-          lent = c.serve_outcome-outcome.ensures.ends.lent;
-        } in
+    record {
+      found = c.self.inside.locked;
+      left = c.serve_outcome-outcome.new.locked;
+      sound_before = record { quiet = c.prove_quiet.ensures.quiet; consistent = c.prove_quiet.ensures.consistent; charges = c.prove_quiet.ensures.charges };
+      served = subst (λ (r : Reply). IsServed t (cmd.Read c.args.asked.now.path c.args.asked.now.file) r (locked_state c.self.inside.locked c.args.cpu.now)
+          (locked_state c.serve_outcome-outcome.new.locked c.serve_outcome-outcome.new.cpu)) reply c.serve_outcome-outcome.ensures.served;
+      sound_after = record { quiet = c.prove_quiet-2.ensures.quiet; consistent = c.prove_quiet-2.ensures.consistent; charges = c.prove_quiet-2.ensures.charges };
+      lent = c.serve_outcome-outcome.ensures.ends.lent;
+    } in
     elim c.match-file_text.branch [
       | in-Ok x ↦ subst (λ (a : ReadAnswer). IsReadUnderLock t w c.args.asked.now c.args.cpu.now c.serve_outcome-outcome.new.cpu a) (sym x.result-is)
           (subst (λ r. IsVisited t w (IsServed t (cmd.Read c.args.asked.now.path c.args.asked.now.file) (text_reply r)) c.args.cpu.now c.serve_outcome-outcome.new.cpu) x.in-Ok.is visited)
