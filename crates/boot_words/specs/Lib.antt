@@ -16,3 +16,4 @@ pub mod Hidden
 pub mod Sight
 pub mod Words
 pub mod Steps
+pub mod Growth

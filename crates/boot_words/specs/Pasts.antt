@@ -32,6 +32,7 @@ use Rattle.boot_words.specs.Seats.{zone_of_boot}
 use Rattle.boot_words.specs.Allowed.{GrewBy}
 use Rattle.boot_words.specs.Held.{HoldsLock, local_seen}
 use Rattle.boot_words.specs.Locks.{LeavesFree}
+use Rattle.boot_words.specs.Growth.{SeesMore}
 
 -- a seat's pasts: its own, or the zone's and then that of the CPU that holds the lock, or none while the zone's has it
 pub record KnownPasts : Type 0 where
@@ -182,3 +183,17 @@ pub record Unlocks (t : KnownTable) (held zone cpu : KnownPasts) : Type 0 where
   pub same : (own_past zone).seen ≡ (own_past cpu).seen
   pub free : LeavesFree (zone_of_boot t) (own_past zone)
   pub left : hide (state_of (zone_of_boot t) (own_past zone).seen) ≡ hide (record (local_by_pasts t held) { hold = Unheld })
+
+-- A CPU, which doesn't hold the lock, and the zone, by whose past the lock is free, now see the same run: all that either
+-- saw, and perhaps more steps of others. Nothing of the two has changed otherwise: what the zone's past left if every CPU's
+-- own part is hidden, and the CPU's own part.
+pub record Meets (t : KnownTable) (zone cpu zone' cpu' : KnownPasts) : Type 0 where
+  pub zone_is : IsZonePast t zone'
+  pub cpu_is : IsCpuPast t cpu'
+  pub zone_sees : SeesMore (own_past zone) (own_past zone')
+  pub cpu_sees : SeesMore (own_past cpu) (own_past cpu')
+  pub same : (own_past zone').seen ≡ (own_past cpu').seen
+  pub free : LeavesFree (zone_of_boot t) (own_past zone')
+  pub left : hide (state_of (zone_of_boot t) (own_past zone').seen) ≡ hide (state_of (zone_of_boot t) (own_past zone).seen)
+  pub own : HasSameLists (own_past cpu).number (state_of (zone_of_boot t) (own_past cpu).seen)
+      (state_of (zone_of_boot t) (own_past cpu').seen)
