@@ -6,6 +6,8 @@ use Rattle.std.specs.declared.string.String.{String}
 use Rattle.std.specs.String.{string_bytes}
 use Rattle.group_charge.specs.Charges.{Ledger}
 use Rattle.cpu_part.specs.Cpus.{KnownCpu}
+use Rattle.cpu_part.specs.declared.answers.Fast.{Fast as FastAnswer}
+use Rattle.cpu_part.specs.declared.answers.Fast.TheVariants.{FreshFull, ListEmpty, OtherGroup, Drained, NoStock, Got}
 use Rattle.mem_machine.specs.Machines.{KnownMachine}
 use Rattle.mem_system.specs.declared.command.Cmd.{Cmd}
 use Rattle.mem_system.specs.declared.command.Cmd.TheVariants as cmd
@@ -20,6 +22,7 @@ use Rattle.reply_texts.specs.LineAnswer.{LineAnswer}
 use Rattle.reply_texts.specs.LineAnswer as answer
 use Rattle.reply_texts.specs.Answers.{answer_text}
 use Rattle.reply_texts.specs.declared.steps.UnlockedAnswer.{UnlockedAnswer}
+use Rattle.reply_texts.specs.declared.steps.UnlockedAnswer.TheVariants as unlocked
 use Rattle.script_lines.specs.declared.line.Command.{Command}
 use Rattle.script_lines.specs.declared.line.Command.TheVariants.{Alloc, Fast, Release, Get, Put, Settle, Blocks, Show, Stock, Units}
 use Rattle.step_rules.specs.After.{Run}
@@ -80,6 +83,16 @@ module _ (on : Terms) (command : Command) (l m : KnownLocked) (c d : CpuInRun) w
   pub settle_served : OnlySettles command → ServesUnderLock on.frames false cmd.Settle Done (locked_state l c) (locked_state m d)
       → ServesAnswer on command (locked_state l c) (locked_state m d) answer.Settled
   settle_served settles under = record { steps = under.steps; answered = (settles, under.served); gains = under.gains }
+
+-- a frame that wasn't got is no step
+pub none_got : (n g : ℕ) (tried : FastAnswer) (before after : LockedState) → ((f : ℕ) → tried ≢ Got f)
+    → Gains (steps_alone n (Fast g) (unlocked.Fast tried)) before after → Gains [] before after
+none_got n g FreshFull before after none gains = gains
+none_got n g ListEmpty before after none gains = gains
+none_got n g OtherGroup before after none gains = gains
+none_got n g Drained before after none gains = gains
+none_got n g NoStock before after none gains = gains
+none_got n g (Got f) before after none gains = absurd (none f refl)
 
 -- a command that isn't one under the lock, and needs the lock, only settles its CPU
 pub only_settles : (command : Command) (c d : KnownCpu) → cmd_of command ≡ None → NeedsLock command c d → OnlySettles command × (d ≡ c)
