@@ -3,7 +3,6 @@ use Rattle.std.proofs.Common.{◌≡◌, ◌≢◌, ℕ, zero, suc, ◌+◌, ◌
 use Rattle.std.specs.Prelude.{◌⊎◌, not, nat_le, slice_get, slice_set}
 use Rattle.std.proofs.lemmas.Bool.{and_parts, cases_Bool, cases_eq, cases_lt, eqb-true, leb-true, false≢true, true≢false}
 use Rattle.std.proofs.lemmas.List.{get_or-set_other, get_or-set_same, length-set}
-use Rattle.std.proofs.Math.Option.{some-injective}
 use Rattle.std.proofs.lemmas.Option.{get_or_from_slice_get, slice_get-get_or, slice_get_within}
 use Rattle.frame_word.specs.Seats.{KnownTable}
 use Rattle.step_rules.specs.declared.phase.Hold.{Hold}
@@ -335,7 +334,7 @@ past_changes run p past = ap (changes_of p.number) past.goes.is ∙ others_add_n
 
 each_of : {A : Type 0} (P : A → Type 0) (xs : List A) (k : ℕ) (x : A) → AllOf P xs → slice_get xs k ≡ Some x → P x
 each_of P [] k x all at = absurd (none_some x at)
-each_of P (y ∷ xs) zero x all at = subst P (some-injective y x at) all.0
+each_of P (y ∷ xs) zero x all at = subst P (get_or_from_slice_get (y ∷ xs) 0 x y at) all.0
 each_of P (y ∷ xs) (suc k) x all at = each_of P xs k x all.1 at
 
 by_seat : (run steps : Run) (n : ℕ) → changes_of 0 run ≡ changes_of 0 steps → ((index : ℕ) → suc index ≤ n → changes_of (suc index) run ≡ changes_of (suc index) steps)
