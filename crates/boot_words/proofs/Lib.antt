@@ -47,3 +47,5 @@ pub mod Booting
 pub mod Returning
 pub mod Draining
 pub mod Away
+pub mod Ordered
+pub mod Gaining
