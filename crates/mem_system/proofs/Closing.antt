@@ -211,10 +211,11 @@ all_visits t w l cpus x rested k quiet no_pin drops rests empties = record {
 -- the table is closed
 pub all_closes : (t : KnownTable) (w : KnownStockTable) (k : KnownEmptiedBoot) (a : Audit) (frame_seats : List KnownSeat) (stock_seats : List KnownStockSeat)
     (pasts : List Past) → AllShut k.machine → All (λ c. IsEmptied t w k.machine c) (parts_of k.cpus) → length k.cpus ≡ t.cpus
+    → (own_past k.machine.run.past).number ≡ 0
     → (((p : ℕ) → NoneLentTo p k.machine.frame_states) → IsAuditOf t k.machine k.drops a)
     → IsClosed t w k.machine frame_seats stock_seats pasts → frame_seats ≡ map frame_seat_of (parts_of k.cpus)
     → stock_seats ≡ map stock_seat_of (parts_of k.cpus) → pasts ≡ pasts_of k.cpus → Closes t w k a
-all_closes t w k a frame_seats stock_seats pasts shut all count tells_then closing frames stocks passed =
+all_closes t w k a frame_seats stock_seats pasts shut all count zone tells_then closing frames stocks passed =
     let y = k.machine in
     let parts = parts_of k.cpus in
     let closed : IsClosed t w y (map frame_seat_of parts) (map stock_seat_of parts) (pasts_of k.cpus) =
@@ -237,6 +238,7 @@ all_closes t w k a frame_seats stock_seats pasts shut all count tells_then closi
       run = closed.run;
       is = closed.is;
       last_words = record { rule = closed.rule; references = word_of_frame t w y parts (pasts_of k.cpus) shut all closed };
+      zone = zone;
       pasts = closed.pasts;
       counted = tells;
       adds_up = record {
