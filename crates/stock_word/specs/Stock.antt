@@ -2,6 +2,7 @@
 use Rattle.std.specs.Prelude.{◌≡◌, ℕ, zero, suc, ◌+◌, ◌-◌, ◌*◌, ◌<◌, ◌≤◌, Bool, true, false, List, [], ◌∷◌, Option}
 use Rattle.std.specs.Prelude.{Some, None}
 use Rattle.atomic_table.specs.Seated.{TableId}
+use Rattle.frame_word.specs.Totals.{sum_over}
 use Rattle.stock_word.specs.declared.view.Stock.{Stock}
 use Rattle.stock_word.specs.declared.view.Stock.TheVariants.{NoGroup, HeldBy, DrainedOf}
 use Rattle.stock_word.specs.declared.view.StockAccount.{StockAccount}
@@ -140,6 +141,11 @@ IsZoneView view = view.number ≡ 0
 -- a view of a seat of this number that has seen nothing yet
 abbrev pub StartsAs : ℕ → StockView → Type 0
 StartsAs number view = (view.number ≡ number) × (view.last ≡ NoGroup) × (view.fresh ≡ 0)
+
+-- these views are the zone's and those of the seats, in any order: any function of one view has the same sum over
+-- both
+abbrev pub Gathers : StockView → List KnownStockSeat → List StockView → Type 0
+Gathers zone seats views = (f : StockView → ℕ) → sum_over f views ≡ f zone + sum_over f (views_of seats)
 
 -- The stock of a CPU may be filled: it was never filled or was drained since, and the CPU has no fresh page and no
 -- reported page that isn't absorbed.
