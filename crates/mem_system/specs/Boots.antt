@@ -3,6 +3,7 @@ use Rattle.std.specs.Prelude.{◌≡◌, ℕ, zero, suc, ◌+◌, ◌≤◌, Lis
 use Rattle.frame_word.specs.Seats.{KnownTable, first_cpu_view}
 use Rattle.stock_word.specs.Stock.{KnownStockTable, first_cpu_stock_view}
 use Rattle.boot_words.specs.declared.seat.OwnSeats.{OwnSeats}
+use Rattle.boot_words.specs.declared.view.Past.{Past}
 use Rattle.boot_words.specs.Seating.{no_past}
 use Rattle.boot_words.specs.Opening.{opening_seats, seats_of, zone_seats}
 use Rattle.cpu_part.specs.Cpus.{KnownCpu, first_cpu}
@@ -52,3 +53,8 @@ abbrev pub first_cpus : KnownTable → KnownStockTable → (first count : ℕ) �
 first_cpus table stock_table first zero = []
 first_cpus table stock_table first (suc more) =
     part_at_first table stock_table first ∷ first_cpus table stock_table (first + 1) more
+
+-- the pasts of this many CPUs at first, from number `first` on: none has a step
+abbrev pub first_pasts : (first count : ℕ) → List Past
+first_pasts first zero = []
+first_pasts first (suc more) = no_past first ∷ first_pasts (first + 1) more

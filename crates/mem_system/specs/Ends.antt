@@ -15,6 +15,10 @@ use Rattle.stock_word.specs.StockRule.{IsStockOf, stock_index, report_index}
 use Rattle.group_tree.specs.Room.{max_count}
 use Rattle.boot_words.specs.Seats.{zone_of_boot}
 use Rattle.boot_words.specs.Words.{IsRunOf}
+use Rattle.boot_words.specs.Pasts.{own_past}
+use Rattle.boot_words.specs.Rule.{AllOf, IsPastOf}
+use Rattle.boot_words.specs.Growth.{IsRunSoFar}
+use Rattle.boot_words.specs.declared.view.Past.{Past}
 use Rattle.cpu_part.specs.Cpus.{KnownCpu, IsTied, IsIdle}
 use Rattle.mem_machine.specs.Machines.{KnownMachine, IsConsistent, home_of, with_run}
 use Rattle.mem_machine.specs.Noted.{KnownRun}
@@ -27,6 +31,7 @@ use Rattle.mem_system.specs.declared.audit.Audit.{Audit}
 use Rattle.mem_system.specs.Locked.{KnownLocked, IsQuiet}
 use Rattle.mem_machine.specs.Local.{VisitState, visit_state, Makes}
 use Rattle.mem_system.specs.Commands.{Transition, BySteps}
+use Rattle.mem_system.specs.Cpus.{CpuInRun, VisitsInRun, between_locks, parts_of, pasts_of}
 use Rattle.mem_system.specs.Visits.{with_visit_of, with_run_at, visited, visit_steps}
 use Rattle.step_watch.specs.Watched.{Watches}
 
@@ -63,45 +68,54 @@ pub record Empties (call : Transition VisitState) : Type 0 where
       ++ (drain_steps call.before.cpu.number (stock_group emptied call.before.cpu.number) pages
       ++ shut_steps call.before.cpu.number))
 
--- A visit that does this is made under the lock. The CPU takes the lock before it and releases it after it, and the
--- machine's watch takes both steps.
-pub record VisitsUnderLock (table : KnownTable) (Does : Transition VisitState → Type 0) (before after : VisitState)
+-- the machine, and a CPU that doesn't hold its lock
+pub record MachineAndCpu : Type 0 where
+  pub machine : KnownMachine
+  pub cpu : CpuInRun
+
+-- the machine and this CPU
+abbrev pub machine_and_cpu : KnownMachine → CpuInRun → MachineAndCpu
+machine_and_cpu machine cpu = record { machine = machine; cpu = cpu }
+
+-- A visit that does this is made under the lock. The CPU takes the lock before it and releases it after it, in the run,
+-- and the machine's watch takes both steps.
+pub record VisitsUnderLock (table : KnownTable) (Does : Transition VisitState → Type 0) (before after : MachineAndCpu)
     : Type 0 where
   pub found : KnownRun
   pub left : KnownMachine
-  pub lock : Watches before.machine.run.watch (cpu_makes before.cpu.number Lock Done ∷ []) found.watch
-  pub visit : BySteps Makes table Does (with_run_at before found) (visit_state left after.cpu)
-  pub unlock : Watches left.run.watch (cpu_makes before.cpu.number Unlock Done ∷ []) after.machine.run.watch
+  pub lock : Watches before.machine.run.watch (cpu_makes before.cpu.part.number Lock Done ∷ []) found.watch
+  pub visit : BySteps Makes table Does (visit_state (with_run before.machine found) before.cpu.part)
+      (visit_state left after.cpu.part)
+  pub unlock : Watches left.run.watch (cpu_makes before.cpu.part.number Unlock Done ∷ []) after.machine.run.watch
   pub machine : after.machine ≡ with_run left after.machine.run
+  pub run : VisitsInRun before.cpu.part.number visit.steps before.machine.run.past before.cpu.past
+      after.machine.run.past after.cpu.past
 
 -- `Visit` leads the machine and the first of several CPUs to a machine between, of which `Rest` holds
-pub record VisitsFirst (Visit : VisitState → VisitState → Type 0) (before : KnownMachine) (cpu cpu_left : KnownCpu)
+pub record VisitsFirst (Visit : MachineAndCpu → MachineAndCpu → Type 0) (before : KnownMachine)
+    (cpu cpu_left : CpuInRun)
     (Rest : KnownMachine → Type 0) : Type 0 where
   pub between : KnownMachine
-  pub first : Visit (visit_state before cpu) (visit_state between cpu_left)
+  pub first : Visit (machine_and_cpu before cpu) (machine_and_cpu between cpu_left)
   pub rest : Rest between
 
--- Each of these CPUs is visited as `Visit` says, one after the other. This leads from one machine with the CPUs' parts
--- to another machine with the parts that are left.
-abbrev pub ForEachCpu : (Visit : VisitState → VisitState → Type 0) (before : KnownMachine) (cpus : List KnownCpu)
-    (after : KnownMachine) (left : List KnownCpu) → Type 0
+-- Each of these CPUs is visited as `Visit` says, one after the other. This leads from one machine with the CPUs to
+-- another machine with the CPUs as they are left.
+abbrev pub ForEachCpu : (Visit : MachineAndCpu → MachineAndCpu → Type 0) (before : KnownMachine) (cpus : List CpuInRun)
+    (after : KnownMachine) (left : List CpuInRun) → Type 0
 ForEachCpu Visit before [] after [] = after ≡ before
 ForEachCpu Visit before (cpu ∷ cpus) after (cpu_left ∷ left) =
     VisitsFirst Visit before cpu cpu_left (λ between. ForEachCpu Visit between cpus after left)
 ForEachCpu Visit before cpus after left = ⊥
 
--- the steps of a visit under the lock: the Lock, the steps of the visit itself, and the Unlock
-abbrev pub between_locks : (cpu : ℕ) → Run → Run
-between_locks cpu steps = cpu_makes cpu Lock Done ∷ (steps ++ cpu_makes cpu Unlock Done ∷ [])
-
 -- the steps of the visits under the lock, one CPU after the other
 abbrev pub steps_of_visits : (table : KnownTable) (Does : Transition VisitState → Type 0) (before : KnownMachine)
-    (cpus : List KnownCpu) (after : KnownMachine) (left : List KnownCpu)
+    (cpus : List CpuInRun) (after : KnownMachine) (left : List CpuInRun)
     → ForEachCpu (VisitsUnderLock table Does) before cpus after left → Run
 steps_of_visits table Does before [] after left visits = []
 steps_of_visits table Does before (cpu ∷ cpus) after [] visits = []
 steps_of_visits table Does before (cpu ∷ cpus) after (cpu_left ∷ left) visits =
-    between_locks cpu.number visits.first.visit.steps
+    between_locks cpu.part.number visits.first.visit.steps
     ++ steps_of_visits table Does visits.between cpus after left visits.rest
 
 -- the CPU has no fresh frame, no back frame and no pin
@@ -168,9 +182,9 @@ StockWordsAgreeAt stock_words machine seats place =
 
 -- The table is closed with these seats and the machine's. The machine was consistent, and the frames' words keep the
 -- reference rule. Each CPU has a seat at the stocks, and the stock words are what that seat and the machine's know. There
--- is one legal run whose last state has just these words.
+-- is one legal run whose last state has just these words. The machine's past and these pasts are beginnings of it.
 pub record IsClosed (table : KnownTable) (stock_table : KnownStockTable) (machine : KnownMachine)
-    (frame_seats : List KnownSeat) (stock_seats : List KnownStockSeat) : Type 0 where
+    (frame_seats : List KnownSeat) (stock_seats : List KnownStockSeat) (pasts : List Past) : Type 0 where
   pub consistent : IsConsistent table stock_table machine
   pub frame_words : List ℕ
   pub rule : ReferenceRule table.frames table.cpus frame_words
@@ -180,6 +194,7 @@ pub record IsClosed (table : KnownTable) (stock_table : KnownStockTable) (machin
   pub stocks : (place : ℕ) → place < length stock_seats → StockWordsAgreeAt stock_words machine stock_seats place
   pub run : Run
   pub is : IsRunOf (zone_of_boot table) (record { frames = frame_words; stocks = stock_words }) run
+  pub pasts : AllOf (IsPastOf run) (own_past machine.run.past ∷ pasts)
 
 -- The words of the frames at the end. They keep the reference rule with the views of all seats. A frame's word
 -- is 1, the zone's reference, if the frame heads a kept unit, else 0.
@@ -198,23 +213,23 @@ pub record HasNoPage (machine : KnownMachine) (stock_words : List ℕ) (cpu : �
   pub none_reported : slice_index stock_words (report_index cpu) ≡ 0
   pub book : (account_of machine.stock_seat.view cpu).book ≡ 0
 
--- a boot whose last visits are made: its machine, the CPUs' parts, and how many fresh frames the CPUs put back on their
--- own lists
+-- a boot whose last visits are made: its machine, the CPUs, and how many fresh frames the CPUs put back on their own
+-- lists
 pub record KnownEmptiedBoot : Type 0 where
   pub machine : KnownMachine
-  pub cpus : List KnownCpu
+  pub cpus : List CpuInRun
   pub drops : ℕ
 
 -- The last visits of a boot without pins, each under the lock. Each CPU is settled, then each CPU's list is returned
 -- and its stock drained, by steps that the machine's counts follow. These are all steps, in order, and the machine's
--- watch took them.
+-- watch took them. The run so far goes on by them.
 pub record MakesLastVisits (table : KnownTable) (stock_table : KnownStockTable) (locked : KnownLocked)
-    (cpus : List KnownCpu)
+    (cpus : List CpuInRun)
     (emptied : KnownEmptiedBoot) : Type 0 where
   pub quiet : IsQuiet table stock_table locked
-  pub no_pin : pins_of_all cpus ≡ 0
+  pub no_pin : pins_of_all (parts_of cpus) ≡ 0
   pub settled : KnownMachine
-  pub settled_cpus : List KnownCpu
+  pub settled_cpus : List CpuInRun
   pub settles : ForEachCpu (VisitsUnderLock table SettlesInVisit) locked.machine cpus settled settled_cpus
   pub empties : ForEachCpu (VisitsUnderLock table Empties) settled settled_cpus emptied.machine emptied.cpus
   pub steps : Run
@@ -222,29 +237,33 @@ pub record MakesLastVisits (table : KnownTable) (stock_table : KnownStockTable) 
       ≡ steps_of_visits table SettlesInVisit locked.machine cpus settled settled_cpus settles
       ++ steps_of_visits table Empties settled settled_cpus emptied.machine emptied.cpus empties
   pub watched : Watches locked.machine.run.watch steps emptied.machine.run.watch
-  pub drops : emptied.drops ≡ min (drops_of cpus) max_count
+  pub drops : emptied.drops ≡ min (drops_of (parts_of cpus)) max_count
+  pub so_far : (earlier : Run) → IsRunSoFar earlier (own_past locked.machine.run.past) (pasts_of cpus)
+      → IsRunSoFar (earlier ++ steps) (own_past emptied.machine.run.past) (pasts_of emptied.cpus)
 
 -- The table of a boot is closed after its last visits. No frame is lent to anyone, and no stock has a page. The closed
--- words are what the seats know, and there is one legal run whose last state has just these words. The audit counts what
--- the machine and the CPUs counted, and it adds up.
+-- words are what the seats know, and there is one legal run whose last state has just these words. The pasts of the zone
+-- and of all CPUs are beginnings of it. The audit counts what the machine and the CPUs counted, and it adds up.
 pub record Closes (table : KnownTable) (stock_table : KnownStockTable) (emptied : KnownEmptiedBoot)
     (audit : Audit) : Type 0 where
-  pub all_emptied : All (λ cpu. IsEmptied table stock_table emptied.machine cpu) emptied.cpus
+  pub all_emptied : All (λ cpu. IsEmptied table stock_table emptied.machine cpu) (parts_of emptied.cpus)
+  pub count : length emptied.cpus ≡ table.cpus
   pub none_lent : (cpu : ℕ) → NoneLentTo cpu emptied.machine.frame_states
   pub stock_words : List ℕ
   pub told : All (λ cpu. IsStockOf stock_words cpu.number emptied.machine.stock_seat.view cpu.stock_seat.view)
-      emptied.cpus
+      (parts_of emptied.cpus)
   pub no_page : (cpu : ℕ) → 1 ≤ cpu → cpu ≤ table.cpus
       → HasNoPage emptied.machine stock_words cpu
   pub frame_words : List ℕ
-  pub last_words : AreLastWords table emptied.machine emptied.cpus frame_words
+  pub last_words : AreLastWords table emptied.machine (parts_of emptied.cpus) frame_words
   pub run : Run
   pub is : IsRunOf (zone_of_boot table) (record { frames = frame_words; stocks = stock_words }) run
+  pub pasts : AllOf (IsPastOf run) (own_past emptied.machine.run.past ∷ pasts_of emptied.cpus)
   pub counted : IsAuditOf table emptied.machine emptied.drops audit
   pub adds_up : AddsUp audit
 
 -- the end of a boot without pins: its last visits are made, and then its table is closed
-pub record Ends (table : KnownTable) (stock_table : KnownStockTable) (locked : KnownLocked) (cpus : List KnownCpu)
+pub record Ends (table : KnownTable) (stock_table : KnownStockTable) (locked : KnownLocked) (cpus : List CpuInRun)
     (audit : Audit) : Type 0 where
   pub emptied : KnownEmptiedBoot
   pub visits : MakesLastVisits table stock_table locked cpus emptied

@@ -4,9 +4,9 @@ use Rattle.frame_word.specs.Seats.{KnownTable}
 use Rattle.stock_word.specs.Stock.{KnownStockTable}
 use Rattle.mem_system.specs.declared.command.Cmd.TheVariants.{Settle}
 use Rattle.mem_system.specs.declared.command.Reply.TheVariants.{Done}
-use Rattle.cpu_part.specs.Cpus.{KnownCpu}
 use Rattle.machine_texts.specs.Units.{ReadsUnits}
 use Rattle.mem_machine.specs.Machines.{KnownMachine}
+use Rattle.mem_system.specs.Cpus.{CpuInRun}
 use Rattle.mem_system.specs.Locked.{KnownLocked, IsSound}
 use Rattle.mem_system.specs.Visits.{LockedState, locked_state, IsServed}
 
@@ -17,7 +17,7 @@ SettlesCaller table before after = IsServed table Settle Done before after
 -- What a text through the lock says. Some sound value was behind the lock, the caller was settled in it, and a sound
 -- value was left. `tells` holds of the machine that was left.
 pub record ReadsUnderLock (table : KnownTable) (stock_table : KnownStockTable) (tells : KnownMachine → Type 0)
-    (before after : KnownCpu) : Type 0 where
+    (before after : CpuInRun) : Type 0 where
   pub found : KnownLocked
   pub left : KnownLocked
   pub sound_before : IsSound table stock_table found
@@ -36,7 +36,7 @@ UnitsAt (Some group) none tells before after = ReadsUnits group tells before aft
 -- settled in it, and a sound value was left. `tells` holds of the settled state and of the machine that the looks left.
 pub record ReadsAfterSettling (table : KnownTable) (stock_table : KnownStockTable)
     (tells : LockedState → KnownMachine → Type 0)
-    (before after : KnownCpu) : Type 0 where
+    (before after : CpuInRun) : Type 0 where
   pub found : KnownLocked
   pub settled : KnownLocked
   pub left : KnownLocked

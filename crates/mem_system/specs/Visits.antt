@@ -4,7 +4,6 @@ use Rattle.std.specs.Borrow.{Bor}
 use Rattle.frame_word.specs.Seats.{KnownTable, LentIsBorrowed, NothingPasses, seat_with_visit}
 use Rattle.stock_word.specs.Stock.{KnownStockTable}
 use Rattle.group_tree.specs.Groups.{number_at}
-use Rattle.cpu_part.specs.Cpus.{KnownCpu}
 use Rattle.step_rules.specs.After.{Run}
 use Rattle.mem_machine.specs.Machines.{KnownMachine, with_run, without_notes}
 use Rattle.mem_machine.specs.Local.{VisitState, visit_state, Makes}
@@ -23,6 +22,7 @@ use Rattle.mem_system.specs.declared.outcome.Outcome.{Outcome}
 use Rattle.mem_system.specs.Outcomes.{reply_of}
 use Rattle.mem_system.specs.Locked.{KnownLocked, IsSound}
 use Rattle.mem_system.specs.Asks.{MayAskFor}
+use Rattle.mem_system.specs.Cpus.{CpuInRun, VisitsInRun}
 use Rattle.mem_system.specs.Commands.{Executes, ListAndFreshStayWithin}
 
 -- the machine with the CPU's visit open (1) or shut (0)
@@ -42,18 +42,18 @@ begun before = visited (visit_state (without_notes before.machine) before.cpu)
 abbrev pub with_run_at : VisitState → KnownRun → VisitState
 with_run_at now run = visit_state (with_run now.machine run) now.cpu
 
--- what lies behind the lock, with the part of the CPU that holds it
+-- what lies behind the lock, with a CPU
 pub record LockedState : Type 0 where
   pub locked : KnownLocked
-  pub cpu : KnownCpu
+  pub cpu : CpuInRun
 
--- the locked state with this part, and this behind the lock
-abbrev pub locked_state : KnownLocked → KnownCpu → LockedState
+-- the locked state with this CPU, and this behind the lock
+abbrev pub locked_state : KnownLocked → CpuInRun → LockedState
 locked_state locked cpu = record { locked = locked; cpu = cpu }
 
--- the visit state in the locked state: the machine behind the lock, and its part
+-- the visit state in the locked state: the machine behind the lock, and the CPU's part
 abbrev pub visit_state_of : LockedState → VisitState
-visit_state_of now = visit_state now.locked.machine now.cpu
+visit_state_of now = visit_state now.locked.machine now.cpu.part
 
 -- the steps of a visit: it is opened, its CPU is settled, the inner steps are made, and it is shut
 abbrev pub visit_steps : VisitState → Run → Run
@@ -70,21 +70,23 @@ pub record Serves (cmd : Cmd) (reply : Reply) (call : Transition LockedState) : 
   pub inner : Run
   pub done : KnownMachine
   pub executes : Executes call.before.locked.sizes cmd reply
-      (transition call.table settled inner (visit_state done call.after.cpu))
+      (transition call.table settled inner (visit_state done call.after.cpu.part))
   pub no_rash : NoRashKill call.table (MayAskFor cmd settled.machine.ledger.groups) settled.machine settled.cpu inner
   pub only_inner : has_kill (visit_steps (visit_state_of call.before) []) ≡ false
   pub misses : CountsMisses (transition call.table settled.machine inner done)
   pub machine : call.after.locked.machine
-      ≡ with_run (with_visit_of done call.before.cpu.number 0) call.after.locked.machine.run
+      ≡ with_run (with_visit_of done call.before.cpu.part.number 0) call.after.locked.machine.run
   pub sizes : call.after.locked.sizes ≡ call.before.locked.sizes
   pub steps_are : call.steps ≡ visit_steps (visit_state_of call.before) inner
 
--- a command was served under the lock with this reply: these steps lead from one locked state to the other, and the
--- machine's counts follow them
+-- A command was served under the lock with this reply: these steps lead from one locked state to the other, and the
+-- machine's counts follow them. The CPU took the lock in the run before them, and released it after them.
 pub record IsServed (table : KnownTable) (cmd : Cmd) (reply : Reply) (before after : LockedState) : Type 0 where
   pub steps : Run
   pub serves : Serves cmd reply (transition table before steps after)
   pub makes : Makes table (visit_state_of before) steps (visit_state_of after)
+  pub run : VisitsInRun before.cpu.part.number steps before.locked.machine.run.past before.cpu.past
+      after.locked.machine.run.past after.cpu.past
 
 -- a command was carried out under the lock with this outcome; its reply is what the charges after it make of the
 -- outcome
@@ -102,17 +104,17 @@ ServesFrameOutcome table group outcome before after =
 -- `high`. No frame is in transit between the CPU and the zone. The frames lent to the CPU are those that its seat has
 -- borrowed.
 pub record EndsVisit (table : KnownTable) (before after : LockedState) : Type 0 where
-  pub at_most_high : ListAndFreshStayWithin before.locked.sizes before.cpu after.cpu
-  pub still : NothingPasses table after.locked.machine.frame_seat after.cpu.frame_seat
-  pub lent : LentIsBorrowed table after.locked.machine.frame_seat after.cpu.frame_seat
+  pub at_most_high : ListAndFreshStayWithin before.locked.sizes before.cpu.part after.cpu.part
+  pub still : NothingPasses table after.locked.machine.frame_seat after.cpu.part.frame_seat
+  pub lent : LentIsBorrowed table after.locked.machine.frame_seat after.cpu.part.frame_seat
 
 -- What a visit through the lock says. Some sound value was behind the lock, the CPU was served with it, and a sound
 -- value was left. The frames lent to the CPU after it are those that its seat has borrowed.
 pub record IsVisited (table : KnownTable) (stock_table : KnownStockTable) (Served : LockedState → LockedState → Type 0)
-    (before after : KnownCpu) : Type 0 where
+    (before after : CpuInRun) : Type 0 where
   pub found : KnownLocked
   pub left : KnownLocked
   pub sound_before : IsSound table stock_table found
   pub served : Served (locked_state found before) (locked_state left after)
   pub sound_after : IsSound table stock_table left
-  pub lent : LentIsBorrowed table left.machine.frame_seat after.frame_seat
+  pub lent : LentIsBorrowed table left.machine.frame_seat after.part.frame_seat

@@ -2,6 +2,7 @@
 
 ghost use Rattle.std.specs.Prelude.{◌≡◌, ◌<◌, ◌≤◌, ◌^◌, min, length, IfOk, IfErr};
 ghost use Rattle.group_tree.specs.Room.{max_count};
+ghost use Rattle.mem_system.specs.Cpus.{parts_of};
 ghost use Rattle.mem_system.specs.Ends.{Ends, MakesLastVisits, drops_of, pins_of_all};
 
 use crate::audit::Audit;
@@ -24,7 +25,7 @@ pub struct Pinned<N: BootName> {
 // The pins of the CPUs together.
 fn count_pins<N: BootName>(cpus: &[Cpu<N>]) -> u64
     requires { length cpus.now < 2 ^ 32 }
-    ensures { result ≡ pins_of_all cpus.now }
+    ensures { result ≡ pins_of_all (parts_of cpus.now) }
 {
     let mut pins = 0;
     for cpu in cpus {
@@ -35,7 +36,7 @@ fn count_pins<N: BootName>(cpus: &[Cpu<N>]) -> u64
 
 // How many fresh frames the CPUs put back on their own lists. The sum stays at 2^64 - 1.
 fn count_drops<N: BootName>(cpus: &[Cpu<N>]) -> u64
-    ensures { result ≡ min (drops_of cpus.now) max_count }
+    ensures { result ≡ min (drops_of (parts_of cpus.now)) max_count }
 {
     let mut drops: u64 = 0;
     for cpu in cpus {
@@ -55,7 +56,7 @@ pub fn make_last_visits<N: BootName>(
 ) -> Result<EmptiedBoot<N>, Pinned<N>>
     requires { length cpus.items ≡ N.frames.cpus }
     ensures visits { IfOk result (MakesLastVisits N.frames N.stocks locked cpus.items) }
-    ensures pins { IfErr result (λ pinned. pinned.pins ≡ pins_of_all cpus.items) }
+    ensures pins { IfErr result (λ pinned. pinned.pins ≡ pins_of_all (parts_of cpus.items)) }
     ensures some_pin { IfErr result (λ pinned. 1 ≤ pinned.pins) }
     ensures locked { IfErr result (λ pinned. pinned.locked ≡ locked) }
     ensures tables { IfErr result (λ pinned. pinned.tables ≡ tables) }
@@ -98,7 +99,7 @@ pub fn end<N: BootName>(
 ) -> Result<Audit, Pinned<N>>
     requires { length cpus.items ≡ N.frames.cpus }
     ensures ends { IfOk result (λ audit. Ends N.frames N.stocks locked cpus.items audit) }
-    ensures pins { IfErr result (λ pinned. pinned.pins ≡ pins_of_all cpus.items) }
+    ensures pins { IfErr result (λ pinned. pinned.pins ≡ pins_of_all (parts_of cpus.items)) }
     ensures some_pin { IfErr result (λ pinned. 1 ≤ pinned.pins) }
     ensures locked { IfErr result (λ pinned. pinned.locked ≡ locked) }
     ensures tables { IfErr result (λ pinned. pinned.tables ≡ tables) }

@@ -1,11 +1,14 @@
 //! A boot: the table of its words with all its seats, and the machine, tables and CPUs' parts that it becomes.
 
-ghost use Rattle.std.specs.Prelude.{◌≡◌, length, All, IfOk};
+ghost use Rattle.std.specs.Prelude.{◌≡◌, [], length, All, IfOk};
+ghost use Rattle.boot_words.specs.Growth.{IsRunSoFar};
 ghost use Rattle.boot_words.specs.Opening.{opening_seats};
+ghost use Rattle.boot_words.specs.Pasts.{own_past};
 ghost use Rattle.mem_machine.specs.Machines.{IsFirst};
 ghost use Rattle.cpu_part.specs.Cpus.{IsIdle};
 ghost use Rattle.mem_system.specs.Locked.{IsQuiet};
-ghost use Rattle.mem_system.specs.Boots.{IsSizedAs, first_cpus};
+ghost use Rattle.mem_system.specs.Boots.{IsSizedAs, first_cpus, first_pasts};
+ghost use Rattle.mem_system.specs.Cpus.{parts_of, pasts_of};
 ghost use Rattle.mem_system.specs.declared.boots.BootFault.TheVariants.{NoMemory};
 
 use crate::cpus::Cpu;
@@ -70,9 +73,11 @@ impl Boot {
         requires stocks { self.stocks ≡ N.stocks }
         ensures machine { IfOk result (λ parts. IsFirst N.frames N.stocks parts.0.machine) }
         ensures sizes { IfOk result (λ parts. parts.0.sizes ≡ self.sizes) }
-        ensures cpus { IfOk result (λ parts. parts.2.items ≡ first_cpus N.frames N.stocks 1 self.sizes.cpus) }
+        ensures cpus { IfOk result (λ parts. parts_of parts.2.items ≡ first_cpus N.frames N.stocks 1 self.sizes.cpus) }
         ensures count { IfOk result (λ parts. length parts.2.items ≡ N.frames.cpus) }
         ensures sized { IfOk result (λ _. IsSizedAs self.sizes N.frames N.stocks) }
+        ensures so_far { IfOk result (λ parts.
+            IsRunSoFar [] (own_past parts.0.machine.run.past) (pasts_of parts.2.items)) }
     {
         let Boot {
             sizes,
@@ -93,7 +98,8 @@ impl Boot {
     pub fn start<N: BootName>(self, alloc: Global) -> Result<(System<N>, Vec<Cpu<N>>), AllocError>
         requires frames { self.frames ≡ N.frames }
         requires stocks { self.stocks ≡ N.stocks }
-        ensures cpus { IfOk result (λ started. started.1.items ≡ first_cpus N.frames N.stocks 1 self.sizes.cpus) }
+        ensures cpus { IfOk result (λ started.
+            parts_of started.1.items ≡ first_cpus N.frames N.stocks 1 self.sizes.cpus) }
         ensures count { IfOk result (λ started. length started.1.items ≡ N.frames.cpus) }
     {
         let (locked, tables, cpus) = self.into_parts(alloc)?;
@@ -129,7 +135,8 @@ fn make_cpus<N: BootName>(
     requires stocks { N.stocks.table ≡ N.frames.table }
     requires cpus { cpus ≡ N.frames.cpus }
     requires stock_cpus { cpus ≡ N.stocks.cpus }
-    ensures { IfOk result (λ made. made.items ≡ first_cpus N.frames N.stocks 1 cpus) }
+    ensures parts { IfOk result (λ made. parts_of made.items ≡ first_cpus N.frames N.stocks 1 cpus) }
+    ensures pasts { IfOk result (λ made. pasts_of made.items ≡ first_pasts 1 cpus) }
 {
     let mut made = Vec::with_capacity(alloc, cpus as usize)?;
     for _dealt in 0..cpus {
@@ -146,7 +153,7 @@ fn make_cpus<N: BootName>(
 
 // Takes apart parts of CPUs that have done nothing, because a part can't be dropped.
 fn take_apart<N: BootName>(mut cpus: Vec<Cpu<N>>)
-    requires { All IsIdle cpus.items }
+    requires { All IsIdle (parts_of cpus.items) }
 {
     while let Some(cpu) = cpus.pop() {
         let _ = cpu.into_seats();

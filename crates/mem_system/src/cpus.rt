@@ -3,11 +3,14 @@
 ghost use Rattle.std.specs.Prelude.{◌≡◌, ◌≢◌, ◌+◌, ◌<◌, ◌≤◌, ◌↔◌, [], length, Ok, IfOk, IsTrue, MatchOption, MatchResult};
 ghost use Rattle.frame_word.specs.declared.answers.Get.TheVariants.{Zero};
 ghost use Rattle.frame_word.specs.Seats.{IsInNoHand, seat_number};
+ghost use Rattle.boot_words.specs.Growth.{GrewByAll};
+ghost use Rattle.boot_words.specs.Pasts.{own_past};
 ghost use Rattle.stock_word.specs.declared.view.Stock.TheVariants.{NoGroup};
 ghost use Rattle.stock_word.specs.Stock.{HasWord};
 ghost use Rattle.group_tree.specs.declared.fault.Fault.TheVariants.{PinsFull};
 ghost use Rattle.cpu_part.specs.Cpus.{IsIdle, IsTied, most_fresh, most_listed, most_pins, times};
 ghost use Rattle.cpu_part.specs.Calls.{DropAnswers, FastAnswers, IfGot, PinAnswers, UnpinAnswers};
+ghost use Rattle.cpu_part.specs.Told.{steps_of_drop, steps_of_fast, steps_of_get, steps_of_put};
 ghost use Rattle.mem_system.specs.Boots.{AreFirstSeats, part_at_first};
 
 use boot_words::{OwnSeats, PastSeat};
@@ -18,8 +21,7 @@ use std::alloc::{AllocError, Global};
 use std::marker::Model;
 use stock_word::Stock;
 
-/// What a CPU has for itself: its part of the memory controller, and its own past of the run. Contracts see the part.
-/// By the past it knows its own lists and pins, whatever others did since its last step. `into_seats` consumes it.
+/// What a CPU has for itself: its part of the memory controller, and its own past of the run. By the past it knows its own lists and pins, whatever others did since its last step. `into_seats` consumes it.
 pub struct Cpu<N: BootName> {
     pub(crate) part: CpuPart<N>,
     // Empty while the CPU holds the lock: the machine has it then.
@@ -27,12 +29,12 @@ pub struct Cpu<N: BootName> {
 }
 
 impl<N: BootName> Model for Cpu<N> {
-    ghost use Rattle.cpu_part.specs.Cpus.{KnownCpu};
     ghost use Rattle.cpu_part.specs.Known.{KnowsItsPart};
+    ghost use Rattle.mem_system.specs.Cpus.{CpuInRun, cpu_in_run};
 
-    ghost Value = { KnownCpu };
+    ghost Value = { CpuInRun };
 
-    ghost view = { λ c. c.part };
+    ghost view = { λ c. cpu_in_run c.part c.past };
 
     ghost invariant = { λ c. KnowsItsPart N.frames c.past c.part };
 }
@@ -44,7 +46,8 @@ impl<N: BootName> Cpu<N> {
         requires seats { AreFirstSeats N.frames (seat_number seats.frames) seats }
         requires stocks { N.stocks.table ≡ N.frames.table }
         requires cpus { N.stocks.cpus ≡ N.frames.cpus }
-        ensures { IfOk result (λ c. c ≡ part_at_first N.frames N.stocks (seat_number seats.frames)) }
+        ensures part { IfOk result (λ c. c.part ≡ part_at_first N.frames N.stocks (seat_number seats.frames)) }
+        ensures past { IfOk result (λ c. c.past ≡ seats.past) }
     {
         let OwnSeats {
             past,
@@ -57,10 +60,11 @@ impl<N: BootName> Cpu<N> {
 
     /// The CPU's seats, once nothing is left: no frame on the lists and no pin.
     pub fn into_seats(self) -> OwnSeats
-        requires { IsIdle self }
-        ensures past { result.past.table ≡ N.frames.table }
-        ensures frames { result.frames ≡ self.frame_seat }
-        ensures stocks { result.stocks ≡ self.stock_seat }
+        requires { IsIdle self.part }
+        ensures past { result.past ≡ self.past }
+        ensures past_table { result.past.table ≡ N.frames.table }
+        ensures frames { result.frames ≡ self.part.frame_seat }
+        ensures stocks { result.stocks ≡ self.part.stock_seat }
     {
         let Cpu { part, past } = self;
         let (frames, stocks) = part.into_seats();
@@ -75,8 +79,11 @@ impl<N: BootName> Cpu<N> {
     /// first of these that holds: 32 fresh frames, an empty list, what the stock says; else the frame.
     pub fn alloc_fast(&mut self, tables: &Tables<N>, group: u32) -> Fast
         requires { group < 64 }
-        ensures answer { FastAnswers group result self.old self.new }
+        ensures answer { FastAnswers group result self.old.part self.new.part }
         ensures frame { IfGot result (λ f. f < N.frames.frames) }
+        ensures run { GrewByAll (own_past self.old.past)
+            (steps_of_fast self.old.part.number group result self.old.part.stock_seat.view.last)
+            (own_past self.new.past) }
     {
         self.part.alloc_fast(tables, &mut self.past, group)
     }
@@ -85,8 +92,11 @@ impl<N: BootName> Cpu<N> {
     /// only what the CPU saw of it changes. A frame that is listed again counts as one drop and one return; the count
     /// stays at 2^64 - 1.
     pub fn drop_fresh(&mut self, tables: &Tables<N>, frame: Frame) -> Dropped
-        requires { 1 ≤ times frame self.old.fresh }
-        ensures { DropAnswers frame result self.old self.new }
+        requires { 1 ≤ times frame self.old.part.fresh }
+        ensures answer { DropAnswers frame result self.old.part self.new.part }
+        ensures run { GrewByAll (own_past self.old.past)
+            (steps_of_drop self.old.part.number frame result self.old.part.stock_seat.view.last)
+            (own_past self.new.past) }
     {
         self.part.drop_fresh(tables, &mut self.past, frame)
     }
@@ -96,82 +106,87 @@ impl<N: BootName> Cpu<N> {
     pub fn get(&mut self, tables: &Tables<N>, frame: Frame) -> Result<Get, Fault>
         requires { frame < N.frames.frames }
         ensures answer { MatchResult result
-            (λ answer. (length self.old.back + length self.old.pins < most_pins)
-            × PinAnswers frame answer self.old self.new)
-            (λ fault. (fault ≡ PinsFull) × (length self.old.back + length self.old.pins ≡ most_pins)
-            × (self.new ≡ self.old)) }
-        ensures never_zero { 1 ≤ times frame self.old.pins → result ≢ Ok Zero }
-        ensures in_no_hand { IfOk result (λ answer. answer ≢ Zero → IsInNoHand self.old.frame_seat frame) }
+            (λ answer. (length self.old.part.back + length self.old.part.pins < most_pins)
+            × PinAnswers frame answer self.old.part self.new.part)
+            (λ fault. (fault ≡ PinsFull) × (length self.old.part.back + length self.old.part.pins ≡ most_pins)
+            × (self.new.part ≡ self.old.part)) }
+        ensures never_zero { 1 ≤ times frame self.old.part.pins → result ≢ Ok Zero }
+        ensures in_no_hand { IfOk result (λ answer. answer ≢ Zero → IsInNoHand self.old.part.frame_seat frame) }
+        ensures run { GrewByAll (own_past self.old.past) (steps_of_get self.old.part.number frame result)
+            (own_past self.new.past) }
     {
         self.part.get(tables, &mut self.past, frame)
     }
 
     /// Removes one pin from the frame. After its last reference the frame is the newest back frame.
     pub fn put(&mut self, tables: &Tables<N>, frame: Frame) -> Put
-        requires { 1 ≤ times frame self.old.pins }
-        ensures answer { UnpinAnswers frame result self.old self.new }
-        ensures in_no_hand { IsInNoHand self.old.frame_seat frame }
+        requires { 1 ≤ times frame self.old.part.pins }
+        ensures answer { UnpinAnswers frame result self.old.part self.new.part }
+        ensures in_no_hand { IsInNoHand self.old.part.frame_seat frame }
+        ensures run { GrewByAll (own_past self.old.past) (steps_of_put self.old.part.number frame result)
+            (own_past self.new.past) }
     {
         self.part.put(tables, &mut self.past, frame)
     }
 
     /// The CPU's number, from 1 up.
     pub fn number(&self) -> u32
-        ensures number { result ≡ self.now.number }
-        ensures tied { IsTied N.frames N.stocks self.now }
+        ensures number { result ≡ self.now.part.number }
+        ensures tied { IsTied N.frames N.stocks self.now.part }
+        ensures in_run { (own_past self.now.past).number ≡ self.now.part.number }
     {
         self.part.number()
     }
 
     /// Whether the CPU has a pin on the frame.
     pub fn has_pin(&self, frame: Frame) -> bool
-        ensures { IsTrue result ↔ (1 ≤ times frame self.now.pins) }
+        ensures { IsTrue result ↔ (1 ≤ times frame self.now.part.pins) }
     {
         self.part.has_pin(frame)
     }
 
     /// Whether the frame is one of the fresh frames.
     pub fn has_fresh(&self, frame: Frame) -> bool
-        ensures { IsTrue result ↔ (1 ≤ times frame self.now.fresh) }
+        ensures { IsTrue result ↔ (1 ≤ times frame self.now.part.fresh) }
     {
         self.part.has_fresh(frame)
     }
 
     /// The number of pins, at most 256 with the back frames.
     pub fn pin_count(&self) -> usize
-        ensures count { result ≡ length self.now.pins }
-        ensures bound { result + length self.now.back ≤ most_pins }
+        ensures count { result ≡ length self.now.part.pins }
+        ensures bound { result + length self.now.part.back ≤ most_pins }
     {
         self.part.pin_count()
     }
 
     /// A frame that is pinned, if there is one.
     pub fn first_pin(&self) -> Option<Frame>
-        ensures { MatchOption result (self.now.pins ≡ []) (λ f. (1 ≤ times f self.now.pins) × (f < N.frames.frames)) }
+        ensures { MatchOption result (self.now.part.pins ≡ []) (λ f. (1 ≤ times f self.now.part.pins) × (f < N.frames.frames)) }
     {
         self.part.first_pin()
     }
 
     /// The number of frames on the list, at most 256 with the fresh frames.
     pub fn list_len(&self) -> usize
-        ensures count { result ≡ length self.now.list }
-        ensures bound { result + length self.now.fresh ≤ most_listed }
+        ensures count { result ≡ length self.now.part.list }
+        ensures bound { result + length self.now.part.fresh ≤ most_listed }
     {
         self.part.list_len()
     }
 
     /// The number of fresh frames, at most 32.
     pub fn fresh_len(&self) -> usize
-        ensures count { result ≡ length self.now.fresh }
+        ensures count { result ≡ length self.now.part.fresh }
         ensures bound { result ≤ most_fresh }
-        ensures pages { result ≡ self.now.stock_seat.view.fresh }
+        ensures pages { result ≡ self.now.part.stock_seat.view.fresh }
     {
         self.part.fresh_len()
     }
 
     /// The number of back frames, at most 256 with the pins.
     pub fn back_len(&self) -> usize
-        ensures { result ≡ length self.now.back }
+        ensures { result ≡ length self.now.part.back }
     {
         self.part.back_len()
     }
@@ -179,23 +194,23 @@ impl<N: BootName> Cpu<N> {
     /// The stock that the CPU saw last; its fresh frames are of that stock's group. The stock may have been drained
     /// since.
     pub fn last_stock(&self) -> Stock
-        ensures last { result ≡ self.now.stock_seat.view.last }
+        ensures last { result ≡ self.now.part.stock_seat.view.last }
         ensures has_word { HasWord result }
-        ensures none_fresh { result ≡ NoGroup → self.now.fresh ≡ [] }
+        ensures none_fresh { result ≡ NoGroup → self.now.part.fresh ≡ [] }
     {
         self.part.last_stock()
     }
 
     /// How often a fresh frame was dropped to the list. Each is one drop and one return. The count stays at 2^64 - 1.
     pub fn drops(&self) -> u64
-        ensures { result ≡ self.now.drops }
+        ensures { result ≡ self.now.part.drops }
     {
         self.part.drops()
     }
 
     /// Whether nothing is left: no frame on the lists and no pin.
     pub fn is_idle(&self) -> bool
-        ensures { IsTrue result ↔ IsIdle self.now }
+        ensures { IsTrue result ↔ IsIdle self.now.part }
     {
         self.part.is_idle()
     }

@@ -3,10 +3,11 @@
 ghost use Rattle.std.specs.Prelude.{◌≡◌, length, map, All};
 ghost use Rattle.std.specs.Vec.{vec_capacity};
 ghost use Rattle.boot_words.specs.Rule.{AllOf};
-ghost use Rattle.boot_words.specs.Closing.{frame_seats, stock_seats, AreAt};
+ghost use Rattle.boot_words.specs.Closing.{all_pasts_in, frame_seats, stock_seats, AreAt};
 ghost use Rattle.cpu_part.specs.Cpus.{IsIdle};
 ghost use Rattle.mem_machine.specs.Resting.{Rests};
 ghost use Rattle.mem_system.specs.Locked.{IsEmptyWithRoom};
+ghost use Rattle.mem_system.specs.Cpus.{parts_of, pasts_of};
 ghost use Rattle.mem_system.specs.Ends.{Closes, IsClosed, SitsAt, frame_seat_of, stock_seat_of};
 
 use crate::audit::{Audit, take_audit};
@@ -72,11 +73,12 @@ impl<N: BootName> EmptiedBoot<N> {
 
 // The seats of CPUs that have nothing left, in a list that has room for them.
 fn gather_seats<N: BootName>(mut cpus: Vec<Cpu<N>>, mut seats: Vec<OwnSeats>) -> Vec<OwnSeats>
-    requires idle { All IsIdle cpus.items }
-    requires at { All (SitsAt N.frames.table) cpus.items }
+    requires idle { All IsIdle (parts_of cpus.items) }
+    requires at { All (SitsAt N.frames.table) (parts_of cpus.items) }
     requires room { IsEmptyWithRoom (length cpus.items) (length seats.items) (vec_capacity seats) }
-    ensures frames { frame_seats result.items ≡ map frame_seat_of cpus.items }
-    ensures stocks { stock_seats result.items ≡ map stock_seat_of cpus.items }
+    ensures frames { frame_seats result.items ≡ map frame_seat_of (parts_of cpus.items) }
+    ensures stocks { stock_seats result.items ≡ map stock_seat_of (parts_of cpus.items) }
+    ensures pasts { all_pasts_in result.items ≡ pasts_of cpus.items }
     ensures at { AllOf (AreAt N.frames.table) result.items }
 {
     while !cpus.is_empty() {
@@ -91,7 +93,8 @@ fn close_tables<N: BootName>(machine: Machine<N>, tables: Tables<N>, seats: Vec<
     requires rests { Rests N.frames machine }
     requires seats { AllOf (AreAt N.frames.table) seats.items }
     requires count { length seats.items ≡ N.frames.cpus }
-    ensures { IsClosed N.frames N.stocks machine (frame_seats seats.items) (stock_seats seats.items) }
+    ensures { IsClosed N.frames N.stocks machine (frame_seats seats.items) (stock_seats seats.items)
+        (all_pasts_in seats.items) }
 {
     let words = tables.into_words();
     let _closed = words.close(machine.into_seats(), seats);

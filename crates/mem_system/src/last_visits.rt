@@ -6,7 +6,8 @@ ghost use Rattle.mem_machine.specs.Resting.{Rests};
 ghost use Rattle.mem_system.specs.Locked.{AllShut};
 ghost use Rattle.mem_system.specs.Commands.{BySteps};
 ghost use Rattle.mem_system.specs.Ends.{Empties, ForEachCpu, SettlesInVisit, VisitsUnderLock};
-ghost use Rattle.mem_system.specs.Ends.{IsEmptied, IsSettledUnpinned, LendsAndFillsNone, pins_of_all};
+ghost use Rattle.mem_system.specs.Cpus.{parts_of};
+ghost use Rattle.mem_system.specs.Ends.{IsEmptied, IsSettledUnpinned, LendsAndFillsNone, machine_and_cpu, pins_of_all};
 ghost use Rattle.mem_machine.specs.Local.{IsSeenByRun, visit_state, Makes};
 
 use crate::cpus::Cpu;
@@ -54,12 +55,12 @@ fn empty_cpu<N: BootName>(machine: &mut Machine<N>, tables: &Tables<N>, cpu: &mu
 fn settle_under_lock<N: BootName>(machine: &mut Machine<N>, tables: &Tables<N>, cpu: &mut Cpu<N>)
     requires shut { AllShut machine.old }
     requires rests { Rests N.frames machine.old }
-    requires no_pin { cpu.old.pins ≡ [] }
+    requires no_pin { cpu.old.part.pins ≡ [] }
     ensures settles { VisitsUnderLock N.frames SettlesInVisit
-        (visit_state machine.old cpu.old) (visit_state machine.new cpu.new) }
+        (machine_and_cpu machine.old cpu.old) (machine_and_cpu machine.new cpu.new) }
     ensures shut { AllShut machine.new }
     ensures rests { Rests N.frames machine.new }
-    ensures settled { IsSettledUnpinned cpu.new }
+    ensures settled { IsSettledUnpinned cpu.new.part }
 {
     let cpu_number = cpu.number();
     machine.lock(tables, &cpu.part, &mut cpu.past);
@@ -73,12 +74,12 @@ fn settle_under_lock<N: BootName>(machine: &mut Machine<N>, tables: &Tables<N>, 
 fn empty_under_lock<N: BootName>(machine: &mut Machine<N>, tables: &Tables<N>, cpu: &mut Cpu<N>)
     requires shut { AllShut machine.old }
     requires rests { Rests N.frames machine.old }
-    requires settled { IsSettledUnpinned cpu.old }
+    requires settled { IsSettledUnpinned cpu.old.part }
     ensures empties { VisitsUnderLock N.frames Empties
-        (visit_state machine.old cpu.old) (visit_state machine.new cpu.new) }
+        (machine_and_cpu machine.old cpu.old) (machine_and_cpu machine.new cpu.new) }
     ensures shut { AllShut machine.new }
     ensures rests { Rests N.frames machine.new }
-    ensures emptied { IsEmptied N.frames N.stocks machine.new cpu.new }
+    ensures emptied { IsEmptied N.frames N.stocks machine.new cpu.new.part }
     ensures others { LendsAndFillsNone machine.old machine.new }
 {
     let cpu_number = cpu.number();
@@ -97,12 +98,12 @@ pub(crate) fn settle_all<N: BootName>(
 )
     requires shut { AllShut machine.old }
     requires rests { Rests N.frames machine.old }
-    requires no_pin { pins_of_all cpus.old ≡ 0 }
+    requires no_pin { pins_of_all (parts_of cpus.old) ≡ 0 }
     ensures settles { ForEachCpu (VisitsUnderLock N.frames SettlesInVisit)
         machine.old cpus.old machine.new cpus.new }
     ensures shut { AllShut machine.new }
     ensures rests { Rests N.frames machine.new }
-    ensures settled { All IsSettledUnpinned cpus.new }
+    ensures settled { All IsSettledUnpinned (parts_of cpus.new) }
 {
     for cpu in cpus.iter_mut() {
         settle_under_lock(machine, tables, cpu);
@@ -117,11 +118,11 @@ pub(crate) fn empty_all<N: BootName>(
 )
     requires shut { AllShut machine.old }
     requires rests { Rests N.frames machine.old }
-    requires settled { All IsSettledUnpinned cpus.old }
+    requires settled { All IsSettledUnpinned (parts_of cpus.old) }
     ensures empties { ForEachCpu (VisitsUnderLock N.frames Empties) machine.old cpus.old machine.new cpus.new }
     ensures shut { AllShut machine.new }
     ensures rests { Rests N.frames machine.new }
-    ensures emptied { All (λ cpu. IsEmptied N.frames N.stocks machine.new cpu) cpus.new }
+    ensures emptied { All (λ cpu. IsEmptied N.frames N.stocks machine.new cpu) (parts_of cpus.new) }
 {
     for cpu in cpus.iter_mut() {
         empty_under_lock(machine, tables, cpu);

@@ -3,13 +3,15 @@
 ghost use Rattle.std.specs.Prelude.{◌≡◌, ◌∷◌, []};
 ghost use Rattle.group_tree.specs.Groups.{number_at};
 ghost use Rattle.group_charge.specs.Charges.{AreCharges};
+ghost use Rattle.boot_words.specs.Pasts.{Meets};
 ghost use Rattle.step_watch.specs.Watched.{Watches};
-ghost use Rattle.mem_machine.specs.Machines.{IsConsistent, with_unit_notes, with_watch};
+ghost use Rattle.mem_machine.specs.Machines.{IsConsistent, with_past, with_unit_notes, with_watch};
 ghost use Rattle.mem_machine.specs.Steps.{cpu_makes};
 ghost use Rattle.mem_system.specs.Locked.{IsQuiet};
 
+use crate::cpus::Cpu;
 use boot_words::OwnSeats;
-use cpu_part::BootName;
+use cpu_part::{BootName, Tables};
 use group_charge::charges::Charges;
 use group_tree::group::GroupId;
 use mem_machine::{Machine, prove_charges};
@@ -102,5 +104,17 @@ impl<N: BootName> Locked<N> {
         ensures watched { Watches self.old.machine.run.watch (cpu_makes cpu action answer ∷ []) self.new.machine.run.watch }
     {
         self.machine.take_step(cpu, action, answer);
+    }
+
+    /// The CPU, which doesn't hold the lock, and the zone, whose lock is free, now see the same run: all that either saw,
+    /// and perhaps more steps of others. A caller does this before and after a step that the CPU makes without the lock,
+    /// while it keeps others out.
+    #[inline(always)]
+    pub fn meet(&mut self, tables: &Tables<N>, cpu: &mut Cpu<N>)
+        ensures locked { self.new ≡ record self.old { machine = with_past self.old.machine self.new.machine.run.past } }
+        ensures part { cpu.new.part ≡ cpu.old.part }
+        ensures meets { Meets N.frames self.old.machine.run.past cpu.old.past self.new.machine.run.past cpu.new.past }
+    {
+        self.machine.meet(tables, &cpu.part, &mut cpu.past);
     }
 }

@@ -32,7 +32,7 @@ pub fn write_own_stock<N: BootName>(
     text: &mut String,
 ) -> Result<(), AllocError>
     ensures text { IfOk result (λ _. string_bytes text.new
-        ≡ string_bytes text.old ++ stock_line_text (visit_state locked.old.machine cpu.old)) }
+        ≡ string_bytes text.old ++ stock_line_text (visit_state locked.old.machine cpu.old.part)) }
     ensures locked { locked.new ≡ record locked.old { machine = with_look locked.old.machine } }
     ensures cpu { cpu.new ≡ cpu.old }
 {
@@ -44,7 +44,7 @@ impl<N: BootName> Locked<N> {
     /// The stock of any CPU of the boot as it is now, by one look at the stock's word. Another CPU's visit may have
     /// drained it since the CPU itself last saw it. The zone's seat counts the look as a step.
     pub fn look_at_stock(&mut self, tables: &Tables<N>, cpu: &mut Cpu<N>) -> Stock
-        ensures stock { result ≡ stock_now (visit_state self.old.machine cpu.old) }
+        ensures stock { result ≡ stock_now (visit_state self.old.machine cpu.old.part) }
         ensures locked { self.new ≡ record self.old { machine = with_look self.old.machine } }
         ensures cpu { cpu.new ≡ cpu.old }
     {
@@ -89,7 +89,7 @@ impl<N: BootName> System<N> {
             (IfOk result (λ _. string_bytes text.new
             ≡ string_bytes text.old ++ stock_line_text (visit_state_of settled)))
             × (machine ≡ with_look settled.locked.machine)) cpu.old cpu.new }
-        ensures settled { IsSettled cpu.new }
+        ensures settled { IsSettled cpu.new.part }
     {
         let mut guard = self.locked.lock(rt);
         let locked = &mut *guard;
@@ -115,7 +115,7 @@ impl<N: BootName> System<N> {
             (λ shown. IfOk result (λ is_there. (is_there ≡ true)
             × (string_bytes text.new ≡ string_bytes text.old ++ shown)))
             settled.locked.machine machine) cpu.old cpu.new }
-        ensures settled { IsSettled cpu.new }
+        ensures settled { IsSettled cpu.new.part }
     {
         let mut guard = self.locked.lock(rt);
         let locked = &mut *guard;

@@ -89,7 +89,7 @@ impl<N: BootName> System<N> {
     pub fn visit<R: Wait>(&self, rt: &R, cpu: &mut Cpu<N>, cmd: &Cmd<'_>) -> Reply
         requires { IsOfZone N.frames cmd.now }
         ensures served { IsVisited N.frames N.stocks (IsServed N.frames cmd.now result) cpu.old cpu.new }
-        ensures settled { IsSettledAfter cmd.now result cpu.new }
+        ensures settled { IsSettledAfter cmd.now result cpu.new.part }
     {
         self.visit_with(rt, cpu, cmd, &NoGate)
     }
@@ -106,7 +106,7 @@ impl<N: BootName> System<N> {
     ) -> Reply
         requires { IsOfZone N.frames cmd.now }
         ensures served { IsVisited N.frames N.stocks (IsServed N.frames cmd.now result) cpu.old cpu.new }
-        ensures settled { IsSettledAfter cmd.now result cpu.new }
+        ensures settled { IsSettledAfter cmd.now result cpu.new.part }
     {
         let mut reply = Reply::Done;
         self.visit_into(rt, cpu, cmd, gate, &mut reply);
@@ -127,7 +127,7 @@ impl<N: BootName> System<N> {
     )
         requires { IsOfZone N.frames cmd.now }
         ensures served { IsVisited N.frames N.stocks (IsServed N.frames cmd.now reply.new) cpu.old cpu.new }
-        ensures settled { IsSettledAfter cmd.now reply.new cpu.new }
+        ensures settled { IsSettledAfter cmd.now reply.new cpu.new.part }
     {
         let mut guard = self.locked.lock(rt);
         gate.inside(cpu.number());

@@ -2,6 +2,7 @@
 
 ghost use Rattle.std.specs.Prelude.{◌≡◌, ◌≤◌, length, IfOk, IfErr};
 ghost use Rattle.mem_system.specs.Locked.{BehindLock};
+ghost use Rattle.mem_system.specs.Cpus.{parts_of};
 ghost use Rattle.mem_system.specs.Ends.{AddsUp, Ends, pins_of_all};
 
 use crate::audit::Audit;
@@ -29,8 +30,8 @@ impl<N: BootName> System<N> {
             BehindLock N.frames N.stocks (λ found. Ends N.frames N.stocks found cpus.items audit)) }
         ensures frames { IfOk result (λ audit. audit.frames ≡ N.frames.frames) }
         ensures adds_up { IfOk result (λ audit. AddsUp audit) }
-        ensures no_pin { IfOk result (λ _. pins_of_all cpus.items ≡ 0) }
-        ensures pins { IfErr result (λ held. held.pins ≡ pins_of_all cpus.items) }
+        ensures no_pin { IfOk result (λ _. pins_of_all (parts_of cpus.items) ≡ 0) }
+        ensures pins { IfErr result (λ held. held.pins ≡ pins_of_all (parts_of cpus.items)) }
         ensures some_pin { IfErr result (λ held. 1 ≤ held.pins) }
         ensures cpus { IfErr result (λ held. held.cpus.items ≡ cpus.items) }
     {

@@ -28,7 +28,7 @@ pub fn show_text<N: BootName>(
 ) -> Result<Vec<u8>, AllocError>
     ensures served { SettlesCaller N.frames (locked_state locked.old cpu.old) (locked_state locked.new cpu.new) }
     ensures text { IfOk result (λ text. text.items ≡ show_text locked.new.machine) }
-    ensures settled { IsSettled cpu.new }
+    ensures settled { IsSettled cpu.new.part }
     ensures ends { EndsVisit N.frames (locked_state locked.old cpu.old) (locked_state locked.new cpu.new) }
 {
     settle(locked, tables, cpu);
@@ -47,7 +47,7 @@ pub fn blocks_text<N: BootName>(
 ) -> Result<Vec<u8>, AllocError>
     ensures served { SettlesCaller N.frames (locked_state locked.old cpu.old) (locked_state locked.new cpu.new) }
     ensures text { IfOk result (λ text. text.items ≡ blocks_text locked.new.machine.blocks) }
-    ensures settled { IsSettled cpu.new }
+    ensures settled { IsSettled cpu.new.part }
     ensures ends { EndsVisit N.frames (locked_state locked.old cpu.old) (locked_state locked.new cpu.new) }
 {
     settle(locked, tables, cpu);
@@ -67,7 +67,7 @@ impl<N: BootName> System<N> {
     ) -> Result<Vec<u8>, AllocError>
         ensures text { ReadsUnderLock N.frames N.stocks
             (λ machine. IfOk result (λ text. text.items ≡ show_text machine)) cpu.old cpu.new }
-        ensures settled { IsSettled cpu.new }
+        ensures settled { IsSettled cpu.new.part }
     {
         let mut text = String::new(alloc);
         self.show_into(rt, cpu, &mut text)?;
@@ -83,7 +83,7 @@ impl<N: BootName> System<N> {
     ) -> Result<Vec<u8>, AllocError>
         ensures text { ReadsUnderLock N.frames N.stocks
             (λ machine. IfOk result (λ text. text.items ≡ blocks_text machine.blocks)) cpu.old cpu.new }
-        ensures settled { IsSettled cpu.new }
+        ensures settled { IsSettled cpu.new.part }
     {
         let mut text = String::new(alloc);
         self.blocks_into(rt, cpu, &mut text)?;
@@ -99,7 +99,7 @@ impl<N: BootName> System<N> {
     ) -> Result<(), AllocError>
         ensures text { ReadsUnderLock N.frames N.stocks (λ machine.
             IfOk result (λ _. string_bytes text.new ≡ string_bytes text.old ++ show_text machine)) cpu.old cpu.new }
-        ensures settled { IsSettled cpu.new }
+        ensures settled { IsSettled cpu.new.part }
     {
         let mut guard = self.locked.lock(rt);
         let locked = &mut *guard;
@@ -119,7 +119,7 @@ impl<N: BootName> System<N> {
         ensures text { ReadsUnderLock N.frames N.stocks (λ machine.
             IfOk result (λ _. string_bytes text.new ≡ string_bytes text.old ++ blocks_text machine.blocks))
             cpu.old cpu.new }
-        ensures settled { IsSettled cpu.new }
+        ensures settled { IsSettled cpu.new.part }
     {
         let mut guard = self.locked.lock(rt);
         let locked = &mut *guard;

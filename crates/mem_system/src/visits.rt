@@ -35,7 +35,7 @@ pub fn serve_outcome<N: BootName>(
     ensures served { ServesOutcome N.frames cmd.now result (locked_state locked.old cpu.old)
         (locked_state locked.new cpu.new) }
     ensures groups { HasItsGroups locked.new.machine.ledger result }
-    ensures settled { IsSettledAfter cmd.now (reply_of locked.new.machine.ledger result) cpu.new }
+    ensures settled { IsSettledAfter cmd.now (reply_of locked.new.machine.ledger result) cpu.new.part }
     ensures ends { EndsVisit N.frames (locked_state locked.old cpu.old) (locked_state locked.new cpu.new) }
     ensures lost { LosesNoUnit N.frames N.stocks locked.new.machine }
 {
@@ -68,7 +68,7 @@ pub(crate) fn serve_into<N: BootName>(
     requires { IsOfZone N.frames cmd.now }
     ensures served { IsServed N.frames cmd.now reply.new (locked_state locked.old cpu.old)
         (locked_state locked.new cpu.new) }
-    ensures settled { IsSettledAfter cmd.now reply.new cpu.new }
+    ensures settled { IsSettledAfter cmd.now reply.new cpu.new.part }
     ensures ends { EndsVisit N.frames (locked_state locked.old cpu.old) (locked_state locked.new cpu.new) }
 {
     let outcome = serve_outcome(locked, tables, cpu, cmd);
@@ -87,7 +87,7 @@ pub fn serve<N: BootName>(
     requires { IsOfZone N.frames cmd.now }
     ensures served { IsServed N.frames cmd.now result (locked_state locked.old cpu.old)
         (locked_state locked.new cpu.new) }
-    ensures settled { IsSettledAfter cmd.now result cpu.new }
+    ensures settled { IsSettledAfter cmd.now result cpu.new.part }
     ensures ends { EndsVisit N.frames (locked_state locked.old cpu.old) (locked_state locked.new cpu.new) }
 {
     let mut reply = Reply::Done;
@@ -108,8 +108,8 @@ pub fn serve_frame_outcome<N: BootName>(
     ensures served { ServesFrameOutcome N.frames group result (locked_state locked.old cpu.old)
         (locked_state locked.new cpu.new) }
     ensures groups { HasItsGroups locked.new.machine.ledger result }
-    ensures fresh { FreshOf (reply_of locked.new.machine.ledger result) 0 cpu.new.fresh }
-    ensures back { cpu.new.back ≡ [] }
+    ensures fresh { FreshOf (reply_of locked.new.machine.ledger result) 0 cpu.new.part.fresh }
+    ensures back { cpu.new.part.back ≡ [] }
     ensures ends { EndsVisit N.frames (locked_state locked.old cpu.old) (locked_state locked.new cpu.new) }
     ensures lost { LosesNoUnit N.frames N.stocks locked.new.machine }
 {
@@ -129,7 +129,7 @@ pub fn serve_frame_outcome<N: BootName>(
 /// Serves `Settle`: settles the CPU, and does nothing else.
 pub fn settle<N: BootName>(locked: &mut Locked<N>, tables: &Tables<N>, cpu: &mut Cpu<N>)
     ensures served { SettlesCaller N.frames (locked_state locked.old cpu.old) (locked_state locked.new cpu.new) }
-    ensures settled { IsSettled cpu.new }
+    ensures settled { IsSettled cpu.new.part }
     ensures ends { EndsVisit N.frames (locked_state locked.old cpu.old) (locked_state locked.new cpu.new) }
 {
     let _done = serve_outcome(locked, tables, cpu, &Cmd::Settle);

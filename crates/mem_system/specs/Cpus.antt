@@ -1,0 +1,38 @@
+-- What contracts see of a CPU, and how a visit goes on with its past and the zone's.
+use Rattle.std.specs.Prelude.{◌≡◌, ℕ, List, [], ◌∷◌, ◌++◌, map}
+use Rattle.step_rules.specs.declared.step.Action.TheVariants.{Lock, Unlock}
+use Rattle.step_rules.specs.declared.step.Answer.TheVariants.{Done}
+use Rattle.step_rules.specs.After.{Run}
+use Rattle.boot_words.specs.declared.view.Past.{Past}
+use Rattle.boot_words.specs.Pasts.{KnownPasts, own_past}
+use Rattle.boot_words.specs.Growth.{GrewByAll}
+use Rattle.cpu_part.specs.Cpus.{KnownCpu}
+use Rattle.mem_machine.specs.Steps.{cpu_makes}
+
+-- a CPU as callers have it: its part, and its own past of the run
+pub record CpuInRun : Type 0 where
+  pub part : KnownCpu
+  pub past : KnownPasts
+
+-- the CPU with this part and this past
+abbrev pub cpu_in_run : KnownCpu → KnownPasts → CpuInRun
+cpu_in_run part past = record { part = part; past = past }
+
+-- the parts of the CPUs
+abbrev pub parts_of : List CpuInRun → List KnownCpu
+parts_of cpus = map (λ cpu. cpu.part) cpus
+
+-- the CPUs' own pasts
+abbrev pub pasts_of : List CpuInRun → List Past
+pasts_of cpus = map (λ cpu. own_past cpu.past) cpus
+
+-- the steps of a visit under the lock: the Lock, the steps of the visit itself, and the Unlock
+abbrev pub between_locks : (cpu : ℕ) → Run → Run
+between_locks cpu steps = cpu_makes cpu Lock Done ∷ (steps ++ cpu_makes cpu Unlock Done ∷ [])
+
+-- A visit of the CPU with these steps, in the run: the zone's past and the CPU's past have grown by the Lock, these steps
+-- and the Unlock. Both have seen the same run then.
+pub record VisitsInRun (cpu : ℕ) (steps : Run) (zone past zone' past' : KnownPasts) : Type 0 where
+  pub zone_grew : GrewByAll (own_past zone) (between_locks cpu steps) (own_past zone')
+  pub cpu_grew : GrewByAll (own_past past) (between_locks cpu steps) (own_past past')
+  pub same : (own_past zone').seen ≡ (own_past past').seen
