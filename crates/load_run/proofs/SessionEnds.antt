@@ -8,6 +8,7 @@ use Rattle.frame_word.specs.Seats.{KnownTable}
 use Rattle.stock_word.specs.Stock.{KnownStockTable}
 use Rattle.zone_blocks.specs.declared.config.Config.{Config}
 use Rattle.zone_blocks.specs.Config.{IsValidConfig}
+use Rattle.mem_system.specs.Cpus.{parts_of}
 use Rattle.mem_history.specs.Whole.{ShowsAll}
 use Rattle.mem_history.specs.Kept.{AreTied}
 use Rattle.script_replay.specs.Lines.{SystemState}
@@ -139,8 +140,8 @@ head_missed form sizes before is = subst (λ (f : SessionForm). BeginsHead f siz
 -- ---- on a boot
 
 -- turns that are replayed from a boot have their history
-history_of : (form : SessionForm) (t : KnownTable) (w : KnownStockTable) (turns : List Turn) (start end : SystemState) → ShowsAll t [] start.locked.machine start.cpus
-    → AreTied t w start.cpus → ReplaysTurns form t w turns start end → HasTurnsHistory form t w turns (past [] start) end
+history_of : (form : SessionForm) (t : KnownTable) (w : KnownStockTable) (turns : List Turn) (start end : SystemState) → ShowsAll t [] start.locked.machine (parts_of start.cpus)
+    → AreTied t w (parts_of start.cpus) → ReplaysTurns form t w turns start end → HasTurnsHistory form t w turns (past [] start) end
 history_of (Answers is_explained) t w turns start end shows tied replays = replays.history [] shows tied
 history_of Steps t w turns start end shows tied replays = replays [] shows tied
 

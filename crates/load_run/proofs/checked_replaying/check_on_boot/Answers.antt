@@ -1,13 +1,13 @@
 use Rattle.std.proofs.Common.{◌≡◌, ℕ, List, true, ◌++◌, ◌∙◌, ap, append_assoc, length, refl, subst, sym}
 use Rattle.std.proofs.lemmas.Result.{IfErr-at_err, IfOk-at_ok, err_from_is_err_and}
-use Rattle.cpu_part.specs.Cpus.{KnownCpu}
+use Rattle.mem_system.specs.Cpus.{CpuInRun}
 use Rattle.step_watch.specs.Watched.{has_legal_steps}
 use Rattle.mem_machine.specs.Interleaving.{zone_of}
 use Rattle.mem_system.specs.Locked.{KnownLocked}
 use Rattle.script_replay.specs.Lines.{system_state}
 use Rattle.load_run.specs.Answers.{checked_text}
 use Rattle.load_run.specs.Ending.{EndsChecked, boot_end_text}
-use Rattle.load_run.proofs.Starting.{boot_agrees, boot_shown, given_back, lines_there, parts_tied}
+use Rattle.load_run.proofs.Starting.{boot_agrees, boot_shown, given_back, lent_parts, lent_so_far, lines_there, parts_tied}
 use Rattle.load_run.proofs.Stopped.{new_watched, stop_told}
 use Rattle.load_run.proofs.Watched.{saw_more}
 use Rattle.load_run.proofs.checked_replaying.check_on_boot.Goals as goal
@@ -31,7 +31,8 @@ pub returns-in_err-answers : goal.returns-in_err-answers
 returns-in_err-answers g c =
     let booted = c.in_ok-locked.ensures in
     let new = new_watched c.args.boot.sizes c.args.sizes g.N.BootName.frames g.N.BootName.stocks _ c.deref_mut.result.now _ _ booted.sized c.requires.sizes
-    booted.machine booted.sizes (c.deref_mut.ensures.value ∙ booted.cpus) c.in_ok-watch.ensures c.set_watch.ensures in
+    booted.machine booted.sizes (lent_parts _ _ c.deref_mut.ensures.value booted.cpus) (lent_so_far _ _ c.deref_mut.ensures.value booted.so_far)
+    c.in_ok-watch.ensures c.set_watch.ensures in
     let p = err_from_is_err_and c.from_residual-in_err-answers.result c.from_residual-in_err-answers.ensures.1 in
     rw (p.1, p.2) (record {
       answers = tt;
@@ -46,9 +47,10 @@ returns-then-not-seen g c =
     let booted = c.in_ok-locked.ensures in
     let left = c.replay_checked-answers.new in
     let new = new_watched c.args.boot.sizes c.args.sizes t w _ c.deref_mut.result.now _ _ booted.sized c.requires.sizes
-    booted.machine booted.sizes (c.deref_mut.ensures.value ∙ booted.cpus) c.in_ok-watch.ensures c.set_watch.ensures in
+    booted.machine booted.sizes (lent_parts _ _ c.deref_mut.ensures.value booted.cpus) (lent_so_far _ _ c.deref_mut.ensures.value booted.so_far)
+    c.in_ok-watch.ensures c.set_watch.ensures in
     let told = c.end_checked_boot.result in
-    let ends = subst (λ (cpus : List KnownCpu). EndsChecked t w (system_state left.locked cpus) told.0 told.1)
+    let ends = subst (λ (cpus : List CpuInRun). EndsChecked t w (system_state left.locked cpus) told.0 told.1)
     (given_back _ _ _ _ c.deref_mut.ensures.value c.deref_mut.ensures.len c.replay_checked-answers.auto.cpus) c.end_checked_boot.ensures.ends in
     let replays = IfOk-at_ok _ c.in_ok-answers.was c.replay_checked-answers.ensures.outcome.replayed in
     record {
@@ -74,9 +76,10 @@ returns g c =
     let booted = c.in_ok-locked.ensures in
     let left = c.replay_checked-answers.new in
     let new = new_watched c.args.boot.sizes c.args.sizes t w _ c.deref_mut.result.now _ _ booted.sized c.requires.sizes
-    booted.machine booted.sizes (c.deref_mut.ensures.value ∙ booted.cpus) c.in_ok-watch.ensures c.set_watch.ensures in
+    booted.machine booted.sizes (lent_parts _ _ c.deref_mut.ensures.value booted.cpus) (lent_so_far _ _ c.deref_mut.ensures.value booted.so_far)
+    c.in_ok-watch.ensures c.set_watch.ensures in
     let told = c.end_checked_boot.result in
-    let ends = subst (λ (cpus : List KnownCpu). EndsChecked t w (system_state left.locked cpus) told.0 told.1)
+    let ends = subst (λ (cpus : List CpuInRun). EndsChecked t w (system_state left.locked cpus) told.0 told.1)
     (given_back _ _ _ _ c.deref_mut.ensures.value c.deref_mut.ensures.len c.replay_checked-answers.auto.cpus) c.end_checked_boot.ensures.ends in
     let replays = IfOk-at_ok _ c.in_ok-answers.was c.replay_checked-answers.ensures.outcome.replayed in
     let tells = replays.history (boot_shown _ _ _ _ new.first) (parts_tied _ _ _ _ new.first) (boot_agrees _ _ _ _ new.first) new.watched in

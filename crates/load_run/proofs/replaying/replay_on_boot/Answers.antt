@@ -1,5 +1,5 @@
 use Rattle.std.proofs.Common.{◌∙◌, List, [], ap, length, refl, subst}
-use Rattle.cpu_part.specs.Cpus.{KnownCpu}
+use Rattle.mem_system.specs.Cpus.{CpuInRun}
 use Rattle.script_replay.specs.Lines.{SystemState, system_state}
 use Rattle.load_run.specs.Ending.{EndsHeld, boot_end_text}
 use Rattle.std.proofs.lemmas.Result.{IfOk-at_ok, IfOk-weaker}
@@ -24,10 +24,11 @@ returns g c =
     let booted = c.in_ok-locked.ensures in
     let left = c.replay-answers.new in
     let start : SystemState = system_state c.in_ok-locked.locked c.deref_mut.result.now in
-    let new = new_state _ _ t w _ c.deref_mut.result.now refl booted.sized booted.machine booted.sizes (c.deref_mut.ensures.value ∙ booted.cpus) in
+    let new = new_state _ _ t w _ c.deref_mut.result.now refl booted.sized booted.machine booted.sizes 
+    (lent_parts _ _ c.deref_mut.ensures.value booted.cpus) (lent_so_far _ _ c.deref_mut.ensures.value booted.so_far) in
     let replays = IfOk-at_ok _ c.in_ok-answers.was c.replay-answers.ensures.outcome.replayed in
     let told = c.end_boot-ended.result in
-    let ends = subst (λ (cpus : List KnownCpu). EndsHeld t w (system_state left.locked cpus) told)
+    let ends = subst (λ (cpus : List CpuInRun). EndsHeld t w (system_state left.locked cpus) told)
     (given_back _ _ _ _ c.deref_mut.ensures.value c.deref_mut.ensures.len c.replay-answers.auto.cpus) c.end_boot-ended.ensures.ends in
     record {
       answers = IfOk-weaker c.with_end.result _ _ (λ text is. record {
