@@ -46,3 +46,5 @@ pub mod Booting
 pub mod Returning
 pub mod Draining
 pub mod Away
+pub mod Ordered
+pub mod Gaining

@@ -3,6 +3,7 @@
 #![tactic(auto)]
 
 mod closed;
+pub mod growth;
 mod hand_over;
 pub mod held;
 pub mod laws;
