@@ -15,6 +15,7 @@ use Rattle.boot_words.specs.declared.view.Past.{Past}
 use Rattle.boot_words.specs.declared.view.BootView.{BootView}
 use Rattle.boot_words.specs.declared.view.BootView.TheVariants.{OfFrames, OfStocks, OfRun}
 use Rattle.boot_words.specs.Rule.{AllOf, AllViews, FitsRun, LeavesLock, past_of}
+use Rattle.boot_words.specs.Growth.{GrewByAll}
 use Rattle.boot_words.proofs.Seats.{seats_set}
 
 none_more : (seat : ℕ) (rest : Run) (e : Step × Answer) → HasNoStepOf seat rest → e.0.seat ≢ seat → HasNoStepOf seat (rest ++ e ∷ [])
@@ -101,3 +102,10 @@ pub all_fit_later : (run : Run) (seats : List (List BootView)) (id : ℕ) (old n
 all_fit_later run seats id old new e at one own zone fits now =
     seats_set (FitsRun run) (FitsRun (run ++ e ∷ [])) (notes (is_of_lock e.0.action) e.0.seat) (other_fits run e) seats id old new at
     (enough seats old e.0.seat (is_of_lock e.0.action) one own zone) fits now
+
+-- ---- several steps
+
+-- a past that has grown by these steps and then by those has grown by all of them
+pub all_grew_both : (a : Past) (one : Run) (b : Past) (two : Run) (c : Past) → GrewByAll a one b → GrewByAll b two c → GrewByAll a (one ++ two) c
+all_grew_both a [] b two c same second = subst (λ (p : Past). GrewByAll p two c) same second
+all_grew_both a (made ∷ one) b two c first second = (first.0, first.1, all_grew_both first.0 one b two c first.2 second)

@@ -17,6 +17,7 @@ pub mod Reporting
 pub mod Looking
 pub mod Resting
 pub mod Locking
+pub mod Meeting
 pub mod Sharing
 pub mod Beginning
 pub mod Parting

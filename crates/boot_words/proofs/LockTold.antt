@@ -12,10 +12,11 @@ use Rattle.boot_words.specs.declared.view.BootView.{BootView}
 use Rattle.boot_words.specs.declared.view.BootView.TheVariants.{OfFrames, OfRun}
 use Rattle.boot_words.specs.declared.word.Word.TheVariants.{Quiet}
 use Rattle.boot_words.specs.Held.{HoldsLock, local_seen}
-use Rattle.boot_words.specs.Locks.{LeavesFree, ReleasesLock, TakesLock}
+use Rattle.boot_words.specs.Locks.{LeavesFree, ReleasesLock, SeeTheSame, TakesLock}
 use Rattle.boot_words.specs.Seats.{MayStep}
 use Rattle.boot_words.proofs.HeldTold.{held_told, holder_at, may_held}
 use Rattle.boot_words.proofs.Locking.{lock_is_allowed, unlock_is_allowed}
+use Rattle.boot_words.proofs.Meeting.{meet_is_allowed}
 use Rattle.boot_words.proofs.Quiet.{plain_is_allowed}
 use Rattle.boot_words.proofs.Told.{may_step, none_carried, past_at}
 
@@ -41,6 +42,16 @@ may_unlock zone before z c is holds legal =
     subst (λ (b : List BootView). MayStep zone b Quiet (λ n. n) (unlocks_told zone b)) (sym is)
     (may_step zone (OfRun z ∷ OfRun c ∷ []) Quiet (λ n. n) (λ found later. ReleasesLock (Unit {0}) zone z c (local_seen zone c) later) (λ found m told. none_carried told.later_is)
     (λ id. unlock_is_allowed zone 0 id z c (local_seen zone c) holds legal))
+
+abbrev pub meets_told : Zone → List BootView → ℕ → List BootView → Type 0
+meets_told zone before found views = SeeTheSame (Unit {0}) zone (past_at before) (holder_at before) (views, [])
+
+pub may_meet : (zone : Zone) (before : List BootView) (z c : Past) → before ≡ OfRun z ∷ OfRun c ∷ [] → z.number ≡ 0 → 1 ≤ c.number → c.number ≤ zone.cpus → LeavesFree zone z
+    → MayStep zone before Quiet (λ n. n) (meets_told zone before)
+may_meet zone before z c is zone_is low high free =
+    subst (λ (b : List BootView). MayStep zone b Quiet (λ n. n) (meets_told zone b)) (sym is)
+    (may_step zone (OfRun z ∷ OfRun c ∷ []) Quiet (λ n. n) (λ found later. SeeTheSame (Unit {0}) zone z c later) (λ found m told. none_carried told.later_is)
+    (λ id. meet_is_allowed zone 0 id z c zone_is (in_range zone c.number low high) free))
 
 abbrev pub notes_told : Zone → List BootView → Step → Answer → ℕ → List BootView → Type 0
 notes_told zone before made_step answer found = held_told OfFrames zone before made_step answer (λ m. m.0 ≡ [])

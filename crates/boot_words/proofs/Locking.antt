@@ -33,7 +33,7 @@ use Rattle.boot_words.proofs.Resting.{zone_rests}
 use Rattle.boot_words.proofs.Seats.{all_at}
 use Rattle.boot_words.proofs.UnderLock.{same_seen, shows_now}
 
-not_none : (zone : Zone) (cpu : ℕ) → is_cpu zone cpu ≡ true → cpu ≢ 0
+pub not_none : (zone : Zone) (cpu : ℕ) → is_cpu zone cpu ≡ true → cpu ≢ 0
 not_none zone cpu is none = let range = cpu_range zone cpu is in let low = range.0 in absurd (omega (arith, low, none))
 
 pub lock_is_allowed : {S : Type 0} → LockIsAllowed S

@@ -15,6 +15,7 @@ use Rattle.boot_words.specs.declared.view.BootView.TheVariants.{OfFrames}
 use Rattle.boot_words.specs.Rule.{IsPastOf, boot_rule}
 use Rattle.boot_words.specs.Allowed.{GrewBy, IsLegalLater}
 use Rattle.boot_words.specs.Held.{HoldsLock, joined, local_seen}
+use Rattle.boot_words.specs.Growth.{SeesMore}
 
 -- by this past the lock is free
 abbrev pub LeavesFree : Zone → Past → Type 0
@@ -67,3 +68,26 @@ UnlockIsAllowed S = (zone : Zone) (slots id : ℕ) (z c : Past) (local : State) 
     → is_legal local c.number Unlock ≡ true
     → Allows {S = S} (boot_rule zone) slots id (joined OfFrames z c [], []) 0 (λ n. n)
     (λ found later. ReleasesLock S zone z c local later)
+
+-- A CPU's past and the zone's, by which the lock is free, have seen the whole run: both are the same legal run now. The
+-- lock still is free, the zone's past leaves what it left, hidden parts apart, and the CPU has the lists and references
+-- that its own past left.
+pub record SeeTheSame (S : Type 0) (zone : Zone) (z c : Past) (later : Me S (List BootView)) : Type 0 where
+  pub zone_past : Past
+  pub cpu_past : Past
+  pub later_is : later ≡ (joined OfFrames zone_past cpu_past [], [])
+  pub zone_sees : SeesMore z zone_past
+  pub cpu_sees : SeesMore c cpu_past
+  pub same : zone_past.seen ≡ cpu_past.seen
+  pub zone_lasts : IsLegalLater zone z zone_past
+  pub cpu_lasts : IsLegalLater zone c cpu_past
+  pub free : LeavesFree zone zone_past
+  pub left : hide (state_of zone zone_past.seen) ≡ hide (state_of zone z.seen)
+  pub own : HasSameLists c.number (state_of zone c.seen) (state_of zone cpu_past.seen)
+
+-- A CPU's past is joined with the zone's, by which the lock is free: both see the whole run by a load of the word that
+-- nobody writes. The load adds no step to the run.
+abbrev pub MeetIsAllowed : Type 0 → Type 0
+MeetIsAllowed S = (zone : Zone) (slots id : ℕ) (z c : Past) → z.number ≡ 0 → is_cpu zone c.number ≡ true → LeavesFree zone z
+    → Allows {S = S} (boot_rule zone) slots id (joined OfFrames z c [], []) 0 (λ n. n)
+    (λ found later. SeeTheSame S zone z c later)

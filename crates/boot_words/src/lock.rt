@@ -8,7 +8,7 @@ ghost use Rattle.boot_words.specs.Locks.{LeavesFree};
 ghost use Rattle.boot_words.specs.Seats.{zone_of_boot, MayStep};
 ghost use Rattle.boot_words.specs.Pasts.{cpu_past, local_by_pasts, own_past, IsCpuPast, IsHeld, IsZonePast, Locks};
 ghost use Rattle.boot_words.specs.Pasts.{MakesStep};
-ghost use Rattle.boot_words.specs.Pasts.{MayMake, Unlocks};
+ghost use Rattle.boot_words.specs.Pasts.{MayMake, Meets, Unlocks};
 
 use crate::raw::{BootWords, RawSeat, Telling};
 use crate::seat::PastSeat;
@@ -37,6 +37,20 @@ impl BootWords {
         requires legal { MayMake self.now zone.old (cpu_past zone.old).number step.Unlock }
         ensures run { Unlocks self.now zone.old zone.new cpu.new }
     {
+        self.load::<Brand>(&mut zone.raw, Word::Quiet);
+        cpu.raw = self.split_last(&mut zone.raw);
+    }
+
+    /// A CPU, which doesn't hold the lock, and the zone now see the same run: all steps that either saw, and all that
+    /// others have made. No step is made: this is one load of the word that nobody writes. It is for a caller that has to
+    /// know in which order several CPUs made their steps: the CPU's next step comes after all steps that the zone saw.
+    pub fn meet(&self, zone: &mut PastSeat, cpu: &mut PastSeat)
+        requires zone { IsZonePast self.now zone.old }
+        requires cpu { IsCpuPast self.now cpu.old }
+        requires free { LeavesFree (zone_of_boot self.now) (own_past zone.old) }
+        ensures run { Meets self.now zone.old cpu.old zone.new cpu.new }
+    {
+        self.join(&mut zone.raw, &mut cpu.raw);
         self.load::<Brand>(&mut zone.raw, Word::Quiet);
         cpu.raw = self.split_last(&mut zone.raw);
     }

@@ -1,4 +1,4 @@
--- What the machine shows behind a lock, and what the CPU knows behind an unlock. Serves `lock` and `unlock`.
+-- What the machine shows behind a lock, and what the CPU knows behind an unlock. Serves `lock`, `unlock` and `meet`.
 use Rattle.std.proofs.Common.{◌≡◌, ◌≢◌, ℕ, ◌++◌, true, false, [], ◌∷◌, length, refl, sym, ap, ◌∙◌, subst, arith}
 use Rattle.frame_word.specs.Seats.{KnownTable, IsShut}
 use Rattle.stock_word.specs.declared.view.Stock.TheVariants as stock
@@ -17,21 +17,17 @@ use Rattle.step_rules.proofs.Sound.{IsSound}
 use Rattle.boot_words.specs.Hidden.{hide}
 use Rattle.boot_words.specs.Sight.{HasSameLists}
 use Rattle.boot_words.specs.Seats.{zone_of_boot}
-use Rattle.boot_words.specs.Pasts.{KnownPasts, Locks, MayMake, Unlocks, cpu_past, own_past}
+use Rattle.boot_words.specs.Pasts.{KnownPasts, Locks, MayMake, Meets, Unlocks, cpu_past, own_past}
 use Rattle.boot_words.proofs.Away.{away_stays}
 use Rattle.boot_words.proofs.Holding.{take_length}
 use Rattle.boot_words.proofs.Owning.{lists_are_own}
 use Rattle.cpu_part.specs.Cpus.{KnownCpu, IsTied}
 use Rattle.cpu_part.specs.Known.{KnowsItsPart, last_state}
 use Rattle.cpu_part.proofs.Knowing.{HasLists, has_same, own_group, own_lists}
-use Rattle.mem_machine.specs.Machines.{KnownMachine, visit_state}
+use Rattle.mem_machine.specs.Machines.{KnownMachine, visit_state, with_past}
 use Rattle.mem_machine.specs.Local.{IsSeenByRun, local_of}
 use Rattle.mem_machine.specs.Resting.{Rests, hidden_of}
 use Rattle.mem_machine.proofs.Seen.{group_here, hidden_here, may_unlock, part_here, references_here, shown_here}
-
--- the machine with another past
-abbrev pub with_past : KnownMachine → KnownPasts → KnownMachine
-with_past m past = record m { run = record (m.run) { past = past } }
 
 -- the CPU takes the lock
 module _ (t : KnownTable) (w : KnownStockTable) (m : KnownMachine) (c : KnownCpu) (past later : KnownPasts)
@@ -149,3 +145,33 @@ module _ (t : KnownTable) (w : KnownStockTable) (m : KnownMachine) (c : KnownCpu
               ∙ sym (ap (λ (x : Part). x.stock.group) (part_here t m c seen_last sound_last here_last))
               ∙ group_here t m c seen_last sound_last here_last has_last.fresh_is none some;
         }
+
+-- the CPU, which doesn't hold the lock, and the zone see the same run
+module _ (t : KnownTable) (m : KnownMachine) (c : KnownCpu) (past zone own : KnownPasts) (rests : Rests t m) (knows : KnowsItsPart t past c)
+    (meets : Meets t m.run.past past zone own) where
+  -- nobody holds the lock, as before
+  pub rests_met : Rests t (with_past m zone)
+  rests_met = record { past_is = meets.zone_is; free = meets.free; left = meets.left ∙ rests.left }
+
+  -- and the CPU still knows its own part
+  pub knows_met : KnowsItsPart t own c
+  knows_met =
+      let boot = zone_of_boot t in let p = own_past past in let q = p.number in let sees = meets.cpu_sees in
+      let legal = subst (IsLegalRun boot) sees.seen meets.cpu_is.legal in
+      let away : holds_lock q (last_state t past).hold ≡ false = subst (λ k. holds_lock k (last_state t past).hold ≡ false) (sym knows.number) knows.away in
+      let stays = away_stays boot p.seen sees.between q legal sees.others away in
+      let has = subst (λ k. HasLists (last_state t own) k c.list c.fresh c.back c.pins) knows.number
+      (has_same (last_state t past) q c.list c.fresh c.back c.pins (own_lists t past c knows) (last_state t own) meets.own) in
+      record {
+        past_is = meets.cpu_is;
+        number = sees.number ∙ knows.number;
+        list = has.list_is;
+        fresh = has.fresh_is;
+        back = has.back_is;
+        references = has.references_are;
+        away = ap (λ (r : Run). holds_lock c.number (state_of boot r).hold) sees.seen
+            ∙ ap (λ (k : ℕ). holds_lock k (state_of boot (p.seen ++ sees.between)).hold) (sym knows.number) ∙ stays.0;
+        group = λ some. ap (λ (r : Run). ((state_of boot r).parts c.number).stock.group) sees.seen
+            ∙ ap (λ (k : ℕ). ((state_of boot (p.seen ++ sees.between)).parts k).stock.group) (sym knows.number)
+            ∙ stays.1.group ∙ own_group t past c knows some;
+      }

@@ -10,7 +10,8 @@ use Rattle.step_rules.specs.State.{State}
 use Rattle.step_rules.specs.After.{Run}
 use Rattle.step_rules.specs.Laws.{IsLocalStep}
 use Rattle.step_rules.specs.Reaches.{IsLocalRun}
-use Rattle.boot_words.specs.Pasts.{KnownPasts, IsHeld, MakesStep, cpu_past, local_by_pasts}
+use Rattle.boot_words.specs.Pasts.{KnownPasts, IsHeld, MakesStep, cpu_past, local_by_pasts, own_past}
+use Rattle.boot_words.proofs.Growing.{all_grew_both}
 use Rattle.cpu_part.specs.Made.{MakesAll, MayMakeAll}
 use Rattle.step_watch.specs.Watched.{Watches}
 use Rattle.step_watch.proofs.Watching.{watches_none, watches_both}
@@ -19,7 +20,7 @@ use Rattle.mem_machine.specs.Noted.{AreLocal, PastsGrowBy, KnownRun, MayTake, Ma
 -- ---- how the pasts grow
 
 pub grows_none : (t : KnownTable) (s : KnownPasts) → PastsGrowBy t s [] s
-grows_none t s = record { held = λ held. held; holder = λ _. refl; sees = λ _. refl }
+grows_none t s = record { held = λ held. held; holder = λ _. refl; sees = λ _. refl; zone_grew = λ _. refl; cpu_grew = λ _. refl }
 
 pub grows_both : (t : KnownTable) (a : KnownPasts) (one : Run) (b : KnownPasts) (two : Run) (c : KnownPasts) → PastsGrowBy t a one b → PastsGrowBy t b two c
     → PastsGrowBy t a (one ++ two) c
@@ -28,11 +29,19 @@ grows_both t a one b two c first second = record {
   holder = λ held. second.holder (first.held held) ∙ first.holder held;
   sees = λ held. second.sees (first.held held) ∙ ap (λ (s : State). fold after_made s two) (first.sees held)
       ∙ sym (fold-append after_made (local_by_pasts t a) one two);
+  zone_grew = λ held. all_grew_both (own_past a) one (own_past b) two (own_past c) (first.zone_grew held) (second.zone_grew (first.held held));
+  cpu_grew = λ held. all_grew_both (cpu_past a) one (cpu_past b) two (cpu_past c) (first.cpu_grew held) (second.cpu_grew (first.held held));
 }
 
 pub made_grows : (t : KnownTable) (s : KnownPasts) (seat : ℕ) (action : Action) (answer : Answer) (s' : KnownPasts) → MakesStep t s seat action answer s'
     → PastsGrowBy t s ((record { seat = seat; action = action }, answer) ∷ []) s'
-made_grows t s seat action answer s' made = record { held = λ _. made.held; holder = λ _. made.cpu_grew.number; sees = λ _. made.local_is }
+made_grows t s seat action answer s' made = record {
+  held = λ _. made.held;
+  holder = λ _. made.cpu_grew.number;
+  sees = λ _. made.local_is;
+  zone_grew = λ _. (own_past s', made.zone_grew, refl);
+  cpu_grew = λ _. (cpu_past s', made.cpu_grew, refl);
+}
 
 pub all_grow : (t : KnownTable) (s : KnownPasts) (steps : Run) (s' : KnownPasts) → MakesAll t s steps s' → PastsGrowBy t s steps s'
 all_grow t s [] s' is = subst (PastsGrowBy t s []) (sym is) (grows_none t s)

@@ -9,6 +9,7 @@ use Rattle.step_rules.specs.State.{State}
 use Rattle.step_rules.specs.After.{Run}
 use Rattle.boot_words.specs.Pasts.{KnownPasts, IsHeld, cpu_past, local_by_pasts, own_past}
 use Rattle.mem_machine.specs.Machines.{KnownMachine, VisitState, visit_state}
+pub use Rattle.mem_machine.specs.Machines.{with_past}
 use Rattle.mem_machine.specs.Local.{IsSeenByRun, MakesAs, local_at, local_of}
 use Rattle.mem_machine.specs.Noted.{AreLocal, PastsGrowBy, MayTake, MayTakeAll, after_made}
 use Rattle.mem_machine.proofs.Noted.{first_made, may_all, next_made, run_ends, run_steps}
@@ -66,10 +67,6 @@ module _ (t : KnownTable) (m now : KnownMachine) (same : m ≡ now) (c : KnownCp
 
 -- ---- the lock is free before and after
 
--- the machine with other pasts
-abbrev pub with_past : KnownMachine → KnownPasts → KnownMachine
-with_past m past = record m { run = record (m.run) { past = past } }
-
 -- What was made under the lock was made between a state before the lock was taken and one after it was released: there the
 -- pasts say nothing.
 pub makes_unheld : (t : KnownTable) (p : ℕ) (m n : KnownMachine) (c d : KnownCpu) (steps : Run) (x y : KnownPasts) → x.pasts ≡ own_past x ∷ []
@@ -79,7 +76,13 @@ makes_unheld t p m n c d steps x y alone made = record {
   follows = made.follows;
   counts = made.counts;
   noted = record {
-    grew = record { held = λ held. absurd (free held); holder = λ held. absurd (free held); sees = λ held. absurd (free held) };
+    grew = record {
+      held = λ held. absurd (free held);
+      holder = λ held. absurd (free held);
+      sees = λ held. absurd (free held);
+      zone_grew = λ held. absurd (free held);
+      cpu_grew = λ held. absurd (free held);
+    };
     watched = made.noted.watched;
   };
 } where

@@ -24,6 +24,7 @@ use Rattle.lru_lists.specs.declared.queue.Queue.{Queue}
 use Rattle.lru_lists.specs.Queue.{link_at, AreNowhere}
 use Rattle.lru_lists.specs.Lists.{AllLinked, entries_of}
 use Rattle.step_rules.specs.State.{sum_to, one_if}
+use Rattle.boot_words.specs.Pasts.{KnownPasts}
 use Rattle.cpu_part.specs.Cpus.{KnownCpu}
 use Rattle.mem_machine.specs.declared.frame_state.FrameState.{FrameState}
 use Rattle.mem_machine.specs.declared.frame_state.FrameState.TheVariants.{Free}
@@ -72,6 +73,10 @@ with_unit_notes machine is_on = record machine { notes = record machine.notes { 
 -- the machine with another run
 abbrev pub with_run : KnownMachine → KnownRun → KnownMachine
 with_run machine run = record machine { run = run }
+
+-- the machine with other pasts
+abbrev pub with_past : KnownMachine → KnownPasts → KnownMachine
+with_past machine past = record machine { run = record (machine.run) { past = past } }
 
 -- the machine with another watch
 abbrev pub with_watch : KnownMachine → KnownWatch → KnownMachine

@@ -7,7 +7,8 @@ use Rattle.step_rules.specs.declared.step.Answer.{Answer}
 use Rattle.step_rules.specs.State.{State}
 use Rattle.step_rules.specs.After.{Run, after}
 use Rattle.step_rules.specs.Laws.{IsLocalStep}
-use Rattle.boot_words.specs.Pasts.{KnownPasts, IsHeld, MakesStep, cpu_past, local_by_pasts}
+use Rattle.boot_words.specs.Pasts.{KnownPasts, IsHeld, MakesStep, cpu_past, local_by_pasts, own_past}
+use Rattle.boot_words.specs.Growth.{GrewByAll}
 use Rattle.step_watch.specs.Watched.{KnownWatch, Watches}
 
 -- the zone's past, which has that of the lock's holder too, and the watch
@@ -20,10 +21,13 @@ abbrev pub after_made : State → Step × Answer → State
 after_made s made = after s made.0.seat made.0.action made.1
 
 -- The pasts have grown by these steps: if a CPU held the lock, it still does, and sees what the steps make of what it saw.
+-- Then both pasts, the zone's and the CPU's, have these steps behind what they had, in this order.
 pub record PastsGrowBy (table : KnownTable) (before : KnownPasts) (steps : Run) (later : KnownPasts) : Type 0 where
   pub held : IsHeld table before → IsHeld table later
   pub holder : IsHeld table before → (cpu_past later).number ≡ (cpu_past before).number
   pub sees : IsHeld table before → local_by_pasts table later ≡ fold after_made (local_by_pasts table before) steps
+  pub zone_grew : IsHeld table before → GrewByAll (own_past before) steps (own_past later)
+  pub cpu_grew : IsHeld table before → GrewByAll (cpu_past before) steps (cpu_past later)
 
 -- the pasts have grown by these steps, and the watch took them
 pub record Notes (table : KnownTable) (before : KnownRun) (steps : Run) (later : KnownRun) : Type 0 where

@@ -1,9 +1,11 @@
-//! Taking and releasing the machine's lock, in the run.
+//! Taking and releasing the machine's lock, in the run, and the meeting of a CPU and the zone there.
 
 ghost use Rattle.std.specs.Prelude.{◌≡◌, []};
 ghost use Rattle.cpu_part.specs.Known.{KnowsItsPart};
+ghost use Rattle.boot_words.specs.Pasts.{Locks, Meets, Unlocks};
 ghost use Rattle.frame_word.specs.Seats.{IsShut, NothingPasses};
 ghost use Rattle.mem_machine.specs.Local.{IsSeenByRun, visit_state};
+ghost use Rattle.mem_machine.specs.Machines.{with_past};
 ghost use Rattle.mem_machine.specs.Resting.{Rests};
 
 use crate::machine::Machine;
@@ -21,6 +23,7 @@ impl<N: BootName> Machine<N> {
         ensures machine { self.new ≡ record self.old { run = record (self.old.run) { past = self.new.run.past } } }
         ensures shown { IsSeenByRun N.frames (visit_state self.new cpu.now) }
         ensures given { past.new ≡ record { table = N.frames.table; pasts = [] } }
+        ensures run { Locks N.frames self.old.run.past past.old self.new.run.past }
     {
         prove_tied(cpu);
         tables.words.lock(&mut self.past, past);
@@ -35,10 +38,25 @@ impl<N: BootName> Machine<N> {
         ensures machine { self.new ≡ record self.old { run = record (self.old.run) { past = self.new.run.past } } }
         ensures rests { Rests N.frames self.new }
         ensures knows { KnowsItsPart N.frames past.new cpu.now }
+        ensures run { Unlocks N.frames self.old.run.past self.new.run.past past.new }
     {
         prove_tied(cpu);
         // a CPU that saw no stock yet has no fresh frame
         let _last = cpu.last_stock();
         tables.words.unlock(&mut self.past, past);
+    }
+
+    /// The CPU, which doesn't hold the lock, and the zone, whose lock is free, now see the same run: all that either saw.
+    /// The machine rests as before, and the CPU still knows its own part.
+    pub fn meet(&mut self, tables: &Tables<N>, cpu: &Cpu<N>, past: &mut PastSeat)
+        requires rests { Rests N.frames self.old }
+        requires knows { KnowsItsPart N.frames past.old cpu.now }
+        ensures machine { self.new ≡ with_past self.old self.new.run.past }
+        ensures rests { Rests N.frames self.new }
+        ensures knows { KnowsItsPart N.frames past.new cpu.now }
+        ensures meets { Meets N.frames self.old.run.past past.old self.new.run.past past.new }
+    {
+        prove_tied(cpu);
+        tables.words.meet(&mut self.past, past);
     }
 }

@@ -12,3 +12,8 @@ returns-clause-shown g c =
     let shut = subst (λ (k : KnownMachine). IsShut k.frame_seat c.args.cpu.now.number) (sym c.self.view_is) c.requires.shut in
     let locks = subst (λ (t : KnownTable). Locks t c.self.inside.past c.args.past.now c.lock.new.zone) c.args.tables.now.frames_are c.lock.ensures.run in
     is_shown_then g.N.BootName.frames g.N.BootName.stocks _ c.args.cpu.now c.args.past.now c.lock.new.zone rests shut c.requires.knows c.prove_tied.ensures locks
+
+pub returns-clause-run : goal.returns-clause-run
+returns-clause-run g c =
+    let locks = subst (λ (t : KnownTable). Locks t c.self.inside.past c.args.past.now c.lock.new.zone) c.args.tables.now.frames_are c.lock.ensures.run in
+    subst (λ (k : KnownMachine). Locks g.N.BootName.frames k.run.past c.args.past.now c.lock.new.zone) c.self.view_is locks

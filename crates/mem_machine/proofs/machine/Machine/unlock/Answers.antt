@@ -28,3 +28,8 @@ returns-clause-knows g c =
     let unlocks = subst (λ (t : KnownTable). Unlocks t c.self.inside.past c.unlock.new.zone c.unlock.new.cpu) c.args.tables.now.frames_are c.unlock.ensures.run in
     knows_then g.N.BootName.frames g.N.BootName.stocks _ c.args.cpu.now shown shut c.prove_tied.ensures c.unlock.new.zone c.unlock.new.cpu unlocks
     (λ e. c.last_stock-last.ensures.none_fresh (c.last_stock-last.ensures.last ∙ e))
+
+pub returns-clause-run : goal.returns-clause-run
+returns-clause-run g c =
+    let unlocks = subst (λ (t : KnownTable). Unlocks t c.self.inside.past c.unlock.new.zone c.unlock.new.cpu) c.args.tables.now.frames_are c.unlock.ensures.run in
+    subst (λ (k : KnownMachine). Unlocks g.N.BootName.frames k.run.past c.unlock.new.zone c.unlock.new.cpu) c.self.view_is unlocks
