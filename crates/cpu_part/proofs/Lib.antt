@@ -5,3 +5,4 @@ pub mod Answered
 pub mod CallerLemmas
 pub mod Making
 pub mod Knowing
+pub mod Telling

@@ -1,8 +1,11 @@
 //! The fast path: frames are paid for and dropped without a lock.
 ghost use Rattle.std.specs.Prelude.{◌<◌, ◌≤◌};
+ghost use Rattle.boot_words.specs.Growth.{GrewByAll};
+ghost use Rattle.boot_words.specs.Pasts.{own_past};
 ghost use Rattle.cpu_part.specs.Cpus.{times};
 ghost use Rattle.cpu_part.specs.Calls.{FastAnswers, IfGot, DropAnswers};
 ghost use Rattle.cpu_part.specs.Known.{KnowsItsPart};
+ghost use Rattle.cpu_part.specs.Told.{steps_of_fast, steps_of_drop};
 
 use crate::answers::{Dropped, Fast};
 use crate::boot_name::{BootName, Tables};
@@ -20,6 +23,9 @@ impl<N: BootName> Cpu<N> {
         requires knows { KnowsItsPart N.frames past.old self.old }
         ensures answer { FastAnswers group result self.old self.new }
         ensures frame { IfGot result (λ f. f < N.frames.frames) }
+        ensures run { GrewByAll (own_past past.old)
+            (steps_of_fast self.old.number group result self.old.stock_seat.view.last)
+            (own_past past.new) }
         ensures knows { KnowsItsPart N.frames past.new self.new }
     {
         if self.fresh.len() == MAX_FRESH {
@@ -43,6 +49,9 @@ impl<N: BootName> Cpu<N> {
         requires fresh { 1 ≤ times frame self.old.fresh }
         requires knows { KnowsItsPart N.frames past.old self.old }
         ensures answer { DropAnswers frame result self.old self.new }
+        ensures run { GrewByAll (own_past past.old)
+            (steps_of_drop self.old.number frame result self.old.stock_seat.view.last)
+            (own_past past.new) }
         ensures knows { KnowsItsPart N.frames past.new self.new }
     {
         match tables.words.credit(past, &mut self.stock_seat, frame) {

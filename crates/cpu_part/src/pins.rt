@@ -3,9 +3,12 @@ ghost use Rattle.std.specs.Prelude.{◌≡◌, ◌≢◌, ◌+◌, ◌<◌, ◌�
 ghost use Rattle.frame_word.specs.declared.answers.Get.TheVariants.{Zero};
 ghost use Rattle.frame_word.specs.Seats.{IsInNoHand};
 ghost use Rattle.group_tree.specs.declared.fault.Fault.TheVariants.{PinsFull};
+ghost use Rattle.boot_words.specs.Growth.{GrewByAll};
+ghost use Rattle.boot_words.specs.Pasts.{own_past};
 ghost use Rattle.cpu_part.specs.Cpus.{most_pins, times};
 ghost use Rattle.cpu_part.specs.Calls.{PinAnswers, UnpinAnswers};
 ghost use Rattle.cpu_part.specs.Known.{KnowsItsPart};
+ghost use Rattle.cpu_part.specs.Told.{steps_of_get, steps_of_put};
 
 use crate::boot_name::{BootName, Tables};
 use crate::cpu::{Cpu, MAX_PINS};
@@ -32,6 +35,8 @@ impl<N: BootName> Cpu<N> {
             × (self.new ≡ self.old)) }
         ensures never_zero { 1 ≤ times frame self.old.pins → result ≢ Ok Zero }
         ensures in_no_hand { IfOk result (λ answer. answer ≢ Zero → IsInNoHand self.old.frame_seat frame) }
+        ensures run { GrewByAll (own_past past.old) (steps_of_get self.old.number frame result)
+            (own_past past.new) }
         ensures knows { KnowsItsPart N.frames past.new self.new }
     {
         if self.back.len() + self.pins.len() == MAX_PINS {
@@ -52,6 +57,8 @@ impl<N: BootName> Cpu<N> {
         requires knows { KnowsItsPart N.frames past.old self.old }
         ensures answer { UnpinAnswers frame result self.old self.new }
         ensures in_no_hand { IsInNoHand self.old.frame_seat frame }
+        ensures run { GrewByAll (own_past past.old) (steps_of_put self.old.number frame result)
+            (own_past past.new) }
         ensures knows { KnowsItsPart N.frames past.new self.new }
     {
         unpin(&mut self.pins, frame);

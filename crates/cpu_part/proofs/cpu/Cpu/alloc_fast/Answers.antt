@@ -6,6 +6,13 @@ use Rattle.cpu_part.proofs.Knowing.{knows_drained, knows_took, may_consume}
 use Rattle.cpu_part.proofs.Making.{may_do_at, past_at}
 use Rattle.cpu_part.proofs.Answered.{got}
 use Rattle.cpu_part.proofs.Tied.{front_inside}
+use Rattle.boot_words.specs.Growth.{GrewByAll}
+use Rattle.boot_words.specs.Pasts.{own_past}
+use Rattle.step_rules.specs.declared.step.Answer.TheVariants as said
+use Rattle.cpu_part.specs.declared.answers.Fast.TheVariants as fast
+use Rattle.cpu_part.specs.Cpus.{KnownCpu}
+use Rattle.cpu_part.specs.Told.{steps_of_fast}
+use Rattle.cpu_part.proofs.Telling.{told_if, told_none, told_one}
 use Rattle.cpu_part.proofs.cpu.Cpu.alloc_fast.Goals as goal
 
 pub returns-in-Took-clause-answer : goal.returns-in-Took-clause-answer
@@ -60,3 +67,25 @@ returns-in-Took-clause-knows g c =
     knows_took _ _ _ _ knows c.self.invariant.0 c.consume.new.past (past_at _ _ c.args.tables.now.frames_are c.consume.new.past told.past)
     c.args.group c.freshen.result c.freshen.new.list.items c.freshen.new.fresh.items c.consume.new.seat told.run c.freshen.ensures.front
     c.freshen.ensures.fresh told.answer
+
+pub returns-in-Took-clause-run : goal.returns-in-Took-clause-run
+returns-in-Took-clause-run g c = told_one _ _ _ c.requires.knows.number (Consume c.args.group) said.Took c.in-Took.ensures.run
+
+pub returns-in-Drained-clause-run : goal.returns-in-Drained-clause-run
+returns-in-Drained-clause-run g c =
+    let knows = subst (KnowsItsPart _ _) (sym c.self.view_is) c.requires.knows in let told = c.in-Drained.ensures in
+    subst (λ (k : KnownCpu). GrewByAll (own_past c.args.past.now)
+    (steps_of_fast k.number c.args.group fast.Drained k.stock_seat.view.last) (own_past c.consume.new.past)) c.self.view_is
+    (told_if _ _ _ knows.number _ (Consume c.args.group) said.Drained told.run)
+
+pub returns-in-Empty-clause-run : goal.returns-in-Empty-clause-run
+returns-in-Empty-clause-run g c = told_none _ _ _ c.requires.knows.number c.in-Empty.ensures.run
+
+pub returns-in-OtherGroup-clause-run : goal.returns-in-OtherGroup-clause-run
+returns-in-OtherGroup-clause-run g c = told_none _ _ _ c.requires.knows.number c.in-OtherGroup.ensures.run
+
+pub returns-then-is_empty-clause-run : goal.returns-then-is_empty-clause-run
+returns-then-is_empty-clause-run g c = refl
+
+pub returns-then-len-eq-MAX_FRESH-clause-run : goal.returns-then-len-eq-MAX_FRESH-clause-run
+returns-then-len-eq-MAX_FRESH-clause-run g c = refl

@@ -7,6 +7,12 @@ use Rattle.cpu_part.proofs.Answered.{dropped}
 use Rattle.cpu_part.proofs.Knowing.{knows_drained, knows_listed, may_credit}
 use Rattle.cpu_part.proofs.Making.{may_do_at, past_at}
 use Rattle.cpu_part.proofs.Tied.{tied_listed}
+use Rattle.boot_words.specs.Growth.{GrewByAll}
+use Rattle.boot_words.specs.Pasts.{own_past}
+use Rattle.step_rules.specs.declared.step.Answer.TheVariants as said
+use Rattle.cpu_part.specs.declared.answers.Dropped.TheVariants.{NeedVisit}
+use Rattle.cpu_part.specs.Told.{steps_of_drop}
+use Rattle.cpu_part.proofs.Telling.{told_if, told_one}
 use Rattle.cpu_part.proofs.cpu.Cpu.drop_fresh.Goals as goal
 
 pub credit-requires-clause-legal : goal.credit-requires-clause-legal
@@ -45,3 +51,13 @@ returns-in-Drained-clause-knows g c =
     let knows = subst (KnowsItsPart _ _) (sym c.self.view_is) c.requires.knows in let told = c.in-Drained.ensures in
     knows_drained _ _ _ _ knows c.self.invariant.0 c.credit.new.past (past_at _ _ c.args.tables.now.frames_are c.credit.new.past told.past)
     (Credit c.args.frame) c.credit.new.seat tt (λ s q. refl) told.run told.answer.2
+
+pub returns-in-Stocked-clause-run : goal.returns-in-Stocked-clause-run
+returns-in-Stocked-clause-run g c = told_one _ _ _ c.requires.knows.number (Credit c.args.frame) said.Stocked c.in-Stocked.ensures.run
+
+pub returns-in-Drained-clause-run : goal.returns-in-Drained-clause-run
+returns-in-Drained-clause-run g c =
+    let knows = subst (KnowsItsPart _ _) (sym c.self.view_is) c.requires.knows in let told = c.in-Drained.ensures in
+    subst (λ (k : KnownCpu). GrewByAll (own_past c.args.past.now)
+    (steps_of_drop k.number c.args.frame NeedVisit k.stock_seat.view.last) (own_past c.credit.new.past)) c.self.view_is
+    (told_if _ _ _ knows.number _ (Credit c.args.frame) said.Drained told.run)

@@ -1,10 +1,12 @@
-use Rattle.std.proofs.Common.{rules, ◌+◌, ◌<◌, length, arith, subst, sym}
+use Rattle.std.proofs.Common.{rules, ◌+◌, ◌<◌, length, arith, refl, subst, sym}
 use Rattle.step_rules.specs.declared.step.Action.TheVariants.{Get}
 use Rattle.cpu_part.specs.Known.{KnowsItsPart}
 use Rattle.cpu_part.proofs.Knowing.{knows_held, knows_not_held, may_get}
 use Rattle.cpu_part.proofs.Making.{may_do_at, past_at}
 use Rattle.cpu_part.proofs.Answered.{pinned, not_pinned}
 use Rattle.cpu_part.proofs.Tied.{tied_held, tied_not_held}
+use Rattle.step_rules.specs.declared.step.Answer.TheVariants as said
+use Rattle.cpu_part.proofs.Telling.{told_get, told_one}
 use Rattle.cpu_part.proofs.cpu.Cpu.get.Goals as goal
 
 pub invariant_of-self : goal.invariant_of-self
@@ -57,3 +59,12 @@ returns-in_default-clause-knows g c =
     let knows = subst (KnowsItsPart _ _) (sym c.self.view_is) c.requires.knows in let told = c.get.ensures in
     knows_not_held _ _ _ _ knows c.self.invariant.0 c.get.new.past (past_at _ _ c.args.tables.now.frames_are c.get.new.past told.past)
     c.args.frame c.get.result c.get.new.seat c.in_default.not-Held told.run
+
+pub returns-in-Held-clause-run : goal.returns-in-Held-clause-run
+returns-in-Held-clause-run g c = told_one _ _ _ c.requires.knows.number (Get c.args.frame) said.Held c.in-Held.ensures.run
+
+pub returns-in_default-clause-run : goal.returns-in_default-clause-run
+returns-in_default-clause-run g c = told_get _ _ _ c.requires.knows.number c.args.frame c.get.result c.get.ensures.run
+
+pub returns-then-len-eq-MAX_PINS-clause-run : goal.returns-then-len-eq-MAX_PINS-clause-run
+returns-then-len-eq-MAX_PINS-clause-run g c = refl

@@ -5,6 +5,8 @@ use Rattle.cpu_part.specs.Known.{KnowsItsPart}
 use Rattle.cpu_part.proofs.Knowing.{knows_last, knows_left, may_put}
 use Rattle.cpu_part.proofs.Making.{may_do_at, past_at}
 use Rattle.cpu_part.proofs.Tied.{tied_left, tied_last}
+use Rattle.step_rules.specs.declared.step.Answer.TheVariants as said
+use Rattle.cpu_part.proofs.Telling.{told_one}
 use Rattle.cpu_part.proofs.cpu.Cpu.put.Goals as goal
 
 pub invariant_of-self : goal.invariant_of-self
@@ -45,3 +47,9 @@ returns-in-Left-clause-knows g c =
     let knows = subst (KnowsItsPart _ _) (sym c.self.view_is) c.requires.knows in let told = c.in-Left.ensures in
     knows_left _ _ _ _ knows c.self.invariant.0 c.put.new.past (past_at _ _ c.args.tables.now.frames_are c.put.new.past told.past)
     c.args.frame c.in-Left.left c.unpin.new.pins.items c.put.new.seat told.run c.unpin.ensures.pins
+
+pub returns-in-Last-clause-run : goal.returns-in-Last-clause-run
+returns-in-Last-clause-run g c = told_one _ _ _ c.requires.knows.number (Put c.args.frame) said.Last c.in-Last.ensures.run
+
+pub returns-in-Left-clause-run : goal.returns-in-Left-clause-run
+returns-in-Left-clause-run g c = told_one _ _ _ c.requires.knows.number (Put c.args.frame) (said.Left c.in-Left.left) c.in-Left.ensures.run
