@@ -9,7 +9,7 @@ use Rattle.frame_word.specs.declared.answers.Put.TheVariants.{Left, Last}
 use Rattle.boot_words.specs.declared.view.Past.{Past}
 use Rattle.boot_words.specs.Pasts.{own_past}
 use Rattle.boot_words.specs.Growth.{GainsSteps, IsRunSoFar}
-use Rattle.boot_words.proofs.Gaining.{gains_both, gains_go_on, gains_nothing}
+use Rattle.boot_words.proofs.Gaining.{gains_both, gains_go_on, none_gains}
 use Rattle.step_rules.specs.After.{Run}
 use Rattle.cpu_part.specs.Cpus.{KnownCpu}
 use Rattle.cpu_part.specs.Calls.{UnpinAnswers}
@@ -125,9 +125,11 @@ each_gains : (frames : List ℕ) (before after : MachineAndCpu) (puts : PutsEach
     (own_past after.machine.run.past) (own_past after.cpu.past)
 each_gains [] before after puts =
     subst (λ (x : MachineAndCpu). GainsSteps (own_past before.machine.run.past) (own_past before.cpu.past) [] (own_past x.machine.run.past) (own_past x.cpu.past))
-    (sym puts) (gains_nothing (own_past before.machine.run.past) (own_past before.cpu.past))
+    (sym puts) (none_gains (own_past before.machine.run.past) (own_past before.cpu.past) [] (own_past before.cpu.past) refl refl)
 each_gains (f ∷ frames) before after puts =
-    gains_both puts.first.gains (each_gains frames puts.between after puts.rest)
+    gains_both (own_past before.machine.run.past) (own_past before.cpu.past) (put_steps before.cpu.part.number f puts.first.answer)
+    (own_past puts.between.machine.run.past) (own_past puts.between.cpu.past) (steps_of_puts frames puts.between after puts.rest)
+    (own_past after.machine.run.past) (own_past after.cpu.past) puts.first.gains (each_gains frames puts.between after puts.rest)
 
 -- The steps of all puts go on from the run so far. The CPUs before these have the pasts `done`.
 pub puts_go_on : (done : List Past) (m : KnownMachine) (cpus : List CpuInRun) (n : KnownMachine) (left : List CpuInRun) (puts : ForEachCpu PutsAllPins m cpus n left)

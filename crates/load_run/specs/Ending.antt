@@ -18,7 +18,7 @@ use Rattle.mem_system.specs.Cpus.{CpuInRun, parts_of, pasts_of}
 use Rattle.mem_system.specs.Ends.{Closes, ForEachCpu, KnownEmptiedBoot, MachineAndCpu, MakesLastVisits, machine_and_cpu}
 use Rattle.mem_system.specs.Ends.{pins_of_all}
 use Rattle.mem_system.specs.Locked.{KnownLocked}
-use Rattle.script_replay.specs.Lines.{SystemState, system_state}
+use Rattle.script_replay.specs.Lines.{HasRun, SystemState, system_state}
 use Rattle.load_run.specs.declared.boot_end.BootEnd.{BootEnd}
 use Rattle.load_run.specs.declared.boot_end.CheckedSteps.{CheckedSteps}
 
@@ -85,8 +85,7 @@ pub record LeavesNothing (table : KnownTable) (stock_table : KnownStockTable) (b
   pub steps_are : steps
       ≡ steps_of_all_puts before.locked.machine before.cpus locked.machine cpus puts ++ visits.steps
   pub watched : Watches before.locked.machine.run.watch steps emptied.machine.run.watch
-  pub so_far : (earlier : Run)
-      → IsRunSoFar earlier (own_past before.locked.machine.run.past) (pasts_of before.cpus)
+  pub so_far : (earlier : Run) → HasRun earlier before
       → IsRunSoFar (earlier ++ steps) (own_past emptied.machine.run.past) (pasts_of emptied.cpus)
 
 -- The boot ended, and says how many pins were held. Every pin was put, the last visits were made, and then the tables

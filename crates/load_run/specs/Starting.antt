@@ -3,12 +3,10 @@ use Rattle.std.specs.Prelude.{◌≡◌, []}
 use Rattle.frame_word.specs.Seats.{KnownTable}
 use Rattle.stock_word.specs.Stock.{KnownStockTable}
 use Rattle.zone_blocks.specs.declared.config.Config.{Config}
-use Rattle.boot_words.specs.Pasts.{own_past}
-use Rattle.boot_words.specs.Growth.{IsRunSoFar}
 use Rattle.mem_machine.specs.Machines.{IsFirst}
 use Rattle.mem_system.specs.Boots.{IsSizedAs, first_cpus}
-use Rattle.mem_system.specs.Cpus.{parts_of, pasts_of}
-use Rattle.script_replay.specs.Lines.{SystemState}
+use Rattle.mem_system.specs.Cpus.{parts_of}
+use Rattle.script_replay.specs.Lines.{HasRun, SystemState}
 
 -- the state after a boot with these sizes, under these tables: a new machine, CPUs that did nothing yet, and no step of
 -- the run so far
@@ -18,4 +16,4 @@ pub record IsNewBootState (sizes : Config) (table : KnownTable) (stock_table : K
   pub machine : IsFirst table stock_table first.locked.machine
   pub sizes_are : first.locked.sizes ≡ sizes
   pub cpus : parts_of first.cpus ≡ first_cpus table stock_table 1 sizes.cpus
-  pub so_far : IsRunSoFar [] (own_past first.locked.machine.run.past) (pasts_of first.cpus)
+  pub so_far : HasRun [] first
