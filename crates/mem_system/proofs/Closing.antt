@@ -1,6 +1,6 @@
 -- What the closed table says when each CPU has nothing left. Serves the end of a system.
 use Rattle.std.proofs.Common.{◌≡◌, ℕ, zero, suc, ◌+◌, ◌-◌, ◌<◌, ◌≤◌, ◌==◌, false, true, List, [], ◌∷◌, ◌++◌, length, map, take, drop, get_or, refl, sym, ap}
-use Rattle.std.proofs.Common.{◌∙◌, subst, inl, inr, arith, append-nil, eq-eqb}
+use Rattle.std.proofs.Common.{◌∙◌, subst, inl, inr, arith, append-nil, append_assoc, eq-eqb}
 use Rattle.std.specs.Prelude.{All, is_some, min, slice_index}
 use Rattle.group_tree.specs.Room.{max_count}
 use Rattle.std.proofs.lemmas.Bool.{cond-true, cond-false, ne_eqb, false≢true}
@@ -18,20 +18,25 @@ use Rattle.stock_word.specs.StockRule.{IsStockOf}
 use Rattle.stock_word.specs.Stock.{KnownStockTable, KnownStockSeat, account_of, view_in, stock_pages_of, is_held}
 use Rattle.cpu_part.specs.Cpus.{KnownCpu, IsIdle, times}
 use Rattle.step_rules.specs.State.{one_if}
+use Rattle.step_rules.specs.After.{Run}
+use Rattle.boot_words.specs.declared.view.Past.{Past}
+use Rattle.boot_words.specs.Pasts.{own_past}
+use Rattle.boot_words.specs.Growth.{IsRunSoFar}
 use Rattle.mem_machine.specs.Machines.{KnownMachine, IsConsistent, home_of}
 use Rattle.mem_machine.specs.Places.{NoneLentTo}
 use Rattle.mem_machine.proofs.NoneLent.{lent_to_cpu, each_is_placed}
 use Rattle.mem_system.specs.declared.audit.Audit.{Audit}
 use Rattle.mem_system.specs.Locked.{KnownLocked, IsQuiet, AllShut}
-use Rattle.mem_machine.specs.Local.{VisitState}
+use Rattle.mem_system.specs.Cpus.{CpuInRun, parts_of, pasts_of}
 use Rattle.mem_system.specs.Ends.{ForEachCpu, SettlesInVisit, VisitsUnderLock, Empties, IsEmptied, IsAuditOf, IsClosed, HasNoPage, KnownEmptiedBoot}
-use Rattle.mem_system.specs.Ends.{MakesLastVisits}
+use Rattle.mem_system.specs.Ends.{MachineAndCpu, MakesLastVisits}
 use Rattle.mem_system.specs.Ends.{Closes, frame_seat_of, stock_seat_of, steps_of_visits, drops_of, pins_of_all}
 use Rattle.step_watch.proofs.Watching.{watches_both}
 use Rattle.mem_system.proofs.Locking.{visits_watched}
+use Rattle.mem_system.proofs.Running.{visits_go_on}
 
 -- as many CPUs are visited as there are
-pub turn_long : (Visit : VisitState → VisitState → Type 0) (m : KnownMachine) (cpus : List KnownCpu) (n : KnownMachine) (after : List KnownCpu) → ForEachCpu Visit m cpus n after
+pub turn_long : (Visit : MachineAndCpu → MachineAndCpu → Type 0) (m : KnownMachine) (cpus : List CpuInRun) (n : KnownMachine) (after : List CpuInRun) → ForEachCpu Visit m cpus n after
     → length after ≡ length cpus
 turn_long Visit m [] n [] turn = refl
 turn_long Visit m [] n (d ∷ after) turn = absurd turn
@@ -39,9 +44,9 @@ turn_long Visit m (c ∷ cpus) n [] turn = absurd turn
 turn_long Visit m (c ∷ cpus) n (d ∷ after) turn = let rest = turn_long Visit turn.between cpus n after turn.rest in omega (arith, rest)
 
 -- a list that is written back whole
-pub written_back : (k : ℕ) (new old : List KnownCpu) → length new ≡ length old → k ≡ length old → take k (new ++ drop (length new) old) ≡ new
+pub written_back : (k : ℕ) (new old : List CpuInRun) → length new ≡ length old → k ≡ length old → take k (new ++ drop (length new) old) ≡ new
 written_back k new old long all =
-    ap (λ (l : List KnownCpu). take k (new ++ l)) (drop_all (length new) old (omega (arith, long))) ∙ ap (λ (l : List KnownCpu). take k l) (append-nil new)
+    ap (λ (l : List CpuInRun). take k (new ++ l)) (drop_all (length new) old (omega (arith, long))) ∙ ap (λ (l : List CpuInRun). take k l) (append-nil new)
     ∙ take_all k new (omega (arith, long, all))
 
 pub idle_all : (t : KnownTable) (w : KnownStockTable) (m : KnownMachine) (cpus : List KnownCpu) → All (λ c. IsEmptied t w m c) cpus → All IsIdle cpus
@@ -50,6 +55,10 @@ idle_all t w m cpus all = λ k any inside. (all k any inside).idle
 pub long_frames : (cpus : List KnownCpu) → length (map frame_seat_of cpus) ≡ length cpus
 long_frames [] = refl
 long_frames (c ∷ cpus) = let rest = long_frames cpus in omega (arith, rest)
+
+pub long_parts : (cpus : List CpuInRun) → length (parts_of cpus) ≡ length cpus
+long_parts [] = refl
+long_parts (c ∷ cpus) = let rest = long_parts cpus in omega (arith, rest)
 
 pub long_stocks : (cpus : List KnownCpu) → length (map stock_seat_of cpus) ≡ length cpus
 long_stocks [] = refl
@@ -74,8 +83,8 @@ not_held (HeldBy g n) is = absurd (false≢true (sym is))
 not_held (DrainedOf g) is = refl
 
 -- a machine all of whose visits are shut, and CPUs that have nothing left, with their seats at the closed table
-module _ (t : KnownTable) (w : KnownStockTable) (m : KnownMachine) (cpus : List KnownCpu) (shut : AllShut m) (all : All (λ c. IsEmptied t w m c) cpus)
-    (closed : IsClosed t w m (map frame_seat_of cpus) (map stock_seat_of cpus)) where
+module _ (t : KnownTable) (w : KnownStockTable) (m : KnownMachine) (cpus : List KnownCpu) (pasts : List Past) (shut : AllShut m)
+    (all : All (λ c. IsEmptied t w m c) cpus) (closed : IsClosed t w m (map frame_seat_of cpus) (map stock_seat_of cpus) pasts) where
   ok : IsConsistent t w m
   ok = closed.consistent
 
@@ -173,9 +182,9 @@ drops_join : (a b c k most : ℕ) → min (min (a + b + c) most + k) most ≡ mi
 drops_join a b c k most = omega arith
 
 -- the last visits, from their two rounds
-pub all_visits : (t : KnownTable) (w : KnownStockTable) (l : KnownLocked) (cpus : List KnownCpu) (x : KnownMachine) (rested : List KnownCpu)
+pub all_visits : (t : KnownTable) (w : KnownStockTable) (l : KnownLocked) (cpus : List CpuInRun) (x : KnownMachine) (rested : List CpuInRun)
     (k : KnownEmptiedBoot)
-    → IsQuiet t w l → pins_of_all cpus ≡ 0 → k.drops ≡ min (drops_of cpus) max_count
+    → IsQuiet t w l → pins_of_all (parts_of cpus) ≡ 0 → k.drops ≡ min (drops_of (parts_of cpus)) max_count
     → ForEachCpu (VisitsUnderLock t SettlesInVisit) l.machine cpus x rested → ForEachCpu (VisitsUnderLock t Empties) x rested k.machine k.cpus
     → MakesLastVisits t w l cpus k
 all_visits t w l cpus x rested k quiet no_pin drops rests empties = record {
@@ -191,37 +200,49 @@ all_visits t w l cpus x rested k quiet no_pin drops rests empties = record {
       (steps_of_visits t Empties x rested k.machine k.cpus empties) k.machine.run.watch
       (visits_watched t SettlesInVisit l.machine cpus x rested rests) (visits_watched t Empties x rested k.machine k.cpus empties);
   drops = drops;
+  so_far = λ earlier so_far.
+      let first = visits_go_on t SettlesInVisit l.machine cpus x rested rests [] earlier quiet.rests.past_is.zone_is so_far in
+      let one = steps_of_visits t SettlesInVisit l.machine cpus x rested rests in
+      let two = steps_of_visits t Empties x rested k.machine k.cpus empties in
+      subst (λ (r : Run). IsRunSoFar r (own_past k.machine.run.past) (pasts_of k.cpus)) (append_assoc earlier one two)
+      (visits_go_on t Empties x rested k.machine k.cpus empties [] (earlier ++ one) first.0 first.1).1;
 }
 
 -- the table is closed
 pub all_closes : (t : KnownTable) (w : KnownStockTable) (k : KnownEmptiedBoot) (a : Audit) (frame_seats : List KnownSeat) (stock_seats : List KnownStockSeat)
-    → AllShut k.machine → All (λ c. IsEmptied t w k.machine c) k.cpus
+    (pasts : List Past) → AllShut k.machine → All (λ c. IsEmptied t w k.machine c) (parts_of k.cpus) → length k.cpus ≡ t.cpus
+    → (own_past k.machine.run.past).number ≡ 0
     → (((p : ℕ) → NoneLentTo p k.machine.frame_states) → IsAuditOf t k.machine k.drops a)
-    → IsClosed t w k.machine frame_seats stock_seats → frame_seats ≡ map frame_seat_of k.cpus → stock_seats ≡ map stock_seat_of k.cpus → Closes t w k a
-all_closes t w k a frame_seats stock_seats shut all tells_then closing frames stocks =
+    → IsClosed t w k.machine frame_seats stock_seats pasts → frame_seats ≡ map frame_seat_of (parts_of k.cpus)
+    → stock_seats ≡ map stock_seat_of (parts_of k.cpus) → pasts ≡ pasts_of k.cpus → Closes t w k a
+all_closes t w k a frame_seats stock_seats pasts shut all count zone tells_then closing frames stocks passed =
     let y = k.machine in
-    let closed : IsClosed t w y (map frame_seat_of k.cpus) (map stock_seat_of k.cpus) =
-    subst (λ (z : List KnownSeat × List KnownStockSeat). IsClosed t w y z.0 z.1) (λ i. (frames i, stocks i)) closing in
-    let none = none_lent t w y k.cpus shut all closed in
+    let parts = parts_of k.cpus in
+    let closed : IsClosed t w y (map frame_seat_of parts) (map stock_seat_of parts) (pasts_of k.cpus) =
+    subst (λ (z : List KnownSeat × List KnownStockSeat × List Past). IsClosed t w y z.0 z.1 z.2) (λ i. (frames i, stocks i, passed i)) closing in
+    let none = none_lent t w y parts (pasts_of k.cpus) shut all closed in
     let tells = tells_then (λ p f is. none p f is) in
     let placed = each_is_placed y.frame_states (λ f p is. none p f is) in
     let sized = closed.consistent.sizes.frame_states in
     let free = tells.free in
     let charged = tells.charged in
-    let count = tells.frames in
+    let framed = tells.frames in
     record {
       all_emptied = all;
+      count = count;
       none_lent = none;
-      no_page = λ p some within. (found t w y k.cpus shut all closed p some within).3;
+      no_page = λ p some within. (found t w y parts (pasts_of k.cpus) shut all closed p some within).3;
       stock_words = closed.stock_words;
-      told = told_each t w y k.cpus shut all closed;
+      told = told_each t w y parts (pasts_of k.cpus) shut all closed;
       frame_words = closed.frame_words;
       run = closed.run;
       is = closed.is;
-      last_words = record { rule = closed.rule; references = word_of_frame t w y k.cpus shut all closed };
+      last_words = record { rule = closed.rule; references = word_of_frame t w y parts (pasts_of k.cpus) shut all closed };
+      zone = zone;
+      pasts = closed.pasts;
       counted = tells;
       adds_up = record {
-        places = omega (arith, placed, sized, free, charged, count);
+        places = omega (arith, placed, sized, free, charged, framed);
         balances =
             let last_puts = tells.last_puts in
             let freezes = tells.freezes in

@@ -1,13 +1,18 @@
 -- Serves `make_cpus` and `take_apart`. The parts of the CPUs at first, made one by one.
-use Rattle.std.proofs.Common.{◌≡◌, ℕ, zero, suc, ◌+◌, ◌-◌, ◌<◌, ◌≤◌, List, [], ◌∷◌, ◌++◌, All, length, get_or, refl, sym, ap, ◌∙◌, subst, arith}
+use Rattle.std.proofs.Common.{◌≡◌, ℕ, zero, suc, ◌+◌, ◌-◌, ◌<◌, ◌≤◌, List, [], ◌∷◌, ◌++◌, All, length, get_or, Some, refl, sym, ap, ◌∙◌, subst, arith}
+use Rattle.std.specs.Prelude.{is_some, slice_get, unwrap_or}
+use Rattle.std.proofs.lemmas.Bool.{false≢true}
 use Rattle.atomic_table.specs.Seated.{TableId}
 use Rattle.frame_word.specs.Seats.{KnownTable, first_cpu_view, seat_number}
 use Rattle.stock_word.specs.Stock.{KnownStockTable, first_cpu_stock_view}
 use Rattle.boot_words.specs.declared.seat.OwnSeats.{OwnSeats}
 use Rattle.boot_words.specs.Opening.{opening_seats, seats_of}
+use Rattle.boot_words.specs.declared.view.Past.{Past}
+use Rattle.boot_words.specs.Pasts.{own_past}
 use Rattle.boot_words.specs.Seating.{no_past}
 use Rattle.cpu_part.specs.Cpus.{KnownCpu, IsIdle}
-use Rattle.mem_system.specs.Boots.{AreFirstSeats, part_at_first, first_cpus}
+use Rattle.mem_system.specs.Boots.{AreFirstSeats, part_at_first, first_cpus, first_pasts}
+use Rattle.mem_system.specs.Cpus.{CpuInRun, parts_of, pasts_of}
 
 -- the first seats of a CPU
 abbrev pub seats_at : TableId → ℕ → OwnSeats
@@ -51,6 +56,34 @@ module _ (t : KnownTable) (w : KnownStockTable) where
   pub cpus_long : (p n : ℕ) → length (first_cpus t w p n) ≡ n
   cpus_long p zero = refl
   cpus_long p (suc n) = let rest = cpus_long (p + 1) n in omega (arith, rest)
+
+-- the parts and the pasts with one CPU more
+pub parts_both : (cpus : List CpuInRun) (c : CpuInRun) → parts_of (cpus ++ c ∷ []) ≡ parts_of cpus ++ c.part ∷ []
+parts_both [] c = refl
+parts_both (d ∷ cpus) c = ap (λ (l : List KnownCpu). d.part ∷ l) (parts_both cpus c)
+
+pub pasts_both : (cpus : List CpuInRun) (c : CpuInRun) → pasts_of (cpus ++ c ∷ []) ≡ pasts_of cpus ++ own_past c.past ∷ []
+pasts_both [] c = refl
+pasts_both (d ∷ cpus) c = ap (λ (l : List Past). own_past d.past ∷ l) (pasts_both cpus c)
+
+first_pasts_more : (p n : ℕ) → first_pasts p (suc n) ≡ first_pasts p n ++ no_past (p + n) ∷ []
+first_pasts_more p zero = ap (λ (m : ℕ). no_past m ∷ []) (let e : p ≡ p + 0 = omega arith in e)
+first_pasts_more p (suc n) = ap (λ (l : List Past). no_past p ∷ l)
+    (first_pasts_more (p + 1) n ∙ ap (λ (m : ℕ). first_pasts (p + 1) n ++ no_past m ∷ []) (let e : (p + 1) + n ≡ p + suc n = omega arith in e))
+
+pub pasts_next : (i : ℕ) → first_pasts 1 (i + 1) ≡ first_pasts 1 i ++ no_past (i + 1) ∷ []
+pasts_next i = ap (first_pasts 1) (let e : i + 1 ≡ suc i = omega arith in e) ∙ first_pasts_more 1 i
+    ∙ ap (λ (m : ℕ). first_pasts 1 i ++ no_past m ∷ []) (let e : 1 + i ≡ i + 1 = omega arith in e)
+
+-- a CPU's past at first has its number and no step
+pub first_past_at : (p n k : ℕ) (past : Past) → slice_get (first_pasts p n) k ≡ Some past → (past.number ≡ p + k) × (past.seen ≡ [])
+first_past_at p zero k past at = absurd (false≢true (ap is_some at))
+first_past_at p (suc n) zero past at =
+    let is : no_past p ≡ past = ap (λ o. unwrap_or o past) at in
+    (sym (ap (λ (x : Past). x.number) is) ∙ (let e : p ≡ p + 0 = omega arith in e), sym (ap (λ (x : Past). x.seen) is))
+first_past_at p (suc n) (suc k) past at =
+    let rest = first_past_at (p + 1) n k past at in
+    (rest.0 ∙ (let e : (p + 1) + k ≡ p + suc k = omega arith in e), rest.1)
 
 -- what holds of all of a list holds of its front
 pub all_in_front : {A : Type 0} (Is : A → Type 0) (front back all : List A) → all ≡ front ++ back → All Is all → All Is front

@@ -16,11 +16,13 @@ use Rattle.mem_system.specs.Locked.{KnownLocked, AllShut}
 use Rattle.mem_system.proofs.Killing.{around_quiet, obeys_no_rash}
 use Rattle.mem_system.proofs.Missing.{obeys_counts}
 use Rattle.mem_system.specs.Commands.{BySteps, Executes, transition}
+use Rattle.mem_system.specs.Cpus.{cpu_in_run}
 use Rattle.mem_system.specs.Visits.{with_visit_of, locked_state, IsServed}
+use Rattle.mem_system.proofs.Running.{visit_in_run}
 use Rattle.mem_machine.proofs.Followed.{makes_both}
 use Rattle.mem_machine.proofs.Reached.{makes_unheld, shown_same, with_past}
 use Rattle.mem_machine.specs.Noted.{KnownRun}
-use Rattle.boot_words.specs.Pasts.{KnownPasts, own_past}
+use Rattle.boot_words.specs.Pasts.{KnownPasts, Locks, Unlocks, own_past}
 
 pub all_shut : (m x n : KnownMachine) (p : ℕ) (left : KnownRun) → AllShut m → x.frame_seat.view.opened ≡ put_at 0 m.frame_seat.view.opened p 1
     → n ≡ with_run (with_visit_of x p 0) left → AllShut n
@@ -83,8 +85,9 @@ pub served : (t : KnownTable) (cmd : Cmd) (l k : KnownLocked) (c d : KnownCpu) (
     → Settles (visit_state entered c1) (visit_state mid c2) → MakesAs t c1.number (visit_state entered c1) (settle_steps (visit_state entered c1)) (visit_state mid c2)
     → BySteps Makes t (Executes l.sizes cmd reply) (visit_state mid c2) (visit_state x c3)
     → MakesAs t c3.number (visit_state x c3) (shut_steps c3.number) (visit_state n d)
-    → IsServed t cmd reply (locked_state l c) (locked_state k d)
-served t cmd l k c d reply entered mid x n c1 c2 c3 found alone opened same second third shut unlocked after sizes first settles rests executed last =
+    → (past past' : KnownPasts) → (own_past past).number ≡ c.number → Locks t l.machine.run.past past found → Unlocks t n.run.past k.machine.run.past past'
+    → IsServed t cmd reply (locked_state l (cpu_in_run c past)) (locked_state k (cpu_in_run d past'))
+served t cmd l k c d reply entered mid x n c1 c2 c3 found alone opened same second third shut unlocked after sizes first settles rests executed last past past' its takes gives =
     let p = c.number in
     let m = with_past l.machine found in
     let begins = with_run (with_visit_of (without_notes l.machine) p 1) entered.run in
@@ -123,4 +126,5 @@ served t cmd l k c d reply entered mid x n c1 c2 c3 found alone opened same seco
       };
       makes = subst (λ (y : KnownMachine). MakesAs t p (visit_state l.machine c) steps (visit_state y d)) (sym unlocked)
           (makes_unheld t p m n c d steps l.machine.run.past k.machine.run.past alone all);
+      run = visit_in_run t p steps l.machine.run.past past found n.run.past k.machine.run.past past' its takes all.noted.grew gives;
     }

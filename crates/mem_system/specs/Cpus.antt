@@ -31,8 +31,9 @@ abbrev pub between_locks : (cpu : ℕ) → Run → Run
 between_locks cpu steps = cpu_makes cpu Lock Done ∷ (steps ++ cpu_makes cpu Unlock Done ∷ [])
 
 -- A visit of the CPU with these steps, in the run: the zone's past and the CPU's past have grown by the Lock, these steps
--- and the Unlock. Both have seen the same run then.
+-- and the Unlock. Both have seen the same run then. The CPU's past has its number.
 pub record VisitsInRun (cpu : ℕ) (steps : Run) (zone past zone' past' : KnownPasts) : Type 0 where
+  pub number : (own_past past).number ≡ cpu
   pub zone_grew : GrewByAll (own_past zone) (between_locks cpu steps) (own_past zone')
   pub cpu_grew : GrewByAll (own_past past) (between_locks cpu steps) (own_past past')
   pub same : (own_past zone').seen ≡ (own_past past').seen

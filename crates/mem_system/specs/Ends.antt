@@ -258,6 +258,7 @@ pub record Closes (table : KnownTable) (stock_table : KnownStockTable) (emptied 
   pub last_words : AreLastWords table emptied.machine (parts_of emptied.cpus) frame_words
   pub run : Run
   pub is : IsRunOf (zone_of_boot table) (record { frames = frame_words; stocks = stock_words }) run
+  pub zone : (own_past emptied.machine.run.past).number ≡ 0
   pub pasts : AllOf (IsPastOf run) (own_past emptied.machine.run.past ∷ pasts_of emptied.cpus)
   pub counted : IsAuditOf table emptied.machine emptied.drops audit
   pub adds_up : AddsUp audit

@@ -4,7 +4,7 @@ ghost use Rattle.std.specs.Prelude.{◌≡◌, ◌≢◌, ◌+◌, ◌<◌, ◌�
 ghost use Rattle.frame_word.specs.declared.answers.Get.TheVariants.{Zero};
 ghost use Rattle.frame_word.specs.Seats.{IsInNoHand, seat_number};
 ghost use Rattle.boot_words.specs.Growth.{GrewByAll};
-ghost use Rattle.boot_words.specs.Pasts.{own_past};
+ghost use Rattle.boot_words.specs.Pasts.{IsCpuPast, own_past};
 ghost use Rattle.stock_word.specs.declared.view.Stock.TheVariants.{NoGroup};
 ghost use Rattle.stock_word.specs.Stock.{HasWord};
 ghost use Rattle.group_tree.specs.declared.fault.Fault.TheVariants.{PinsFull};
@@ -62,7 +62,7 @@ impl<N: BootName> Cpu<N> {
     pub fn into_seats(self) -> OwnSeats
         requires { IsIdle self.part }
         ensures past { result.past ≡ self.past }
-        ensures past_table { result.past.table ≡ N.frames.table }
+        ensures past_is { IsCpuPast N.frames self.past }
         ensures frames { result.frames ≡ self.part.frame_seat }
         ensures stocks { result.stocks ≡ self.part.stock_seat }
     {

@@ -2,7 +2,7 @@ use Rattle.std.proofs.Common.{◌≡◌, ◌∙◌, ℕ, List, length, All, ap, 
 use Rattle.std.specs.Prelude.{min}
 use Rattle.std.specs.Vec.{vec_capacity}
 use Rattle.group_tree.specs.Room.{max_count}
-use Rattle.cpu_part.specs.Cpus.{KnownCpu}
+use Rattle.mem_system.specs.Cpus.{CpuInRun, parts_of}
 use Rattle.mem_system.specs.Locked.{IsEmptyWithRoom, KnownLocked}
 use Rattle.mem_system.specs.Left.{NothingIsLeft}
 use Rattle.mem_system.specs.Ends.{ForEachCpu, SettlesInVisit, VisitsUnderLock, Empties, IsSettledUnpinned, KnownEmptiedBoot, MakesLastVisits, drops_of, pins_of_all}
@@ -16,7 +16,7 @@ empty_all-requires-clause-settled g c =
     let long = turn_long (VisitsUnderLock t SettlesInVisit) _ _ _ _ c.settle_all.ensures.settles ∙ ap length first in
     let same = c.deref_mut-2.ensures.value ∙ written_back c.args.cpus.len c.settle_all.new.cpus c.args.cpus.items long
     (sym c.deref_mut.ensures.len ∙ ap length first) in
-    subst (All IsSettledUnpinned) (sym same) c.settle_all.ensures.settled
+    subst (λ (l : List CpuInRun). All IsSettledUnpinned (parts_of l)) (sym same) c.settle_all.ensures.settled
 
 pub returns-clause-visits : goal.returns-clause-visits
 returns-clause-visits g c =
@@ -30,21 +30,21 @@ returns-clause-visits g c =
     let longer = turn_long (VisitsUnderLock t Empties) _ _ _ _ c.empty_all.ensures.empties ∙ ap length second in
     let last = written_back c.args.cpus.len c.empty_all.new.cpus _ longer (size ∙ sym (ap length same ∙ long)) in
     let read : c.deref.result.now ≡ c.args.cpus.items = c.deref.ensures.value in
-    let none : pins_of_all c.args.cpus.items ≡ 0 =
-    let counted = c.count_pins-pins.ensures in let zero = c.if-pins-gt0.false in sym (ap pins_of_all read) ∙ sym counted ∙ omega (arith, zero) in
-    let dropped = c.count_drops-drops.ensures ∙ ap (λ (l : List KnownCpu). min (drops_of l) max_count) c.deref-2.ensures.value in
+    let none : pins_of_all (parts_of c.args.cpus.items) ≡ 0 =
+    let counted = c.count_pins-pins.ensures in let zero = c.if-pins-gt0.false in sym (ap (λ (l : List CpuInRun). pins_of_all (parts_of l)) read) ∙ sym counted ∙ omega (arith, zero) in
+    let dropped = c.count_drops-drops.ensures ∙ ap (λ (l : List CpuInRun). min (drops_of (parts_of l)) max_count) c.deref-2.ensures.value in
     let rests : ForEachCpu (VisitsUnderLock t SettlesInVisit) c.locked.inside.machine c.args.cpus.items c.settle_all.new.machine c.settle_all.new.cpus =
-    subst (λ (l : List KnownCpu). ForEachCpu (VisitsUnderLock t SettlesInVisit) c.locked.inside.machine l c.settle_all.new.machine c.settle_all.new.cpus) first c.settle_all.ensures.settles in
+    subst (λ (l : List CpuInRun). ForEachCpu (VisitsUnderLock t SettlesInVisit) c.locked.inside.machine l c.settle_all.new.machine c.settle_all.new.cpus) first c.settle_all.ensures.settles in
     let empties : ForEachCpu (VisitsUnderLock t Empties) c.settle_all.new.machine c.settle_all.new.cpus c.empty_all.new.machine c.empty_all.new.cpus =
-    subst (λ (l : List KnownCpu). ForEachCpu (VisitsUnderLock t Empties) c.settle_all.new.machine l c.empty_all.new.machine c.empty_all.new.cpus) (second ∙ same)
+    subst (λ (l : List CpuInRun). ForEachCpu (VisitsUnderLock t Empties) c.settle_all.new.machine l c.empty_all.new.machine c.empty_all.new.cpus) (second ∙ same)
     c.empty_all.ensures.empties in
-    let emptied : List KnownCpu → KnownEmptiedBoot = λ (l : List KnownCpu). record {
+    let emptied : List CpuInRun → KnownEmptiedBoot = λ (l : List CpuInRun). record {
       machine = c.empty_all.new.machine;
       cpus = l;
       drops =
           c.count_drops-drops.result;
     } in
-    subst (λ (z : KnownLocked × List KnownCpu). MakesLastVisits t w z.0 c.args.cpus.items (emptied z.1)) (λ i. (c.locked.view_is i, sym last i))
+    subst (λ (z : KnownLocked × List CpuInRun). MakesLastVisits t w z.0 c.args.cpus.items (emptied z.1)) (λ i. (c.locked.view_is i, sym last i))
     (all_visits t w (record { machine = c.locked.inside.machine; sizes = c.locked.inside.sizes }) c.args.cpus.items c.settle_all.new.machine c.settle_all.new.cpus
     (emptied c.empty_all.new.cpus) c.locked.invariant.quiet none dropped rests empties)
 
@@ -60,7 +60,7 @@ invariant_of-result g c =
     let longer = turn_long (VisitsUnderLock t Empties) _ _ _ _ c.empty_all.ensures.empties ∙ ap length second in
     let last = written_back c.args.cpus.len c.empty_all.new.cpus _ longer (size ∙ sym (ap length same ∙ long)) in
     let sized = c.locked.invariant.quiet.sized in (
-      subst (λ (l : List KnownCpu). NothingIsLeft t w (record { machine = c.empty_all.new.machine; cpus = l; drops = c.count_drops-drops.result })) (sym last)
+      subst (λ (l : List CpuInRun). NothingIsLeft t w (record { machine = c.empty_all.new.machine; cpus = l; drops = c.count_drops-drops.result })) (sym last)
           (record {
             shut = c.empty_all.ensures.shut;
             rests = c.empty_all.ensures.rests;

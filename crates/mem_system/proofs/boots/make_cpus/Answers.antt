@@ -3,9 +3,11 @@ use Rattle.std.specs.List.{remove}
 use Rattle.frame_word.specs.Seats.{seat_number}
 use Rattle.boot_words.specs.declared.seat.OwnSeats.{OwnSeats}
 use Rattle.boot_words.specs.Opening.{opening_seats}
+use Rattle.boot_words.specs.Pasts.{own_past}
 use Rattle.cpu_part.specs.Cpus.{IsIdle}
-use Rattle.mem_system.specs.Boots.{first_cpus, part_at_first}
-use Rattle.mem_system.proofs.Parts.{seats_left, front_is, first_seats_at, cpus_next, cpus_idle}
+use Rattle.mem_system.specs.Boots.{first_cpus, first_pasts, part_at_first}
+use Rattle.mem_system.specs.Cpus.{parts_of, pasts_of}
+use Rattle.mem_system.proofs.Parts.{seats_left, front_is, first_seats_at, cpus_next, cpus_idle, parts_both, pasts_both, pasts_next}
 use Rattle.mem_system.proofs.boots.make_cpus.Goals as goal
 
 pub loop-dealt-init : goal.loop-dealt-init
@@ -13,7 +15,8 @@ loop-dealt-init g c = record {
   room = omega (arith, c.in_ok-made.ensures.capacity);
   size = c.in_ok-made.ensures.len;
   seats = c.requires.seats ∙ ap (opening_seats g.N.BootName.frames.table 1) (let e : c.args.cpus ≡ c.args.cpus - 0 = omega arith in e);
-  made = c.in_ok-made.ensures.items;
+  parts = ap parts_of c.in_ok-made.ensures.items;
+  pasts = ap pasts_of c.in_ok-made.ensures.items;
 }
 
 pub remove-requires : goal.remove-requires
@@ -30,7 +33,7 @@ new-requires-clause-seats g c =
 
 pub take_apart-requires : goal.take_apart-requires
 take_apart-requires g c =
-    subst (All IsIdle) (sym c.loop-dealt.invariant.made) (cpus_idle g.N.BootName.frames g.N.BootName.stocks 1 c.loop-dealt._dealt)
+    subst (All IsIdle) (sym c.loop-dealt.invariant.parts) (cpus_idle g.N.BootName.frames g.N.BootName.stocks 1 c.loop-dealt._dealt)
 
 pub loop-dealt-preserved : goal.loop-dealt-preserved
 loop-dealt-preserved g c =
@@ -43,12 +46,17 @@ loop-dealt-preserved g c =
       room = omega (arith, c.push_reserved.ensures.capacity, c.loop-dealt.invariant.room);
       size = omega (arith, c.push_reserved.ensures.len, c.loop-dealt.invariant.size);
       seats = c.remove.ensures.items ∙ ap (λ l. remove l 0) left;
-      made = c.push_reserved.ensures.items
-          ∙ (λ j. c.loop-dealt.invariant.made j ++ (c.in-Ok.ensures ∙ ap (λ (s : OwnSeats). part_at_first t w (seat_number s.frames)) front) j ∷ [])
+      parts = ap parts_of c.push_reserved.ensures.items ∙ parts_both c.loop-dealt.made.items c.in-Ok.cpu
+          ∙ (λ j. c.loop-dealt.invariant.parts j ++ (c.in-Ok.ensures.part ∙ ap (λ (s : OwnSeats). part_at_first t w (seat_number s.frames)) front) j ∷ [])
           ∙ sym (cpus_next t w i);
+      pasts = ap pasts_of c.push_reserved.ensures.items ∙ pasts_both c.loop-dealt.made.items c.in-Ok.cpu
+          ∙ (λ j. c.loop-dealt.invariant.pasts j ++ (ap own_past c.in-Ok.ensures.past ∙ ap (λ (s : OwnSeats). own_past s.past) front) j ∷ [])
+          ∙ sym (pasts_next i);
     }
 
 pub returns : goal.returns
 returns g c =
-    c.loop-dealt.invariant.made
-    ∙ ap (first_cpus g.N.BootName.frames g.N.BootName.stocks 1) (let e : c.loop-dealt._dealt ≡ c.args.cpus = omega arith in e)
+    let all : c.loop-dealt._dealt ≡ c.args.cpus = omega arith in record {
+      parts = c.loop-dealt.invariant.parts ∙ ap (first_cpus g.N.BootName.frames g.N.BootName.stocks 1) all;
+      pasts = c.loop-dealt.invariant.pasts ∙ ap (first_pasts 1) all;
+    }

@@ -32,4 +32,4 @@ pub returns : goal.returns
 returns g c =
     closed_from g.N.BootName.frames g.N.BootName.stocks c.args.machine _ _ c.into_seats.result c.args.seats.items c.into_words-words.ensures
     (sym (ap (λ (x : KnownStockTable). x.cpus) c.args.tables.stocks_are) ∙ ap (λ (x : KnownTable). x.cpus) c.args.tables.frames_are)
-    c.into_seats.ensures.frame_seat c.into_seats.ensures.stock_seat c.into_seats.ensures.consistent c.close-closed.ensures.end
+    (ap (λ (s : KnownPasts). s.pasts) c.into_seats.ensures.past ∙ c.requires.rests.past_is.alone) c.into_seats.ensures.frame_seat c.into_seats.ensures.stock_seat c.into_seats.ensures.consistent c.close-closed.ensures.end

@@ -1,7 +1,6 @@
 use Rattle.std.proofs.Common.{◌∙◌, ap, subst, sym}
-use Rattle.cpu_part.specs.Cpus.{KnownCpu}
-use Rattle.mem_machine.specs.Local.{visit_state}
-use Rattle.mem_system.specs.Ends.{SettlesInVisit, VisitsUnderLock}
+use Rattle.mem_system.specs.Cpus.{CpuInRun, cpu_in_run}
+use Rattle.mem_system.specs.Ends.{SettlesInVisit, VisitsUnderLock, machine_and_cpu}
 use Rattle.mem_system.proofs.Locking.{locked_visit, run_twice, shown_seen, shut_seen}
 use Rattle.mem_system.proofs.last_visits.settle_under_lock.Goals as goal
 
@@ -23,11 +22,12 @@ unlock-requires-clause-shut g c =
 
 pub returns-clause-settles : goal.returns-clause-settles
 returns-clause-settles g c =
-    subst (λ (x : KnownCpu). VisitsUnderLock g.N.BootName.frames SettlesInVisit (visit_state c.args.machine.now x) (visit_state c.unlock.new.self c.settle_cpu.new.cpu)) c.cpu.view_is
+    subst (λ (x : CpuInRun). VisitsUnderLock g.N.BootName.frames SettlesInVisit (machine_and_cpu c.args.machine.now x)
+    (machine_and_cpu c.unlock.new.self (cpu_in_run c.settle_cpu.new.cpu c.unlock.new.past))) c.cpu.view_is
     (locked_visit g.N.BootName.frames SettlesInVisit c.args.machine.now c.lock.new.self c.take_step.new.self c.settle_cpu.new.machine c.take_step-2.new.self
-    c.unlock.new.self c.cpu.inside.part c.settle_cpu.new.cpu c.number-cpu_number.result (c.number-cpu_number.ensures.number ∙ sym (ap (λ (x : KnownCpu). x.number) c.cpu.view_is))
+    c.unlock.new.self c.cpu.inside.part c.settle_cpu.new.cpu c.number-cpu_number.result (c.number-cpu_number.ensures.number ∙ sym (ap (λ (x : CpuInRun). x.part.number) c.cpu.view_is))
     c.lock.ensures.machine c.take_step.ensures.machine c.take_step.ensures.watched c.settle_cpu.ensures.settles c.take_step-2.ensures.machine c.take_step-2.ensures.watched
-    c.unlock.ensures.machine)
+    c.unlock.ensures.machine c.cpu.inside.past c.unlock.new.past c.cpu.invariant.number c.lock.ensures.run c.unlock.ensures.run)
 
 pub returns-clause-shut : goal.returns-clause-shut
 returns-clause-shut g c =

@@ -11,6 +11,7 @@ use Rattle.mem_machine.proofs.Reached.{with_past}
 use Rattle.mem_system.specs.declared.command.Cmd.TheVariants.{Alloc}
 use Rattle.mem_system.specs.declared.outcome.Outcome.{Outcome}
 use Rattle.mem_system.specs.declared.command.Reply.{Reply}
+use Rattle.mem_system.specs.Cpus.{CpuInRun, cpu_in_run}
 use Rattle.mem_system.specs.Locked.{KnownLocked}
 use Rattle.mem_system.specs.Allocations.{outcome_of}
 use Rattle.mem_system.specs.Outcomes.{HasItsGroups, reply_of}
@@ -70,8 +71,8 @@ returns-clause-served g c path at =
     let found : number_at c.settle.new.self.ledger.groups path.now ≡ Some c.args.group = ap (λ (gs : List Group). number_at gs path.now) groups ∙ at in
     let executed = frame_allocated t c.locked.inside.sizes path.now c.args.group c.settle.new.self x c.settle.new.cpu c.alloc_frame-answer.new.cpu answer found
     c.alloc_frame-answer.ensures.allocates in
-    subst (λ (r : Reply). IsServed t (Alloc path 0) r (locked_state c.args.locked.now c.args.cpu.now) (locked_state k c.shut.new.cpu)) (sym told)
-    (subst (λ (y : KnownLocked × KnownCpu). IsServed t (Alloc path 0) reply (locked_state y.0 y.1) (locked_state k c.shut.new.cpu))
+    subst (λ (r : Reply). IsServed t (Alloc path 0) r (locked_state c.args.locked.now c.args.cpu.now) (locked_state k (cpu_in_run c.shut.new.cpu c.unlock.new.past))) (sym told)
+    (subst (λ (y : KnownLocked × CpuInRun). IsServed t (Alloc path 0) reply (locked_state y.0 y.1) (locked_state k (cpu_in_run c.shut.new.cpu c.unlock.new.past)))
     (λ i. (c.locked.view_is i, c.cpu.view_is i))
     (served t (Alloc path 0) l k part c.shut.new.cpu
     reply c.open.new.self c.settle.new.self x n c.open.new.cpu c.settle.new.cpu c.alloc_frame-answer.new.cpu c.lock.new.self.run.past
@@ -79,7 +80,7 @@ returns-clause-served g c path at =
     c.shut.ensures.machine c.unlock.ensures.machine c.shut.ensures.cpu refl
     (subst (λ (y : KnownMachine). MakesAs t part.number (visit_state y part) (open_steps part.number) (visit_state c.open.new.self c.open.new.cpu))
     (c.forget_notes.ensures ∙ ap without_notes c.lock.ensures.machine) c.open.ensures.steps) c.settle.ensures.settles c.settle.ensures.steps executed
-    c.shut.ensures.steps))
+    c.shut.ensures.steps c.cpu.inside.past c.unlock.new.past c.cpu.invariant.number c.lock.ensures.run c.unlock.ensures.run))
 
 pub returns-clause-groups : goal.returns-clause-groups
 returns-clause-groups g c =
@@ -96,7 +97,7 @@ returns-clause-ends g c =
     let d = c.shut.new.cpu in
     let seat : c.shut.new.self.frame_seat ≡ c.unlock.new.self.frame_seat = sym (ap (λ (y : KnownMachine). y.frame_seat) c.unlock.ensures.machine) in
     record {
-      at_most_high = subst (λ (y : KnownLocked × KnownCpu). length y.1.list ≤ y.0.sizes.high → length d.list + length d.fresh ≤ y.0.sizes.high)
+      at_most_high = subst (λ (y : KnownLocked × CpuInRun). length y.1.part.list ≤ y.0.sizes.high → length d.list + length d.fresh ≤ y.0.sizes.high)
           (λ i. (c.locked.view_is i, c.cpu.view_is i))
           (λ within.
           let listed = ap length (c.settle.ensures.others.list ∙ ap (λ (y : KnownCpu). y.list) c.open.ensures.cpu) in

@@ -6,6 +6,7 @@ use Rattle.mem_machine.specs.Machines.{KnownMachine, without_notes}
 use Rattle.mem_machine.specs.Local.{MakesAs, visit_state}
 use Rattle.mem_machine.specs.Steps.{open_steps}
 use Rattle.mem_machine.proofs.Reached.{with_past}
+use Rattle.mem_system.specs.Cpus.{CpuInRun, cpu_in_run}
 use Rattle.mem_system.specs.Locked.{KnownLocked}
 use Rattle.mem_system.specs.Outcomes.{HasItsGroups, reply_of}
 use Rattle.mem_system.specs.Commands.{FreshAfter}
@@ -53,7 +54,7 @@ returns g c =
     let told : reply_of k.machine.ledger c.execute-outcome.result ≡ reply = ap (λ (l : Ledger). reply_of l c.execute-outcome.result) kept in
     rw told record {
       groups = subst (λ (l : Ledger). HasItsGroups l c.execute-outcome.result) (sym kept) c.execute-outcome.ensures.groups;
-      served = subst (λ (y : KnownLocked × KnownCpu). IsServed t c.args.cmd.now reply (locked_state y.0 y.1) (locked_state k c.shut.new.cpu))
+      served = subst (λ (y : KnownLocked × CpuInRun). IsServed t c.args.cmd.now reply (locked_state y.0 y.1) (locked_state k (cpu_in_run c.shut.new.cpu c.unlock.new.past)))
           (λ i. (c.locked.view_is i, c.cpu.view_is i))
           (served t c.args.cmd.now (record { machine = m; sizes = c.locked.inside.sizes }) k part c.shut.new.cpu
           reply c.open.new.self c.settle.new.self x n c.open.new.cpu c.settle.new.cpu c.execute-outcome.new.cpu c.lock.new.self.run.past
@@ -61,13 +62,14 @@ returns g c =
           c.shut.ensures.machine c.unlock.ensures.machine c.shut.ensures.cpu refl
           (subst (λ (y : KnownMachine). MakesAs t part.number (visit_state y part) (open_steps part.number) (visit_state c.open.new.self c.open.new.cpu))
           (c.forget_notes.ensures ∙ ap without_notes c.lock.ensures.machine) c.open.ensures.steps) c.settle.ensures.settles c.settle.ensures.steps
-          c.execute-outcome.ensures.executed c.shut.ensures.steps);
+          c.execute-outcome.ensures.executed c.shut.ensures.steps c.cpu.inside.past c.unlock.new.past c.cpu.invariant.number c.lock.ensures.run
+          c.unlock.ensures.run);
       settled = (
         subst (λ (y : KnownCpu). FreshAfter c.args.cmd.now reply y.fresh) (sym same) c.execute-outcome.ensures.fresh,
         ap (λ (y : KnownCpu). y.back) same ∙ stays.back ∙ c.settle.ensures.none_back,
       );
       ends = record {
-        at_most_high = subst (λ (y : KnownLocked × KnownCpu). length y.1.list ≤ y.0.sizes.high
+        at_most_high = subst (λ (y : KnownLocked × CpuInRun). length y.1.part.list ≤ y.0.sizes.high
             → length c.shut.new.cpu.list + length c.shut.new.cpu.fresh ≤ y.0.sizes.high)
             (λ i. (c.locked.view_is i, c.cpu.view_is i))
             (λ within. subst (λ (y : KnownCpu). length y.list + length y.fresh ≤ c.locked.inside.sizes.high) (sym same) (c.execute-outcome.ensures.at_most_high

@@ -1,8 +1,8 @@
 use Rattle.std.proofs.Common.{◌≡◌, ◌++◌, IfOk, ap, subst, sym}
 use Rattle.std.specs.String.{string_bytes}
-use Rattle.cpu_part.specs.Cpus.{KnownCpu}
 use Rattle.machine_texts.specs.Stock.{stock_line_text}
 use Rattle.mem_machine.specs.Local.{visit_state}
+use Rattle.mem_system.specs.Cpus.{CpuInRun}
 use Rattle.mem_system.specs.Locked.{KnownLocked}
 use Rattle.mem_system.specs.Shown.{SettlesCaller}
 use Rattle.mem_system.specs.Visits.{locked_state}
@@ -21,7 +21,7 @@ returns-clause-text g c =
         consistent = c.prove_quiet.ensures.consistent;
         charges = c.prove_quiet.ensures.charges;
       };
-      settles = subst (λ (x : KnownCpu). SettlesCaller g.N.BootName.frames (locked_state found c.args.cpu.now) (locked_state settled x))
+      settles = subst (λ (x : CpuInRun). SettlesCaller g.N.BootName.frames (locked_state found c.args.cpu.now) (locked_state settled x))
           (sym line.ensures.cpu) c.settle.ensures.served;
       sound_after = record {
         quiet = c.prove_quiet-2.ensures.quiet;
@@ -29,8 +29,8 @@ returns-clause-text g c =
         charges = c.prove_quiet-2.ensures.charges;
       };
       told = (
-        subst (λ (x : KnownCpu). IfOk line.result (λ _. string_bytes line.new.text ≡ string_bytes c.args.text.now
-            ++ stock_line_text (visit_state settled.machine x))) (sym line.ensures.cpu) line.ensures.text,
+        subst (λ (x : CpuInRun). IfOk line.result (λ _. string_bytes line.new.text ≡ string_bytes c.args.text.now
+            ++ stock_line_text (visit_state settled.machine x.part))) (sym line.ensures.cpu) line.ensures.text,
         ap (λ (l : KnownLocked). l.machine) line.ensures.locked,
       );
     }
