@@ -60,7 +60,7 @@ grown_changes before [] later same = let e = ap (λ (p : Past). changes_of befor
 grown_changes before (e ∷ steps) later grew =
     let k = before.number in
     let rest : changes_of k later.seen ≡ changes_of k (grew.0).seen + changes_of k steps =
-        subst (λ (n : ℕ). changes_of n later.seen ≡ changes_of n (grew.0).seen + changes_of n steps) grew.1.number (grown_changes grew.0 steps later grew.2) in
+    subst (λ (n : ℕ). changes_of n later.seen ≡ changes_of n (grew.0).seen + changes_of n steps) grew.1.number (grown_changes grew.0 steps later grew.2) in
     let here = ap (changes_of k) grew.1.seen in
     let both = changes_both k (before.seen ++ grew.1.between) (e ∷ []) in
     let none = others_add_none k before.seen grew.1.between grew.1.others in
@@ -121,31 +121,31 @@ meet_gains t z c z1 c1 made c2 z3 c3 steps first grew second quiet own =
     let z_number : (own_past z).number ≡ 0 = sym first.zone_sees.number ∙ first.zone_is.zone_is in
     let low : 1 ≤ k = subst (λ n. 1 ≤ n) c_number first.cpu_is.low in
     let alone : (other : ℕ) → other ≢ k → changes_of other steps ≡ 0 =
-        λ other ne. as_many other made steps quiet ∙ of_one_seat k made own other ne in
+    λ other ne. as_many other made steps quiet ∙ of_one_seat k made own other ne in
     record {
       zone_number = second.zone_sees.number ∙ first.zone_sees.number;
       cpu_number = second.cpu_sees.number ∙ c2_number;
       in_order = λ earlier has.
           let met : HasInOrder (own_past c1).seen earlier =
-              subst (λ r. HasInOrder r earlier) first.same (sees_in_order (own_past z) (own_past z1) earlier first.zone_sees has) in
+          subst (λ r. HasInOrder r earlier) first.same (sees_in_order (own_past z) (own_past z1) earlier first.zone_sees has) in
           let all : HasInOrder (own_past c2).seen (earlier ++ made) = grown_in_order (own_past c1) made (own_past c2) earlier grew met in
           let again : HasInOrder (own_past z3).seen (earlier ++ made) =
-              subst (λ r. HasInOrder r (earlier ++ made)) (sym second.same) (sees_in_order (own_past c2) (own_past c3) (earlier ++ made) second.cpu_sees all) in
+          subst (λ r. HasInOrder r (earlier ++ made)) (sym second.same) (sees_in_order (own_past c2) (own_past c3) (earlier ++ made) second.cpu_sees all) in
           has_through (own_past z3).seen (earlier ++ made) (earlier ++ steps) again
           (without_both (λ e. Unit {0}) earlier earlier made steps (without_none (λ e. Unit {0}) earlier) (changes_in_order made steps quiet));
       of_zone =
           let a : changes_of 0 (own_past z1).seen ≡ changes_of 0 (own_past z).seen =
-              subst (λ (n : ℕ). changes_of n (own_past z1).seen ≡ changes_of n (own_past z).seen) z_number (sees_changes (own_past z) (own_past z1) first.zone_sees) in
+          subst (λ (n : ℕ). changes_of n (own_past z1).seen ≡ changes_of n (own_past z).seen) z_number (sees_changes (own_past z) (own_past z1) first.zone_sees) in
           let b : changes_of 0 (own_past z3).seen ≡ changes_of 0 (own_past z1).seen =
-              subst (λ (n : ℕ). changes_of n (own_past z3).seen ≡ changes_of n (own_past z1).seen) first.zone_is.zone_is (sees_changes (own_past z1) (own_past z3) second.zone_sees) in
+          subst (λ (n : ℕ). changes_of n (own_past z3).seen ≡ changes_of n (own_past z1).seen) first.zone_is.zone_is (sees_changes (own_past z1) (own_past z3) second.zone_sees) in
           let none = alone 0 (λ e. absurd (omega (arith, low, e))) in omega (arith, a, b, none);
       of_cpu =
           let a : changes_of k (own_past c1).seen ≡ changes_of k (own_past c).seen = sees_changes (own_past c) (own_past c1) first.cpu_sees in
           let b : changes_of k (own_past c2).seen ≡ changes_of k (own_past c1).seen + changes_of k made =
-              subst (λ (n : ℕ). changes_of n (own_past c2).seen ≡ changes_of n (own_past c1).seen + changes_of n made) c_number
-              (grown_changes (own_past c1) made (own_past c2) grew) in
+          subst (λ (n : ℕ). changes_of n (own_past c2).seen ≡ changes_of n (own_past c1).seen + changes_of n made) c_number
+          (grown_changes (own_past c1) made (own_past c2) grew) in
           let d : changes_of k (own_past c3).seen ≡ changes_of k (own_past c2).seen =
-              subst (λ (n : ℕ). changes_of n (own_past c3).seen ≡ changes_of n (own_past c2).seen) c2_number (sees_changes (own_past c2) (own_past c3) second.cpu_sees) in
+          subst (λ (n : ℕ). changes_of n (own_past c3).seen ≡ changes_of n (own_past c2).seen) c2_number (sees_changes (own_past c2) (own_past c3) second.cpu_sees) in
           let same = as_many k made steps quiet in omega (arith, a, b, d, same);
       of_others = λ other not_zone ne. alone other ne;
     }
@@ -160,7 +160,7 @@ meeting_gains t z c z' c' meets =
       in_order = λ earlier has. subst (HasInOrder (own_past z').seen) (sym (append_none earlier)) (sees_in_order (own_past z) (own_past z') earlier meets.zone_sees has);
       of_zone =
           let a : changes_of 0 (own_past z').seen ≡ changes_of 0 (own_past z).seen =
-              subst (λ (n : ℕ). changes_of n (own_past z').seen ≡ changes_of n (own_past z).seen) z_number (sees_changes (own_past z) (own_past z') meets.zone_sees) in
+          subst (λ (n : ℕ). changes_of n (own_past z').seen ≡ changes_of n (own_past z).seen) z_number (sees_changes (own_past z) (own_past z') meets.zone_sees) in
           omega (arith, a);
       of_cpu = let a = sees_changes (own_past c) (own_past c') meets.cpu_sees in omega (arith, a);
       of_others = λ other not_zone ne. refl;
@@ -177,7 +177,7 @@ gains_both z c one z1 c1 two z2 c2 first second = record {
       let k = c.number in
       let a : changes_of k c1.seen ≡ changes_of k c.seen + changes_of k one = first.of_cpu in
       let b : changes_of k c2.seen ≡ changes_of k c1.seen + changes_of k two =
-          subst (λ (n : ℕ). changes_of n c2.seen ≡ changes_of n c1.seen + changes_of n two) first.cpu_number second.of_cpu in
+      subst (λ (n : ℕ). changes_of n c2.seen ≡ changes_of n c1.seen + changes_of n two) first.cpu_number second.of_cpu in
       let d = changes_both k one two in omega (arith, a, b, d);
   of_others = λ other not_zone ne.
       let a = first.of_others other not_zone ne in
@@ -222,7 +222,7 @@ gains_go_on earlier steps zone zone' cpus index cpu cpu' so_far at gains =
             let is : p ≡ cpu' = set_here cpus index cpu' p inside (subst (λ (n : ℕ). slice_get (slice_set cpus index cpu') n ≡ Some p) e there) in
             let same : changes_of (suc other) p.seen ≡ changes_of (suc index) cpu'.seen = ap (λ (q : Past). changes_of (suc other) q.seen) is ∙ ap (λ (n : ℕ). changes_of (suc n) cpu'.seen) e in
             let a : changes_of (suc index) cpu'.seen ≡ changes_of (suc index) cpu.seen + changes_of (suc index) steps =
-                subst (λ (n : ℕ). changes_of n cpu'.seen ≡ changes_of n cpu.seen + changes_of n steps) number gains.of_cpu in
+            subst (λ (n : ℕ). changes_of n cpu'.seen ≡ changes_of n cpu.seen + changes_of n steps) number gains.of_cpu in
             let b : changes_of (suc index) cpu.seen ≡ changes_of (suc index) earlier = so_far.of_cpu index cpu at in
             let d : changes_of (suc index) (earlier ++ steps) ≡ changes_of (suc index) earlier + changes_of (suc index) steps = changes_both (suc index) earlier steps in
             let all : changes_of (suc index) cpu'.seen ≡ changes_of (suc index) (earlier ++ steps) = omega (arith, a, b, d) in
@@ -230,7 +230,7 @@ gains_go_on earlier steps zone zone' cpus index cpu cpu' so_far at gains =
         | inr ne ↦
             let a : changes_of (suc other) p.seen ≡ changes_of (suc other) earlier = so_far.of_cpu other p (set_else cpus index other cpu' p ne there) in
             let none : changes_of (suc other) steps ≡ 0 =
-                gains.of_others (suc other) (λ e. absurd (omega (arith, e))) (λ e. ne (let f : suc other ≡ suc index = e ∙ number in omega (arith, f))) in
+            gains.of_others (suc other) (λ e. absurd (omega (arith, e))) (λ e. ne (let f : suc other ≡ suc index = e ∙ number in omega (arith, f))) in
             let d = changes_both (suc other) earlier steps in omega (arith, a, none, d)
       ];
     }
@@ -265,9 +265,9 @@ without_quiet zone before before' (e ∷ run) steps same legal' legal (inr h) =
     let more' : (before' ++ e ∷ []) ++ h.0 ≡ before' ++ steps = append_assoc before' (e ∷ []) h.0 ∙ ap (λ r. before' ++ r) (sym h.1) in
     let ok : Allows (state_of zone before') e.0.seat e.0.action e.1 = subst (λ s. Allows s e.0.seat e.0.action e.1) (sym same) (allowed_at zone before e run legal) in
     let both : state_of zone (before' ++ e ∷ []) ≡ state_of zone (before ++ e ∷ []) =
-        state_more zone before' e.0 e.1 ∙ ap (λ s. after s e.0.seat e.0.action e.1) same ∙ sym (state_more zone before e.0 e.1) in
+    state_more zone before' e.0 e.1 ∙ ap (λ s. after s e.0.seat e.0.action e.1) same ∙ sym (state_more zone before e.0 e.1) in
     let rest = without_quiet zone (before ++ e ∷ []) (before' ++ e ∷ []) run h.0 both (legal_more zone before' e.0 e.1 legal' ok)
-        (subst (IsLegalRun zone) (sym more) legal) h.2 in
+    (subst (IsLegalRun zone) (sym more) legal) h.2 in
     (subst (IsLegalRun zone) more' rest.0, ap (state_of zone) (sym more') ∙ rest.1 ∙ ap (state_of zone) more)
 
 of_cpu_seat : (zone : Zone) (q : ℕ) → is_cpu zone q ≡ true → q ≤ zone.cpus
@@ -346,13 +346,13 @@ pub the_run_so_far_is_legal : TheRunSoFarIsLegal
 the_run_so_far_is_legal zone run steps z cpus legal zone_is count pasts so_far =
     let has : HasInOrder run steps = subst (λ r. HasInOrder r steps) (sym (pasts.0).goes.is) (has_behind z.seen steps (pasts.0).goes.rest so_far.in_order) in
     let of_zone : changes_of 0 run ≡ changes_of 0 steps =
-        subst (λ (n : ℕ). changes_of n run ≡ changes_of n z.seen) zone_is (past_changes run z pasts.0) ∙ so_far.of_zone in
+    subst (λ (n : ℕ). changes_of n run ≡ changes_of n z.seen) zone_is (past_changes run z pasts.0) ∙ so_far.of_zone in
     let of_cpu : (index : ℕ) → suc index ≤ zone.cpus → changes_of (suc index) run ≡ changes_of (suc index) steps = λ index below.
-        let inside : index < length cpus = omega (arith, below, count) in
-        let p = get_or cpus index z in
-        let at : slice_get cpus index ≡ Some p = slice_get-get_or cpus index z inside in
-        subst (λ (n : ℕ). changes_of n run ≡ changes_of n p.seen) (so_far.number index p at) (past_changes run p (each_of (IsPastOf run) cpus index p pasts.1 at))
-        ∙ so_far.of_cpu index p at in
+    let inside : index < length cpus = omega (arith, below, count) in
+    let p = get_or cpus index z in
+    let at : slice_get cpus index ≡ Some p = slice_get-get_or cpus index z inside in
+    subst (λ (n : ℕ). changes_of n run ≡ changes_of n p.seen) (so_far.number index p at) (past_changes run p (each_of (IsPastOf run) cpus index p pasts.1 at))
+    ∙ so_far.of_cpu index p at in
     let same : (seat : ℕ) → seat ≤ zone.cpus → changes_of seat run ≡ changes_of seat steps = by_seat run steps zone.cpus of_zone of_cpu in
     without_quiet zone [] [] run steps refl (λ k. tt) legal
     (only_quiet_are_left_out zone.cpus run steps (seats_of_legal zone [] run legal) has same)

@@ -1,6 +1,5 @@
 -- A CPU and the zone see the same run, by a load of a word that nobody writes.
-use Rattle.std.proofs.Common.{◌≡◌, ℕ, true, List, [], ◌∷◌, set, refl, ap, sym, ◌∙◌, subst}
-use Rattle.std.specs.Prelude.{slice_index}
+use Rattle.std.proofs.Common.{◌≡◌, ℕ, List, [], set, refl, ap, sym, ◌∙◌, subst}
 use Rattle.std.proofs.lemmas.List.{set-get_or}
 use Rattle.atomic_table.specs.Table.{keeps}
 use Rattle.frame_word.specs.declared.view.FrameView.{FrameView}

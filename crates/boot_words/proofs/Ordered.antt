@@ -118,13 +118,20 @@ pub only_quiet_are_left_out : (n : ℕ) (run steps : Run) → AllOf (IsSeatOfCha
 only_quiet_are_left_out n [] steps low has same = has
 only_quiet_are_left_out n (x ∷ run) steps low (inl out) same =
     elim (cases_Bool (changes_nothing x.1)) [
-      | inl quiet ↦ inl (quiet, only_quiet_are_left_out n run steps low.1 out.1
-          (λ seat below. let none = quiet_adds_none seat x quiet in let all = same seat below in omega (arith, none, all)))
+      | inl quiet ↦ inl (
+        quiet,
+        only_quiet_are_left_out n run steps low.1 out.1
+            (λ seat below. let none = quiet_adds_none seat x quiet in let all = same seat below in omega (arith, none, all)),
+      )
       | inr loud ↦ absurd (
           let one = own_adds_one x loud in
           let all = same x.0.seat (low.0 loud) in
           let most = fewer x.0.seat run steps out.1 in omega (arith, one, all, most))
     ]
 only_quiet_are_left_out n (x ∷ run) steps low (inr h) same =
-    inr (h.0, h.1, only_quiet_are_left_out n run h.0 low.1 h.2
-    (λ seat below. let all = same seat below in let here = ap (changes_of seat) h.1 in omega (arith, all, here)))
+    inr (
+      h.0,
+      h.1,
+      only_quiet_are_left_out n run h.0 low.1 h.2
+          (λ seat below. let all = same seat below in let here = ap (changes_of seat) h.1 in omega (arith, all, here)),
+    )

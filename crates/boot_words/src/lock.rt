@@ -14,7 +14,7 @@ use crate::raw::{BootWords, RawSeat, Telling};
 use crate::seat::PastSeat;
 use crate::word::Word;
 use std::marker::Brand;
-use step_rules::step::{Answer, Step};
+use step_rules::step::{Action, Answer};
 
 impl BootWords {
     /// A CPU takes the lock, which is free by the zone's past. The zone's seat has the CPU's past too from then on, and
@@ -56,7 +56,14 @@ impl BootWords {
     }
 
     // The load of a plain step, which the word doesn't say.
-    fn note_as<M: Telling>(&self, raw: &mut RawSeat, _made: &Step, _answer: &Answer) -> u64
+    #[inline(always)]
+    fn note_as<M: Telling>(
+        &self,
+        raw: &mut RawSeat,
+        _seat: u32,
+        _action: &Action,
+        _answer: &Answer,
+    ) -> u64
         requires table { raw.old.table ≡ self.now.table }
         requires may { MayStep (zone_of_boot self.now) raw.old.views Quiet (λ n. n) M.told }
         ensures table { raw.new.table ≡ raw.old.table }
@@ -65,14 +72,16 @@ impl BootWords {
         self.load::<M>(raw, Word::Quiet)
     }
 
-    /// A step that no word is of, legal in what the lock's holder sees, with this answer.
-    pub fn note(&self, held: &mut PastSeat, made: &Step, answer: &Answer)
+    /// A seat's step that no word is of, legal in what the lock's holder sees, with this answer. It is inlined, so that
+    /// no action, which has room for a path, is built for it.
+    #[inline(always)]
+    pub fn note(&self, held: &mut PastSeat, seat: u32, action: &Action, answer: &Answer)
         requires held { IsHeld self.now held.old }
-        requires plain { IsPlain made.now.action }
-        requires step { IsLocalStep (local_by_pasts self.now held.old) (cpu_past held.old).number made.now.seat
-            made.now.action answer.now }
-        ensures run { MakesStep self.now held.old made.now.seat made.now.action answer.now held.new }
+        requires plain { IsPlain action.now }
+        requires step { IsLocalStep (local_by_pasts self.now held.old) (cpu_past held.old).number seat action.now
+            answer.now }
+        ensures run { MakesStep self.now held.old seat action.now answer.now held.new }
     {
-        self.note_as::<Brand>(&mut held.raw, made, answer);
+        self.note_as::<Brand>(&mut held.raw, seat, action, answer);
     }
 }

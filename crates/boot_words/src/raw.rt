@@ -160,6 +160,7 @@ impl BootWords {
     }
 
     // The place of a word in the table. A CPU's row has sixteen words, so that no two CPUs' share a cache line.
+    #[inline(always)]
     fn index(&self, word: Word) -> usize
         requires { HasPlace (zone_of_boot self.now) word }
         ensures { result ≡ index_of (zone_of_boot self.now) word }
@@ -175,6 +176,7 @@ impl BootWords {
     }
 
     /// Reads a word.
+    #[inline(always)]
     pub(crate) fn load<M: Telling>(&self, raw: &mut RawSeat, word: Word) -> u64
         requires table { raw.old.table ≡ self.now.table }
         requires place { HasPlace (zone_of_boot self.now) word }
@@ -187,6 +189,7 @@ impl BootWords {
     }
 
     /// Stores a word.
+    #[inline(always)]
     pub(crate) fn store<M: Telling>(&self, raw: &mut RawSeat, word: Word, new: u64)
         requires table { raw.old.table ≡ self.now.table }
         requires place { HasPlace (zone_of_boot self.now) word }
@@ -199,6 +202,7 @@ impl BootWords {
     }
 
     /// Stores a word and returns what it was.
+    #[inline(always)]
     pub(crate) fn swap<M: Telling>(&self, raw: &mut RawSeat, word: Word, new: u64) -> u64
         requires table { raw.old.table ≡ self.now.table }
         requires place { HasPlace (zone_of_boot self.now) word }
@@ -211,6 +215,7 @@ impl BootWords {
     }
 
     /// Stores `new` if the word is `old`, and returns what it was.
+    #[inline(always)]
     pub(crate) fn exchange<M: Telling>(
         &self,
         raw: &mut RawSeat,
@@ -231,6 +236,7 @@ impl BootWords {
     }
 
     /// Adds to a word and returns what it was.
+    #[inline(always)]
     pub(crate) fn add<M: Telling>(&self, raw: &mut RawSeat, word: Word, more: u32) -> u64
         requires table { raw.old.table ≡ self.now.table }
         requires place { HasPlace (zone_of_boot self.now) word }
@@ -245,6 +251,7 @@ impl BootWords {
     }
 
     /// Takes one off a word and returns what it was.
+    #[inline(always)]
     pub(crate) fn take_one<M: Telling>(&self, raw: &mut RawSeat, word: Word) -> u64
         requires table { raw.old.table ≡ self.now.table }
         requires place { HasPlace (zone_of_boot self.now) word }
@@ -259,6 +266,7 @@ impl BootWords {
     }
 
     /// The seat takes in all views of the other, which is empty then.
+    #[inline(always)]
     pub(crate) fn join(&self, raw: &mut RawSeat, other: &mut RawSeat)
         requires tables { (raw.old.table ≡ self.now.table) × (other.old.table ≡ self.now.table) }
         ensures raw { raw.new ≡ record { table = self.now.table; views = raw.old.views ++ other.old.views } }
@@ -272,6 +280,7 @@ impl BootWords {
     }
 
     /// The seat's first view, in a seat of its own.
+    #[inline(always)]
     pub(crate) fn split_first(&self, raw: &mut RawSeat) -> RawSeat
         requires table { raw.old.table ≡ self.now.table }
         ensures rest { raw.new ≡ record { table = self.now.table; views = rest_of_views raw.old.views } }
@@ -283,6 +292,7 @@ impl BootWords {
     }
 
     /// The seat's last view, in a seat of its own.
+    #[inline(always)]
     pub(crate) fn split_last(&self, raw: &mut RawSeat) -> RawSeat
         requires table { raw.old.table ≡ self.now.table }
         ensures rest { raw.new ≡ record { table = self.now.table; views = but_last raw.old.views } }

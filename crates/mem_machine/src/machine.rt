@@ -77,6 +77,7 @@ impl<N: BootName> Machine<N> {
         ensures first { IfOk result (λ machine. IsFirst N.frames N.stocks machine) }
         ensures off { IfOk result (λ machine. machine.run.watch ≡ watch_off) }
         ensures rests { IfOk result (λ machine. Rests N.frames machine) }
+        ensures past { IfOk result (λ machine. machine.run.past ≡ seats.past) }
     {
         let OwnSeats {
             past,

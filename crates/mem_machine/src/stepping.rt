@@ -27,9 +27,8 @@ pub(crate) fn make_step<N: BootName>(
     ensures notes { Notes N.frames (record { past = past.old; watch = watch.old }) (zone_makes action answer ∷ [])
         (record { past = past.new; watch = watch.new }) }
 {
-    let step = Step { seat: 0, action };
-    tables.words.note(past, &step, &answer);
+    tables.words.note(past, 0, &action, &answer);
     if watch.is_on() {
-        watch.take(&step, &answer);
+        watch.take(&Step { seat: 0, action }, &answer);
     }
 }

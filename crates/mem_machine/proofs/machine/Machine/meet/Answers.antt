@@ -9,16 +9,16 @@ use Rattle.mem_machine.proofs.machine.Machine.meet.Goals as goal
 pub returns-clause-rests : goal.returns-clause-rests
 returns-clause-rests g c =
     let rests = subst (Rests g.N.BootName.frames) (sym c.self.view_is) c.requires.rests in
-    let meets = subst (λ (t : KnownTable). Meets t c.self.inside.past c.args.past.now c.meet.new.zone c.meet.new.cpu) c.args.tables.now.frames_are c.meet.ensures in
+    let meets = subst (λ (t : KnownTable). Meets t c.self.inside.past c.args.past.now c.meet.new.zone c.meet.new.cpu) c.args.tables.now.frames_are c.meet.ensures.run in
     rests_met g.N.BootName.frames _ c.args.cpu.now c.args.past.now c.meet.new.zone c.meet.new.cpu rests c.requires.knows meets
 
 pub returns-clause-knows : goal.returns-clause-knows
 returns-clause-knows g c =
     let rests = subst (Rests g.N.BootName.frames) (sym c.self.view_is) c.requires.rests in
-    let meets = subst (λ (t : KnownTable). Meets t c.self.inside.past c.args.past.now c.meet.new.zone c.meet.new.cpu) c.args.tables.now.frames_are c.meet.ensures in
+    let meets = subst (λ (t : KnownTable). Meets t c.self.inside.past c.args.past.now c.meet.new.zone c.meet.new.cpu) c.args.tables.now.frames_are c.meet.ensures.run in
     knows_met g.N.BootName.frames _ c.args.cpu.now c.args.past.now c.meet.new.zone c.meet.new.cpu rests c.requires.knows meets
 
 pub returns-clause-meets : goal.returns-clause-meets
 returns-clause-meets g c =
-    let meets = subst (λ (t : KnownTable). Meets t c.self.inside.past c.args.past.now c.meet.new.zone c.meet.new.cpu) c.args.tables.now.frames_are c.meet.ensures in
+    let meets = subst (λ (t : KnownTable). Meets t c.self.inside.past c.args.past.now c.meet.new.zone c.meet.new.cpu) c.args.tables.now.frames_are c.meet.ensures.run in
     subst (λ (k : KnownMachine). Meets g.N.BootName.frames k.run.past c.args.past.now c.meet.new.zone c.meet.new.cpu) c.self.view_is meets
