@@ -46,7 +46,7 @@ fn put_pin<N: BootName>(locked: &mut Locked<N>, tables: &Tables<N>, cpu: &mut Cp
         Put::Left(left) => Answer::Left(left as u32),
         Put::Last => Answer::Last,
     };
-    locked.meet(tables, cpu);
+    locked.meet(tables, cpu); // The zone sees the step.
     let frame = frame.number();
     locked.take_step(cpu_number, Action::Put { frame }, answer);
 }
