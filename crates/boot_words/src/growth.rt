@@ -1,4 +1,4 @@
-//! Laws of the run so far, which the pasts of all seats tell together.
+//! Laws of the run so far, which follows from the pasts of all seats.
 
 ghost use Rattle.boot_words.specs.Growth.{ABootHasNoSteps, GainsGoOn, TheRunSoFarIsLegal};
 

@@ -35,16 +35,16 @@ pub locked_visit : (t : KnownTable) (Does : Transition VisitState → Type 0) (m
 locked_visit t Does m m0 m1 n1 n2 n c d p named locks found lock visit left unlock frees past past' its takes gives =
     let seen : BySteps Makes t Does (visit_state (with_run m m1.run) c) (visit_state n1 d) =
     subst (λ (k : KnownMachine). BySteps Makes t Does (visit_state k c) (visit_state n1 d)) (run_twice m m0 m1 _ _ locks found) visit in record {
-  found = m1.run;
-  left = n1;
-  lock = subst (λ (z : ℕ × KnownWatch). Watches z.1 (cpu_makes z.0 Lock Done ∷ []) m1.run.watch) (λ i. (named i, ap (λ (k : KnownMachine). k.run.watch) locks i)) lock;
-  visit = seen;
-  unlock = subst (λ (z : ℕ × KnownWatch). Watches n1.run.watch (cpu_makes z.0 Unlock Done ∷ []) z.1) (λ i. (named i, ap (λ (k : KnownMachine). k.run.watch) (sym frees) i)) unlock;
-  machine = run_twice n1 n2 n _ _ left frees;
-  run = visit_in_run t c.number seen.steps m.run.past past m1.run.past n1.run.past n.run.past past' its
-      (subst (Locks t m.run.past past) (sym (ap (λ (k : KnownMachine). k.run.past) found)) takes) seen.makes.noted.grew
-      (subst (λ (x : KnownPasts). Unlocks t x n.run.past past') (ap (λ (k : KnownMachine). k.run.past) left) gives);
-}
+      found = m1.run;
+      left = n1;
+      lock = subst (λ (z : ℕ × KnownWatch). Watches z.1 (cpu_makes z.0 Lock Done ∷ []) m1.run.watch) (λ i. (named i, ap (λ (k : KnownMachine). k.run.watch) locks i)) lock;
+      visit = seen;
+      unlock = subst (λ (z : ℕ × KnownWatch). Watches n1.run.watch (cpu_makes z.0 Unlock Done ∷ []) z.1) (λ i. (named i, ap (λ (k : KnownMachine). k.run.watch) (sym frees) i)) unlock;
+      machine = run_twice n1 n2 n _ _ left frees;
+      run = visit_in_run t c.number seen.steps m.run.past past m1.run.past n1.run.past n.run.past past' its
+          (subst (Locks t m.run.past past) (sym (ap (λ (k : KnownMachine). k.run.past) found)) takes) seen.makes.noted.grew
+          (subst (λ (x : KnownPasts). Unlocks t x n.run.past past') (ap (λ (k : KnownMachine). k.run.past) left) gives);
+    }
 
 -- what the CPU sees, behind a step that the watch takes
 pub shown_seen : (t : KnownTable) (m n : KnownMachine) (c : KnownCpu) → n ≡ with_watch m n.run.watch → IsSeenByRun t (visit_state m c) → IsSeenByRun t (visit_state n c)
