@@ -2,11 +2,12 @@
 -- relates a transition to an answer, and `Writes..` relates a transition to a text. `Serves..` relates the state
 -- before, the state after and a text, by some steps.
 use Rattle.std.specs.Prelude.{◌≡◌, ◌≢◌, ◌⊎◌, ℕ, zero, ◌+◌, ◌<◌, ◌≤◌, Bool, true, false, ◌&&◌, List, [], ◌∷◌, ◌++◌}
-use Rattle.std.specs.Prelude.{Option, Some, None, IfSome, Result, IfOk, length, slice_get}
+use Rattle.std.specs.Prelude.{Option, Some, None, Result, IfOk, length}
 use Rattle.std.specs.declared.string.String.{String}
 use Rattle.std.specs.String.{string_bytes}
 use Rattle.frame_word.specs.declared.answers.Get.TheVariants.{Held}
 use Rattle.frame_word.specs.Seats.{KnownTable}
+use Rattle.boot_words.specs.Rule.{AllOf}
 use Rattle.boot_words.specs.Pasts.{KnownPasts, own_past}
 use Rattle.boot_words.specs.Growth.{AreChangesOf, GainsSteps, GrewByAll}
 use Rattle.group_tree.specs.Groups.{number_at}
@@ -158,7 +159,7 @@ pub record MakesAlone (cpu : ℕ) (steps : Run) (before after : KnownPasts) : Ty
   pub made : Run
   pub grew : GrewByAll (own_past before) made (own_past after)
   pub changes : AreChangesOf made steps
-  pub own : (index : ℕ) → IfSome (slice_get made index) (λ one. one.0.seat ≡ cpu)
+  pub own : AllOf (λ one. one.0.seat ≡ cpu) made
 
 -- the command isn't answered without the lock, and what was tried left the part `seen`
 abbrev pub NeedsLock : Command → (before seen : KnownCpu) → Type 0
