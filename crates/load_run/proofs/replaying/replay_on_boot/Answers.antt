@@ -7,7 +7,7 @@ use Rattle.mem_history.proofs.Deciding.{legal_front}
 use Rattle.script_replay.specs.History.{past, steps_of}
 use Rattle.script_replay.specs.Lines.{HasRun, SystemState, system_state}
 use Rattle.script_replay.specs.Terms.{form_terms}
-use Rattle.script_replay.proofs.GoingOn.{all_lines_go_on, legal_histories_keep_it}
+use Rattle.script_replay.proofs.Seeing.{all_lines_go_on, legal_histories_keep_it}
 use Rattle.load_run.specs.Ending.{EndsHeld, boot_end_text}
 use Rattle.std.proofs.lemmas.Result.{IfOk-at_ok, IfOk-weaker}
 use Rattle.load_run.proofs.Starting.{boot_agrees, boot_shown, given_back, lent_parts, lent_so_far, lines_there, new_state, parts_tied}
