@@ -1,6 +1,6 @@
-//! Measures calls of the crates, in nanoseconds and in units. A unit is a pair of `get` and `put` of a frame by one
-//! thread, measured in the same run. Each word on the command line names a table. Without words each row is run at
-//! most a few times and only its name is printed, so that the stored run never varies.
+//! Measures calls of the crates, in nanoseconds and in units. A unit is a pair of `get` and `put` of a frame by a CPU,
+//! measured in the same run. Each word on the command line names a table. Without words each row is run at most a few
+//! times and only its name is printed, so that the stored run never varies.
 #![tactic(auto)]
 
 mod costs;
@@ -10,7 +10,8 @@ mod system;
 mod tables;
 
 use crate::costs::Pace;
-use crate::tables::{TABLES, print_table, table_named};
+use crate::system::print_system;
+use crate::tables::{TABLES, table_named};
 use anyhow::Result;
 use std::alloc::Global;
 use std::env;
@@ -30,7 +31,7 @@ fn main(rt: HostRuntime) -> Result<()> {
 // Runs the rows of all tables, and prints their names.
 fn run_all<R: Threads + Wait + Print + Clock + Alloc<A = Global> + Sync>(rt: &R) -> Result<()> {
     for (_, table) in TABLES {
-        print_table(rt, table, Pace::Quick)?;
+        print_system(rt, Pace::Quick, table)?;
     }
     Ok(())
 }
@@ -43,7 +44,7 @@ fn print_named<R: Threads + Wait + Print + Clock + Alloc<A = Global> + Sync>(
     let unit = references::measure_unit(rt)?;
     for word in words {
         match table_named(word.as_str()) {
-            Some(table) => print_table(rt, table, Pace::Timed { unit })?,
+            Some(table) => print_system(rt, Pace::Timed { unit }, table)?,
             None => println!(rt; "{word}: no table; there are prepaid and system")?,
         }
     }

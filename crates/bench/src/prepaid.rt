@@ -1,52 +1,16 @@
-//! Prepaid pages: a pair of `consume` and `credit` on a stock's word, and rounds of `alloc_fast` and `drop_fresh`.
-//! The rounds are those of CPUs, each in its own thread, with or without visits between them.
-ghost use Rattle.std.specs.Prelude.{◌≡◌, ◌<◌};
-ghost use Rattle.stock_word.specs.Stock.{IsCpuView};
+//! Prepaid pages: rounds of `alloc_fast` and `drop_fresh`. The rounds are those of CPUs, each in its own thread, with or
+//! without visits between them.
 
-use crate::costs::{Pace, Row, Subject, print_rows};
+use crate::costs::{Pace, Row};
 use crate::system::{alloc, settle};
 use anyhow::{Context, Result, ensure};
 use cpu_part::{BootName, Fast, Tables};
 use group_tree::group::GroupId;
 use mem_system::{Cpu, System};
-use std::alloc::Global;
 use std::sync::Wait;
 use std::thread;
 use std::thread::Threads;
 use std::time::{Clock, Duration, Instant};
-use stock_word::{Consume, Credit, StockSeat, StockWords};
-
-// A CPU's seat, whose stock is filled.
-#[derive(Drop)]
-struct Payer {
-    words: StockWords,
-    seat: StockSeat,
-    ghost seated: { seat.table ≡ words.table },
-    ghost cpu: { IsCpuView words seat.view },
-}
-
-impl Payer {
-    fn new(alloc: Global) -> Result<Payer> {
-        let (words, mut machine, mut seats) = StockWords::new(alloc, 1)?;
-        let mut seat = seats.pop().context("no seat")?;
-        words.fill(&mut machine, &mut seat, 1, 50);
-        Ok(Payer { words, seat })
-    }
-}
-
-impl<R> Subject<R> for Payer {
-    fn call(&mut self, _rt: &R, _number: u32) -> bool {
-        self.words.consume(&mut self.seat, 1) == Consume::Took
-            && self.words.credit(&mut self.seat) == Credit::Stocked
-    }
-}
-
-/// Measures a pair on the word of a stock.
-pub fn print_words<R: Print + Clock + Alloc<A = Global>>(rt: &R, pace: Pace) -> Result<()> {
-    let mut payer = Payer::new(rt.alloc())?;
-    let row = Row::new("consume and credit", 0, 1_000_000, 1);
-    print_rows(rt, pace, 10, &mut [row], &mut payer)
-}
 
 // Rounds that take the front of the list and drop it: `count` of them. If `visit_every` isn't 0, one round in so many
 // has a visit.

@@ -16,8 +16,8 @@ use std::thread::Threads;
 use std::time::Clock;
 use zone_blocks::config::Config;
 
-// The sizes of the system on which calls are measured.
-const SIZES: Config = Config {
+/// The sizes of the system on which calls are measured.
+pub const SIZES: Config = Config {
     frames: 1_024,
     cpus: 4,
     batch: 4,
@@ -98,8 +98,12 @@ fn make<N: BootName, R: Wait>(
     }
 }
 
-// Makes the group of depth 8 with those above it, and then the group of depth 1. Returns the latter.
-fn make_all<N: BootName, R: Wait>(rt: &R, system: &System<N>, cpu: &mut Cpu<N>) -> Result<GroupId> {
+/// Makes the group of depth 8 with those above it, and then the group of depth 1. Returns the latter.
+pub fn make_all<N: BootName, R: Wait>(
+    rt: &R,
+    system: &System<N>,
+    cpu: &mut Cpu<N>,
+) -> Result<GroupId> {
     for path in PATHS {
         make(rt, system, cpu, path)?;
     }
@@ -259,8 +263,8 @@ fn print_on<N: BootName + Send + Sync, R: Threads + Wait + Print + Clock + Sync>
     }
 }
 
-// Shuts the system down, in which no CPU has a pin.
-fn end<N: BootName, R: Wait>(rt: &R, mut system: System<N>, mut cpus: Vec<Cpu<N>>)
+/// Shuts the system down, in which no CPU has a pin.
+pub fn end<N: BootName, R: Wait>(rt: &R, mut system: System<N>, mut cpus: Vec<Cpu<N>>)
     requires { length cpus.items ≡ N.frames.cpus }
 {
     for _ in rt.forever() {

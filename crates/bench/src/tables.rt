@@ -1,14 +1,5 @@
 //! The tables of rows that can be measured.
 
-use crate::costs::Pace;
-use crate::prepaid::print_words;
-use crate::system::print_system;
-use anyhow::Result;
-use std::alloc::Global;
-use std::sync::Wait;
-use std::thread::Threads;
-use std::time::Clock;
-
 /// A table of rows.
 #[derive(Clone, Copy)]
 pub enum Table {
@@ -29,19 +20,4 @@ pub fn table_named(name: &str) -> Option<Table> {
         }
     }
     None
-}
-
-/// Measures a table.
-pub fn print_table<R: Threads + Wait + Print + Clock + Alloc<A = Global> + Sync>(
-    rt: &R,
-    table: Table,
-    pace: Pace,
-) -> Result<()> {
-    match table {
-        Table::Prepaid => {
-            print_words(rt, pace)?;
-            print_system(rt, pace, table)
-        }
-        Table::System => print_system(rt, pace, table),
-    }
 }

@@ -101,9 +101,10 @@ impl BootWords {
         ensures lent { IsLentToNone zone.old frame ⊎ IsLent zone.old frame (seat_number cpu.old) }
         ensures run { MakesStep self.now held.old 0 (step.Collect frame (seat_number cpu.old)) Done held.new }
     {
+        let marked = Word::OfFrame(frame);
         self.join(&mut held.raw, &mut zone.raw);
         self.join(&mut held.raw, &mut cpu.raw);
-        self.store::<Brand>(&mut held.raw, Word::OfFrame(frame), 0);
+        self.store::<Brand>(&mut held.raw, marked, 0);
         cpu.raw = self.split_last(&mut held.raw);
         zone.raw = self.split_last(&mut held.raw);
     }

@@ -1,4 +1,4 @@
--- Serves every step of `kinds` and the laws. Which case of the rule a frame is in after each kind of step: w, r and h are its word,
+-- Serves every kind of step and the laws. Which case of the rule a frame is in after each kind of step: w, r and h are its word,
 -- references and hands, and k and o are what one view has of the last two.
 use Rattle.std.proofs.Common.{◌≡◌, ◌⊎◌, ℕ, ◌<◌, ◌≤◌, sym, subst, inl, inr, arith}
 use Rattle.frame_word.specs.ReferenceRule.{IsReferenced, IsInOneHand, IsPassing}

@@ -1,4 +1,4 @@
--- Serves `close`. The table at the end: one seat has all views, and the rule speaks of these alone.
+-- Serves the end of the table of `boot_words`. The table at the end: one seat has all views, and the rule speaks of these alone.
 use Rattle.std.proofs.Common.{◌≡◌, ℕ, List, [], ◌∷◌, length, map, refl, ap, subst, arith}
 use Rattle.atomic_table.specs.Table.{Final, Seen}
 use Rattle.frame_word.specs.Totals.{sum_over}

@@ -6,7 +6,6 @@ pub mod ShortSteps
 pub mod Alone
 pub mod HandOvers
 pub mod Joined
-pub mod Seating
 pub mod Opening
 pub mod Ending
 pub mod CallerLemmas

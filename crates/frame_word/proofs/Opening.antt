@@ -1,17 +1,16 @@
--- Serves `new` and `deal`. The table at the start: the rule holds of it, and the seats are dealt one by one.
-use Rattle.std.proofs.Common.{◌≡◌, ◌≢◌, ℕ, zero, suc, ◌+◌, ◌-◌, ◌<◌, ◌≤◌, Bool, true, false, cond, List, [], ◌∷◌, ◌++◌, length, get_or, replicate}
+-- Serves the table of `boot_words`. At the start the rule holds of the words, which are 0, and of the first views.
+use Rattle.std.proofs.Common.{◌≡◌, ◌≢◌, ℕ, zero, suc, ◌+◌, ◌-◌, ◌<◌, ◌≤◌, Bool, true, false, cond, List, [], ◌∷◌, get_or, replicate}
 use Rattle.std.proofs.Common.{sym, refl, ap, ◌∙◌, inl, inr, arith, eqb}
 use mathlib.Core.Logic.{dite}
 use native.Mathlib.Decide.{ℕ_discrete}
 use Rattle.std.proofs.lemmas.List.{length-replicate, get_or-replicate}
-use Rattle.atomic_table.specs.Seated.{TableId}
 use Rattle.frame_word.specs.Totals.{sum_over, total_over}
 use Rattle.frame_word.specs.declared.view.FrameNote.{FrameNote}
 use Rattle.frame_word.specs.declared.view.FrameView.{FrameView}
 use Rattle.frame_word.specs.Views.{blank, note_of, in_hands, lent_count}
 use Rattle.frame_word.specs.ReferenceRule.{only, visit_index, references_in, hands_in, begun_in, ended_in, lent_in, lent_number, borrowed_in}
 use Rattle.frame_word.specs.ReferenceRule.{opened_in, ReferenceRule}
-use Rattle.frame_word.specs.Seats.{KnownTable, first_zone_view, first_cpu_view, cpu_views, first_cpu_seats, AreCpuSeats}
+use Rattle.frame_word.specs.Seats.{first_zone_view, first_cpu_view, cpu_views}
 use Rattle.frame_word.specs.Kinds.{first_views}
 use Rattle.frame_word.proofs.Notes.{only_here, only_else, marked_else, lent_no}
 
@@ -99,22 +98,3 @@ module _ (frames cpus : ℕ) where
           shut = λ none f lt is. let v : get_or words f 0 ≡ 0 = get_or-replicate (frames + cpus) f 0 0 (omega arith) in absurd (omega arith);
         };
   }
-
--- the views that are left after i CPUs were dealt
-pub views_next : (i n : ℕ) → i < n → cpu_views (i + 1) (n - i) ≡ first_cpu_view (i + 1) ∷ cpu_views ((i + 1) + 1) (n - (i + 1))
-views_next i n lt = ap (cpu_views (i + 1)) (let e : n - i ≡ suc (n - (i + 1)) = omega arith in e)
-
-seats_more : (id : TableId) (p n : ℕ) → first_cpu_seats id p (suc n) ≡ first_cpu_seats id p n ++ record { table = id; view = first_cpu_view (p + n) } ∷ []
-seats_more id p zero = ap (λ (m : ℕ). record { table = id; view = first_cpu_view m } ∷ []) (let e : p ≡ p + 0 = omega arith in e)
-seats_more id p (suc n) = ap (λ l. record { table = id; view = first_cpu_view p } ∷ l)
-    (seats_more id (p + 1) n ∙ ap (λ (m : ℕ). first_cpu_seats id (p + 1) n ++ record { table = id; view = first_cpu_view m } ∷ [])
-    (let e : (p + 1) + n ≡ p + suc n = omega arith in e))
-
-pub seats_next : (id : TableId) (i : ℕ) → first_cpu_seats id 1 (i + 1) ≡ first_cpu_seats id 1 i ++ record { table = id; view = first_cpu_view (i + 1) } ∷ []
-seats_next id i = ap (first_cpu_seats id 1) (let e : i + 1 ≡ suc i = omega arith in e) ∙ seats_more id 1 i
-    ∙ ap (λ (m : ℕ). first_cpu_seats id 1 i ++ record { table = id; view = first_cpu_view m } ∷ []) (let e : 1 + i ≡ i + 1 = omega arith in e)
-
--- they are numbered in order
-pub seats_numbered : (t : KnownTable) (p n : ℕ) → (length (first_cpu_seats t.table p n) ≡ n) × AreCpuSeats t p (first_cpu_seats t.table p n)
-seats_numbered t p zero = (refl, tt)
-seats_numbered t p (suc n) = let more = seats_numbered t (p + 1) n in (ap suc more.0, (refl, refl, more.1))

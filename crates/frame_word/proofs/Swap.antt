@@ -1,4 +1,4 @@
--- Serves every step of `kinds`, `split_others`, `join_raw` and `close`. One view of one seat is replaced, by one with another note of one frame: how the rule goes on.
+-- Serves every kind of step, and splits and joins of seats. One view of one seat is replaced, by one with another note of one frame: how the rule goes on.
 use Rattle.std.proofs.Common.{◌≡◌, ◌≢◌, ◌⊎◌, ℕ, suc, ◌+◌, ◌<◌, ◌≤◌, List, length, get_or, set, sym, refl, ap, ◌∙◌, subst, arith, length-set}
 use Rattle.std.proofs.Common.{get_or-set_other, get_or-set_same}
 use mathlib.Core.Option.{some}

@@ -1,7 +1,6 @@
--- The table of kinds: what each atomic step learns of the word that it found, and how it changes the seat's view. It is
--- a definition, read as one with `src/kinds.rt`, which has one function for each kind and lets no other file make a
--- step. A seat's views are a list: its own view alone, or the zone's view and then a CPU's while the two seats are
--- joined.
+-- The table of kinds: what each atomic step learns of the word that it found, and how it changes the seat's view.
+-- `boot_words` has one function for each kind. A seat's views are a list: its own view alone, or the zone's view and then
+-- a CPU's while the two seats are joined.
 use Rattle.std.specs.Prelude.{◌≡◌, ◌≢◌, ◌⊎◌, ℕ, ◌+◌, ◌-◌, ◌<◌, ◌≤◌, List, [], ◌∷◌}
 use Rattle.atomic_table.specs.Table.{State, Step, Me, Final, Seen}
 use Rattle.frame_word.specs.declared.view.FrameView.{FrameView}
@@ -14,11 +13,6 @@ use Rattle.frame_word.specs.Seats.{first_zone_view, first_cpu_view, cpu_views}
 -- the views of all seats: at first one seat has them all, and the others are split off
 abbrev pub first_views : ℕ → ℕ → List FrameView
 first_views frames cpus = first_zone_view frames ∷ cpu_views 1 cpus
-
--- what a seat keeps if all its views except the first are split off
-abbrev pub first_alone : List FrameView → List FrameView
-first_alone [] = []
-first_alone (v ∷ vs) = v ∷ []
 
 -- what is split off: the views after the first
 abbrev pub but_first : List FrameView → List FrameView

@@ -2,6 +2,5 @@ pub mod Views
 pub mod ReferenceRule
 pub mod Seats
 pub mod Kinds
-pub mod Sitting
 pub mod Laws
 pub mod Totals

@@ -158,21 +158,6 @@ abbrev pub cpu_views : ℕ → ℕ → List FrameView
 cpu_views cpu zero = []
 cpu_views cpu (suc n) = first_cpu_view cpu ∷ cpu_views (cpu + 1) n
 
--- the first seats of n CPUs, from this number on
-abbrev pub first_cpu_seats : TableId → ℕ → ℕ → List KnownSeat
-first_cpu_seats id cpu zero = []
-first_cpu_seats id cpu (suc n) = record { table = id; view = first_cpu_view cpu } ∷ first_cpu_seats id (cpu + 1) n
-
--- these are seats at the table, with the numbers from this one on
-abbrev pub AreCpuSeats : KnownTable → ℕ → List KnownSeat → Type 0
-AreCpuSeats t cpu [] = Unit {0}
-AreCpuSeats t cpu (s ∷ rest) = (s.table ≡ t.table) × (seat_number s ≡ cpu) × AreCpuSeats t (cpu + 1) rest
-
--- these are seats at the table
-abbrev pub AreSeatsAt : TableId → List KnownSeat → Type 0
-AreSeatsAt id [] = Unit {0}
-AreSeatsAt id (s ∷ rest) = (s.table ≡ id) × AreSeatsAt id rest
-
 -- what the seat knows
 abbrev pub view_of : KnownSeat → FrameView
 view_of s = s.view

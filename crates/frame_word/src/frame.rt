@@ -1,7 +1,7 @@
 //! The number of a frame.
 use std::marker::Model;
 
-/// A frame's number, from 0 up. `FrameWords::frame` makes it.
+/// A frame's number, from 0 up. `BootWords::frame` (`boot_words`) makes it.
 #[derive(Clone, Copy, PartialEq, Eq, Debug)]
 pub struct Frame {
     number: u32,
@@ -32,13 +32,5 @@ impl Frame {
         ensures { result ≡ self }
     {
         self.number
-    }
-
-    /// The index of the frame's word in the table: the frame's number.
-    pub(crate) fn word_index(self) -> usize
-        ensures { result ≡ self }
-    {
-        let Frame { number } = self;
-        number as usize
     }
 }

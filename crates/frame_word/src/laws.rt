@@ -1,4 +1,4 @@
-//! Laws that follow from the reference rule, which `close` ensures.
+//! Laws that follow from the reference rule.
 ghost use Rattle.frame_word.specs.Laws.{NoFrameInTwoHands, OwnHandIsNotLent, WordsCountReferences};
 
 /// Law: no frame is in two hands.

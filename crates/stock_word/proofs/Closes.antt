@@ -1,4 +1,4 @@
--- What is true of the words of a table of which one seat has all views. Serves close.
+-- What is true of the words of a table of which one seat has all views. Serves the end of the table of `boot_words`.
 use Rattle.std.proofs.Common.{◌≡◌, ℕ, zero, suc, ◌+◌, ◌-◌, ◌<◌, ◌≤◌, List, [], ◌∷◌, length, refl, ap, sym, ◌∙◌, subst, arith}
 use mathlib.Core.Option.{some}
 use mathlib.Core.Logic.{dite}

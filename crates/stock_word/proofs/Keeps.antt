@@ -1,14 +1,12 @@
 -- How the rule follows from what one step leaves of one CPU's words. Serves the steps of Steps.antt.
-use Rattle.std.proofs.Common.{◌≡◌, ◌≢◌, ℕ, ◌+◌, ◌*◌, ◌<◌, ◌≤◌, List, [], ◌∷◌, ◌++◌, set, length, refl, ap, sym, ◌∙◌, subst, arith}
+use Rattle.std.proofs.Common.{◌≡◌, ◌≢◌, ℕ, ◌+◌, ◌*◌, ◌<◌, ◌≤◌, List, [], ◌∷◌, set, length, refl, ap, sym, ◌∙◌, subst, arith}
 use Rattle.std.specs.Prelude.{slice_index}
 use Rattle.std.proofs.lemmas.List.{get_or-set_same, get_or-set_other, length-set}
 use mathlib.Core.Option.{some}
 use mathlib.Core.Logic.{dite}
 use native.Mathlib.Decide.{ℕ_discrete}
 use lib.ListN.{get_elem?}
-use Rattle.atomic_table.specs.Table.{Splits, Joins}
-use Rattle.frame_word.specs.Totals.{sum_over, SameTotals, join_of}
-use Rattle.frame_word.proofs.Totals.{total_set, total_more, join_totals}
+use Rattle.frame_word.specs.Totals.{sum_over, SameTotals}
 use Rattle.stock_word.specs.declared.view.StockAccount.{StockAccount}
 use Rattle.stock_word.specs.declared.view.StockView.{StockView}
 use Rattle.stock_word.specs.Stock.{account_of}
@@ -217,17 +215,3 @@ same_keeps cpus words before after same rule = record {
   no_more = same (λ (v : StockView). 1) ∙ rule.no_more;
   each = λ q low high. let h = rule.each q low high in record { view = h.view; only = same_only before after same q h.view h.only; stock = h.stock };
 }
-
--- a seat's views are cut in two
-pub split_keeps : {S : Type 0} (cpus id : ℕ) (old left right : List StockView) → ((f : StockView → ℕ) → sum_over f left + sum_over f right ≡ sum_over f old)
-    → Splits {S = S} (λ s. StockRule cpus s.words s.views) id old left right
-split_keeps cpus id old left right cut s rule at = same_keeps cpus s.words s.views (set s.views id left ++ right ∷ []) (λ f.
-    let a = total_more f (set s.views id left) right in
-    let b = total_set f s.views id old left at in
-    let c = cut f in omega arith) rule
-
--- a seat takes in the views of another
-pub join_keeps : {S : Type 0} (cpus id other : ℕ) (views taken : List StockView)
-    → Joins {S = S} (λ s. StockRule cpus s.words s.views) id views other taken (views ++ taken) []
-join_keeps cpus id other views taken s rule at apart there =
-    same_keeps cpus s.words s.views (join_of s.views id views other taken) (join_totals s.views id other views taken at there) rule

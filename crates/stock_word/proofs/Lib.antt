@@ -7,6 +7,4 @@ pub mod Steps
 pub mod Told
 pub mod Deals
 pub mod Opens
-pub mod Gathers
 pub mod Closes
-pub mod RawSeats

@@ -1,10 +1,8 @@
 -- The rule at first (serves new), and a word of the closed list (serves the readers of ClosedWords).
-use Rattle.std.proofs.Common.{◌≡◌, ℕ, zero, suc, ◌+◌, ◌*◌, ◌<◌, ◌≤◌, List, [], ◌∷◌, replicate, length, get_or, refl, ap, sym, inl, subst, arith}
+use Rattle.std.proofs.Common.{◌≡◌, ℕ, zero, suc, ◌+◌, ◌*◌, ◌<◌, ◌≤◌, [], ◌∷◌, replicate, length, get_or, refl, ap, sym, inl, subst, arith}
 use Rattle.std.specs.Prelude.{slice_index}
-use mathlib.Core.Option.{some, some-injective, some-ne-none}
 use mathlib.Core.Logic.{dite}
 use native.Mathlib.Decide.{ℕ_discrete}
-use lib.ListN.{get_elem?}
 use Rattle.frame_word.specs.Totals.{sum_over}
 use Rattle.stock_word.specs.declared.view.Stock.TheVariants.{NoGroup}
 use Rattle.stock_word.specs.declared.view.StockView.{StockView}
@@ -66,11 +64,3 @@ opens_at cpus = record {
         (subst (λ y. IsStock 0 y no_account (first_cpu_stock_view p)) (sym (zeros (16 * (cpus + 1)) (report_index p))) (no_stock p));
   });
 }
-
-pub opens : (cpus : ℕ) (words : List ℕ) → words ≡ replicate (16 * (cpus + 1)) 0 → StockRule cpus words ((first_zone_stock_view ∷ first_cpu_stock_views 1 cpus) ∷ [])
-opens cpus words is = subst (λ (w : List ℕ). StockRule cpus w ((first_zone_stock_view ∷ first_cpu_stock_views 1 cpus) ∷ [])) (sym is) (opens_at cpus)
-
-pub index_is : (words : List ℕ) (k n : ℕ) → get_elem? words k ≡ some n → slice_index words k ≡ n
-index_is [] k n e = absurd (some-ne-none n (sym e))
-index_is (x ∷ words) zero n e = some-injective x n e
-index_is (x ∷ words) (suc k) n e = index_is words k n e

@@ -1,4 +1,4 @@
--- Each step keeps the rule, and tells what its kind says. Serves the functions of kinds.rt.
+-- Each step keeps the rule, and tells what its kind says. Serves the steps of `boot_words`.
 use Rattle.std.proofs.Common.{◌≡◌, ◌≢◌, ℕ, ◌+◌, ◌-◌, ◌*◌, ◌%◌, ◌^◌, ◌<◌, ◌≤◌, eqb, false, true, List, [], ◌∷◌, Some, set, refl, ap, sym, ◌∙◌, subst, arith}
 use Rattle.std.specs.Prelude.{slice_index}
 use mathlib.Core.Option.{some, none}
@@ -6,13 +6,12 @@ use mathlib.Core.Logic.{dite}
 use native.Mathlib.Decide.{ℕ_discrete}
 use lib.ListN.{get_elem?}
 use prog.Atomic.{either}
-use Rattle.atomic_table.specs.Table.{State, Me, Act, keeps, step, stepped, Valid, carried_after, Allows, Splits}
-use Rattle.frame_word.specs.Totals.{sum_over}
+use Rattle.atomic_table.specs.Table.{State, Me, Act, keeps, step, stepped, Valid, carried_after, Allows}
 use Rattle.atomic_table.proofs.Lists.{exchanged}
 use Rattle.stock_word.specs.declared.view.Stock.TheVariants.{HeldBy, DrainedOf}
 use Rattle.stock_word.specs.declared.view.StockAccount.{StockAccount}
 use Rattle.stock_word.specs.declared.view.StockView.{StockView}
-use Rattle.stock_word.specs.Stock.{word_of, stock_pages_of, group_of, account_of, with_account, first_stock_view, without_second, second_alone}
+use Rattle.stock_word.specs.Stock.{word_of, stock_pages_of, group_of, account_of, with_account, first_stock_view}
 use Rattle.stock_word.specs.StockRule.{stock_index, report_index, IsStock, StockRule}
 use Rattle.stock_word.specs.Kinds.{after_took, after_back, after_drained, after_report, zone_after_report}
 use Rattle.stock_word.specs.Kinds.{zone_after_fill}
@@ -25,7 +24,7 @@ use Rattle.stock_word.proofs.Stocks.{left_of, took, back, now_drained, sees_drai
 use Rattle.stock_word.proofs.Stocks.{filled, drained, drained_none, of_some_group, absorbed}
 use Rattle.stock_word.proofs.CallerLemmas.{account_of-with_account, account_of-with_account_other}
 use Rattle.stock_word.proofs.Keeps.{leaves_stock, leaves_report, cpu_stock, cpu_keeps, zone_stock, zone_keeps}
-use Rattle.stock_word.proofs.Keeps.{joined_stock, joined_keeps, split_keeps}
+use Rattle.stock_word.proofs.Keeps.{joined_stock, joined_keeps}
 
 same_stock_index : (p q : ℕ) → stock_index p ≡ stock_index q → p ≡ q
 same_stock_index p q e = omega (arith, e)
@@ -629,15 +628,3 @@ consuming_held_allowed {S} cpus slots id me m v g is zeroth low high group more 
     (consuming_held_allowed_at cpus slots id m v zeroth low high g group more))
 
 -- ---- splits and joins
-
-pub nothing_split : {S : Type 0} (cpus id : ℕ) (old : List StockView) → Splits {S = S} (λ s. StockRule cpus s.words s.views) id old old []
-nothing_split cpus id old = split_keeps cpus id old old [] (λ f. omega arith)
-
-pub second_split : {S : Type 0} (cpus id : ℕ) (old : List StockView)
-    → Splits {S = S} (λ s. StockRule cpus s.words s.views) id old (without_second old) (second_alone old)
-second_split cpus id old = split_keeps cpus id old (without_second old) (second_alone old) (second_apart old)
-  where
-    second_apart : (views : List StockView) (f : StockView → ℕ) → sum_over f (without_second views) + sum_over f (second_alone views) ≡ sum_over f views
-    second_apart [] f = refl
-    second_apart (v ∷ []) f = omega arith
-    second_apart (v ∷ w ∷ views) f = omega arith

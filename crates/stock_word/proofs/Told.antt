@@ -5,14 +5,9 @@ use native.Mathlib.Decide.{ℕ_discrete}
 use Rattle.stock_word.specs.declared.view.Stock.{Stock}
 use Rattle.stock_word.specs.declared.view.Stock.TheVariants.{NoGroup, HeldBy, DrainedOf}
 use Rattle.stock_word.specs.declared.view.StockView.{StockView}
-use Rattle.stock_word.specs.Stock.{KnownStockSeat, KnownRawSeat, word_of, HasWord, stock_pages_of, is_held, group_of, account_of, first_stock_view}
+use Rattle.stock_word.specs.Stock.{word_of, HasWord, stock_pages_of, is_held, group_of, account_of}
 use Rattle.stock_word.specs.Kinds.{DrainsWord, DrainsNone, LooksAt, with_steps, zone_after_drain}
-use Rattle.stock_word.specs.Calls.{with_view, after_look, steps_of_drain}
-
--- the seat that the caller has afterwards
-pub seat_after : (index : KnownRawSeat) (before : KnownStockSeat) (u : StockView) → index.table ≡ before.table → first_stock_view index.views ≡ u
-    → record { table = index.table; view = first_stock_view index.views } ≡ with_view before u
-seat_after index before u table_is same = λ i. record { table = table_is i; view = same i }
+use Rattle.stock_word.specs.Calls.{after_look, steps_of_drain}
 
 -- ---- drain
 

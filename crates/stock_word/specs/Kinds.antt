@@ -1,6 +1,6 @@
--- The kinds of atomic step. This file and src/kinds.rt are the table of kinds, a definition to be read as one. Each
--- kind is a relation of the index of the word, the word before and after, and the views before and after of the seats
--- that make the step. A step changes one word and the views of its own seats. What isn't named here is unchanged.
+-- The kinds of atomic step. `boot_words` has one function for each. A kind is a relation of the index of the word, the
+-- word before and after, and the views before and after of the seats that make the step. A step changes one word and the
+-- views of its own seats. What isn't named here is unchanged.
 use Rattle.std.specs.Prelude.{◌≡◌, ◌≢◌, ℕ, ◌+◌, ◌-◌, ◌<◌, ◌≤◌, ◌⊎◌, false, true, List, [], ◌∷◌, Some, None}
 use mathlib.Core.Option.{some}
 use lib.ListN.{get_elem?}
@@ -174,15 +174,7 @@ pub record Absorbs (cpu index before after : ℕ) (z z' : StockView) : Type 0 wh
   pub bounded : (account_of z cpu).book < 65536
   pub zone_after : z' ≡ with_steps 1 (zone_after_absorb z cpu)
 
--- ---- the views of a raw seat, and the end
-
--- a raw seat has one view
-abbrev pub IsAlone : List StockView → Type 0
-IsAlone views = views ≡ first_stock_view views ∷ []
-
--- the zone's raw seat has taken in a CPU's: it has its own view, then that one
-abbrev pub IsPair : List StockView → Type 0
-IsPair views = views ≡ first_stock_view views ∷ second_stock_view views ∷ []
+-- ---- the end
 
 -- the final words of a table of which one seat has these views: the rule holds of them and of all seats' views
 abbrev pub AreFinalStockWords : ℕ → List ℕ → List StockView → Type 0

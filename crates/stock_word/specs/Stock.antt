@@ -66,15 +66,6 @@ pub record KnownStockSeat : Type 0 where
   pub table : TableId
   pub view : StockView
 
--- a table of 16 words for each of 1 to 64 CPUs, and a row before theirs, with no slot
-abbrev pub IsSized : TableId → ℕ → Type 0
-IsSized table cpus = (table.words ≡ 16 * (cpus + 1)) × (table.slots ≡ 0) × (1 ≤ cpus) × (cpus ≤ 64)
-
--- a raw seat as contracts see it: which table, and the views that it has: one, two if it is joined, none if it is empty
-pub record KnownRawSeat : Type 0 where
-  pub table : TableId
-  pub views : List StockView
-
 -- the zone's account of the CPU
 abbrev pub account_of : StockView → ℕ → StockAccount
 account_of zone cpu = stock_account_at zone.accounts cpu
@@ -96,33 +87,10 @@ pub record KnownStockTable : Type 0 where
   pub table : TableId
   pub cpus : ℕ
 
--- the views left at joined seats if the second is split off
-abbrev pub without_second : List StockView → List StockView
-without_second [] = []
-without_second (v ∷ []) = v ∷ []
-without_second (v ∷ w ∷ views) = v ∷ views
-
--- the second view alone, for the seat that is split off; none if there is no second
-abbrev pub second_alone : List StockView → List StockView
-second_alone [] = []
-second_alone (v ∷ []) = []
-second_alone (v ∷ w ∷ views) = w ∷ []
-
 -- the CPUs' views at first: `count` of them, from this number on
 abbrev pub first_cpu_stock_views : ℕ → ℕ → List StockView
 first_cpu_stock_views cpu zero = []
 first_cpu_stock_views cpu (suc count) = first_cpu_stock_view cpu ∷ first_cpu_stock_views (cpu + 1) count
-
--- the CPUs' seats at first: `count` of them, from this number on
-abbrev pub first_seats : TableId → ℕ → ℕ → List KnownStockSeat
-first_seats table cpu zero = []
-first_seats table cpu (suc count) = record { table = table; view = first_cpu_stock_view cpu }
-    ∷ first_seats table (cpu + 1) count
-
--- the seats are all of this table
-abbrev pub AreOf : TableId → List KnownStockSeat → Type 0
-AreOf table [] = Unit {0}
-AreOf table (seat ∷ seats) = (seat.table ≡ table) × AreOf table seats
 
 -- the view of the seat at index k of a list
 abbrev pub view_in : List KnownStockSeat → ℕ → StockView

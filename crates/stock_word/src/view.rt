@@ -2,7 +2,7 @@
 use std::collections::LinkedList;
 
 // This word and any above it is that of a drained stock.
-pub(crate) const DRAINED: u64 = 1 << 32;
+const DRAINED: u64 = 1 << 32;
 
 /// What a CPU has prepaid. Groups are numbers from 0 to 63.
 #[derive(Clone, Copy, Debug, PartialEq, Eq)]

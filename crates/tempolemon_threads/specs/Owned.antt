@@ -1,18 +1,18 @@
 -- What a pointer to a home owns.
 use Rattle.std.specs.Prelude.{Option, None, Some}
+use mathlib.Core.Path.{refl}
 use base.Fml.{Fml, ftrue}
 use base.Stored.{Coded}
 use denote.RattleType.{RattleType}
 use denote.RawPtr.{Ptr}
 use Rattle.std.specs.Box.Ownership.{box_owns}
-use Rattle.std.specs.Coded.{coded_option}
+use Rattle.std.specs.Coded.{coded_option, code_by}
 use Rattle.std.specs.Global.{Global}
 use Rattle.core.specs.contracts.marker.Brand as Brand
 use Rattle.std_heap.specs.contracts.GlobalAllocator.TheImpl.{ghosts}
 use Rattle.boot_words.specs.contracts.raw.BootWords as BootWords
 use Rattle.frame_word.specs.Seats.{KnownTable}
 use Rattle.stock_word.specs.Stock.{KnownStockTable}
-use Rattle.stock_word.specs.contracts.kinds.StockWords as StockWords
 use Rattle.zone_threads.specs.Homes.{KnownHome}
 use Rattle.zone_threads.specs.contracts.home.Home as Home
 use Rattle.zone_threads.specs.declared.home.Home as Known
@@ -21,9 +21,10 @@ use Rattle.zone_threads.specs.declared.home.Home as Known
 abbrev pub frames_coded : Coded KnownTable
 frames_coded = BootWords.the_row.coded
 
--- how a table of stocks is stored
+-- how the stocks of a table are stored: as a table without frames
 abbrev pub stocks_coded : Coded KnownStockTable
-stocks_coded = StockWords.the_row.coded
+stocks_coded = code_by KnownTable frames_coded (λ s. record { table = s.table; frames = 0; cpus = s.cpus })
+    (λ t. record { table = t.table; cpus = t.cpus }) (λ s. refl)
 
 -- the type that stands for a name in a type of C
 abbrev pub brand : RattleType

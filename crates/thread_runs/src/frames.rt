@@ -1,157 +1,352 @@
-//! Worked rows on a frame's word: the answers when calls of two seats meet, which no clause gives.
-ghost use Rattle.std.specs.Prelude.{◌≡◌, ◌<◌};
-ghost use Rattle.frame_word.specs.Seats.{IsZoneSeat, first_cpu_view, first_zone_view};
+//! Worked rows on a frame's word, by the zone and the CPUs of a system: the answers when their calls meet, which no
+//! clause gives.
+ghost use Rattle.std.specs.Prelude.{◌≡◌, ◌<◌, length};
 
+use crate::parts::{
+    PATH, allocates, answers, ends, frame_of, makes_group, pin, pin_and_unpin, releases, settles,
+    unpin,
+};
 use crate::rows::same;
-use frame_word::{Frame, FrameSeat, FrameWords, Get, Put};
+use crate::systems::TWO_CPUS;
+use cpu_part::{BootName, Tables};
+use frame_word::{Frame, Get, Put};
+use group_tree::fault::Fault;
+use mem_system::{Audit, Boot, Cmd, Cpu, Reply, System, boot};
 use std::alloc::Global;
+use std::marker::Brand;
 use std::process::Abort;
+use std::sync::Wait;
 use std::thread::{Threads, join};
+use zone_blocks::config::Config;
 
-// The trials on frame 3 of eight, by the zone's seat and a CPU's.
-enum FrameTrial {
-    FullReferences,
-    FreezeTooEarly,
-    PutByBoth,
+// A list has one frame, and a stock one page.
+const SINGLE: Config = Config {
+    batch: 1,
+    high: 1,
+    stock: 1,
+    ..TWO_CPUS
+};
+
+// CPU 1 makes group 1 and allocates frame 0 for it, on which the zone then has the only reference.
+fn uses_frame_0<N: BootName, R: Wait + Abort>(rt: &R, system: &System<N>, cpu: &mut Cpu<N>) -> Frame
+    ensures { result < N.frames.frames }
+{
+    let frame = frame_of(rt, system.tables(), 0);
+    makes_group(rt, system, cpu);
+    allocates(rt, system, cpu, frame);
+    settles(rt, system, cpu);
+    frame
 }
 
-// Makes the words and the seats, and runs the trial.
-fn tries_on_frame_3(rt: &impl Abort, alloc: Global, trial: FrameTrial) {
-    let (words, mut zone, mut cpus) = FrameWords::new(alloc, 8, 1).expect(rt, "memory");
-    let mut cpu = cpus.pop().expect(rt, "a seat");
-    match trial {
-        FrameTrial::FullReferences => fill_references(rt, &words, &mut zone),
-        FrameTrial::FreezeTooEarly => freeze_early(rt, &words, &mut zone, &mut cpu),
-        FrameTrial::PutByBoth => put_by_both(rt, &words, &mut zone, &mut cpu),
+// The zone tries to freeze the one unit of group 1.
+fn asks_back<N: BootName, R: Wait + Abort>(
+    rt: &R,
+    system: &System<N>,
+    cpu: &mut Cpu<N>,
+    reply: &Reply,
+) {
+    let write = Cmd::Write {
+        path: PATH,
+        file: b"memory.reclaim",
+        value: b"4096",
+    };
+    answers(rt, system, cpu, &write, reply);
+}
+
+// The CPU gets this answer to a get.
+fn gets<N: BootName>(
+    rt: &impl Abort,
+    tables: &Tables<N>,
+    cpu: &mut Cpu<N>,
+    frame: Frame,
+    answer: Get,
+)
+    requires { frame < N.frames.frames }
+{
+    same(rt, cpu.get(tables, frame), Ok(answer));
+}
+
+// The CPU puts a pin, and gets this answer.
+fn puts<N: BootName>(
+    rt: &impl Abort,
+    tables: &Tables<N>,
+    cpu: &mut Cpu<N>,
+    frame: Frame,
+    answer: Put,
+) {
+    assert!(rt; cpu.has_pin(frame));
+    same(rt, cpu.put(tables, frame), answer);
+}
+
+// The zone has one of 255 references, and CPU 2 the others.
+fn fills_references<N: BootName, R: Wait + Abort>(
+    rt: &R,
+    system: &System<N>,
+    first: &mut Cpu<N>,
+    second: &mut Cpu<N>,
+) {
+    let tables = system.tables();
+    let frame = uses_frame_0(rt, system, first);
+    pin(rt, tables, second, frame, 254);
+    gets(rt, tables, second, frame, Get::Full);
+    gets(rt, tables, first, frame, Get::Full);
+    same(rt, unpin(rt, tables, second, 254), 0);
+}
+
+// The zone and CPU 2 have a reference each. The zone's first freeze misses; its second, after the CPU's put, doesn't.
+fn freezes_early<N: BootName, R: Wait + Abort>(
+    rt: &R,
+    system: &System<N>,
+    first: &mut Cpu<N>,
+    second: &mut Cpu<N>,
+) {
+    let tables = system.tables();
+    let frame = uses_frame_0(rt, system, first);
+    gets(rt, tables, second, frame, Get::Held);
+    asks_back(rt, system, first, &Reply::Refused(Fault::Again));
+    puts(rt, tables, second, frame, Put::Left(1));
+    asks_back(rt, system, first, &Reply::Done);
+    gets(rt, tables, second, frame, Get::Zero);
+}
+
+// The zone and CPU 2 have a reference each, and the second put is the last.
+fn puts_by_both<N: BootName, R: Wait + Abort>(
+    rt: &R,
+    system: &System<N>,
+    first: &mut Cpu<N>,
+    second: &mut Cpu<N>,
+) {
+    let tables = system.tables();
+    let frame = uses_frame_0(rt, system, first);
+    gets(rt, tables, second, frame, Get::Held);
+    releases(rt, system, first, frame, 1);
+    puts(rt, tables, second, frame, Put::Last);
+    gets(rt, tables, first, frame, Get::Zero);
+    settles(rt, system, second);
+}
+
+// The CPU allocates a block of this order at the frame, and releases it.
+fn takes_and_returns<N: BootName, R: Wait + Abort>(
+    rt: &R,
+    system: &System<N>,
+    cpu: &mut Cpu<N>,
+    order: u32,
+    frame: Frame,
+)
+    requires { frame < N.frames.frames }
+{
+    let frame = frame.number();
+    let path = PATH;
+    answers(
+        rt,
+        system,
+        cpu,
+        &Cmd::Alloc { path, order },
+        &Reply::Frame(frame),
+    );
+    answers(rt, system, cpu, &Cmd::Release { frame }, &Reply::Returned);
+}
+
+// Two hundred times four frames pass to the CPU's list, and those that it doesn't use pass back for a block of all 16.
+fn passes_frames<N: BootName, R: Wait + Abort>(
+    rt: &R,
+    system: &System<N>,
+    cpu: &mut Cpu<N>,
+    frame: Frame,
+)
+    requires { frame < N.frames.frames }
+{
+    for _ in 0..200u64 {
+        takes_and_returns(rt, system, cpu, 0, frame);
+        takes_and_returns(rt, system, cpu, 4, frame);
     }
 }
 
-// The zone takes all 255 references.
-fn fill_references(rt: &impl Abort, words: &FrameWords, zone: &mut FrameSeat)
-    requires zone { IsZoneSeat words.now zone.old × (zone.old.view ≡ first_zone_view 8) }
-    requires frames { words.now.frames ≡ 8 }
+// Gets the frame this many times. Returns how many answers were `Zero`.
+fn count_zeros<N: BootName>(tables: &Tables<N>, cpu: &mut Cpu<N>, frame: Frame, count: u64) -> u64
+    requires { frame < N.frames.frames }
 {
-    let frame = words.frame(3).expect(rt, "frame 3");
-    words.unfreeze(zone, frame, 255);
-    same(rt, words.get(zone, frame), Get::Full);
+    let mut zeros = 0u64;
+    for _ in 0..count {
+        if let Ok(Get::Zero) = cpu.get(tables, frame) {
+            zeros = zeros.saturating_add(1);
+        }
+    }
+    zeros
 }
+
+// Frames pass to CPU 1 and back in one thread while CPU 2 gets one of them in another. Returns how many answers were
+// `Zero`.
+fn pass_beside_gets<N: BootName + Send + Sync, R: Threads + Wait + Abort + Sync>(
+    rt: &R,
+    system: &System<N>,
+    first: &mut Cpu<N>,
+    second: &mut Cpu<N>,
+    used: Frame,
+    passing: Frame,
+) -> ((), u64)
+    requires { (used < N.frames.frames) × (passing < N.frames.frames) }
+{
+    join(
+        rt,
+        || passes_frames(rt, system, first, used),
+        || count_zeros(system.tables(), second, passing, 10_000),
+    )
+}
+
+// Frame 2 passes to CPU 1 and back, and is never used: CPU 2 never gets it.
+fn passes_beside<N: BootName + Send + Sync, R: Threads + Wait + Abort + Sync>(
+    rt: &R,
+    system: &System<N>,
+    first: &mut Cpu<N>,
+    second: &mut Cpu<N>,
+) {
+    let used = frame_of(rt, system.tables(), 0);
+    let passing = frame_of(rt, system.tables(), 2);
+    makes_group(rt, system, first);
+    let ((), zeros) = pass_beside_gets(rt, system, first, second, used, passing);
+    same(rt, zeros, 10_000);
+}
+
+// Both CPUs get and put the frame concurrently. Returns what `pin_and_unpin` returns of each.
+fn pin_beside<N: BootName + Send + Sync, R: Threads + Sync>(
+    rt: &R,
+    tables: &Tables<N>,
+    first: &mut Cpu<N>,
+    second: &mut Cpu<N>,
+    frame: Frame,
+) -> ((u64, bool), (u64, bool))
+    requires { frame < N.frames.frames }
+{
+    join(
+        rt,
+        || pin_and_unpin(tables, first, frame),
+        || pin_and_unpin(tables, second, frame),
+    )
+}
+
+// Neither CPU puts the last reference, which is the zone's. Its freeze then doesn't miss.
+fn pins_beside<N: BootName + Send + Sync, R: Threads + Wait + Abort + Sync>(
+    rt: &R,
+    system: &System<N>,
+    first: &mut Cpu<N>,
+    second: &mut Cpu<N>,
+) {
+    let frame = uses_frame_0(rt, system, first);
+    let ((_, one_last), (_, other_last)) = pin_beside(rt, system.tables(), first, second, frame);
+    same(rt, one_last || other_last, false);
+    asks_back(rt, system, first, &Reply::Done);
+}
+
+// The rows.
+enum Trial {
+    FullReferences,
+    FreezeTooEarly,
+    PutByBoth,
+    Passing,
+    Beside,
+}
+
+fn tries<N: BootName + Send + Sync, R: Threads + Wait + Abort + Sync>(
+    rt: &R,
+    system: &System<N>,
+    cpus: &mut [Cpu<N>],
+    trial: Trial,
+) {
+    let (first, others) = cpus.split_first_mut().expect(rt, "CPU 1");
+    let second = others.first_mut().expect(rt, "CPU 2");
+    match trial {
+        Trial::FullReferences => fills_references(rt, system, first, second),
+        Trial::FreezeTooEarly => freezes_early(rt, system, first, second),
+        Trial::PutByBoth => puts_by_both(rt, system, first, second),
+        Trial::Passing => passes_beside(rt, system, first, second),
+        Trial::Beside => pins_beside(rt, system, first, second),
+    }
+}
+
+// A boot in which the row is tried.
+fn lives<N: BootName + Send + Sync, R: Threads + Wait + Abort + Sync>(
+    rt: &R,
+    alloc: Global,
+    boot: Boot,
+    trial: Trial,
+    wanted: Audit,
+)
+    requires { (boot.frames ≡ N.frames) × (boot.stocks ≡ N.stocks) }
+{
+    let (system, mut cpus) = boot.start::<N>(alloc).expect(rt, "memory");
+    tries(rt, &system, &mut cpus, trial);
+    ends(rt, system, cpus, wanted);
+}
+
+fn boots<R: Threads + Wait + Abort + Sync>(
+    rt: &R,
+    alloc: Global,
+    sizes: Config,
+    trial: Trial,
+    wanted: Audit,
+) {
+    let boot = boot(alloc, sizes).expect(rt, "a boot");
+    lives::<Brand, _>(rt, alloc, boot, trial, wanted);
+}
+
+// The audit if no page is charged at the end, and nothing was returned.
+const EMPTY: Audit = Audit {
+    frames: 16,
+    free: 16,
+    charged: 0,
+    last_puts: 0,
+    freezes: 0,
+    drops: 0,
+    returns: 0,
+};
 
 #[test]
 fn get_is_full_at_255_references(rt: HostRuntime) {
-    tries_on_frame_3(&rt, rt.alloc(), FrameTrial::FullReferences);
-}
-
-// The zone and a CPU have a reference each. The zone's first freeze misses; its second, after the CPU's put, doesn't.
-fn freeze_early(rt: &impl Abort, words: &FrameWords, zone: &mut FrameSeat, cpu: &mut FrameSeat)
-    requires zone { IsZoneSeat words.now zone.old × (zone.old.view ≡ first_zone_view 8) }
-    requires cpu { (cpu.old.table ≡ words.now.table) × (cpu.old.view ≡ first_cpu_view 1) }
-    requires frames { words.now.frames ≡ 8 }
-{
-    let frame = words.frame(3).expect(rt, "frame 3");
-    words.unfreeze(zone, frame, 1);
-    same(rt, words.get(cpu, frame), Get::Held);
-    same(rt, words.freeze(zone, frame, 1), false);
-    same(rt, words.put(cpu, frame), Put::Left(1));
-    same(rt, words.freeze(zone, frame, 1), true);
-    same(rt, words.get(cpu, frame), Get::Zero);
+    let wanted = Audit {
+        free: 15,
+        charged: 1,
+        ..EMPTY
+    };
+    boots(&rt, rt.alloc(), TWO_CPUS, Trial::FullReferences, wanted);
 }
 
 #[test]
 fn freeze_waits_for_the_other_seat(rt: HostRuntime) {
-    tries_on_frame_3(&rt, rt.alloc(), FrameTrial::FreezeTooEarly);
-}
-
-// The zone and a CPU have a reference each, and the second put is the last.
-fn put_by_both(rt: &impl Abort, words: &FrameWords, zone: &mut FrameSeat, cpu: &mut FrameSeat)
-    requires zone { IsZoneSeat words.now zone.old × (zone.old.view ≡ first_zone_view 8) }
-    requires cpu { (cpu.old.table ≡ words.now.table) × (cpu.old.view ≡ first_cpu_view 1) }
-    requires frames { words.now.frames ≡ 8 }
-{
-    let frame = words.frame(3).expect(rt, "frame 3");
-    words.unfreeze(zone, frame, 1);
-    same(rt, words.get(cpu, frame), Get::Held);
-    same(rt, words.put(zone, frame), Put::Left(1));
-    same(rt, words.put(cpu, frame), Put::Last);
-    same(rt, words.get(zone, frame), Get::Zero);
+    let wanted = Audit {
+        freezes: 1,
+        returns: 1,
+        ..EMPTY
+    };
+    boots(&rt, rt.alloc(), SINGLE, Trial::FreezeTooEarly, wanted);
 }
 
 #[test]
 fn the_second_of_two_puts_is_the_last(rt: HostRuntime) {
-    tries_on_frame_3(&rt, rt.alloc(), FrameTrial::PutByBoth);
-}
-
-// Frame 3 is in transit to CPU 2: no seat gets it.
-fn pass_to_second(
-    rt: &impl Abort,
-    words: &FrameWords,
-    zone: &mut FrameSeat,
-    first: &mut FrameSeat,
-    second: &mut FrameSeat,
-)
-    requires zone { IsZoneSeat words.now zone.old × (zone.old.view ≡ first_zone_view 8) }
-    requires first { first.old.table ≡ words.now.table }
-    requires second { (second.old.table ≡ words.now.table) × (second.old.view ≡ first_cpu_view 2) }
-    requires sizes { (words.now.frames ≡ 8) × (words.now.cpus ≡ 2) }
-{
-    let frame = words.frame(3).expect(rt, "frame 3");
-    words.open_visit(zone, second);
-    words.pass_out(zone, frame, 2);
-    same(rt, words.get(zone, frame), Get::Zero);
-    same(rt, words.get(first, frame), Get::Zero);
-    same(rt, words.get(second, frame), Get::Zero);
+    let wanted = Audit {
+        last_puts: 1,
+        returns: 1,
+        ..EMPTY
+    };
+    boots(&rt, rt.alloc(), TWO_CPUS, Trial::PutByBoth, wanted);
 }
 
 #[test]
-fn no_seat_gets_a_frame_that_passes(rt: HostRuntime) {
-    let (words, mut zone, mut cpus) = FrameWords::new(rt.alloc(), 8, 2).expect(&rt, "memory");
-    let mut second = cpus.pop().expect(&rt, "the second seat");
-    let mut first = cpus.pop().expect(&rt, "the first seat");
-    pass_to_second(&rt, &words, &mut zone, &mut first, &mut second);
-}
-
-// Gets the frame a thousand times and puts it whenever it was held. Returns whether a put was the last.
-fn any_put_was_last(words: &FrameWords, seat: &mut FrameSeat, frame: Frame) -> bool
-    requires table { seat.old.table ≡ words.now.table }
-    requires frame { frame < words.now.frames }
-    ensures { seat.new.table ≡ seat.old.table }
-{
-    let mut last = false;
-    for _ in 0..1000u64 {
-        if words.get(seat, frame) == Get::Held {
-            if words.put(seat, frame) == Put::Last {
-                last = true;
-            }
-        }
-    }
-    last
-}
-
-// Two seats get and put the frame concurrently. Returns whether a put of either was the last.
-fn get_and_put_beside<R: Threads + Sync>(
-    rt: &R,
-    words: &FrameWords,
-    one: &mut FrameSeat,
-    other: &mut FrameSeat,
-    frame: Frame,
-) -> (bool, bool)
-    requires tables { (one.old.table ≡ words.now.table) × (other.old.table ≡ words.now.table) }
-    requires frame { frame < words.now.frames }
-{
-    join(
-        rt,
-        || any_put_was_last(words, one, frame),
-        || any_put_was_last(words, other, frame),
-    )
+fn no_cpu_gets_a_frame_that_passes(rt: HostRuntime) {
+    let wanted = Audit {
+        last_puts: 400,
+        returns: 400,
+        ..EMPTY
+    };
+    boots(&rt, rt.alloc(), TWO_CPUS, Trial::Passing, wanted);
 }
 
 #[test]
-fn two_seats_get_and_put_beside_each_other(rt: HostRuntime) {
-    let (words, mut zone, mut cpus) = FrameWords::new(rt.alloc(), 8, 2).expect(&rt, "memory");
-    let frame = words.frame(5).expect(&rt, "frame 5");
-    let mut one = cpus.pop().expect(&rt, "a seat");
-    let mut other = cpus.pop().expect(&rt, "a seat");
-    words.unfreeze(&mut zone, frame, 1);
-    let (one_last, other_last) = get_and_put_beside(&rt, &words, &mut one, &mut other, frame);
-    same(&rt, one_last || other_last, false);
-    same(&rt, words.freeze(&mut zone, frame, 1), true);
+fn two_cpus_get_and_put_beside_each_other(rt: HostRuntime) {
+    let wanted = Audit {
+        freezes: 1,
+        returns: 1,
+        ..EMPTY
+    };
+    boots(&rt, rt.alloc(), SINGLE, Trial::Beside, wanted);
 }

@@ -23,7 +23,7 @@ const THREE_PAGES: Config = Config {
 };
 
 // The path of group 1.
-const PATH: &[u8] = b"/a";
+pub(crate) const PATH: &[u8] = b"/a";
 
 // The reply to the CPU in a visit. This function drops the clauses of `System::visit`, so a caller that needs only
 // the reply doesn't pay for them.
@@ -34,7 +34,7 @@ fn visit<N: BootName, R: Wait>(rt: &R, system: &System<N>, cpu: &mut Cpu<N>, cmd
 }
 
 // The CPU gets this reply in a visit.
-fn answers<N: BootName, R: Wait + Abort>(
+pub(crate) fn answers<N: BootName, R: Wait + Abort>(
     rt: &R,
     system: &System<N>,
     cpu: &mut Cpu<N>,
@@ -47,21 +47,25 @@ fn answers<N: BootName, R: Wait + Abort>(
     expect_true(rt, told == *reply);
 }
 
-fn frame_of<N: BootName>(rt: &impl Abort, tables: &Tables<N>, number: u32) -> Frame
+pub(crate) fn frame_of<N: BootName>(rt: &impl Abort, tables: &Tables<N>, number: u32) -> Frame
     ensures { (result ≡ number) × (result < N.frames.frames) }
 {
     tables.words.frame(number).expect(rt, "a frame")
 }
 
 // The CPU makes group 1.
-fn makes_group<N: BootName, R: Wait + Abort>(rt: &R, system: &System<N>, cpu: &mut Cpu<N>) {
+pub(crate) fn makes_group<N: BootName, R: Wait + Abort>(
+    rt: &R,
+    system: &System<N>,
+    cpu: &mut Cpu<N>,
+) {
     let path = PATH;
     let group = GroupId::of(1).expect(rt, "a group");
     answers(rt, system, cpu, &Cmd::Mkdir { path }, &Reply::Group(group));
 }
 
 // The CPU allocates this frame for group 1, in a visit.
-fn allocates<N: BootName, R: Wait + Abort>(
+pub(crate) fn allocates<N: BootName, R: Wait + Abort>(
     rt: &R,
     system: &System<N>,
     cpu: &mut Cpu<N>,
@@ -74,12 +78,17 @@ fn allocates<N: BootName, R: Wait + Abort>(
     answers(rt, system, cpu, &alloc, &Reply::Frame(frame.number()));
 }
 
-fn settles<N: BootName, R: Wait + Abort>(rt: &R, system: &System<N>, cpu: &mut Cpu<N>) {
+pub(crate) fn settles<N: BootName, R: Wait + Abort>(rt: &R, system: &System<N>, cpu: &mut Cpu<N>) {
     answers(rt, system, cpu, &Cmd::Settle, &Reply::Done);
 }
 
 // Shuts the system down, in which no CPU has a pin. The audit is this one.
-fn ends<N: BootName>(rt: &impl Abort, system: System<N>, cpus: Vec<Cpu<N>>, wanted: Audit)
+pub(crate) fn ends<N: BootName>(
+    rt: &impl Abort,
+    system: System<N>,
+    cpus: Vec<Cpu<N>>,
+    wanted: Audit,
+)
     requires { length cpus.items ≡ N.frames.cpus }
 {
     match system.shutdown(cpus) {
@@ -187,7 +196,13 @@ fn group_1_pays_and_is_drained(rt: HostRuntime) {
 }
 
 // Pins the frame this many times.
-fn pin<N: BootName>(rt: &impl Abort, tables: &Tables<N>, cpu: &mut Cpu<N>, frame: Frame, count: u64)
+pub(crate) fn pin<N: BootName>(
+    rt: &impl Abort,
+    tables: &Tables<N>,
+    cpu: &mut Cpu<N>,
+    frame: Frame,
+    count: u64,
+)
     requires { frame < N.frames.frames }
 {
     for _ in 0..count {
@@ -196,7 +211,12 @@ fn pin<N: BootName>(rt: &impl Abort, tables: &Tables<N>, cpu: &mut Cpu<N>, frame
 }
 
 // Puts all pins, of which there are this many. Returns how many puts were the last of their frame.
-fn unpin<N: BootName>(rt: &impl Abort, tables: &Tables<N>, cpu: &mut Cpu<N>, count: u64) -> u64 {
+pub(crate) fn unpin<N: BootName>(
+    rt: &impl Abort,
+    tables: &Tables<N>,
+    cpu: &mut Cpu<N>,
+    count: u64,
+) -> u64 {
     let mut last = 0u64;
     for _ in 0..count {
         let frame = cpu.first_pin().expect(rt, "a pin");
@@ -227,7 +247,7 @@ fn pins_all<N: BootName>(
 }
 
 // The CPU releases the frame, on which this many references of CPUs are left.
-fn releases<N: BootName, R: Wait + Abort>(
+pub(crate) fn releases<N: BootName, R: Wait + Abort>(
     rt: &R,
     system: &System<N>,
     cpu: &mut Cpu<N>,
@@ -304,7 +324,11 @@ fn pages_put_back<N: BootName>(tables: &Tables<N>, cpu: &mut Cpu<N>) -> u64 {
 
 // The other CPU gets and puts a frame a thousand times. Returns how often it had the frame, and whether a put was the
 // last.
-fn pin_and_unpin<N: BootName>(tables: &Tables<N>, cpu: &mut Cpu<N>, frame: Frame) -> (u64, bool)
+pub(crate) fn pin_and_unpin<N: BootName>(
+    tables: &Tables<N>,
+    cpu: &mut Cpu<N>,
+    frame: Frame,
+) -> (u64, bool)
     requires { frame < N.frames.frames }
 {
     let mut held = 0u64;
