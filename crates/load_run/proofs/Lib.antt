@@ -12,5 +12,5 @@ pub mod Verdicts
 pub mod Written
 pub mod Telling
 pub mod Watched
-mod Whole
+pub mod Whole
 pub mod Logged
