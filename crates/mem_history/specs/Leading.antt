@@ -13,7 +13,8 @@ use Rattle.step_rules.specs.declared.step.Action.TheVariants.{Get, Put, Consume,
 use Rattle.step_rules.specs.declared.step.Answer.{Answer}
 use Rattle.step_rules.specs.declared.step.Answer.TheVariants.{Held, Left, Last, Took, Stocked}
 use Rattle.step_rules.specs.After.{Run}
-use Rattle.mem_machine.specs.Machines.{KnownMachine, KnownRun, VisitState, visit_state, with_run}
+use Rattle.mem_machine.specs.Machines.{KnownMachine, VisitState, visit_state, with_run}
+use Rattle.mem_machine.specs.Noted.{KnownRun}
 use Rattle.mem_machine.specs.Steps.{cpu_makes}
 use Rattle.mem_history.specs.Whole.{ShowsAll, AreDecided, LeadsOn}
 use Rattle.step_watch.specs.Watched.{Watches}
