@@ -239,7 +239,7 @@ all_closes t w k a frame_seats stock_seats pasts shut all count zone tells_then 
       is = closed.is;
       last_words = record { rule = closed.rule; references = word_of_frame t w y parts (pasts_of k.cpus) shut all closed };
       zone = zone;
-      pasts = closed.pasts;
+      pasts = closed.beginnings;
       counted = tells;
       adds_up = record {
         places = omega (arith, placed, sized, free, charged, framed);

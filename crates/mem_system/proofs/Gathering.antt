@@ -91,5 +91,5 @@ closed_from t w m k words zone cpus same sized past frames stocks ok ends =
       stocks = λ j inside. subst (λ (s : KnownStockSeat). IsStockOf at.stocks (view_in (stock_seats cpus) j).number s.view (view_in (stock_seats cpus) j)) stocks (here.stocks j inside);
       run = here.run;
       is = here.is;
-      pasts = subst (λ (l : List Past). AllOf (IsPastOf here.run) (l ++ all_pasts_in cpus)) past here.pasts;
+      beginnings = subst (λ (l : List Past). AllOf (IsPastOf here.run) (l ++ all_pasts_in cpus)) past here.pasts;
     }

@@ -194,7 +194,7 @@ pub record IsClosed (table : KnownTable) (stock_table : KnownStockTable) (machin
   pub stocks : (place : ℕ) → place < length stock_seats → StockWordsAgreeAt stock_words machine stock_seats place
   pub run : Run
   pub is : IsRunOf (zone_of_boot table) (record { frames = frame_words; stocks = stock_words }) run
-  pub pasts : AllOf (IsPastOf run) (own_past machine.run.past ∷ pasts)
+  pub beginnings : AllOf (IsPastOf run) (own_past machine.run.past ∷ pasts)
 
 -- The words of the frames at the end. They keep the reference rule with the views of all seats. A frame's word
 -- is 1, the zone's reference, if the frame heads a kept unit, else 0.
