@@ -11,6 +11,7 @@ use Rattle.mem_history.specs.Kept.{AreTied}
 use Rattle.mem_history.proofs.Deciding.{legal_front}
 use Rattle.mem_history.proofs.Promised.{the_whole_is_promised}
 use Rattle.std.proofs.lemmas.Option.{none-some}
+use Rattle.mem_system.specs.Cpus.{parts_of}
 use Rattle.script_lines.specs.declared.line.Line.{Line}
 use Rattle.script_replay.specs.History.{HoldsPromise, Past, ServesAndKeeps, past, past_line}
 use Rattle.script_replay.specs.Lines.{SystemState}
@@ -57,33 +58,33 @@ all_kept t w is_explained sizes number (turn ∷ turns) s e all =
 -- ---- parts of a log
 
 -- the promise holds after a line
-line_kept : (on : Terms) (run : Run) (line : Line) (s e : SystemState) (text : List ℕ) → ShowsAll on.frames run s.locked.machine s.cpus
-    → AreTied on.frames on.stocks s.cpus → (keeps : ServesAndKeeps on line s e text) → IsLegalRun (zone_of on.frames) (run ++ keeps.serves.steps)
+line_kept : (on : Terms) (run : Run) (line : Line) (s e : SystemState) (text : List ℕ) → ShowsAll on.frames run s.locked.machine (parts_of s.cpus)
+    → AreTied on.frames on.stocks (parts_of s.cpus) → (keeps : ServesAndKeeps on line s e text) → IsLegalRun (zone_of on.frames) (run ++ keeps.serves.steps)
     → HoldsPromise on.frames run s (run ++ keeps.serves.steps) e
 line_kept on run line s e text shows tied keeps legal =
     let follows = line_follows on run line s e text shows tied keeps legal in
     let holds = keeps.keeps.holds in record {
       tells = follows.1;
-      promise = the_whole_is_promised on.frames on.stocks (run ++ keeps.serves.steps) e.locked.machine e.cpus follows.0 holds.consistent holds.charges
+      promise = the_whole_is_promised on.frames on.stocks (run ++ keeps.serves.steps) e.locked.machine (parts_of e.cpus) follows.0 holds.consistent holds.charges
           (keeps.keeps.tied tied) (some_cpu on.frames on.stocks e.locked holds.quiet);
     }
 
 module _ (t : KnownTable) (w : KnownStockTable) where
   -- a state is shown with a new watch too
-  renewed_shown : (run : Run) (before begun : SystemState) → RenewsWatch before begun → ShowsAll t run before.locked.machine before.cpus
-      → ShowsAll t run begun.locked.machine begun.cpus
-  renewed_shown run before begun renews shows = subst (λ (x : SystemState). ShowsAll t run x.locked.machine x.cpus) (sym renews.begun_is)
-      (shows_watched t run before.locked.machine before.cpus renews.watch shows)
+  renewed_shown : (run : Run) (before begun : SystemState) → RenewsWatch before begun → ShowsAll t run before.locked.machine (parts_of before.cpus)
+      → ShowsAll t run begun.locked.machine (parts_of begun.cpus)
+  renewed_shown run before begun renews shows = subst (λ (x : SystemState). ShowsAll t run x.locked.machine (parts_of x.cpus)) (sym renews.begun_is)
+      (shows_watched t run before.locked.machine (parts_of before.cpus) renews.watch shows)
 
-  renewed_tied : (before begun : SystemState) → RenewsWatch before begun → AreTied t w before.cpus → AreTied t w begun.cpus
-  renewed_tied before begun renews tied = subst (λ (x : SystemState). AreTied t w x.cpus) (sym renews.begun_is) tied
+  renewed_tied : (before begun : SystemState) → RenewsWatch before begun → AreTied t w (parts_of before.cpus) → AreTied t w (parts_of begun.cpus)
+  renewed_tied before begun renews tied = subst (λ (x : SystemState). AreTied t w (parts_of x.cpus)) (sym renews.begun_is) tied
 
   -- what comes after a turn has its history, if that is so of each past in which the turn can end
   turn_logged : (sizes : Config) (number : ℕ) (text : Option (List ℕ)) (line : Option Line) (answer : List ℕ) (before : Past) (m : SystemState)
       (goes_on : SystemState → Type 0) (rest : Past → Type 0)
-      → (IsLegalRun (zone_of t) before.run → ShowsAll t before.run before.now.locked.machine before.now.cpus) → AreTied t w before.now.cpus
+      → (IsLegalRun (zone_of t) before.run → ShowsAll t before.run before.now.locked.machine (parts_of before.now.cpus)) → AreTied t w (parts_of before.now.cpus)
       → AnswersLine (session_terms t w Steps) sizes number text line before.now m answer → goes_on m
-      → ((later : Past) → (IsLegalRun (zone_of t) later.run → ShowsAll t later.run later.now.locked.machine later.now.cpus) → AreTied t w later.now.cpus
+      → ((later : Past) → (IsLegalRun (zone_of t) later.run → ShowsAll t later.run later.now.locked.machine (parts_of later.now.cpus)) → AreTied t w (parts_of later.now.cpus)
       → goes_on later.now → rest later)
       → HasLoggedTurn (terms t w true) (unwrap_or text []) line before answer rest
   turn_logged sizes number None None answer before m goes_on rest shows tied one more next = next before shows tied (subst goes_on one.1 more)
@@ -92,9 +93,9 @@ module _ (t : KnownTable) (w : KnownStockTable) where
   turn_logged sizes number (Some text) (Some line) answer before m goes_on rest shows tied one more next =
       let logs : LogsLine (terms t w true) text line before.now m answer = one.1 in
       let steps : Run = logs.serves.serves.steps in
-      let shown : IsLegalRun (zone_of t) before.run → ShowsAll t before.run logs.begun.locked.machine logs.begun.cpus
+      let shown : IsLegalRun (zone_of t) before.run → ShowsAll t before.run logs.begun.locked.machine (parts_of logs.begun.cpus)
       = λ legal. renewed_shown before.run before.now logs.begun logs.renews (shows legal) in
-      let still : AreTied t w logs.begun.cpus = renewed_tied before.now logs.begun logs.renews tied in record {
+      let still : AreTied t w (parts_of logs.begun.cpus) = renewed_tied before.now logs.begun logs.renews tied in record {
         between = m;
         logs = logs;
         kept_where_legal = λ legal. line_kept (terms t w true) before.run line logs.begun m logs.answer (shown (legal_front (zone_of t) before.run steps legal)) still logs.serves legal;
@@ -104,7 +105,7 @@ module _ (t : KnownTable) (w : KnownStockTable) where
       }
 
   logged_history : (sizes : Config) (number : ℕ) (turns : List Turn) (before : Past) (e : SystemState)
-      → (IsLegalRun (zone_of t) before.run → ShowsAll t before.run before.now.locked.machine before.now.cpus) → AreTied t w before.now.cpus
+      → (IsLegalRun (zone_of t) before.run → ShowsAll t before.run before.now.locked.machine (parts_of before.now.cpus)) → AreTied t w (parts_of before.now.cpus)
       → AnswersTurns (session_terms t w Steps) sizes number turns before.now e → HasLoggedHistory (terms t w true) turns before e
   logged_history sizes number [] before e shows tied same = same
   logged_history sizes number (turn ∷ turns) before e shows tied all =

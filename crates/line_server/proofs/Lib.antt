@@ -1,5 +1,6 @@
 pub mod Answered
 pub mod Commented
+pub mod GoingOn
 pub mod Histories
 pub mod Logged
 pub mod Sessions

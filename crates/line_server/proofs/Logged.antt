@@ -1,7 +1,7 @@
 -- A line's part of a log. Serves `log_line`, and `log_end` of `load_run`.
 use Rattle.std.proofs.Common.{◌≡◌, ◌∙◌, ℕ, List, ◌++◌, Result, IfOk, ap, append_assoc, refl, subst, sym, true}
 use Rattle.std.proofs.lemmas.Result.{IfOk-weaker}
-use Rattle.cpu_part.specs.Cpus.{KnownCpu}
+use Rattle.mem_system.specs.Cpus.{CpuInRun}
 use Rattle.step_rules.specs.After.{Run}
 use Rattle.step_watch.specs.Watched.{IsNewLog, KnownWatch, Watches, has_whole_log, log_text, steps_text}
 use Rattle.mem_system.specs.Locked.{KnownLocked}
@@ -14,7 +14,7 @@ use Rattle.script_replay.proofs.Seeing.{line_seen}
 use Rattle.line_server.specs.Logs.{AddsPart, LogsLine, RenewsWatch, answer_comments, line_comment, line_log}
 
 -- a new watch was put behind the lock
-pub renewed : (old new : KnownLocked) (cpus : List KnownCpu) (watch : KnownWatch) → IsNewLog watch → new ≡ locked_with_watch old watch
+pub renewed : (old new : KnownLocked) (cpus : List CpuInRun) (watch : KnownWatch) → IsNewLog watch → new ≡ locked_with_watch old watch
     → RenewsWatch (system_state old cpus) (system_state new cpus)
 renewed old new cpus watch is_new is =
     record { watch = watch; is_new = is_new; begun_is = ap (λ (l : KnownLocked). system_state l cpus) is }

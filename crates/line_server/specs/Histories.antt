@@ -6,8 +6,9 @@ use Rattle.step_rules.specs.After.{Run, IsLegalRun}
 use Rattle.mem_machine.specs.Interleaving.{zone_of}
 use Rattle.mem_history.specs.Whole.{ShowsAll}
 use Rattle.mem_history.specs.Kept.{AreTied}
+use Rattle.mem_system.specs.Cpus.{parts_of}
 use Rattle.script_lines.specs.declared.line.Line.{Line}
-use Rattle.script_replay.specs.History.{HasHistory, HoldsPromise, Past, Replays, past, past_line}
+use Rattle.script_replay.specs.History.{HasHistory, HoldsPromise, Past, Replays, past, past_line, steps_of}
 use Rattle.script_replay.specs.Lines.{SystemState}
 use Rattle.script_replay.specs.Terms.{Terms, terms}
 use Rattle.line_server.specs.declared.form.SessionForm.{SessionForm}
@@ -59,6 +60,23 @@ HasLoggedHistory terms (turn ∷ turns) past after =
     HasLoggedTurn terms (unwrap_or turn.text []) turn.served past turn.answer
     (λ later. HasLoggedHistory terms turns later after)
 
+-- the steps of the line of a turn, if one was served, and then of what comes next
+abbrev pub steps_of_turn : (terms : Terms) (text : List ℕ) (line : Option Line) (past : Past) (log : List ℕ)
+    (has_rest : Past → Type 0) → ((later : Past) → has_rest later → Run)
+    → HasLoggedTurn terms text line past log has_rest → Run
+steps_of_turn terms text None past log has_rest steps_of_rest history = steps_of_rest past history
+steps_of_turn terms text (Some line) past log has_rest steps_of_rest history = history.logs.serves.serves.steps
+    ++ steps_of_rest (past_line past history.logs.serves.serves.steps history.between) history.tells
+
+-- the steps of all lines of turns for which parts of a log are written
+abbrev pub steps_of_logged : (terms : Terms) (turns : List Turn) (past : Past) (after : SystemState)
+    → HasLoggedHistory terms turns past after → Run
+steps_of_logged terms [] past after history = []
+steps_of_logged terms (turn ∷ turns) past after history =
+    steps_of_turn terms (unwrap_or turn.text []) turn.served past turn.answer
+    (λ later. HasLoggedHistory terms turns later after) (λ later rest. steps_of_logged terms turns later after rest)
+    history
+
 -- the history of turns in either form
 abbrev pub HasTurnsHistory : SessionForm → KnownTable → KnownStockTable → List Turn → Past → (after : SystemState)
     → Type 0
@@ -66,11 +84,19 @@ HasTurnsHistory (Answers is_explained) frames stocks turns past after =
     HasHistory (terms frames stocks is_explained) (lines_of turns) past after (answers_of turns)
 HasTurnsHistory Steps frames stocks turns past after = HasLoggedHistory (terms frames stocks true) turns past after
 
+-- the steps of all lines that were served
+abbrev pub steps_of_turns : (form : SessionForm) (frames : KnownTable) (stocks : KnownStockTable) (turns : List Turn)
+    (past : Past) (after : SystemState) → HasTurnsHistory form frames stocks turns past after → Run
+steps_of_turns (Answers is_explained) frames stocks turns past after history =
+    steps_of (terms frames stocks is_explained) (lines_of turns) past after (answers_of turns) history
+steps_of_turns Steps frames stocks turns past after history =
+    steps_of_logged (terms frames stocks true) turns past after history
+
 -- the turns have a history from each run that shows the state before them, if the parts agree with their seats
 abbrev pub ReplaysTurns : SessionForm → KnownTable → KnownStockTable → List Turn → (before after : SystemState)
     → Type 0
 ReplaysTurns (Answers is_explained) frames stocks turns before after =
     Replays (terms frames stocks is_explained) (lines_of turns) before after (answers_of turns)
 ReplaysTurns Steps frames stocks turns before after =
-    (run : Run) → ShowsAll frames run before.locked.machine before.cpus → AreTied frames stocks before.cpus
+    (run : Run) → ShowsAll frames run before.locked.machine (parts_of before.cpus) → AreTied frames stocks (parts_of before.cpus)
     → HasLoggedHistory (terms frames stocks true) turns (past run before) after

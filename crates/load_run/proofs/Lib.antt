@@ -12,4 +12,5 @@ pub mod Verdicts
 pub mod Written
 pub mod Telling
 pub mod Watched
+pub mod Whole
 pub mod Logged

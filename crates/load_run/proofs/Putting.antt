@@ -1,41 +1,60 @@
 -- Pins that are put, one after the other, and the steps that the watch takes of them.
-use Rattle.std.proofs.Common.{◌≡◌, ℕ, ◌<◌, List, [], ◌∷◌, ◌++◌, length, refl, sym, ap, subst, arith}
+use Rattle.std.proofs.Common.{◌≡◌, ℕ, ◌<◌, Some, List, [], ◌∷◌, ◌++◌, length, refl, sym, ap, subst, arith, append_assoc, append-nil}
+use Rattle.std.specs.Prelude.{slice_get, slice_set}
 use Rattle.std.proofs.lemmas.List.Sums.{sum_by-append}
 use Rattle.frame_word.specs.Seats.{KnownTable}
 use Rattle.stock_word.specs.Stock.{KnownStockTable}
 use Rattle.frame_word.specs.declared.answers.Put.{Put}
 use Rattle.frame_word.specs.declared.answers.Put.TheVariants.{Left, Last}
+use Rattle.boot_words.specs.declared.view.Past.{Past}
+use Rattle.boot_words.specs.Pasts.{own_past}
+use Rattle.boot_words.specs.Growth.{GainsSteps, IsRunSoFar}
+use Rattle.boot_words.proofs.Gaining.{gains_both, gains_go_on, none_gains}
+use Rattle.step_rules.specs.After.{Run}
 use Rattle.cpu_part.specs.Cpus.{KnownCpu}
 use Rattle.cpu_part.specs.Calls.{UnpinAnswers}
 use Rattle.cpu_part.proofs.Tied.{length_parted}
-use Rattle.step_rules.specs.declared.step.Action.TheVariants as step
-use Rattle.step_watch.specs.Watched.{Watches, cpu_makes}
+use Rattle.step_watch.specs.Watched.{Watches}
 use Rattle.step_watch.proofs.Watching.{watches_both, watches_none}
-use Rattle.mem_machine.specs.Machines.{KnownMachine, VisitState, visit_state}
-use Rattle.mem_history.specs.Leading.{put_answer}
-use Rattle.mem_system.specs.Ends.{ForEachCpu, KnownEmptiedBoot, MakesLastVisits, pins_of_all}
+use Rattle.mem_machine.specs.Machines.{KnownMachine}
+use Rattle.mem_system.specs.Cpus.{CpuInRun, parts_of, pasts_of}
+use Rattle.mem_system.specs.Ends.{ForEachCpu, KnownEmptiedBoot, MachineAndCpu, MakesLastVisits, machine_and_cpu, pins_of_all}
 use Rattle.mem_system.specs.Locked.{KnownLocked}
 use Rattle.script_replay.specs.Lines.{SystemState, system_state}
-use Rattle.load_run.specs.Ending.{LeavesNothing, PutsAllPins, PutsEach, PutsHeldPin, steps_of_all_puts, steps_of_puts}
+use Rattle.load_run.specs.Ending.{LeavesNothing, PutsAllPins, PutsEach, PutsHeldPin, put_steps, steps_of_all_puts, steps_of_puts}
+
+-- ---- lists
+
+-- the entry behind these
+at_seam : {X : Type 0} (xs : List X) (x : X) (ys : List X) → slice_get (xs ++ x ∷ ys) (length xs) ≡ Some x
+at_seam [] x ys = refl
+at_seam (z ∷ xs) x ys = at_seam xs x ys
+
+-- and with another entry there
+set_seam : {X : Type 0} (xs : List X) (x y : X) (ys : List X) → slice_set (xs ++ x ∷ ys) (length xs) y ≡ (xs ++ y ∷ []) ++ ys
+set_seam [] x y ys = refl
+set_seam (z ∷ xs) x y ys = ap (λ (l : List X). z ∷ l) (set_seam xs x y ys)
+
+-- ---- the puts of a CPU
 
 -- the pins of these frames were put so far
-pub record PutSoFar (before now : VisitState) : Type 0 where
+pub record PutSoFar (before now : MachineAndCpu) : Type 0 where
   pub frames : List ℕ
   pub puts : PutsEach frames before now
 
-pub put_start : (before : VisitState) → PutSoFar before before
+pub put_start : (before : MachineAndCpu) → PutSoFar before before
 put_start before = record { frames = []; puts = refl }
 
-puts_more : (frames : List ℕ) (f : ℕ) (before mid after : VisitState) → PutsEach frames before mid → PutsHeldPin f mid after → PutsEach (frames ++ f ∷ []) before after
+puts_more : (frames : List ℕ) (f : ℕ) (before mid after : MachineAndCpu) → PutsEach frames before mid → PutsHeldPin f mid after → PutsEach (frames ++ f ∷ []) before after
 puts_more [] f before mid after puts one =
-    record { between = after; first = subst (λ (x : VisitState). PutsHeldPin f x after) puts one; rest = refl }
+    record { between = after; first = subst (λ (x : MachineAndCpu). PutsHeldPin f x after) puts one; rest = refl }
 puts_more (e ∷ frames) f before mid after puts one = record {
   between = puts.between;
   first = puts.first;
   rest = puts_more frames f puts.between mid after puts.rest one;
 }
 
-pub put_more : (f : ℕ) (before mid after : VisitState) → PutSoFar before mid → PutsHeldPin f mid after → PutSoFar before after
+pub put_more : (f : ℕ) (before mid after : MachineAndCpu) → PutSoFar before mid → PutsHeldPin f mid after → PutSoFar before after
 put_more f before mid after so_far one = record {
   frames = so_far.frames ++ f ∷ [];
   puts = puts_more so_far.frames f before mid after so_far.puts one;
@@ -46,21 +65,22 @@ fewer_left : (f : ℕ) (answer : Put) (c d : KnownCpu) → UnpinAnswers f answer
 fewer_left f (Left n) c d one = let parted = length_parted f c.pins d.pins one.0 in omega arith
 fewer_left f Last c d one = let parted = length_parted f c.pins d.pins one.0 in omega arith
 
-pub fewer_pins : (f : ℕ) (before after : VisitState) → PutsHeldPin f before after → length after.cpu.pins < length before.cpu.pins
-fewer_pins f before after one = fewer_left f one.answer before.cpu after.cpu one.cpu
+pub fewer_pins : (f : ℕ) (before after : MachineAndCpu) → PutsHeldPin f before after → length after.cpu.part.pins < length before.cpu.part.pins
+fewer_pins f before after one = fewer_left f one.answer before.cpu.part after.cpu.part one.cpu
 
-pub lets_go : (before after : VisitState) → PutSoFar before after → after.cpu.pins ≡ [] → PutsAllPins before after
+pub lets_go : (before after : MachineAndCpu) → PutSoFar before after → after.cpu.part.pins ≡ [] → PutsAllPins before after
 lets_go before after so_far none = record { frames = so_far.frames; puts = so_far.puts; none_left = none }
 
 -- no pin is left then
-pub none_pinned : (m : KnownMachine) (cpus : List KnownCpu) (n : KnownMachine) (left : List KnownCpu) → ForEachCpu PutsAllPins m cpus n left → pins_of_all left ≡ 0
+pub none_pinned : (m : KnownMachine) (cpus : List CpuInRun) (n : KnownMachine) (left : List CpuInRun) → ForEachCpu PutsAllPins m cpus n left
+    → pins_of_all (parts_of left) ≡ 0
 none_pinned m [] n [] puts = refl
 none_pinned m [] n (d ∷ left) puts = absurd puts
 none_pinned m (c ∷ cpus) n [] puts = absurd puts
 none_pinned m (c ∷ cpus) n (d ∷ left) puts =
-    let none : length d.pins ≡ 0 = ap length puts.first.none_left in
+    let none : length d.part.pins ≡ 0 = ap length puts.first.none_left in
     let rest = none_pinned puts.between cpus n left puts.rest in
-    let parts = sum_by-append (λ (x : KnownCpu). length x.pins) (d ∷ []) left in
+    let parts = sum_by-append (λ (x : KnownCpu). length x.pins) (d.part ∷ []) (parts_of left) in
     omega (arith, parts, none, rest)
 
 nothing_held : (l : List ℕ) → length l ≡ 0 → l ≡ []
@@ -68,41 +88,73 @@ nothing_held [] h = refl
 nothing_held (x ∷ xs) h = absurd (omega (arith, h))
 
 -- without a pin, none is put
-pub none_put : (m : KnownMachine) (cpus : List KnownCpu) → pins_of_all cpus ≡ 0 → ForEachCpu PutsAllPins m cpus m cpus
+pub none_put : (m : KnownMachine) (cpus : List CpuInRun) → pins_of_all (parts_of cpus) ≡ 0 → ForEachCpu PutsAllPins m cpus m cpus
 none_put m [] none = refl
 none_put m (c ∷ cpus) none =
-    let parts = sum_by-append (λ (x : KnownCpu). length x.pins) (c ∷ []) cpus in
+    let parts = sum_by-append (λ (x : KnownCpu). length x.pins) (c.part ∷ []) (parts_of cpus) in
     record {
       between = m;
-      first = record { frames = []; puts = refl; none_left = nothing_held c.pins (omega (arith, parts, none)) };
+      first = record { frames = []; puts = refl; none_left = nothing_held c.part.pins (omega (arith, parts, none)) };
       rest = none_put m cpus (omega (arith, parts, none));
     }
 
 -- ---- the watch
 
-each_watched : (frames : List ℕ) (before after : VisitState) (puts : PutsEach frames before after)
+each_watched : (frames : List ℕ) (before after : MachineAndCpu) (puts : PutsEach frames before after)
     → Watches before.machine.run.watch (steps_of_puts frames before after puts) after.machine.run.watch
-each_watched [] before after puts = subst (λ (x : VisitState). Watches before.machine.run.watch [] x.machine.run.watch) (sym puts) (watches_none before.machine.run.watch)
+each_watched [] before after puts = subst (λ (x : MachineAndCpu). Watches before.machine.run.watch [] x.machine.run.watch) (sym puts) (watches_none before.machine.run.watch)
 each_watched (f ∷ frames) before after puts =
-    watches_both before.machine.run.watch (cpu_makes before.cpu.number (step.Put f) (put_answer puts.first.answer) ∷ []) puts.between.machine.run.watch
+    watches_both before.machine.run.watch (put_steps before.cpu.part.number f puts.first.answer) puts.between.machine.run.watch
     (steps_of_puts frames puts.between after puts.rest) after.machine.run.watch puts.first.watched (each_watched frames puts.between after puts.rest)
 
 -- the watch takes the steps of all puts
-pub puts_watched : (m : KnownMachine) (cpus : List KnownCpu) (n : KnownMachine) (left : List KnownCpu) (puts : ForEachCpu PutsAllPins m cpus n left)
+pub puts_watched : (m : KnownMachine) (cpus : List CpuInRun) (n : KnownMachine) (left : List CpuInRun) (puts : ForEachCpu PutsAllPins m cpus n left)
     → Watches m.run.watch (steps_of_all_puts m cpus n left puts) n.run.watch
 puts_watched m [] n [] puts = subst (λ (k : KnownMachine). Watches m.run.watch [] k.run.watch) (sym puts) (watches_none m.run.watch)
 puts_watched m [] n (d ∷ left) puts = absurd puts
 puts_watched m (c ∷ cpus) n [] puts = absurd puts
 puts_watched m (c ∷ cpus) n (d ∷ left) puts =
-    watches_both m.run.watch (steps_of_puts puts.first.frames (visit_state m c) (visit_state puts.between d) puts.first.puts) puts.between.run.watch
+    watches_both m.run.watch (steps_of_puts puts.first.frames (machine_and_cpu m c) (machine_and_cpu puts.between d) puts.first.puts) puts.between.run.watch
     (steps_of_all_puts puts.between cpus n left puts.rest) n.run.watch
-    (each_watched puts.first.frames (visit_state m c) (visit_state puts.between d) puts.first.puts) (puts_watched puts.between cpus n left puts.rest)
+    (each_watched puts.first.frames (machine_and_cpu m c) (machine_and_cpu puts.between d) puts.first.puts) (puts_watched puts.between cpus n left puts.rest)
+
+-- ---- the run so far
+
+each_gains : (frames : List ℕ) (before after : MachineAndCpu) (puts : PutsEach frames before after)
+    → GainsSteps (own_past before.machine.run.past) (own_past before.cpu.past) (steps_of_puts frames before after puts)
+    (own_past after.machine.run.past) (own_past after.cpu.past)
+each_gains [] before after puts =
+    subst (λ (x : MachineAndCpu). GainsSteps (own_past before.machine.run.past) (own_past before.cpu.past) [] (own_past x.machine.run.past) (own_past x.cpu.past))
+    (sym puts) (none_gains (own_past before.machine.run.past) (own_past before.cpu.past) [] (own_past before.cpu.past) refl refl)
+each_gains (f ∷ frames) before after puts =
+    gains_both (own_past before.machine.run.past) (own_past before.cpu.past) (put_steps before.cpu.part.number f puts.first.answer)
+    (own_past puts.between.machine.run.past) (own_past puts.between.cpu.past) (steps_of_puts frames puts.between after puts.rest)
+    (own_past after.machine.run.past) (own_past after.cpu.past) puts.first.gains (each_gains frames puts.between after puts.rest)
+
+-- The steps of all puts go on from the run so far. The CPUs before these have the pasts `done`.
+pub puts_go_on : (done : List Past) (m : KnownMachine) (cpus : List CpuInRun) (n : KnownMachine) (left : List CpuInRun) (puts : ForEachCpu PutsAllPins m cpus n left)
+    (earlier : Run) → IsRunSoFar earlier (own_past m.run.past) (done ++ pasts_of cpus)
+    → IsRunSoFar (earlier ++ steps_of_all_puts m cpus n left puts) (own_past n.run.past) (done ++ pasts_of left)
+puts_go_on done m [] n [] puts earlier so_far =
+    subst (λ (x : Run × KnownMachine). IsRunSoFar x.0 (own_past x.1.run.past) (done ++ [])) (λ i. (sym (append-nil earlier) i, sym puts i)) so_far
+puts_go_on done m [] n (d ∷ left) puts earlier so_far = absurd puts
+puts_go_on done m (c ∷ cpus) n [] puts earlier so_far = absurd puts
+puts_go_on done m (c ∷ cpus) n (d ∷ left) puts earlier so_far =
+    let steps = steps_of_puts puts.first.frames (machine_and_cpu m c) (machine_and_cpu puts.between d) puts.first.puts in
+    let more = steps_of_all_puts puts.between cpus n left puts.rest in
+    let gains = each_gains puts.first.frames (machine_and_cpu m c) (machine_and_cpu puts.between d) puts.first.puts in
+    let one = gains_go_on earlier steps (own_past m.run.past) (own_past puts.between.run.past) (done ++ own_past c.past ∷ pasts_of cpus) (length done)
+    (own_past c.past) (own_past d.past) so_far (at_seam done (own_past c.past) (pasts_of cpus)) gains in
+    let now = subst (IsRunSoFar (earlier ++ steps) (own_past puts.between.run.past)) (set_seam done (own_past c.past) (own_past d.past) (pasts_of cpus)) one in
+    let rest = puts_go_on (done ++ own_past d.past ∷ []) puts.between cpus n left puts.rest (earlier ++ steps) now in
+    subst (λ (x : Run × List Past). IsRunSoFar x.0 (own_past n.run.past) x.1)
+    (λ i. (append_assoc earlier steps more i, append_assoc done (own_past d.past ∷ []) (pasts_of left) i)) rest
 
 -- ---- nothing is left
 
 pub leaves_nothing : (t : KnownTable) (w : KnownStockTable) (before : SystemState) (held : ℕ) (emptied : KnownEmptiedBoot) (locked : KnownLocked)
-    (cpus : List KnownCpu)
-    → held ≡ pins_of_all before.cpus → ForEachCpu PutsAllPins before.locked.machine before.cpus locked.machine cpus → locked.sizes ≡ before.locked.sizes
+    (cpus : List CpuInRun)
+    → held ≡ pins_of_all (parts_of before.cpus) → ForEachCpu PutsAllPins before.locked.machine before.cpus locked.machine cpus → locked.sizes ≡ before.locked.sizes
     → (held ≡ 0 → system_state locked cpus ≡ before) → MakesLastVisits t w locked cpus emptied → LeavesNothing t w before held emptied
 leaves_nothing t w before held emptied locked cpus held_are puts sizes free visits =
     let putting = steps_of_all_puts before.locked.machine before.cpus locked.machine cpus puts in
@@ -118,6 +170,9 @@ leaves_nothing t w before held emptied locked cpus held_are puts sizes free visi
       steps_are = refl;
       watched = watches_both before.locked.machine.run.watch putting locked.machine.run.watch visits.steps emptied.machine.run.watch
           (puts_watched before.locked.machine before.cpus locked.machine cpus puts) visits.watched;
+      so_far = λ earlier so_far. subst (λ (r : Run). IsRunSoFar r (own_past emptied.machine.run.past) (pasts_of emptied.cpus))
+          (append_assoc earlier putting visits.steps)
+          (visits.so_far (earlier ++ putting) (puts_go_on [] before.locked.machine before.cpus locked.machine cpus puts earlier so_far));
     }
 
 -- no pin was held

@@ -8,14 +8,18 @@ use Rattle.frame_word.specs.Seats.{KnownTable}
 use Rattle.stock_word.specs.Stock.{KnownStockTable}
 use Rattle.zone_blocks.specs.declared.config.Config.{Config}
 use Rattle.zone_blocks.specs.Config.{IsValidConfig}
+use Rattle.mem_system.specs.Cpus.{parts_of}
 use Rattle.mem_history.specs.Whole.{ShowsAll}
 use Rattle.mem_history.specs.Kept.{AreTied}
-use Rattle.script_replay.specs.Lines.{SystemState}
+use Rattle.step_rules.specs.After.{IsLegalRun, Run}
+use Rattle.mem_machine.specs.Interleaving.{zone_of}
+use Rattle.script_replay.specs.Lines.{HasRun, SystemState}
 use Rattle.script_replay.specs.History.{past}
 use Rattle.line_server.specs.declared.form.SessionForm.{SessionForm}
 use Rattle.line_server.specs.declared.form.SessionForm.TheVariants.{Answers, Steps}
 use Rattle.line_server.specs.Forms.{SessionTerms, session_terms}
-use Rattle.line_server.specs.Histories.{HasTurnsHistory, ReplaysTurns}
+use Rattle.line_server.specs.Histories.{HasTurnsHistory, ReplaysTurns, steps_of_turns}
+use Rattle.line_server.proofs.GoingOn.{turns_go_on}
 use Rattle.line_server.specs.Known.{KnownServer, terms_of}
 use Rattle.line_server.specs.Turns.{GivesAnswer, Turn}
 use Rattle.line_server.specs.Sessions.{FailsSession, ServesSession}
@@ -32,9 +36,10 @@ use Rattle.load_run.specs.Ending.{EndsHeld, boot_end_text}
 use Rattle.load_run.specs.Fault.{fault_text, fault_status_of}
 use Rattle.load_run.specs.Logs.{LogsEnd, log_head_text}
 use Rattle.load_run.specs.Sessions.{BeginsHead, DrivesSession, EndsInForm, EndsSession, IsOfValid, IsSameFault, IsWorkFault, LeavesSession}
-use Rattle.load_run.specs.Sessions.{LeavesWithHead, ServesInput, ServesWithHead, StopsSession, WritesHead}
+use Rattle.load_run.specs.Sessions.{LeavesWithHead, ServesInput, ServesWithHead, StopsSession, WritesHead, steps_of_end}
 use Rattle.line_server.specs.Writing.{AppendsBeginning}
 use Rattle.load_run.proofs.Starting.{boot_agrees, boot_shown, parts_tied}
+use Rattle.load_run.proofs.Whole.{whole_run}
 
 -- a fault at work has status 1
 work_status : (fault : ProgramFault) → IsWorkFault fault → fault_status_of fault ≡ 1
@@ -139,10 +144,17 @@ head_missed form sizes before is = subst (λ (f : SessionForm). BeginsHead f siz
 -- ---- on a boot
 
 -- turns that are replayed from a boot have their history
-history_of : (form : SessionForm) (t : KnownTable) (w : KnownStockTable) (turns : List Turn) (start end : SystemState) → ShowsAll t [] start.locked.machine start.cpus
-    → AreTied t w start.cpus → ReplaysTurns form t w turns start end → HasTurnsHistory form t w turns (past [] start) end
+history_of : (form : SessionForm) (t : KnownTable) (w : KnownStockTable) (turns : List Turn) (start end : SystemState) → ShowsAll t [] start.locked.machine (parts_of start.cpus)
+    → AreTied t w (parts_of start.cpus) → ReplaysTurns form t w turns start end → HasTurnsHistory form t w turns (past [] start) end
 history_of (Answers is_explained) t w turns start end shows tied replays = replays.history [] shows tied
 history_of Steps t w turns start end shows tied replays = replays [] shows tied
+
+-- if a run led to the end of a session, it and the steps of the end are a legal run
+end_legal : (form : SessionForm) (t : KnownTable) (w : KnownStockTable) (is_audited : Bool) (run : Run) (end : SystemState) (text : List ℕ) → HasRun run end
+    → (ends : EndsInForm form t w is_audited end text) → IsLegalRun (zone_of t) (run ++ steps_of_end form t w is_audited end text ends)
+end_legal (Answers is_explained) t w is_audited run end text has ends = (whole_run t w run end ends.ended has ends.ends).legal
+end_legal Steps t w is_audited run end text has ends =
+    let begun : HasRun run ends.begun = subst (HasRun run) (sym ends.renews.begun_is) has in (whole_run t w run ends.begun ends.ended begun ends.ends).legal
 
 module _ (options : Options) (form : SessionForm) (t : KnownTable) (w : KnownStockTable) (server : KnownServer) (start : SystemState)
     (new : IsNewBootState options.sizes t w start) (sized : server.sizes ≡ options.sizes) (formed : server.form ≡ form) (stands : server.state ≡ start) where
@@ -160,6 +172,8 @@ module _ (options : Options) (form : SessionForm) (t : KnownTable) (w : KnownSto
       → EndsInForm form t w options.is_audited left ending → EndsSession options form input before middle ending
   session_ends input before middle end left ending serves is ends =
       let session = as_made (λ on sizes s. ServesSession on sizes input s end before middle) serves in
+      let history = history_of form t w session.turns start end (boot_shown _ _ _ _ new) (parts_tied _ _ _ _ new) session.holds.replays in
+      let end_is = subst (λ (s : SystemState). EndsInForm form t w options.is_audited s ending) is ends in
       record {
         frames = t;
         stocks = w;
@@ -167,9 +181,11 @@ module _ (options : Options) (form : SessionForm) (t : KnownTable) (w : KnownSto
         end = end;
         first = new;
         session = session;
-        history = history_of form t w session.turns start end (boot_shown _ _ _ _ new) (parts_tied _ _ _ _ new) session.holds.replays;
+        history = history;
         agrees = boot_agrees _ _ _ _ new;
-        ends = subst (λ (s : SystemState). EndsInForm form t w options.is_audited s ending) is ends;
+        ends = end_is;
+        legal = end_legal form t w options.is_audited (steps_of_turns form t w session.turns (past [] start) end history) end ending
+            (turns_go_on form t w session.turns (past [] start) end history [] new.so_far) end_is;
       }
 
   -- or the session failed

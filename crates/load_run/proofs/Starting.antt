@@ -15,7 +15,10 @@ use Rattle.mem_machine.specs.Machines.{KnownMachine, IsFirst, with_watch}
 use Rattle.mem_history.specs.Whole.{ShowsAll}
 use Rattle.mem_history.specs.Kept.{AreTied, IsTiedPart}
 use Rattle.mem_history.proofs.Booting.{a_boot_is_shown}
+use Rattle.boot_words.specs.Pasts.{KnownPasts, own_past}
+use Rattle.boot_words.specs.Growth.{IsRunSoFar}
 use Rattle.mem_system.specs.Boots.{IsSizedAs, part_at_first, first_cpus}
+use Rattle.mem_system.specs.Cpus.{CpuInRun, parts_of, pasts_of}
 use Rattle.mem_machine.specs.Agreeing.{AgreesWithRun}
 use Rattle.mem_history.proofs.Agreeing.{a_boot_agrees}
 use Rattle.mem_system.proofs.Closing.{written_back}
@@ -50,31 +53,32 @@ first_tied t w p low high payer = record {
 }
 
 -- the parts of a boot as they are made
-pub new_state : (booted sizes : Config) (t : KnownTable) (w : KnownStockTable) (locked : KnownLocked) (cpus : List KnownCpu) → booted ≡ sizes
-    → IsSizedAs booted t w → IsFirst t w locked.machine → locked.sizes ≡ booted → cpus ≡ first_cpus t w 1 booted.cpus
+pub new_state : (booted sizes : Config) (t : KnownTable) (w : KnownStockTable) (locked : KnownLocked) (cpus : List CpuInRun) → booted ≡ sizes
+    → IsSizedAs booted t w → IsFirst t w locked.machine → locked.sizes ≡ booted → parts_of cpus ≡ first_cpus t w 1 booted.cpus
+    → IsRunSoFar [] (own_past locked.machine.run.past) (pasts_of cpus)
     → IsNewBootState sizes t w (system_state locked cpus)
-new_state booted sizes t w locked cpus same sized machine sizes_are are =
+new_state booted sizes t w locked cpus same sized machine sizes_are are so_far =
     subst (λ (s : Config). IsNewBootState s t w (system_state locked cpus)) same
-    (record { sized = sized; machine = machine; sizes_are = sizes_are; cpus = are })
+    (record { sized = sized; machine = machine; sizes_are = sizes_are; cpus = are; so_far = so_far })
 
 module _ (sizes : Config) (t : KnownTable) (w : KnownStockTable) (start : SystemState) (new : IsNewBootState sizes t w start) where
-  each_first : (k : ℕ) (c : KnownCpu) → slice_get start.cpus k ≡ Some c → c ≡ part_at_first t w (suc k)
+  each_first : (k : ℕ) (c : KnownCpu) → slice_get (parts_of start.cpus) k ≡ Some c → c ≡ part_at_first t w (suc k)
   each_first k c at =
       first_at t w 1 sizes.cpus k c (subst (λ (l : List KnownCpu). slice_get l k ≡ Some c) new.cpus at) ∙ ap (part_at_first t w) (omega arith)
 
-  cpus_long : length start.cpus ≡ sizes.cpus
+  cpus_long : length (parts_of start.cpus) ≡ sizes.cpus
   cpus_long = ap length new.cpus ∙ first_long t w 1 sizes.cpus
 
-  pub boot_shown : ShowsAll t [] start.locked.machine start.cpus
-  boot_shown = a_boot_is_shown t w start.locked.machine start.cpus (record {
+  pub boot_shown : ShowsAll t [] start.locked.machine (parts_of start.cpus)
+  boot_shown = a_boot_is_shown t w start.locked.machine (parts_of start.cpus) (record {
     machine = new.machine;
     count = cpus_long ∙ sym new.sized.cpus;
     each = each_first;
   })
 
-  pub parts_tied : AreTied t w start.cpus
+  pub parts_tied : AreTied t w (parts_of start.cpus)
   parts_tied k c at =
-      let below = slice_get_within start.cpus k c at in
+      let below = slice_get_within (parts_of start.cpus) k c at in
       let long = cpus_long in
       let frames = new.sized.cpus in
       let payers = new.sized.stock_cpus in
@@ -92,8 +96,16 @@ pub lines_there : (sizes : Config) (t : KnownTable) (w : KnownStockTable) (parts
 lines_there sizes t w parts lines sized long all =
     subst (λ (b : ℕ × ℕ). All (LineInRange b.0 b.1) lines) (λ i. (sym sized.frames i, (sym sized.cpus ∙ sym long) i)) all
 
+-- the CPUs that were lent as a slice are those of the boot
+pub lent_parts : {parts : List KnownCpu} (lent given : List CpuInRun) → lent ≡ given → parts_of given ≡ parts → parts_of lent ≡ parts
+lent_parts lent given same are = ap parts_of same ∙ are
+
+pub lent_so_far : {past : KnownPasts} (lent given : List CpuInRun) → lent ≡ given → IsRunSoFar [] (own_past past) (pasts_of given)
+    → IsRunSoFar [] (own_past past) (pasts_of lent)
+lent_so_far {past = past} lent given same so_far = subst (λ (l : List CpuInRun). IsRunSoFar [] (own_past past) (pasts_of l)) (sym same) so_far
+
 -- the parts that were lent as a slice, and are back in their vector
-pub given_back : (len : ℕ) (given lent now : List KnownCpu) → lent ≡ given → length lent ≡ len → length now ≡ length lent
+pub given_back : (len : ℕ) (given lent now : List CpuInRun) → lent ≡ given → length lent ≡ len → length now ≡ length lent
     → take len (now ++ drop (length now) given) ≡ now
 given_back len given lent now same count long = written_back len now given (long ∙ ap length same) (sym count ∙ ap length same)
 

@@ -1,14 +1,16 @@
 -- Why a replay that is checked gives no answers. Serves `check_on_boot`, `answers_on_boot`.
-use Rattle.std.proofs.Common.{◌≡◌, ◌∙◌, Bool, true, List, Result, Ok, Err, IfErr, ap, subst, sym}
+use Rattle.std.proofs.Common.{◌≡◌, ◌∙◌, Bool, true, List, [], Result, Ok, Err, IfErr, ap, subst, sym}
 use Rattle.frame_word.specs.Seats.{KnownTable}
 use Rattle.stock_word.specs.Stock.{KnownStockTable}
 use Rattle.zone_blocks.specs.declared.config.Config.{Config}
-use Rattle.cpu_part.specs.Cpus.{KnownCpu}
 use Rattle.step_watch.specs.Watched.{IsNewWatch, KnownWatch}
 use Rattle.mem_core.specs.Shown as core
 use Rattle.mem_machine.specs.Interleaving.{zone_of}
 use Rattle.mem_machine.specs.Machines.{IsFirst, with_watch}
+use Rattle.boot_words.specs.Pasts.{own_past}
+use Rattle.boot_words.specs.Growth.{IsRunSoFar}
 use Rattle.mem_system.specs.Boots.{IsSizedAs, first_cpus}
+use Rattle.mem_system.specs.Cpus.{CpuInRun, parts_of, pasts_of}
 use Rattle.mem_system.specs.Locked.{KnownLocked}
 use Rattle.script_lines.specs.declared.line.Line.{Line}
 use Rattle.script_replay.specs.declared.form.Form.{Form}
@@ -27,16 +29,18 @@ use Rattle.load_run.specs.Stopping.{IsCheckFault, IsNewWatchedState, OfCheckedFo
 use Rattle.load_run.proofs.Starting.{new_watch, watched_first}
 
 -- a new boot that was given a new watch
-pub new_watched : (booted sizes : Config) (t : KnownTable) (w : KnownStockTable) (locked : KnownLocked) (cpus : List KnownCpu) (watch : KnownWatch)
+pub new_watched : (booted sizes : Config) (t : KnownTable) (w : KnownStockTable) (locked : KnownLocked) (cpus : List CpuInRun) (watch : KnownWatch)
     (after : KnownLocked) → IsSizedAs booted t w → booted ≡ sizes → IsFirst t w locked.machine → locked.sizes ≡ booted
-    → cpus ≡ first_cpus t w 1 booted.cpus → IsNewWatch (core.zone_of_config sizes) watch → after ≡ record locked { machine = with_watch locked.machine watch }
+    → parts_of cpus ≡ first_cpus t w 1 booted.cpus → IsRunSoFar [] (own_past locked.machine.run.past) (pasts_of cpus)
+    → IsNewWatch (core.zone_of_config sizes) watch → after ≡ record locked { machine = with_watch locked.machine watch }
     → IsNewWatchedState booted t w (system_state after cpus)
-new_watched booted sizes t w locked cpus watch after sized same first sizes_are are new is = record {
+new_watched booted sizes t w locked cpus watch after sized same first sizes_are are so_far new is = record {
   first = record {
     sized = sized;
     machine = subst (λ (l : KnownLocked). IsFirst t w l.machine) (sym is) (watched_first t w locked.machine watch first);
     sizes_are = ap (λ (l : KnownLocked). l.sizes) is ∙ sizes_are;
     cpus = are;
+    so_far = subst (λ (l : KnownLocked). IsRunSoFar [] (own_past l.machine.run.past) (pasts_of cpus)) (sym is) so_far;
   };
   watched = subst (λ (l : KnownLocked). IsNewWatch (zone_of t) l.machine.run.watch) (sym is) (new_watch booted sizes t w sized same watch new);
 }

@@ -7,6 +7,7 @@ use Rattle.stock_word.specs.Stock.{KnownStockTable}
 use Rattle.zone_blocks.specs.declared.config.Config.{Config}
 use Rattle.zone_blocks.specs.Config.{IsValidConfig}
 use Rattle.step_rules.specs.After.{Run as StepRun, IsLegalRun}
+use Rattle.boot_words.specs.Words.{IsRunOf}
 use Rattle.mem_core.specs.Promise.{AlwaysKeepsPromise}
 use Rattle.mem_machine.specs.Interleaving.{zone_of}
 use Rattle.mem_machine.specs.Agreeing.{AgreesWithRun}
@@ -22,7 +23,7 @@ use Rattle.script_replay.specs.Runs.{lines_before_go}
 use Rattle.load_options.specs.declared.task.Options.{Options}
 use Rattle.load_options.specs.declared.task.Task.{Task}
 use Rattle.load_options.specs.declared.task.Task.TheVariants.{Replay, Steps, Run}
-use Rattle.load_run.specs.Ending.{WritesEnd}
+use Rattle.load_run.specs.Ending.{WritesEnd, last_words}
 use Rattle.load_run.specs.Logs.{AreLoggedSteps}
 -- the state after a boot
 pub use Rattle.load_run.specs.Starting.{IsNewBootState}
@@ -33,33 +34,11 @@ abbrev pub bytes_read : List ℕ → List ℕ
 bytes_read input = take (longest_script + 1) input
 
 -- What a boot with these sizes answers to the lines, one after the other, with explanations or without, and then
--- reports of its end. All steps of the lines together are one run from the boot on. Its history says of each line
--- that the promise is kept after it, if the run is legal. The ledger of the boot is that of a run without steps, so
--- after each line each group's peak and event counts are those of the run so far.
+-- reports of its end. All steps of the lines and then of the end are one legal run from the boot on, and what is left in
+-- the words of the boot's table at its end is what this run leads to. The promise holds after each beginning of the run
+-- that leaves the lock free. After each line it holds of what the machine and the CPUs show, and each group's peak and
+-- event counts are those of the run so far, as the ledger of the boot is that of a run without steps.
 pub record AreReplayAnswers (sizes : Config) (form : Form) (is_audited : Bool) (lines : List Line) (text : List ℕ)
-    : Type 0 where
-  pub frames : KnownTable
-  pub stocks : KnownStockTable
-  pub start : SystemState
-  pub end : SystemState
-  pub answers : List ℕ
-  pub ending : List ℕ
-  pub first : IsNewBootState sizes frames stocks start
-  pub served : ServesAll (form_terms frames stocks form) lines start end answers
-  pub history : HasHistory (form_terms frames stocks form) lines (past [] start) end answers
-  pub agrees : AgreesWithRun frames [] start.locked.machine.ledger
-  pub ends : WritesEnd frames stocks is_audited end ending
-  pub text_is : text ≡ answers ++ ending
-
--- the line that says how many steps were checked
-abbrev pub checked_text : ℕ → List ℕ
-checked_text steps = codes "checked " ++ (decimal steps ++ codes " steps\n")
-
--- What a boot with these sizes answers to the lines if each step is checked: as without the check, and then how many
--- steps were made, by the lines and by the end. All these steps are one legal run from the boot on. The promise holds
--- after each beginning of the run that leaves the lock free. After each line it holds of what the machine and the CPUs
--- show, and each group's peak and event counts are those of the run so far.
-pub record AreCheckedAnswers (sizes : Config) (form : Form) (is_audited : Bool) (lines : List Line) (text : List ℕ)
     : Type 0 where
   pub frames : KnownTable
   pub stocks : KnownStockTable
@@ -71,12 +50,26 @@ pub record AreCheckedAnswers (sizes : Config) (form : Form) (is_audited : Bool) 
   pub first : IsNewBootState sizes frames stocks start
   pub served : ServesAll (form_terms frames stocks form) lines start end answers
   pub history : KeepsHistory (form_terms frames stocks form) lines (past [] start) (past run end) answers
+  pub agrees : AgreesWithRun frames [] start.locked.machine.ledger
   pub ends : WritesEnd frames stocks is_audited end ending
   pub whole : StepRun
   pub whole_is : whole ≡ run ++ ends.ends.leaves.steps
   pub legal : IsLegalRun (zone_of frames) whole
   pub promise : AlwaysKeepsPromise (zone_of frames) whole
-  pub text_is : text ≡ answers ++ (ending ++ checked_text (length whole))
+  pub last : IsRunOf (zone_of frames) (last_words ends.ends.closes) whole
+  pub text_is : text ≡ answers ++ ending
+
+-- the line that says how many steps were checked
+abbrev pub checked_text : ℕ → List ℕ
+checked_text steps = codes "checked " ++ (decimal steps ++ codes " steps\n")
+
+-- What a boot with these sizes answers to the lines if each step is checked: as without the check, and then how many
+-- steps were made, by the lines and by the end.
+pub record AreCheckedAnswers (sizes : Config) (form : Form) (is_audited : Bool) (lines : List Line) (text : List ℕ)
+    : Type 0 where
+  pub shown : List ℕ
+  pub replay : AreReplayAnswers sizes form is_audited lines shown
+  pub text_is : text ≡ shown ++ checked_text (length replay.whole)
 
 -- no visit is open behind the lock, and there are as many parts as CPUs
 pub record IsQuietSystem (frames : KnownTable) (stock_table : KnownStockTable) (now : SystemState) : Type 0 where

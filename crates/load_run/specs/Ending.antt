@@ -4,69 +4,79 @@ use Rattle.std.specs.Fmt.{decimal}
 use Rattle.frame_word.specs.declared.answers.Put.{Put}
 use Rattle.frame_word.specs.Seats.{KnownTable}
 use Rattle.stock_word.specs.Stock.{KnownStockTable}
-use Rattle.cpu_part.specs.Cpus.{KnownCpu}
+use Rattle.boot_words.specs.Pasts.{own_past}
+use Rattle.boot_words.specs.Words.{Words}
+use Rattle.boot_words.specs.Growth.{GainsSteps, IsRunSoFar}
 use Rattle.cpu_part.specs.Calls.{UnpinAnswers}
 use Rattle.step_rules.specs.declared.step.Action.TheVariants as step
 use Rattle.step_rules.specs.After.{Run}
 use Rattle.step_watch.specs.Watched.{Watches, cpu_makes, has_legal_steps, steps_seen}
-use Rattle.mem_machine.specs.Machines.{KnownMachine, VisitState, visit_state, with_watch}
+use Rattle.mem_machine.specs.Machines.{KnownMachine, with_run}
 use Rattle.mem_history.specs.Leading.{put_answer}
 use Rattle.mem_system.specs.declared.audit.Audit.{Audit}
-use Rattle.mem_system.specs.Ends.{Closes, ForEachCpu, KnownEmptiedBoot, MakesLastVisits, pins_of_all}
+use Rattle.mem_system.specs.Cpus.{CpuInRun, parts_of, pasts_of}
+use Rattle.mem_system.specs.Ends.{Closes, ForEachCpu, KnownEmptiedBoot, MachineAndCpu, MakesLastVisits, machine_and_cpu}
+use Rattle.mem_system.specs.Ends.{pins_of_all}
 use Rattle.mem_system.specs.Locked.{KnownLocked}
-use Rattle.script_replay.specs.Lines.{SystemState, system_state}
+use Rattle.script_replay.specs.Lines.{HasRun, SystemState, system_state}
 use Rattle.load_run.specs.declared.boot_end.BootEnd.{BootEnd}
 use Rattle.load_run.specs.declared.boot_end.CheckedSteps.{CheckedSteps}
 
--- a pin of this frame is put, and the machine's watch takes the step
-pub record PutsHeldPin (frame : ℕ) (before after : VisitState) : Type 0 where
+-- the step of a put of this frame
+abbrev pub put_steps : (cpu frame : ℕ) → Put → Run
+put_steps cpu frame answer = cpu_makes cpu (step.Put frame) (put_answer answer) ∷ []
+
+-- A pin of this frame is put, and the machine's watch takes the step. The pasts of the zone and of the CPU gain it behind
+-- all that the zone's past had.
+pub record PutsHeldPin (frame : ℕ) (before after : MachineAndCpu) : Type 0 where
   pub answer : Put
-  pub cpu : UnpinAnswers frame answer before.cpu after.cpu
-  pub machine : after.machine ≡ with_watch before.machine after.machine.run.watch
-  pub watched : Watches before.machine.run.watch
-      (cpu_makes before.cpu.number (step.Put frame) (put_answer answer) ∷ []) after.machine.run.watch
+  pub cpu : UnpinAnswers frame answer before.cpu.part after.cpu.part
+  pub machine : after.machine ≡ with_run before.machine after.machine.run
+  pub watched : Watches before.machine.run.watch (put_steps before.cpu.part.number frame answer) after.machine.run.watch
+  pub gains : GainsSteps (own_past before.machine.run.past) (own_past before.cpu.past)
+      (put_steps before.cpu.part.number frame answer) (own_past after.machine.run.past) (own_past after.cpu.past)
 
 -- a pin of this frame is put, and then what is to be put after it
-pub record PutsFirstAndRest (frame : ℕ) (puts_rest : (before after : VisitState) → Type 0)
-    (before after : VisitState) : Type 0 where
-  pub between : VisitState
+pub record PutsFirstAndRest (frame : ℕ) (puts_rest : (before after : MachineAndCpu) → Type 0)
+    (before after : MachineAndCpu) : Type 0 where
+  pub between : MachineAndCpu
   pub first : PutsHeldPin frame before between
   pub rest : puts_rest between after
 
 -- a pin of each of these frames is put, one after the other
-abbrev pub PutsEach : List ℕ → (before after : VisitState) → Type 0
+abbrev pub PutsEach : List ℕ → (before after : MachineAndCpu) → Type 0
 PutsEach [] before after = after ≡ before
 PutsEach (frame ∷ frames) before after = PutsFirstAndRest frame (PutsEach frames) before after
 
 -- the steps of these puts
-abbrev pub steps_of_puts : (frames : List ℕ) (before after : VisitState) → PutsEach frames before after → Run
+abbrev pub steps_of_puts : (frames : List ℕ) (before after : MachineAndCpu) → PutsEach frames before after → Run
 steps_of_puts [] before after puts = []
 steps_of_puts (frame ∷ frames) before after puts =
-    cpu_makes before.cpu.number (step.Put frame) (put_answer puts.first.answer)
-    ∷ steps_of_puts frames puts.between after puts.rest
+    put_steps before.cpu.part.number frame puts.first.answer ++ steps_of_puts frames puts.between after puts.rest
 
 -- every pin of the CPU is put
-pub record PutsAllPins (before after : VisitState) : Type 0 where
+pub record PutsAllPins (before after : MachineAndCpu) : Type 0 where
   pub frames : List ℕ
   pub puts : PutsEach frames before after
-  pub none_left : after.cpu.pins ≡ []
+  pub none_left : after.cpu.part.pins ≡ []
 
 -- the steps of the puts of all pins, one CPU after the other
-abbrev pub steps_of_all_puts : (before : KnownMachine) (cpus : List KnownCpu) (after : KnownMachine)
-    (left : List KnownCpu) → ForEachCpu PutsAllPins before cpus after left → Run
+abbrev pub steps_of_all_puts : (before : KnownMachine) (cpus : List CpuInRun) (after : KnownMachine)
+    (left : List CpuInRun) → ForEachCpu PutsAllPins before cpus after left → Run
 steps_of_all_puts before [] after left puts = []
 steps_of_all_puts before (cpu ∷ cpus) after [] puts = []
 steps_of_all_puts before (cpu ∷ cpus) after (cpu_left ∷ left) puts =
-    steps_of_puts puts.first.frames (visit_state before cpu) (visit_state puts.between cpu_left) puts.first.puts
+    steps_of_puts puts.first.frames (machine_and_cpu before cpu) (machine_and_cpu puts.between cpu_left) puts.first.puts
     ++ steps_of_all_puts puts.between cpus after left puts.rest
 
 -- Nothing is left at any CPU, after so many pins were held. Every pin is put, one CPU after the other, and then the
--- last visits are made. These are all steps, in order, and the machine's watch took them.
+-- last visits are made. These are all steps, in order, and the machine's watch took them. If earlier steps were the run
+-- so far, these go on from there.
 pub record LeavesNothing (table : KnownTable) (stock_table : KnownStockTable) (before : SystemState) (held : ℕ)
     (emptied : KnownEmptiedBoot) : Type 0 where
-  pub held_are : held ≡ pins_of_all before.cpus
+  pub held_are : held ≡ pins_of_all (parts_of before.cpus)
   pub locked : KnownLocked
-  pub cpus : List KnownCpu
+  pub cpus : List CpuInRun
   pub puts : ForEachCpu PutsAllPins before.locked.machine before.cpus locked.machine cpus
   pub sizes : locked.sizes ≡ before.locked.sizes
   pub free : held ≡ 0 → system_state locked cpus ≡ before
@@ -75,6 +85,8 @@ pub record LeavesNothing (table : KnownTable) (stock_table : KnownStockTable) (b
   pub steps_are : steps
       ≡ steps_of_all_puts before.locked.machine before.cpus locked.machine cpus puts ++ visits.steps
   pub watched : Watches before.locked.machine.run.watch steps emptied.machine.run.watch
+  pub so_far : (earlier : Run) → HasRun earlier before
+      → IsRunSoFar (earlier ++ steps) (own_past emptied.machine.run.past) (pasts_of emptied.cpus)
 
 -- The boot ended, and says how many pins were held. Every pin was put, the last visits were made, and then the tables
 -- were closed.
@@ -83,6 +95,11 @@ pub record EndsHeld (table : KnownTable) (stock_table : KnownStockTable) (before
   pub emptied : KnownEmptiedBoot
   pub leaves : LeavesNothing table stock_table before ended.held emptied
   pub closes : Closes table stock_table emptied ended.audit
+
+-- the words of the table when it was closed
+abbrev pub last_words : {table : KnownTable} {stock_table : KnownStockTable} {emptied : KnownEmptiedBoot} {audit : Audit}
+    → Closes table stock_table emptied audit → Words
+last_words closes = record { frames = closes.frame_words; stocks = closes.stock_words }
 
 -- a boot ended from this state, and this is what the machine's watch saw of all steps
 pub record EndsChecked (table : KnownTable) (stock_table : KnownStockTable) (before : SystemState) (ended : BootEnd)

@@ -1,10 +1,12 @@
 -- What a session promises, by the status that it ends with.
-use Rattle.std.specs.Prelude.{◌≡◌, ◌⊎◌, ℕ, ◌≤◌, Bool, List, [], Option, Some, ⊤}
+use Rattle.std.specs.Prelude.{◌≡◌, ◌⊎◌, ℕ, ◌≤◌, Bool, List, [], ◌++◌, Option, Some, ⊤}
 use Rattle.std.specs.Io.KnownBytes.{Appends}
 use Rattle.frame_word.specs.Seats.{KnownTable}
 use Rattle.stock_word.specs.Stock.{KnownStockTable}
 use Rattle.zone_blocks.specs.declared.config.Config.{Config}
 use Rattle.zone_blocks.specs.Config.{IsValidConfig}
+use Rattle.step_rules.specs.After.{Run, IsLegalRun}
+use Rattle.mem_machine.specs.Interleaving.{zone_of}
 use Rattle.mem_machine.specs.Agreeing.{AgreesWithRun}
 use Rattle.script_replay.specs.History.{past}
 use Rattle.script_replay.specs.Lines.{SystemState}
@@ -13,7 +15,7 @@ use Rattle.line_server.specs.declared.fault.ServeFault.TheVariants as serve
 use Rattle.line_server.specs.declared.form.SessionForm.{SessionForm}
 use Rattle.line_server.specs.declared.form.SessionForm.TheVariants.{Answers, Steps}
 use Rattle.line_server.specs.Forms.{session_terms}
-use Rattle.line_server.specs.Histories.{HasTurnsHistory}
+use Rattle.line_server.specs.Histories.{HasTurnsHistory, steps_of_turns}
 use Rattle.line_server.specs.Sessions.{FailsSession, ServesSession}
 use Rattle.load_options.specs.declared.fault.WordsFault.TheVariants as words
 use Rattle.load_options.specs.declared.task.Options.{Options}
@@ -32,10 +34,16 @@ abbrev pub EndsInForm : SessionForm → KnownTable → KnownStockTable → (is_a
 EndsInForm (Answers is_explained) frames stocks is_audited before text = WritesEnd frames stocks is_audited before text
 EndsInForm Steps frames stocks is_audited before text = LogsEnd frames stocks before text
 
+-- the steps of the end of a session of this form
+abbrev pub steps_of_end : (form : SessionForm) (frames : KnownTable) (stocks : KnownStockTable) (is_audited : Bool)
+    (before : SystemState) (text : List ℕ) → EndsInForm form frames stocks is_audited before text → Run
+steps_of_end (Answers is_explained) frames stocks is_audited before text ends = ends.ends.leaves.steps
+steps_of_end Steps frames stocks is_audited before text ends = ends.ends.leaves.steps
+
 -- A new boot served a session on an input, and ended. `middle` is what the output holds after the session, and `ending`
--- the text of the end, if there is one. All steps of the lines that were served are one run from the boot on. Its
--- history says of each line that the promise is kept after it, if the run is legal. The ledger of the boot is that of a
--- run without steps.
+-- the text of the end, if there is one. All steps of the lines that were served, and then of the end, are one legal run
+-- from the boot on. Its history says of each line that the promise is kept after it, as each beginning of the run is
+-- legal. The ledger of the boot is that of a run without steps.
 pub record EndsSession (options : Options) (form : SessionForm) (input before middle : Option (List ℕ))
     (ending : List ℕ) : Type 0 where
   pub frames : KnownTable
@@ -47,6 +55,8 @@ pub record EndsSession (options : Options) (form : SessionForm) (input before mi
   pub history : HasTurnsHistory form frames stocks session.turns (past [] start) end
   pub agrees : AgreesWithRun frames [] start.locked.machine.ledger
   pub ends : EndsInForm form frames stocks options.is_audited end ending
+  pub legal : IsLegalRun (zone_of frames) (steps_of_turns form frames stocks session.turns (past [] start) end history
+      ++ steps_of_end form frames stocks options.is_audited end ending ends)
 
 -- a session ended, and all of the text of its end was written behind its answers
 pub record ServesInput (options : Options) (form : SessionForm) (input before after : Option (List ℕ)) : Type 0 where

@@ -3,8 +3,7 @@
 ghost use Rattle.std.specs.Prelude.{◌≡◌, ◌++◌, ◌≤◌, OnOk, length};
 ghost use Rattle.std.specs.String.{string_bytes};
 ghost use Rattle.cpu_part.specs.Cpus.{times};
-ghost use Rattle.mem_machine.specs.Machines.{visit_state};
-ghost use Rattle.mem_system.specs.Ends.{ForEachCpu};
+ghost use Rattle.mem_system.specs.Ends.{ForEachCpu, machine_and_cpu};
 ghost use Rattle.script_replay.specs.Lines.{system_state};
 ghost use Rattle.load_run.specs.Ending.{EndsChecked, EndsHeld, LeavesNothing, PutsAllPins, PutsHeldPin};
 ghost use Rattle.load_run.specs.Ending.{audit_counts_text, audit_places_text, audit_text, held_text};
@@ -33,24 +32,29 @@ pub struct CheckedSteps {
     pub steps: u64,
 }
 
-// Puts a pin of the frame. The machine's watch takes the step.
+// Puts a pin of the frame. The zone and the CPU see the same run before it and after it, so the zone knows the step behind
+// all steps before it. The machine's watch takes it.
 fn put_pin<N: BootName>(locked: &mut Locked<N>, tables: &Tables<N>, cpu: &mut Cpu<N>, frame: Frame)
-    requires pinned { 1 ≤ times frame cpu.old.pins }
-    ensures puts { PutsHeldPin frame (visit_state locked.old.machine cpu.old) (visit_state locked.new.machine cpu.new) }
+    requires pinned { 1 ≤ times frame cpu.old.part.pins }
+    ensures puts { PutsHeldPin frame (machine_and_cpu locked.old.machine cpu.old)
+        (machine_and_cpu locked.new.machine cpu.new) }
     ensures sizes { locked.new.sizes ≡ locked.old.sizes }
 {
     let cpu_number = cpu.number();
+    locked.meet(tables, cpu);
     let answer = match cpu.put(tables, frame) {
         Put::Left(left) => Answer::Left(left as u32),
         Put::Last => Answer::Last,
     };
+    locked.meet(tables, cpu); // The zone sees the step.
     let frame = frame.number();
     locked.take_step(cpu_number, Action::Put { frame }, answer);
 }
 
 // Puts every pin of the CPU.
 fn put_pins<N: BootName>(locked: &mut Locked<N>, tables: &Tables<N>, cpu: &mut Cpu<N>)
-    ensures puts { PutsAllPins (visit_state locked.old.machine cpu.old) (visit_state locked.new.machine cpu.new) }
+    ensures puts { PutsAllPins (machine_and_cpu locked.old.machine cpu.old)
+        (machine_and_cpu locked.new.machine cpu.new) }
     ensures sizes { locked.new.sizes ≡ locked.old.sizes }
 {
     while let Some(frame) = cpu.first_pin() {

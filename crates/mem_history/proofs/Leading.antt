@@ -441,10 +441,10 @@ consume_same p g x y same is = (
   subst (λ (part : Part). 1 ≤ part.stock.pages) same is.2,
 )
 
--- the steps lead to the machine with a watch that took them
+-- the steps lead to the machine with a run whose watch took them
 watched : (t : KnownTable) (m : KnownMachine) (c d : KnownCpu) (steps : Run) → LeadsAs t c.number (visit_state m c) steps (visit_state m d)
     → LeadsWatched t (visit_state m c) steps d
-watched t m c d steps made w took = record { leads = made.leads; follows = made.follows; counts = made.counts }
+watched t m c d steps made run took = record { leads = made.leads; follows = made.follows; counts = made.counts }
 
 pub fast_calls_lead : FastCallsLead
 fast_calls_lead = record {

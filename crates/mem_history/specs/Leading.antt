@@ -13,20 +13,21 @@ use Rattle.step_rules.specs.declared.step.Action.TheVariants.{Get, Put, Consume,
 use Rattle.step_rules.specs.declared.step.Answer.{Answer}
 use Rattle.step_rules.specs.declared.step.Answer.TheVariants.{Held, Left, Last, Took, Stocked}
 use Rattle.step_rules.specs.After.{Run}
-use Rattle.mem_machine.specs.Machines.{KnownMachine, VisitState, visit_state, with_watch}
+use Rattle.mem_machine.specs.Machines.{KnownMachine, VisitState, visit_state, with_run}
+use Rattle.mem_machine.specs.Noted.{KnownRun}
 use Rattle.mem_machine.specs.Steps.{cpu_makes}
 use Rattle.mem_history.specs.Whole.{ShowsAll, AreDecided, LeadsOn}
-use Rattle.step_watch.specs.Watched.{KnownWatch, Watches}
+use Rattle.step_watch.specs.Watched.{Watches}
 
 -- the answer of the step Put, for what the part's put answered
 abbrev pub put_answer : Putted → Answer
 put_answer (put.Left left) = Left left
 put_answer put.Last = Last
 
--- these steps lead the CPU to this part, and change nothing behind the lock, except that the machine's watch took them
+-- these steps lead the CPU to this part, and change nothing behind the lock but the machine's run, whose watch took them
 abbrev pub LeadsWatched : KnownTable → VisitState → Run → KnownCpu → Type 0
-LeadsWatched table before steps later = (watch : KnownWatch) → Watches before.machine.run.watch steps watch
-    → LeadsOn table before steps (visit_state (with_watch before.machine watch) later)
+LeadsWatched table before steps later = (run : KnownRun) → Watches before.machine.run.watch steps run.watch
+    → LeadsOn table before steps (visit_state (with_run before.machine run) later)
 
 -- the run shows the whole, and this is its part at this index, tied to its seats
 pub record IsPart (table : KnownTable) (stock_table : KnownStockTable) (run : Run) (machine : KnownMachine)

@@ -15,7 +15,7 @@ use Rattle.step_rules.specs.Legal.{IsAnswer, IsCounted}
 use Rattle.step_rules.specs.After.{Run, after, state_of, IsLegalRun}
 use Rattle.step_rules.specs.Views.{seen_by}
 use Rattle.step_rules.specs.Reaches.{is_own}
-use Rattle.mem_machine.specs.Machines.{KnownMachine, VisitState, visit_state, with_watch}
+use Rattle.mem_machine.specs.Machines.{KnownMachine, VisitState, visit_state, with_run}
 use Rattle.mem_machine.specs.Local.{IsLocalRun, Makes, local_at, local_of}
 use Rattle.mem_machine.specs.Following.{FollowsSteps}
 use Rattle.mem_machine.specs.Counting.{counts_along}
@@ -130,13 +130,13 @@ is_fast (Credit frame) = true
 is_fast _ = false
 
 -- the CPU whose part is at this index makes one such step, answered as all parts decide; what lies behind the lock
--- stays, except what the watch saw
+-- stays, except what its run has: its past and what the watch saw
 pub record ServesFast (table : KnownTable) (cpus : List KnownCpu) (index : ℕ)
     (before : VisitState) (action : Action) (answer : Answer) (after : VisitState) : Type 0 where
   pub is_part : slice_get cpus index ≡ Some before.cpu
   pub number : after.cpu.number ≡ before.cpu.number
   pub fast : is_fast action ≡ true
-  pub machine : after.machine ≡ with_watch before.machine after.machine.run.watch
+  pub machine : after.machine ≡ with_run before.machine after.machine.run
   pub leads : LeadsOn table before (cpu_makes before.cpu.number action answer ∷ []) after
   pub decided : AreDecided table cpus before (cpu_makes before.cpu.number action answer ∷ [])
 

@@ -1,12 +1,13 @@
 -- The lines that were served so far, and their history. Serves `serve_line`, `replay`.
 use Rattle.std.proofs.Common.{Result, IfOk, ◌≡◌, ℕ, Bool, ◌+◌, ◌-◌, ◌<◌, ◌≤◌, true, false, Some, None, List, [], ◌∷◌, ◌++◌, length, take, get_or, append-nil, ap, refl, sym, ◌∙◌, subst, arith, inl, inr}
 use Rattle.std.specs.Prelude.{slice_set}
+use Rattle.std.specs.Option.{option_map}
 use Rattle.std.specs.List.{slice_get}
 use Rattle.std.specs.declared.string.String.{String}
 use Rattle.std.specs.String.{string_bytes}
 use Rattle.std.proofs.lemmas.Bool.{cases_eq}
-use Rattle.std.proofs.lemmas.List.{get_or_default}
-use Rattle.std.proofs.lemmas.Option.{slice_get_within, slice_get_read, none-some}
+use Rattle.std.proofs.lemmas.List.{get_or_default, map-set}
+use Rattle.std.proofs.lemmas.Option.{slice_get_within, slice_get_read, slice_get-map, none-some}
 use Rattle.frame_word.specs.Seats.{KnownTable}
 use Rattle.stock_word.specs.declared.view.Stock.{Stock}
 use Rattle.stock_word.specs.declared.view.Stock.TheVariants as stock_is
@@ -21,6 +22,7 @@ use Rattle.mem_history.specs.Kept.{AreTied, IsTiedPart}
 use Rattle.mem_history.proofs.Wholes.{set_here, set_else}
 use Rattle.mem_history.proofs.Promised.{the_whole_is_promised}
 use Rattle.mem_history.proofs.Deciding.{legal_front}
+use Rattle.mem_system.specs.Cpus.{CpuInRun, parts_of}
 use Rattle.mem_system.specs.Locked.{KnownLocked, IsQuiet, IsSound}
 use Rattle.mem_system.specs.Visits.{transition, locked_state}
 use Rattle.script_lines.specs.declared.line.Command.{Command}
@@ -37,6 +39,7 @@ use Rattle.script_replay.specs.Numbers.{numbered_text, text_with_number}
 use Rattle.script_replay.specs.Terms.{Terms, form_terms, numbered_terms, terms}
 use Rattle.script_replay.proofs.InOrder.{in_order_line}
 use Rattle.script_replay.proofs.Following.{command_follows}
+use Rattle.script_replay.proofs.Gaining.{goes_on_none, part_goes_on}
 use Rattle.script_replay.proofs.Seeing.{legal_history, line_seen}
 use Rattle.script_replay.proofs.Telling.{at_ok}
 
@@ -47,21 +50,33 @@ no_group stock_is.NoGroup e = refl
 no_group (stock_is.HeldBy h n) e = absurd (none-some h (sym e))
 no_group (stock_is.DrainedOf h) e = absurd (none-some h (sym e))
 
+-- the part of a CPU among the parts
+part_at : (cpus : List CpuInRun) (k : ℕ) (c : CpuInRun) → slice_get cpus k ≡ Some c → slice_get (parts_of cpus) k ≡ Some c.part
+part_at cpus k c is_part = slice_get-map (λ (x : CpuInRun). x.part) cpus k ∙ ap (option_map (λ (x : CpuInRun). x.part)) is_part
+
+parts_set : (cpus : List CpuInRun) (k : ℕ) (d : CpuInRun) → parts_of (slice_set cpus k d) ≡ slice_set (parts_of cpus) k d.part
+parts_set cpus k d = map-set (λ (x : CpuInRun). x.part) cpus k d
+
 -- the other parts stay what their seats know
-pub tied_still : {locked : KnownLocked} (t : KnownTable) (w : KnownStockTable) (cpus : List KnownCpu) (k : ℕ) (c d : KnownCpu) → slice_get cpus k ≡ Some c
+tied_set : {locked : KnownLocked} (t : KnownTable) (w : KnownStockTable) (cpus : List KnownCpu) (k : ℕ) (c d : KnownCpu) → slice_get cpus k ≡ Some c
     → HoldsOfPart t w locked d → AreTied t w cpus → AreTied t w (slice_set cpus k d)
-tied_still t w cpus k c d is_part held all j e at = elim (cases_eq j k) [
+tied_set t w cpus k c d is_part held all j e at = elim (cases_eq j k) [
   | inl here ↦
       let is : e ≡ d = set_here cpus k d e (slice_get_within cpus k c is_part) (subst (λ (i : ℕ). slice_get (slice_set cpus k d) i ≡ Some e) here at) in
       subst (IsTiedPart t w) (sym is) (record { tied = held.tied; none_fresh = λ z. ap length (held.none_fresh (no_group d.stock_seat.view.last z)) })
   | inr ne ↦ all j e (set_else cpus k j d e ne at)
 ]
 
+pub tied_still : {locked : KnownLocked} (t : KnownTable) (w : KnownStockTable) (cpus : List CpuInRun) (k : ℕ) (c d : CpuInRun) → slice_get cpus k ≡ Some c
+    → HoldsOfPart t w locked d.part → AreTied t w (parts_of cpus) → AreTied t w (parts_of (slice_set cpus k d))
+tied_still t w cpus k c d is_part held all =
+    subst (AreTied t w) (sym (parts_set cpus k d)) (tied_set t w (parts_of cpus) k c.part d.part (part_at cpus k c is_part) held all)
+
 -- a command that was served at the part that was read
-pub part_read : (on : Terms) (before after : KnownLocked) (cpus : List KnownCpu) (line : Line) (cpu : ℕ) (command : Command) (c d : KnownCpu)
+pub part_read : (on : Terms) (before after : KnownLocked) (cpus : List CpuInRun) (line : Line) (cpu : ℕ) (command : Command) (c d : CpuInRun)
     {number : ℕ} {Z U E : Type 0} (r : Result U E) (old new : String Z) → on.is_numbered ≡ false → line ≡ At number cpu command →
     LineInRange on.frames.frames (length cpus) line → c ≡ get_or cpus (cpu - 1) c →
-    AddsText r old new (ServesCommand on command (locked_state before c) (locked_state after d)) → HoldsOfPart on.frames on.stocks after d →
+    AddsText r old new (ServesCommand on command (locked_state before c) (locked_state after d)) → HoldsOfPart on.frames on.stocks after d.part →
     AddsText r old new (ServesAndKeeps on line (system_state before cpus) (system_state after (slice_set cpus (cpu - 1) d)))
 part_read on before after cpus line cpu command c d {number = number} r old new plain is there read answered held =
     let named : LineInRange on.frames.frames (length cpus) (At number cpu command) = subst (LineInRange on.frames.frames (length cpus)) is there in
@@ -79,6 +94,7 @@ part_read on before after cpus line cpu command c d {number = number} r old new 
                 so = record { part = c; left = d; is_part = is_part; done = answered.so.writes; cpus = refl };
                 text_is = sym (ap (λ (b : Bool). text_with_number b number answered.text) plain);
               };
+              goes_on = part_goes_on before after cpus (cpu - 1) c d answered.so.steps is_part answered.so.gains;
             });
         keeps = record {
           holds = held.sound;
@@ -89,7 +105,7 @@ part_read on before after cpus line cpu command c d {number = number} r old new 
     }
 
 -- nothing is done for `go`, and nothing is added
-pub go_keeps : (t : KnownTable) (w : KnownStockTable) (is_explained : Bool) (before : KnownLocked) (cpus : List KnownCpu) {Z U E : Type 0} (r : Result U E)
+pub go_keeps : (t : KnownTable) (w : KnownStockTable) (is_explained : Bool) (before : KnownLocked) (cpus : List CpuInRun) {Z U E : Type 0} (r : Result U E)
     (answers : String Z) (line : Line) → line ≡ Go → IsSound t w before
     → AddsText r answers answers (ServesAndKeeps (terms t w is_explained) line (system_state before cpus) (system_state before cpus))
 go_keeps t w is_explained before cpus r answers line is holds = record {
@@ -99,6 +115,7 @@ go_keeps t w is_explained before cpus r answers line is holds = record {
     serves = record {
       steps = [];
       tells = record { plain = []; so = record { text_is = refl; stays = refl; steps_are = refl }; text_is = refl };
+      goes_on = goes_on_none (system_state before cpus);
     };
     keeps = record { holds = holds; tied = λ all. all };
   });
@@ -118,6 +135,7 @@ numbered_keeps t w is_explained line s e text keeps = record {
       so = keeps.serves.tells.so;
       text_is = ap (numbered_text (number_in_script line)) keeps.serves.tells.text_is;
     };
+    goes_on = keeps.serves.goes_on;
   };
   keeps = keeps.keeps;
 }
@@ -165,10 +183,10 @@ some_cpu t w locked quiet = let sized = quiet.sized.cpus in let low = quiet.vali
 -- a run shows the state; if the ledger before had the peaks and event counts of the run before, the ledger now has
 -- those of this run
 abbrev Follows : KnownTable → Run → SystemState → Run → SystemState → Type 0
-Follows t earlier s run e = ShowsAll t run e.locked.machine e.cpus × (AgreesWithRun t earlier s.locked.machine.ledger → AgreesWithRun t run e.locked.machine.ledger)
+Follows t earlier s run e = ShowsAll t run e.locked.machine (parts_of e.cpus) × (AgreesWithRun t earlier s.locked.machine.ledger → AgreesWithRun t run e.locked.machine.ledger)
 
-pub line_follows : (on : Terms) (run : Run) (line : Line) (s e : SystemState) (text : List ℕ) → ShowsAll on.frames run s.locked.machine s.cpus →
-    AreTied on.frames on.stocks s.cpus → (keeps : ServesAndKeeps on line s e text) →
+pub line_follows : (on : Terms) (run : Run) (line : Line) (s e : SystemState) (text : List ℕ) → ShowsAll on.frames run s.locked.machine (parts_of s.cpus) →
+    AreTied on.frames on.stocks (parts_of s.cpus) → (keeps : ServesAndKeeps on line s e text) →
     IsLegalRun (zone_of on.frames) (run ++ keeps.serves.steps) →
     Follows on.frames run s (run ++ keeps.serves.steps) e
 line_follows on run Go s e text shows tied keeps legal =
@@ -179,12 +197,13 @@ line_follows on run (At number cpu command) s e text shows tied keeps legal =
     let is : AtPart cpu (λ part left. WritesCommand on.is_explained command
     (transition on.frames (locked_state s.locked part) steps (locked_state e.locked left)) keeps.serves.tells.plain) s.cpus e.cpus = keeps.serves.tells.so in
     subst (λ (cpus : List KnownCpu). ShowsAll on.frames (run ++ steps) e.locked.machine cpus
-    × (AgreesWithRun on.frames run s.locked.machine.ledger → AgreesWithRun on.frames (run ++ steps) e.locked.machine.ledger)) (sym is.cpus)
-    (command_follows on.frames on.stocks run s.locked s.cpus (cpu - 1) is.part shows is.is_part tied on.is_explained command steps (locked_state e.locked is.left) keeps.serves.tells.plain
+    × (AgreesWithRun on.frames run s.locked.machine.ledger → AgreesWithRun on.frames (run ++ steps) e.locked.machine.ledger))
+    (sym (ap parts_of is.cpus ∙ parts_set s.cpus (cpu - 1) is.left))
+    (command_follows on.frames on.stocks run s.locked (parts_of s.cpus) (cpu - 1) is.part shows (part_at s.cpus (cpu - 1) is.part is.is_part) tied on.is_explained command steps (locked_state e.locked is.left) keeps.serves.tells.plain
     keeps.there.names is.done keeps.keeps.holds.quiet.shut legal)
 
 pub keeps_history : (on : Terms) (lines : List Line) (before : Past) (e : SystemState) (text : List ℕ) →
-    (IsLegalRun (zone_of on.frames) before.run → ShowsAll on.frames before.run before.now.locked.machine before.now.cpus) → AreTied on.frames on.stocks before.now.cpus →
+    (IsLegalRun (zone_of on.frames) before.run → ShowsAll on.frames before.run before.now.locked.machine (parts_of before.now.cpus)) → AreTied on.frames on.stocks (parts_of before.now.cpus) →
     ServesAllAndKeeps on lines before.now e text → HasHistory on lines before e text
 keeps_history on [] before e text shows tied all = all
 keeps_history on (line ∷ lines) before e text shows tied all =
@@ -194,16 +213,17 @@ keeps_history on (line ∷ lines) before e text shows tied all =
     let next : Run = before.run ++ steps in
     let follows : IsLegalRun (zone_of on.frames) next → Follows on.frames before.run before.now next mid =
     λ legal. line_follows on before.run line before.now mid all.first (shows (legal_front (zone_of on.frames) before.run steps legal)) tied one legal in
-    let tied_then : AreTied on.frames on.stocks mid.cpus = one.keeps.tied tied in record {
+    let tied_then : AreTied on.frames on.stocks (parts_of mid.cpus) = one.keeps.tied tied in record {
       first = all.first;
       rest = all.rest;
       between = mid;
       steps = steps;
       writes_first = one.serves.tells;
       watched = line_seen on.frames on.is_explained line before.now steps mid one.serves.tells.plain one.serves.tells.so;
+      goes_on = one.serves.goes_on;
       kept_where_legal = λ legal. record {
         tells = (follows legal).1;
-        promise = the_whole_is_promised on.frames on.stocks next mid.locked.machine mid.cpus (follows legal).0 one.keeps.holds.consistent one.keeps.holds.charges tied_then
+        promise = the_whole_is_promised on.frames on.stocks next mid.locked.machine (parts_of mid.cpus) (follows legal).0 one.keeps.holds.consistent one.keeps.holds.charges tied_then
             (some_cpu on.frames on.stocks mid.locked one.keeps.holds.quiet);
       };
       tells = keeps_history on lines (past_line before steps mid) e all.rest (λ legal. (follows legal).0) tied_then all.serves_rest;

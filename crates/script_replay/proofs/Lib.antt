@@ -1,6 +1,7 @@
 pub mod InOrder
 pub mod InRange
 pub mod Going
+pub mod Gaining
 pub mod Taking
 pub mod Numbering
 pub mod Saying

@@ -24,26 +24,26 @@ use Rattle.script_replay.proofs.Telling.{at_ok}
 pub record IsLookedAt (t : KnownTable) (m n : KnownMachine) : Type 0 where
   pub same : (c : KnownCpu) → local_of t n c ≡ local_of t m c
   pub ledger : n.ledger ≡ m.ledger
-  pub watch : n.run.watch ≡ m.run.watch
+  pub run : n.run ≡ m.run
   pub opened : n.frame_seat.view.opened ≡ m.frame_seat.view.opened
 
 looked_none : (t : KnownTable) (m n : KnownMachine) → n ≡ m → IsLookedAt t m n
 looked_none t m n is = record {
   same = λ c. ap (λ (x : KnownMachine). local_of t x c) is;
   ledger = ap (λ (x : KnownMachine). x.ledger) is;
-  watch = ap (λ (x : KnownMachine). x.run.watch) is;
+  run = ap (λ (x : KnownMachine). x.run) is;
   opened = ap (λ (x : KnownMachine). x.frame_seat.view.opened) is;
 }
 
 stock_looked : (t : KnownTable) (m n : KnownMachine) → n ≡ with_look m → IsLookedAt t m n
-stock_looked t m n is = subst (IsLookedAt t m) (sym is) (record { same = λ c. refl; ledger = refl; watch = refl; opened = refl })
+stock_looked t m n is = subst (IsLookedAt t m) (sym is) (record { same = λ c. refl; ledger = refl; run = refl; opened = refl })
 
 units_looked : (t : KnownTable) (o : Option ℕ) (none : Type 0) (tells : List ℕ → Type 0) (m n : KnownMachine) → UnitsAt o none tells m n → IsLookedAt t m n
 units_looked t None none tells m n is = looked_none t m n is.1
 units_looked t (Some g) none tells m n is = subst (IsLookedAt t m) (sym is.looks.machine) (record {
   same = λ c. looks_unseen t (units_in m g) is.pins m c;
   ledger = refl;
-  watch = refl;
+  run = refl;
   opened = looks_opened (units_in m g) is.pins m.frame_seat;
 })
 

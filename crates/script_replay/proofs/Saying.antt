@@ -3,8 +3,8 @@ use Rattle.std.proofs.Common.{◌≡◌, ◌-◌, ℕ, false, Some, List, [], �
 use Rattle.std.specs.Prelude.{length, slice_set}
 use Rattle.std.specs.List.{slice_get}
 use Rattle.std.proofs.lemmas.Option.{slice_get_read}
-use Rattle.cpu_part.specs.Cpus.{KnownCpu}
 use Rattle.mem_system.specs.Boots.{KnownSystem}
+use Rattle.mem_system.specs.Cpus.{CpuInRun}
 use Rattle.mem_system.specs.Locked.{KnownLocked}
 use Rattle.mem_system.specs.Visits.{LockedState, Transition, locked_state, transition}
 use Rattle.reply_texts.specs.LineAnswer.{LineAnswer}
@@ -20,6 +20,7 @@ use Rattle.script_replay.specs.Lines.{SystemState, system_state}
 use Rattle.script_replay.specs.Ranges.{CpuCommandInRange}
 use Rattle.script_replay.specs.Terms.{Terms, terms}
 use Rattle.script_replay.specs.ValueAnswers.{SaysCommand}
+use Rattle.script_replay.proofs.Gaining.{part_goes_on}
 use Rattle.script_replay.proofs.Going.{all_replayed, tied_still}
 
 -- ---- the text of what is said
@@ -50,10 +51,10 @@ as_text command call answer has so = record {
 
 -- ---- a command at its part
 
-module _ (tables : KnownSystem) (l m : KnownLocked) (cpus : List KnownCpu) (cpu : ℕ) (command : Command) (c d : KnownCpu) (answer : LineAnswer)
+module _ (tables : KnownSystem) (l m : KnownLocked) (cpus : List CpuInRun) (cpu : ℕ) (command : Command) (c d : CpuInRun) (answer : LineAnswer)
     (there : CpuCommandInRange tables.frames.frames (length cpus) cpu command) (has : HasValueAnswer command) (is_part : slice_get cpus (cpu - 1) ≡ Some c)
     (says : ServesAnswer (terms tables.frames tables.stocks false) command (locked_state l c) (locked_state m d) answer)
-    (held : HoldsOfPart tables.frames tables.stocks m d) where
+    (held : HoldsOfPart tables.frames tables.stocks m d.part) where
   abbrev on : Terms
   on = terms tables.frames tables.stocks false
 
@@ -79,6 +80,7 @@ module _ (tables : KnownSystem) (l m : KnownLocked) (cpus : List KnownCpu) (cpu 
         };
         text_is = refl;
       };
+      goes_on = part_goes_on l m cpus (cpu - 1) c d says.steps is_part says.gains;
     };
     keeps = record {
       holds = held.sound;
@@ -100,7 +102,7 @@ module _ (tables : KnownSystem) (l m : KnownLocked) (cpus : List KnownCpu) (cpu 
   }
 
 -- the part of a CPU that is there
-pub part_of : (cpus : List KnownCpu) (frames cpu : ℕ) (command : Command) (c : KnownCpu) → CpuCommandInRange frames (length cpus) cpu command
+pub part_of : (cpus : List CpuInRun) (frames cpu : ℕ) (command : Command) (c : CpuInRun) → CpuCommandInRange frames (length cpus) cpu command
     → c ≡ get_or cpus (cpu - 1) c → slice_get cpus (cpu - 1) ≡ Some c
 part_of cpus frames cpu command c there read =
     let low = there.low in

@@ -1,69 +1,98 @@
 -- How one command is served, and how its answer is written. Serves `server`, `writer`, `serve_at_cpu`.
-use Rattle.std.proofs.Common.{◌≡◌, ◌≢◌, ◌∙◌, ℕ, zero, Bool, true, false, ◌&&◌, Option, Some, None, List, [], ◌++◌, Result, Ok, Err, IfOk, append_assoc, append-nil, ap, refl, subst, sym}
+use Rattle.std.proofs.Common.{◌≡◌, ◌≢◌, ◌∙◌, ℕ, zero, Bool, true, false, ◌&&◌, Option, Some, None, List, [], ◌∷◌, ◌++◌, Result, Ok, Err, IfOk, append_assoc, append-nil, ap, refl, subst, sym}
 use Rattle.std.proofs.lemmas.Option.{none-some}
 use Rattle.std.specs.Borrow.{Bor}
 use Rattle.std.specs.declared.string.String.{String}
 use Rattle.std.specs.String.{string_bytes}
 use Rattle.group_charge.specs.Charges.{Ledger}
 use Rattle.cpu_part.specs.Cpus.{KnownCpu}
+use Rattle.cpu_part.specs.declared.answers.Fast.{Fast as FastAnswer}
+use Rattle.cpu_part.specs.declared.answers.Fast.TheVariants.{FreshFull, ListEmpty, OtherGroup, Drained, NoStock, Got}
 use Rattle.mem_machine.specs.Machines.{KnownMachine}
 use Rattle.mem_system.specs.declared.command.Cmd.{Cmd}
 use Rattle.mem_system.specs.declared.command.Cmd.TheVariants as cmd
 use Rattle.mem_system.specs.declared.command.Reply.{Reply}
 use Rattle.mem_system.specs.declared.command.Reply.TheVariants.{Done}
+use Rattle.boot_words.specs.Pasts.{own_past}
+use Rattle.boot_words.proofs.Gaining.{gains_both}
+use Rattle.mem_system.specs.Cpus.{CpuInRun}
 use Rattle.mem_system.specs.Locked.{KnownLocked}
 use Rattle.mem_system.specs.Visits.{LockedState, Transition, locked_state, transition}
 use Rattle.reply_texts.specs.LineAnswer.{LineAnswer}
 use Rattle.reply_texts.specs.LineAnswer as answer
 use Rattle.reply_texts.specs.Answers.{answer_text}
 use Rattle.reply_texts.specs.declared.steps.UnlockedAnswer.{UnlockedAnswer}
+use Rattle.reply_texts.specs.declared.steps.UnlockedAnswer.TheVariants as unlocked
 use Rattle.script_lines.specs.declared.line.Command.{Command}
-use Rattle.script_lines.specs.declared.line.Command.TheVariants.{Alloc, Fast, Get, Put, Settle, Blocks, Show, Stock, Units}
+use Rattle.script_lines.specs.declared.line.Command.TheVariants.{Alloc, Fast, Release, Get, Put, Settle, Blocks, Show, Stock, Units}
+use Rattle.step_rules.specs.After.{Run}
 use Rattle.script_replay.specs.declared.answer_value.AnswerValue.{AnswerValue}
 use Rattle.script_replay.specs.declared.answer_value.AnswerValue.TheVariants as value
-use Rattle.script_replay.specs.Answers.{AddsText, AnswersAlone, AnswersCommand, AnswersUnlocked, IsAnswerText, IsSettledText, IsTriedInVain, NeedsLock}
+use Rattle.script_replay.specs.Answers.{AddsText, AnswersAlone, Gains, OnlySaw, AnswersCommand, AnswersUnlocked, IsAnswerText, IsSettledText, IsTriedInVain, NeedsLock}
 use Rattle.script_replay.specs.Answers.{OnlyWatched, ServesAnswer, ServesUnderLock, TakesNoLock, WritesAnswer, explanation_if, is_noted, steps_alone}
-use Rattle.script_replay.specs.Commands.{OnlySettles, cmd_of, frame_path, head_named, path_removed}
+use Rattle.script_replay.specs.Commands.{OnlySettles, cmd_of, frame_path, head_named, is_tried, path_removed}
 use Rattle.script_replay.specs.Reasons.{borrower_of, fault_in, refusal_reason_text, reasoned_text}
 use Rattle.script_replay.specs.Terms.{Terms}
 use Rattle.script_replay.specs.ValueAnswers.{answer_of}
+use Rattle.script_replay.proofs.Gaining.{saw_both, watched_gains, watched_saw}
 
 -- ---- served
 
-unlocked_is : (command : Command) (call : Transition LockedState) (said : UnlockedAnswer) → AnswersAlone command call.before.cpu call.after.cpu said
-    → TakesNoLock (steps_alone call.before.cpu.number command said) call → AnswersUnlocked command call said
+unlocked_is : (command : Command) (call : Transition LockedState) (said : UnlockedAnswer) → AnswersAlone command call.before.cpu.part call.after.cpu.part said
+    → TakesNoLock (steps_alone call.before.cpu.part.number command said) call → AnswersUnlocked command call said
 unlocked_is (Alloc path order) call said is alone = absurd is
 unlocked_is command call said is alone = (is, alone)
 
-module _ (on : Terms) (command : Command) (l m : KnownLocked) (c d : KnownCpu) where
+-- a step without the lock, which the watch took after it was tried
+pub then_watched : (l mid m : KnownLocked) (cpu number : ℕ) → cpu ≡ number → (told : ℕ → Run) → OnlySaw [] l mid → OnlyWatched (told cpu) mid m
+    → OnlySaw (told number) l m
+then_watched l mid m cpu number is told saw watched =
+    saw_both [] (told number) l mid m saw (watched_saw (told number) mid m (subst (λ (n : ℕ). OnlyWatched (told n) mid m) is watched))
+
+module _ (on : Terms) (command : Command) (l m : KnownLocked) (c d : CpuInRun) where
   -- without the lock
-  pub unlocked_served : (cpu : ℕ) (said : UnlockedAnswer) → cpu ≡ c.number → AnswersAlone command c d said → OnlyWatched (steps_alone cpu command said) l m
+  pub unlocked_served : (mid : KnownLocked) (cpu : ℕ) (said : UnlockedAnswer) → cpu ≡ c.part.number → AnswersAlone command c.part d.part said → OnlySaw [] l mid
+      → Gains (steps_alone c.part.number command said) (locked_state l c) (locked_state mid d) → OnlyWatched (steps_alone cpu command said) mid m
       → ServesAnswer on command (locked_state l c) (locked_state m d) (answer.Unlocked said)
-  unlocked_served cpu said is alone watched = record {
-    steps = steps_alone c.number command said;
-    answered = unlocked_is command (transition on.frames (locked_state l c) (steps_alone c.number command said) (locked_state m d)) said alone
-        (record { locked = subst (λ (n : ℕ). OnlyWatched (steps_alone n command said) l m) is watched; steps_are = refl });
+  unlocked_served mid cpu said is alone saw gains watched = let steps = steps_alone c.part.number command said in record {
+    steps = steps;
+    answered = unlocked_is command (transition on.frames (locked_state l c) steps (locked_state m d)) said alone
+        (record { locked = then_watched l mid m cpu c.part.number is (λ (n : ℕ). steps_alone n command said) saw watched; steps_are = refl });
+    gains = watched_gains steps (steps_alone cpu command said) (locked_state l c) mid m d gains watched;
   }
 
   -- under the lock, after it was tried in vain
-  pub lock_served : (cmd : Cmd) (seen : KnownCpu) (reply : Reply) → cmd_of command ≡ Some cmd → IsTriedInVain command (locked_state l c) seen
-      → ServesUnderLock on.frames on.is_explained cmd reply (locked_state l seen) (locked_state m d)
+  pub lock_served : (cmd : Cmd) (seen : LockedState) (reply : Reply) → cmd_of command ≡ Some cmd → IsTriedInVain command (locked_state l c) seen.cpu.part
+      → OnlySaw [] l seen.locked → Gains [] (locked_state l c) seen → ServesUnderLock on.frames on.is_explained cmd reply seen (locked_state m d)
       → ServesAnswer on command (locked_state l c) (locked_state m d) (answer.Served reply)
-  lock_served cmd seen reply named tried under = let is = under.served in record {
+  lock_served cmd seen reply named tried saw gains under = let is = under.served in record {
     steps = under.steps;
     answered = record {
       cmd = cmd;
       named = named;
       seen = seen;
       tried = tried;
+      only_saw = saw;
       served = record { found = is.found; left = is.left; lock = is.lock; served = is.served; unlock = is.unlock; steps_are = is.steps_are };
     };
+    gains = gains_both (own_past l.machine.run.past) (own_past c.past) [] (own_past seen.locked.machine.run.past) (own_past seen.cpu.past) under.steps
+        (own_past m.machine.run.past) (own_past d.past) gains under.gains;
   }
 
   -- by settling the CPU alone
   pub settle_served : OnlySettles command → ServesUnderLock on.frames false cmd.Settle Done (locked_state l c) (locked_state m d)
       → ServesAnswer on command (locked_state l c) (locked_state m d) answer.Settled
-  settle_served settles under = record { steps = under.steps; answered = (settles, under.served) }
+  settle_served settles under = record { steps = under.steps; answered = (settles, under.served); gains = under.gains }
+
+-- a frame that wasn't got is no step
+pub none_got : (n g : ℕ) (tried : FastAnswer) (before after : LockedState) → ((f : ℕ) → tried ≢ Got f)
+    → Gains (steps_alone n (Fast g) (unlocked.Fast tried)) before after → Gains [] before after
+none_got n g FreshFull before after none gains = gains
+none_got n g ListEmpty before after none gains = gains
+none_got n g OtherGroup before after none gains = gains
+none_got n g Drained before after none gains = gains
+none_got n g NoStock before after none gains = gains
+none_got n g (Got f) before after none gains = absurd (none f refl)
 
 -- a command that isn't one under the lock, and needs the lock, only settles its CPU
 pub only_settles : (command : Command) (c d : KnownCpu) → cmd_of command ≡ None → NeedsLock command c d → OnlySettles command × (d ≡ c)
@@ -77,13 +106,30 @@ only_settles Stock c d none is = (tt, is)
 only_settles (Units path) c d none is = (tt, is)
 only_settles command c d none is = absurd (none-some _ (sym none))
 
+-- such a command isn't tried
+pub untried : (command : Command) → OnlySettles command → is_tried command ≡ false
+untried Settle settles = refl
+untried Blocks settles = refl
+untried Show settles = refl
+untried Stock settles = refl
+untried (Units path) settles = refl
+untried command settles = absurd settles
+
+-- a command that isn't tried needs the lock, at the part as it is
+pub untried_needs : (command : Command) (c : KnownCpu) → is_tried command ≡ false → NeedsLock command c c
+untried_needs (Fast group) c none = absurd (let not : true ≢ false = λ e. cc in not none)
+untried_needs (Get frame) c none = absurd (let not : true ≢ false = λ e. cc in not none)
+untried_needs (Put frame) c none = absurd (let not : true ≢ false = λ e. cc in not none)
+untried_needs (Release frame) c none = absurd (let not : true ≢ false = λ e. cc in not none)
+untried_needs command c none = refl
+
 -- an Alloc of a single frame, by its path
 pub frame_is : (command : Command) (path : Bor (List ℕ)) → frame_path command ≡ Some path → command ≡ Alloc path 0
 frame_is (Alloc path zero) found is = let same : path ≡ found = cc in ap (λ (p : Bor (List ℕ)). Alloc p 0) same
 frame_is command found is = absurd (none-some found is)
 
 -- what was tried of another command depends on nothing behind the lock
-pub vain_is : (command : Command) (l : KnownLocked) (c seen : KnownCpu) → frame_path command ≡ None → NeedsLock command c seen
+pub vain_is : (command : Command) (l : KnownLocked) (c : CpuInRun) (seen : KnownCpu) → frame_path command ≡ None → NeedsLock command c.part seen
     → IsTriedInVain command (locked_state l c) seen
 vain_is (Alloc path zero) l c seen none is = absurd (none-some path (sym none))
 vain_is command l c seen none is = is

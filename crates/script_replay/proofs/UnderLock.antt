@@ -1,9 +1,18 @@
 -- A command between the Lock and the Unlock that the watch takes. Serves `serve_under_lock`, `serve_frame_under_lock`,
 -- `settle_under_lock`.
-use Rattle.std.proofs.Common.{◌≡◌, ℕ, Bool, [], ◌∷◌, ap, refl, subst, sym}
+use Rattle.std.proofs.Common.{◌≡◌, ◌≢◌, ℕ, ◌++◌, Bool, List, [], ◌∷◌, ap, inr, refl, subst, sym}
+use Rattle.std.specs.Prelude.{◌⊎◌}
+use Rattle.boot_words.specs.Rule.{AllOf}
+use Rattle.boot_words.specs.Pasts.{own_past}
+use Rattle.boot_words.specs.Growth.{GrewByAll, changes_of}
+use Rattle.boot_words.proofs.Gaining.{of_two_seats, visit_gains}
 use Rattle.frame_word.specs.Seats.{KnownTable}
 use Rattle.group_charge.specs.Charges.{Ledger}
-use Rattle.cpu_part.specs.Cpus.{KnownCpu}
+use Rattle.step_rules.specs.declared.step.Step.{Step}
+use Rattle.step_rules.specs.declared.step.Answer.{Answer}
+use Rattle.step_rules.specs.State.{State}
+use Rattle.step_rules.specs.After.{Run, after}
+use Rattle.step_rules.specs.Reaches.{IsLocalRun}
 use Rattle.step_rules.specs.declared.step.Action.TheVariants.{Lock, Unlock}
 use Rattle.step_rules.specs.declared.step.Answer.TheVariants as step_answer
 use Rattle.mem_machine.specs.Steps.{cpu_makes}
@@ -11,18 +20,52 @@ use Rattle.mem_history.specs.Whole.{under_lock}
 use Rattle.mem_system.specs.declared.command.Cmd.{Cmd}
 use Rattle.mem_system.specs.declared.command.Reply.{Reply}
 use Rattle.mem_system.specs.declared.outcome.Outcome.{Outcome}
+use Rattle.mem_system.specs.Cpus.{CpuInRun}
 use Rattle.mem_system.specs.Locked.{KnownLocked}
 use Rattle.mem_system.specs.Outcomes.{HasItsGroups, reply_of}
 use Rattle.mem_system.specs.Visits.{IsServed, ServesOutcome, locked_state}
-use Rattle.script_replay.specs.Answers.{OnlyWatched, ServesUnderLock, locked_with_unit_notes}
+use Rattle.script_replay.specs.Answers.{Gains, OnlyWatched, ServesUnderLock, locked_with_unit_notes}
 
-module _ (t : KnownTable) (is_explained : Bool) (cmd : Cmd) (before found left after : KnownLocked) (c d : KnownCpu) (number : ℕ) (named : number ≡ c.number)
+-- ---- the seats of the steps under the lock
+
+-- a step of the zone's seat or of this CPU
+abbrev IsOfBoth : ℕ → Step × Answer → Type 0
+IsOfBoth cpu one = (one.0.seat ≡ 0) ⊎ (one.0.seat ≡ cpu)
+
+local_own : (cpu : ℕ) (steps : Run) (a b : State) → IsLocalRun cpu a steps b → AllOf (IsOfBoth cpu) steps
+local_own cpu [] a b leads = tt
+local_own cpu (e ∷ steps) a b leads = (leads.0.own, local_own cpu steps (after a e.0.seat e.0.action e.1) b leads.1)
+
+and_unlock : (cpu : ℕ) (steps : Run) → AllOf (IsOfBoth cpu) steps → AllOf (IsOfBoth cpu) (steps ++ cpu_makes cpu Unlock step_answer.Done ∷ [])
+and_unlock cpu [] all = (inr refl, tt)
+and_unlock cpu (e ∷ steps) all = (all.0, and_unlock cpu steps all.1)
+
+under_lock_own : (cpu : ℕ) (steps : Run) → AllOf (IsOfBoth cpu) steps → AllOf (IsOfBoth cpu) (under_lock cpu steps)
+under_lock_own cpu steps all = (inr refl, and_unlock cpu steps all)
+
+-- ---- one command
+
+module _ (t : KnownTable) (is_explained : Bool) (cmd : Cmd) (before found left after : KnownLocked) (c d : CpuInRun) (number : ℕ) (named : number ≡ c.part.number)
+    (in_run : (own_past c.past).number ≡ c.part.number) (zone : (own_past before.machine.run.past).number ≡ 0)
     (lock : OnlyWatched (cpu_makes number Lock step_answer.Done ∷ []) (locked_with_unit_notes before is_explained) found) (unlock : OnlyWatched (cpu_makes number Unlock step_answer.Done ∷ []) left after) where
+  -- the zone's past and the CPU's gained the steps, which the watch took
+  visit_made : (reply : Reply) → (served : IsServed t cmd reply (locked_state found c) (locked_state left d))
+      → Gains (under_lock c.part.number served.steps) (locked_state before c) (locked_state after d)
+  visit_made reply served =
+      let p = c.part.number in
+      let steps = under_lock p served.steps in
+      let all = under_lock_own p served.steps (local_own p served.steps _ _ served.makes.leads) in
+      let grew : GrewByAll (own_past before.machine.run.past) steps (own_past left.machine.run.past) =
+      subst (λ (l : KnownLocked). GrewByAll (own_past l.machine.run.past) steps (own_past left.machine.run.past)) lock.locked served.run.zone_grew in
+      subst (λ (l : KnownLocked). Gains steps (locked_state before c) (locked_state l d)) (sym unlock.locked)
+      (visit_gains (own_past before.machine.run.past) (own_past c.past) steps (own_past left.machine.run.past) (own_past d.past) grew served.run.cpu_grew zone
+      (subst (λ (n : ℕ). (other : ℕ) → other ≢ 0 → other ≢ n → changes_of other steps ≡ 0) (sym in_run) (of_two_seats p steps all)))
+
   -- the watch took a Lock before the command, and an Unlock after it
   pub served_locked : (reply : Reply) → IsServed t cmd reply (locked_state found c) (locked_state left d)
       → ServesUnderLock t is_explained cmd reply (locked_state before c) (locked_state after d)
   served_locked reply served = record {
-    steps = under_lock c.number served.steps;
+    steps = under_lock c.part.number served.steps;
     served = record {
       found = found;
       left = left;
@@ -31,6 +74,7 @@ module _ (t : KnownTable) (is_explained : Bool) (cmd : Cmd) (before found left a
       unlock = subst (λ (n : ℕ). OnlyWatched (cpu_makes n Unlock step_answer.Done ∷ []) left after) named unlock;
       steps_are = refl;
     };
+    gains = visit_made reply served;
   }
 
   -- the charges are those that the command left

@@ -2,11 +2,14 @@
 -- relates a transition to an answer, and `Writes..` relates a transition to a text. `Serves..` relates the state
 -- before, the state after and a text, by some steps.
 use Rattle.std.specs.Prelude.{◌≡◌, ◌≢◌, ◌⊎◌, ℕ, zero, ◌+◌, ◌<◌, ◌≤◌, Bool, true, false, ◌&&◌, List, [], ◌∷◌, ◌++◌}
-use Rattle.std.specs.Prelude.{Some, None, Result, IfOk, length}
+use Rattle.std.specs.Prelude.{Option, Some, None, Result, IfOk, length}
 use Rattle.std.specs.declared.string.String.{String}
 use Rattle.std.specs.String.{string_bytes}
 use Rattle.frame_word.specs.declared.answers.Get.TheVariants.{Held}
 use Rattle.frame_word.specs.Seats.{KnownTable}
+use Rattle.boot_words.specs.Rule.{AllOf}
+use Rattle.boot_words.specs.Pasts.{KnownPasts, own_past}
+use Rattle.boot_words.specs.Growth.{AreChangesOf, GainsSteps, GrewByAll}
 use Rattle.group_tree.specs.Groups.{number_at}
 use Rattle.group_tree.specs.declared.fault.Fault.TheVariants.{NoGroup, PinsFull, NotPinned}
 use Rattle.cpu_part.specs.declared.answers.Fast.{Fast as FastAnswer}
@@ -22,7 +25,8 @@ use Rattle.machine_texts.specs.Explanation.{explanation_text}
 use Rattle.machine_texts.specs.Blocks.{blocks_text}
 use Rattle.machine_texts.specs.Show.{show_text}
 use Rattle.machine_texts.specs.Stock.{stock_line_text}
-use Rattle.mem_machine.specs.Machines.{KnownMachine, with_unit_notes, with_watch}
+use Rattle.mem_machine.specs.Machines.{KnownMachine, with_run, with_unit_notes, with_watch}
+use Rattle.mem_machine.specs.Noted.{KnownRun}
 use Rattle.mem_machine.specs.Steps.{cpu_makes}
 use Rattle.mem_machine.specs.Stocks.{with_look}
 use Rattle.mem_history.specs.Whole.{under_lock}
@@ -68,6 +72,10 @@ pub record IsTextOf (is_answered : LineAnswer → Type 0) (text : List ℕ) : Ty
 abbrev pub locked_with_watch : KnownLocked → KnownWatch → KnownLocked
 locked_with_watch locked watch = record locked { machine = with_watch locked.machine watch }
 
+-- the same behind the lock, with this run in the machine
+abbrev pub locked_with_run : KnownLocked → KnownRun → KnownLocked
+locked_with_run locked run = record locked { machine = with_run locked.machine run }
+
 -- the same behind the lock, with reclaimed units noted from now on, or not
 abbrev pub locked_with_unit_notes : KnownLocked → (is_on : Bool) → KnownLocked
 locked_with_unit_notes locked is_on = record locked { machine = with_unit_notes locked.machine is_on }
@@ -77,11 +85,24 @@ pub record OnlyWatched (steps : Run) (before after : KnownLocked) : Type 0 where
   pub locked : after ≡ locked_with_watch before after.machine.run.watch
   pub watched : Watches before.machine.run.watch steps after.machine.run.watch
 
+-- the watch of the machine takes these steps, and nothing else changes behind the lock but the zone's past, which may
+-- see more of the run
+pub record OnlySaw (steps : Run) (before after : KnownLocked) : Type 0 where
+  pub locked : after ≡ locked_with_run before after.machine.run
+  pub watched : Watches before.machine.run.watch steps after.machine.run.watch
+
+-- ---- the run
+
+-- the zone's past and the CPU's past gain these steps
+abbrev pub Gains : Run → (before after : LockedState) → Type 0
+Gains steps before after = GainsSteps (own_past before.locked.machine.run.past) (own_past before.cpu.past) steps
+    (own_past after.locked.machine.run.past) (own_past after.cpu.past)
+
 -- ---- without the lock
 
 -- no lock is taken: only the CPU makes these steps, and behind the lock the watch takes them
 pub record TakesNoLock (steps : Run) (call : Transition LockedState) : Type 0 where
-  pub locked : OnlyWatched steps call.before.locked call.after.locked
+  pub locked : OnlySaw steps call.before.locked call.after.locked
   pub steps_are : call.steps ≡ steps
 
 -- a fresh frame was listed again without the lock
@@ -128,6 +149,18 @@ steps_alone cpu (Put frame) (unlocked.Put put) = cpu_makes cpu (step.Put frame) 
 steps_alone cpu (Release frame) unlocked.Listed = cpu_makes cpu (step.Credit frame) step_answer.Stocked ∷ []
 steps_alone cpu command answer = []
 
+-- the step of what was tried without the lock; without an answer there is none
+abbrev pub steps_tried : (cpu : ℕ) → Command → Option UnlockedAnswer → Run
+steps_tried cpu command None = []
+steps_tried cpu command (Some answer) = steps_alone cpu command answer
+
+-- The CPU of this number makes steps alone. They are these, apart from steps that change nothing.
+pub record MakesAlone (cpu : ℕ) (steps : Run) (before after : KnownPasts) : Type 0 where
+  pub made : Run
+  pub grew : GrewByAll (own_past before) made (own_past after)
+  pub changes : AreChangesOf made steps
+  pub own : AllOf (λ one. one.0.seat ≡ cpu) made
+
 -- the command isn't answered without the lock, and what was tried left the part `seen`
 abbrev pub NeedsLock : Command → (before seen : KnownCpu) → Type 0
 NeedsLock (Fast group) before seen = ⊥
@@ -146,19 +179,19 @@ pub record FindsNoGroup (path : List ℕ) (before after : LockedState) : Type 0 
 pub record GetsFast (path : List ℕ) (before : LockedState) (after : KnownCpu) (frame : ℕ) : Type 0 where
   pub group : ℕ
   pub found : number_at before.locked.machine.ledger.groups path ≡ Some group
-  pub got : FastAnswers group (Got frame) before.cpu after
+  pub got : FastAnswers group (Got frame) before.cpu.part after
 
 -- a frame was got without the lock, by the step of a Fast for the group
 pub record AllocatesFast (path : List ℕ) (frame : ℕ) (call : Transition LockedState) : Type 0 where
-  pub gets : GetsFast path call.before call.after.cpu frame
-  pub alone : TakesNoLock (steps_alone call.before.cpu.number (Fast gets.group) (unlocked.Fast (Got frame))) call
+  pub gets : GetsFast path call.before call.after.cpu.part frame
+  pub alone : TakesNoLock (steps_alone call.before.cpu.part.number (Fast gets.group) (unlocked.Fast (Got frame))) call
 
 -- A group has the path, but a call that takes no lock got no frame for it. `seen` is the part that this call left.
 pub record GetsNoneFast (path : List ℕ) (before : LockedState) (seen : KnownCpu) : Type 0 where
   pub group : ℕ
   pub found : number_at before.locked.machine.ledger.groups path ≡ Some group
   pub fast : FastAnswer
-  pub answers : FastAnswers group fast before.cpu seen
+  pub answers : FastAnswers group fast before.cpu.part seen
   pub none : (frame : ℕ) → fast ≢ Got frame
 
 -- What a command is answered without the lock, by which steps. An Alloc of a single frame is, if no group has the path,
@@ -168,48 +201,51 @@ AnswersUnlocked (Alloc path zero) call (unlocked.Fast (Got frame)) = AllocatesFa
 AnswersUnlocked (Alloc path zero) call (unlocked.Refused NoGroup) =
     FindsNoGroup path.now call.before call.after × (call.steps ≡ [])
 AnswersUnlocked command call answer =
-    AnswersAlone command call.before.cpu call.after.cpu answer
-    × TakesNoLock (steps_alone call.before.cpu.number command answer) call
+    AnswersAlone command call.before.cpu.part call.after.cpu.part answer
+    × TakesNoLock (steps_alone call.before.cpu.part.number command answer) call
 
 -- ---- with what lies behind the lock: no lock is taken by value, but in the history the steps are between a Lock and
 -- an Unlock, which the watch takes
 
--- The command is served under the lock for a CPU with the part `seen`: the steps are Lock, those of the command, and
--- Unlock. Reclaimed units are noted exactly if the command is explained. The command finds `found` behind the lock,
--- where the watch took the Lock, and leaves `left`.
-pub record IsServedUnderLock (is_explained : Bool) (cmd : Cmd) (seen : KnownCpu) (reply : Reply)
-    (call : Transition LockedState) : Type 0 where
+-- The command is served under the lock: the steps are Lock, those of the command, and Unlock. Reclaimed units are noted
+-- exactly if the command is explained. The command finds `found` behind the lock, where the watch took the Lock, and
+-- leaves `left`.
+pub record IsServedUnderLock (is_explained : Bool) (cmd : Cmd) (reply : Reply) (call : Transition LockedState)
+    : Type 0 where
   pub found : KnownLocked
   pub left : KnownLocked
-  pub lock : OnlyWatched (cpu_makes seen.number step.Lock step_answer.Done ∷ [])
+  pub lock : OnlyWatched (cpu_makes call.before.cpu.part.number step.Lock step_answer.Done ∷ [])
       (locked_with_unit_notes call.before.locked is_explained) found
-  pub served : IsServed call.table cmd reply (locked_state found seen) (locked_state left call.after.cpu)
-  pub unlock : OnlyWatched (cpu_makes seen.number step.Unlock step_answer.Done ∷ []) left call.after.locked
-  pub steps_are : call.steps ≡ under_lock seen.number served.steps
+  pub served : IsServed call.table cmd reply (locked_state found call.before.cpu) (locked_state left call.after.cpu)
+  pub unlock : OnlyWatched (cpu_makes call.before.cpu.part.number step.Unlock step_answer.Done ∷ [])
+      left call.after.locked
+  pub steps_are : call.steps ≡ under_lock call.before.cpu.part.number served.steps
 
 -- the command of a CPU was served under the lock with this reply, by some steps
 pub record ServesUnderLock (table : KnownTable) (is_explained : Bool) (cmd : Cmd) (reply : Reply)
     (before after : LockedState) : Type 0 where
   pub steps : Run
-  pub served : IsServedUnderLock is_explained cmd before.cpu reply (transition table before steps after)
+  pub served : IsServedUnderLock is_explained cmd reply (transition table before steps after)
+  pub gains : Gains steps before after
 
 -- the CPU was settled under the lock; there is nothing to explain
 abbrev pub SettlesUnderLock : Transition LockedState → Type 0
-SettlesUnderLock call = IsServedUnderLock false cmd.Settle call.before.cpu Done call
+SettlesUnderLock call = IsServedUnderLock false cmd.Settle Done call
 
 -- what was tried for the command without the lock gave no answer, and left the part `seen`
 abbrev pub IsTriedInVain : Command → LockedState → (seen : KnownCpu) → Type 0
 IsTriedInVain (Alloc path zero) before seen = GetsNoneFast path.now before seen
-IsTriedInVain command before seen = NeedsLock command before.cpu seen
+IsTriedInVain command before seen = NeedsLock command before.cpu.part seen
 
--- the command was tried in vain without the lock, and then served under it
+-- the command was tried in vain without the lock, which left `seen`, and then served under it
 pub record RepliesServed (is_explained : Bool) (command : Command) (reply : Reply) (call : Transition LockedState)
     : Type 0 where
   pub cmd : Cmd
   pub named : cmd_of command ≡ Some cmd
-  pub seen : KnownCpu
-  pub tried : IsTriedInVain command call.before seen
-  pub served : IsServedUnderLock is_explained cmd seen reply call
+  pub seen : LockedState
+  pub tried : IsTriedInVain command call.before seen.cpu.part
+  pub only_saw : OnlySaw [] call.before.locked seen.locked
+  pub served : IsServedUnderLock is_explained cmd reply (transition call.table seen call.steps call.after)
 
 -- ---- any command
 
@@ -224,6 +260,7 @@ pub record ServesAnswer (terms : Terms) (command : Command) (before after : Lock
     : Type 0 where
   pub steps : Run
   pub answered : AnswersCommand terms.is_explained command (transition terms.frames before steps after) answer
+  pub gains : Gains steps before after
 
 -- ---- the text of an answer
 
@@ -298,3 +335,4 @@ pub record ServesCommand (terms : Terms) (command : Command) (before after : Loc
     : Type 0 where
   pub steps : Run
   pub writes : WritesCommand terms.is_explained command (transition terms.frames before steps after) text
+  pub gains : Gains steps before after

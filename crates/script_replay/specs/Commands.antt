@@ -1,10 +1,10 @@
 -- What a command of a script is under the lock, and what it names.
-use Rattle.std.specs.Prelude.{ℕ, zero, List, [], Option, Some, None}
+use Rattle.std.specs.Prelude.{ℕ, zero, Bool, true, false, List, [], Option, Some, None}
 use Rattle.std.specs.Borrow.{Bor}
 use Rattle.mem_system.specs.declared.command.Cmd.{Cmd}
 use Rattle.mem_system.specs.declared.command.Cmd.TheVariants as cmd
 use Rattle.script_lines.specs.declared.line.Command.{Command}
-use Rattle.script_lines.specs.declared.line.Command.TheVariants.{Mkdir, Rmdir, Write, Read, Alloc, Release}
+use Rattle.script_lines.specs.declared.line.Command.TheVariants.{Mkdir, Rmdir, Write, Read, Alloc, Fast, Release, Get, Put}
 use Rattle.script_lines.specs.declared.line.Command.TheVariants.{Touch, Dirty, Clean, Owner}
 use Rattle.script_lines.specs.declared.line.Command.TheVariants.{Settle, Blocks, Show, Stock, Units}
 
@@ -22,6 +22,14 @@ cmd_of (Dirty frame) = Some (cmd.Dirty frame)
 cmd_of (Clean frame) = Some (cmd.Clean frame)
 cmd_of (Owner frame) = Some (cmd.Owner frame)
 cmd_of other = None
+
+-- the command is tried without the lock, whatever lies behind the lock
+abbrev pub is_tried : Command → Bool
+is_tried (Fast group) = true
+is_tried (Release frame) = true
+is_tried (Get frame) = true
+is_tried (Put frame) = true
+is_tried other = false
 
 -- the path of the group, if the command allocates a single frame
 abbrev pub frame_path : Command → Option (Bor (List ℕ))

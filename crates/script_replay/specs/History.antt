@@ -12,13 +12,14 @@ use Rattle.mem_machine.specs.Interleaving.{zone_of}
 use Rattle.mem_machine.specs.Agreeing.{AgreesWithRun}
 use Rattle.mem_history.specs.Whole.{ShowsAll}
 use Rattle.mem_history.specs.Kept.{AreTied, shown_of}
+use Rattle.mem_system.specs.Cpus.{parts_of}
 use Rattle.mem_system.specs.Locked.{IsSound, KnownLocked}
 use Rattle.mem_system.specs.Visits.{transition}
 use Rattle.script_lines.specs.declared.line.Line.{Line}
 use Rattle.script_lines.specs.declared.line.Line.TheVariants.{Go}
 use Rattle.script_replay.specs.declared.owned_replay.Stopped.{Stopped}
 use Rattle.script_replay.specs.declared.owned_replay.Stopped.TheVariants.{NoMemory, NotLegal}
-use Rattle.script_replay.specs.Lines.{SystemState, ServesAll, ServesLine, StopsAt, WritesLineOnTerms}
+use Rattle.script_replay.specs.Lines.{SystemState, GoesOn, ServesAll, ServesLine, StopsAt, WritesLineOnTerms}
 use Rattle.script_replay.specs.Lines.{number_in_script}
 use Rattle.script_replay.specs.Ranges.{LineInRange}
 use Rattle.script_replay.specs.Terms.{Terms}
@@ -41,13 +42,13 @@ past_line past steps after = record { run = past.run ++ steps; now = after }
 -- counts of the earlier run, the ledger now has those of this run.
 pub record HoldsPromise (table : KnownTable) (earlier : Run) (before : SystemState) (run : Run) (now : SystemState)
     : Type 0 where
-  pub promise : Promise (zone_of table) run (shown_of now.locked.machine now.cpus)
+  pub promise : Promise (zone_of table) run (shown_of now.locked.machine (parts_of now.cpus))
   pub tells : AgreesWithRun table earlier before.locked.machine.ledger
       → AgreesWithRun table run now.locked.machine.ledger
 
--- The first line is served by these steps, which the watch took. If the run so far with these steps is legal, the
--- promise holds after it, and the ledger keeps the peaks and event counts of the run. The other lines have their
--- history from there on.
+-- The first line is served by these steps, which the watch took and by which the run so far goes on. If the run so far
+-- with these steps is legal, the promise holds after it, and the ledger keeps the peaks and event counts of the run. The
+-- other lines have their history from there on.
 pub record HasFirstAndRest (terms : Terms) (line : Line) (past : Past) (text : List ℕ)
     (has_rest : Past → List ℕ → Type 0) : Type 0 where
   pub first : List ℕ
@@ -56,6 +57,7 @@ pub record HasFirstAndRest (terms : Terms) (line : Line) (past : Past) (text : L
   pub steps : Run
   pub writes_first : WritesLineOnTerms terms line (transition terms.frames past.now steps between) first
   pub watched : Watches past.now.locked.machine.run.watch steps between.locked.machine.run.watch
+  pub goes_on : GoesOn steps past.now between
   pub kept_where_legal : IsLegalRun (zone_of terms.frames) (past.run ++ steps)
       → HoldsPromise terms.frames past.run past.now (past.run ++ steps) between
   pub tells : has_rest (past_line past steps between) rest
@@ -68,14 +70,27 @@ HasHistory terms [] past after text = (text ≡ []) × (after ≡ past.now)
 HasHistory terms (line ∷ lines) past after text =
     HasFirstAndRest terms line past text (λ later rest. HasHistory terms lines later after rest)
 
+-- the steps of all lines of a history
+abbrev pub steps_of : (terms : Terms) (lines : List Line) (past : Past) (after : SystemState) (text : List ℕ)
+    → HasHistory terms lines past after text → Run
+steps_of terms [] past after text history = []
+steps_of terms (line ∷ lines) past after text history = history.steps
+    ++ steps_of terms lines (past_line past history.steps history.between) after history.rest history.tells
+
+-- whatever the run so far was, it goes on by the steps of all lines of a history
+abbrev pub AllLinesGoOn : Type 0
+AllLinesGoOn = (terms : Terms) (lines : List Line) (past : Past) (after : SystemState) (text : List ℕ)
+    (history : HasHistory terms lines past after text)
+    → GoesOn (steps_of terms lines past after text history) past.now after
+
 -- the promise holds after the run, of what the machine and the CPUs show, and the ledger has the peaks and event counts
 -- of the run
 pub record KeepsPromise (table : KnownTable) (run : Run) (now : SystemState) : Type 0 where
-  pub promise : Promise (zone_of table) run (shown_of now.locked.machine now.cpus)
+  pub promise : Promise (zone_of table) run (shown_of now.locked.machine (parts_of now.cpus))
   pub tells : AgreesWithRun table run now.locked.machine.ledger
 
--- The first line is served by these steps, and the promise holds after them. The other lines have such a history from
--- there on.
+-- The first line is served by these steps, by which the run so far goes on, and the promise holds after them. The other
+-- lines have such a history from there on.
 pub record KeepsFirstAndRest (terms : Terms) (line : Line) (past : Past) (text : List ℕ)
     (keeps_rest : Past → List ℕ → Type 0) : Type 0 where
   pub first : List ℕ
@@ -83,6 +98,7 @@ pub record KeepsFirstAndRest (terms : Terms) (line : Line) (past : Past) (text :
   pub between : SystemState
   pub steps : Run
   pub writes_first : WritesLineOnTerms terms line (transition terms.frames past.now steps between) first
+  pub goes_on : GoesOn steps past.now between
   pub kept : KeepsPromise terms.frames (past.run ++ steps) between
   pub keeps : keeps_rest (past_line past steps between) rest
   pub text_is : text ≡ first ++ rest
@@ -93,6 +109,15 @@ abbrev pub KeepsHistory : Terms → List Line → Past → (last : Past) (text :
 KeepsHistory terms [] past last text = (text ≡ []) × (last ≡ past)
 KeepsHistory terms (line ∷ lines) past last text =
     KeepsFirstAndRest terms line past text (λ later rest. KeepsHistory terms lines later last rest)
+
+-- If the run of all steps so far is legal at the end of a history, and the ledger had the peaks and event counts of the
+-- run before it, then the history keeps the promise.
+abbrev pub LegalHistoriesKeepIt : Type 0
+LegalHistoriesKeepIt = (terms : Terms) (lines : List Line) (before : Past) (after : SystemState) (text : List ℕ)
+    (history : HasHistory terms lines before after text)
+    → IsLegalRun (zone_of terms.frames) (before.run ++ steps_of terms lines before after text history)
+    → AgreesWithRun terms.frames before.run before.now.locked.machine.ledger
+    → KeepsHistory terms lines before (past (before.run ++ steps_of terms lines before after text history) after) text
 
 -- The watch saw all steps of the lines: they are one legal run, which the watch counted, and after each line the
 -- promise holds.
@@ -106,8 +131,8 @@ pub record HasLegalHistory (terms : Terms) (lines : List Line) (before after : S
 -- parts agree with their seats
 pub record Replays (terms : Terms) (lines : List Line) (before after : SystemState) (text : List ℕ) : Type 0 where
   pub served : ServesAll terms lines before after text
-  pub history : (run : Run) → ShowsAll terms.frames run before.locked.machine before.cpus
-      → AreTied terms.frames terms.stocks before.cpus → HasHistory terms lines (past run before) after text
+  pub history : (run : Run) → ShowsAll terms.frames run before.locked.machine (parts_of before.cpus)
+      → AreTied terms.frames terms.stocks (parts_of before.cpus) → HasHistory terms lines (past run before) after text
 
 -- The result of a replay. If it succeeds, all lines were served and these are their answers. If memory runs out for the
 -- text of a line, the lines up to that one were served.
@@ -121,8 +146,8 @@ pub record ReplaysOrStops {Z E : Type 0} (terms : Terms) (lines : List Line) (be
 pub record ReplaysLegally (terms : Terms) (lines : List Line) (before after : SystemState)
     (text : List ℕ) : Type 0 where
   pub served : ServesAll terms lines before after text
-  pub history : ShowsAll terms.frames [] before.locked.machine before.cpus
-      → AreTied terms.frames terms.stocks before.cpus → AgreesWithRun terms.frames [] before.locked.machine.ledger
+  pub history : ShowsAll terms.frames [] before.locked.machine (parts_of before.cpus)
+      → AreTied terms.frames terms.stocks (parts_of before.cpus) → AgreesWithRun terms.frames [] before.locked.machine.ledger
       → IsNewWatch (zone_of terms.frames) before.locked.machine.run.watch
       → HasLegalHistory terms lines before after text
 
@@ -169,7 +194,7 @@ pub record HoldsOfPart (table : KnownTable) (stock_table : KnownStockTable) (loc
 pub record KeepsInvariants (table : KnownTable) (stock_table : KnownStockTable)
     (before after : SystemState) : Type 0 where
   pub holds : IsSound table stock_table after.locked
-  pub tied : AreTied table stock_table before.cpus → AreTied table stock_table after.cpus
+  pub tied : AreTied table stock_table (parts_of before.cpus) → AreTied table stock_table (parts_of after.cpus)
 
 -- what the line names exists, the line is served, and the invariants are kept
 pub record ServesAndKeeps (terms : Terms) (line : Line) (before after : SystemState) (text : List ℕ) : Type 0 where

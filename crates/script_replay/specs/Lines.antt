@@ -1,8 +1,10 @@
 -- What lines do, one after the other. As with commands, `Writes..` relates a transition to a text, and `Serves..` does
 -- so by some steps.
 use Rattle.std.specs.Prelude.{◌≡◌, ℕ, Bool, ◌-◌, ◌≤◌, List, [], ◌∷◌, ◌++◌, Some, length, slice_get, slice_set, take}
-use Rattle.cpu_part.specs.Cpus.{KnownCpu}
+use Rattle.boot_words.specs.Pasts.{own_past}
+use Rattle.boot_words.specs.Growth.{IsRunSoFar}
 use Rattle.step_rules.specs.After.{Run}
+use Rattle.mem_system.specs.Cpus.{CpuInRun, pasts_of}
 use Rattle.mem_system.specs.Locked.{KnownLocked}
 use Rattle.mem_system.specs.Visits.{Transition, transition, locked_state}
 use Rattle.script_lines.specs.declared.line.Line.{Line}
@@ -11,25 +13,33 @@ use Rattle.script_replay.specs.Terms.{Terms}
 use Rattle.script_replay.specs.Answers.{WritesCommand}
 use Rattle.script_replay.specs.Numbers.{SaysNumbered}
 
--- what lies behind the lock, and the parts of all CPUs, from CPU 1 on
+-- what lies behind the lock, and all CPUs, from CPU 1 on
 pub record SystemState : Type 0 where
   pub locked : KnownLocked
-  pub cpus : List KnownCpu
+  pub cpus : List CpuInRun
 
 -- the number of the line among all lines of its script; `go` has none here, and counts as 0
 abbrev pub number_in_script : Line → ℕ
 number_in_script Go = 0
 number_in_script (At number cpu command) = number
 
--- the state with this behind the lock and these parts
-abbrev pub system_state : KnownLocked → List KnownCpu → SystemState
+-- the state with this behind the lock and these CPUs
+abbrev pub system_state : KnownLocked → List CpuInRun → SystemState
 system_state locked cpus = record { locked = locked; cpus = cpus }
 
--- `is_done` leads from this CPU's part to a new one, and the other parts stay the same
-pub record AtPart (cpu : ℕ) (is_done : (before after : KnownCpu) → Type 0) (before after : List KnownCpu)
+-- these steps are the run so far, by the pasts of the zone and of all CPUs
+abbrev pub HasRun : Run → SystemState → Type 0
+HasRun steps now = IsRunSoFar steps (own_past now.locked.machine.run.past) (pasts_of now.cpus)
+
+-- whatever the run so far was, it goes on by these steps
+abbrev pub GoesOn : Run → (before after : SystemState) → Type 0
+GoesOn steps before after = (earlier : Run) → HasRun earlier before → HasRun (earlier ++ steps) after
+
+-- `is_done` leads from this CPU to what it is after that, and the other CPUs stay the same
+pub record AtPart (cpu : ℕ) (is_done : (before after : CpuInRun) → Type 0) (before after : List CpuInRun)
     : Type 0 where
-  pub part : KnownCpu
-  pub left : KnownCpu
+  pub part : CpuInRun
+  pub left : CpuInRun
   pub is_part : slice_get before (cpu - 1) ≡ Some part
   pub done : is_done part left
   pub cpus : after ≡ slice_set before (cpu - 1) left
@@ -57,6 +67,7 @@ WritesLineOnTerms terms line call text =
 pub record ServesLine (terms : Terms) (line : Line) (before after : SystemState) (text : List ℕ) : Type 0 where
   pub steps : Run
   pub tells : WritesLineOnTerms terms line (transition terms.frames before steps after) text
+  pub goes_on : GoesOn steps before after
 
 -- the first line leads to a state between, the other lines lead on from there, and the text is that of the first line
 -- followed by that of the rest

@@ -1,6 +1,6 @@
 -- The lines of one CPU among those of all.
 use Rattle.std.specs.Prelude.{◌≡◌, ℕ, Bool, ◌==◌, MatchBool, List, []}
-use Rattle.cpu_part.specs.Cpus.{KnownCpu}
+use Rattle.mem_system.specs.Cpus.{CpuInRun}
 use Rattle.script_lines.specs.declared.line.Line.{Line}
 use Rattle.script_lines.specs.declared.line.Line.TheVariants.{Go, At}
 use Rattle.script_replay.specs.Lines.{InOrder}
@@ -16,7 +16,7 @@ LineCommandInRange frames (At number cpu command) = CommandInRange frames comman
 
 -- a line of the CPU of this number is answered with this text on its part, with its number if that is asked for; any
 -- other line is skipped
-abbrev pub ServesOwnLine : KnownSystem → (is_numbered : Bool) (own : ℕ) → Line → (before after : KnownCpu)
+abbrev pub ServesOwnLine : KnownSystem → (is_numbered : Bool) (own : ℕ) → Line → (before after : CpuInRun)
     (text : List ℕ) → Type 0
 ServesOwnLine tables is_numbered own Go before after text = (text ≡ []) × (after ≡ before)
 ServesOwnLine tables is_numbered own (At number cpu command) before after text =
@@ -27,12 +27,12 @@ ServesOwnLine tables is_numbered own (At number cpu command) before after text =
 -- answers have numbers
 pub record KnownWorker : Type 0 where
   pub cpu_number : ℕ
-  pub before : KnownCpu
+  pub before : CpuInRun
   pub lines : List Line
   pub is_numbered : Bool
 
 -- the worker of this CPU
-abbrev pub worker : (cpu_number : ℕ) (before : KnownCpu) (lines : List Line) (is_numbered : Bool) → KnownWorker
+abbrev pub worker : (cpu_number : ℕ) (before : CpuInRun) (lines : List Line) (is_numbered : Bool) → KnownWorker
 worker cpu_number before lines is_numbered = record {
   cpu_number = cpu_number;
   before = before;
@@ -41,6 +41,6 @@ worker cpu_number before lines is_numbered = record {
 }
 
 -- the worker's own lines are answered one after another, from its part at the start to the part that it left
-abbrev pub ServesOwn : KnownSystem → KnownWorker → (after : KnownCpu) (text : List ℕ) → Type 0
+abbrev pub ServesOwn : KnownSystem → KnownWorker → (after : CpuInRun) (text : List ℕ) → Type 0
 ServesOwn tables worker after text =
     InOrder (ServesOwnLine tables worker.is_numbered worker.cpu_number) worker.lines worker.before after text

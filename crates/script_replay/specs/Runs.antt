@@ -1,6 +1,6 @@
 -- The lines before `go`, and those from it on.
 use Rattle.std.specs.Prelude.{◌≡◌, ℕ, ◌+◌, false, List, [], ◌∷◌, ◌++◌, take, drop}
-use Rattle.cpu_part.specs.Cpus.{KnownCpu}
+use Rattle.mem_system.specs.Cpus.{CpuInRun}
 use Rattle.script_lines.specs.declared.line.Line.{Line}
 use Rattle.script_lines.specs.declared.line.Line.TheVariants.{Go, At}
 use Rattle.mem_system.specs.Boots.{KnownSystem}
@@ -19,10 +19,10 @@ lines_before_go lines = go_or 0 0 lines
 
 -- The lines before `go` are answered one after another. Then a worker for each part, as it was left, answers those
 -- from `go` on. The answers of the early lines come first.
-pub record RunsLines (tables : KnownSystem) (lines : List Line) (cpus : List KnownCpu) (text : List ℕ) : Type 0 where
+pub record RunsLines (tables : KnownSystem) (lines : List Line) (cpus : List CpuInRun) (text : List ℕ) : Type 0 where
   pub early : List ℕ
   pub later : List ℕ
-  pub parts : List KnownCpu
+  pub parts : List CpuInRun
   pub visits : VisitsAll tables (take (lines_before_go lines) lines) cpus parts early
   pub are_answers : AreAllAnswers tables (workers_from 1 parts (drop (lines_before_go lines) lines) false) later
   pub text_is : text ≡ early ++ later

@@ -3,7 +3,7 @@
 -- is done to an answer, and `Visits..` to a text, as `Answers..` and `Serves..` do by value.
 use Rattle.std.specs.Prelude.{◌≡◌, ℕ, zero, false, List, [], Some}
 use Rattle.cpu_part.specs.declared.answers.Fast.TheVariants.{Got}
-use Rattle.cpu_part.specs.Cpus.{KnownCpu}
+use Rattle.mem_system.specs.Cpus.{CpuInRun}
 use Rattle.group_tree.specs.declared.fault.Fault.TheVariants.{NoGroup}
 use Rattle.machine_texts.specs.Blocks.{blocks_text}
 use Rattle.machine_texts.specs.Show.{show_text}
@@ -30,39 +30,39 @@ use Rattle.script_replay.specs.Commands.{cmd_of}
 use Rattle.script_replay.specs.Lines.{AtPart, InOrder}
 
 -- the command was served by a visit, and this was its reply
-abbrev pub IsServedByVisit : KnownSystem → Cmd → (before after : KnownCpu) → Reply → Type 0
+abbrev pub IsServedByVisit : KnownSystem → Cmd → (before after : CpuInRun) → Reply → Type 0
 IsServedByVisit tables cmd before after reply =
     IsVisited tables.frames tables.stocks (IsServed tables.frames cmd reply) before after
 
 -- the command was served by a visit, and the text is that of its reply
-pub record IsReplyVisited (tables : KnownSystem) (cmd : Cmd) (before after : KnownCpu) (text : List ℕ) : Type 0 where
+pub record IsReplyVisited (tables : KnownSystem) (cmd : Cmd) (before after : CpuInRun) (text : List ℕ) : Type 0 where
   pub reply : Reply
   pub visited : IsServedByVisit tables cmd before after reply
   pub text_is : text ≡ answer_text (answer.Served reply)
 
 -- what was tried for the command without the lock gave no answer, and then it was served by a visit, which may find
 -- another value behind the lock
-pub record RepliesByVisit (tables : KnownSystem) (command : Command) (before after : KnownCpu) (reply : Reply)
+pub record RepliesByVisit (tables : KnownSystem) (command : Command) (before after : CpuInRun) (reply : Reply)
     : Type 0 where
   pub cmd : Cmd
   pub named : cmd_of command ≡ Some cmd
-  pub seen : KnownCpu
+  pub seen : CpuInRun
   pub tried : BehindLock tables.frames tables.stocks
-      (λ locked. IsTriedInVain command (locked_state locked before) seen)
+      (λ locked. IsTriedInVain command (locked_state locked before) seen.part)
   pub visited : IsServedByVisit tables cmd seen after reply
 
 -- What a command is answered without a visit. The group of an Alloc of a single frame is found under the lock. If there
 -- is none, the command is refused; else the CPU may get a frame of its list without the lock.
-abbrev pub AnswersWithoutVisit : KnownSystem → Command → (before after : KnownCpu) → UnlockedAnswer → Type 0
+abbrev pub AnswersWithoutVisit : KnownSystem → Command → (before after : CpuInRun) → UnlockedAnswer → Type 0
 AnswersWithoutVisit tables (Alloc path zero) before after (unlocked.Fast (Got frame)) =
-    BehindLock tables.frames tables.stocks (λ locked. GetsFast path.now (locked_state locked before) after frame)
+    BehindLock tables.frames tables.stocks (λ locked. GetsFast path.now (locked_state locked before) after.part frame)
 AnswersWithoutVisit tables (Alloc path zero) before after (unlocked.Refused NoGroup) =
     BehindLock tables.frames tables.stocks
     (λ locked. FindsNoGroup path.now (locked_state locked before) (locked_state locked after))
-AnswersWithoutVisit tables command before after answer = AnswersAlone command before after answer
+AnswersWithoutVisit tables command before after answer = AnswersAlone command before.part after.part answer
 
 -- the answer of a command, except of those that answer a text of any length
-abbrev pub AnswersByVisit : KnownSystem → Command → (before after : KnownCpu) → LineAnswer → Type 0
+abbrev pub AnswersByVisit : KnownSystem → Command → (before after : CpuInRun) → LineAnswer → Type 0
 AnswersByVisit tables command before after (answer.Served reply) = RepliesByVisit tables command before after reply
 AnswersByVisit tables Settle before after answer.Settled = IsServedByVisit tables cmd.Settle before after Done
 AnswersByVisit tables command before after answer.Settled = ⊥
@@ -71,7 +71,7 @@ AnswersByVisit tables command before after (answer.Unlocked said) =
 
 -- The answer of a script's command for a part, as text, and the part after it. `blocks` and `show` settle the CPU, and
 -- write the machine as it is after that. `stock` and `units` also look at words, in the same visit.
-abbrev pub VisitsCommand : KnownSystem → Command → (before after : KnownCpu) (text : List ℕ) → Type 0
+abbrev pub VisitsCommand : KnownSystem → Command → (before after : CpuInRun) (text : List ℕ) → Type 0
 VisitsCommand tables Blocks before after text =
     ReadsUnderLock tables.frames tables.stocks (λ machine. text ≡ blocks_text machine.blocks) before after
 VisitsCommand tables Show before after text =
@@ -83,11 +83,11 @@ VisitsCommand tables (Units path) before after text =
 VisitsCommand tables command before after text = IsTextOf (AnswersByVisit tables command before after) text
 
 -- the answer of a line, as text; `go` has no answer and does nothing
-abbrev pub VisitsLine : KnownSystem → Line → (before after : List KnownCpu) (text : List ℕ) → Type 0
+abbrev pub VisitsLine : KnownSystem → Line → (before after : List CpuInRun) (text : List ℕ) → Type 0
 VisitsLine tables Go before after text = (text ≡ []) × (after ≡ before)
 VisitsLine tables (At number cpu command) before after text =
     AtPart cpu (λ part left. VisitsCommand tables command part left text) before after
 
 -- the answers of lines, served by visits one after the other
-abbrev pub VisitsAll : KnownSystem → List Line → (before after : List KnownCpu) (text : List ℕ) → Type 0
+abbrev pub VisitsAll : KnownSystem → List Line → (before after : List CpuInRun) (text : List ℕ) → Type 0
 VisitsAll tables lines before after text = InOrder (VisitsLine tables) lines before after text

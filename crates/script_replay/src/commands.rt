@@ -1,7 +1,7 @@
 //! What a command of a script is under the lock, and what it names.
 
 ghost use Rattle.std.specs.Prelude.{◌≡◌};
-ghost use Rattle.script_replay.specs.Commands.{cmd_of, frame_path, head_named, path_removed};
+ghost use Rattle.script_replay.specs.Commands.{cmd_of, frame_path, head_named, is_tried, path_removed};
 
 use mem_system::Cmd;
 use script_lines::line::Command;
@@ -24,6 +24,19 @@ pub(crate) fn cmd_of<'a>(command: &Command<'a>) -> Option<Cmd<'a>>
         Command::Clean { frame } => Some(Cmd::Clean { frame }),
         Command::Owner { frame } => Some(Cmd::Owner { frame }),
         _ => None,
+    }
+}
+
+// Whether the command is tried without the lock, whatever lies behind the lock. It is inlined, so that a caller that
+// names the command asks nothing.
+#[inline(always)]
+pub(crate) fn is_tried(command: &Command<'_>) -> bool
+    ensures { result ≡ is_tried command.now }
+{
+    match *command {
+        Command::Fast { .. } | Command::Release { .. } => true,
+        Command::Get { .. } | Command::Put { .. } => true,
+        _ => false,
     }
 }
 

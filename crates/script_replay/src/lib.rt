@@ -9,6 +9,7 @@ mod commands;
 mod each;
 mod form;
 mod go;
+pub mod laws;
 mod locked_calls;
 mod own_lines;
 mod owned_replay;

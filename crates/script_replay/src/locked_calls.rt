@@ -3,6 +3,7 @@
 ghost use Rattle.std.specs.Prelude.{◌≡◌, ◌∷◌, [], IsTrue, List, Some, false, ℕ};
 ghost use Rattle.std.specs.Borrow.{Bor};
 ghost use Rattle.group_tree.specs.Groups.{has_group, number_at};
+ghost use Rattle.boot_words.specs.Pasts.{own_past};
 ghost use Rattle.step_rules.specs.declared.step.Action.TheVariants.{Lock, Unlock};
 ghost use Rattle.step_rules.specs.declared.step.Answer.TheVariants.{Done};
 ghost use Rattle.mem_machine.specs.Steps.{cpu_makes};
@@ -34,8 +35,11 @@ fn watch_lock<N: BootName>(locked: &mut Locked<N>, cpu: u32)
 // This CPU takes the lock for a command. Reclaimed units are noted from now on exactly if the command is explained.
 #[inline(always)]
 fn begin_command<N: BootName>(locked: &mut Locked<N>, cpu: u32, is_explained: bool)
-    ensures { OnlyWatched (cpu_makes cpu Lock Done ∷ []) (locked_with_unit_notes locked.old is_explained) locked.new }
+    ensures watched { OnlyWatched (cpu_makes cpu Lock Done ∷ []) (locked_with_unit_notes locked.old is_explained)
+        locked.new }
+    ensures zone { (own_past locked.old.machine.run.past).number ≡ 0 }
 {
+    locked.prove_quiet();
     locked.set_unit_notes(is_explained);
     watch_lock(locked, cpu);
 }

@@ -192,7 +192,7 @@ fn serve_at_cpu<N: BootName>(
     ensures answered { AddsText result answers.old answers.new
         (ServesCommand (terms N.frames N.stocks is_explained) command.now
         (locked_state locked.old cpu.old) (locked_state locked.new cpu.new)) }
-    ensures held { HoldsOfPart N.frames N.stocks locked.new cpu.new }
+    ensures held { HoldsOfPart N.frames N.stocks locked.new cpu.new.part }
 {
     let value = serve_command(locked, tables, cpu, command, is_explained);
     let written = write_answer(locked, tables, cpu, command, &value, is_explained, answers);
@@ -209,7 +209,7 @@ fn prove_sound<N: BootName>(locked: &Locked<N>)
 
 // Shows what always holds behind the lock, and of a CPU's part. It does nothing.
 pub(crate) fn prove_held<N: BootName>(locked: &Locked<N>, cpu: &Cpu<N>)
-    ensures { HoldsOfPart N.frames N.stocks locked.now cpu.now }
+    ensures { HoldsOfPart N.frames N.stocks locked.now cpu.now.part }
 {
     let _number = cpu.number();
     let _last = cpu.last_stock();

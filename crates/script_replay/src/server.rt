@@ -14,7 +14,7 @@ ghost use Rattle.script_replay.specs.ValueAnswers.{NamesItsGroups, answer_of};
 use crate::answer_value::AnswerValue;
 use crate::commands::{cmd_of, frame_path};
 use crate::locked_calls::{serve_frame_under_lock, serve_under_lock, settle_under_lock};
-use crate::unlocked_calls::{try_unlocked, watch_unlocked};
+use crate::unlocked_calls::{alloc_in_order, try_in_order, watch_unlocked};
 use cpu_part::{BootName, Fast, Tables};
 use group_tree::fault::Fault;
 use group_tree::group::GroupId;
@@ -61,7 +61,7 @@ fn serve_other<N: BootName>(
     ensures groups { NamesItsGroups locked.new.machine.ledger result }
 {
     let cpu_number = cpu.number();
-    if let Some(said) = try_unlocked(tables, cpu, command) {
+    if let Some(said) = try_in_order(locked, tables, cpu, command) {
         watch_unlocked(locked, cpu_number, command, &said);
         return AnswerValue::Unlocked(said);
     }
@@ -112,7 +112,7 @@ pub(crate) fn serve_frame_of<N: BootName>(
     let fast = Command::Fast {
         group: group.number(),
     };
-    match cpu.alloc_fast(tables, group.number()) {
+    match alloc_in_order(locked, tables, cpu, group) {
         Fast::Got(frame) => {
             let said = UnlockedAnswer::Fast(Fast::Got(frame));
             watch_unlocked(locked, cpu_number, &fast, &said);

@@ -1,13 +1,17 @@
 //! The commands that the CPU carries out without the lock, and their steps, which the machine's watch takes by value.
 
-ghost use Rattle.std.specs.Prelude.{◌≡◌, ◌<◌, ◌^◌, IfNone, IfSome, MatchBool, ℕ};
+ghost use Rattle.std.specs.Prelude.{◌≡◌, ◌<◌, ◌^◌, [], IfNone, IfSome, MatchBool, false, if◌then◌else◌, ℕ};
+ghost use Rattle.cpu_part.specs.Calls.{FastAnswers};
 ghost use Rattle.frame_word.specs.declared.answers.Put.TheVariants.{Left};
 ghost use Rattle.reply_texts.specs.declared.steps.UnlockedAnswer.TheVariants as unlocked;
 ghost use Rattle.script_lines.specs.declared.line.Command.TheVariants as command;
-ghost use Rattle.script_replay.specs.Answers.{AnswersAlone, CanNotList, ListsAgain, NeedsLock, OnlyWatched};
-ghost use Rattle.script_replay.specs.Answers.{steps_alone};
+ghost use Rattle.mem_system.specs.Visits.{locked_state};
+ghost use Rattle.script_replay.specs.Answers.{AnswersAlone, CanNotList, Gains, ListsAgain, MakesAlone, NeedsLock};
+ghost use Rattle.script_replay.specs.Answers.{OnlySaw, OnlyWatched, steps_alone, steps_tried};
+ghost use Rattle.script_replay.specs.Commands.{is_tried};
 ghost use Rattle.script_replay.specs.Ranges.{CommandInRange};
 
+use crate::commands::is_tried;
 use cpu_part::{BootName, Dropped, Fast, Tables};
 use frame_word::{Get, Put};
 use group_tree::fault::Fault;
@@ -16,6 +20,53 @@ use mem_system::{Cpu, Locked};
 use reply_texts::UnlockedAnswer;
 use script_lines::line::Command;
 use step_rules::step::{Action, Answer};
+
+// Answers a command without the lock, if that is possible. The zone and the CPU meet before and after it: both see the
+// same of the run then, so that its steps come in the order of the lines.
+#[inline(always)]
+pub(crate) fn try_in_order<N: BootName>(
+    locked: &mut Locked<N>,
+    tables: &Tables<N>,
+    cpu: &mut Cpu<N>,
+    command: &Command<'_>,
+) -> Option<UnlockedAnswer>
+    requires in_range { CommandInRange N.frames.frames command.now }
+    ensures answered { IfSome result (AnswersAlone command.now cpu.old.part cpu.new.part) }
+    ensures needs_lock { IfNone result (NeedsLock command.now cpu.old.part cpu.new.part) }
+    ensures only_saw { OnlySaw [] locked.old locked.new }
+    ensures gains { Gains (steps_tried cpu.old.part.number command.now result)
+        (locked_state locked.old cpu.old) (locked_state locked.new cpu.new) }
+    ensures stays { is_tried command.now ≡ false → locked_state locked.new cpu.new ≡ locked_state locked.old cpu.old }
+{
+    if !is_tried(command) {
+        return None;
+    }
+    let _number = cpu.number();
+    locked.meet(tables, cpu);
+    let said = try_unlocked(tables, cpu, command);
+    locked.meet(tables, cpu);
+    said
+}
+
+// Takes a frame of the CPU's list for the group, if that is possible. The zone and the CPU meet before and after it.
+#[inline(always)]
+pub(crate) fn alloc_in_order<N: BootName>(
+    locked: &mut Locked<N>,
+    tables: &Tables<N>,
+    cpu: &mut Cpu<N>,
+    group: GroupId,
+) -> Fast
+    ensures answer { FastAnswers group result cpu.old.part cpu.new.part }
+    ensures only_saw { OnlySaw [] locked.old locked.new }
+    ensures gains { Gains (steps_alone cpu.old.part.number (command.Fast group) (unlocked.Fast result))
+        (locked_state locked.old cpu.old) (locked_state locked.new cpu.new) }
+{
+    let _number = cpu.number();
+    locked.meet(tables, cpu);
+    let answer = cpu.alloc_fast(tables, group.number());
+    locked.meet(tables, cpu);
+    answer
+}
 
 // Answers a command without the lock, if that is possible. It is inlined, so that a caller that names a Get or a Put
 // has its steps alone.
@@ -26,8 +77,10 @@ pub(crate) fn try_unlocked<N: BootName>(
     command: &Command<'_>,
 ) -> Option<UnlockedAnswer>
     requires in_range { CommandInRange N.frames.frames command.now }
-    ensures answered { IfSome result (AnswersAlone command.now cpu.old cpu.new) }
-    ensures needs_lock { IfNone result (NeedsLock command.now cpu.old cpu.new) }
+    ensures answered { IfSome result (AnswersAlone command.now cpu.old.part cpu.new.part) }
+    ensures needs_lock { IfNone result (NeedsLock command.now cpu.old.part cpu.new.part) }
+    ensures run { MakesAlone cpu.old.part.number (steps_tried cpu.old.part.number command.now result)
+        cpu.old.past cpu.new.past }
 {
     match *command {
         Command::Fast { group } => Some(UnlockedAnswer::Fast(cpu.alloc_fast(tables, group))),
@@ -48,7 +101,9 @@ pub(crate) fn try_unlocked<N: BootName>(
 #[inline(always)]
 fn pin<N: BootName>(tables: &Tables<N>, cpu: &mut Cpu<N>, frame_number: u32) -> UnlockedAnswer
     requires in_zone { frame_number < N.frames.frames }
-    ensures { AnswersAlone (command.Get frame_number) cpu.old cpu.new result }
+    ensures answer { AnswersAlone (command.Get frame_number) cpu.old.part cpu.new.part result }
+    ensures run { MakesAlone cpu.old.part.number (steps_alone cpu.old.part.number (command.Get frame_number) result)
+        cpu.old.past cpu.new.past }
 {
     let frame = tables.words.frame(frame_number).unwrap();
     match cpu.get(tables, frame) {
@@ -61,7 +116,9 @@ fn pin<N: BootName>(tables: &Tables<N>, cpu: &mut Cpu<N>, frame_number: u32) -> 
 #[inline(always)]
 fn unpin<N: BootName>(tables: &Tables<N>, cpu: &mut Cpu<N>, frame_number: u32) -> UnlockedAnswer
     requires in_zone { frame_number < N.frames.frames }
-    ensures { AnswersAlone (command.Put frame_number) cpu.old cpu.new result }
+    ensures answer { AnswersAlone (command.Put frame_number) cpu.old.part cpu.new.part result }
+    ensures run { MakesAlone cpu.old.part.number (steps_alone cpu.old.part.number (command.Put frame_number) result)
+        cpu.old.past cpu.new.past }
 {
     let frame = tables.words.frame(frame_number).unwrap();
     if !cpu.has_pin(frame) {
@@ -73,8 +130,11 @@ fn unpin<N: BootName>(tables: &Tables<N>, cpu: &mut Cpu<N>, frame_number: u32) -
 // Lists the frame again, if it is fresh at the CPU and its page can be credited. Returns whether it did.
 fn try_relist<N: BootName>(tables: &Tables<N>, cpu: &mut Cpu<N>, frame_number: u32) -> bool
     requires in_zone { frame_number < N.frames.frames }
-    ensures listed { MatchBool result (ListsAgain frame_number cpu.old cpu.new)
-        (CanNotList frame_number cpu.old cpu.new) }
+    ensures listed { MatchBool result (ListsAgain frame_number cpu.old.part cpu.new.part)
+        (CanNotList frame_number cpu.old.part cpu.new.part) }
+    ensures run { MakesAlone cpu.old.part.number
+        (if result then steps_alone cpu.old.part.number (command.Release frame_number) unlocked.Listed else [])
+        cpu.old.past cpu.new.past }
 {
     let frame = tables.words.frame(frame_number).unwrap();
     if !cpu.has_fresh(frame) {

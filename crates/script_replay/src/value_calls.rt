@@ -82,7 +82,7 @@ fn alloc_value_at_cpu<N: BootName>(
         (locked_state locked.old cpu.old) (locked_state locked.new cpu.new)
         (answer_of locked.new.machine.ledger result) }
     ensures groups { NamesItsGroups locked.new.machine.ledger result }
-    ensures held { HoldsOfPart N.frames N.stocks locked.new cpu.new }
+    ensures held { HoldsOfPart N.frames N.stocks locked.new cpu.new.part }
 {
     let value = serve_frame_of(locked, tables, cpu, group, false);
     prove_held(locked, cpu);
@@ -102,7 +102,7 @@ fn serve_value_at_cpu<N: BootName>(
         (locked_state locked.old cpu.old) (locked_state locked.new cpu.new)
         (answer_of locked.new.machine.ledger result) }
     ensures groups { NamesItsGroups locked.new.machine.ledger result }
-    ensures held { HoldsOfPart N.frames N.stocks locked.new cpu.new }
+    ensures held { HoldsOfPart N.frames N.stocks locked.new cpu.new.part }
 {
     let value = serve_command(locked, tables, cpu, command, false);
     prove_held(locked, cpu);

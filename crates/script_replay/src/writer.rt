@@ -2,7 +2,7 @@
 
 ghost use Rattle.std.specs.Prelude.{◌≡◌, ◌++◌, ◌&&◌, IfOk};
 ghost use Rattle.std.specs.String.{string_bytes};
-ghost use Rattle.cpu_part.specs.Cpus.{KnownCpu};
+ghost use Rattle.mem_system.specs.Cpus.{CpuInRun};
 ghost use Rattle.mem_system.specs.Visits.{locked_state};
 ghost use Rattle.reply_texts.specs.Answers.{answer_text};
 ghost use Rattle.reply_texts.specs.LineAnswer as answer;
@@ -80,7 +80,7 @@ fn write_units_or_refusal<N: BootName>(
     is_explained: bool,
     text: &mut String,
 ) -> Result<(), AllocError>
-    ensures written { (part : KnownCpu) → AddsText result text.old text.new
+    ensures written { (part : CpuInRun) → AddsText result text.old text.new
         (WritesAnswer is_explained (Units path.entry) answer.Settled
         (locked_state locked.old part) (locked_state locked.new part)) }
 {

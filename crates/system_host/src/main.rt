@@ -99,7 +99,7 @@ fn ask<N: BootName, R: Wait>(
 
 // Puts every reference of the CPU.
 fn put_all<N: BootName>(tables: &Tables<N>, cpu: &mut Cpu<N>)
-    ensures { cpu.new.pins ≡ [] }
+    ensures { cpu.new.part.pins ≡ [] }
 {
     while let Some(frame) = cpu.first_pin() {
         let _put = cpu.put(tables, frame);

@@ -3,7 +3,7 @@ use Rattle.std.proofs.Common.{◌≡◌, ◌∙◌, Some, None, ap, refl, subst,
 use Rattle.std.proofs.lemmas.Bool.{false≢true}
 use Rattle.std.specs.Prelude.{Bool, IsSome, IsSomeAnd, Option}
 use Rattle.std.specs.Global.{Global}
-use Rattle.cpu_part.specs.Cpus.{KnownCpu}
+use Rattle.mem_system.specs.Cpus.{CpuInRun}
 use Rattle.frame_word.specs.Seats.{KnownTable}
 use Rattle.stock_word.specs.Stock.{KnownStockTable}
 use Rattle.zone_threads.specs.Homes.{HasCpu, HasNoCpu, KnownHome}
@@ -46,4 +46,4 @@ pub no_cpu_left : (f : KnownTable) (s : KnownStockTable) (a : Global) (is_live :
     → reason ≡ not_left.NoCpu → ⊥
 no_cpu_left f s a is_live o before after said reason is same serves one two =
     let drops : DropsHome before after = subst (λ (x : RequestAnswer). ServesHomeRequest f s before (Leave a) after x) (one ∙ ap answer.NotLeft two) serves in
-    false≢true (subst (λ (x : Option KnownCpu). IsSome x) drops.none (is.cpu drops.from (sym same ∙ drops.was)))
+    false≢true (subst (λ (x : Option CpuInRun). IsSome x) drops.none (is.cpu drops.from (sym same ∙ drops.was)))

@@ -3,7 +3,7 @@ use Rattle.std.specs.Prelude.{◌≡◌, ◌↔◌, ℕ, Bool, Option, None, Som
 use Rattle.frame_word.specs.Seats.{KnownTable}
 use Rattle.stock_word.specs.Stock.{KnownStockTable}
 use Rattle.zone_blocks.specs.declared.config.Config.{Config}
-use Rattle.cpu_part.specs.Cpus.{KnownCpu}
+use Rattle.mem_system.specs.Cpus.{CpuInRun}
 use Rattle.mem_system.specs.Boots.{IsSizedAs}
 use Rattle.zone_threads.specs.Homes.{EndsZone, HasCpu, HasNoCpu, IsCpu, KnownHome}
 use Rattle.zone_threads.specs.declared.zone_end.ZoneEnd.{ZoneEnd}
@@ -81,10 +81,10 @@ pub record BootsZone (sizes : Config) (after : Option Led) : Type 0 where
 -- the handle leads to this CPU of the zone of these tables
 pub record CpuIn (number : ℕ) (frames : KnownTable) (stocks : KnownStockTable) (part : Option Led) : Type 0 where
   pub home : KnownHome
-  pub cpu : KnownCpu
+  pub cpu : CpuInRun
   pub part_is : part ≡ Some (led frames stocks home)
   pub cpu_is : home.cpu ≡ Some cpu
-  pub number_is : cpu.number ≡ number
+  pub number_is : cpu.part.number ≡ number
 
 -- the part's handle leads to this CPU of the zone that the zone's handle leads to
 pub record TakesPart (number : ℕ) (zone part : Option Led) : Type 0 where

@@ -185,7 +185,8 @@ fn pass_beside_gets<N: BootName + Send + Sync, R: Threads + Wait + Abort + Sync>
     used: Frame,
     passing: Frame,
 ) -> ((), u64)
-    requires { (used < N.frames.frames) × (passing < N.frames.frames) }
+    requires used { used < N.frames.frames }
+    requires passing { passing < N.frames.frames }
 {
     join(
         rt,

@@ -14,6 +14,7 @@ use Rattle.cpu_part.specs.declared.answers.Dropped.TheVariants.{Listed, NeedVisi
 use Rattle.cpu_part.specs.declared.answers.Fast.{Fast}
 use Rattle.cpu_part.specs.declared.answers.Fast.TheVariants.{Got}
 use Rattle.mem_system.specs.Commands.{IsOfZone}
+use Rattle.mem_system.specs.Cpus.{CpuInRun}
 use Rattle.mem_system.specs.Locked.{BehindLock}
 use Rattle.mem_system.specs.Shown.{SettlesCaller}
 use Rattle.mem_system.specs.Visits.{IsServed, IsVisited, LockedState, ServesFrameOutcome, ServesOutcome}
@@ -44,19 +45,23 @@ abbrev pub GetsNoFrame : Fast → Type 0
 GetsNoFrame (Got frame) = ⊥
 GetsNoFrame other = Unit {0}
 
--- a fast allocation for the group got no frame; of the CPU, at most what it knows of its stock has changed
-pub record MissesFast (group : ℕ) (from to : KnownCpu) : Type 0 where
+-- `does` leads from the CPU's part to its part after that
+abbrev pub OnPart : (does : (from to : KnownCpu) → Type 0) → (from to : CpuInRun) → Type 0
+OnPart does from to = does from.part to.part
+
+-- a fast allocation for the group got no frame; of the CPU's part, at most what it knows of its stock has changed
+pub record MissesFast (group : ℕ) (from to : CpuInRun) : Type 0 where
   pub fast : Fast
   pub missed : GetsNoFrame fast
-  pub answers : FastAnswers group fast from to
+  pub answers : FastAnswers group fast from.part to.part
 
--- the frame wasn't a fresh one of the CPU, or its stock was drained, and at most what it knows of that has changed
-abbrev pub MissesDrop : (frame : ℕ) → (from to : KnownCpu) → Type 0
-MissesDrop frame from to = (to ≡ from) ⊎ DropAnswers frame NeedVisit from to
+-- the frame wasn't a fresh one of the CPU, or its stock was drained, and at most what its part knows of that has changed
+abbrev pub MissesDrop : (frame : ℕ) → (from to : CpuInRun) → Type 0
+MissesDrop frame from to = (to ≡ from) ⊎ DropAnswers frame NeedVisit from.part to.part
 
--- `first` leads from one part to another, and `rest` on from there
-pub record Then (first rest : (from to : KnownCpu) → Type 0) (from to : KnownCpu) : Type 0 where
-  pub between : KnownCpu
+-- `first` leads from the CPU as it was to the CPU between, and `rest` on from there
+pub record Then (first rest : (from to : CpuInRun) → Type 0) (from to : CpuInRun) : Type 0 where
+  pub between : CpuInRun
   pub first_done : first from between
   pub rest_done : rest between to
 
@@ -89,7 +94,7 @@ Calls frames stock_table (call.Visit cmd) from to (answer.Served outcome) =
 Calls frames stock_table (call.AllocFrame group) from to answer.Busy = OnCpu (MissesFast group) from to
 Calls frames stock_table (call.AllocFrame group) from to answer.NoGroup = MissesGroup frames stock_table group from to
 Calls frames stock_table (call.AllocFrame group) from to (answer.Taken frame) =
-    OnCpu (FastAnswers group (Got frame)) from to
+    OnCpu (OnPart (FastAnswers group (Got frame))) from to
 Calls frames stock_table (call.AllocFrame group) from to (answer.Served outcome) =
     OnCpu (Then (MissesFast group) (IsVisited frames stock_table (ServesFrameOutcome frames group outcome))) from to
 Calls frames stock_table (call.AllocBlock group order) from to answer.Busy = to ≡ from
@@ -99,24 +104,25 @@ Calls frames stock_table (call.AllocBlock group order) from to (answer.Served ou
     OnCpu (IsVisited frames stock_table (ServesBlock frames group order outcome)) from to
 Calls frames stock_table (call.Release frame) from to answer.Busy = OnCpu (MissesDrop frame) from to
 Calls frames stock_table (call.Release frame) from to answer.NoFrame = (frames.frames ≤ frame) × (to ≡ from)
-Calls frames stock_table (call.Release frame) from to answer.Listed = OnCpu (DropAnswers frame Listed) from to
+Calls frames stock_table (call.Release frame) from to answer.Listed = OnCpu (OnPart (DropAnswers frame Listed)) from to
 Calls frames stock_table (call.Release frame) from to (answer.Served outcome) =
     OnCpu (Then (MissesDrop frame) (IsVisited frames stock_table (ServesOutcome frames (cmd.Release frame) outcome)))
     from to
 Calls frames stock_table (call.Get frame) from to answer.NoFrame = (frames.frames ≤ frame) × (to ≡ from)
-Calls frames stock_table (call.Get frame) from to (answer.Got got) = OnCpu (PinAnswers frame got) from to
-Calls frames stock_table (call.Get frame) from to (answer.Refused fault) = (fault ≡ PinsFull) × (to ≡ from)
+Calls frames stock_table (call.Get frame) from to (answer.Got got) = OnCpu (OnPart (PinAnswers frame got)) from to
+Calls frames stock_table (call.Get frame) from to (answer.Refused fault) =
+    (fault ≡ PinsFull) × OnCpu (OnPart (λ cpu left. left ≡ cpu)) from to
 Calls frames stock_table (call.Put frame) from to answer.NoFrame = (frames.frames ≤ frame) × (to ≡ from)
-Calls frames stock_table (call.Put frame) from to (answer.Put put) = OnCpu (UnpinAnswers frame put) from to
+Calls frames stock_table (call.Put frame) from to (answer.Put put) = OnCpu (OnPart (UnpinAnswers frame put)) from to
 Calls frames stock_table (call.Put frame) from to (answer.Refused fault) =
-    (fault ≡ NotPinned) × OnCpu (λ cpu left. (times frame cpu.pins ≡ 0) × (left ≡ cpu)) from to
+    (fault ≡ NotPinned) × OnCpu (λ cpu left. (times frame cpu.part.pins ≡ 0) × (left ≡ cpu)) from to
 Calls frames stock_table call.Settle from to answer.Busy = to ≡ from
 Calls frames stock_table call.Settle from to answer.Settled =
     OnCpu (IsVisited frames stock_table (SettlesCaller frames)) from to
 Calls frames stock_table asked from to returned = ⊥
 
 -- what a read of a file does under the lock, by its answer
-abbrev pub IsReadUnderLock : KnownTable → KnownStockTable → ReadCall → (from to : KnownCpu) → ReadAnswer → Type 0
+abbrev pub IsReadUnderLock : KnownTable → KnownStockTable → ReadCall → (from to : CpuInRun) → ReadAnswer → Type 0
 IsReadUnderLock frames stock_table asked from to read.Busy = ⊥
 IsReadUnderLock frames stock_table asked from to (read.Text text) =
     IsVisited frames stock_table (IsServed frames (cmd.Read asked.path asked.file) (reply.Text text)) from to

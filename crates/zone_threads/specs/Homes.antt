@@ -5,8 +5,8 @@ use Rattle.std.specs.List.{HoldsAt, swap_remove}
 use Rattle.host_memory.specs.Cells.{KnownChange}
 use Rattle.frame_word.specs.Seats.{KnownTable}
 use Rattle.stock_word.specs.Stock.{KnownStockTable}
-use Rattle.cpu_part.specs.Cpus.{KnownCpu}
 use Rattle.mem_system.specs.declared.audit.Audit.{Audit}
+use Rattle.mem_system.specs.Cpus.{CpuInRun, parts_of}
 use Rattle.mem_system.specs.Ends.{AddsUp, Ends, pins_of_all}
 use Rattle.mem_system.specs.Locked.{BehindLock, KnownLocked}
 use Rattle.zone_threads.specs.declared.home.NotEntered.{NotEntered}
@@ -15,17 +15,17 @@ use Rattle.zone_threads.specs.declared.home.NotLeft.{NotLeft}
 use Rattle.zone_threads.specs.declared.home.NotLeft.TheVariants as not_left
 use Rattle.zone_threads.specs.declared.zone_end.ZoneEnd.{ZoneEnd}
 
--- what a thread has of a zone: the part of a CPU, if it took one
+-- what a thread has of a zone: a CPU, if it took one
 pub record KnownHome : Type 0 where
-  pub cpu : Option KnownCpu
+  pub cpu : Option CpuInRun
 
 -- what lies behind the lock: the machine with its sizes, and the parked parts
 pub record KnownBehind : Type 0 where
   pub locked : KnownLocked
-  pub parked : List KnownCpu
+  pub parked : List CpuInRun
 
 -- the same, with this part parked too
-abbrev pub parked_with : KnownBehind → KnownCpu → KnownBehind
+abbrev pub parked_with : KnownBehind → CpuInRun → KnownBehind
 parked_with behind cpu = record behind { parked = behind.parked ++ cpu ∷ [] }
 
 -- there is no CPU
@@ -37,9 +37,9 @@ abbrev pub HasCpu : KnownHome → Type 0
 HasCpu home = IsSome home.cpu
 
 -- there is a CPU before and after, and `does` leads from one to the other
-pub record OnCpu (does : (from to : KnownCpu) → Type 0) (before after : KnownHome) : Type 0 where
-  pub from : KnownCpu
-  pub to : KnownCpu
+pub record OnCpu (does : (from to : CpuInRun) → Type 0) (before after : KnownHome) : Type 0 where
+  pub from : CpuInRun
+  pub to : CpuInRun
   pub was : before.cpu ≡ Some from
   pub is : after.cpu ≡ Some to
   pub done : does from to
@@ -54,7 +54,7 @@ abbrev pub LockedChange : Type 0
 LockedChange = KnownChange (Box KnownBehind)
 
 -- this part was parked, and was taken out: the last one has its place now
-pub record Unparks (cpu : KnownCpu) (found left : KnownBehind) : Type 0 where
+pub record Unparks (cpu : CpuInRun) (found left : KnownBehind) : Type 0 where
   pub place : ℕ
   pub low : place < length found.parked
   pub is_there : HoldsAt (λ part. part ≡ cpu) found.parked place
@@ -63,17 +63,17 @@ pub record Unparks (cpu : KnownCpu) (found left : KnownBehind) : Type 0 where
 -- the home had no CPU, and has the one of this number now
 pub record GetsCpu (number : ℕ) (before after : KnownHome) : Type 0 where
   pub none : HasNoCpu before
-  pub cpu : KnownCpu
+  pub cpu : CpuInRun
   pub is : after.cpu ≡ Some cpu
-  pub number_is : cpu.number ≡ number
+  pub number_is : cpu.part.number ≡ number
 
 -- The CPU of this number was parked, and is the home's now: what was put back behind the lock is what was taken out,
 -- without this part.
 pub record TakesCpu (number : ℕ) (change : LockedChange) (before after : KnownHome) : Type 0 where
   pub none : HasNoCpu before
-  pub cpu : KnownCpu
+  pub cpu : CpuInRun
   pub is : after.cpu ≡ Some cpu
-  pub number_is : cpu.number ≡ number
+  pub number_is : cpu.part.number ≡ number
   pub found : Box KnownBehind
   pub left : Box KnownBehind
   pub found_is : change.found ≡ Some found
@@ -89,7 +89,7 @@ IfNotEntered cpus number before not_entered.Busy after = after ≡ before
 
 -- The home's CPU was parked: what was put back behind the lock is what was taken out, with this part.
 pub record ParksCpu (change : LockedChange) (before after : KnownHome) : Type 0 where
-  pub cpu : KnownCpu
+  pub cpu : CpuInRun
   pub was : before.cpu ≡ Some cpu
   pub none : HasNoCpu after
   pub found : Box KnownBehind
@@ -106,11 +106,11 @@ IfNotLeft before not_left.Busy after = after ≡ before
 -- some sound value was behind the lock, all CPUs were parked, and they ended so
 abbrev pub EndsSome : KnownTable → KnownStockTable → Audit → Type 0
 EndsSome frames stock_table audit =
-    (cpus : List KnownCpu) × BehindLock frames stock_table (λ found. Ends frames stock_table found cpus audit)
+    (cpus : List CpuInRun) × BehindLock frames stock_table (λ found. Ends frames stock_table found cpus audit)
 
 -- the parked parts had so many pins, the zone ended so, and what was counted adds up
 pub record EndsZone (frames : KnownTable) (stock_table : KnownStockTable) (ended : ZoneEnd) : Type 0 where
-  pub parked : List KnownCpu
-  pub held_is : ended.held ≡ pins_of_all parked
+  pub parked : List CpuInRun
+  pub held_is : ended.held ≡ pins_of_all (parts_of parked)
   pub ends : EndsSome frames stock_table ended.audit
   pub adds_up : AddsUp ended.audit

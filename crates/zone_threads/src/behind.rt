@@ -26,7 +26,7 @@ impl<N: BootName> Behind<N> {
 
     /// Takes the part of the CPU of this number; `None` if it isn't parked.
     pub fn unpark(&mut self, number: u32) -> Option<Cpu<N>>
-        ensures unparked { IfSome result (λ cpu. (cpu.number ≡ number) × Unparks cpu self.old self.new) }
+        ensures unparked { IfSome result (λ cpu. (cpu.part.number ≡ number) × Unparks cpu self.old self.new) }
         ensures stays { IfNone result (self.new ≡ self.old) }
     {
         let place = self.place_of(number)?;
@@ -36,7 +36,7 @@ impl<N: BootName> Behind<N> {
     // The place of the part of this number.
     fn place_of(&self, number: u32) -> Option<usize>
         ensures { IfSome result (λ place. (place < length self.now.parked)
-            × HoldsAt (λ cpu. cpu.number ≡ number) self.now.parked place) }
+            × HoldsAt (λ cpu. cpu.part.number ≡ number) self.now.parked place) }
     {
         for place in 0..self.parked.len() {
             if self.parked[place].number() == number {

@@ -104,7 +104,7 @@ impl<N: BootName> Home<N> {
 #[inline(always)]
 fn take_listed<N: BootName>(tables: &Tables<N>, cpu: &mut Cpu<N>, group: u32) -> Option<Frame>
     requires group { group < 64 }
-    ensures taken { IfSome result (λ frame. FastAnswers group (Got frame) cpu.old cpu.new) }
+    ensures taken { IfSome result (λ frame. FastAnswers group (Got frame) cpu.old.part cpu.new.part) }
     ensures missed { IfNone result (MissesFast group cpu.old cpu.new) }
 {
     match cpu.alloc_fast(tables, group) {
@@ -121,7 +121,8 @@ fn take_listed<N: BootName>(tables: &Tables<N>, cpu: &mut Cpu<N>, group: u32) ->
 // did.
 #[inline(always)]
 fn relist<N: BootName>(tables: &Tables<N>, cpu: &mut Cpu<N>, frame: Frame) -> bool
-    ensures { MatchBool result (DropAnswers frame Listed cpu.old cpu.new) (MissesDrop frame cpu.old cpu.new) }
+    ensures { MatchBool result (DropAnswers frame Listed cpu.old.part cpu.new.part)
+        (MissesDrop frame cpu.old cpu.new) }
 {
     if !cpu.has_fresh(frame) {
         return false;

@@ -1,6 +1,7 @@
 //! The end of a zone, once no thread has a CPU.
 
 ghost use Rattle.std.specs.Prelude.{◌≡◌, [], IfSome, length};
+ghost use Rattle.mem_system.specs.Cpus.{parts_of};
 ghost use Rattle.mem_system.specs.Ends.{AddsUp, pins_of_all};
 ghost use Rattle.zone_threads.specs.Homes.{EndsSome, EndsZone};
 
@@ -22,7 +23,7 @@ pub struct ZoneEnd {
 /// isn't there, which no call leaves so: the parts stay in memory then.
 pub fn end_parts<N: BootName>(tables: Tables<N>, behind: Behind<N>) -> Option<ZoneEnd>
     ensures ends { IfSome result (λ ended. EndsZone N.frames N.stocks ended) }
-    ensures held { IfSome result (λ ended. ended.held ≡ pins_of_all behind.parked) }
+    ensures held { IfSome result (λ ended. ended.held ≡ pins_of_all (parts_of behind.parked)) }
 {
     let Behind { locked, parked } = behind;
     if parked.len() != tables.words.cpus() as usize {
@@ -63,7 +64,7 @@ fn end_pinned<N: BootName>(locked: Locked<N>, tables: Tables<N>, mut cpus: Vec<C
 
 // Puts every pin of the CPU.
 fn put_all<N: BootName>(tables: &Tables<N>, cpu: &mut Cpu<N>)
-    ensures { cpu.new.pins ≡ [] }
+    ensures { cpu.new.part.pins ≡ [] }
 {
     while let Some(frame) = cpu.first_pin() {
         let _put = cpu.put(tables, frame);

@@ -1,5 +1,5 @@
 use Rattle.std.proofs.Common.{◌≡◌, ◌∙◌, List, arith, ap, length, subst, sym}
-use Rattle.cpu_part.specs.Cpus.{KnownCpu}
+use Rattle.mem_system.specs.Cpus.{CpuInRun, parts_of}
 use Rattle.mem_system.specs.Ends.{ForEachCpu, MakesLastVisits, pins_of_all}
 use Rattle.mem_system.specs.Locked.{KnownLocked}
 use Rattle.mem_system.proofs.Closing.{turn_long, written_back}
@@ -14,7 +14,7 @@ unreachable-requires g c =
     let long = turn_long PutsAllPins _ _ _ _ c.put_all_pins.ensures.puts ∙ ap length first in
     let same = written_back c.in-Err.pinned.cpus.len c.put_all_pins.new.cpus c.in-Err.pinned.cpus.items long (sym c.deref_mut.ensures.len ∙ ap length first) in
     let none : c.in-Err-make_last_visits.field-0.pins ≡ 0 =
-    c.in-Err-make_last_visits.ensures.pins ∙ ap pins_of_all same ∙ none_pinned _ _ _ _ c.put_all_pins.ensures.puts in
+    c.in-Err-make_last_visits.ensures.pins ∙ ap (λ (l : List CpuInRun). pins_of_all (parts_of l)) same ∙ none_pinned _ _ _ _ c.put_all_pins.ensures.puts in
     let some = c.in-Err-make_last_visits.ensures.some_pin in
     omega arith
 
@@ -34,12 +34,12 @@ returns-in-Ok-make_last_visits g c =
     let long = turn_long PutsAllPins _ _ _ _ put.puts ∙ ap length first in
     let back = written_back c.in-Err.pinned.cpus.len now.cpus c.in-Err.pinned.cpus.items long (sym c.deref_mut.ensures.len ∙ ap length first) in
     let puts : ForEachCpu PutsAllPins c.args.locked.machine c.args.cpus.items now.locked.machine now.cpus =
-    subst (λ (z : KnownLocked × List KnownCpu). ForEachCpu PutsAllPins z.0.machine z.1 now.locked.machine now.cpus)
+    subst (λ (z : KnownLocked × List CpuInRun). ForEachCpu PutsAllPins z.0.machine z.1 now.locked.machine now.cpus)
     (λ i. (same.locked i, (first ∙ same.cpus) i)) put.puts in
     let sizes = put.sizes ∙ ap (λ (l : KnownLocked). l.sizes) same.locked in
     let some = same.some_pin in
     record {
       leaves = leaves_nothing t w (system_state c.args.locked c.args.cpus.items) c.in-Err.pinned.pins c.in-Ok-make_last_visits.emptied now.locked now.cpus
           same.pins puts sizes (λ none. absurd (omega (arith, some, none)))
-          (subst (λ (l : List KnownCpu). MakesLastVisits t w now.locked l c.in-Ok-make_last_visits.emptied) back c.in-Ok-make_last_visits.ensures.visits);
+          (subst (λ (l : List CpuInRun). MakesLastVisits t w now.locked l c.in-Ok-make_last_visits.emptied) back c.in-Ok-make_last_visits.ensures.visits);
     }

@@ -1,15 +1,18 @@
-use Rattle.std.proofs.Common.{◌≡◌, ℕ, List, true, ◌++◌, ◌∙◌, ap, append_assoc, length, refl, subst, sym}
+use Rattle.std.proofs.Common.{◌≡◌, ℕ, List, true, [], ◌++◌, ◌∙◌, ap, length, refl, subst, sym}
 use Rattle.std.proofs.lemmas.Result.{IfErr-at_err, IfOk-at_ok, err_from_is_err_and}
-use Rattle.cpu_part.specs.Cpus.{KnownCpu}
+use Rattle.mem_system.specs.Cpus.{CpuInRun}
 use Rattle.step_watch.specs.Watched.{has_legal_steps}
 use Rattle.mem_machine.specs.Interleaving.{zone_of}
 use Rattle.mem_system.specs.Locked.{KnownLocked}
-use Rattle.script_replay.specs.Lines.{system_state}
+use Rattle.script_replay.specs.History.{past}
+use Rattle.script_replay.specs.Lines.{HasRun, SystemState, system_state}
+use Rattle.script_replay.specs.Terms.{form_terms}
 use Rattle.load_run.specs.Answers.{checked_text}
 use Rattle.load_run.specs.Ending.{EndsChecked, boot_end_text}
-use Rattle.load_run.proofs.Starting.{boot_agrees, boot_shown, given_back, lines_there, parts_tied}
+use Rattle.load_run.proofs.Starting.{boot_agrees, boot_shown, given_back, lent_parts, lent_so_far, lines_there, parts_tied}
 use Rattle.load_run.proofs.Stopped.{new_watched, stop_told}
 use Rattle.load_run.proofs.Watched.{saw_more}
+use Rattle.load_run.proofs.Whole.{kept_goes_on, whole_run}
 use Rattle.load_run.proofs.checked_replaying.check_on_boot.Goals as goal
 
 pub replay_checked-answers-requires-clause-there : goal.replay_checked-answers-requires-clause-there
@@ -31,7 +34,8 @@ pub returns-in_err-answers : goal.returns-in_err-answers
 returns-in_err-answers g c =
     let booted = c.in_ok-locked.ensures in
     let new = new_watched c.args.boot.sizes c.args.sizes g.N.BootName.frames g.N.BootName.stocks _ c.deref_mut.result.now _ _ booted.sized c.requires.sizes
-    booted.machine booted.sizes (c.deref_mut.ensures.value ∙ booted.cpus) c.in_ok-watch.ensures c.set_watch.ensures in
+    booted.machine booted.sizes (lent_parts _ _ c.deref_mut.ensures.value booted.cpus) (lent_so_far _ _ c.deref_mut.ensures.value booted.so_far)
+    c.in_ok-watch.ensures c.set_watch.ensures in
     let p = err_from_is_err_and c.from_residual-in_err-answers.result c.from_residual-in_err-answers.ensures.1 in
     rw (p.1, p.2) (record {
       answers = tt;
@@ -46,9 +50,10 @@ returns-then-not-seen g c =
     let booted = c.in_ok-locked.ensures in
     let left = c.replay_checked-answers.new in
     let new = new_watched c.args.boot.sizes c.args.sizes t w _ c.deref_mut.result.now _ _ booted.sized c.requires.sizes
-    booted.machine booted.sizes (c.deref_mut.ensures.value ∙ booted.cpus) c.in_ok-watch.ensures c.set_watch.ensures in
+    booted.machine booted.sizes (lent_parts _ _ c.deref_mut.ensures.value booted.cpus) (lent_so_far _ _ c.deref_mut.ensures.value booted.so_far)
+    c.in_ok-watch.ensures c.set_watch.ensures in
     let told = c.end_checked_boot.result in
-    let ends = subst (λ (cpus : List KnownCpu). EndsChecked t w (system_state left.locked cpus) told.0 told.1)
+    let ends = subst (λ (cpus : List CpuInRun). EndsChecked t w (system_state left.locked cpus) told.0 told.1)
     (given_back _ _ _ _ c.deref_mut.ensures.value c.deref_mut.ensures.len c.replay_checked-answers.auto.cpus) c.end_checked_boot.ensures.ends in
     let replays = IfOk-at_ok _ c.in_ok-answers.was c.replay_checked-answers.ensures.outcome.replayed in
     record {
@@ -74,37 +79,44 @@ returns g c =
     let booted = c.in_ok-locked.ensures in
     let left = c.replay_checked-answers.new in
     let new = new_watched c.args.boot.sizes c.args.sizes t w _ c.deref_mut.result.now _ _ booted.sized c.requires.sizes
-    booted.machine booted.sizes (c.deref_mut.ensures.value ∙ booted.cpus) c.in_ok-watch.ensures c.set_watch.ensures in
+    booted.machine booted.sizes (lent_parts _ _ c.deref_mut.ensures.value booted.cpus) (lent_so_far _ _ c.deref_mut.ensures.value booted.so_far)
+    c.in_ok-watch.ensures c.set_watch.ensures in
     let told = c.end_checked_boot.result in
-    let ends = subst (λ (cpus : List KnownCpu). EndsChecked t w (system_state left.locked cpus) told.0 told.1)
+    let ends = subst (λ (cpus : List CpuInRun). EndsChecked t w (system_state left.locked cpus) told.0 told.1)
     (given_back _ _ _ _ c.deref_mut.ensures.value c.deref_mut.ensures.len c.replay_checked-answers.auto.cpus) c.end_checked_boot.ensures.ends in
     let replays = IfOk-at_ok _ c.in_ok-answers.was c.replay_checked-answers.ensures.outcome.replayed in
     let tells = replays.history (boot_shown _ _ _ _ new.first) (parts_tied _ _ _ _ new.first) (boot_agrees _ _ _ _ new.first) new.watched in
     let held = ends.ends in
     let on : has_legal_steps held.emptied.machine.run.watch ≡ true = sym ends.is_legal ∙ c.if-not-seen.false in
     let saw = saw_more (zone_of t) tells.run left.locked.machine.run.watch held.leaves.steps held.emptied.machine.run.watch tells.saw held.leaves.watched on in
-    let answers = c.in_ok-answers.answers.items in
-    let ending = boot_end_text c.args.is_audited told.0 in
+    let start : SystemState = system_state c.set_watch.new.self c.deref_mut.result.now in
+    let end : SystemState = system_state left.locked left.cpus in
+    let has : HasRun tells.run end = kept_goes_on (form_terms t w c.args.form) c.args.lines.now (past [] start) (past tells.run end) _ tells.history new.first.so_far in
+    let shown = c.in_ok-told.told.items in
     record {
       answers = record {
-        frames = t;
-        stocks = w;
-        start = system_state c.set_watch.new.self c.deref_mut.result.now;
-        end = system_state left.locked left.cpus;
-        run = tells.run;
-        answers = answers;
-        ending = ending;
-        first = new.first;
-        served = replays.served;
-        history = tells.history;
-        ends = record { ended = told.0; ends = held; text_is = refl };
-        whole = tells.run ++ held.leaves.steps;
-        whole_is = refl;
-        legal = saw.legal;
-        promise = saw.promise;
-        text_is = c.in_ok-with_steps.ensures.told ∙ (ap (λ (l : List ℕ). l ++ checked_text told.1.steps) c.in_ok-told.ensures.told
-            ∙ (append_assoc answers ending (checked_text told.1.steps)
-            ∙ ap (λ (n : ℕ). answers ++ (ending ++ checked_text n)) (ends.steps ∙ saw.count)));
+        shown = shown;
+        replay = record {
+          frames = t;
+          stocks = w;
+          start = start;
+          end = end;
+          run = tells.run;
+          answers = c.in_ok-answers.answers.items;
+          ending = boot_end_text c.args.is_audited told.0;
+          first = new.first;
+          served = replays.served;
+          history = tells.history;
+          agrees = boot_agrees _ _ _ _ new.first;
+          ends = record { ended = told.0; ends = held; text_is = refl };
+          whole = tells.run ++ held.leaves.steps;
+          whole_is = refl;
+          legal = saw.legal;
+          promise = saw.promise;
+          last = whole_run t w tells.run end told.0 has held;
+          text_is = c.in_ok-told.ensures.told;
+        };
+        text_is = c.in_ok-with_steps.ensures.told ∙ ap (λ (n : ℕ). shown ++ checked_text n) (ends.steps ∙ saw.count);
       };
       fault = tt;
     }

@@ -1,9 +1,9 @@
 use Rattle.std.proofs.Common.{◌∙◌, ◌++◌, Bor, List, ℕ, ap, length, map, refl, subst, sym}
-use Rattle.cpu_part.specs.Cpus.{KnownCpu}
+use Rattle.mem_system.specs.Cpus.{CpuInRun}
 use Rattle.script_replay.specs.Lines.{SystemState, system_state}
 use Rattle.load_run.specs.Logs.{LogsAllAndEnd, LogsEnd, log_head_text}
 use Rattle.load_run.proofs.Logged.{both_logged}
-use Rattle.load_run.proofs.Starting.{given_back, lines_there, new_state}
+use Rattle.load_run.proofs.Starting.{given_back, lent_parts, lent_so_far, lines_there, new_state}
 use Rattle.load_run.proofs.logging.steps_on_boot.Goals as goal
 
 pub log_each-served-requires : goal.log_each-served-requires
@@ -27,7 +27,7 @@ returns g c =
     let end : SystemState = system_state left.locked left.cpus in
     let texts = ap (map (λ (text : Bor (List ℕ)). text.now)) c.deref.ensures.value ∙ c.in_ok-texts.ensures in
     let adds = c.in_ok-ended.ensures.logged in
-    let ends = subst (λ (cpus : List KnownCpu). LogsEnd t w (system_state left.locked cpus) adds.part)
+    let ends = subst (λ (cpus : List CpuInRun). LogsEnd t w (system_state left.locked cpus) adds.part)
     (given_back _ _ _ _ c.deref_mut.ensures.value c.deref_mut.ensures.len c.log_each-served.auto.cpus) adds.so in
     let grown = both_logged t w _ c.args.lines.now start end _ _ _ adds.part c.in_ok-served.ensures.logged ends adds.added in
     let head = c.in_ok-log.ensures ∙ ap log_head_text (sym c.requires.sizes) in
@@ -36,7 +36,8 @@ returns g c =
         frames = t;
         stocks = w;
         start = start;
-        first = new_state _ _ t w _ c.deref_mut.result.now refl booted.sized booted.machine booted.sizes (c.deref_mut.ensures.value ∙ booted.cpus);
+        first = new_state _ _ t w _ c.deref_mut.result.now refl booted.sized booted.machine booted.sizes 
+            (lent_parts _ _ c.deref_mut.ensures.value booted.cpus) (lent_so_far _ _ c.deref_mut.ensures.value booted.so_far);
         log = grown.text;
         logs = subst (λ (l : List (List ℕ)). LogsAllAndEnd t w l c.args.lines.now start grown.text) texts grown.so;
         text_is = grown.added ∙ ap (λ (l : List ℕ). l ++ grown.text) head;

@@ -1,9 +1,17 @@
-use Rattle.std.proofs.Common.{◌∙◌, List, [], ap, length, refl, subst}
-use Rattle.cpu_part.specs.Cpus.{KnownCpu}
-use Rattle.script_replay.specs.Lines.{SystemState, system_state}
+use Rattle.std.proofs.Common.{◌∙◌, ◌++◌, List, [], ap, length, refl, subst}
+use Rattle.mem_system.specs.Cpus.{CpuInRun}
+use Rattle.step_rules.specs.After.{Run}
+use Rattle.mem_core.proofs.Keeping.{always_keeps}
+use Rattle.mem_machine.specs.Interleaving.{zone_of}
+use Rattle.mem_history.proofs.Deciding.{legal_front}
+use Rattle.script_replay.specs.History.{past, steps_of}
+use Rattle.script_replay.specs.Lines.{HasRun, SystemState, system_state}
+use Rattle.script_replay.specs.Terms.{form_terms}
+use Rattle.script_replay.proofs.Seeing.{all_lines_go_on, legal_histories_keep_it}
 use Rattle.load_run.specs.Ending.{EndsHeld, boot_end_text}
 use Rattle.std.proofs.lemmas.Result.{IfOk-at_ok, IfOk-weaker}
-use Rattle.load_run.proofs.Starting.{boot_agrees, boot_shown, given_back, lines_there, new_state, parts_tied}
+use Rattle.load_run.proofs.Starting.{boot_agrees, boot_shown, given_back, lent_parts, lent_so_far, lines_there, new_state, parts_tied}
+use Rattle.load_run.proofs.Whole.{whole_run}
 use Rattle.load_run.proofs.replaying.replay_on_boot.Goals as goal
 
 pub replay-answers-requires : goal.replay-answers-requires
@@ -24,24 +32,40 @@ returns g c =
     let booted = c.in_ok-locked.ensures in
     let left = c.replay-answers.new in
     let start : SystemState = system_state c.in_ok-locked.locked c.deref_mut.result.now in
-    let new = new_state _ _ t w _ c.deref_mut.result.now refl booted.sized booted.machine booted.sizes (c.deref_mut.ensures.value ∙ booted.cpus) in
+    let new = new_state _ _ t w _ c.deref_mut.result.now refl booted.sized booted.machine booted.sizes 
+    (lent_parts _ _ c.deref_mut.ensures.value booted.cpus) (lent_so_far _ _ c.deref_mut.ensures.value booted.so_far) in
     let replays = IfOk-at_ok _ c.in_ok-answers.was c.replay-answers.ensures.outcome.replayed in
+    let end : SystemState = system_state left.locked left.cpus in
+    let answers = c.in_ok-answers.field-0.items in
+    let on = form_terms t w c.args.form in
+    let lines = c.args.lines.now in
+    let history = replays.history [] (boot_shown _ _ _ _ new) (parts_tied _ _ _ _ new) in
+    let run : Run = steps_of on lines (past [] start) end answers history in
+    let has : HasRun run end = all_lines_go_on on lines (past [] start) end answers history [] new.so_far in
     let told = c.end_boot-ended.result in
-    let ends = subst (λ (cpus : List KnownCpu). EndsHeld t w (system_state left.locked cpus) told)
+    let ends = subst (λ (cpus : List CpuInRun). EndsHeld t w (system_state left.locked cpus) told)
     (given_back _ _ _ _ c.deref_mut.ensures.value c.deref_mut.ensures.len c.replay-answers.auto.cpus) c.end_boot-ended.ensures.ends in
+    let last = whole_run t w run end told has ends in
+    let legal = legal_front (zone_of t) run ends.leaves.steps last.legal in
     record {
       answers = IfOk-weaker c.with_end.result _ _ (λ text is. record {
         frames = t;
         stocks = w;
         start = start;
-        end = system_state left.locked left.cpus;
-        answers = c.in_ok-answers.field-0.items;
+        end = end;
+        run = run;
+        answers = answers;
         ending = boot_end_text c.args.is_audited told;
         first = new;
         served = replays.served;
-        history = replays.history [] (boot_shown _ _ _ _ new) (parts_tied _ _ _ _ new);
+        history = legal_histories_keep_it on lines (past [] start) end answers history legal (boot_agrees _ _ _ _ new);
         agrees = boot_agrees _ _ _ _ new;
         ends = record { ended = told; ends = ends; text_is = refl };
+        whole = run ++ ends.leaves.steps;
+        whole_is = refl;
+        legal = last.legal;
+        promise = always_keeps (zone_of t) (run ++ ends.leaves.steps) last.legal;
+        last = last;
         text_is = is;
       }) c.with_end.ensures.told;
     }

@@ -2,14 +2,14 @@
 -- threads, and ends.
 use Rattle.std.proofs.Common.{◌≡◌, ◌∙◌, ◌≤◌, ℕ, false, List, [], ◌++◌, refl, arith, length, ap, subst, sym, take, drop}
 use Rattle.std.proofs.lemmas.Result.{IfOk-at_ok, IfOk-weaker}
-use Rattle.cpu_part.specs.Cpus.{KnownCpu}
+use Rattle.mem_system.specs.Cpus.{CpuInRun}
 use Rattle.script_replay.specs.History.{Replays}
 use Rattle.script_replay.specs.Lines.{SystemState, system_state}
 use Rattle.script_replay.specs.Terms.{boot_tables, numbered_terms}
 use Rattle.script_replay.specs.Each.{AreAllAnswers, workers_from}
 use Rattle.script_replay.proofs.Running.{go_least}
 use Rattle.load_run.specs.Ending.{EndsHeld, boot_end_text}
-use Rattle.load_run.proofs.Starting.{boot_shown, given_back, new_state, parts_tied}
+use Rattle.load_run.proofs.Starting.{boot_shown, given_back, lent_parts, lent_so_far, new_state, parts_tied}
 use Rattle.load_run.proofs.Joining.{are_answers, early_there, later_there}
 use Rattle.load_run.proofs.thread_running.run_by_threads.Goals as goal
 
@@ -64,15 +64,16 @@ returns g c =
     let early = c.in_ok-answers.answers.items in
     let later = c.in_ok-told.field-0.items in
     let ended = c.end_boot-ended.result in
-    let new = new_state _ _ t w _ c.deref_mut.result.now refl booted.sized booted.machine booted.sizes (shown ∙ booted.cpus) in
+    let new = new_state _ _ t w _ c.deref_mut.result.now refl booted.sized booted.machine booted.sizes (lent_parts _ _ shown booted.cpus)
+    (lent_so_far _ _ shown booted.so_far) in
     let replays : Replays (numbered_terms t w false c.args.is_numbered) c.split_at.result.0.now start at_go early =
     IfOk-at_ok (λ v. Replays (numbered_terms t w false c.args.is_numbered) c.split_at.result.0.now start at_go v.items) c.in_ok-answers.was
     c.replay-first.ensures.outcome.replayed in
     let tells : AreAllAnswers (boot_tables t w) (workers_from 1 at_go.cpus c.split_at.result.1.now c.args.is_numbered) later =
-    subst (λ (cpus : List KnownCpu). AreAllAnswers (boot_tables t w) (workers_from 1 cpus c.split_at.result.1.now c.args.is_numbered) later) (lent ∙ back)
+    subst (λ (cpus : List CpuInRun). AreAllAnswers (boot_tables t w) (workers_from 1 cpus c.split_at.result.1.now c.args.is_numbered) later) (lent ∙ back)
     (IfOk-at_ok _ c.in_ok-told.was c.serve_later-told.ensures.told) in
     let long = c.serve_later-told.auto.cpus ∙ ap length (lent ∙ back) ∙ c.replay-first.auto.cpus ∙ ap length shown ∙ booted.count in
-    let ends = subst (λ (cpus : List KnownCpu). EndsHeld t w (system_state c.into_parts-locked.result.0 cpus) ended) same c.end_boot-ended.ensures.ends in
+    let ends = subst (λ (cpus : List CpuInRun). EndsHeld t w (system_state c.into_parts-locked.result.0 cpus) ended) same c.end_boot-ended.ensures.ends in
     let joined : c.extend_from_slice.new.self.items ≡ early ++ later =
     c.in_ok-extend_from_slice.ensures.items ∙ ap (λ (l : List ℕ). early ++ l) c.deref.ensures.value in
     record {

@@ -9,7 +9,7 @@ use Rattle.script_replay.proofs.locked_calls.serve_frame_under_lock.Goals as goa
 
 pub serve_frame_outcome-outcome-requires : goal.serve_frame_outcome-outcome-requires
 serve_frame_outcome-outcome-requires g c = record {
-  there = subst (λ (l : Ledger). IsTrue (has_group l.groups c.args.group)) (sym (ap (λ (l : KnownLocked). l.machine.ledger) c.begin_command.ensures.locked))
+  there = subst (λ (l : Ledger). IsTrue (has_group l.groups c.args.group)) (sym (ap (λ (l : KnownLocked). l.machine.ledger) c.begin_command.ensures.watched.locked))
       c.requires.there;
 }
 
@@ -20,10 +20,10 @@ returns g c =
     let served = c.serve_frame_outcome-outcome in
     let before = c.args.locked.now in
     let after = c.end_command.new.locked in
-    let groups = ap (λ (l : KnownLocked). l.machine.ledger.groups) c.begin_command.ensures.locked in record {
+    let groups = ap (λ (l : KnownLocked). l.machine.ledger.groups) c.begin_command.ensures.watched.locked in record {
       served = λ path at. outcome_locked t c.args.is_explained (Alloc path 0) before found served.new.locked after c.args.cpu.now served.new.cpu c.number-cpu_number.result
-          c.number-cpu_number.ensures.number c.begin_command.ensures c.end_command.ensures served.result
+          c.number-cpu_number.ensures.number c.number-cpu_number.ensures.in_run c.begin_command.ensures.zone c.begin_command.ensures.watched c.end_command.ensures served.result
           (served.ensures.served path (ap (λ (gs : List Group). number_at gs path.now) groups ∙ at));
       groups = groups_locked t c.args.is_explained Settle before found served.new.locked after c.args.cpu.now served.new.cpu c.number-cpu_number.result
-          c.number-cpu_number.ensures.number c.begin_command.ensures c.end_command.ensures served.result served.ensures.groups;
+          c.number-cpu_number.ensures.number c.number-cpu_number.ensures.in_run c.begin_command.ensures.zone c.begin_command.ensures.watched c.end_command.ensures served.result served.ensures.groups;
     }

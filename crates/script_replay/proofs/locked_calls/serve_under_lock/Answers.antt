@@ -9,7 +9,7 @@ returns g c =
     let before = c.args.locked.now in
     let after = c.end_command.new.locked in record {
       served = outcome_locked t c.args.is_explained c.args.cmd.now before found served.new.locked after c.args.cpu.now served.new.cpu c.number-cpu_number.result
-          c.number-cpu_number.ensures.number c.begin_command.ensures c.end_command.ensures served.result served.ensures.served;
+          c.number-cpu_number.ensures.number c.number-cpu_number.ensures.in_run c.begin_command.ensures.zone c.begin_command.ensures.watched c.end_command.ensures served.result served.ensures.served;
       groups = groups_locked t c.args.is_explained c.args.cmd.now before found served.new.locked after c.args.cpu.now served.new.cpu c.number-cpu_number.result
-          c.number-cpu_number.ensures.number c.begin_command.ensures c.end_command.ensures served.result served.ensures.groups;
+          c.number-cpu_number.ensures.number c.number-cpu_number.ensures.in_run c.begin_command.ensures.zone c.begin_command.ensures.watched c.end_command.ensures served.result served.ensures.groups;
     }

@@ -1,5 +1,5 @@
 use Rattle.std.proofs.Common.{◌-◌, get_or, ap, refl}
-use Rattle.cpu_part.specs.Cpus.{KnownCpu}
+use Rattle.mem_system.specs.Cpus.{CpuInRun}
 use Rattle.script_replay.specs.Terms.{terms}
 use Rattle.script_replay.proofs.Going.{part_read}
 use Rattle.script_replay.proofs.owned_replay.serve_line.Goals as goal
@@ -10,6 +10,6 @@ returns-in-At g c = record {
       c.args.line.now c.in-At.cpu c.in-At.command
       (get_or c.args.cpus.now (c.in-At.cpu - 1) c.index-cpus-at.result) c.serve_at_cpu.new.cpu _ c.args.answers.now
       c.serve_at_cpu.new.answers refl c.in-At.is c.requires.there
-      (ap (λ (d : KnownCpu). get_or c.args.cpus.now (c.in-At.cpu - 1) d) c.index-cpus-at.is)
+      (ap (λ (d : CpuInRun). get_or c.args.cpus.now (c.in-At.cpu - 1) d) c.index-cpus-at.is)
       c.serve_at_cpu.ensures.answered c.serve_at_cpu.ensures.held;
 }

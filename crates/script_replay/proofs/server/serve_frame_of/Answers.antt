@@ -1,12 +1,16 @@
-use Rattle.std.proofs.Common.{ℕ, refl, subst}
+use Rattle.std.proofs.Common.{ℕ, ap, refl, subst, sym}
 use Rattle.cpu_part.specs.declared.answers.Fast.TheVariants.{Got}
-use Rattle.cpu_part.specs.Calls.{FastAnswers}
+use Rattle.group_tree.specs.Groups.{has_group}
+use Rattle.group_charge.specs.Charges.{Ledger}
+use Rattle.mem_system.specs.Locked.{KnownLocked}
+use Rattle.mem_system.specs.Visits.{LockedState, locked_state}
 use Rattle.mem_system.specs.declared.command.Cmd.TheVariants as cmd
 use Rattle.reply_texts.specs.declared.steps.UnlockedAnswer.TheVariants as unlocked
 use Rattle.script_lines.specs.declared.line.Command.TheVariants.{Alloc, Fast}
 use Rattle.script_replay.specs.Answers.{OnlyWatched, steps_alone}
 use Rattle.script_replay.specs.Terms.{terms}
-use Rattle.script_replay.proofs.Serving.{lock_served}
+use Rattle.script_replay.proofs.Gaining.{watched_gains}
+use Rattle.script_replay.proofs.Serving.{lock_served, then_watched}
 use Rattle.script_replay.proofs.server.serve_frame_of.Goals as goal
 
 pub returns-in-Got-clause-answer : goal.returns-in-Got-clause-answer
@@ -14,31 +18,37 @@ returns-in-Got-clause-answer g c path is =
     let f = c.in-Got.frame in
     let group = c.args.group in
     let said = unlocked.Fast (Got f) in
-    let made : OnlyWatched (steps_alone c.args.cpu.now.number (Fast group) said) c.args.locked.now c.watch_unlocked.new.locked =
-    subst (λ (n : ℕ). OnlyWatched (steps_alone n (Fast group) said) c.args.locked.now c.watch_unlocked.new.locked) c.number-cpu_number.ensures.number
-    (subst (λ (h : ℕ). OnlyWatched (steps_alone c.number-cpu_number.result (Fast h) said) c.args.locked.now c.watch_unlocked.new.locked)
-    c.number.ensures.value c.watch_unlocked.ensures) in record {
-      steps = steps_alone c.args.cpu.now.number (Fast group) said;
+    let l = c.args.locked.now in
+    let mid = c.alloc_in_order.new.locked in
+    let m = c.watch_unlocked.new.locked in
+    let number = c.args.cpu.now.part.number in
+    let before = locked_state l c.args.cpu.now in
+    let left = c.alloc_in_order.new.cpu in
+    let watched : OnlyWatched (steps_alone c.number-cpu_number.result (Fast group) said) mid m =
+    subst (λ (h : ℕ). OnlyWatched (steps_alone c.number-cpu_number.result (Fast h) said) mid m) c.number.ensures.value c.watch_unlocked.ensures in record {
+      steps = steps_alone number (Fast group) said;
       answered = record {
-        gets = record {
-          group = group;
-          found = is;
-          got = subst (λ (h : ℕ). FastAnswers h (Got f) c.args.cpu.now c.alloc_fast.new.self) c.number-2.ensures.value c.in-Got.ensures.answer;
+        gets = record { group = group; found = is; got = c.in-Got.ensures.answer };
+        alone = record {
+          locked = then_watched l mid m c.number-cpu_number.result number c.number-cpu_number.ensures.number (λ (n : ℕ). steps_alone n (Fast group) said)
+              c.in-Got.ensures.only_saw watched;
+          steps_are = refl;
         };
-        alone = record { locked = made; steps_are = refl };
       };
+      gains = watched_gains (steps_alone number (Fast group) said) (steps_alone c.number-cpu_number.result (Fast group) said) before mid m left
+          c.in-Got.ensures.gains watched;
     }
 
 pub returns-in_default-clause-answer : goal.returns-in_default-clause-answer
 returns-in_default-clause-answer g c path is =
     let l = c.args.locked.now in
-    let seen = c.alloc_fast.new.self in
+    let tried = c.alloc_in_order in
     let served = c.serve_frame_under_lock in
     lock_served (terms g.N.BootName.frames g.N.BootName.stocks c.args.is_explained) (Alloc path 0) l served.new.locked c.args.cpu.now served.new.cpu
-    (cmd.Alloc path 0) seen _ refl (record {
+    (cmd.Alloc path 0) (locked_state tried.new.locked tried.new.cpu) _ refl (record {
       group = c.args.group;
       found = is;
-      fast = c.alloc_fast.result;
-      answers = subst (λ (h : ℕ). FastAnswers h c.alloc_fast.result c.args.cpu.now seen) c.number-2.ensures.value c.alloc_fast.ensures.answer;
+      fast = tried.result;
+      answers = tried.ensures.answer;
       none = c.in_default.not-Got;
-    }) (served.ensures.served path is)
+    }) tried.ensures.only_saw (none_got _ _ _ _ _ c.in_default.not-Got tried.ensures.gains) (served.ensures.served path is)

@@ -1,6 +1,6 @@
 use Rattle.std.proofs.Common.{◌-◌, ap, get_or}
 use Rattle.std.specs.Prelude.{length}
-use Rattle.cpu_part.specs.Cpus.{KnownCpu}
+use Rattle.mem_system.specs.Cpus.{CpuInRun}
 use Rattle.script_lines.specs.declared.line.Command.TheVariants.{Alloc}
 use Rattle.script_replay.specs.Ranges.{CpuCommandInRange}
 use Rattle.script_replay.specs.Terms.{boot_tables}
@@ -11,10 +11,10 @@ pub returns-clause-answer : goal.returns-clause-answer
 returns-clause-answer g c path is =
     let cpus = c.args.cpus.now in
     let at = c.args.cpu - 1 in
-    let part : KnownCpu = get_or cpus at c.index-cpus-at.result in
+    let part : CpuInRun = get_or cpus at c.index-cpus-at.result in
     let frames = g.N.BootName.frames.frames in
     let there : CpuCommandInRange frames (length cpus) c.args.cpu (Alloc path 0) = record { low = c.requires.low; high = c.requires.high; names = tt } in
     command_said (boot_tables g.N.BootName.frames g.N.BootName.stocks) c.args.locked.now c.alloc_value_at_cpu.new.locked cpus c.args.cpu (Alloc path 0)
     part c.alloc_value_at_cpu.new.cpu _ there tt
-    (part_of cpus frames c.args.cpu (Alloc path 0) part there (ap (λ (d : KnownCpu). get_or cpus at d) c.index-cpus-at.is))
+    (part_of cpus frames c.args.cpu (Alloc path 0) part there (ap (λ (d : CpuInRun). get_or cpus at d) c.index-cpus-at.is))
     (c.alloc_value_at_cpu.ensures.answer path is) c.alloc_value_at_cpu.ensures.held

@@ -39,7 +39,7 @@ returns-in-Got g c =
           so = record {
             group = c.in-Some.group;
             found = sym found.so;
-            got = subst (λ (group : ℕ). FastAnswers group (Got c.in-Got.frame) c.args.cpu.now c.alloc_fast.new.self) c.number.ensures.value c.in-Got.ensures.answer;
+            got = subst (λ (group : ℕ). FastAnswers group (Got c.in-Got.frame) c.args.cpu.now.part c.alloc_fast.new.self.part) c.number.ensures.value c.in-Got.ensures.answer;
           };
         };
         text_is = refl;
@@ -57,7 +57,7 @@ returns-in_default-alloc_fast g c =
             group = c.in-Some.group;
             found = sym found.so;
             fast = c.alloc_fast.result;
-            answers = subst (λ (g : ℕ). FastAnswers g c.alloc_fast.result c.args.cpu.now c.alloc_fast.new.self) c.number.ensures.value c.alloc_fast.ensures.answer;
+            answers = subst (λ (g : ℕ). FastAnswers g c.alloc_fast.result c.args.cpu.now.part c.alloc_fast.new.self.part) c.number.ensures.value c.alloc_fast.ensures.answer;
             none = c.in_default-alloc_fast.not-Got;
           }) said.so;
       added = said.added;

@@ -11,7 +11,7 @@ pub returns-in-Some : goal.returns-in-Some
 returns-in-Some g c =
     let command = c.args.command.now in
     let said = c.in-Some.said in
-    let alone : AnswersAlone command c.args.cpu.now c.try_unlocked.new.cpu said = search rules in record {
+    let alone : AnswersAlone command c.args.cpu.now.part c.try_unlocked.new.cpu.part said = search rules in record {
       answered = record {
         text = unlocked_text said;
         so = alone_visited (boot_tables g.N.BootName.frames g.N.BootName.stocks) command c.args.cpu.now c.try_unlocked.new.cpu said alone;
@@ -27,11 +27,11 @@ returns-in-Some-cmd_of g c =
     let said = c.visit_and_reply.ensures.answered in
     let found = said.so.visited.found in
     let named : cmd_of command ≡ Some cmd = search rules in
-    let needs : NeedsLock command c.args.cpu.now seen = search rules in record {
+    let needs : NeedsLock command c.args.cpu.now.part seen.part = search rules in record {
       answered = record {
         text = said.text;
         so = reply_visited (boot_tables g.N.BootName.frames g.N.BootName.stocks) command cmd found c.args.cpu.now seen c.visit_and_reply.new.cpu said.text
-            named said.so.visited.sound_before (vain_is command found c.args.cpu.now seen c.requires.other needs) said.so;
+            named said.so.visited.sound_before (vain_is command found c.args.cpu.now seen.part c.requires.other needs) said.so;
         added = said.added;
       };
     }

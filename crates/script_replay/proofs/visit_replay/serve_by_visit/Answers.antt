@@ -1,5 +1,5 @@
 use Rattle.std.proofs.Common.{◌-◌, get_or, ap}
-use Rattle.cpu_part.specs.Cpus.{KnownCpu}
+use Rattle.mem_system.specs.Cpus.{CpuInRun}
 use Rattle.script_replay.specs.Terms.{boot_tables}
 use Rattle.script_replay.proofs.Visiting.{part_visited}
 use Rattle.script_replay.proofs.visit_replay.serve_by_visit.Goals as goal
@@ -9,5 +9,5 @@ returns-in-At g c = record {
   served = part_visited (boot_tables g.N.BootName.frames g.N.BootName.stocks) c.args.cpus.now c.args.line.now c.in-At.cpu c.in-At.command
       (get_or c.args.cpus.now (c.in-At.cpu - 1) c.index-cpus-at.result) c.visit_text.new.cpu _ c.args.answers.now
       c.visit_text.new.text c.in-At.is c.requires.there
-      (ap (λ (d : KnownCpu). get_or c.args.cpus.now (c.in-At.cpu - 1) d) c.index-cpus-at.is) c.visit_text.ensures.answered;
+      (ap (λ (d : CpuInRun). get_or c.args.cpus.now (c.in-At.cpu - 1) d) c.index-cpus-at.is) c.visit_text.ensures.answered;
 }

@@ -1,5 +1,6 @@
-use Rattle.std.proofs.Common.{◌≡◌, ◌∙◌, ◌<◌, ◌≤◌, ap, arith, length, refl, rules, sym}
+use Rattle.std.proofs.Common.{◌≡◌, ◌∙◌, ◌<◌, ◌≤◌, List, ap, arith, length, refl, rules, sym}
 use Rattle.std.proofs.lemmas.List.{length-set}
+use Rattle.mem_system.specs.Cpus.{CpuInRun, parts_of}
 use Rattle.mem_system.specs.Ends.{pins_of_all}
 use Rattle.mem_system.proofs.Closing.{written_back}
 use Rattle.zone_threads.proofs.Putting.{none_at_end, none_more}
@@ -19,6 +20,6 @@ unreachable-requires g c =
     let first = c.deref_mut-cpu-items.ensures.value in
     let long = c.loop-cpu.auto.cpu-items ∙ ap length first in
     let same = written_back c.args.cpus.len c.loop-cpu.cpu-items c.args.cpus.items long (sym c.deref_mut-cpu-items.ensures.len ∙ ap length first) in
-    let none : c.in-Err.field-0.pins ≡ 0 = c.in-Err.ensures.pins ∙ ap pins_of_all same ∙ none_at_end _ _ c.loop-cpu.invariant.1 past in
+    let none : c.in-Err.field-0.pins ≡ 0 = c.in-Err.ensures.pins ∙ ap (λ (l : List CpuInRun). pins_of_all (parts_of l)) same ∙ none_at_end _ _ c.loop-cpu.invariant.1 past in
     let some = c.in-Err.ensures.some_pin in
     omega (arith, none, some)

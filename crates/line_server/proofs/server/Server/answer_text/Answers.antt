@@ -1,7 +1,7 @@
 -- Serves the contract of `answer_text`: the line is skipped, served or bad.
 use Rattle.std.proofs.Common.{◌≡◌, ◌≤◌, ◌∙◌, ◌++◌, IfOk, List, Some, drop, length, rules, subst, sym, take}
 use Rattle.std.proofs.lemmas.List.{take-append-le, take_all}
-use Rattle.cpu_part.specs.Cpus.{KnownCpu}
+use Rattle.mem_system.specs.Cpus.{CpuInRun}
 use Rattle.script_replay.specs.Lines.{SystemState, system_state}
 use Rattle.line_server.specs.Known.{KnownServer, terms_of}
 use Rattle.line_server.specs.Turns.{AnswersServed, GivesAnswer, HasAnswer}
@@ -38,13 +38,13 @@ returns-in-Some-clause-answered g c =
     let long : length cpus ≤ inside.cpus.len = search rules in
     let same : take inside.cpus.len (cpus ++ drop (length cpus) inside.cpus.items) ≡ cpus
     = take-append-le inside.cpus.len cpus (drop (length cpus) inside.cpus.items) short ∙ take_all inside.cpus.len cpus long in
-    let after : List (KnownCpu) → SystemState = λ l. system_state c.answer_line.new.locked l in
-    let gives = subst (λ (l : List (KnownCpu)). GivesAnswer c.answer_line.result (AnswersServed (terms_of frames stocks here) c.args.text.now c.in-Some.line
+    let after : List (CpuInRun) → SystemState = λ l. system_state c.answer_line.new.locked l in
+    let gives = subst (λ (l : List (CpuInRun)). GivesAnswer c.answer_line.result (AnswersServed (terms_of frames stocks here) c.args.text.now c.in-Some.line
     (system_state inside.locked l) (after cpus))) c.deref_mut.ensures.value c.answer_line.ensures.served in
     subst (λ (s : KnownServer). IfOk c.answer_line.result (λ answer. HasAnswer (terms_of frames stocks s) s.sizes c.args.number (Some c.args.text.now) s.state
     (after (take inside.cpus.len (cpus ++ drop (length cpus) inside.cpus.items))) answer.items))
     c.self.view_is
-    (subst (λ (l : List (KnownCpu)). IfOk c.answer_line.result (λ answer. HasAnswer (terms_of frames stocks here) inside.sizes c.args.number (Some c.args.text.now) here.state
+    (subst (λ (l : List (CpuInRun)). IfOk c.answer_line.result (λ answer. HasAnswer (terms_of frames stocks here) inside.sizes c.args.number (Some c.args.text.now) here.state
     (after l) answer.items))
     (sym same)
     (served (terms_of frames stocks here) inside.sizes c.args.number c.args.text.now c.answer_line.result c.in-Some.line here.state (after cpus)

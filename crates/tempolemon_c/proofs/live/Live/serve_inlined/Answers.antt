@@ -1,6 +1,6 @@
 use Rattle.std.proofs.Common.{◌≡◌, ◌≤◌, ◌∙◌, ◌++◌, List, drop, length, refl, rules, subst, sym, take}
 use Rattle.std.proofs.lemmas.List.{take-append-le, take_all}
-use Rattle.cpu_part.specs.Cpus.{KnownCpu}
+use Rattle.mem_system.specs.Cpus.{CpuInRun}
 use Rattle.script_lines.specs.declared.line.Command.{Command}
 use Rattle.script_replay.specs.Lines.{system_state}
 use Rattle.script_replay.specs.Ranges.{CpuCommandInRange}
@@ -45,7 +45,7 @@ returns g c =
       state = system_state c.serve_value.new.locked (take inside.cpus.len (cpus ++ drop (length cpus) inside.cpus.items));
       unread_answer = inside.unread_answer.items;
     }) (Served value)) c.self.view_is
-    (subst (λ (l : List KnownCpu). ReturnsCommandAnswer frames stocks cpu command live
+    (subst (λ (l : List CpuInRun). ReturnsCommandAnswer frames stocks cpu command live
     (record { sizes = inside.sizes; state = system_state c.serve_value.new.locked l; unread_answer = inside.unread_answer.items })
     (Served value)) (sym same)
     (record {

@@ -1,6 +1,6 @@
 -- Serves `stock`: the CPU was settled, and one look at its stock's word was made.
 use Rattle.std.proofs.Common.{rules, ap, subst, sym}
-use Rattle.cpu_part.specs.Cpus.{KnownCpu}
+use Rattle.mem_system.specs.Cpus.{CpuInRun}
 use Rattle.mem_system.specs.Locked.{KnownLocked}
 use Rattle.mem_system.specs.Shown.{ReadsAfterSettling}
 use Rattle.zone_threads.specs.Shown.{SaysText}
@@ -10,7 +10,7 @@ use Rattle.zone_threads.proofs.behind.Behind.stock.Goals as goal
 
 pub returns-in_default : goal.returns-in_default
 returns-in_default g c =
-    subst (λ (left : KnownCpu). ReadsAfterSettling g.N.BootName.frames g.N.BootName.stocks (SaysText Stock NoMemory) c.args.cpu.now left)
+    subst (λ (left : CpuInRun). ReadsAfterSettling g.N.BootName.frames g.N.BootName.stocks (SaysText Stock NoMemory) c.args.cpu.now left)
     (sym c.write_own_stock-shown.ensures.cpu)
     (record {
       found = c.self.inside.locked;
@@ -24,7 +24,7 @@ returns-in_default g c =
 
 pub returns : goal.returns
 returns g c =
-    subst (λ (left : KnownCpu). ReadsAfterSettling g.N.BootName.frames g.N.BootName.stocks (SaysText Stock (Text c.into_bytes.result)) c.args.cpu.now left)
+    subst (λ (left : CpuInRun). ReadsAfterSettling g.N.BootName.frames g.N.BootName.stocks (SaysText Stock (Text c.into_bytes.result)) c.args.cpu.now left)
     (sym c.write_own_stock-shown.ensures.cpu)
     (record {
       found = c.self.inside.locked;
