@@ -1,6 +1,7 @@
 -- Serves `make_cpus` and `take_apart`. The parts of the CPUs at first, made one by one.
 use Rattle.std.proofs.Common.{◌≡◌, ℕ, zero, suc, ◌+◌, ◌-◌, ◌<◌, ◌≤◌, List, [], ◌∷◌, ◌++◌, All, length, get_or, Some, refl, sym, ap, ◌∙◌, subst, arith}
-use Rattle.std.specs.Prelude.{is_some, slice_get, unwrap_or}
+use Rattle.std.specs.Prelude.{is_some, slice_get}
+use Rattle.std.proofs.lemmas.Option.{get_or_from_slice_get}
 use Rattle.std.proofs.lemmas.Bool.{false≢true}
 use Rattle.atomic_table.specs.Seated.{TableId}
 use Rattle.frame_word.specs.Seats.{KnownTable, first_cpu_view, seat_number}
@@ -79,7 +80,7 @@ pasts_next i = ap (first_pasts 1) (let e : i + 1 ≡ suc i = omega arith in e) �
 pub first_past_at : (p n k : ℕ) (past : Past) → slice_get (first_pasts p n) k ≡ Some past → (past.number ≡ p + k) × (past.seen ≡ [])
 first_past_at p zero k past at = absurd (false≢true (ap is_some at))
 first_past_at p (suc n) zero past at =
-    let is : no_past p ≡ past = ap (λ o. unwrap_or o past) at in
+    let is : no_past p ≡ past = get_or_from_slice_get (first_pasts p (suc n)) 0 past past at in
     (sym (ap (λ (x : Past). x.number) is) ∙ (let e : p ≡ p + 0 = omega arith in e), sym (ap (λ (x : Past). x.seen) is))
 first_past_at p (suc n) (suc k) past at =
     let rest = first_past_at (p + 1) n k past at in
