@@ -9,7 +9,7 @@ use Rattle.std.proofs.lemmas.Option.{slice_get-map}
 use Rattle.boot_words.specs.declared.view.Past.{Past}
 use Rattle.boot_words.specs.Rule.{AllOf}
 use Rattle.boot_words.specs.Pasts.{KnownPasts, Meets, own_past}
-use Rattle.boot_words.specs.Growth.{AreChangesOf, GrewByAll, IsRunSoFar}
+use Rattle.boot_words.specs.Growth.{GrewByAll, IsRunSoFar, changes_nothing}
 use Rattle.boot_words.proofs.Gaining.{gains_go_on, meet_gains, none_gains}
 use Rattle.frame_word.specs.declared.answers.Get.{Get}
 use Rattle.frame_word.specs.declared.answers.Get.TheVariants as get
@@ -25,6 +25,7 @@ use Rattle.cpu_part.specs.declared.answers.Dropped.TheVariants as dropped
 use Rattle.cpu_part.specs.Told.{one_step, steps_of_drop, steps_of_fast, steps_of_get, steps_of_put}
 use Rattle.step_rules.specs.declared.step.Step.{Step}
 use Rattle.step_rules.specs.declared.step.Action.{Action}
+use Rattle.step_rules.specs.declared.step.Action.TheVariants as step
 use Rattle.step_rules.specs.declared.step.Answer.{Answer}
 use Rattle.step_rules.specs.declared.step.Answer.TheVariants as step_answer
 use Rattle.step_rules.specs.After.{Run}
@@ -40,58 +41,62 @@ use Rattle.script_replay.specs.Lines.{GoesOn, HasRun, SystemState, system_state}
 
 -- ---- the steps of a call without the lock
 
--- one step that is told
-one_told : (n : ℕ) (action : Action) (answer : Answer) → AreChangesOf (one_step n action answer) (one_step n action answer)
-one_told n action answer = inr ([], refl, refl)
-
-one_own : (n : ℕ) (action : Action) (answer : Answer) → AllOf (λ (one : Step × Answer). one.0.seat ≡ n) (one_step n action answer)
-one_own n action answer = (refl, tt)
-
--- a step that finds the stock drained changes nothing
-drained_told : (n : ℕ) (action : Action) (b : Bool) → AreChangesOf (if b then one_step n action step_answer.Drained else []) []
-drained_told n action true = inl (refl, refl)
-drained_told n action false = refl
-
-drained_own : (n : ℕ) (action : Action) (b : Bool) → AllOf (λ (one : Step × Answer). one.0.seat ≡ n) (if b then one_step n action step_answer.Drained else [])
-drained_own n action true = (refl, tt)
-drained_own n action false = tt
-
 module _ (n : ℕ) (before after : KnownPasts) where
   pub none_made : after ≡ before → MakesAlone n [] before after
   none_made same = record { made = []; grew = ap own_past same; changes = refl; own = tt }
 
+  -- no step
+  nothing : GrewByAll (own_past before) [] (own_past after) → MakesAlone n [] before after
+  nothing grew = record { made = []; grew = grew; changes = refl; own = tt }
+
+  -- one step that is told
+  told : (action : Action) (answer : Answer) → GrewByAll (own_past before) (one_step n action answer) (own_past after)
+      → MakesAlone n (one_step n action answer) before after
+  told action answer grew = record { made = one_step n action answer; grew = grew; changes = inr ([], refl, refl); own = (refl, tt) }
+
+  -- one step that changes nothing
+  quiet : (action : Action) (answer : Answer) → changes_nothing answer ≡ true → GrewByAll (own_past before) (one_step n action answer) (own_past after)
+      → MakesAlone n [] before after
+  quiet action answer none grew = record { made = one_step n action answer; grew = grew; changes = inl (none, refl); own = (refl, tt) }
+
+  -- a step that finds the stock drained, if it was made
+  drained : (action : Action) (b : Bool) → GrewByAll (own_past before) (if b then one_step n action step_answer.Drained else []) (own_past after)
+      → MakesAlone n [] before after
+  drained action true grew = quiet action step_answer.Drained refl grew
+  drained action false grew = nothing grew
+
   pub fast_made : (g : ℕ) (answer : Fast) (last : Stock) → GrewByAll (own_past before) (steps_of_fast n g answer last) (own_past after)
       → MakesAlone n (steps_alone n (command.Fast g) (unlocked.Fast answer)) before after
-  fast_made g (fast.Got f) last grew = record { made = _; grew = grew; changes = one_told n _ _; own = one_own n _ _ }
-  fast_made g fast.Drained last grew = record { made = _; grew = grew; changes = drained_told n _ (is_held last); own = drained_own n _ (is_held last) }
-  fast_made g fast.FreshFull last grew = record { made = []; grew = grew; changes = refl; own = tt }
-  fast_made g fast.ListEmpty last grew = record { made = []; grew = grew; changes = refl; own = tt }
-  fast_made g fast.OtherGroup last grew = record { made = []; grew = grew; changes = refl; own = tt }
-  fast_made g fast.NoStock last grew = record { made = []; grew = grew; changes = refl; own = tt }
+  fast_made g (fast.Got f) last grew = told (step.Consume g) step_answer.Took grew
+  fast_made g fast.Drained last grew = drained (step.Consume g) (is_held last) grew
+  fast_made g fast.FreshFull last grew = nothing grew
+  fast_made g fast.ListEmpty last grew = nothing grew
+  fast_made g fast.OtherGroup last grew = nothing grew
+  fast_made g fast.NoStock last grew = nothing grew
 
   pub listed_made : (f : ℕ) (last : Stock) → GrewByAll (own_past before) (steps_of_drop n f dropped.Listed last) (own_past after)
       → MakesAlone n (steps_alone n (command.Release f) unlocked.Listed) before after
-  listed_made f last grew = record { made = _; grew = grew; changes = one_told n _ _; own = one_own n _ _ }
+  listed_made f last grew = told (step.Credit f) step_answer.Stocked grew
 
   pub not_listed_made : (f : ℕ) (last : Stock) → GrewByAll (own_past before) (steps_of_drop n f dropped.NeedVisit last) (own_past after)
       → MakesAlone n [] before after
-  not_listed_made f last grew = record { made = _; grew = grew; changes = drained_told n _ (is_held last); own = drained_own n _ (is_held last) }
+  not_listed_made f last grew = drained (step.Credit f) (is_held last) grew
 
   pub get_made : (f : ℕ) (answer : Get) → GrewByAll (own_past before) (steps_of_get n f (Ok answer)) (own_past after)
       → MakesAlone n (steps_alone n (command.Get f) (unlocked.Got answer)) before after
-  get_made f get.Held grew = record { made = _; grew = grew; changes = one_told n _ _; own = one_own n _ _ }
-  get_made f get.Zero grew = record { made = _; grew = grew; changes = inl (refl, refl); own = one_own n _ _ }
-  get_made f get.Full grew = record { made = _; grew = grew; changes = inl (refl, refl); own = one_own n _ _ }
-  get_made f (get.Raced found) grew = record { made = []; grew = grew; changes = refl; own = tt }
+  get_made f get.Held grew = told (step.Get f) step_answer.Held grew
+  get_made f get.Zero grew = quiet (step.Get f) step_answer.Zero refl grew
+  get_made f get.Full grew = quiet (step.Get f) step_answer.Full refl grew
+  get_made f (get.Raced found) grew = nothing grew
 
   pub refused_made : (f : ℕ) (fault : Fault) → GrewByAll (own_past before) (steps_of_get n f (Err fault)) (own_past after)
       → MakesAlone n (steps_alone n (command.Get f) (unlocked.Refused fault)) before after
-  refused_made f fault grew = record { made = []; grew = grew; changes = refl; own = tt }
+  refused_made f fault grew = nothing grew
 
   pub put_made : (f : ℕ) (answer : Put) → GrewByAll (own_past before) (steps_of_put n f answer) (own_past after)
       → MakesAlone n (steps_alone n (command.Put f) (unlocked.Put answer)) before after
-  put_made f (put.Left left) grew = record { made = _; grew = grew; changes = one_told n _ _; own = one_own n _ _ }
-  put_made f put.Last grew = record { made = _; grew = grew; changes = one_told n _ _; own = one_own n _ _ }
+  put_made f (put.Left left) grew = told (step.Put f) (step_answer.Left left) grew
+  put_made f put.Last grew = told (step.Put f) step_answer.Last grew
 
 -- ---- behind the lock
 
