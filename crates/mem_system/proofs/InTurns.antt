@@ -2,7 +2,7 @@
 use Rattle.std.proofs.Common.{◌≡◌, ℕ, zero, suc, ◌+◌, ◌<◌, ◌≤◌, List, [], ◌∷◌, ◌++◌, length, take, drop, get_or, refl, sym, ap, ◌∙◌, subst, arith, append_assoc, append-nil}
 use Rattle.std.specs.Prelude.{slice_set, sum_by, All}
 use Rattle.std.proofs.lemmas.List.{drop_more, take_more_set, drop-set-lt, length-set, take_all, drop_all}
-use Rattle.std.proofs.lemmas.List.Sums.{get_or-le-sum_by}
+use Rattle.std.proofs.lemmas.List.Sums.{get_or-le-sum_by, sum_by-cons}
 use Rattle.std.proofs.lemmas.List.Elements.{All-append}
 use Rattle.frame_word.specs.Seats.{KnownTable}
 use Rattle.stock_word.specs.Stock.{KnownStockTable}
@@ -69,7 +69,8 @@ parts_all P (c ∷ cpus) all (suc k) any inside = parts_all P cpus (λ j other w
 
 pub sum_parts : (h : KnownCpu → ℕ) (cpus : List CpuInRun) → sum_by h (parts_of cpus) ≡ sum_by (λ c. h c.part) cpus
 sum_parts h [] = refl
-sum_parts h (c ∷ cpus) = ap (λ (n : ℕ). h c.part + n) (sum_parts h cpus)
+sum_parts h (c ∷ cpus) =
+    sum_by-cons h c.part (parts_of cpus) ∙ ap (λ (n : ℕ). h c.part + n) (sum_parts h cpus) ∙ sym (sum_by-cons (λ (d : CpuInRun). h d.part) c cpus)
 
 pub all_still : (P Q : CpuInRun → Type 0) (cpus : List CpuInRun) → ((c : CpuInRun) → P c → Q c) → All P cpus → All Q cpus
 all_still P Q cpus still all = λ k any inside. still (get_or cpus k any) (all k any inside)

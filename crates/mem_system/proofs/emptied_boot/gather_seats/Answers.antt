@@ -1,4 +1,5 @@
 use Rattle.std.proofs.Common.{◌≡◌, ◌<◌, ◌++◌, ◌∙◌, All, List, length, map, arith, rules, ap, subst, sym}
+use Rattle.std.specs.List.{remove}
 use Rattle.boot_words.specs.Closing.{AreAt, all_pasts_in, frame_seats, stock_seats}
 use Rattle.boot_words.specs.Rule.{AllOf}
 use Rattle.boot_words.specs.Pasts.{KnownPasts}
@@ -53,7 +54,8 @@ loop-seats-preserved g c =
       stocks = (λ i. stock_seats (pushed i) ++ map stock_seat_of (parts_of (left i))) ∙ stocks_more _ _ c.remove.result.part _ given.stocks
           ∙ ap (λ (l : List CpuInRun). stock_seats c.loop-seats.seats.items ++ map stock_seat_of (parts_of l)) (sym front) ∙ was.stocks;
       pasts = (λ i. all_pasts_in (pushed i) ++ pasts_of (left i))
-          ∙ pasts_more _ _ c.remove.result _ (ap (λ (s : KnownPasts). s.pasts) given.past ∙ given.past_is.alone)
+          ∙ pasts_more c.loop-seats.seats.items c.into_seats.result c.remove.result (remove c.loop-seats.cpus.items 0)
+          (ap (λ (s : KnownPasts). s.pasts) given.past ∙ given.past_is.alone)
           ∙ ap (λ (l : List CpuInRun). all_pasts_in c.loop-seats.seats.items ++ pasts_of l) (sym front) ∙ was.pasts;
       seated = subst (AllOf (AreAt id)) (sym pushed)
           (of_more (AreAt id) _ _ was.seated (record { past = ap (λ s. s.table) given.past ∙ given.past_is.table_is; frames = ap (λ s. s.table) given.frames ∙ its.frames; stocks = ap (λ s. s.table) given.stocks ∙ its.stocks }));
