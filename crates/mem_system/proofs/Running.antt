@@ -1,5 +1,5 @@
 -- How the pasts of the zone and of a CPU go through visits. Serves `serve` and the visits at the end of a system.
-use Rattle.std.proofs.Common.{◌≡◌, ◌≢◌, ℕ, suc, ◌+◌, List, [], ◌∷◌, ◌++◌, Some, length, refl, sym, ap, ◌∙◌, subst, inl, inr, append_assoc}
+use Rattle.std.proofs.Common.{◌≡◌, ℕ, List, [], ◌∷◌, ◌++◌, Some, length, refl, sym, ap, ◌∙◌, subst, inr, append_assoc}
 use Rattle.std.specs.Prelude.{◌⊎◌, slice_get, slice_set}
 use Rattle.frame_word.specs.Seats.{KnownTable}
 use Rattle.step_rules.specs.declared.step.Step.{Step}
@@ -11,8 +11,8 @@ use Rattle.step_rules.specs.After.{Run, after}
 use Rattle.boot_words.specs.declared.view.Past.{Past}
 use Rattle.boot_words.specs.Allowed.{GrewBy}
 use Rattle.boot_words.specs.Rule.{AllOf}
-use Rattle.boot_words.specs.Pasts.{KnownPasts, IsHeld, Locks, Unlocks, cpu_past, own_past}
-use Rattle.boot_words.specs.Growth.{GrewByAll, GainsSteps, IsRunSoFar}
+use Rattle.boot_words.specs.Pasts.{KnownPasts, Locks, Unlocks, cpu_past, own_past}
+use Rattle.boot_words.specs.Growth.{GainsSteps, IsRunSoFar}
 use Rattle.boot_words.proofs.Growing.{all_grew_both}
 use Rattle.boot_words.proofs.Holding.{append_none}
 use Rattle.boot_words.proofs.Gaining.{gains_go_on, of_two_seats, visit_gains}
