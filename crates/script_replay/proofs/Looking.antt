@@ -2,21 +2,26 @@
 use Rattle.std.proofs.Common.{◌≡◌, ◌∙◌, ◌++◌, ℕ, Bool, true, false, Option, Some, None, Result, Ok, Err, IfOk, List, get_or, refl, sym, ap, subst}
 use Rattle.std.specs.declared.string.String.{String}
 use Rattle.std.specs.String.{string_bytes}
+use Rattle.boot_words.specs.Pasts.{own_past}
+use Rattle.boot_words.specs.Growth.{GainsSteps}
 use Rattle.frame_word.specs.Seats.{KnownTable}
 use Rattle.cpu_part.specs.Cpus.{KnownCpu}
+use Rattle.step_rules.specs.After.{Run}
 use Rattle.machine_texts.specs.Units.{ReadsUnits, units_text}
 use Rattle.mem_machine.specs.Local.{local_of}
 use Rattle.mem_machine.specs.Machines.{KnownMachine}
+use Rattle.mem_machine.specs.Noted.{KnownRun}
 use Rattle.mem_machine.specs.Showing.{units_in}
 use Rattle.mem_machine.specs.Stocks.{with_look}
 use Rattle.mem_machine.proofs.Looks.{looks_opened, looks_unseen}
+use Rattle.mem_system.specs.Cpus.{CpuInRun}
 use Rattle.mem_system.specs.Locked.{AllShut}
 use Rattle.mem_system.specs.Shown.{UnitsAt}
 use Rattle.mem_system.specs.Visits.{LockedState}
 use Rattle.reply_texts.specs.LineAnswer.{LineAnswer, Served, Settled, Unlocked}
 use Rattle.script_lines.specs.declared.line.Command.{Command}
 use Rattle.script_lines.specs.declared.line.Command.TheVariants.{Settle, Blocks, Show, Stock, Units}
-use Rattle.script_replay.specs.Answers.{AddsText, IsAnswerText, IsSettledText}
+use Rattle.script_replay.specs.Answers.{AddsText, Gains, IsAnswerText, IsSettledText, WritesAnswer}
 use Rattle.script_replay.proofs.Telling.{at_ok}
 
 -- ---- a change that no CPU sees
@@ -62,6 +67,14 @@ pub answer_looked : (t : KnownTable) (is_explained : Bool) (command : Command) (
 answer_looked t is_explained command Settled text left n is = settled_looked t is_explained command text left n is
 answer_looked t is_explained command (Served reply) text left n is = looked_none t left.locked.machine n is.1
 answer_looked t is_explained command (Unlocked said) text left n is = looked_none t left.locked.machine n is.1
+
+-- the pasts gain nothing by looks
+pub looked_gains : (t : KnownTable) (is_explained : Bool) (command : Command) (answer : LineAnswer) (steps : Run) (before left after : LockedState) (text : List ℕ)
+    → Gains steps before left → WritesAnswer is_explained command answer left after text → Gains steps before after
+looked_gains t is_explained command answer steps before left after text gains writes =
+    let looked = answer_looked t is_explained command answer text left after.locked.machine writes.told in
+    subst (λ (x : KnownRun × CpuInRun). GainsSteps (own_past before.locked.machine.run.past) (own_past before.cpu.past) steps (own_past x.0.past)
+    (own_past x.1.past)) (λ i. (sym looked.run i, sym writes.cpu i)) gains
 
 -- no visit is open before, if none is after
 pub shut_before : (t : KnownTable) (m n : KnownMachine) → IsLookedAt t m n → AllShut n → AllShut m

@@ -1,8 +1,14 @@
-use Rattle.std.proofs.Common.{◌-◌, get_or, ap, refl}
+use Rattle.std.proofs.Common.{◌-◌, Ok, get_or, ap, refl}
 use Rattle.mem_system.specs.Cpus.{CpuInRun}
 use Rattle.script_replay.specs.Terms.{terms}
-use Rattle.script_replay.proofs.Going.{part_read}
+use Rattle.script_replay.proofs.Going.{go_keeps, part_read}
 use Rattle.script_replay.proofs.owned_replay.serve_line.Goals as goal
+
+pub returns-in-Go : goal.returns-in-Go
+returns-in-Go g c = record {
+  served = go_keeps g.N.BootName.frames g.N.BootName.stocks c.args.is_explained c.args.locked.now c.args.cpus.now (Ok tt) c.args.answers.now c.args.line.now
+      c.in-Go.is c.prove_sound.ensures;
+}
 
 pub returns-in-At : goal.returns-in-At
 returns-in-At g c = record {

@@ -1,16 +1,15 @@
-use Rattle.std.proofs.Common.{ℕ, ap, refl, subst, sym}
+use Rattle.std.proofs.Common.{◌∙◌, ℕ, ap, refl, subst}
 use Rattle.cpu_part.specs.declared.answers.Fast.TheVariants.{Got}
-use Rattle.group_tree.specs.Groups.{has_group}
-use Rattle.group_charge.specs.Charges.{Ledger}
+use Rattle.group_tree.specs.Groups.{number_at}
 use Rattle.mem_system.specs.Locked.{KnownLocked}
-use Rattle.mem_system.specs.Visits.{LockedState, locked_state}
+use Rattle.mem_system.specs.Visits.{locked_state}
 use Rattle.mem_system.specs.declared.command.Cmd.TheVariants as cmd
 use Rattle.reply_texts.specs.declared.steps.UnlockedAnswer.TheVariants as unlocked
 use Rattle.script_lines.specs.declared.line.Command.TheVariants.{Alloc, Fast}
 use Rattle.script_replay.specs.Answers.{OnlyWatched, steps_alone}
 use Rattle.script_replay.specs.Terms.{terms}
 use Rattle.script_replay.proofs.Gaining.{watched_gains}
-use Rattle.script_replay.proofs.Serving.{lock_served, then_watched}
+use Rattle.script_replay.proofs.Serving.{lock_served, none_got, then_watched}
 use Rattle.script_replay.proofs.server.serve_frame_of.Goals as goal
 
 pub returns-in-Got-clause-answer : goal.returns-in-Got-clause-answer
@@ -51,4 +50,6 @@ returns-in_default-clause-answer g c path is =
       fast = tried.result;
       answers = tried.ensures.answer;
       none = c.in_default.not-Got;
-    }) tried.ensures.only_saw (none_got _ _ _ _ _ c.in_default.not-Got tried.ensures.gains) (served.ensures.served path is)
+    }) tried.ensures.only_saw (none_got c.args.cpu.now.part.number c.args.group tried.result (locked_state l c.args.cpu.now)
+    (locked_state tried.new.locked tried.new.cpu) c.in_default.not-Got tried.ensures.gains) (served.ensures.served path
+    (ap (λ (x : KnownLocked). number_at x.machine.ledger.groups path.now) tried.ensures.only_saw.locked ∙ is))

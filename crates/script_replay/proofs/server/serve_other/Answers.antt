@@ -1,4 +1,4 @@
-use Rattle.std.proofs.Common.{◌≡◌, None, Some, rules, subst}
+use Rattle.std.proofs.Common.{◌≡◌, false, None, Some, [], rules, subst}
 use Rattle.mem_system.specs.Visits.{LockedState, locked_state}
 use Rattle.mem_system.specs.declared.command.Cmd.TheVariants.{Settle}
 use Rattle.mem_system.specs.declared.command.Reply.TheVariants.{Done}
@@ -34,8 +34,8 @@ returns-in-Some-cmd_of-clause-answer g c =
     lock_served (terms g.N.BootName.frames g.N.BootName.stocks c.args.is_explained) command c.args.locked.now served.new.locked before served.new.cpu
     cmd seen _ named (vain_is command c.args.locked.now before tried.new.cpu.part c.requires.other needs) tried.ensures.only_saw gains served.ensures.served
 
-pub returns-in_default-clause-answer : goal.returns-in_default-clause-answer
-returns-in_default-clause-answer g c =
+pub returns-in-None-clause-answer : goal.returns-in-None-clause-answer
+returns-in-None-clause-answer g c =
     let command = c.args.command.now in
     let tried = c.try_in_order in
     let before = c.args.cpu.now in
