@@ -59,6 +59,6 @@ pub record IsClosedTable (zone : Zone) (words : List ℕ) (of_zone : OwnSeats) (
       → IsStockOf (words_in zone words).stocks (view_in (stock_seats of_cpus) k).number of_zone.stocks.view
       (view_in (stock_seats of_cpus) k)
 
--- the final words, as `run_words` has them
-abbrev pub parts_of : KnownWords → Words
-parts_of w = words_in (record { frames = w.frames; cpus = w.cpus }) w.words
+-- the final words: those of frames and visits, and those of stocks and reports
+abbrev pub closed_words : KnownWords → Words
+closed_words w = words_in (record { frames = w.frames; cpus = w.cpus }) w.words

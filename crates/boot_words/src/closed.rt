@@ -6,7 +6,7 @@ ghost use Rattle.stock_word.specs.Stock.{word_of, HasWord, IsZoneView};
 ghost use Rattle.stock_word.specs.StockRule.{report_index, stock_index};
 ghost use Rattle.boot_words.specs.Rule.{AllOf};
 ghost use Rattle.boot_words.specs.Seats.{zone_of_boot};
-ghost use Rattle.boot_words.specs.Closing.{all_views_in, parts_of, views_in, AreAt, IsClosedTable};
+ghost use Rattle.boot_words.specs.Closing.{all_views_in, closed_words, views_in, AreAt, IsClosedTable};
 
 use crate::raw::{BootWords, RawSeat};
 use crate::seat::{FrameSeat, OwnSeats, PastSeat, StockSeat};
@@ -111,7 +111,7 @@ impl ClosedWords {
     /// The word of a frame.
     pub fn word(&self, frame: Frame) -> u64
         requires { frame < self.now.frames }
-        ensures { result ≡ slice_index (parts_of self.now).frames frame }
+        ensures { result ≡ slice_index (closed_words self.now).frames frame }
     {
         self.closed.word(self.frames_at() + frame.number() as usize)
     }
@@ -119,7 +119,7 @@ impl ClosedWords {
     /// The visit word of a CPU.
     pub fn visit_word(&self, cpu: u32) -> u64
         requires { (1 ≤ cpu) × (cpu ≤ self.now.cpus) }
-        ensures { result ≡ slice_index (parts_of self.now).frames (visit_index self.now.frames cpu) }
+        ensures { result ≡ slice_index (closed_words self.now).frames (visit_index self.now.frames cpu) }
     {
         self.closed.word(self.frames_at() + (self.frames as usize + (cpu as usize - 1)))
     }
@@ -128,7 +128,7 @@ impl ClosedWords {
     pub fn stock(&self, cpu: u32) -> Stock
         requires { cpu ≤ self.now.cpus }
         ensures { (stock : AStock) → HasWord stock
-            → slice_index (parts_of self.now).stocks (stock_index cpu) ≡ word_of stock → result ≡ stock }
+            → slice_index (closed_words self.now).stocks (stock_index cpu) ≡ word_of stock → result ≡ stock }
     {
         Stock::of_word(self.closed.word(16 * cpu as usize))
     }
@@ -136,7 +136,7 @@ impl ClosedWords {
     /// The number of pages in the report word of a CPU.
     pub fn reported(&self, cpu: u32) -> u64
         requires { cpu ≤ self.now.cpus }
-        ensures { result ≡ slice_index (parts_of self.now).stocks (report_index cpu) }
+        ensures { result ≡ slice_index (closed_words self.now).stocks (report_index cpu) }
     {
         self.closed.word(16 * cpu as usize + 1)
     }

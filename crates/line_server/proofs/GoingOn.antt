@@ -6,7 +6,7 @@ use Rattle.stock_word.specs.Stock.{KnownStockTable}
 use Rattle.step_rules.specs.After.{Run}
 use Rattle.script_lines.specs.declared.line.Line.{Line}
 use Rattle.script_replay.specs.History.{Past, past_line}
-use Rattle.script_replay.specs.Lines.{GoesOn, HasRun, SystemState}
+use Rattle.script_replay.specs.Lines.{RunGoesOn, HasRun, SystemState}
 use Rattle.script_replay.specs.Terms.{Terms, terms}
 use Rattle.script_replay.proofs.Seeing.{all_lines_go_on}
 use Rattle.line_server.specs.declared.form.SessionForm.{SessionForm}
@@ -16,8 +16,8 @@ use Rattle.line_server.specs.Turns.{Turn}
 
 -- by a turn, if it does so by what comes next; a new watch changes no past
 turn_goes_on : (on : Terms) (text : List ℕ) (line : Option Line) (before : Past) (e : SystemState) (log : List ℕ) (rest : Past → Type 0)
-    (steps_of_rest : (later : Past) → rest later → Run) → ((later : Past) (history : rest later) → GoesOn (steps_of_rest later history) later.now e)
-    → (history : HasLoggedTurn on text line before log rest) → GoesOn (steps_of_turn on text line before log rest steps_of_rest history) before.now e
+    (steps_of_rest : (later : Past) → rest later → Run) → ((later : Past) (history : rest later) → RunGoesOn (steps_of_rest later history) later.now e)
+    → (history : HasLoggedTurn on text line before log rest) → RunGoesOn (steps_of_turn on text line before log rest steps_of_rest history) before.now e
 turn_goes_on on text None before e log rest steps_of_rest goes history = goes before history
 turn_goes_on on text (Some line) before e log rest steps_of_rest goes history = λ earlier has.
     let steps : Run = history.logs.serves.serves.steps in
@@ -27,7 +27,7 @@ turn_goes_on on text (Some line) before e log rest steps_of_rest goes history = 
     (goes later history.tells (earlier ++ steps) (history.logs.serves.serves.goes_on earlier begun))
 
 logged_go_on : (on : Terms) (turns : List Turn) (before : Past) (e : SystemState) (history : HasLoggedHistory on turns before e)
-    → GoesOn (steps_of_logged on turns before e history) before.now e
+    → RunGoesOn (steps_of_logged on turns before e history) before.now e
 logged_go_on on [] before e history = λ earlier has.
     subst (λ (s : SystemState). HasRun (earlier ++ []) s) (sym history) (subst (λ (r : Run). HasRun r before.now) (sym (append-nil earlier)) has)
 logged_go_on on (turn ∷ turns) before e history =
@@ -35,7 +35,7 @@ logged_go_on on (turn ∷ turns) before e history =
     (λ later rest. steps_of_logged on turns later e rest) (λ later rest. logged_go_on on turns later e rest) history
 
 pub turns_go_on : (form : SessionForm) (t : KnownTable) (w : KnownStockTable) (turns : List Turn) (before : Past) (e : SystemState)
-    (history : HasTurnsHistory form t w turns before e) → GoesOn (steps_of_turns form t w turns before e history) before.now e
+    (history : HasTurnsHistory form t w turns before e) → RunGoesOn (steps_of_turns form t w turns before e history) before.now e
 turns_go_on (Answers is_explained) t w turns before e history =
     all_lines_go_on (terms t w is_explained) (lines_of turns) before e (answers_of turns) history
 turns_go_on Steps t w turns before e history = logged_go_on (terms t w true) turns before e history

@@ -7,19 +7,25 @@ use Rattle.stock_word.specs.Stock.{KnownStockTable}
 use Rattle.frame_word.specs.declared.answers.Put.{Put}
 use Rattle.frame_word.specs.declared.answers.Put.TheVariants.{Left, Last}
 use Rattle.boot_words.specs.declared.view.Past.{Past}
-use Rattle.boot_words.specs.Pasts.{own_past}
-use Rattle.boot_words.specs.Growth.{GainsSteps, IsRunSoFar}
+use Rattle.boot_words.specs.Pasts.{Meets, own_past}
+use Rattle.boot_words.specs.Growth.{GainsSteps, GrewByAll, IsRunSoFar}
 use Rattle.boot_words.proofs.Gaining.{gains_both, gains_go_on, none_gains}
+use Rattle.step_rules.specs.declared.step.Answer.{Answer}
+use Rattle.step_rules.specs.declared.step.Step.{Step}
 use Rattle.step_rules.specs.After.{Run}
 use Rattle.cpu_part.specs.Cpus.{KnownCpu}
 use Rattle.cpu_part.specs.Calls.{UnpinAnswers}
+use Rattle.cpu_part.specs.Told.{steps_of_put}
 use Rattle.cpu_part.proofs.Tied.{length_parted}
 use Rattle.step_watch.specs.Watched.{Watches}
 use Rattle.step_watch.proofs.Watching.{watches_both, watches_none}
-use Rattle.mem_machine.specs.Machines.{KnownMachine}
+use Rattle.mem_machine.specs.Machines.{KnownMachine, with_past}
 use Rattle.mem_system.specs.Cpus.{CpuInRun, parts_of, pasts_of}
 use Rattle.mem_system.specs.Ends.{ForEachCpu, KnownEmptiedBoot, MachineAndCpu, MakesLastVisits, machine_and_cpu, pins_of_all}
 use Rattle.mem_system.specs.Locked.{KnownLocked}
+use Rattle.mem_system.specs.Visits.{locked_state}
+use Rattle.script_replay.specs.Answers.{OnlyWatched}
+use Rattle.script_replay.proofs.Gaining.{met_gains, met_saw, put_made, saw_both, watched_gains, watched_saw}
 use Rattle.script_replay.specs.Lines.{SystemState, system_state}
 use Rattle.load_run.specs.Ending.{LeavesNothing, PutsAllPins, PutsEach, PutsHeldPin, put_steps, steps_of_all_puts, steps_of_puts}
 
@@ -34,6 +40,29 @@ at_seam (z ∷ xs) x ys = at_seam xs x ys
 set_seam : {X : Type 0} (xs : List X) (x y : X) (ys : List X) → slice_set (xs ++ x ∷ ys) (length xs) y ≡ (xs ++ y ∷ []) ++ ys
 set_seam [] x y ys = refl
 set_seam (z ∷ xs) x y ys = ap (λ (l : List X). z ∷ l) (set_seam xs x y ys)
+
+-- ---- a put
+
+-- a put between two meetings, which the watch took then
+pub put_met : (t : KnownTable) (l l1 l2 m : KnownLocked) (c c1 c2 c3 : CpuInRun) (f : ℕ) (answer : Put) (made : Step × Answer)
+    → (own_past c.past).number ≡ c.part.number → l1 ≡ record l { machine = with_past l.machine l1.machine.run.past } → c1.part ≡ c.part
+    → Meets t l.machine.run.past c.past l1.machine.run.past c1.past → UnpinAnswers f answer c1.part c2.part
+    → GrewByAll (own_past c1.past) (steps_of_put c1.part.number f answer) (own_past c2.past)
+    → l2 ≡ record l1 { machine = with_past l1.machine l2.machine.run.past } → c3.part ≡ c2.part
+    → Meets t l1.machine.run.past c2.past l2.machine.run.past c3.past → OnlyWatched (made ∷ []) l2 m
+    → made ∷ [] ≡ put_steps c.part.number f answer → PutsHeldPin f (machine_and_cpu l.machine c) (machine_and_cpu m.machine c3)
+put_met t l l1 l2 m c c1 c2 c3 f answer made in_run one same first unpins grew two still second only is =
+    let steps = put_steps c.part.number f answer in
+    let took : OnlyWatched steps l2 m = subst (λ (r : Run). OnlyWatched r l2 m) is only in
+    let saw = saw_both [] steps l l2 m (saw_both [] [] l l1 l2 (met_saw l l1 one) (met_saw l1 l2 two)) (watched_saw steps l2 m took) in
+    let gains = met_gains t l l1 l2 c c1 c2 c3 (λ (k : ℕ). put_steps k f answer) in_run same first (put_made c1.part.number c1.past c2.past f answer grew) second in
+    record {
+      answer = answer;
+      cpu = subst (λ (p : KnownCpu × KnownCpu). UnpinAnswers f answer p.0 p.1) (λ i. (same i, sym still i)) unpins;
+      machine = ap (λ (x : KnownLocked). x.machine) saw.locked;
+      watched = saw.watched;
+      gains = watched_gains steps steps (locked_state l c) l2 m c3 gains took;
+    }
 
 -- ---- the puts of a CPU
 

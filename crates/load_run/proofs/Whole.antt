@@ -32,7 +32,7 @@ whole_run t w run end ended has ends =
     let cpus = ends.emptied.cpus in
     let whole : Run = run ++ ends.leaves.steps in
     let both = the_run_so_far_is_legal (zone_of t) closes.run whole (own_past ends.emptied.machine.run.past) (pasts_of cpus) closes.is.legal closes.zone
-    (length-map (λ (x : CpuInRun). own_past x.past) cpus ∙ closes.count) closes.pasts (ends.leaves.so_far run has) in
+    (length-map cpus (λ (x : CpuInRun). own_past x.past) ∙ closes.count) closes.pasts (ends.leaves.so_far run has) in
     record {
       legal = both.0;
       frames = subst (λ (s : State). AreFrameWords s closes.frame_words) (sym both.1) closes.is.frames;

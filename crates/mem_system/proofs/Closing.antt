@@ -24,6 +24,9 @@ use Rattle.boot_words.specs.Pasts.{own_past}
 use Rattle.boot_words.specs.Growth.{IsRunSoFar}
 use Rattle.mem_machine.specs.Machines.{KnownMachine, IsConsistent, home_of}
 use Rattle.mem_machine.specs.Places.{NoneLentTo}
+use Rattle.mem_machine.specs.Resting.{Rests}
+use Rattle.boot_words.specs.Seats.{zone_of_boot}
+use Rattle.boot_words.proofs.Resting.{zone_rests}
 use Rattle.mem_machine.proofs.NoneLent.{lent_to_cpu, each_is_placed}
 use Rattle.mem_system.specs.declared.audit.Audit.{Audit}
 use Rattle.mem_system.specs.Locked.{KnownLocked, IsQuiet, AllShut}
@@ -211,11 +214,11 @@ all_visits t w l cpus x rested k quiet no_pin drops rests empties = record {
 -- the table is closed
 pub all_closes : (t : KnownTable) (w : KnownStockTable) (k : KnownEmptiedBoot) (a : Audit) (frame_seats : List KnownSeat) (stock_seats : List KnownStockSeat)
     (pasts : List Past) → AllShut k.machine → All (λ c. IsEmptied t w k.machine c) (parts_of k.cpus) → length k.cpus ≡ t.cpus
-    → (own_past k.machine.run.past).number ≡ 0
+    → Rests t k.machine
     → (((p : ℕ) → NoneLentTo p k.machine.frame_states) → IsAuditOf t k.machine k.drops a)
     → IsClosed t w k.machine frame_seats stock_seats pasts → frame_seats ≡ map frame_seat_of (parts_of k.cpus)
     → stock_seats ≡ map stock_seat_of (parts_of k.cpus) → pasts ≡ pasts_of k.cpus → Closes t w k a
-all_closes t w k a frame_seats stock_seats pasts shut all count zone tells_then closing frames stocks passed =
+all_closes t w k a frame_seats stock_seats pasts shut all count rests tells_then closing frames stocks passed =
     let y = k.machine in
     let parts = parts_of k.cpus in
     let closed : IsClosed t w y (map frame_seat_of parts) (map stock_seat_of parts) (pasts_of k.cpus) =
@@ -238,8 +241,9 @@ all_closes t w k a frame_seats stock_seats pasts shut all count zone tells_then 
       run = closed.run;
       is = closed.is;
       last_words = record { rule = closed.rule; references = word_of_frame t w y parts (pasts_of k.cpus) shut all closed };
-      zone = zone;
+      zone = rests.past_is.zone_is;
       pasts = closed.beginnings;
+      left = zone_rests (zone_of_boot t) closed.run (own_past y.run.past) closed.is.legal closed.beginnings.0 rests.past_is.zone_is rests.free ∙ rests.left;
       counted = tells;
       adds_up = record {
         places = omega (arith, placed, sized, free, charged, framed);

@@ -7,7 +7,7 @@ use Rattle.frame_word.specs.ReferenceRule.{ReferenceRule}
 use Rattle.step_rules.specs.declared.step.Action.TheVariants.{Lock, Unlock}
 use Rattle.step_rules.specs.declared.step.Answer.TheVariants.{Done}
 use Rattle.step_rules.specs.State.{one_if}
-use Rattle.step_rules.specs.After.{Run}
+use Rattle.step_rules.specs.After.{Run, state_of}
 use Rattle.frame_word.specs.Seats.{KnownTable, KnownSeat, view_of}
 use Rattle.stock_word.specs.declared.view.Stock.{Stock}
 use Rattle.stock_word.specs.Stock.{KnownStockTable, KnownStockSeat, account_of, view_in, word_of, stock_pages_of}
@@ -16,12 +16,14 @@ use Rattle.group_tree.specs.Room.{max_count}
 use Rattle.boot_words.specs.Seats.{zone_of_boot}
 use Rattle.boot_words.specs.Words.{IsRunOf}
 use Rattle.boot_words.specs.Pasts.{own_past}
+use Rattle.boot_words.specs.Hidden.{hide}
 use Rattle.boot_words.specs.Rule.{AllOf, IsPastOf}
 use Rattle.boot_words.specs.Growth.{IsRunSoFar}
 use Rattle.boot_words.specs.declared.view.Past.{Past}
 use Rattle.cpu_part.specs.Cpus.{KnownCpu, IsTied, IsIdle}
 use Rattle.mem_machine.specs.Machines.{KnownMachine, IsConsistent, home_of, with_run}
 use Rattle.mem_machine.specs.Noted.{KnownRun}
+use Rattle.mem_machine.specs.Resting.{hidden_of}
 use Rattle.mem_machine.specs.Settling.{Settles}
 use Rattle.mem_machine.specs.Lending.{UnlistsMany}
 use Rattle.mem_machine.specs.Stocks.{Drains, stock_group}
@@ -243,7 +245,8 @@ pub record MakesLastVisits (table : KnownTable) (stock_table : KnownStockTable) 
 
 -- The table of a boot is closed after its last visits. No frame is lent to anyone, and no stock has a page. The closed
 -- words are what the seats know, and there is one legal run whose last state has just these words. The pasts of the zone
--- and of all CPUs are beginnings of it. The audit counts what the machine and the CPUs counted, and it adds up.
+-- and of all CPUs are beginnings of it. It leaves the lock free, and every CPU's own part hidden, its last state is what
+-- the machine shows. The audit counts what the machine and the CPUs counted, and it adds up.
 pub record Closes (table : KnownTable) (stock_table : KnownStockTable) (emptied : KnownEmptiedBoot)
     (audit : Audit) : Type 0 where
   pub all_emptied : All (λ cpu. IsEmptied table stock_table emptied.machine cpu) (parts_of emptied.cpus)
@@ -260,6 +263,7 @@ pub record Closes (table : KnownTable) (stock_table : KnownStockTable) (emptied 
   pub is : IsRunOf (zone_of_boot table) (record { frames = frame_words; stocks = stock_words }) run
   pub zone : (own_past emptied.machine.run.past).number ≡ 0
   pub pasts : AllOf (IsPastOf run) (own_past emptied.machine.run.past ∷ pasts_of emptied.cpus)
+  pub left : hide (state_of (zone_of_boot table) run) ≡ hidden_of table emptied.machine
   pub counted : IsAuditOf table emptied.machine emptied.drops audit
   pub adds_up : AddsUp audit
 

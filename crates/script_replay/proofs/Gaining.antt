@@ -37,7 +37,7 @@ use Rattle.mem_system.specs.Visits.{LockedState, locked_state}
 use Rattle.reply_texts.specs.declared.steps.UnlockedAnswer.TheVariants as unlocked
 use Rattle.script_lines.specs.declared.line.Command.TheVariants as command
 use Rattle.script_replay.specs.Answers.{Gains, MakesAlone, OnlySaw, OnlyWatched, locked_with_run, steps_alone}
-use Rattle.script_replay.specs.Lines.{GoesOn, HasRun, SystemState, system_state}
+use Rattle.script_replay.specs.Lines.{RunGoesOn, HasRun, SystemState, system_state}
 
 -- ---- the steps of a call without the lock
 
@@ -142,12 +142,12 @@ met_gains t l l1 l2 c c1 c2 c3 steps in_run same first makes second =
 
 -- ---- the run so far
 
-pub goes_on_none : (s : SystemState) → GoesOn [] s s
+pub goes_on_none : (s : SystemState) → RunGoesOn [] s s
 goes_on_none s earlier has = subst (λ (r : Run). HasRun r s) (sym (append-nil earlier)) has
 
 -- what a CPU gains, the run so far gains
 pub part_goes_on : (l m : KnownLocked) (cpus : List CpuInRun) (k : ℕ) (c d : CpuInRun) (steps : Run) → slice_get cpus k ≡ Some c
-    → Gains steps (locked_state l c) (locked_state m d) → GoesOn steps (system_state l cpus) (system_state m (slice_set cpus k d))
+    → Gains steps (locked_state l c) (locked_state m d) → RunGoesOn steps (system_state l cpus) (system_state m (slice_set cpus k d))
 part_goes_on l m cpus k c d steps is_part gains earlier has =
     let past_of : CpuInRun → Past = λ cpu. own_past cpu.past in
     subst (IsRunSoFar (earlier ++ steps) (own_past m.machine.run.past)) (sym (map-set past_of cpus k d))

@@ -19,7 +19,7 @@ use Rattle.script_lines.specs.declared.line.Line.{Line}
 use Rattle.script_lines.specs.declared.line.Line.TheVariants.{Go}
 use Rattle.script_replay.specs.declared.owned_replay.Stopped.{Stopped}
 use Rattle.script_replay.specs.declared.owned_replay.Stopped.TheVariants.{NoMemory, NotLegal}
-use Rattle.script_replay.specs.Lines.{SystemState, GoesOn, ServesAll, ServesLine, StopsAt, WritesLineOnTerms}
+use Rattle.script_replay.specs.Lines.{SystemState, RunGoesOn, ServesAll, ServesLine, StopsAt, WritesLineOnTerms}
 use Rattle.script_replay.specs.Lines.{number_in_script}
 use Rattle.script_replay.specs.Ranges.{LineInRange}
 use Rattle.script_replay.specs.Terms.{Terms}
@@ -57,7 +57,7 @@ pub record HasFirstAndRest (terms : Terms) (line : Line) (past : Past) (text : L
   pub steps : Run
   pub writes_first : WritesLineOnTerms terms line (transition terms.frames past.now steps between) first
   pub watched : Watches past.now.locked.machine.run.watch steps between.locked.machine.run.watch
-  pub goes_on : GoesOn steps past.now between
+  pub goes_on : RunGoesOn steps past.now between
   pub kept_where_legal : IsLegalRun (zone_of terms.frames) (past.run ++ steps)
       → HoldsPromise terms.frames past.run past.now (past.run ++ steps) between
   pub tells : has_rest (past_line past steps between) rest
@@ -81,7 +81,7 @@ steps_of terms (line ∷ lines) past after text history = history.steps
 abbrev pub AllLinesGoOn : Type 0
 AllLinesGoOn = (terms : Terms) (lines : List Line) (past : Past) (after : SystemState) (text : List ℕ)
     (history : HasHistory terms lines past after text)
-    → GoesOn (steps_of terms lines past after text history) past.now after
+    → RunGoesOn (steps_of terms lines past after text history) past.now after
 
 -- the promise holds after the run, of what the machine and the CPUs show, and the ledger has the peaks and event counts
 -- of the run
@@ -98,7 +98,7 @@ pub record KeepsFirstAndRest (terms : Terms) (line : Line) (past : Past) (text :
   pub between : SystemState
   pub steps : Run
   pub writes_first : WritesLineOnTerms terms line (transition terms.frames past.now steps between) first
-  pub goes_on : GoesOn steps past.now between
+  pub goes_on : RunGoesOn steps past.now between
   pub kept : KeepsPromise terms.frames (past.run ++ steps) between
   pub keeps : keeps_rest (past_line past steps between) rest
   pub text_is : text ≡ first ++ rest

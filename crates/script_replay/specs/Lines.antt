@@ -32,8 +32,8 @@ abbrev pub HasRun : Run → SystemState → Type 0
 HasRun steps now = IsRunSoFar steps (own_past now.locked.machine.run.past) (pasts_of now.cpus)
 
 -- whatever the run so far was, it goes on by these steps
-abbrev pub GoesOn : Run → (before after : SystemState) → Type 0
-GoesOn steps before after = (earlier : Run) → HasRun earlier before → HasRun (earlier ++ steps) after
+abbrev pub RunGoesOn : Run → (before after : SystemState) → Type 0
+RunGoesOn steps before after = (earlier : Run) → HasRun earlier before → HasRun (earlier ++ steps) after
 
 -- `is_done` leads from this CPU to what it is after that, and the other CPUs stay the same
 pub record AtPart (cpu : ℕ) (is_done : (before after : CpuInRun) → Type 0) (before after : List CpuInRun)
@@ -67,7 +67,7 @@ WritesLineOnTerms terms line call text =
 pub record ServesLine (terms : Terms) (line : Line) (before after : SystemState) (text : List ℕ) : Type 0 where
   pub steps : Run
   pub tells : WritesLineOnTerms terms line (transition terms.frames before steps after) text
-  pub goes_on : GoesOn steps before after
+  pub goes_on : RunGoesOn steps before after
 
 -- the first line leads to a state between, the other lines lead on from there, and the text is that of the first line
 -- followed by that of the rest

@@ -46,8 +46,8 @@ GetsNoFrame (Got frame) = ⊥
 GetsNoFrame other = Unit {0}
 
 -- `does` leads from the CPU's part to its part after that
-abbrev pub OnPart : (does : (from to : KnownCpu) → Type 0) → (from to : CpuInRun) → Type 0
-OnPart does from to = does from.part to.part
+abbrev pub OfParts : (does : (from to : KnownCpu) → Type 0) → (from to : CpuInRun) → Type 0
+OfParts does from to = does from.part to.part
 
 -- a fast allocation for the group got no frame; of the CPU's part, at most what it knows of its stock has changed
 pub record MissesFast (group : ℕ) (from to : CpuInRun) : Type 0 where
@@ -94,7 +94,7 @@ Calls frames stock_table (call.Visit cmd) from to (answer.Served outcome) =
 Calls frames stock_table (call.AllocFrame group) from to answer.Busy = OnCpu (MissesFast group) from to
 Calls frames stock_table (call.AllocFrame group) from to answer.NoGroup = MissesGroup frames stock_table group from to
 Calls frames stock_table (call.AllocFrame group) from to (answer.Taken frame) =
-    OnCpu (OnPart (FastAnswers group (Got frame))) from to
+    OnCpu (OfParts (FastAnswers group (Got frame))) from to
 Calls frames stock_table (call.AllocFrame group) from to (answer.Served outcome) =
     OnCpu (Then (MissesFast group) (IsVisited frames stock_table (ServesFrameOutcome frames group outcome))) from to
 Calls frames stock_table (call.AllocBlock group order) from to answer.Busy = to ≡ from
@@ -104,16 +104,16 @@ Calls frames stock_table (call.AllocBlock group order) from to (answer.Served ou
     OnCpu (IsVisited frames stock_table (ServesBlock frames group order outcome)) from to
 Calls frames stock_table (call.Release frame) from to answer.Busy = OnCpu (MissesDrop frame) from to
 Calls frames stock_table (call.Release frame) from to answer.NoFrame = (frames.frames ≤ frame) × (to ≡ from)
-Calls frames stock_table (call.Release frame) from to answer.Listed = OnCpu (OnPart (DropAnswers frame Listed)) from to
+Calls frames stock_table (call.Release frame) from to answer.Listed = OnCpu (OfParts (DropAnswers frame Listed)) from to
 Calls frames stock_table (call.Release frame) from to (answer.Served outcome) =
     OnCpu (Then (MissesDrop frame) (IsVisited frames stock_table (ServesOutcome frames (cmd.Release frame) outcome)))
     from to
 Calls frames stock_table (call.Get frame) from to answer.NoFrame = (frames.frames ≤ frame) × (to ≡ from)
-Calls frames stock_table (call.Get frame) from to (answer.Got got) = OnCpu (OnPart (PinAnswers frame got)) from to
+Calls frames stock_table (call.Get frame) from to (answer.Got got) = OnCpu (OfParts (PinAnswers frame got)) from to
 Calls frames stock_table (call.Get frame) from to (answer.Refused fault) =
-    (fault ≡ PinsFull) × OnCpu (OnPart (λ cpu left. left ≡ cpu)) from to
+    (fault ≡ PinsFull) × OnCpu (OfParts (λ cpu left. left ≡ cpu)) from to
 Calls frames stock_table (call.Put frame) from to answer.NoFrame = (frames.frames ≤ frame) × (to ≡ from)
-Calls frames stock_table (call.Put frame) from to (answer.Put put) = OnCpu (OnPart (UnpinAnswers frame put)) from to
+Calls frames stock_table (call.Put frame) from to (answer.Put put) = OnCpu (OfParts (UnpinAnswers frame put)) from to
 Calls frames stock_table (call.Put frame) from to (answer.Refused fault) =
     (fault ≡ NotPinned) × OnCpu (λ cpu left. (times frame cpu.part.pins ≡ 0) × (left ≡ cpu)) from to
 Calls frames stock_table call.Settle from to answer.Busy = to ≡ from

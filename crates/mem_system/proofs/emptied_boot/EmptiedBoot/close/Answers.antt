@@ -28,5 +28,5 @@ returns g c =
     subst (λ (k : KnownEmptiedBoot). Closes t w k c.take_audit-audit.result) c.self.view_is
     (all_closes t w (record { machine = c.self.inside.machine; cpus = c.self.inside.cpus.items; drops = c.self.inside.drops }) c.take_audit-audit.result _ _ _
     c.self.invariant.0.shut c.self.invariant.0.all_emptied c.self.invariant.0.count
-    c.self.invariant.0.rests.past_is.zone_is c.take_audit-audit.ensures c.close_tables.ensures
+    c.self.invariant.0.rests c.take_audit-audit.ensures c.close_tables.ensures
     c.gather_seats-seats.ensures.frames c.gather_seats-seats.ensures.stocks c.gather_seats-seats.ensures.pasts)
