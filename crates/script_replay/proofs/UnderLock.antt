@@ -1,6 +1,6 @@
 -- A command between the Lock and the Unlock that the watch takes. Serves `serve_under_lock`, `serve_frame_under_lock`,
 -- `settle_under_lock`.
-use Rattle.std.proofs.Common.{◌≡◌, ◌≢◌, ℕ, ◌++◌, Bool, List, [], ◌∷◌, ap, inr, refl, subst, sym}
+use Rattle.std.proofs.Common.{◌≡◌, ◌≢◌, ℕ, ◌++◌, Bool, [], ◌∷◌, ap, inr, refl, subst, sym}
 use Rattle.std.specs.Prelude.{◌⊎◌}
 use Rattle.boot_words.specs.Rule.{AllOf}
 use Rattle.boot_words.specs.Pasts.{own_past}

@@ -81,6 +81,7 @@ pub(crate) fn try_unlocked<N: BootName>(
     ensures needs_lock { IfNone result (NeedsLock command.now cpu.old.part cpu.new.part) }
     ensures run { MakesAlone cpu.old.part.number (steps_tried cpu.old.part.number command.now result)
         cpu.old.past cpu.new.past }
+    ensures stays { is_tried command.now ≡ false → cpu.new ≡ cpu.old }
 {
     match *command {
         Command::Fast { group } => Some(UnlockedAnswer::Fast(cpu.alloc_fast(tables, group))),

@@ -1,4 +1,4 @@
-use Rattle.std.proofs.Common.{ℕ, rules}
+use Rattle.std.proofs.Common.{ℕ}
 use Rattle.script_replay.specs.Answers.{steps_tried}
 use Rattle.script_replay.proofs.Gaining.{met_gains}
 use Rattle.script_replay.proofs.unlocked_calls.try_in_order.Goals as goal

@@ -1,9 +1,11 @@
-use Rattle.std.proofs.Common.{◌≡◌, Some, rules}
+use Rattle.std.proofs.Common.{◌≡◌, None, Some, rules, subst}
 use Rattle.reply_texts.specs.Answers.{unlocked_text}
-use Rattle.script_replay.specs.Answers.{AnswersAlone, NeedsLock}
-use Rattle.script_replay.specs.Commands.{cmd_of}
+use Rattle.mem_system.specs.Cpus.{CpuInRun}
+use Rattle.script_replay.specs.Answers.{AddsText, AnswersAlone, NeedsLock}
+use Rattle.script_replay.specs.Commands.{OnlySettles, cmd_of}
 use Rattle.script_replay.specs.Terms.{boot_tables}
-use Rattle.script_replay.proofs.Serving.{vain_is}
+use Rattle.script_replay.specs.Visits.{VisitsCommand}
+use Rattle.script_replay.proofs.Serving.{only_settles, untried, vain_is}
 use Rattle.script_replay.proofs.Visiting.{alone_visited, reply_visited}
 use Rattle.script_replay.proofs.visit_answers.visit_other.Goals as goal
 
@@ -34,4 +36,17 @@ returns-in-Some-cmd_of g c =
             named said.so.visited.sound_before (vain_is command found c.args.cpu.now seen.part c.requires.other needs) said.so;
         added = said.added;
       };
+    }
+
+pub returns-in-None : goal.returns-in-None
+returns-in-None g c =
+    let command = c.args.command.now in
+    let tried = c.try_unlocked in
+    let left = c.visit_settling in
+    let none : cmd_of command ≡ None = search rules in
+    let needs : NeedsLock command c.args.cpu.now.part tried.new.cpu.part = search rules in
+    let settles : OnlySettles command = (only_settles command c.args.cpu.now.part tried.new.cpu.part none needs).0 in record {
+      answered = subst (λ (x : CpuInRun). AddsText left.result c.args.text.now left.new.text
+          (VisitsCommand (boot_tables g.N.BootName.frames g.N.BootName.stocks) command x left.new.cpu)) (tried.ensures.stays (untried command settles))
+          left.ensures.answered;
     }
