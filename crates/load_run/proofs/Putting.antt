@@ -39,7 +39,7 @@ at_seam (z ∷ xs) x ys = at_seam xs x ys
 -- and with another entry there
 set_seam : {X : Type 0} (xs : List X) (x y : X) (ys : List X) → slice_set (xs ++ x ∷ ys) (length xs) y ≡ (xs ++ y ∷ []) ++ ys
 set_seam [] x y ys = refl
-set_seam (z ∷ xs) x y ys = ap (λ (l : List X). z ∷ l) (set_seam xs x y ys)
+set_seam {X = X} (z ∷ xs) x y ys = ap (λ (l : List X). z ∷ l) (set_seam xs x y ys)
 
 -- ---- a put
 

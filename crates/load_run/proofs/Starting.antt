@@ -15,7 +15,8 @@ use Rattle.mem_machine.specs.Machines.{KnownMachine, IsFirst, with_watch}
 use Rattle.mem_history.specs.Whole.{ShowsAll}
 use Rattle.mem_history.specs.Kept.{AreTied, IsTiedPart}
 use Rattle.mem_history.proofs.Booting.{a_boot_is_shown}
-use Rattle.boot_words.specs.Pasts.{KnownPasts, own_past}
+use Rattle.boot_words.specs.declared.view.Past.{Past}
+use Rattle.boot_words.specs.Pasts.{own_past}
 use Rattle.boot_words.specs.Growth.{IsRunSoFar}
 use Rattle.mem_system.specs.Boots.{IsSizedAs, part_at_first, first_cpus}
 use Rattle.mem_system.specs.Cpus.{CpuInRun, parts_of, pasts_of}
@@ -100,9 +101,8 @@ lines_there sizes t w parts lines sized long all =
 pub lent_parts : {parts : List KnownCpu} (lent given : List CpuInRun) → lent ≡ given → parts_of given ≡ parts → parts_of lent ≡ parts
 lent_parts lent given same are = ap parts_of same ∙ are
 
-pub lent_so_far : {past : KnownPasts} (lent given : List CpuInRun) → lent ≡ given → IsRunSoFar [] (own_past past) (pasts_of given)
-    → IsRunSoFar [] (own_past past) (pasts_of lent)
-lent_so_far {past = past} lent given same so_far = subst (λ (l : List CpuInRun). IsRunSoFar [] (own_past past) (pasts_of l)) (sym same) so_far
+pub lent_so_far : (past : Past) (lent given : List CpuInRun) → lent ≡ given → IsRunSoFar [] past (pasts_of given) → IsRunSoFar [] past (pasts_of lent)
+lent_so_far past lent given same so_far = subst (λ (l : List CpuInRun). IsRunSoFar [] past (pasts_of l)) (sym same) so_far
 
 -- the parts that were lent as a slice, and are back in their vector
 pub given_back : (len : ℕ) (given lent now : List CpuInRun) → lent ≡ given → length lent ≡ len → length now ≡ length lent

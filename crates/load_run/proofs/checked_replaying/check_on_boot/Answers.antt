@@ -34,7 +34,7 @@ pub returns-in_err-answers : goal.returns-in_err-answers
 returns-in_err-answers g c =
     let booted = c.in_ok-locked.ensures in
     let new = new_watched c.args.boot.sizes c.args.sizes g.N.BootName.frames g.N.BootName.stocks _ c.deref_mut.result.now _ _ booted.sized c.requires.sizes
-    booted.machine booted.sizes (lent_parts _ _ c.deref_mut.ensures.value booted.cpus) (lent_so_far _ _ c.deref_mut.ensures.value booted.so_far)
+    booted.machine booted.sizes (lent_parts _ _ c.deref_mut.ensures.value booted.cpus) (lent_so_far _ _ _ c.deref_mut.ensures.value booted.so_far)
     c.in_ok-watch.ensures c.set_watch.ensures in
     let p = err_from_is_err_and c.from_residual-in_err-answers.result c.from_residual-in_err-answers.ensures.1 in
     rw (p.1, p.2) (record {
@@ -50,7 +50,7 @@ returns-then-not-seen g c =
     let booted = c.in_ok-locked.ensures in
     let left = c.replay_checked-answers.new in
     let new = new_watched c.args.boot.sizes c.args.sizes t w _ c.deref_mut.result.now _ _ booted.sized c.requires.sizes
-    booted.machine booted.sizes (lent_parts _ _ c.deref_mut.ensures.value booted.cpus) (lent_so_far _ _ c.deref_mut.ensures.value booted.so_far)
+    booted.machine booted.sizes (lent_parts _ _ c.deref_mut.ensures.value booted.cpus) (lent_so_far _ _ _ c.deref_mut.ensures.value booted.so_far)
     c.in_ok-watch.ensures c.set_watch.ensures in
     let told = c.end_checked_boot.result in
     let ends = subst (λ (cpus : List CpuInRun). EndsChecked t w (system_state left.locked cpus) told.0 told.1)
@@ -79,7 +79,7 @@ returns g c =
     let booted = c.in_ok-locked.ensures in
     let left = c.replay_checked-answers.new in
     let new = new_watched c.args.boot.sizes c.args.sizes t w _ c.deref_mut.result.now _ _ booted.sized c.requires.sizes
-    booted.machine booted.sizes (lent_parts _ _ c.deref_mut.ensures.value booted.cpus) (lent_so_far _ _ c.deref_mut.ensures.value booted.so_far)
+    booted.machine booted.sizes (lent_parts _ _ c.deref_mut.ensures.value booted.cpus) (lent_so_far _ _ _ c.deref_mut.ensures.value booted.so_far)
     c.in_ok-watch.ensures c.set_watch.ensures in
     let told = c.end_checked_boot.result in
     let ends = subst (λ (cpus : List CpuInRun). EndsChecked t w (system_state left.locked cpus) told.0 told.1)

@@ -37,7 +37,7 @@ returns g c =
         stocks = w;
         start = start;
         first = new_state _ _ t w _ c.deref_mut.result.now refl booted.sized booted.machine booted.sizes
-            (lent_parts _ _ c.deref_mut.ensures.value booted.cpus) (lent_so_far _ _ c.deref_mut.ensures.value booted.so_far);
+            (lent_parts _ _ c.deref_mut.ensures.value booted.cpus) (lent_so_far _ _ _ c.deref_mut.ensures.value booted.so_far);
         log = grown.text;
         logs = subst (λ (l : List (List ℕ)). LogsAllAndEnd t w l c.args.lines.now start grown.text) texts grown.so;
         text_is = grown.added ∙ ap (λ (l : List ℕ). l ++ grown.text) head;

@@ -33,7 +33,7 @@ returns g c =
     let left = c.replay-answers.new in
     let start : SystemState = system_state c.in_ok-locked.locked c.deref_mut.result.now in
     let new = new_state _ _ t w _ c.deref_mut.result.now refl booted.sized booted.machine booted.sizes
-    (lent_parts _ _ c.deref_mut.ensures.value booted.cpus) (lent_so_far _ _ c.deref_mut.ensures.value booted.so_far) in
+    (lent_parts _ _ c.deref_mut.ensures.value booted.cpus) (lent_so_far _ _ _ c.deref_mut.ensures.value booted.so_far) in
     let replays = IfOk-at_ok _ c.in_ok-answers.was c.replay-answers.ensures.outcome.replayed in
     let end : SystemState = system_state left.locked left.cpus in
     let answers = c.in_ok-answers.field-0.items in

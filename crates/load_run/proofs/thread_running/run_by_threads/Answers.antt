@@ -65,7 +65,7 @@ returns g c =
     let later = c.in_ok-told.field-0.items in
     let ended = c.end_boot-ended.result in
     let new = new_state _ _ t w _ c.deref_mut.result.now refl booted.sized booted.machine booted.sizes (lent_parts _ _ shown booted.cpus)
-    (lent_so_far _ _ shown booted.so_far) in
+    (lent_so_far _ _ _ shown booted.so_far) in
     let replays : Replays (numbered_terms t w false c.args.is_numbered) c.split_at.result.0.now start at_go early =
     IfOk-at_ok (λ v. Replays (numbered_terms t w false c.args.is_numbered) c.split_at.result.0.now start at_go v.items) c.in_ok-answers.was
     c.replay-first.ensures.outcome.replayed in
