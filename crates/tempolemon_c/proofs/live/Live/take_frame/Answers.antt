@@ -4,7 +4,7 @@ use Rattle.std.specs.Borrow.{Bor}
 use Rattle.group_tree.specs.declared.group.Group.{Group}
 use Rattle.group_tree.specs.Groups.{number_at, path_of}
 use Rattle.group_charge.specs.Charges.{AreCharges, Ledger}
-use Rattle.cpu_part.specs.Cpus.{KnownCpu}
+use Rattle.mem_system.specs.Cpus.{CpuInRun}
 use Rattle.script_lines.specs.declared.line.Command.TheVariants as cmd
 use Rattle.script_replay.specs.Lines.{system_state}
 use Rattle.script_replay.specs.Terms.{boot_tables}
@@ -57,7 +57,7 @@ returns g c =
       state = system_state c.alloc_value.new.locked (take inside.cpus.len (cpus ++ drop (length cpus) inside.cpus.items));
       unread_answer = inside.unread_answer.items;
     }) (Served c.alloc_value.result)) c.self.view_is
-    (subst (λ (l : List KnownCpu). CallsLive frames stocks c.args.cpu (Alloc group 0) live
+    (subst (λ (l : List CpuInRun). CallsLive frames stocks c.args.cpu (Alloc group 0) live
     (record { sizes = inside.sizes; state = system_state c.alloc_value.new.locked l; unread_answer = inside.unread_answer.items })
     (Served c.alloc_value.result)) (sym same)
     (frame_taken frames stocks c.args.cpu group live left c.alloc_value.result c.as_bytes-path.result exists
