@@ -188,10 +188,11 @@ fn pass_beside_gets<N: BootName + Send + Sync, R: Threads + Wait + Abort + Sync>
     requires used { used < N.frames.frames }
     requires passing { passing < N.frames.frames }
 {
+    let tables = system.tables();
     join(
         rt,
         || passes_frames(rt, system, first, used),
-        || count_zeros(system.tables(), second, passing, 10_000),
+        || count_zeros(tables, second, passing, 10_000),
     )
 }
 
