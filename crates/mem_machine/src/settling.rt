@@ -15,12 +15,11 @@ use crate::frame_state::FrameState;
 use crate::freed::free_unit;
 use crate::lists::join_list;
 use crate::machine::Machine;
-use crate::stepping::make_step;
+use crate::stepping;
 use cpu_part::{BootName, Cpu, Tables};
 use frame_word::Frame;
 use group_tree::group::GroupId;
 use step_rules::phase::ChargedUnit;
-use step_rules::step::{Action, Answer};
 use step_watch::Watch;
 use zone_blocks::order::Order;
 
@@ -58,13 +57,7 @@ impl<N: BootName> Machine<N> {
         let order = Order::of(0).unwrap();
         self.frame_states[at as usize] = FrameState::Head(ChargedUnit { group, order });
         join_list(&mut self.links, &mut self.lists, group, at);
-        make_step(
-            tables,
-            &mut self.past,
-            &mut self.watch,
-            Action::Publish { frame: at },
-            Answer::Done,
-        );
+        stepping::publish(tables, &mut self.past, &mut self.watch, at);
         frame
     }
 
@@ -94,13 +87,7 @@ impl<N: BootName> Machine<N> {
             at,
             unit,
         );
-        make_step(
-            tables,
-            &mut self.past,
-            &mut self.watch,
-            Action::Return { frame: at },
-            Answer::Done,
-        );
+        stepping::return_unit(tables, &mut self.past, &mut self.watch, at);
         self.counts = self.counts.with_killed_fresh();
         frame
     }
@@ -130,13 +117,7 @@ impl<N: BootName> Machine<N> {
             at,
             unit,
         );
-        make_step(
-            tables,
-            &mut self.past,
-            &mut self.watch,
-            Action::Return { frame: at },
-            Answer::Done,
-        );
+        stepping::return_unit(tables, &mut self.past, &mut self.watch, at);
         self.counts = self.counts.with_last_put();
         Some(frame)
     }

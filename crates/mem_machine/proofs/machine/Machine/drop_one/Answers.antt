@@ -13,8 +13,8 @@ collect_fresh-frame-requires-clause-legal g c f rest front =
     may_collect_dropped g.N.BootName.frames g.N.BootName.stocks _ _ c.self.view_is c.args.cpu.now c.number-cpu_number.ensures.tied c.self.invariant.consistent c.requires.visit
     f rest front killed
 
-pub make_step-requires-clause-legal : goal.make_step-requires-clause-legal
-make_step-requires-clause-legal g c =
+pub return_unit-requires-clause-legal : goal.return_unit-requires-clause-legal
+return_unit-requires-clause-legal g c =
     let e = c.collect_fresh-frame.ensures in
     let killed : is_killed c.args.self.now.killed (group_of_fresh c.args.cpu.now) ≡ true = ap (is_killed c.args.self.now.killed) (ap number_or_0 c.requires.group) ∙ c.requires.killed in
     may_return_dropped g.N.BootName.frames g.N.BootName.stocks _ _ c.self.view_is c.args.cpu.now c.number-cpu_number.ensures.tied c.self.invariant.consistent c.requires.visit
@@ -67,7 +67,7 @@ returns g c =
     _ u.frame_states _ u.frames u.areas _ u.charges _
     c.with_killed_fresh-self-inside.ensures in
     let notes = dropped_notes g.N.BootName.frames _ _ c.collect_fresh-frame.result _ _ c.number-at.ensures c.number-cpu_number.ensures.number _ _ e.run c.watch_collected.ensures
-    _ c.make_step.ensures.notes in
+    _ c.return_unit.ensures.notes in
     let makes = makes_noted _ _ _ _ c.self.view_is _ _ _ _ all.steps _ notes in
     record {
       drops = drops_still _ _ _ _ _ _ all.drops;

@@ -74,11 +74,11 @@ invariant_of-self-2 g c =
     c.with_freeze-self-inside.ensures c.frames-pages.ensures.frames in
     record { consistent = consistent_still _ _ _ _ all.consistent; free = all.free_is }
 
-pub make_step-requires-clause-held : goal.make_step-requires-clause-held
-make_step-requires-clause-held g c = (made_at _ _ c.args.tables.now.frames_are 0 refl _ _ _ _ c.if-not-freeze.ensures.run).held
+pub return_unit-requires-clause-held : goal.return_unit-requires-clause-held
+return_unit-requires-clause-held g c = (made_at _ _ c.args.tables.now.frames_are 0 refl _ _ _ _ c.if-not-freeze.ensures.run).held
 
-pub make_step-requires-clause-legal : goal.make_step-requires-clause-legal
-make_step-requires-clause-legal g c =
+pub return_unit-requires-clause-legal : goal.return_unit-requires-clause-legal
+return_unit-requires-clause-legal g c =
     let head = read_head g.N.BootName.frames g.N.BootName.stocks _ c.self.invariant.consistent c.args.head _ c.requires.frame c.number-at.ensures _ c.in-Head.unit
     c.index.ensures c.in-Head.is in
     let all = evicted_all g.N.BootName.frames g.N.BootName.stocks _ _ c.self.view_is c.self.invariant.consistent c.args.head _
@@ -101,7 +101,7 @@ returns-clause-steps g c =
     λ cpu. makes_noted _ _ _ _ c.self.view_is cpu cpu _ _ (all.steps cpu) _
     (notes_back g.N.BootName.frames _ _ c.args.head _ c.number-at.ensures (λ x. Freeze x 1) Done
     (notes_of_zone g.N.BootName.frames _ _ c.args.head _ c.number-at.ensures (λ x. Freeze x 1) Done
-    (made_at _ _ c.args.tables.now.frames_are 0 refl _ _ _ _ c.if-not-freeze.ensures.run) c.froze.ensures) _ c.make_step.ensures.notes)
+    (made_at _ _ c.args.tables.now.frames_are 0 refl _ _ _ _ c.if-not-freeze.ensures.run) c.froze.ensures) _ c.return_unit.ensures.notes)
 
 pub returns-clause-visit : goal.returns-clause-visit
 returns-clause-visit g c =

@@ -15,8 +15,8 @@ unfreeze-requires-clause-legal g c =
     may_unfreeze g.N.BootName.frames g.N.BootName.stocks _ _ c.self.view_is c.args.cpu.now c.number-cpu_number.ensures.tied c.self.invariant.consistent c.requires.visit
     c.collect_fresh-frame.result e.cpu.0 e.cpu.1 _ c.args.tables.now.frames_are _ e.run
 
-pub make_step-requires-clause-legal : goal.make_step-requires-clause-legal
-make_step-requires-clause-legal g c =
+pub publish-requires-clause-legal : goal.publish-requires-clause-legal
+publish-requires-clause-legal g c =
     let e = c.collect_fresh-frame.ensures in
     may_publish g.N.BootName.frames g.N.BootName.stocks _ _ c.self.view_is c.args.cpu.now c.number-cpu_number.ensures.tied c.self.invariant.consistent c.requires.visit
     c.collect_fresh-frame.result e.cpu.0 e.cpu.1 _ c.args.tables.now.frames_are _ c.number-at.ensures _ _ e.run c.unfreeze.ensures.run
@@ -51,7 +51,7 @@ returns g c =
     e.zone c.unfreeze.ensures.seat _ e.seat _ _
     (record { joins = a.joins; stand = a.lists.stand; frames = a.frames; groups = a.lists.groups }) in
     let notes = kept_notes g.N.BootName.frames _ _ c.collect_fresh-frame.result _ _ c.number-at.ensures c.number-cpu_number.ensures.number _ _ e.run c.watch_collected.ensures
-    _ c.args.tables.now.frames_are _ _ _ c.unfreeze.ensures.run c.unfroze.ensures c.make_step.ensures.notes in
+    _ c.args.tables.now.frames_are _ _ _ c.unfreeze.ensures.run c.unfroze.ensures c.publish.ensures.notes in
     let makes = makes_noted _ _ _ _ c.self.view_is _ _ _ _ all.steps _ notes in
     record {
       keeps = keeps_still _ _ _ _ _ _ all.keeps;

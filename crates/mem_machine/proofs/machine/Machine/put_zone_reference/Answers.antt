@@ -77,11 +77,11 @@ invariant_of-self-in-Last g c =
     c.free_unit.ensures.frames c.free_unit.ensures.areas c.free_unit.ensures.charges c.with_last_put-self-inside.ensures in
     record { consistent = consistent_still _ _ _ _ all.consistent; free = all.free_is }
 
-pub make_step-requires-clause-held : goal.make_step-requires-clause-held
-make_step-requires-clause-held g c = (made_at _ _ c.args.tables.now.frames_are _ c.self.invariant.consistent.seats.frames.1 _ _ _ _ c.in-Last.ensures.run).held
+pub return_unit-requires-clause-held : goal.return_unit-requires-clause-held
+return_unit-requires-clause-held g c = (made_at _ _ c.args.tables.now.frames_are _ c.self.invariant.consistent.seats.frames.1 _ _ _ _ c.in-Last.ensures.run).held
 
-pub make_step-requires-clause-legal : goal.make_step-requires-clause-legal
-make_step-requires-clause-legal g c =
+pub return_unit-requires-clause-legal : goal.return_unit-requires-clause-legal
+return_unit-requires-clause-legal g c =
     let head = read_head g.N.BootName.frames g.N.BootName.stocks _ c.self.invariant.consistent c.args.head _ c.requires.frame c.number-at.ensures _ c.in-Head.unit
     c.index.ensures c.in-Head.is in
     let all = returned_all g.N.BootName.frames g.N.BootName.stocks _ _ c.self.view_is c.self.invariant.consistent c.args.head _
@@ -103,7 +103,7 @@ returns-in-Head-clause-steps g c =
     λ cpu. makes_noted _ _ _ _ c.self.view_is cpu cpu _ _ (all.steps cpu) _
     (notes_back g.N.BootName.frames _ _ c.args.head _ c.number-at.ensures (λ x. Put x) Last
     (notes_of_zone g.N.BootName.frames _ _ c.args.head _ c.number-at.ensures (λ x. Put x) Last
-    (made_at _ _ c.args.tables.now.frames_are _ c.self.invariant.consistent.seats.frames.1 _ _ _ _ c.in-Last.ensures.run) c.put_last.ensures) _ c.make_step.ensures.notes)
+    (made_at _ _ c.args.tables.now.frames_are _ c.self.invariant.consistent.seats.frames.1 _ _ _ _ c.in-Last.ensures.run) c.put_last.ensures) _ c.return_unit.ensures.notes)
 
 pub returns-in-Head-clause-visit : goal.returns-in-Head-clause-visit
 returns-in-Head-clause-visit g c =

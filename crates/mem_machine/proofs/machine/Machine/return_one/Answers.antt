@@ -35,11 +35,11 @@ collect-requires-clause-legal g c =
     may_collect_back g.N.BootName.frames g.N.BootName.stocks _ _ c.self.view_is c.args.cpu.now c.number-cpu_number.ensures.tied c.self.invariant.consistent c.requires
     c.in-Some.frame was hands.0 hands.1 _ (back_number _ _ _ hands) _ c.in-Some.ensures.run
 
-pub make_step-requires-clause-held : goal.make_step-requires-clause-held
-make_step-requires-clause-held g c = c.collect.ensures.run.held
+pub return_unit-requires-clause-held : goal.return_unit-requires-clause-held
+return_unit-requires-clause-held g c = c.collect.ensures.run.held
 
-pub make_step-requires-clause-legal : goal.make_step-requires-clause-legal
-make_step-requires-clause-legal g c =
+pub return_unit-requires-clause-legal : goal.return_unit-requires-clause-legal
+return_unit-requires-clause-legal g c =
     let inside : c.in-Some.frame < g.N.BootName.frames.frames = search rules in
     let was : WasBack g.N.BootName.frames _ c.in-Some.frame =
     record { inside = inside; nothing = c.in-Some.ensures.own.0; lent = c.in-Some.ensures.own.1 } in
@@ -108,7 +108,7 @@ returns g c =
     c.with_last_put-self-inside.ensures in
     let handed = back_number _ _ _ c.in-Some.ensures.answer in
     let notes = returned_notes g.N.BootName.frames _ _ c.in-Some.frame _ _ _ c.number-at.ensures handed c.number-cpu_number.ensures.number _ _ _ _ _
-    c.in-Some.ensures.run c.collect.ensures.run c.passed_back.ensures c.collected.ensures c.make_step.ensures.notes in
+    c.in-Some.ensures.run c.collect.ensures.run c.passed_back.ensures c.collected.ensures c.return_unit.ensures.notes in
     let makes = makes_noted _ _ _ _ c.self.view_is _ _ _ _ all.steps _ notes in
     record {
       returns = returns_still _ _ _ _ _ all.returns;

@@ -34,8 +34,8 @@ returns-in_default-take g c =
     }) (c.in_default.ensures.granted.0 refl) _ _ c.in_default.ensures.charged c.uncharge.ensures.uncharged _
     (ap (λ (z : BuddyZone). z.blocks) c.in_default-take.ensures.none) c.in_default-take.ensures.taken in
     let makes = makes_noted _ _ _ _ c.self.view_is _ _ _ _ all.steps _
-    (unplaced_notes g.N.BootName.frames _ _ _ _ c.args.group c.args.order _ c.frames-pages.ensures.frames c.make_step-2.ensures.notes
-    c.make_step-in_default-take.ensures.notes c.make_step-in_default-take-2.ensures.notes) in
+    (unplaced_notes g.N.BootName.frames _ _ _ _ c.args.group c.args.order _ c.frames-pages.ensures.frames c.grant.ensures.notes
+    c.find_no_block.ensures.notes c.ungrant.ensures.notes) in
     record {
       takes = search rules;
       refuses = takes_none_still _ _ _ _ _ all.none;
@@ -100,8 +100,8 @@ returns g c =
     (record { joins = j.joins; stand = j.lists.stand; frames = j.frames; groups = j.lists.groups }) in
     let makes = makes_noted _ _ _ _ c.self.view_is _ _ _ _ all.steps _
     (taken_notes g.N.BootName.frames _ _ _ _ _ c.args.group c.args.order _ c.in-Some-frame.head _ c.frames-pages.ensures.frames c.number-at.ensures
-    c.make_step-2.ensures.notes c.make_step-3.ensures.notes (made_at _ _ c.args.tables.now.frames_are 0 refl _ _ _ _ c.unfreeze.ensures.run) c.unfroze.ensures
-    c.make_step-4.ensures.notes) in
+    c.grant.ensures.notes c.place.ensures.notes (made_at _ _ c.args.tables.now.frames_are 0 refl _ _ _ _ c.unfreeze.ensures.run) c.unfroze.ensures
+    c.publish.ensures.notes) in
     record {
       takes = takes_block_still _ _ _ _ _ _ all.takes;
       refuses = search rules;
@@ -129,23 +129,23 @@ returns-in-Err-clause-steps g c =
     c.prove_tied.ensures c.requires.visit c.requires.none_fresh c.requires.charges.there c.requires.charges.alive
     (subst (λ (n : ℕ). IsLowestOver m.ledger.groups (current_of m.ledger) c.args.group n over) c.frames-pages.ensures.frames low)) in
     makes_noted _ _ _ _ c.self.view_is _ _ _ _ refused _
-    (subst (λ (n : ℕ). Notes t (machine_of c.self.inside).run (over_steps c.args.group n over) (record { past = c.make_step.new.past; watch = c.make_step.new.watch }))
-    c.frames-pages.ensures.frames c.make_step.ensures.notes)
+    (subst (λ (n : ℕ). Notes t (machine_of c.self.inside).run (over_steps c.args.group n over) (record { past = c.refuse.new.past; watch = c.refuse.new.watch }))
+    c.frames-pages.ensures.frames c.refuse.ensures.notes)
 
 pub returns-in-Err-clause-visit : goal.returns-in-Err-clause-visit
 returns-in-Err-clause-visit g c =
     visit_kept g.N.BootName.frames _ _ c.self.view_is c.args.cpu.now _ refl _ (returns-in-Err-clause-steps g c) c.requires.visit
 
-pub make_step-requires-clause-legal : goal.make_step-requires-clause-legal
-make_step-requires-clause-legal g c =
+pub refuse-requires-clause-legal : goal.refuse-requires-clause-legal
+refuse-requires-clause-legal g c =
     let m = c.args.self.now in
     let low : IsLowestOver m.ledger.groups (current_of m.ledger) c.args.group c.frames-pages.result c.in-Err.over.group = search rules in
     may_lead g.N.BootName.frames _ _ c.self.view_is c.args.cpu.now c.requires.visit.shown _ _ _
     (refused_all g.N.BootName.frames g.N.BootName.stocks _ _ c.self.view_is c.args.cpu.now c.args.group c.frames-pages.result c.in-Err.over.group c.self.invariant.consistent
     c.prove_charges.ensures.legal c.prove_tied.ensures c.requires.visit c.requires.none_fresh c.requires.charges.there c.requires.charges.alive low)
 
-pub make_step-requires-2-clause-legal : goal.make_step-requires-2-clause-legal
-make_step-requires-2-clause-legal g c =
+pub grant-requires-clause-legal : goal.grant-requires-clause-legal
+grant-requires-clause-legal g c =
     (granted_may g.N.BootName.frames _ _ c.self.view_is c.args.cpu.now c.requires.visit.shown c.args.group c.frames-pages.result
     (record {
       visit = c.requires.visit;
@@ -157,8 +157,8 @@ make_step-requires-2-clause-legal g c =
     })
     (c.in_default.ensures.granted.0 refl)).0
 
-pub make_step-requires-in_default-take-clause-legal : goal.make_step-requires-in_default-take-clause-legal
-make_step-requires-in_default-take-clause-legal g c =
+pub find_no_block-requires-clause-legal : goal.find_no_block-requires-clause-legal
+find_no_block-requires-clause-legal g c =
     let may = unplaced_may g.N.BootName.frames g.N.BootName.stocks _ _ c.self.view_is c.args.cpu.now c.requires.visit.shown
     c.self.invariant.consistent c.prove_charges.ensures.legal c.args.group c.args.order _ c.frames-pages.ensures.frames
     (record {
@@ -170,10 +170,10 @@ make_step-requires-in_default-take-clause-legal g c =
       alive = c.requires.charges.alive;
     })
     (c.in_default.ensures.granted.0 refl) c.in_default-take.ensures.taken in
-    (may.1 _ c.make_step-2.ensures.run).0
+    (may.1 _ c.grant.ensures.run).0
 
-pub make_step-requires-in_default-take-2-clause-legal : goal.make_step-requires-in_default-take-2-clause-legal
-make_step-requires-in_default-take-2-clause-legal g c =
+pub ungrant-requires-clause-legal : goal.ungrant-requires-clause-legal
+ungrant-requires-clause-legal g c =
     let may = unplaced_may g.N.BootName.frames g.N.BootName.stocks _ _ c.self.view_is c.args.cpu.now c.requires.visit.shown
     c.self.invariant.consistent c.prove_charges.ensures.legal c.args.group c.args.order _ c.frames-pages.ensures.frames
     (record {
@@ -185,10 +185,10 @@ make_step-requires-in_default-take-2-clause-legal g c =
       alive = c.requires.charges.alive;
     })
     (c.in_default.ensures.granted.0 refl) c.in_default-take.ensures.taken in
-    ((may.1 _ c.make_step-2.ensures.run).1 _ c.make_step-in_default-take.ensures.run).0
+    ((may.1 _ c.grant.ensures.run).1 _ c.find_no_block.ensures.run).0
 
-pub make_step-requires-3-clause-legal : goal.make_step-requires-3-clause-legal
-make_step-requires-3-clause-legal g c =
+pub place-requires-clause-legal : goal.place-requires-clause-legal
+place-requires-clause-legal g c =
     let may = taken_may g.N.BootName.frames g.N.BootName.stocks _ _ c.self.view_is c.args.cpu.now c.requires.visit.shown
     c.self.invariant.consistent c.args.group c.args.order _ c.frames-pages.ensures.frames
     (record {
@@ -201,7 +201,7 @@ make_step-requires-3-clause-legal g c =
     })
     (c.in_default.ensures.granted.0 refl) _ _ c.in-Some.block c.self.invariant.free
     c.in-Some.ensures.taken c.in-Some.ensures.frames c.in-Some-frame.head _ c.in-Some-frame.ensures.0 c.number-at.ensures in
-    (may.1 _ c.make_step-2.ensures.run).0
+    (may.1 _ c.grant.ensures.run).0
 
 pub unfreeze-requires-clause-legal : goal.unfreeze-requires-clause-legal
 unfreeze-requires-clause-legal g c =
@@ -217,12 +217,12 @@ unfreeze-requires-clause-legal g c =
     })
     (c.in_default.ensures.granted.0 refl) _ _ c.in-Some.block c.self.invariant.free
     c.in-Some.ensures.taken c.in-Some.ensures.frames c.in-Some-frame.head _ c.in-Some-frame.ensures.0 c.number-at.ensures in
-    may_at _ _ c.args.tables.now.frames_are 0 refl c.make_step-3.new.past (Unfreeze c.in-Some-frame.head 1)
-    (subst (λ (x : ℕ). MayTake g.N.BootName.frames c.make_step-3.new.past (zone_makes (Unfreeze x 1) Done)) c.number-at.ensures
-    ((may.1 _ c.make_step-2.ensures.run).1 _ c.make_step-3.ensures.run).0).legal
+    may_at _ _ c.args.tables.now.frames_are 0 refl c.place.new.past (Unfreeze c.in-Some-frame.head 1)
+    (subst (λ (x : ℕ). MayTake g.N.BootName.frames c.place.new.past (zone_makes (Unfreeze x 1) Done)) c.number-at.ensures
+    ((may.1 _ c.grant.ensures.run).1 _ c.place.ensures.run).0).legal
 
-pub make_step-requires-4-clause-legal : goal.make_step-requires-4-clause-legal
-make_step-requires-4-clause-legal g c =
+pub publish-requires-clause-legal : goal.publish-requires-clause-legal
+publish-requires-clause-legal g c =
     let may = taken_may g.N.BootName.frames g.N.BootName.stocks _ _ c.self.view_is c.args.cpu.now c.requires.visit.shown
     c.self.invariant.consistent c.args.group c.args.order _ c.frames-pages.ensures.frames
     (record {
@@ -235,6 +235,6 @@ make_step-requires-4-clause-legal g c =
     })
     (c.in_default.ensures.granted.0 refl) _ _ c.in-Some.block c.self.invariant.free
     c.in-Some.ensures.taken c.in-Some.ensures.frames c.in-Some-frame.head _ c.in-Some-frame.ensures.0 c.number-at.ensures in
-    (((may.1 _ c.make_step-2.ensures.run).1 _ c.make_step-3.ensures.run).1 _
-    (subst (λ (x : ℕ). MakesStep g.N.BootName.frames c.make_step-3.new.past 0 (Unfreeze x 1) Done c.unfreeze.new.held) (sym c.number-at.ensures)
+    (((may.1 _ c.grant.ensures.run).1 _ c.place.ensures.run).1 _
+    (subst (λ (x : ℕ). MakesStep g.N.BootName.frames c.place.new.past 0 (Unfreeze x 1) Done c.unfreeze.new.held) (sym c.number-at.ensures)
     (made_at _ _ c.args.tables.now.frames_are 0 refl _ _ _ _ c.unfreeze.ensures.run))).0
