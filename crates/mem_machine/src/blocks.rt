@@ -20,7 +20,7 @@ use zone_blocks::block::Block;
 use zone_blocks::order::Order;
 
 /// Why no block was taken.
-#[derive(Clone, Copy, Debug, PartialEq, Eq)]
+#[derive(Clone, Copy)]
 pub enum TakeFault {
     /// A limit has no room for the block. It names the lowest such group.
     Over(Over),
@@ -70,15 +70,8 @@ impl<N: BootName> Machine<N> {
         prove_tied(cpu);
         prove_charges(&self.charges);
         if let Err(over) = self.charges.try_charge(group, pages) {
-            let lowest = over.group;
-            stepping::refuse(
-                tables,
-                &mut self.past,
-                &mut self.watch,
-                group,
-                pages,
-                lowest,
-            );
+            let full = over.group;
+            stepping::refuse(tables, &mut self.past, &mut self.watch, group, pages, full);
             return Err(TakeFault::Over(over));
         }
         stepping::grant(tables, &mut self.past, &mut self.watch, group, pages);

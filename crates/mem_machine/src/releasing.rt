@@ -15,7 +15,7 @@ use cpu_part::{BootName, Cpu, Tables};
 use frame_word::{Frame, Put};
 
 /// What a release left.
-#[derive(Clone, Copy, Debug, PartialEq, Eq)]
+#[derive(Clone, Copy)]
 pub enum Released {
     /// This many references of CPUs are left. The unit stays charged and isn't kept any more. After a CPU puts the last
     /// reference, the unit is freed when that CPU is settled.

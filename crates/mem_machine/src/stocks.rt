@@ -198,15 +198,8 @@ impl<N: BootName> Machine<N> {
         let cpu_number = cpu.number();
         prove_charges(&self.charges);
         if let Err(over) = self.charges.try_charge(group, pages) {
-            let lowest = over.group;
-            stepping::refuse(
-                tables,
-                &mut self.past,
-                &mut self.watch,
-                group,
-                pages,
-                lowest,
-            );
+            let full = over.group;
+            stepping::refuse(tables, &mut self.past, &mut self.watch, group, pages, full);
             return Err(over);
         }
         stepping::grant(tables, &mut self.past, &mut self.watch, group, pages);

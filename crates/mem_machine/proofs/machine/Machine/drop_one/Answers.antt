@@ -22,48 +22,48 @@ return_unit-requires-clause-legal g c =
 
 pub free_unit-requires-clause-in_use : goal.free_unit-requires-clause-in_use
 free_unit-requires-clause-in_use g c =
-    let k0 : c.unwrap-order.result ≡ 0 = search rules in
+    let k0 : c.single_order-order.result ≡ 0 = c.single_order-order.ensures in
     let fits : c.args.group < 64 = search rules in
     let e = c.collect_fresh-frame.ensures in
     let was = was_fresh g.N.BootName.frames g.N.BootName.stocks _ c.args.cpu.now _ c.args.group e.known.inside e.known.nothing e.known.lent
     e.known.booked e.known.group c.requires.group fits in
     drop_in_use g.N.BootName.frames g.N.BootName.stocks _ c.args.cpu.now c.number-cpu_number.ensures.tied c.self.invariant.consistent _ _ c.args.group _
-    c.unwrap-order.result c.self.invariant.free was c.number-at.ensures k0
+    c.single_order-order.result c.self.invariant.free was c.number-at.ensures k0
 
 pub free_unit-requires-clause-charged : goal.free_unit-requires-clause-charged
 free_unit-requires-clause-charged g c =
-    let k0 : c.unwrap-order.result ≡ 0 = search rules in
+    let k0 : c.single_order-order.result ≡ 0 = c.single_order-order.ensures in
     let fits : c.args.group < 64 = search rules in
     let e = c.collect_fresh-frame.ensures in
     let was = was_fresh g.N.BootName.frames g.N.BootName.stocks _ c.args.cpu.now _ c.args.group e.known.inside e.known.nothing e.known.lent
     e.known.booked e.known.group c.requires.group fits in
     drop_charged g.N.BootName.frames g.N.BootName.stocks _ c.args.cpu.now c.number-cpu_number.ensures.tied c.self.invariant.consistent _ c.args.group was
-    c.unwrap-order.result k0
+    c.single_order-order.result k0
 
 pub invariant_of-self : goal.invariant_of-self
 invariant_of-self g c =
-    let k0 : c.unwrap-order.result ≡ 0 = search rules in
+    let k0 : c.single_order-order.result ≡ 0 = c.single_order-order.ensures in
     let fits : c.args.group < 64 = search rules in
     let e = c.collect_fresh-frame.ensures in
     let was = was_fresh g.N.BootName.frames g.N.BootName.stocks _ c.args.cpu.now _ c.args.group e.known.inside e.known.nothing e.known.lent
     e.known.booked e.known.group c.requires.group fits in
     let u = c.free_unit.ensures in
     let all = (drop_all g.N.BootName.frames g.N.BootName.stocks _ _ c.self.view_is c.args.cpu.now _ c.number-cpu_number.ensures.tied c.self.invariant.consistent
-    c.requires.visit _ _ c.self.invariant.free _ c.args.group was c.requires.killed e.cpu _ c.unwrap-order.result c.number-at.ensures k0 _ e.zone _ e.seat
+    c.requires.visit _ _ c.self.invariant.free _ c.args.group was c.requires.killed e.cpu _ c.single_order-order.result c.number-at.ensures k0 _ e.zone _ e.seat
     _ u.frame_states _ u.frames u.areas _ u.charges _
     c.with_killed_fresh-self-inside.ensures) in
     record { consistent = consistent_still _ _ _ _ all.consistent; free = all.free_is }
 
 pub returns : goal.returns
 returns g c =
-    let k0 : c.unwrap-order.result ≡ 0 = search rules in
+    let k0 : c.single_order-order.result ≡ 0 = c.single_order-order.ensures in
     let fits : c.args.group < 64 = search rules in
     let e = c.collect_fresh-frame.ensures in
     let was = was_fresh g.N.BootName.frames g.N.BootName.stocks _ c.args.cpu.now _ c.args.group e.known.inside e.known.nothing e.known.lent
     e.known.booked e.known.group c.requires.group fits in
     let u = c.free_unit.ensures in
     let all = drop_all g.N.BootName.frames g.N.BootName.stocks _ _ c.self.view_is c.args.cpu.now _ c.number-cpu_number.ensures.tied c.self.invariant.consistent
-    c.requires.visit _ _ c.self.invariant.free _ c.args.group was c.requires.killed e.cpu _ c.unwrap-order.result c.number-at.ensures k0 _ e.zone _ e.seat
+    c.requires.visit _ _ c.self.invariant.free _ c.args.group was c.requires.killed e.cpu _ c.single_order-order.result c.number-at.ensures k0 _ e.zone _ e.seat
     _ u.frame_states _ u.frames u.areas _ u.charges _
     c.with_killed_fresh-self-inside.ensures in
     let notes = dropped_notes g.N.BootName.frames _ _ c.collect_fresh-frame.result _ _ c.number-at.ensures c.number-cpu_number.ensures.number _ _ e.run c.watch_collected.ensures

@@ -1,12 +1,12 @@
 use Rattle.std.proofs.Common.{ℕ, refl, sym, ap, ◌∙◌, [], ◌∷◌, subst, rules}
 use Rattle.group_tree.specs.Room.{IsLowestOver}
-use Rattle.group_charge.specs.Charges.{current_of}
+use Rattle.group_charge.specs.Charges.{Ledger, current_of}
 use Rattle.cpu_part.specs.Cpus.{KnownCpu}
 use Rattle.step_rules.specs.declared.step.Action.TheVariants.{Fill, Grant}
 use Rattle.step_rules.specs.declared.step.Answer.TheVariants.{Done, Granted}
 use Rattle.step_watch.specs.Watched.{Watches}
 use Rattle.mem_machine.specs.Kept.{machine_of}
-use Rattle.mem_machine.specs.Machines.{KnownMachine}
+use Rattle.mem_machine.specs.Machines.{IsConsistent, KnownMachine}
 use Rattle.mem_machine.specs.Noted.{KnownRun}
 use Rattle.mem_machine.specs.Local.{visit_state}
 use Rattle.mem_machine.specs.Steps.{over_steps, zone_makes}
@@ -25,7 +25,7 @@ refuse-requires-clause-held g c = held_here g.N.BootName.frames _ _ c.self.view_
 pub refuse-requires-clause-legal : goal.refuse-requires-clause-legal
 refuse-requires-clause-legal g c =
     let m = c.args.self.now in
-    let low : IsLowestOver m.ledger.groups (current_of m.ledger) c.args.group c.args.pages c.in-Err.over.group = search rules in
+    let low = subst (λ (x : KnownMachine). IsLowestOver x.ledger.groups (current_of x.ledger) c.args.group c.args.pages c.in-Err.over.group) c.self.view_is c.in-Err.ensures.over in
     may_lead g.N.BootName.frames _ _ c.self.view_is c.args.cpu.now c.requires.visit.shown _ _ _
     (refused_all g.N.BootName.frames g.N.BootName.stocks _ _ c.self.view_is c.args.cpu.now c.args.group c.args.pages c.in-Err.over.group c.self.invariant.consistent c.prove_charges.ensures.legal
     c.number-cpu_number.ensures.tied c.requires.visit c.requires.none_fresh c.requires.charges.there c.requires.charges.alive low)
@@ -97,7 +97,7 @@ returns-in-Err-clause-refused g c =
     let t = g.N.BootName.frames in
     let m = c.args.self.now in
     let over = c.in-Err.over.group in
-    let low : IsLowestOver m.ledger.groups (current_of m.ledger) c.args.group c.args.pages over = search rules in
+    let low = subst (λ (x : KnownMachine). IsLowestOver x.ledger.groups (current_of x.ledger) c.args.group c.args.pages over) c.self.view_is c.in-Err.ensures.over in
     let same = (λ i. record (machine_of c.self.inside) { ledger = c.in-Err.ensures.unchanged i }) ∙ c.self.view_is in
     let refused = subst (λ (x : KnownMachine). LeadsAs t c.args.cpu.now.number (visit_state m c.args.cpu.now) (over_steps c.args.group c.args.pages over)
     (visit_state x c.args.cpu.now)) (sym same)
@@ -109,7 +109,11 @@ pub returns-in-Err-clause-visit : goal.returns-in-Err-clause-visit
 returns-in-Err-clause-visit g c = still_visited g.N.BootName.frames _ _ c.self.view_is _ refl c.args.cpu.now _ c.requires.visit (returns-in-Err-clause-refused g c)
 
 pub invariant_of-self : goal.invariant_of-self
-invariant_of-self g c = search rules
+invariant_of-self g c = record {
+  consistent = consistent_still _ _ _ _ (subst (λ (l : Ledger). IsConsistent g.N.BootName.frames g.N.BootName.stocks (record (machine_of c.self.inside) { ledger = l }))
+      (sym c.in-Err.ensures.unchanged) c.self.invariant.consistent);
+  free = c.self.invariant.free;
+}
 
 pub returns-clause-fills : goal.returns-clause-fills
 returns-clause-fills g c = search rules

@@ -1,7 +1,10 @@
-use Rattle.std.proofs.Common.{◌≡◌, ◌<◌, rules, ap}
+use Rattle.std.proofs.Common.{◌≡◌, ◌<◌, rules, ap, refl}
 use Rattle.cpu_part.specs.Cpus.{KnownCpu}
 use Rattle.mem_machine.proofs.Fresh.{keep_all, was_fresh, in_hand_then, may_collect_kept, may_unfreeze, may_publish, kept_notes}
+use Rattle.mem_machine.proofs.AtTable.{made_at}
 use Rattle.mem_machine.proofs.Followed.{makes_noted}
+use Rattle.mem_machine.proofs.Holder.{holder_here}
+use Rattle.mem_machine.proofs.Reached.{held_here}
 use Rattle.mem_machine.proofs.Watched.{consistent_still, keeps_still, open_still, visits_then}
 use Rattle.mem_machine.proofs.machine.Machine.keep_one.Goals as goal
 
@@ -26,28 +29,28 @@ unfreeze-requires-clause-hand g c = in_hand_then _ _ _ _ c.collect_fresh-frame.e
 
 pub invariant_of-self : goal.invariant_of-self
 invariant_of-self g c =
-    let k0 : c.unwrap-order.result ≡ 0 = search rules in
+    let k0 : c.single_order-order.result ≡ 0 = c.single_order-order.ensures in
     let fits : c.args.group < 64 = search rules in
     let e = c.collect_fresh-frame.ensures in
     let was = was_fresh g.N.BootName.frames g.N.BootName.stocks _ c.args.cpu.now _ c.args.group e.known.inside e.known.nothing e.known.lent
     e.known.booked e.known.group c.requires.group fits in
     let a = c.join_list.ensures in
     let all = (keep_all g.N.BootName.frames g.N.BootName.stocks _ _ c.self.view_is c.args.cpu.now _ c.number-cpu_number.ensures.tied c.self.invariant.consistent
-    c.requires.visit _ c.self.invariant.free _ c.args.group was e.cpu _ c.unwrap-order.result c.number-at.ensures k0 _ _
+    c.requires.visit _ c.self.invariant.free _ c.args.group was e.cpu _ c.single_order-order.result c.number-at.ensures k0 _ _
     e.zone c.unfreeze.ensures.seat _ e.seat _ _
     (record { joins = a.joins; stand = a.lists.stand; frames = a.frames; groups = a.lists.groups })) in
     record { consistent = consistent_still _ _ _ _ all.consistent; free = all.free_is }
 
 pub returns : goal.returns
 returns g c =
-    let k0 : c.unwrap-order.result ≡ 0 = search rules in
+    let k0 : c.single_order-order.result ≡ 0 = c.single_order-order.ensures in
     let fits : c.args.group < 64 = search rules in
     let e = c.collect_fresh-frame.ensures in
     let was = was_fresh g.N.BootName.frames g.N.BootName.stocks _ c.args.cpu.now _ c.args.group e.known.inside e.known.nothing e.known.lent
     e.known.booked e.known.group c.requires.group fits in
     let a = c.join_list.ensures in
     let all = keep_all g.N.BootName.frames g.N.BootName.stocks _ _ c.self.view_is c.args.cpu.now _ c.number-cpu_number.ensures.tied c.self.invariant.consistent
-    c.requires.visit _ c.self.invariant.free _ c.args.group was e.cpu _ c.unwrap-order.result c.number-at.ensures k0 _ _
+    c.requires.visit _ c.self.invariant.free _ c.args.group was e.cpu _ c.single_order-order.result c.number-at.ensures k0 _ _
     e.zone c.unfreeze.ensures.seat _ e.seat _ _
     (record { joins = a.joins; stand = a.lists.stand; frames = a.frames; groups = a.lists.groups }) in
     let notes = kept_notes g.N.BootName.frames _ _ c.collect_fresh-frame.result _ _ c.number-at.ensures c.number-cpu_number.ensures.number _ _ e.run c.watch_collected.ensures
@@ -58,3 +61,12 @@ returns g c =
       visit = visits_then _ _ _ _ c.requires.visit.shown makes (ap (λ (k : KnownCpu). k.number) e.cpu.2) (open_still _ _ _ _ all.visit);
       steps = makes;
     }
+
+pub collect_fresh-frame-requires-clause-held : goal.collect_fresh-frame-requires-clause-held
+collect_fresh-frame-requires-clause-held g c = held_here g.N.BootName.frames _ _ c.self.view_is c.args.cpu.now c.requires.visit.shown
+
+pub collect_fresh-frame-requires-clause-holder : goal.collect_fresh-frame-requires-clause-holder
+collect_fresh-frame-requires-clause-holder g c = holder_here g.N.BootName.frames _ _ c.self.view_is c.args.cpu.now c.requires.visit.shown
+
+pub publish-requires-clause-held : goal.publish-requires-clause-held
+publish-requires-clause-held g c = (made_at _ _ c.args.tables.now.frames_are 0 refl _ _ _ _ c.unfreeze.ensures.run).held

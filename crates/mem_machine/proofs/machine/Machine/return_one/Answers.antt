@@ -28,7 +28,7 @@ collect-requires-clause-holder g c = back_number _ _ _ c.in-Some.ensures.answer
 
 pub collect-requires-clause-legal : goal.collect-requires-clause-legal
 collect-requires-clause-legal g c =
-    let inside : c.in-Some.frame < g.N.BootName.frames.frames = search rules in
+    let inside : c.in-Some.frame < g.N.BootName.frames.frames = c.in-Some.ensures.frame in
     let was : WasBack g.N.BootName.frames _ c.in-Some.frame =
     record { inside = inside; nothing = c.in-Some.ensures.own.0; lent = c.in-Some.ensures.own.1 } in
     let hands = c.in-Some.ensures.answer in
@@ -40,7 +40,7 @@ return_unit-requires-clause-held g c = c.collect.ensures.run.held
 
 pub return_unit-requires-clause-legal : goal.return_unit-requires-clause-legal
 return_unit-requires-clause-legal g c =
-    let inside : c.in-Some.frame < g.N.BootName.frames.frames = search rules in
+    let inside : c.in-Some.frame < g.N.BootName.frames.frames = c.in-Some.ensures.frame in
     let was : WasBack g.N.BootName.frames _ c.in-Some.frame =
     record { inside = inside; nothing = c.in-Some.ensures.own.0; lent = c.in-Some.ensures.own.1 } in
     let hands = c.in-Some.ensures.answer in
@@ -49,14 +49,14 @@ return_unit-requires-clause-legal g c =
 
 pub collect-requires-clause-passes : goal.collect-requires-clause-passes
 collect-requires-clause-passes g c =
-    let inside : c.in-Some.frame < g.N.BootName.frames.frames = search rules in
+    let inside : c.in-Some.frame < g.N.BootName.frames.frames = c.in-Some.ensures.frame in
     back_passes g.N.BootName.frames g.N.BootName.stocks _ _ c.self.view_is c.args.cpu.now _ c.number-cpu_number.ensures.tied c.requires _ _ inside
     c.in-Some.ensures.answer
     c.in-Some.ensures.zone
 
 pub free_unit-requires-clause-in_use : goal.free_unit-requires-clause-in_use
 free_unit-requires-clause-in_use g c =
-    let inside : c.in-Some.frame < g.N.BootName.frames.frames = search rules in
+    let inside : c.in-Some.frame < g.N.BootName.frames.frames = c.in-Some.ensures.frame in
     let was : WasBack g.N.BootName.frames _ c.in-Some.frame =
     record { inside = inside; nothing = c.in-Some.ensures.own.0; lent = c.in-Some.ensures.own.1 } in
     let heads = read_head g.N.BootName.frames g.N.BootName.stocks _ c.self.invariant.consistent _ _ was c.number-at.ensures _ c.index.ensures _ c.in-Head.is in
@@ -64,7 +64,7 @@ free_unit-requires-clause-in_use g c =
 
 pub free_unit-requires-clause-inside : goal.free_unit-requires-clause-inside
 free_unit-requires-clause-inside g c =
-    let inside : c.in-Some.frame < g.N.BootName.frames.frames = search rules in
+    let inside : c.in-Some.frame < g.N.BootName.frames.frames = c.in-Some.ensures.frame in
     let was : WasBack g.N.BootName.frames _ c.in-Some.frame =
     record { inside = inside; nothing = c.in-Some.ensures.own.0; lent = c.in-Some.ensures.own.1 } in
     let heads = read_head g.N.BootName.frames g.N.BootName.stocks _ c.self.invariant.consistent _ _ was c.number-at.ensures _ c.index.ensures _ c.in-Head.is in
@@ -72,7 +72,7 @@ free_unit-requires-clause-inside g c =
 
 pub free_unit-requires-clause-charged : goal.free_unit-requires-clause-charged
 free_unit-requires-clause-charged g c =
-    let inside : c.in-Some.frame < g.N.BootName.frames.frames = search rules in
+    let inside : c.in-Some.frame < g.N.BootName.frames.frames = c.in-Some.ensures.frame in
     let was : WasBack g.N.BootName.frames _ c.in-Some.frame =
     record { inside = inside; nothing = c.in-Some.ensures.own.0; lent = c.in-Some.ensures.own.1 } in
     let heads = read_head g.N.BootName.frames g.N.BootName.stocks _ c.self.invariant.consistent _ _ was c.number-at.ensures _ c.index.ensures _ c.in-Head.is in
@@ -80,7 +80,7 @@ free_unit-requires-clause-charged g c =
 
 pub invariant_of-self-2 : goal.invariant_of-self-2
 invariant_of-self-2 g c =
-    let inside : c.in-Some.frame < g.N.BootName.frames.frames = search rules in
+    let inside : c.in-Some.frame < g.N.BootName.frames.frames = c.in-Some.ensures.frame in
     let was : WasBack g.N.BootName.frames _ c.in-Some.frame =
     record { inside = inside; nothing = c.in-Some.ensures.own.0; lent = c.in-Some.ensures.own.1 } in
     let heads = read_head g.N.BootName.frames g.N.BootName.stocks _ c.self.invariant.consistent _ _ was c.number-at.ensures _ c.index.ensures _ c.in-Head.is in
@@ -95,7 +95,7 @@ invariant_of-self-2 g c =
 
 pub returns : goal.returns
 returns g c =
-    let inside : c.in-Some.frame < g.N.BootName.frames.frames = search rules in
+    let inside : c.in-Some.frame < g.N.BootName.frames.frames = c.in-Some.ensures.frame in
     let was : WasBack g.N.BootName.frames _ c.in-Some.frame =
     record { inside = inside; nothing = c.in-Some.ensures.own.0; lent = c.in-Some.ensures.own.1 } in
     let heads = read_head g.N.BootName.frames g.N.BootName.stocks _ c.self.invariant.consistent _ _ was c.number-at.ensures _ c.index.ensures _ c.in-Head.is in

@@ -1,8 +1,8 @@
 use Rattle.std.proofs.Common.{ℕ, ◌≤◌, ◌<◌, ◌^◌, ap, refl, sym, subst, ◌∙◌, rules, arith}
 use Rattle.group_tree.specs.Room.{IsLowestOver}
-use Rattle.group_charge.specs.Charges.{current_of}
+use Rattle.group_charge.specs.Charges.{Ledger, current_of}
 use Rattle.mem_machine.specs.Kept.{machine_of}
-use Rattle.mem_machine.specs.Machines.{KnownMachine}
+use Rattle.mem_machine.specs.Machines.{IsConsistent, KnownMachine}
 use Rattle.mem_machine.specs.Local.{visit_state}
 use Rattle.mem_machine.specs.Steps.{over_steps, zone_makes}
 use Rattle.mem_machine.proofs.Prepaying.{refused_all}
@@ -14,9 +14,9 @@ use Rattle.boot_words.specs.Pasts.{MakesStep}
 use Rattle.step_rules.specs.declared.step.Action.TheVariants.{Unfreeze}
 use Rattle.step_rules.specs.declared.step.Answer.TheVariants.{Done}
 use Rattle.mem_machine.specs.Noted.{MayTake, Notes}
-use Rattle.mem_machine.proofs.AtTable.{made_at, may_at}
+use Rattle.mem_machine.proofs.AtTable.{held_at, made_at, may_at}
 use Rattle.mem_machine.proofs.Followed.{LeadsAs, makes_noted}
-use Rattle.mem_machine.proofs.Reached.{may_lead}
+use Rattle.mem_machine.proofs.Reached.{held_here, may_lead}
 use Rattle.mem_machine.proofs.Watched.{consistent_still, open_still, takes_block_still, takes_none_still, visits_then}
 use Rattle.mem_machine.proofs.machine.Machine.take_block.Goals as goal
 
@@ -111,7 +111,11 @@ returns g c =
     }
 
 pub invariant_of-self : goal.invariant_of-self
-invariant_of-self g c = search rules
+invariant_of-self g c = record {
+  consistent = consistent_still _ _ _ _ (subst (λ (l : Ledger). IsConsistent g.N.BootName.frames g.N.BootName.stocks (record (machine_of c.self.inside) { ledger = l }))
+      (sym c.in-Err.ensures.unchanged) c.self.invariant.consistent);
+  free = c.self.invariant.free;
+}
 
 pub invariant_of-self-in_default-take : goal.invariant_of-self-in_default-take
 invariant_of-self-in_default-take g c = search rules
@@ -121,7 +125,7 @@ returns-in-Err-clause-steps g c =
     let t = g.N.BootName.frames in
     let m = c.args.self.now in
     let over = c.in-Err.over.group in
-    let low : IsLowestOver m.ledger.groups (current_of m.ledger) c.args.group c.frames-pages.result over = search rules in
+    let low = subst (λ (x : KnownMachine). IsLowestOver x.ledger.groups (current_of x.ledger) c.args.group c.frames-pages.result over) c.self.view_is c.in-Err.ensures.over in
     let same = (λ i. record (machine_of c.self.inside) { ledger = c.in-Err.ensures.unchanged i }) ∙ c.self.view_is in
     let refused = subst (λ (x : KnownMachine). LeadsAs t c.args.cpu.now.number (visit_state m c.args.cpu.now) (over_steps c.args.group (2 ^ c.args.order) over)
     (visit_state x c.args.cpu.now)) (sym same)
@@ -139,7 +143,7 @@ returns-in-Err-clause-visit g c =
 pub refuse-requires-clause-legal : goal.refuse-requires-clause-legal
 refuse-requires-clause-legal g c =
     let m = c.args.self.now in
-    let low : IsLowestOver m.ledger.groups (current_of m.ledger) c.args.group c.frames-pages.result c.in-Err.over.group = search rules in
+    let low = subst (λ (x : KnownMachine). IsLowestOver x.ledger.groups (current_of x.ledger) c.args.group c.frames-pages.result c.in-Err.over.group) c.self.view_is c.in-Err.ensures.over in
     may_lead g.N.BootName.frames _ _ c.self.view_is c.args.cpu.now c.requires.visit.shown _ _ _
     (refused_all g.N.BootName.frames g.N.BootName.stocks _ _ c.self.view_is c.args.cpu.now c.args.group c.frames-pages.result c.in-Err.over.group c.self.invariant.consistent
     c.prove_charges.ensures.legal c.prove_tied.ensures c.requires.visit c.requires.none_fresh c.requires.charges.there c.requires.charges.alive low)
@@ -238,3 +242,24 @@ publish-requires-clause-legal g c =
     (((may.1 _ c.grant.ensures.run).1 _ c.place.ensures.run).1 _
     (subst (λ (x : ℕ). MakesStep g.N.BootName.frames c.place.new.past 0 (Unfreeze x 1) Done c.unfreeze.new.held) (sym c.number-at.ensures)
     (made_at _ _ c.args.tables.now.frames_are 0 refl _ _ _ _ c.unfreeze.ensures.run))).0
+
+pub refuse-requires-clause-held : goal.refuse-requires-clause-held
+refuse-requires-clause-held g c = held_here g.N.BootName.frames _ _ c.self.view_is c.args.cpu.now c.requires.visit.shown
+
+pub grant-requires-clause-held : goal.grant-requires-clause-held
+grant-requires-clause-held g c = held_here g.N.BootName.frames _ _ c.self.view_is c.args.cpu.now c.requires.visit.shown
+
+pub find_no_block-requires-clause-held : goal.find_no_block-requires-clause-held
+find_no_block-requires-clause-held g c = c.grant.ensures.run.held
+
+pub ungrant-requires-clause-held : goal.ungrant-requires-clause-held
+ungrant-requires-clause-held g c = c.find_no_block.ensures.run.held
+
+pub place-requires-clause-held : goal.place-requires-clause-held
+place-requires-clause-held g c = c.grant.ensures.run.held
+
+pub unfreeze-requires-clause-held : goal.unfreeze-requires-clause-held
+unfreeze-requires-clause-held g c = held_at _ _ c.args.tables.now.frames_are _ c.place.ensures.run.held
+
+pub publish-requires-clause-held : goal.publish-requires-clause-held
+publish-requires-clause-held g c = (made_at _ _ c.args.tables.now.frames_are 0 refl _ _ _ _ c.unfreeze.ensures.run).held

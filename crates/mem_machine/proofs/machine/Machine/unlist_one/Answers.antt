@@ -34,38 +34,38 @@ collect-requires-clause-legal g c =
 
 pub collect-requires-clause-passes : goal.collect-requires-clause-passes
 collect-requires-clause-passes g c =
-    let inside : c.in-Some.frame < g.N.BootName.frames.frames = search rules in
+    let inside : c.in-Some.frame < g.N.BootName.frames.frames = c.in-Some.ensures.frame in
     passes_back_to g.N.BootName.frames g.N.BootName.stocks _ _ c.self.view_is c.args.cpu.now _ c.number-cpu_number.ensures.tied c.requires _ _ inside
     c.in-Some.ensures.answer
     c.in-Some.ensures.zone
 
 pub give-requires : goal.give-requires
 give-requires g c =
-    let k0 : c.unwrap.result ≡ 0 = search rules in
-    let inside : c.in-Some.frame < g.N.BootName.frames.frames = search rules in
+    let k0 : c.single_order.result ≡ 0 = c.single_order.ensures in
+    let inside : c.in-Some.frame < g.N.BootName.frames.frames = c.in-Some.ensures.frame in
     may_give g.N.BootName.frames g.N.BootName.stocks _ c.args.cpu.now c.number-cpu_number.ensures.tied c.self.invariant.consistent _ c.in-Some.frame _
-    c.unwrap.result c.self.invariant.free inside c.in-Some.ensures.borrowed.1 c.number-at.ensures k0
+    c.single_order.result c.self.invariant.free inside c.in-Some.ensures.borrowed.1 c.number-at.ensures k0
 
 pub invariant_of-self-2 : goal.invariant_of-self-2
 invariant_of-self-2 g c =
-    let k0 : c.unwrap.result ≡ 0 = search rules in
-    let inside : c.in-Some.frame < g.N.BootName.frames.frames = search rules in
+    let k0 : c.single_order.result ≡ 0 = c.single_order.ensures in
+    let inside : c.in-Some.frame < g.N.BootName.frames.frames = c.in-Some.ensures.frame in
     let collected = c.collect.ensures.zone ∙ ap (λ (s : KnownSeat). seat_with s c.in-Some.frame
     (collected_from c.pass_front.new.self.number)) c.in-Some.ensures.zone in
     let all = (take_all g.N.BootName.frames g.N.BootName.stocks _ _ c.self.view_is c.args.cpu.now c.pass_front.new.self _
     c.number-cpu_number.ensures.tied c.self.invariant.consistent
-    c.requires _ _ c.unwrap.result _ c.in-Some.frame _ _ c.self.invariant.free k0 c.give.ensures.frames c.give.ensures.areas inside c.in-Some.ensures.borrowed.1
+    c.requires _ _ c.single_order.result _ c.in-Some.frame _ _ c.self.invariant.free k0 c.give.ensures.frames c.give.ensures.areas inside c.in-Some.ensures.borrowed.1
     c.number-at.ensures c.in-Some.ensures.answer collected c.collect.ensures.cpu) in
     record { consistent = consistent_still _ _ _ _ all.consistent; free = all.free_is }
 
 pub returns : goal.returns
 returns g c =
-    let k0 : c.unwrap.result ≡ 0 = search rules in
-    let inside : c.in-Some.frame < g.N.BootName.frames.frames = search rules in
+    let k0 : c.single_order.result ≡ 0 = c.single_order.ensures in
+    let inside : c.in-Some.frame < g.N.BootName.frames.frames = c.in-Some.ensures.frame in
     let collected = c.collect.ensures.zone ∙ ap (λ (s : KnownSeat). seat_with s c.in-Some.frame
     (collected_from c.pass_front.new.self.number)) c.in-Some.ensures.zone in
     let all = take_all g.N.BootName.frames g.N.BootName.stocks _ _ c.self.view_is c.args.cpu.now c.pass_front.new.self _ c.number-cpu_number.ensures.tied c.self.invariant.consistent
-    c.requires _ _ c.unwrap.result _ c.in-Some.frame _ _ c.self.invariant.free k0 c.give.ensures.frames c.give.ensures.areas inside c.in-Some.ensures.borrowed.1
+    c.requires _ _ c.single_order.result _ c.in-Some.frame _ _ c.self.invariant.free k0 c.give.ensures.frames c.give.ensures.areas inside c.in-Some.ensures.borrowed.1
     c.number-at.ensures c.in-Some.ensures.answer collected c.collect.ensures.cpu in
     let handed = front_number _ _ _ c.in-Some.ensures.answer in
     let notes = taken_notes g.N.BootName.frames g.N.BootName.stocks _ _ c.self.view_is c.args.cpu.now c.in-Some.frame _ _ _ c.number-at.ensures handed c.number-cpu_number.ensures.number
