@@ -10,7 +10,7 @@ use Rattle.cpu_part.specs.Known.{pass_fresh_steps}
 use Rattle.cpu_part.specs.Made.{MakesAll, MayMakeAll}
 use Rattle.step_rules.specs.declared.step.Action.TheVariants.{Absorb, Collect}
 use Rattle.step_rules.specs.declared.step.Answer.TheVariants.{Done, Pages}
-use Rattle.boot_words.specs.Pasts.{KnownPasts, MakesStep, MayMake}
+use Rattle.boot_words.specs.Pasts.{KnownPasts, IsHeld, IsHolder, MakesStep, MayMake}
 use Rattle.mem_machine.specs.Steps.{zone_makes}
 use Rattle.mem_machine.specs.Settling.{collect_steps}
 
@@ -32,6 +32,14 @@ module _ (t u : KnownTable) (words : u ≡ t) (s : KnownPasts) (p f q r : ℕ) (
     pub may_absorb : (last : KnownPasts) → MakesStep t later 0 (Collect f q) Done last → MayMake u last 0 (Absorb r)
     may_absorb last collected = subst (λ (x : KnownTable × ℕ). MayMake x.0 last 0 (Absorb x.1)) (λ j. (sym words j, sym number j))
         (behind.1 last (subst (λ (x : ℕ). MakesStep t later 0 (Collect f x) Done last) handed collected)).0
+
+  -- the CPU still holds the lock, by its number
+  pub held_handed : IsHeld t later
+  held_handed = subst (IsHeld t) (sym all.2.2) all.2.1.held
+
+  pub holder_handed : IsHolder s p → IsHolder later q
+  holder_handed holder = handed
+      ∙ subst (λ (x : KnownPasts). IsHolder x p) (sym all.2.2) (holder ∙ sym all.1.cpu_grew.number ∙ sym all.2.1.cpu_grew.number)
 
   -- all four were made
   pub collects_all : (last end : KnownPasts) (n : ℕ) → n ≡ 1 → MakesStep t later 0 (Collect f q) Done last → MakesStep u last 0 (Absorb r) (Pages n) end

@@ -17,6 +17,17 @@ use step_watch::Watch;
 use zone_blocks::block::Block;
 use zone_blocks::order::Order;
 
+// A step of the zone's seat, with this answer. The watch doesn't know of it yet.
+#[inline(always)]
+fn note<N: BootName>(tables: &Tables<N>, past: &mut PastSeat, action: &Action, answer: &Answer)
+    requires held { IsHeld N.frames past.old }
+    requires plain { IsPlain action.now }
+    requires legal { MayTake N.frames past.old (zone_makes action.now answer.now) }
+    ensures { MakesStep N.frames past.old 0 action.now answer.now past.new }
+{
+    tables.words.note(past, 0, action, answer);
+}
+
 /// Any such step of the zone's seat, with this answer. The watch takes it.
 #[inline(always)]
 pub(crate) fn make_step<N: BootName>(
@@ -33,7 +44,7 @@ pub(crate) fn make_step<N: BootName>(
     ensures notes { Notes N.frames (record { past = past.old; watch = watch.old }) (zone_makes action answer ∷ [])
         (record { past = past.new; watch = watch.new }) }
 {
-    tables.words.note(past, 0, &action, &answer);
+    note(tables, past, &action, &answer);
     if watch.is_on() {
         watch.take(&Step { seat: 0, action }, &answer);
     }
@@ -55,7 +66,7 @@ pub(crate) fn grant<N: BootName>(
         (zone_makes (step.Grant group pages) answer.Granted ∷ []) (record { past = past.new; watch = watch.new }) }
 {
     let action = Action::Grant { group, pages };
-    tables.words.note(past, 0, &action, &Answer::Granted);
+    note(tables, past, &action, &Answer::Granted);
     watch.granted(group, pages);
 }
 
@@ -76,7 +87,7 @@ pub(crate) fn refuse<N: BootName>(
         (zone_makes (step.Grant group pages) (answer.Over over) ∷ []) (record { past = past.new; watch = watch.new }) }
 {
     let action = Action::Grant { group, pages };
-    tables.words.note(past, 0, &action, &Answer::Over(over));
+    note(tables, past, &action, &Answer::Over(over));
     watch.refused(group, pages, over);
 }
 
@@ -96,7 +107,7 @@ pub(crate) fn ungrant<N: BootName>(
         (zone_makes (step.Ungrant group pages) answer.Done ∷ []) (record { past = past.new; watch = watch.new }) }
 {
     let action = Action::Ungrant { group, pages };
-    tables.words.note(past, 0, &action, &Answer::Done);
+    note(tables, past, &action, &Answer::Done);
     watch.ungranted(group, pages);
 }
 
@@ -139,7 +150,7 @@ pub(crate) fn find_no_block<N: BootName>(
         (zone_makes (step.PlaceBlock group order) answer.NoFreeBlock ∷ []) (record { past = past.new; watch = watch.new }) }
 {
     let action = Action::PlaceBlock { group, order };
-    tables.words.note(past, 0, &action, &Answer::NoFreeBlock);
+    note(tables, past, &action, &Answer::NoFreeBlock);
     watch.found_no_block(group, order);
 }
 
@@ -158,7 +169,7 @@ pub(crate) fn publish<N: BootName>(
         (zone_makes (step.Publish frame) answer.Done ∷ []) (record { past = past.new; watch = watch.new }) }
 {
     let action = Action::Publish { frame };
-    tables.words.note(past, 0, &action, &Answer::Done);
+    note(tables, past, &action, &Answer::Done);
     watch.published(frame);
 }
 
@@ -177,6 +188,6 @@ pub(crate) fn return_unit<N: BootName>(
         (zone_makes (step.Return frame) answer.Done ∷ []) (record { past = past.new; watch = watch.new }) }
 {
     let action = Action::Return { frame };
-    tables.words.note(past, 0, &action, &Answer::Done);
+    note(tables, past, &action, &Answer::Done);
     watch.returned(frame);
 }
