@@ -3,7 +3,10 @@ use Rattle.cpu_part.specs.Cpus.{KnownCpu}
 use Rattle.mem_machine.specs.Machines.{is_killed}
 use Rattle.mem_machine.specs.Local.{group_of_fresh, number_or_0}
 use Rattle.mem_machine.proofs.Fresh.{drop_all, was_fresh, drop_charged, drop_in_use, may_collect_dropped, may_return_dropped, dropped_notes}
+use Rattle.mem_machine.proofs.Collecting.{held_collected, visited_here}
 use Rattle.mem_machine.proofs.Followed.{makes_noted}
+use Rattle.mem_machine.proofs.Holder.{holder_here}
+use Rattle.mem_machine.proofs.Reached.{held_here}
 use Rattle.mem_machine.proofs.Watched.{consistent_still, drops_still, open_still, visits_then}
 use Rattle.mem_machine.proofs.machine.Machine.drop_one.Goals as goal
 
@@ -74,3 +77,16 @@ returns g c =
       visit = visits_then _ _ _ _ c.requires.visit.shown makes (ap (λ (k : KnownCpu). k.number) e.cpu.2) (open_still _ _ _ _ all.visit);
       steps = makes;
     }
+
+pub collect_fresh-frame-requires-clause-held : goal.collect_fresh-frame-requires-clause-held
+collect_fresh-frame-requires-clause-held g c = held_here g.N.BootName.frames _ _ c.self.view_is c.args.cpu.now c.requires.visit.shown
+
+pub collect_fresh-frame-requires-clause-holder : goal.collect_fresh-frame-requires-clause-holder
+collect_fresh-frame-requires-clause-holder g c = holder_here g.N.BootName.frames _ _ c.self.view_is c.args.cpu.now c.requires.visit.shown
+
+pub collect_fresh-frame-requires-clause-visited : goal.collect_fresh-frame-requires-clause-visited
+collect_fresh-frame-requires-clause-visited g c =
+    visited_here g.N.BootName.frames g.N.BootName.stocks _ _ c.self.view_is c.args.cpu.now c.self.invariant.consistent c.requires.visit
+
+pub return_unit-requires-clause-held : goal.return_unit-requires-clause-held
+return_unit-requires-clause-held g c = held_collected _ _ _ _ _ c.collect_fresh-frame.ensures.run

@@ -1,7 +1,8 @@
 use Rattle.std.proofs.Common.{◌≡◌, ◌<◌, rules, ap, refl}
 use Rattle.cpu_part.specs.Cpus.{KnownCpu}
 use Rattle.mem_machine.proofs.Fresh.{keep_all, was_fresh, in_hand_then, may_collect_kept, may_unfreeze, may_publish, kept_notes}
-use Rattle.mem_machine.proofs.AtTable.{made_at}
+use Rattle.mem_machine.proofs.AtTable.{held_at, made_at}
+use Rattle.mem_machine.proofs.Collecting.{held_collected, visited_here}
 use Rattle.mem_machine.proofs.Followed.{makes_noted}
 use Rattle.mem_machine.proofs.Holder.{holder_here}
 use Rattle.mem_machine.proofs.Reached.{held_here}
@@ -70,3 +71,10 @@ collect_fresh-frame-requires-clause-holder g c = holder_here g.N.BootName.frames
 
 pub publish-requires-clause-held : goal.publish-requires-clause-held
 publish-requires-clause-held g c = (made_at _ _ c.args.tables.now.frames_are 0 refl _ _ _ _ c.unfreeze.ensures.run).held
+
+pub collect_fresh-frame-requires-clause-visited : goal.collect_fresh-frame-requires-clause-visited
+collect_fresh-frame-requires-clause-visited g c =
+    visited_here g.N.BootName.frames g.N.BootName.stocks _ _ c.self.view_is c.args.cpu.now c.self.invariant.consistent c.requires.visit
+
+pub unfreeze-requires-clause-held : goal.unfreeze-requires-clause-held
+unfreeze-requires-clause-held g c = held_at _ _ c.args.tables.now.frames_are _ (held_collected _ _ _ _ _ c.collect_fresh-frame.ensures.run)

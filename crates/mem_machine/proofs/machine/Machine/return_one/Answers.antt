@@ -1,7 +1,8 @@
-use Rattle.std.proofs.Common.{◌<◌, rules, ap, ◌∙◌}
+use Rattle.std.proofs.Common.{◌<◌, rules, ap, sym, subst, ◌∙◌}
 use Rattle.cpu_part.specs.Cpus.{KnownCpu}
 use Rattle.frame_word.specs.Views.{collected_from}
-use Rattle.frame_word.specs.Seats.{KnownSeat, seat_with}
+use Rattle.frame_word.specs.Seats.{KnownSeat, IsOpen, IsZoneSeat, seat_with}
+use Rattle.mem_machine.specs.Machines.{KnownMachine}
 use Rattle.mem_machine.proofs.Freeing.{unit_charged}
 use Rattle.mem_machine.proofs.Back.{WasBack, back_passes, read_head, back_in_use, back_inside, return_all, may_collect_back, may_return_back, returned_notes}
 use Rattle.mem_machine.proofs.Holder.{back_may_pass, back_number, holder_here, holder_then}
@@ -115,3 +116,15 @@ returns g c =
       visit = visits_then _ _ _ _ c.requires.shown makes (ap (λ (e : KnownCpu). e.number) c.collect.ensures.cpu ∙ handed) (open_still _ _ _ _ all.visit);
       steps = makes;
     }
+
+pub pass_back_unit-requires-clause-zone : goal.pass_back_unit-requires-clause-zone
+pass_back_unit-requires-clause-zone g c = c.self.invariant.consistent.seats.frames
+
+pub pass_back_unit-requires-clause-open : goal.pass_back_unit-requires-clause-open
+pass_back_unit-requires-clause-open g c = subst (λ (k : KnownMachine). IsOpen k.frame_seat c.args.cpu.now.number) (sym c.self.view_is) c.requires.is_open
+
+pub collect-requires-clause-zone : goal.collect-requires-clause-zone
+collect-requires-clause-zone g c = subst (IsZoneSeat g.N.BootName.frames) (sym c.in-Some.ensures.zone) c.self.invariant.consistent.seats.frames
+
+pub collect-requires-clause-frame : goal.collect-requires-clause-frame
+collect-requires-clause-frame g c = c.in-Some.ensures.frame

@@ -1,6 +1,7 @@
-use Rattle.std.proofs.Common.{◌≡◌, ◌<◌, rules, ap, ◌∙◌}
+use Rattle.std.proofs.Common.{◌≡◌, ◌<◌, rules, ap, sym, subst, ◌∙◌}
 use Rattle.frame_word.specs.Views.{collected_from}
-use Rattle.frame_word.specs.Seats.{KnownSeat, seat_with}
+use Rattle.frame_word.specs.Seats.{KnownSeat, IsOpen, IsZoneSeat, seat_with}
+use Rattle.mem_machine.specs.Machines.{KnownMachine}
 use Rattle.mem_machine.proofs.Takes.{take_all, may_give, passes_back_to, may_pass_front, may_collect_front, taken_notes}
 use Rattle.cpu_part.specs.Cpus.{KnownCpu}
 use Rattle.mem_machine.proofs.Holder.{front_number, holder_here, holder_then}
@@ -82,3 +83,15 @@ returns g c =
 
 pub invariant_of-self : goal.invariant_of-self
 invariant_of-self g c = search rules
+
+pub pass_front-requires-clause-zone : goal.pass_front-requires-clause-zone
+pass_front-requires-clause-zone g c = c.self.invariant.consistent.seats.frames
+
+pub pass_front-requires-clause-open : goal.pass_front-requires-clause-open
+pass_front-requires-clause-open g c = subst (λ (k : KnownMachine). IsOpen k.frame_seat c.args.cpu.now.number) (sym c.self.view_is) c.requires.is_open
+
+pub collect-requires-clause-zone : goal.collect-requires-clause-zone
+collect-requires-clause-zone g c = subst (IsZoneSeat g.N.BootName.frames) (sym c.in-Some.ensures.zone) c.self.invariant.consistent.seats.frames
+
+pub collect-requires-clause-frame : goal.collect-requires-clause-frame
+collect-requires-clause-frame g c = c.in-Some.ensures.frame
