@@ -1,6 +1,7 @@
-use Rattle.std.proofs.Common.{◌≡◌, ◌<◌, ◌≤◌, rules, ap, subst, ◌∙◌, arith}
+use Rattle.std.proofs.Common.{◌≡◌, ℕ, ◌<◌, ◌≤◌, rules, ap, sym, subst, ◌∙◌, arith}
 use Rattle.zone_blocks.specs.Zone.{BuddyZone}
-use Rattle.frame_word.specs.Seats.{KnownTable}
+use Rattle.frame_word.specs.Seats.{KnownTable, IsOpen, IsZoneSeat}
+use Rattle.mem_machine.specs.Machines.{KnownMachine}
 use Rattle.cpu_part.specs.Cpus.{KnownCpu}
 use Rattle.mem_machine.specs.FrameStates.{frame_state_at}
 use Rattle.mem_machine.proofs.Lends.{lend_all, lent_to_none, block_inside, zone_hand, passes_to, lent_to_it, lent_notes, may_pass_out, may_take_in}
@@ -98,3 +99,17 @@ unreachable-requires g c =
 
 pub invariant_of-self : goal.invariant_of-self
 invariant_of-self g c = search rules
+
+pub pass_out-requires-clause-zone : goal.pass_out-requires-clause-zone
+pass_out-requires-clause-zone g c =
+    subst (λ (t : KnownTable). IsZoneSeat t c.self.inside.frame_seat) (sym c.args.tables.now.frames_are) c.self.invariant.consistent.seats.frames
+
+pub pass_out-requires-clause-frame : goal.pass_out-requires-clause-frame
+pass_out-requires-clause-frame g c = c.in-Some-frame.ensures.1
+
+pub pass_out-requires-clause-open : goal.pass_out-requires-clause-open
+pass_out-requires-clause-open g c =
+    subst (λ (x : KnownMachine × ℕ). IsOpen x.0.frame_seat x.1) (λ i. (sym c.self.view_is i, sym c.number-cpu_number.ensures.number i)) c.requires.visit.is_open
+
+pub take_in-requires-clause-frame : goal.take_in-requires-clause-frame
+take_in-requires-clause-frame g c = subst (λ (t : KnownTable). c.in-Some-frame.frame < t.frames) c.args.tables.now.frames_are c.in-Some-frame.ensures.1
