@@ -1,4 +1,5 @@
-use Rattle.std.proofs.Common.{◌^◌, refl}
+use Rattle.std.proofs.Common.{◌^◌, ◌<◌, ◌∙◌, ap, refl, sym, subst}
+use Rattle.frame_word.specs.Seats.{KnownTable}
 use Rattle.cpu_part.specs.Cpus.{KnownCpu}
 use Rattle.mem_machine.proofs.Freeing.{unit_in_use, unit_charged}
 use Rattle.step_rules.specs.declared.step.Action.TheVariants.{Freeze}
@@ -102,3 +103,9 @@ returns g c =
       visit = λ cpu visit. visits_then _ _ _ _ visit.shown (makes cpu) refl (open_still _ _ _ _ (all.visit cpu visit));
       steps = makes;
     }
+
+pub freeze-requires-clause-table : goal.freeze-requires-clause-table
+freeze-requires-clause-table g c = c.self.invariant.consistent.seats.frames.0 ∙ sym (ap (λ (t : KnownTable). t.table) c.args.tables.now.frames_are)
+
+pub freeze-requires-clause-frame : goal.freeze-requires-clause-frame
+freeze-requires-clause-frame g c = subst (λ (t : KnownTable). c.args.head < t.frames) (sym c.args.tables.now.frames_are) c.requires.frame
