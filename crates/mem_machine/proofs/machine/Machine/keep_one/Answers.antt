@@ -1,4 +1,5 @@
-use Rattle.std.proofs.Common.{◌≡◌, ◌<◌, rules, ap, refl}
+use Rattle.std.proofs.Common.{◌≡◌, ◌<◌, rules, ap, refl, sym, subst, ◌∙◌}
+use Rattle.frame_word.specs.Seats.{KnownSeat, KnownTable}
 use Rattle.cpu_part.specs.Cpus.{KnownCpu}
 use Rattle.mem_machine.proofs.Fresh.{keep_all, was_fresh, in_hand_then, may_collect_kept, may_unfreeze, may_publish, kept_notes}
 use Rattle.mem_machine.proofs.AtTable.{held_at, made_at}
@@ -78,3 +79,9 @@ collect_fresh-frame-requires-clause-visited g c =
 
 pub unfreeze-requires-clause-held : goal.unfreeze-requires-clause-held
 unfreeze-requires-clause-held g c = held_at _ _ c.args.tables.now.frames_are _ (held_collected _ _ _ _ _ c.collect_fresh-frame.ensures.run)
+
+pub unfreeze-requires-clause-table : goal.unfreeze-requires-clause-table
+unfreeze-requires-clause-table g c = ap (λ (s : KnownSeat). s.table) c.collect_fresh-frame.ensures.zone ∙ c.self.invariant.consistent.seats.frames.0 ∙ sym (ap (λ (t : KnownTable). t.table) c.args.tables.now.frames_are)
+
+pub unfreeze-requires-clause-frame : goal.unfreeze-requires-clause-frame
+unfreeze-requires-clause-frame g c = subst (λ (t : KnownTable). c.collect_fresh-frame.result < t.frames) (sym c.args.tables.now.frames_are) c.collect_fresh-frame.ensures.known.inside

@@ -1,4 +1,5 @@
-use Rattle.std.proofs.Common.{inl, refl, rules}
+use Rattle.std.proofs.Common.{◌<◌, ◌∙◌, ap, inl, refl, rules, sym, subst}
+use Rattle.frame_word.specs.Seats.{KnownTable}
 use Rattle.cpu_part.specs.Cpus.{KnownCpu}
 use Rattle.mem_machine.proofs.Freeing.{unit_in_use, unit_charged}
 use Rattle.step_rules.specs.declared.step.Action.TheVariants.{Put}
@@ -105,3 +106,9 @@ returns-in-Head g c =
       visit = λ cpu visit. visits_then _ _ _ _ visit.shown (makes cpu) refl (open_still _ _ _ _ (all.visit cpu visit));
       steps = makes;
     }
+
+pub put_held-requires-clause-table : goal.put_held-requires-clause-table
+put_held-requires-clause-table g c = c.self.invariant.consistent.seats.frames.0 ∙ sym (ap (λ (t : KnownTable). t.table) c.args.tables.now.frames_are)
+
+pub put_held-requires-clause-frame : goal.put_held-requires-clause-frame
+put_held-requires-clause-frame g c = subst (λ (t : KnownTable). c.args.head < t.frames) (sym c.args.tables.now.frames_are) c.requires.frame

@@ -1,6 +1,7 @@
 use Rattle.std.proofs.Common.{ℕ, ◌≤◌, ◌<◌, ◌^◌, ap, refl, sym, subst, ◌∙◌, rules, arith}
 use Rattle.group_tree.specs.Room.{IsLowestOver}
 use Rattle.group_charge.specs.Charges.{Ledger, current_of}
+use Rattle.frame_word.specs.Seats.{KnownTable}
 use Rattle.mem_machine.specs.Kept.{machine_of}
 use Rattle.mem_machine.specs.Machines.{IsConsistent, KnownMachine}
 use Rattle.mem_machine.specs.Local.{visit_state}
@@ -263,3 +264,9 @@ unfreeze-requires-clause-held g c = held_at _ _ c.args.tables.now.frames_are _ c
 
 pub publish-requires-clause-held : goal.publish-requires-clause-held
 publish-requires-clause-held g c = (made_at _ _ c.args.tables.now.frames_are 0 refl _ _ _ _ c.unfreeze.ensures.run).held
+
+pub unfreeze-requires-clause-table : goal.unfreeze-requires-clause-table
+unfreeze-requires-clause-table g c = c.self.invariant.consistent.seats.frames.0 ∙ sym (ap (λ (t : KnownTable). t.table) c.args.tables.now.frames_are)
+
+pub unfreeze-requires-clause-frame : goal.unfreeze-requires-clause-frame
+unfreeze-requires-clause-frame g c = c.in-Some-frame.ensures.1
