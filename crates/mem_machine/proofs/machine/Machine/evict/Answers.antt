@@ -1,4 +1,4 @@
-use Rattle.std.proofs.Common.{◌^◌, ◌<◌, ◌∙◌, ap, refl, sym, subst}
+use Rattle.std.proofs.Common.{◌^◌, ◌<◌, ◌∙◌, ap, refl, sym, subst, arith}
 use Rattle.frame_word.specs.Seats.{KnownTable}
 use Rattle.cpu_part.specs.Cpus.{KnownCpu}
 use Rattle.mem_machine.proofs.Freeing.{unit_in_use, unit_charged}
@@ -109,3 +109,10 @@ freeze-requires-clause-table g c = c.self.invariant.consistent.seats.frames.0 �
 
 pub freeze-requires-clause-frame : goal.freeze-requires-clause-frame
 freeze-requires-clause-frame g c = subst (λ (t : KnownTable). c.args.head < t.frames) (sym c.args.tables.now.frames_are) c.requires.frame
+
+pub index-requires : goal.index-requires
+index-requires g c =
+    let inside = c.requires.frame in
+    let same = c.number-at.ensures in
+    let sized = c.self.invariant.consistent.sizes.frame_states in
+    omega (arith, inside, same, sized)

@@ -1,4 +1,4 @@
-use Rattle.std.proofs.Common.{◌≡◌, ◌<◌, rules, ap, refl, sym, subst, ◌∙◌}
+use Rattle.std.proofs.Common.{◌≡◌, ◌<◌, rules, ap, refl, sym, subst, ◌∙◌, arith}
 use Rattle.frame_word.specs.Seats.{KnownSeat, KnownTable}
 use Rattle.cpu_part.specs.Cpus.{KnownCpu}
 use Rattle.mem_machine.proofs.Fresh.{keep_all, was_fresh, in_hand_then, may_collect_kept, may_unfreeze, may_publish, kept_notes}
@@ -85,3 +85,10 @@ unfreeze-requires-clause-table g c = ap (λ (s : KnownSeat). s.table) c.collect_
 
 pub unfreeze-requires-clause-frame : goal.unfreeze-requires-clause-frame
 unfreeze-requires-clause-frame g c = subst (λ (t : KnownTable). c.collect_fresh-frame.result < t.frames) (sym c.args.tables.now.frames_are) c.collect_fresh-frame.ensures.known.inside
+
+pub index_mut-requires : goal.index_mut-requires
+index_mut-requires g c =
+    let inside = c.collect_fresh-frame.ensures.known.inside in
+    let same = c.number-at.ensures in
+    let sized = c.self.invariant.consistent.sizes.frame_states in
+    omega (arith, inside, same, sized)

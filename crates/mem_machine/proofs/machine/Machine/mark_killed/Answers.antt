@@ -45,3 +45,9 @@ returns-clause-machine g c = λ i. record (c.self.view_is i) {
       ∙ ap (λ (m : KnownMachine). slice_set m.killed c.args.group true) c.self.view_is) i;
   run = record { past = c.make_step.new.past; watch = c.make_step.new.watch };
 }
+
+pub index_mut-requires : goal.index_mut-requires
+index_mut-requires g c =
+    let below = c.number.ensures.below in
+    let sized = c.self.invariant.consistent.sizes.killed in
+    omega (arith, below, sized)

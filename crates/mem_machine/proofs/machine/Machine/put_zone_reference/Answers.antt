@@ -1,4 +1,4 @@
-use Rattle.std.proofs.Common.{◌<◌, ◌∙◌, ap, inl, refl, rules, sym, subst}
+use Rattle.std.proofs.Common.{◌<◌, ◌∙◌, ap, inl, refl, rules, sym, subst, arith}
 use Rattle.frame_word.specs.Seats.{KnownTable}
 use Rattle.cpu_part.specs.Cpus.{KnownCpu}
 use Rattle.mem_machine.proofs.Freeing.{unit_in_use, unit_charged}
@@ -112,3 +112,10 @@ put_held-requires-clause-table g c = c.self.invariant.consistent.seats.frames.0 
 
 pub put_held-requires-clause-frame : goal.put_held-requires-clause-frame
 put_held-requires-clause-frame g c = subst (λ (t : KnownTable). c.args.head < t.frames) (sym c.args.tables.now.frames_are) c.requires.frame
+
+pub index-requires : goal.index-requires
+index-requires g c =
+    let inside = c.requires.frame in
+    let same = c.number-at.ensures in
+    let sized = c.self.invariant.consistent.sizes.frame_states in
+    omega (arith, inside, same, sized)

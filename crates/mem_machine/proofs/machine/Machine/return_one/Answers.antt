@@ -1,4 +1,4 @@
-use Rattle.std.proofs.Common.{◌<◌, rules, ap, sym, subst, ◌∙◌}
+use Rattle.std.proofs.Common.{◌<◌, rules, ap, sym, subst, ◌∙◌, arith}
 use Rattle.cpu_part.specs.Cpus.{KnownCpu}
 use Rattle.frame_word.specs.Views.{collected_from}
 use Rattle.frame_word.specs.Seats.{KnownSeat, IsOpen, IsZoneSeat, seat_with}
@@ -128,3 +128,10 @@ collect-requires-clause-zone g c = subst (IsZoneSeat g.N.BootName.frames) (sym c
 
 pub collect-requires-clause-frame : goal.collect-requires-clause-frame
 collect-requires-clause-frame g c = c.in-Some.ensures.frame
+
+pub index-requires : goal.index-requires
+index-requires g c =
+    let inside = c.in-Some.ensures.frame in
+    let same = c.number-at.ensures in
+    let sized = c.self.invariant.consistent.sizes.frame_states in
+    omega (arith, inside, same, sized)
