@@ -1,4 +1,5 @@
-use Rattle.std.proofs.Common.{ℕ, refl, sym, ap, ◌∙◌, [], ◌∷◌, subst, rules}
+use Rattle.std.proofs.Common.{ℕ, refl, sym, ap, ◌∙◌, [], ◌∷◌, subst, rules, IsTrue, ◌+◌, ◌<◌, ◌^◌}
+use Rattle.group_tree.specs.Groups.{has_group}
 use Rattle.group_tree.specs.Room.{IsLowestOver}
 use Rattle.group_charge.specs.Charges.{Ledger, current_of}
 use Rattle.cpu_part.specs.Cpus.{KnownCpu}
@@ -120,3 +121,9 @@ returns-clause-fills g c = search rules
 
 pub returns-clause-over : goal.returns-clause-over
 returns-clause-over g c = search rules
+
+pub try_charge-requires-clause-there : goal.try_charge-requires-clause-there
+try_charge-requires-clause-there g c = subst (λ (m : KnownMachine). IsTrue (has_group m.ledger.groups c.args.group)) (sym c.self.view_is) c.requires.charges.there
+
+pub try_charge-requires-clause-fits : goal.try_charge-requires-clause-fits
+try_charge-requires-clause-fits g c = subst (λ (m : KnownMachine). current_of m.ledger 0 + c.args.pages < 2 ^ 32) (sym c.self.view_is) c.requires.charges.fits

@@ -1,4 +1,4 @@
-use Rattle.std.proofs.Common.{◌≡◌, ℕ, ◌<◌, ap, sym, subst, ◌∙◌}
+use Rattle.std.proofs.Common.{◌≡◌, ℕ, ◌<◌, ap, sym, subst, ◌∙◌, arith, ◌≤◌}
 use Rattle.frame_word.specs.Seats.{KnownTable, IsOpen, IsZoneSeat}
 use Rattle.mem_machine.specs.declared.frame_state.FrameState.TheVariants.{Free}
 use Rattle.mem_machine.specs.FrameStates.{frame_state_at}
@@ -85,3 +85,17 @@ pass_out-requires-clause-open g c =
 
 pub take_in-requires-clause-frame : goal.take_in-requires-clause-frame
 take_in-requires-clause-frame g c = c.requires.frame
+
+pub pass_out-requires-clause-cpu : goal.pass_out-requires-clause-cpu
+pass_out-requires-clause-cpu g c =
+    let number = c.number-cpu_number.ensures.number in
+    let some = c.number-cpu_number.ensures.tied.seats.some_number in
+    let most = c.number-cpu_number.ensures.tied.seats.frame_cpus in
+    (omega (arith, number, some), subst (λ (t : KnownTable). c.number-cpu_number.result ≤ t.cpus) (sym c.args.tables.now.frames_are) (omega (arith, number, most)))
+
+pub index_mut-requires : goal.index_mut-requires
+index_mut-requires g c =
+    let inside : c.args.frame < g.N.BootName.frames.frames = c.requires.frame in
+    let same = c.number-given.ensures in
+    let sized = c.self.invariant.consistent.sizes.frame_states in
+    omega (arith, inside, same, sized)

@@ -113,3 +113,17 @@ pass_out-requires-clause-open g c =
 
 pub take_in-requires-clause-frame : goal.take_in-requires-clause-frame
 take_in-requires-clause-frame g c = subst (λ (t : KnownTable). c.in-Some-frame.frame < t.frames) c.args.tables.now.frames_are c.in-Some-frame.ensures.1
+
+pub pass_out-requires-clause-cpu : goal.pass_out-requires-clause-cpu
+pass_out-requires-clause-cpu g c =
+    let number = c.number-cpu_number.ensures.number in
+    let some = c.number-cpu_number.ensures.tied.seats.some_number in
+    let most = c.number-cpu_number.ensures.tied.seats.frame_cpus in
+    (omega (arith, number, some), subst (λ (t : KnownTable). c.number-cpu_number.result ≤ t.cpus) (sym c.args.tables.now.frames_are) (omega (arith, number, most)))
+
+pub index_mut-requires : goal.index_mut-requires
+index_mut-requires g c =
+    let inside : c.in-Some-frame.frame < g.N.BootName.frames.frames = subst (λ (t : KnownTable). c.in-Some-frame.frame < t.frames) c.args.tables.now.frames_are c.in-Some-frame.ensures.1 in
+    let same = c.number-at.ensures in
+    let sized = c.self.invariant.consistent.sizes.frame_states in
+    omega (arith, inside, same, sized)

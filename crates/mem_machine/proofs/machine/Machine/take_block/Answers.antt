@@ -1,4 +1,5 @@
-use Rattle.std.proofs.Common.{ℕ, ◌≤◌, ◌<◌, ◌^◌, ap, refl, sym, subst, ◌∙◌, rules, arith}
+use Rattle.std.proofs.Common.{ℕ, ◌≤◌, ◌<◌, ◌^◌, ap, refl, sym, subst, ◌∙◌, rules, arith, IsTrue, ◌+◌}
+use Rattle.group_tree.specs.Groups.{has_group}
 use Rattle.group_tree.specs.Room.{IsLowestOver}
 use Rattle.group_charge.specs.Charges.{Ledger, current_of}
 use Rattle.frame_word.specs.Seats.{KnownTable}
@@ -270,3 +271,10 @@ unfreeze-requires-clause-table g c = c.self.invariant.consistent.seats.frames.0 
 
 pub unfreeze-requires-clause-frame : goal.unfreeze-requires-clause-frame
 unfreeze-requires-clause-frame g c = c.in-Some-frame.ensures.1
+
+pub try_charge-requires-clause-there : goal.try_charge-requires-clause-there
+try_charge-requires-clause-there g c = subst (λ (m : KnownMachine). IsTrue (has_group m.ledger.groups c.args.group)) (sym c.self.view_is) c.requires.charges.there
+
+pub try_charge-requires-clause-fits : goal.try_charge-requires-clause-fits
+try_charge-requires-clause-fits g c =
+    subst (λ (x : KnownMachine × ℕ). current_of x.0.ledger 0 + x.1 < 2 ^ 32) (λ i. (sym c.self.view_is i, sym c.frames-pages.ensures.frames i)) c.requires.charges.fits
