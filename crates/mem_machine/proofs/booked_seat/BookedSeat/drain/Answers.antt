@@ -1,4 +1,5 @@
 use Rattle.std.proofs.Common.{◌≡◌, ℕ, ◌≤◌, Option, Some, refl, sym, ap, subst, ◌∙◌}
+use Rattle.frame_word.specs.Seats.{KnownTable}
 use Rattle.stock_word.specs.Stock.{KnownStockSeat, account_of}
 use Rattle.stock_word.specs.Kinds.{with_steps, zone_after_drain}
 use Rattle.stock_word.specs.Calls.{steps_of_drain, with_view}
@@ -42,3 +43,7 @@ returns-clause-run g c = made_at _ _ c.args.tables.now.frames_are 0 refl _ _ _ _
 
 pub returns-clause-booked : goal.returns-clause-booked
 returns-clause-booked g c = subst (λ (x : KnownStockSeat). c.drain-pages.result ≤ (account_of x.view c.args.cpu).book) c.self.view_is c.drain-pages.ensures.booked
+
+pub drain-pages-requires-clause-cpu : goal.drain-pages-requires-clause-cpu
+drain-pages-requires-clause-cpu g c =
+    (c.requires.cpu.0, subst (λ (t : KnownTable). c.args.cpu ≤ t.cpus) (sym c.args.tables.now.frames_are) c.requires.cpu.1)

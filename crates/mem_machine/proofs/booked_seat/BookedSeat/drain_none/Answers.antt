@@ -1,4 +1,5 @@
-use Rattle.std.proofs.Common.{◌≡◌, ℕ, None, refl, ap, ◌∙◌, subst}
+use Rattle.std.proofs.Common.{◌≡◌, ℕ, None, refl, ap, ◌∙◌, subst, sym, ◌≤◌}
+use Rattle.frame_word.specs.Seats.{KnownTable}
 use Rattle.stock_word.specs.Stock.{KnownStockSeat, account_of}
 use Rattle.stock_word.specs.Kinds.{with_steps, zone_after_drain}
 use Rattle.stock_word.specs.Calls.{steps_of_drain, with_view}
@@ -40,3 +41,7 @@ drain-requires-clause-held g c = held_at _ _ c.args.tables.now.frames_are _ c.re
 
 pub drain-requires-clause-legal : goal.drain-requires-clause-legal
 drain-requires-clause-legal g c = may_at _ _ c.args.tables.now.frames_are 0 refl c.args.held.now (step.DrainStock c.args.cpu) c.requires.legal
+
+pub drain-requires-clause-cpu : goal.drain-requires-clause-cpu
+drain-requires-clause-cpu g c =
+    (c.requires.cpu.0, subst (λ (t : KnownTable). c.args.cpu ≤ t.cpus) (sym c.args.tables.now.frames_are) c.requires.cpu.1)

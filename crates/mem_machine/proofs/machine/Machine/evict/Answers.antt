@@ -5,7 +5,7 @@ use Rattle.mem_machine.proofs.Freeing.{unit_in_use, unit_charged}
 use Rattle.step_rules.specs.declared.step.Action.TheVariants.{Freeze}
 use Rattle.step_rules.specs.declared.step.Answer.TheVariants.{Done, Missed}
 use Rattle.mem_machine.proofs.Releases.{notes_back, notes_of_zone, read_head, return_may}
-use Rattle.mem_machine.proofs.Evicts.{evicted_all, freeze_may, missed_all}
+use Rattle.mem_machine.proofs.Evicts.{evicted_all, freeze_may, kept_held, missed_all}
 use Rattle.mem_machine.proofs.AtTable.{held_at, made_at, may_at}
 use Rattle.mem_machine.proofs.Followed.{makes_noted}
 use Rattle.mem_machine.proofs.Reached.{held_here, may_lead_all}
@@ -116,3 +116,8 @@ index-requires g c =
     let same = c.number-at.ensures in
     let sized = c.self.invariant.consistent.sizes.frame_states in
     omega (arith, inside, same, sized)
+
+pub freeze-requires-clause-count : goal.freeze-requires-clause-count
+freeze-requires-clause-count g c =
+    let one = kept_held g.N.BootName.frames g.N.BootName.stocks _ _ c.self.view_is c.self.invariant.consistent c.args.head c.requires.frame c.requires.kept in
+    (omega arith, omega (arith, one))

@@ -6,6 +6,7 @@ use Rattle.step_rules.specs.declared.step.Action.TheVariants.{Put}
 use Rattle.step_rules.specs.declared.step.Answer.TheVariants.{Last, Left}
 use Rattle.mem_machine.proofs.Releases.{left_all, notes_back, notes_of_zone, put_may, read_head, return_may, returned_all}
 use Rattle.mem_machine.proofs.AtTable.{held_at, made_at, may_at}
+use Rattle.mem_machine.proofs.Evicts.{kept_held}
 use Rattle.mem_machine.proofs.Followed.{makes_noted}
 use Rattle.mem_machine.proofs.Reached.{held_here, may_lead_all}
 use Rattle.mem_machine.proofs.Watched.{consistent_still, open_still, returned_still, visits_then}
@@ -119,3 +120,8 @@ index-requires g c =
     let same = c.number-at.ensures in
     let sized = c.self.invariant.consistent.sizes.frame_states in
     omega (arith, inside, same, sized)
+
+pub put_held-requires-clause-reference : goal.put_held-requires-clause-reference
+put_held-requires-clause-reference g c =
+    let one = kept_held g.N.BootName.frames g.N.BootName.stocks _ _ c.self.view_is c.self.invariant.consistent c.args.head c.requires.frame c.requires.kept in
+    omega (arith, one)
