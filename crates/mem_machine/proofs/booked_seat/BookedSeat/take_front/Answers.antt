@@ -3,7 +3,6 @@ use Rattle.stock_word.specs.Stock.{KnownStockSeat, account_of, stocked}
 use Rattle.step_rules.specs.declared.step.Action.TheVariants.{Consume}
 use Rattle.step_rules.specs.declared.step.Answer.TheVariants.{Took}
 use Rattle.boot_words.specs.Pasts.{MakesStep, MayMake}
-use Rattle.cpu_part.specs.Calls.{TakesFront}
 use Rattle.mem_machine.proofs.booked_seat.BookedSeat.take_front.Goals as goal
 
 pub take_front-requires-clause-held : goal.take_front-requires-clause-held

@@ -1,4 +1,4 @@
-use Rattle.std.proofs.Common.{◌<◌, rules, ap, sym, subst, ◌∙◌, arith}
+use Rattle.std.proofs.Common.{◌<◌, ap, sym, subst, ◌∙◌, arith}
 use Rattle.cpu_part.specs.Cpus.{KnownCpu}
 use Rattle.frame_word.specs.Views.{collected_from}
 use Rattle.frame_word.specs.Seats.{KnownSeat, IsOpen, IsZoneSeat, seat_with}
