@@ -26,6 +26,7 @@ use Rattle.step_rules.proofs.Basics.{at_each}
 use Rattle.mem_machine.specs.declared.counts.Counts.{Counts}
 use Rattle.mem_machine.specs.Counting.{counts_after}
 use Rattle.mem_machine.specs.Machines.{KnownMachine, is_killed, AddsGroup}
+use Rattle.mem_machine.specs.Noted.{KnownRun}
 use Rattle.mem_machine.specs.Local.{local_of, visit_state, IsLocalRun, MakesAs, Visits}
 use Rattle.mem_machine.specs.Steps.{zone_makes, kill_steps, note_max_steps, note_oom_steps, note_group_kill_steps, set_max_steps, set_oom_group_steps, make_steps, remove_steps}
 use Rattle.mem_machine.proofs.Reaching.{zone_step, run_one}
@@ -205,3 +206,8 @@ still_visited t m now same n seat c steps visit makes =
     visits_then t (visit_state now c) (visit_state n c) steps visit.shown makes refl
     (subst (λ (x : KnownSeat). HasOpenVisit t (visit_state (record n { frame_seat = x }) c)) (sym (seat ∙ ap (λ (k : KnownMachine). k.frame_seat) same))
     (record { is_open = visit.is_open; still = visit.still; lent = visit.lent }))
+
+-- only the groups and the run are others, where the call did this to the groups
+pub ledger_is : (m now : KnownMachine) → m ≡ now → (does : Ledger → Ledger) (ledger : Ledger) → ledger ≡ does m.ledger → (run : KnownRun)
+    → record m { ledger = ledger; run = run } ≡ record now { ledger = does now.ledger; run = run }
+ledger_is m now same does ledger is run = λ i. record (same i) { ledger = (is ∙ ap (λ (x : KnownMachine). does x.ledger) same) i; run = run }

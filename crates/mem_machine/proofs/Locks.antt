@@ -17,7 +17,8 @@ use Rattle.step_rules.proofs.Sound.{IsSound}
 use Rattle.boot_words.specs.Hidden.{hide}
 use Rattle.boot_words.specs.Sight.{HasSameLists}
 use Rattle.boot_words.specs.Seats.{zone_of_boot}
-use Rattle.boot_words.specs.Pasts.{KnownPasts, Locks, MayMake, Meets, Unlocks, cpu_past, own_past}
+use Rattle.boot_words.specs.Locks.{LeavesFree}
+use Rattle.boot_words.specs.Pasts.{KnownPasts, IsZonePast, Locks, MayMake, Meets, Unlocks, cpu_past, own_past}
 use Rattle.boot_words.proofs.Away.{away_stays}
 use Rattle.boot_words.proofs.Holding.{take_length}
 use Rattle.boot_words.proofs.Owning.{lists_are_own}
@@ -28,6 +29,13 @@ use Rattle.mem_machine.specs.Machines.{KnownMachine, visit_state, with_past}
 use Rattle.mem_machine.specs.Local.{IsSeenByRun, local_of}
 use Rattle.mem_machine.specs.Resting.{Rests, hidden_of}
 use Rattle.mem_machine.proofs.Seen.{group_here, hidden_here, may_unlock, part_here, references_here, shown_here}
+
+-- the zone's past is one, and leaves the lock free, also by the table that the call is given
+pub rests_at : (t u : KnownTable) → u ≡ t → (m now : KnownMachine) → m ≡ now → Rests t now
+    → IsZonePast u m.run.past × LeavesFree (zone_of_boot u) (own_past m.run.past)
+rests_at t u words m now same rests =
+    subst (λ (x : KnownTable × KnownMachine). IsZonePast x.0 x.1.run.past × LeavesFree (zone_of_boot x.0) (own_past x.1.run.past))
+    (λ i. (sym words i, sym same i)) (rests.past_is, rests.free)
 
 -- the CPU takes the lock
 module _ (t : KnownTable) (w : KnownStockTable) (m : KnownMachine) (c : KnownCpu) (past later : KnownPasts)

@@ -10,18 +10,17 @@ use crate::frame_state::FrameState;
 use crate::lists::join_list;
 use crate::machine::Machine;
 use crate::proving::{prove_charges, prove_tied};
-use crate::stepping::make_step;
+use crate::stepping;
 use cpu_part::{BootName, Cpu, Tables};
 use frame_word::Frame;
 use group_charge::charges::Over;
 use group_tree::group::GroupId;
 use step_rules::phase::ChargedUnit;
-use step_rules::step::{Action, Answer};
 use zone_blocks::block::Block;
 use zone_blocks::order::Order;
 
 /// Why no block was taken.
-#[derive(Clone, Copy, Debug, PartialEq, Eq)]
+#[derive(Clone, Copy)]
 pub enum TakeFault {
     /// A limit has no room for the block. It names the lowest such group.
     Over(Over),
@@ -71,39 +70,15 @@ impl<N: BootName> Machine<N> {
         prove_tied(cpu);
         prove_charges(&self.charges);
         if let Err(over) = self.charges.try_charge(group, pages) {
-            let lowest = over.group;
-            make_step(
-                tables,
-                &mut self.past,
-                &mut self.watch,
-                Action::Grant { group, pages },
-                Answer::Over(lowest),
-            );
+            let full = over.group;
+            stepping::refuse(tables, &mut self.past, &mut self.watch, group, pages, full);
             return Err(TakeFault::Over(over));
         }
-        make_step(
-            tables,
-            &mut self.past,
-            &mut self.watch,
-            Action::Grant { group, pages },
-            Answer::Granted,
-        );
+        stepping::grant(tables, &mut self.past, &mut self.watch, group, pages);
         let Some(block) = self.zone.take(order) else {
-            make_step(
-                tables,
-                &mut self.past,
-                &mut self.watch,
-                Action::PlaceBlock { group, order },
-                Answer::NoFreeBlock,
-            );
+            stepping::find_no_block(tables, &mut self.past, &mut self.watch, group, order);
             self.charges.uncharge(group, pages);
-            make_step(
-                tables,
-                &mut self.past,
-                &mut self.watch,
-                Action::Ungrant { group, pages },
-                Answer::Done,
-            );
+            stepping::ungrant(tables, &mut self.past, &mut self.watch, group, pages);
             return Err(TakeFault::NoBlock);
         };
         let Some(head) = tables.words.frame(block.at) else {
@@ -111,25 +86,13 @@ impl<N: BootName> Machine<N> {
         };
         let at = head.number();
         place_unit(&mut self.frame_states, block, group);
-        make_step(
-            tables,
-            &mut self.past,
-            &mut self.watch,
-            Action::PlaceBlock { group, order },
-            Answer::Placed(Block { at, order }),
-        );
+        stepping::place(tables, &mut self.past, &mut self.watch, group, order, at);
         tables
             .words
             .unfreeze(&mut self.past, &mut self.frame_seat, head, 1);
         self.watch.unfroze(at, 1);
         join_list(&mut self.links, &mut self.lists, group, at);
-        make_step(
-            tables,
-            &mut self.past,
-            &mut self.watch,
-            Action::Publish { frame: at },
-            Answer::Done,
-        );
+        stepping::publish(tables, &mut self.past, &mut self.watch, at);
         Ok(head)
     }
 }

@@ -5,7 +5,7 @@ ghost use Rattle.mem_machine.specs.Counts.{with_last_put, with_freeze, with_kill
 
 /// How many units ended, were freed, or were missed since the boot. A count stays at 2^64 - 1. The returns are the last
 /// puts, freezes and killed fresh frames together, or 2^64 - 1 if that is less.
-#[derive(Clone, Copy, Debug, PartialEq, Eq)]
+#[derive(Clone, Copy)]
 pub struct Counts {
     /// The last puts: those of the zone itself, and those of CPUs, counted when the CPU is settled.
     pub last_puts: u64,

@@ -10,10 +10,9 @@ use crate::frame_state::FrameState;
 use crate::freed::free_unit;
 use crate::lists::leave_list;
 use crate::machine::Machine;
-use crate::stepping::make_step;
+use crate::stepping;
 use cpu_part::{BootName, Tables};
 use frame_word::Frame;
-use step_rules::step::{Action, Answer};
 
 impl<N: BootName> Machine<N> {
     /// Tries to take a kept unit out of use. If the zone's reference is the only one, nobody can get the unit any more:
@@ -50,13 +49,7 @@ impl<N: BootName> Machine<N> {
             at,
             unit,
         );
-        make_step(
-            tables,
-            &mut self.past,
-            &mut self.watch,
-            Action::Return { frame: at },
-            Answer::Done,
-        );
+        stepping::return_unit(tables, &mut self.past, &mut self.watch, at);
         self.counts = self.counts.with_freeze();
         let pages = order.frames();
         self.notes.note_unit(group, at, pages);

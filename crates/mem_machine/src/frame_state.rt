@@ -5,10 +5,11 @@ ghost use Rattle.mem_machine.specs.FrameStates.{place_of};
 
 use group_tree::group::GroupId;
 use step_rules::phase::ChargedUnit;
+use zone_blocks::order::Order;
 
 /// The record of one frame: what the machine uses it for. There is one for each frame, so it takes only 3 bytes: one
 /// each for the variant, the CPU or the group, and the order.
-#[derive(Clone, Copy, PartialEq, Eq)]
+#[derive(Clone, Copy)]
 pub enum FrameState {
     /// In the zone's free areas.
     Free,
@@ -21,7 +22,7 @@ pub enum FrameState {
 }
 
 /// Where a frame is, for callers that don't need the head of its unit.
-#[derive(Clone, Copy, Debug, PartialEq, Eq)]
+#[derive(Clone, Copy)]
 pub enum Place {
     /// In the zone's free areas.
     Free,
@@ -43,4 +44,12 @@ impl FrameState {
             FrameState::Tail(group) => Place::Charged(group),
         }
     }
+}
+
+/// The order of a single frame.
+#[inline(always)]
+pub(crate) fn single_order() -> Order
+    ensures { result ≡ 0 }
+{
+    Order::of(0).unwrap()
 }

@@ -10,13 +10,12 @@ ghost use Rattle.mem_machine.specs.Lending.{UnlistsIfListed, UnlistsMany, unlist
 ghost use Rattle.mem_machine.specs.Local.{Makes, visit_state};
 ghost use Rattle.mem_machine.specs.Steps.{lend_steps};
 
-use crate::frame_state::FrameState;
+use crate::frame_state::{FrameState, single_order};
 use crate::machine::Machine;
 use crate::proving::prove_sizes;
 use cpu_part::{BootName, Cpu, Tables};
 use frame_word::Frame;
 use zone_blocks::block::Block;
-use zone_blocks::order::Order;
 
 impl<N: BootName> Machine<N> {
     // Lends one free frame to the CPU, if there is one, at the end of its list.
@@ -28,7 +27,7 @@ impl<N: BootName> Machine<N> {
     {
         let cpu_number = cpu.number();
         prove_sizes(tables); // A CPU's number fits a byte.
-        let Some(block) = self.zone.take(Order::of(0).unwrap()) else {
+        let Some(block) = self.zone.take(single_order()) else {
             return false;
         };
         let Some(frame) = tables.words.frame(block.at) else {
@@ -106,7 +105,7 @@ impl<N: BootName> Machine<N> {
         self.frame_states[at as usize] = FrameState::Free;
         self.zone.give(Block {
             at,
-            order: Order::of(0).unwrap(),
+            order: single_order(),
         });
         true
     }

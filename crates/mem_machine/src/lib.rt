@@ -1,5 +1,5 @@
 //! All that lies behind the zone's lock: the free areas, one record for each frame, the groups with their charges and
-//! lists of kept units, and the zone's seats at the two tables. Each call is a list of steps of the rules
+//! lists of kept units, and the zone's two seats at the table. Each call is a list of steps of the rules
 //! (`step_rules`).
 //!
 //! Contracts name the machine's two seats. A seat is the right to make steps at a table, and other CPUs see a call only

@@ -56,7 +56,6 @@ impl<N: BootName> Machine<N> {
         ensures knows { KnowsItsPart N.frames past.new cpu.now }
         ensures meets { Meets N.frames self.old.run.past past.old self.new.run.past past.new }
     {
-        prove_tied(cpu);
         tables.words.meet(&mut self.past, past);
     }
 }

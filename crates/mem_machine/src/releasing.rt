@@ -10,13 +10,12 @@ use crate::frame_state::FrameState;
 use crate::freed::free_unit;
 use crate::lists::leave_list;
 use crate::machine::Machine;
-use crate::stepping::make_step;
+use crate::stepping;
 use cpu_part::{BootName, Cpu, Tables};
 use frame_word::{Frame, Put};
-use step_rules::step::{Action, Answer};
 
 /// What a release left.
-#[derive(Clone, Copy, Debug, PartialEq, Eq)]
+#[derive(Clone, Copy)]
 pub enum Released {
     /// This many references of CPUs are left. The unit stays charged and isn't kept any more. After a CPU puts the last
     /// reference, the unit is freed when that CPU is settled.
@@ -58,13 +57,7 @@ impl<N: BootName> Machine<N> {
                     at,
                     unit,
                 );
-                make_step(
-                    tables,
-                    &mut self.past,
-                    &mut self.watch,
-                    Action::Return { frame: at },
-                    Answer::Done,
-                );
+                stepping::return_unit(tables, &mut self.past, &mut self.watch, at);
                 self.counts = self.counts.with_last_put();
                 Released::Returned
             }

@@ -11,18 +11,16 @@ ghost use Rattle.mem_machine.specs.Settling.{MakesFreshSteps, MakesReturnSteps, 
 ghost use Rattle.mem_machine.specs.Settling.{all_fresh_steps, collect_steps, return_all_steps, settle_steps};
 ghost use Rattle.step_watch.specs.Watched.{Watches};
 
-use crate::frame_state::FrameState;
+use crate::frame_state::{FrameState, single_order};
 use crate::freed::free_unit;
 use crate::lists::join_list;
 use crate::machine::Machine;
-use crate::stepping::make_step;
+use crate::stepping;
 use cpu_part::{BootName, Cpu, Tables};
 use frame_word::Frame;
 use group_tree::group::GroupId;
 use step_rules::phase::ChargedUnit;
-use step_rules::step::{Action, Answer};
 use step_watch::Watch;
-use zone_blocks::order::Order;
 
 // The watch takes the steps by which the zone took over a fresh frame of the CPU.
 fn watch_collected(watch: &mut Watch, cpu: u32, frame: u32)
@@ -55,16 +53,10 @@ impl<N: BootName> Machine<N> {
             .words
             .unfreeze(&mut self.past, &mut self.frame_seat, frame, 1);
         self.watch.unfroze(at, 1);
-        let order = Order::of(0).unwrap();
+        let order = single_order();
         self.frame_states[at as usize] = FrameState::Head(ChargedUnit { group, order });
         join_list(&mut self.links, &mut self.lists, group, at);
-        make_step(
-            tables,
-            &mut self.past,
-            &mut self.watch,
-            Action::Publish { frame: at },
-            Answer::Done,
-        );
+        stepping::publish(tables, &mut self.past, &mut self.watch, at);
         frame
     }
 
@@ -85,7 +77,7 @@ impl<N: BootName> Machine<N> {
             .collect_fresh(tables, cpu, &mut self.past, &mut self.frame_seat, group);
         let at = frame.number();
         watch_collected(&mut self.watch, cpu_number, at);
-        let order = Order::of(0).unwrap();
+        let order = single_order();
         let unit = ChargedUnit { group, order };
         free_unit(
             &mut self.zone,
@@ -94,13 +86,7 @@ impl<N: BootName> Machine<N> {
             at,
             unit,
         );
-        make_step(
-            tables,
-            &mut self.past,
-            &mut self.watch,
-            Action::Return { frame: at },
-            Answer::Done,
-        );
+        stepping::return_unit(tables, &mut self.past, &mut self.watch, at);
         self.counts = self.counts.with_killed_fresh();
         frame
     }
@@ -130,13 +116,7 @@ impl<N: BootName> Machine<N> {
             at,
             unit,
         );
-        make_step(
-            tables,
-            &mut self.past,
-            &mut self.watch,
-            Action::Return { frame: at },
-            Answer::Done,
-        );
+        stepping::return_unit(tables, &mut self.past, &mut self.watch, at);
         self.counts = self.counts.with_last_put();
         Some(frame)
     }

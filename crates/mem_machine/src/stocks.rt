@@ -14,13 +14,12 @@ ghost use Rattle.mem_machine.specs.Steps.{drain_steps, fill_steps};
 
 use crate::machine::Machine;
 use crate::proving::{prove_charges, prove_groups};
-use crate::stepping::make_step;
+use crate::stepping;
 use cpu_part::{BootName, Cpu, Tables};
 use group_charge::charges::Over;
 use group_charge::note::Note;
 use group_tree::group::GroupId;
 use group_tree::tree::Tree;
-use step_rules::step::{Action, Answer};
 
 // Whether `other` is `group` or a descendant of it. Another group that is no deeper is neither, and most stocks are of
 // such a group: the depths spare the walk up from it.
@@ -56,13 +55,7 @@ impl<N: BootName> Machine<N> {
         self.watch.drained(cpu, pages as u128);
         if pages > 0 {
             self.charges.uncharge(group, pages);
-            make_step(
-                tables,
-                &mut self.past,
-                &mut self.watch,
-                Action::Ungrant { group, pages },
-                Answer::Done,
-            );
+            stepping::ungrant(tables, &mut self.past, &mut self.watch, group, pages);
         }
         pages
     }
@@ -205,23 +198,11 @@ impl<N: BootName> Machine<N> {
         let cpu_number = cpu.number();
         prove_charges(&self.charges);
         if let Err(over) = self.charges.try_charge(group, pages) {
-            let lowest = over.group;
-            make_step(
-                tables,
-                &mut self.past,
-                &mut self.watch,
-                Action::Grant { group, pages },
-                Answer::Over(lowest),
-            );
+            let full = over.group;
+            stepping::refuse(tables, &mut self.past, &mut self.watch, group, pages, full);
             return Err(over);
         }
-        make_step(
-            tables,
-            &mut self.past,
-            &mut self.watch,
-            Action::Grant { group, pages },
-            Answer::Granted,
-        );
+        stepping::grant(tables, &mut self.past, &mut self.watch, group, pages);
         self.stock_seat
             .fill(tables, cpu, &mut self.past, group, pages);
         self.watch.filled(cpu_number, group, pages);

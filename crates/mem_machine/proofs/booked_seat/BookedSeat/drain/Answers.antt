@@ -1,7 +1,10 @@
-use Rattle.std.proofs.Common.{◌≡◌, ℕ, Option, Some, refl, sym, ap, ◌∙◌}
+use Rattle.std.proofs.Common.{◌≡◌, ℕ, ◌≤◌, Option, Some, refl, sym, ap, subst, ◌∙◌}
+use Rattle.frame_word.specs.Seats.{KnownTable}
 use Rattle.stock_word.specs.Stock.{KnownStockSeat, account_of}
 use Rattle.stock_word.specs.Kinds.{with_steps, zone_after_drain}
 use Rattle.stock_word.specs.Calls.{steps_of_drain, with_view}
+use Rattle.step_rules.specs.declared.step.Action.TheVariants.{DrainStock}
+use Rattle.mem_machine.proofs.AtTable.{held_at, made_at, may_at}
 use Rattle.mem_machine.proofs.Booking.{after_drain, within_count}
 use Rattle.mem_machine.proofs.booked_seat.BookedSeat.drain.Goals as goal
 
@@ -28,3 +31,19 @@ returns-clause-seat g c =
     c.drain-pages.ensures.zone
     ∙ ap (λ (o : Option ℕ). with_view c.self.inside.seat (with_steps (steps_of_drain o) (zone_after_drain c.self.inside.seat.view c.args.cpu c.drain-pages.result))) group
     ∙ ap (λ (x : KnownStockSeat). with_view x (with_steps 2 (zone_after_drain x.view c.args.cpu c.drain-pages.result))) c.self.view_is
+
+pub drain-pages-requires-clause-held : goal.drain-pages-requires-clause-held
+drain-pages-requires-clause-held g c = held_at _ _ c.args.tables.now.frames_are _ c.requires.held
+
+pub drain-pages-requires-clause-legal : goal.drain-pages-requires-clause-legal
+drain-pages-requires-clause-legal g c = may_at _ _ c.args.tables.now.frames_are 0 refl c.args.held.now (DrainStock c.args.cpu) c.requires.legal
+
+pub returns-clause-run : goal.returns-clause-run
+returns-clause-run g c = made_at _ _ c.args.tables.now.frames_are 0 refl _ _ _ _ c.drain-pages.ensures.run
+
+pub returns-clause-booked : goal.returns-clause-booked
+returns-clause-booked g c = subst (λ (x : KnownStockSeat). c.drain-pages.result ≤ (account_of x.view c.args.cpu).book) c.self.view_is c.drain-pages.ensures.booked
+
+pub drain-pages-requires-clause-cpu : goal.drain-pages-requires-clause-cpu
+drain-pages-requires-clause-cpu g c =
+    (c.requires.cpu.0, subst (λ (t : KnownTable). c.args.cpu ≤ t.cpus) (sym c.args.tables.now.frames_are) c.requires.cpu.1)

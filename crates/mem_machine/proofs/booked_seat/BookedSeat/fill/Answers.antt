@@ -1,6 +1,36 @@
-use Rattle.std.proofs.Common.{refl}
+use Rattle.std.proofs.Common.{ℕ, ◌∙◌, ap, refl, sym, subst}
+use Rattle.stock_word.specs.Stock.{KnownStockSeat, account_of}
+use Rattle.step_rules.specs.declared.step.Action.TheVariants.{Fill}
+use Rattle.step_rules.specs.declared.step.Answer.TheVariants.{Done}
+use Rattle.boot_words.specs.Pasts.{MakesStep, MayMake}
 use Rattle.mem_machine.proofs.Booking.{after_fill}
 use Rattle.mem_machine.proofs.booked_seat.BookedSeat.fill.Goals as goal
+
+pub fill-requires-clause-held : goal.fill-requires-clause-held
+fill-requires-clause-held g c = c.requires.held
+
+pub fill-requires-clause-holder : goal.fill-requires-clause-holder
+fill-requires-clause-holder g c = c.requires.holder
+
+pub fill-requires-clause-legal : goal.fill-requires-clause-legal
+fill-requires-clause-legal g c =
+    subst (λ (n : ℕ). MayMake g.N.BootName.frames c.args.held.now 0 (Fill c.args.cpu.now.number n c.args.pages)) (sym c.number-owner.ensures.value) c.requires.legal
+
+pub fill-requires-clause-drained : goal.fill-requires-clause-drained
+fill-requires-clause-drained g c = ap (λ (s : KnownStockSeat). (account_of s.view c.args.cpu.now.number).filled) c.self.view_is ∙ c.requires.drained
+
+pub fill-requires-clause-settled : goal.fill-requires-clause-settled
+fill-requires-clause-settled g c =
+    (c.requires.none_fresh, ap (λ (s : KnownStockSeat). (account_of s.view c.args.cpu.now.number).unabsorbed) c.self.view_is ∙ c.requires.absorbed)
+
+pub returns-clause-run : goal.returns-clause-run
+returns-clause-run g c =
+    subst (λ (n : ℕ). MakesStep g.N.BootName.frames c.args.held.now 0 (Fill c.args.cpu.now.number n c.args.pages) Done c.fill.new.held) c.number-owner.ensures.value
+    c.fill.ensures.run
+
+pub returns-clause-nothing_booked : goal.returns-clause-nothing_booked
+returns-clause-nothing_booked g c =
+    sym (ap (λ (s : KnownStockSeat). (account_of s.view c.args.cpu.now.number).book) c.self.view_is) ∙ c.fill.ensures.nothing_booked
 
 pub invariant_of-self : goal.invariant_of-self
 invariant_of-self g c =

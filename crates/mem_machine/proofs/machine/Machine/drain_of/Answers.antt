@@ -22,12 +22,12 @@ pub drain-pages-requires-clause-legal : goal.drain-pages-requires-clause-legal
 drain-pages-requires-clause-legal g c =
     drain_may g.N.BootName.frames _ _ c.self.view_is c.requires.shown.cpu c.requires.shown.is c.args.cpu c.requires.cpu.0 c.requires.cpu.1
 
-pub make_step-requires-clause-held : goal.make_step-requires-clause-held
-make_step-requires-clause-held g c = c.drain-pages.ensures.run.held
+pub ungrant-requires-clause-held : goal.ungrant-requires-clause-held
+ungrant-requires-clause-held g c = c.drain-pages.ensures.run.held
 
 -- the ungrant is the second step of the drain
-pub make_step-requires-clause-legal : goal.make_step-requires-clause-legal
-make_step-requires-clause-legal g c =
+pub ungrant-requires-clause-legal : goal.ungrant-requires-clause-legal
+ungrant-requires-clause-legal g c =
     let some : 1 ≤ c.drain-pages.result = search rules in
     let all = drained_all g.N.BootName.frames g.N.BootName.stocks _ _ 2 _ _ c.self.view_is c.self.invariant.consistent
     (λ some. c.prove_charges.ensures.legal) c.requires.cpu.0 c.requires.cpu.1
@@ -77,15 +77,15 @@ returns-then-pages-gt0-clause-steps g c =
     let some : 1 ≤ c.drain-pages.result = search rules in
     let one = notes_one g.N.BootName.frames (record { past = c.self.inside.past; watch = c.self.inside.watch }) (zone_makes (DrainStock c.args.cpu) (Pages c.drain-pages.result)) (record { past = c.drain-pages.new.held; watch = c.drained.new.self })
     c.drain-pages.ensures.run c.drained.ensures in
-    let both = notes_both _ _ _ _ _ _ one c.make_step.ensures.notes in
-    let took = subst (λ (r : Run). Notes g.N.BootName.frames (record { past = c.self.inside.past; watch = c.self.inside.watch }) (zone_makes (DrainStock c.args.cpu) (Pages c.drain-pages.result) ∷ r) (record { past = c.make_step.new.past; watch = c.make_step.new.watch }))
+    let both = notes_both _ _ _ _ _ _ one c.ungrant.ensures.notes in
+    let took = subst (λ (r : Run). Notes g.N.BootName.frames (record { past = c.self.inside.past; watch = c.self.inside.watch }) (zone_makes (DrainStock c.args.cpu) (Pages c.drain-pages.result) ∷ r) (record { past = c.ungrant.new.past; watch = c.ungrant.new.watch }))
     (sym (ungrants_some c.args.group c.drain-pages.result some)) both in
     let all = drained_all g.N.BootName.frames g.N.BootName.stocks _ _ 2 _ _ c.self.view_is c.self.invariant.consistent
     (λ some. c.prove_charges.ensures.legal) c.requires.cpu.0 c.requires.cpu.1
     c.drain-pages.ensures.booked c.drain-pages.ensures.drained_before (Some c.args.group) c.requires.group (some_not_none _ _) _ _
     c.uncharge.ensures.uncharged c.drain-pages.ensures.seat in
     λ cpu. makes_noted _ _ _ _ c.self.view_is cpu cpu _ _ (all.steps cpu) _
-    (subst (λ (o : Option ℕ). Notes g.N.BootName.frames (record { past = c.self.inside.past; watch = c.self.inside.watch }) (drain_steps c.args.cpu o c.drain-pages.result) (record { past = c.make_step.new.past; watch = c.make_step.new.watch })) (sym c.requires.group) took)
+    (subst (λ (o : Option ℕ). Notes g.N.BootName.frames (record { past = c.self.inside.past; watch = c.self.inside.watch }) (drain_steps c.args.cpu o c.drain-pages.result) (record { past = c.ungrant.new.past; watch = c.ungrant.new.watch })) (sym c.requires.group) took)
 
 pub returns-then-pages-gt0-clause-visit : goal.returns-then-pages-gt0-clause-visit
 returns-then-pages-gt0-clause-visit g c = stays_then g.N.BootName.frames _ _ c.self.view_is _ refl _ (returns-then-pages-gt0-clause-steps g c)

@@ -1,9 +1,11 @@
-use Rattle.std.proofs.Common.{◌^◌, refl}
+use Rattle.std.proofs.Common.{◌^◌, ◌<◌, ◌∙◌, ap, refl, sym, subst, arith}
+use Rattle.frame_word.specs.Seats.{KnownTable}
+use Rattle.cpu_part.specs.Cpus.{KnownCpu}
 use Rattle.mem_machine.proofs.Freeing.{unit_in_use, unit_charged}
 use Rattle.step_rules.specs.declared.step.Action.TheVariants.{Freeze}
 use Rattle.step_rules.specs.declared.step.Answer.TheVariants.{Done, Missed}
 use Rattle.mem_machine.proofs.Releases.{notes_back, notes_of_zone, read_head, return_may}
-use Rattle.mem_machine.proofs.Evicts.{evicted_all, freeze_may, missed_all}
+use Rattle.mem_machine.proofs.Evicts.{evicted_all, freeze_may, kept_held, missed_all}
 use Rattle.mem_machine.proofs.AtTable.{held_at, made_at, may_at}
 use Rattle.mem_machine.proofs.Followed.{makes_noted}
 use Rattle.mem_machine.proofs.Reached.{held_here, may_lead_all}
@@ -26,24 +28,18 @@ freeze-requires-clause-legal g c =
     (freeze_may g.N.BootName.frames g.N.BootName.stocks _ _ c.self.view_is c.requires.shown.cpu c.requires.shown.is c.self.invariant.consistent c.args.head c.requires.frame
     c.requires.kept).0.legal
 
-pub returns-then-not-freeze-clause-steps : goal.returns-then-not-freeze-clause-steps
-returns-then-not-freeze-clause-steps g c =
+pub returns-then-not-freeze : goal.returns-then-not-freeze
+returns-then-not-freeze g c =
     let all = missed_all g.N.BootName.frames g.N.BootName.stocks _ _ c.self.view_is c.self.invariant.consistent c.args.head c.requires.frame c.requires.kept _
     c.if-not-freeze.ensures.answer _ c.with_miss-self-inside.ensures in
-    λ cpu. makes_noted _ _ _ _ c.self.view_is cpu cpu _ _ (all.steps cpu) _
+    let makes = λ (cpu : KnownCpu). makes_noted _ _ _ _ c.self.view_is cpu cpu _ _ (all.steps cpu) _
     (notes_of_zone g.N.BootName.frames _ _ c.args.head _ c.number-at.ensures (λ x. Freeze x 1) Missed
-    (made_at _ _ c.args.tables.now.frames_are 0 refl _ _ _ _ c.if-not-freeze.ensures.run) c.missed.ensures)
-
-pub returns-then-not-freeze-clause-visit : goal.returns-then-not-freeze-clause-visit
-returns-then-not-freeze-clause-visit g c =
-    let all = missed_all g.N.BootName.frames g.N.BootName.stocks _ _ c.self.view_is c.self.invariant.consistent c.args.head c.requires.frame c.requires.kept _
-    c.if-not-freeze.ensures.answer _ c.with_miss-self-inside.ensures in
-    λ cpu visit. visits_then _ _ _ _ visit.shown (returns-then-not-freeze-clause-steps g c cpu) refl (open_still _ _ _ _ (all.visit cpu visit))
-
-pub returns-then-not-freeze-clause-evicts : goal.returns-then-not-freeze-clause-evicts
-returns-then-not-freeze-clause-evicts g c =
-    misses_still _ _ _ _ (missed_all g.N.BootName.frames g.N.BootName.stocks _ _ c.self.view_is c.self.invariant.consistent c.args.head c.requires.frame c.requires.kept _
-    c.if-not-freeze.ensures.answer _ c.with_miss-self-inside.ensures).misses
+    (made_at _ _ c.args.tables.now.frames_are 0 refl _ _ _ _ c.if-not-freeze.ensures.run) c.missed.ensures) in
+    record {
+      evicts = misses_still _ _ _ _ all.misses;
+      visit = λ cpu visit. visits_then _ _ _ _ visit.shown (makes cpu) refl (open_still _ _ _ _ (all.visit cpu visit));
+      steps = makes;
+    }
 
 pub free_unit-requires-clause-in_use : goal.free_unit-requires-clause-in_use
 free_unit-requires-clause-in_use g c =
@@ -74,11 +70,11 @@ invariant_of-self-2 g c =
     c.with_freeze-self-inside.ensures c.frames-pages.ensures.frames in
     record { consistent = consistent_still _ _ _ _ all.consistent; free = all.free_is }
 
-pub make_step-requires-clause-held : goal.make_step-requires-clause-held
-make_step-requires-clause-held g c = (made_at _ _ c.args.tables.now.frames_are 0 refl _ _ _ _ c.if-not-freeze.ensures.run).held
+pub return_unit-requires-clause-held : goal.return_unit-requires-clause-held
+return_unit-requires-clause-held g c = (made_at _ _ c.args.tables.now.frames_are 0 refl _ _ _ _ c.if-not-freeze.ensures.run).held
 
-pub make_step-requires-clause-legal : goal.make_step-requires-clause-legal
-make_step-requires-clause-legal g c =
+pub return_unit-requires-clause-legal : goal.return_unit-requires-clause-legal
+return_unit-requires-clause-legal g c =
     let head = read_head g.N.BootName.frames g.N.BootName.stocks _ c.self.invariant.consistent c.args.head _ c.requires.frame c.number-at.ensures _ c.in-Head.unit
     c.index.ensures c.in-Head.is in
     let all = evicted_all g.N.BootName.frames g.N.BootName.stocks _ _ c.self.view_is c.self.invariant.consistent c.args.head _
@@ -89,8 +85,8 @@ make_step-requires-clause-legal g c =
     (may_lead_all g.N.BootName.frames _ _ c.self.view_is c.requires.shown.cpu c.requires.shown.is _ _ (all.steps c.requires.shown.cpu))
     (made_at _ _ c.args.tables.now.frames_are 0 refl _ _ _ _ c.if-not-freeze.ensures.run)
 
-pub returns-clause-steps : goal.returns-clause-steps
-returns-clause-steps g c =
+pub returns : goal.returns
+returns g c =
     let head = read_head g.N.BootName.frames g.N.BootName.stocks _ c.self.invariant.consistent c.args.head _ c.requires.frame c.number-at.ensures _ c.in-Head.unit
     c.index.ensures c.in-Head.is in
     let all = evicted_all g.N.BootName.frames g.N.BootName.stocks _ _ c.self.view_is c.self.invariant.consistent c.args.head _
@@ -98,29 +94,30 @@ returns-clause-steps g c =
     c.leave_list.ensures.lists.groups _ c.if-not-freeze.ensures.answer c.in-Head.unit head _ _ _ _ _ _ _ _ c.note_unit.ensures c.self.invariant.free c.free_unit.ensures.frame_states
     c.free_unit.ensures.frames c.free_unit.ensures.areas c.free_unit.ensures.charges c.free_unit.ensures.usage
     c.with_freeze-self-inside.ensures c.frames-pages.ensures.frames in
-    λ cpu. makes_noted _ _ _ _ c.self.view_is cpu cpu _ _ (all.steps cpu) _
+    let makes = λ (cpu : KnownCpu). makes_noted _ _ _ _ c.self.view_is cpu cpu _ _ (all.steps cpu) _
     (notes_back g.N.BootName.frames _ _ c.args.head _ c.number-at.ensures (λ x. Freeze x 1) Done
     (notes_of_zone g.N.BootName.frames _ _ c.args.head _ c.number-at.ensures (λ x. Freeze x 1) Done
-    (made_at _ _ c.args.tables.now.frames_are 0 refl _ _ _ _ c.if-not-freeze.ensures.run) c.froze.ensures) _ c.make_step.ensures.notes)
+    (made_at _ _ c.args.tables.now.frames_are 0 refl _ _ _ _ c.if-not-freeze.ensures.run) c.froze.ensures) _ c.return_unit.ensures.notes) in
+    record {
+      evicts = evicts_still _ _ _ _ _ all.evicts;
+      visit = λ cpu visit. visits_then _ _ _ _ visit.shown (makes cpu) refl (open_still _ _ _ _ (all.visit cpu visit));
+      steps = makes;
+    }
 
-pub returns-clause-visit : goal.returns-clause-visit
-returns-clause-visit g c =
-    let head = read_head g.N.BootName.frames g.N.BootName.stocks _ c.self.invariant.consistent c.args.head _ c.requires.frame c.number-at.ensures _ c.in-Head.unit
-    c.index.ensures c.in-Head.is in
-    let all = evicted_all g.N.BootName.frames g.N.BootName.stocks _ _ c.self.view_is c.self.invariant.consistent c.args.head _
-    c.requires.frame c.number-at.ensures c.requires.kept _ _ c.leave_list.ensures.leaves c.leave_list.ensures.lists.stand c.leave_list.ensures.frames
-    c.leave_list.ensures.lists.groups _ c.if-not-freeze.ensures.answer c.in-Head.unit head _ _ _ _ _ _ _ _ c.note_unit.ensures c.self.invariant.free c.free_unit.ensures.frame_states
-    c.free_unit.ensures.frames c.free_unit.ensures.areas c.free_unit.ensures.charges c.free_unit.ensures.usage
-    c.with_freeze-self-inside.ensures c.frames-pages.ensures.frames in
-    λ cpu visit. visits_then _ _ _ _ visit.shown (returns-clause-steps g c cpu) refl (open_still _ _ _ _ (all.visit cpu visit))
+pub freeze-requires-clause-table : goal.freeze-requires-clause-table
+freeze-requires-clause-table g c = c.self.invariant.consistent.seats.frames.0 ∙ sym (ap (λ (t : KnownTable). t.table) c.args.tables.now.frames_are)
 
-pub returns-clause-evicts : goal.returns-clause-evicts
-returns-clause-evicts g c =
-    let head = read_head g.N.BootName.frames g.N.BootName.stocks _ c.self.invariant.consistent c.args.head _ c.requires.frame c.number-at.ensures _ c.in-Head.unit
-    c.index.ensures c.in-Head.is in
-    let all = evicted_all g.N.BootName.frames g.N.BootName.stocks _ _ c.self.view_is c.self.invariant.consistent c.args.head _
-    c.requires.frame c.number-at.ensures c.requires.kept _ _ c.leave_list.ensures.leaves c.leave_list.ensures.lists.stand c.leave_list.ensures.frames
-    c.leave_list.ensures.lists.groups _ c.if-not-freeze.ensures.answer c.in-Head.unit head _ _ _ _ _ _ _ _ c.note_unit.ensures c.self.invariant.free c.free_unit.ensures.frame_states
-    c.free_unit.ensures.frames c.free_unit.ensures.areas c.free_unit.ensures.charges c.free_unit.ensures.usage
-    c.with_freeze-self-inside.ensures c.frames-pages.ensures.frames in
-    evicts_still _ _ _ _ _ all.evicts
+pub freeze-requires-clause-frame : goal.freeze-requires-clause-frame
+freeze-requires-clause-frame g c = subst (λ (t : KnownTable). c.args.head < t.frames) (sym c.args.tables.now.frames_are) c.requires.frame
+
+pub index-requires : goal.index-requires
+index-requires g c =
+    let inside = c.requires.frame in
+    let same = c.number-at.ensures in
+    let sized = c.self.invariant.consistent.sizes.frame_states in
+    omega (arith, inside, same, sized)
+
+pub freeze-requires-clause-count : goal.freeze-requires-clause-count
+freeze-requires-clause-count g c =
+    let one = kept_held g.N.BootName.frames g.N.BootName.stocks _ _ c.self.view_is c.self.invariant.consistent c.args.head c.requires.frame c.requires.kept in
+    (omega arith, omega (arith, one))

@@ -1,4 +1,5 @@
-use Rattle.std.proofs.Common.{◌≡◌, ap, ◌∙◌}
+use Rattle.std.proofs.Common.{◌≡◌, ℕ, ◌<◌, ap, sym, subst, ◌∙◌, arith, ◌≤◌}
+use Rattle.frame_word.specs.Seats.{KnownTable, IsOpen, IsZoneSeat}
 use Rattle.mem_machine.specs.declared.frame_state.FrameState.TheVariants.{Free}
 use Rattle.mem_machine.specs.FrameStates.{frame_state_at}
 use Rattle.mem_machine.specs.Machines.{KnownMachine}
@@ -70,3 +71,31 @@ returns g c =
       visit = visits_then _ _ _ _ c.requires.visit.shown makes (ap (λ (e : KnownCpu). e.number) c.take_in.ensures.cpu) (open_still _ _ _ _ all.visit);
       steps = makes;
     }
+
+pub pass_out-requires-clause-zone : goal.pass_out-requires-clause-zone
+pass_out-requires-clause-zone g c =
+    subst (λ (t : KnownTable). IsZoneSeat t c.self.inside.frame_seat) (sym c.args.tables.now.frames_are) c.self.invariant.consistent.seats.frames
+
+pub pass_out-requires-clause-frame : goal.pass_out-requires-clause-frame
+pass_out-requires-clause-frame g c = subst (λ (t : KnownTable). c.args.frame < t.frames) (sym c.args.tables.now.frames_are) c.requires.frame
+
+pub pass_out-requires-clause-open : goal.pass_out-requires-clause-open
+pass_out-requires-clause-open g c =
+    subst (λ (x : KnownMachine × ℕ). IsOpen x.0.frame_seat x.1) (λ i. (sym c.self.view_is i, sym c.number-cpu_number.ensures.number i)) c.requires.visit.is_open
+
+pub take_in-requires-clause-frame : goal.take_in-requires-clause-frame
+take_in-requires-clause-frame g c = c.requires.frame
+
+pub pass_out-requires-clause-cpu : goal.pass_out-requires-clause-cpu
+pass_out-requires-clause-cpu g c =
+    let number = c.number-cpu_number.ensures.number in
+    let some = c.number-cpu_number.ensures.tied.seats.some_number in
+    let most = c.number-cpu_number.ensures.tied.seats.frame_cpus in
+    (omega (arith, number, some), subst (λ (t : KnownTable). c.number-cpu_number.result ≤ t.cpus) (sym c.args.tables.now.frames_are) (omega (arith, number, most)))
+
+pub index_mut-requires : goal.index_mut-requires
+index_mut-requires g c =
+    let inside : c.args.frame < g.N.BootName.frames.frames = c.requires.frame in
+    let same = c.number-given.ensures in
+    let sized = c.self.invariant.consistent.sizes.frame_states in
+    omega (arith, inside, same, sized)

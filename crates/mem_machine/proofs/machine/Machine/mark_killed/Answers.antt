@@ -1,5 +1,8 @@
-use Rattle.std.proofs.Common.{ℕ, ◌<◌, true, length, arith, ap, refl}
+use Rattle.std.proofs.Common.{ℕ, ◌<◌, ◌∙◌, IsTrue, true, length, arith, ap, refl, sym, subst}
 use Rattle.std.specs.Prelude.{slice_set}
+use Rattle.group_tree.specs.Groups.{has_group}
+use Rattle.group_charge.specs.Charges.{with_kill_noted}
+use Rattle.mem_machine.specs.Machines.{KnownMachine}
 use Rattle.mem_machine.proofs.GroupSteps.{kills}
 use Rattle.mem_machine.proofs.Followed.{makes_noted}
 use Rattle.mem_machine.proofs.Reached.{held_here, may_lead}
@@ -31,3 +34,20 @@ returns-clause-steps g c =
 
 pub returns-clause-visit : goal.returns-clause-visit
 returns-clause-visit g c = stays_then g.N.BootName.frames _ _ c.self.view_is _ refl _ (returns-clause-steps g c)
+
+pub note_kill-requires : goal.note_kill-requires
+note_kill-requires g c = subst (λ (m : KnownMachine). IsTrue (has_group m.ledger.groups c.args.group)) (sym c.self.view_is) c.requires.there
+
+pub returns-clause-machine : goal.returns-clause-machine
+returns-clause-machine g c = λ i. record (c.self.view_is i) {
+  ledger = (c.note_kill.ensures.noted ∙ ap (λ (m : KnownMachine). with_kill_noted m.ledger c.args.group) c.self.view_is) i;
+  killed = (ap (λ (n : ℕ). slice_set c.self.inside.killed.items n true) c.number.ensures.value
+      ∙ ap (λ (m : KnownMachine). slice_set m.killed c.args.group true) c.self.view_is) i;
+  run = record { past = c.make_step.new.past; watch = c.make_step.new.watch };
+}
+
+pub index_mut-requires : goal.index_mut-requires
+index_mut-requires g c =
+    let below = c.number.ensures.below in
+    let sized = c.self.invariant.consistent.sizes.killed in
+    omega (arith, below, sized)

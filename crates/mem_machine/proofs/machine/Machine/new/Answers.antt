@@ -34,3 +34,9 @@ returns-clause-first g c =
 pub returns-clause-rests : goal.returns-clause-rests
 returns-clause-rests g c =
     rests_first g.N.BootName.frames g.N.BootName.stocks _ (returns-clause-first g c) (ap (λ (s : OwnSeats). s.past) c.requires.seats)
+
+pub new-requires-2-clause-first : goal.new-requires-2-clause-first
+new-requires-2-clause-first g c = ap (λ (s : OwnSeats). s.stocks.view) c.requires.seats
+
+pub new-requires-2-clause-cpus : goal.new-requires-2-clause-cpus
+new-requires-2-clause-cpus g c = c.requires.cpus

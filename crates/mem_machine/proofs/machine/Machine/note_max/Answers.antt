@@ -1,5 +1,6 @@
 use Rattle.std.proofs.Common.{refl, rules}
-use Rattle.mem_machine.proofs.GroupSteps.{notes_max}
+use Rattle.group_charge.specs.Charges.{Ledger, with_max_noted}
+use Rattle.mem_machine.proofs.GroupSteps.{notes_max, ledger_is}
 use Rattle.mem_machine.proofs.Followed.{makes_noted}
 use Rattle.mem_machine.proofs.Reached.{held_here, may_lead}
 use Rattle.mem_machine.proofs.Watched.{stays_then}
@@ -24,4 +25,4 @@ pub invariant_of-self : goal.invariant_of-self
 invariant_of-self g c = search rules
 
 pub returns-clause-machine : goal.returns-clause-machine
-returns-clause-machine g c = search rules
+returns-clause-machine g c = ledger_is _ _ c.self.view_is (λ (l : Ledger). with_max_noted l c.args.group) _ c.note_max.ensures.noted _

@@ -1,9 +1,12 @@
-use Rattle.std.proofs.Common.{inl, refl, rules}
+use Rattle.std.proofs.Common.{◌<◌, ◌∙◌, ap, inl, refl, rules, sym, subst, arith}
+use Rattle.frame_word.specs.Seats.{KnownTable}
+use Rattle.cpu_part.specs.Cpus.{KnownCpu}
 use Rattle.mem_machine.proofs.Freeing.{unit_in_use, unit_charged}
 use Rattle.step_rules.specs.declared.step.Action.TheVariants.{Put}
 use Rattle.step_rules.specs.declared.step.Answer.TheVariants.{Last, Left}
 use Rattle.mem_machine.proofs.Releases.{left_all, notes_back, notes_of_zone, put_may, read_head, return_may, returned_all}
 use Rattle.mem_machine.proofs.AtTable.{held_at, made_at, may_at}
+use Rattle.mem_machine.proofs.Evicts.{kept_held}
 use Rattle.mem_machine.proofs.Followed.{makes_noted}
 use Rattle.mem_machine.proofs.Reached.{held_here, may_lead_all}
 use Rattle.mem_machine.proofs.Watched.{consistent_still, open_still, returned_still, visits_then}
@@ -48,24 +51,19 @@ put_held-requires-clause-legal g c =
     (put_may g.N.BootName.frames g.N.BootName.stocks _ _ c.self.view_is c.requires.shown.cpu c.requires.shown.is c.self.invariant.consistent c.args.head c.requires.frame
     c.requires.kept).0.legal
 
-pub returns-in-Left-clause-releases : goal.returns-in-Left-clause-releases
-returns-in-Left-clause-releases g c = search rules
-
-pub returns-in-Left-clause-steps : goal.returns-in-Left-clause-steps
-returns-in-Left-clause-steps g c =
+pub returns-in-Left : goal.returns-in-Left
+returns-in-Left g c =
     let all = left_all g.N.BootName.frames g.N.BootName.stocks _ _ c.self.view_is c.self.invariant.consistent c.args.head _
     c.requires.frame c.number-at.ensures c.requires.kept _ _ c.leave_list.ensures.leaves c.leave_list.ensures.lists.stand c.leave_list.ensures.frames
     c.leave_list.ensures.lists.groups c.in-Left.left _ c.in-Left.ensures.answer.2 in
-    λ cpu. makes_noted _ _ _ _ c.self.view_is cpu cpu _ _ (all.steps cpu) _
+    let makes = λ (cpu : KnownCpu). makes_noted _ _ _ _ c.self.view_is cpu cpu _ _ (all.steps cpu) _
     (notes_of_zone g.N.BootName.frames _ _ c.args.head _ c.number-at.ensures (λ x. Put x) (Left c.in-Left.left)
-    (made_at _ _ c.args.tables.now.frames_are _ c.self.invariant.consistent.seats.frames.1 _ _ _ _ c.in-Left.ensures.run) c.put_left.ensures)
-
-pub returns-in-Left-clause-visit : goal.returns-in-Left-clause-visit
-returns-in-Left-clause-visit g c =
-    let all = left_all g.N.BootName.frames g.N.BootName.stocks _ _ c.self.view_is c.self.invariant.consistent c.args.head _
-    c.requires.frame c.number-at.ensures c.requires.kept _ _ c.leave_list.ensures.leaves c.leave_list.ensures.lists.stand c.leave_list.ensures.frames
-    c.leave_list.ensures.lists.groups c.in-Left.left _ c.in-Left.ensures.answer.2 in
-    λ cpu visit. visits_then _ _ _ _ visit.shown (returns-in-Left-clause-steps g c cpu) refl (open_still _ _ _ _ (all.visit cpu visit))
+    (made_at _ _ c.args.tables.now.frames_are _ c.self.invariant.consistent.seats.frames.1 _ _ _ _ c.in-Left.ensures.run) c.put_left.ensures) in
+    record {
+      releases = search rules;
+      visit = λ cpu visit. visits_then _ _ _ _ visit.shown (makes cpu) refl (open_still _ _ _ _ (all.visit cpu visit));
+      steps = makes;
+    }
 
 pub invariant_of-self-in-Last : goal.invariant_of-self-in-Last
 invariant_of-self-in-Last g c =
@@ -77,11 +75,11 @@ invariant_of-self-in-Last g c =
     c.free_unit.ensures.frames c.free_unit.ensures.areas c.free_unit.ensures.charges c.with_last_put-self-inside.ensures in
     record { consistent = consistent_still _ _ _ _ all.consistent; free = all.free_is }
 
-pub make_step-requires-clause-held : goal.make_step-requires-clause-held
-make_step-requires-clause-held g c = (made_at _ _ c.args.tables.now.frames_are _ c.self.invariant.consistent.seats.frames.1 _ _ _ _ c.in-Last.ensures.run).held
+pub return_unit-requires-clause-held : goal.return_unit-requires-clause-held
+return_unit-requires-clause-held g c = (made_at _ _ c.args.tables.now.frames_are _ c.self.invariant.consistent.seats.frames.1 _ _ _ _ c.in-Last.ensures.run).held
 
-pub make_step-requires-clause-legal : goal.make_step-requires-clause-legal
-make_step-requires-clause-legal g c =
+pub return_unit-requires-clause-legal : goal.return_unit-requires-clause-legal
+return_unit-requires-clause-legal g c =
     let head = read_head g.N.BootName.frames g.N.BootName.stocks _ c.self.invariant.consistent c.args.head _ c.requires.frame c.number-at.ensures _ c.in-Head.unit
     c.index.ensures c.in-Head.is in
     let all = returned_all g.N.BootName.frames g.N.BootName.stocks _ _ c.self.view_is c.self.invariant.consistent c.args.head _
@@ -92,35 +90,38 @@ make_step-requires-clause-legal g c =
     (may_lead_all g.N.BootName.frames _ _ c.self.view_is c.requires.shown.cpu c.requires.shown.is _ _ (all.steps c.requires.shown.cpu))
     (made_at _ _ c.args.tables.now.frames_are _ c.self.invariant.consistent.seats.frames.1 _ _ _ _ c.in-Last.ensures.run)
 
-pub returns-in-Head-clause-steps : goal.returns-in-Head-clause-steps
-returns-in-Head-clause-steps g c =
+pub returns-in-Head : goal.returns-in-Head
+returns-in-Head g c =
     let head = read_head g.N.BootName.frames g.N.BootName.stocks _ c.self.invariant.consistent c.args.head _ c.requires.frame c.number-at.ensures _ c.in-Head.unit
     c.index.ensures c.in-Head.is in
     let all = returned_all g.N.BootName.frames g.N.BootName.stocks _ _ c.self.view_is c.self.invariant.consistent c.args.head _
     c.requires.frame c.number-at.ensures c.requires.kept _ _ c.leave_list.ensures.leaves c.leave_list.ensures.lists.stand c.leave_list.ensures.frames
     c.leave_list.ensures.lists.groups _ c.in-Last.ensures.answer.0 c.in-Head.unit head _ _ _ _ _ _ c.self.invariant.free c.free_unit.ensures.frame_states
     c.free_unit.ensures.frames c.free_unit.ensures.areas c.free_unit.ensures.charges c.with_last_put-self-inside.ensures in
-    λ cpu. makes_noted _ _ _ _ c.self.view_is cpu cpu _ _ (all.steps cpu) _
+    let makes = λ (cpu : KnownCpu). makes_noted _ _ _ _ c.self.view_is cpu cpu _ _ (all.steps cpu) _
     (notes_back g.N.BootName.frames _ _ c.args.head _ c.number-at.ensures (λ x. Put x) Last
     (notes_of_zone g.N.BootName.frames _ _ c.args.head _ c.number-at.ensures (λ x. Put x) Last
-    (made_at _ _ c.args.tables.now.frames_are _ c.self.invariant.consistent.seats.frames.1 _ _ _ _ c.in-Last.ensures.run) c.put_last.ensures) _ c.make_step.ensures.notes)
+    (made_at _ _ c.args.tables.now.frames_are _ c.self.invariant.consistent.seats.frames.1 _ _ _ _ c.in-Last.ensures.run) c.put_last.ensures) _ c.return_unit.ensures.notes) in
+    record {
+      releases = returned_still _ _ _ _ all.returns;
+      visit = λ cpu visit. visits_then _ _ _ _ visit.shown (makes cpu) refl (open_still _ _ _ _ (all.visit cpu visit));
+      steps = makes;
+    }
 
-pub returns-in-Head-clause-visit : goal.returns-in-Head-clause-visit
-returns-in-Head-clause-visit g c =
-    let head = read_head g.N.BootName.frames g.N.BootName.stocks _ c.self.invariant.consistent c.args.head _ c.requires.frame c.number-at.ensures _ c.in-Head.unit
-    c.index.ensures c.in-Head.is in
-    let all = returned_all g.N.BootName.frames g.N.BootName.stocks _ _ c.self.view_is c.self.invariant.consistent c.args.head _
-    c.requires.frame c.number-at.ensures c.requires.kept _ _ c.leave_list.ensures.leaves c.leave_list.ensures.lists.stand c.leave_list.ensures.frames
-    c.leave_list.ensures.lists.groups _ c.in-Last.ensures.answer.0 c.in-Head.unit head _ _ _ _ _ _ c.self.invariant.free c.free_unit.ensures.frame_states
-    c.free_unit.ensures.frames c.free_unit.ensures.areas c.free_unit.ensures.charges c.with_last_put-self-inside.ensures in
-    λ cpu visit. visits_then _ _ _ _ visit.shown (returns-in-Head-clause-steps g c cpu) refl (open_still _ _ _ _ (all.visit cpu visit))
+pub put_held-requires-clause-table : goal.put_held-requires-clause-table
+put_held-requires-clause-table g c = c.self.invariant.consistent.seats.frames.0 ∙ sym (ap (λ (t : KnownTable). t.table) c.args.tables.now.frames_are)
 
-pub returns-in-Head-clause-releases : goal.returns-in-Head-clause-releases
-returns-in-Head-clause-releases g c =
-    let head = read_head g.N.BootName.frames g.N.BootName.stocks _ c.self.invariant.consistent c.args.head _ c.requires.frame c.number-at.ensures _ c.in-Head.unit
-    c.index.ensures c.in-Head.is in
-    let all = returned_all g.N.BootName.frames g.N.BootName.stocks _ _ c.self.view_is c.self.invariant.consistent c.args.head _
-    c.requires.frame c.number-at.ensures c.requires.kept _ _ c.leave_list.ensures.leaves c.leave_list.ensures.lists.stand c.leave_list.ensures.frames
-    c.leave_list.ensures.lists.groups _ c.in-Last.ensures.answer.0 c.in-Head.unit head _ _ _ _ _ _ c.self.invariant.free c.free_unit.ensures.frame_states
-    c.free_unit.ensures.frames c.free_unit.ensures.areas c.free_unit.ensures.charges c.with_last_put-self-inside.ensures in
-    returned_still _ _ _ _ all.returns
+pub put_held-requires-clause-frame : goal.put_held-requires-clause-frame
+put_held-requires-clause-frame g c = subst (λ (t : KnownTable). c.args.head < t.frames) (sym c.args.tables.now.frames_are) c.requires.frame
+
+pub index-requires : goal.index-requires
+index-requires g c =
+    let inside = c.requires.frame in
+    let same = c.number-at.ensures in
+    let sized = c.self.invariant.consistent.sizes.frame_states in
+    omega (arith, inside, same, sized)
+
+pub put_held-requires-clause-reference : goal.put_held-requires-clause-reference
+put_held-requires-clause-reference g c =
+    let one = kept_held g.N.BootName.frames g.N.BootName.stocks _ _ c.self.view_is c.self.invariant.consistent c.args.head c.requires.frame c.requires.kept in
+    omega (arith, one)

@@ -1,5 +1,6 @@
 use Rattle.std.proofs.Common.{rules, refl}
-use Rattle.mem_machine.proofs.GroupSteps.{removes, still_visited}
+use Rattle.group_charge.specs.Charges.{Ledger, with_group_removed}
+use Rattle.mem_machine.proofs.GroupSteps.{removes, still_visited, ledger_is}
 use Rattle.mem_machine.proofs.Usage.{usage_seen, balanced_alone}
 use Rattle.mem_machine.proofs.Followed.{makes_noted}
 use Rattle.mem_machine.proofs.Reached.{held_here, may_lead}
@@ -30,4 +31,4 @@ pub invariant_of-self : goal.invariant_of-self
 invariant_of-self g c = search rules
 
 pub returns-clause-machine : goal.returns-clause-machine
-returns-clause-machine g c = search rules
+returns-clause-machine g c = ledger_is _ _ c.self.view_is (λ (l : Ledger). with_group_removed l c.args.group) _ c.remove.ensures.removed _

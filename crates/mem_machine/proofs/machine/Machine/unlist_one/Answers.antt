@@ -1,6 +1,7 @@
-use Rattle.std.proofs.Common.{◌≡◌, ◌<◌, rules, ap, ◌∙◌}
+use Rattle.std.proofs.Common.{◌≡◌, ◌<◌, rules, ap, sym, subst, ◌∙◌, arith}
 use Rattle.frame_word.specs.Views.{collected_from}
-use Rattle.frame_word.specs.Seats.{KnownSeat, seat_with}
+use Rattle.frame_word.specs.Seats.{KnownSeat, IsOpen, IsZoneSeat, seat_with}
+use Rattle.mem_machine.specs.Machines.{KnownMachine}
 use Rattle.mem_machine.proofs.Takes.{take_all, may_give, passes_back_to, may_pass_front, may_collect_front, taken_notes}
 use Rattle.cpu_part.specs.Cpus.{KnownCpu}
 use Rattle.mem_machine.proofs.Holder.{front_number, holder_here, holder_then}
@@ -34,38 +35,38 @@ collect-requires-clause-legal g c =
 
 pub collect-requires-clause-passes : goal.collect-requires-clause-passes
 collect-requires-clause-passes g c =
-    let inside : c.in-Some.frame < g.N.BootName.frames.frames = search rules in
+    let inside : c.in-Some.frame < g.N.BootName.frames.frames = c.in-Some.ensures.frame in
     passes_back_to g.N.BootName.frames g.N.BootName.stocks _ _ c.self.view_is c.args.cpu.now _ c.number-cpu_number.ensures.tied c.requires _ _ inside
     c.in-Some.ensures.answer
     c.in-Some.ensures.zone
 
 pub give-requires : goal.give-requires
 give-requires g c =
-    let k0 : c.unwrap.result ≡ 0 = search rules in
-    let inside : c.in-Some.frame < g.N.BootName.frames.frames = search rules in
+    let k0 : c.single_order.result ≡ 0 = c.single_order.ensures in
+    let inside : c.in-Some.frame < g.N.BootName.frames.frames = c.in-Some.ensures.frame in
     may_give g.N.BootName.frames g.N.BootName.stocks _ c.args.cpu.now c.number-cpu_number.ensures.tied c.self.invariant.consistent _ c.in-Some.frame _
-    c.unwrap.result c.self.invariant.free inside c.in-Some.ensures.borrowed.1 c.number-at.ensures k0
+    c.single_order.result c.self.invariant.free inside c.in-Some.ensures.borrowed.1 c.number-at.ensures k0
 
 pub invariant_of-self-2 : goal.invariant_of-self-2
 invariant_of-self-2 g c =
-    let k0 : c.unwrap.result ≡ 0 = search rules in
-    let inside : c.in-Some.frame < g.N.BootName.frames.frames = search rules in
+    let k0 : c.single_order.result ≡ 0 = c.single_order.ensures in
+    let inside : c.in-Some.frame < g.N.BootName.frames.frames = c.in-Some.ensures.frame in
     let collected = c.collect.ensures.zone ∙ ap (λ (s : KnownSeat). seat_with s c.in-Some.frame
     (collected_from c.pass_front.new.self.number)) c.in-Some.ensures.zone in
     let all = (take_all g.N.BootName.frames g.N.BootName.stocks _ _ c.self.view_is c.args.cpu.now c.pass_front.new.self _
     c.number-cpu_number.ensures.tied c.self.invariant.consistent
-    c.requires _ _ c.unwrap.result _ c.in-Some.frame _ _ c.self.invariant.free k0 c.give.ensures.frames c.give.ensures.areas inside c.in-Some.ensures.borrowed.1
+    c.requires _ _ c.single_order.result _ c.in-Some.frame _ _ c.self.invariant.free k0 c.give.ensures.frames c.give.ensures.areas inside c.in-Some.ensures.borrowed.1
     c.number-at.ensures c.in-Some.ensures.answer collected c.collect.ensures.cpu) in
     record { consistent = consistent_still _ _ _ _ all.consistent; free = all.free_is }
 
 pub returns : goal.returns
 returns g c =
-    let k0 : c.unwrap.result ≡ 0 = search rules in
-    let inside : c.in-Some.frame < g.N.BootName.frames.frames = search rules in
+    let k0 : c.single_order.result ≡ 0 = c.single_order.ensures in
+    let inside : c.in-Some.frame < g.N.BootName.frames.frames = c.in-Some.ensures.frame in
     let collected = c.collect.ensures.zone ∙ ap (λ (s : KnownSeat). seat_with s c.in-Some.frame
     (collected_from c.pass_front.new.self.number)) c.in-Some.ensures.zone in
     let all = take_all g.N.BootName.frames g.N.BootName.stocks _ _ c.self.view_is c.args.cpu.now c.pass_front.new.self _ c.number-cpu_number.ensures.tied c.self.invariant.consistent
-    c.requires _ _ c.unwrap.result _ c.in-Some.frame _ _ c.self.invariant.free k0 c.give.ensures.frames c.give.ensures.areas inside c.in-Some.ensures.borrowed.1
+    c.requires _ _ c.single_order.result _ c.in-Some.frame _ _ c.self.invariant.free k0 c.give.ensures.frames c.give.ensures.areas inside c.in-Some.ensures.borrowed.1
     c.number-at.ensures c.in-Some.ensures.answer collected c.collect.ensures.cpu in
     let handed = front_number _ _ _ c.in-Some.ensures.answer in
     let notes = taken_notes g.N.BootName.frames g.N.BootName.stocks _ _ c.self.view_is c.args.cpu.now c.in-Some.frame _ _ _ c.number-at.ensures handed c.number-cpu_number.ensures.number
@@ -82,3 +83,22 @@ returns g c =
 
 pub invariant_of-self : goal.invariant_of-self
 invariant_of-self g c = search rules
+
+pub pass_front-requires-clause-zone : goal.pass_front-requires-clause-zone
+pass_front-requires-clause-zone g c = c.self.invariant.consistent.seats.frames
+
+pub pass_front-requires-clause-open : goal.pass_front-requires-clause-open
+pass_front-requires-clause-open g c = subst (λ (k : KnownMachine). IsOpen k.frame_seat c.args.cpu.now.number) (sym c.self.view_is) c.requires.is_open
+
+pub collect-requires-clause-zone : goal.collect-requires-clause-zone
+collect-requires-clause-zone g c = subst (IsZoneSeat g.N.BootName.frames) (sym c.in-Some.ensures.zone) c.self.invariant.consistent.seats.frames
+
+pub collect-requires-clause-frame : goal.collect-requires-clause-frame
+collect-requires-clause-frame g c = c.in-Some.ensures.frame
+
+pub index_mut-requires : goal.index_mut-requires
+index_mut-requires g c =
+    let inside = c.in-Some.ensures.frame in
+    let same = c.number-at.ensures in
+    let sized = c.self.invariant.consistent.sizes.frame_states in
+    omega (arith, inside, same, sized)
