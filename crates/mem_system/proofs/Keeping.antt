@@ -24,7 +24,7 @@ use Rattle.mem_system.specs.Leaves.{IsLeafAt}
 use Rattle.mem_alloc.specs.Room.{with_limit_noted}
 use Rattle.mem_system.specs.Usage.{LowersUsage, LowersAbove, KeepsToLimit}
 use Rattle.mem_system.proofs.Found.{found_there}
-use Rattle.mem_system.specs.Files.{SetsLimit, with_limit_of}
+use Rattle.mem_system.specs.Files.{KeepsAnyVisit, SetsLimit, with_limit_of}
 use Rattle.mem_machine.proofs.Followed.{makes_both, makes_none}
 use Rattle.mem_machine.proofs.Reached.{shown_same}
 use Rattle.mem_machine.proofs.Watched.{stays_then}
@@ -40,6 +40,10 @@ visit_keeps t m n c seat steps makes v = record {
   number = refl;
   back = refl;
 }
+
+-- a reclaim keeps each visit
+pub visits_keep : (t : KnownTable) (m n : KnownMachine) → Keeps t m n → KeepsAnyVisit t m n
+visits_keep t m n keeps = λ c v. record { visit = keeps.visit c v; opened = keeps.opened; number = refl; back = refl }
 
 -- nothing changed
 pub visit_same : (t : KnownTable) (m : KnownMachine) (c : KnownCpu) → Visits t (visit_state m c) → KeepsVisit t (visit_state m c) (visit_state m c)

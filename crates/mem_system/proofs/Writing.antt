@@ -15,7 +15,8 @@ use Rattle.group_charge.specs.Charges.{current_of}
 use Rattle.mem_reclaim.specs.Moves.{FreesBySteps}
 use Rattle.mem_reclaim.specs.Rounds.{ReclaimsAmount}
 use Rattle.mem_reclaim.specs.Staying.{Keeps, MissedAll}
-use Rattle.mem_machine.specs.Transitions.{BySteps}
+use Rattle.mem_machine.specs.Transitions.{BySteps, Transition, transition}
+use Rattle.mem_system.specs.declared.command.Reply.{Reply}
 use Rattle.mem_system.specs.declared.command.Reply.TheVariants.{Done, Refused}
 use Rattle.mem_system.specs.Files.{IsFileOf, RefusesValue, Writes, WritesTo}
 
@@ -49,6 +50,24 @@ refused_at t path name value g file fault m is why = record {
   steps = [];
   does = inl (inr (record { group = g; file = file; is_file = is; refuses = why }), record { machine = refl; steps_are = refl });
   makes = λ c. makes_none t c.number (visit_state m c);
+}
+
+-- what a write to the file does, by its path and its name
+written_by : (t : KnownTable) (path name value : List ℕ) (g : ℕ) (file : File) (call : Transition KnownMachine)
+    → IsFileOf call.before.ledger.groups path name g file → (reply : Reply) → WritesTo file value g reply call → Writes path name value reply call
+written_by t path name value g file call is Done sets = record { group = g; file = file; is_file = is; sets = sets }
+written_by t path name value g file call is (Refused fault) (inl refused) =
+    inl (inr (record { group = g; file = file; is_file = is; refuses = refused.0 }), refused.1)
+written_by t path name value g file call is (Refused fault) (inr short) = inr (record { group = g; file = file; is_file = is; falls = short })
+written_by t path name value g file call is other none = absurd none
+
+pub written_at : (t : KnownTable) (path name value : List ℕ) (g : ℕ) (file : File) (m n : KnownMachine) (reply : Reply)
+    → IsFileOf m.ledger.groups path name g file → BySteps MakesForAny t (WritesTo file value g reply) m n
+    → BySteps MakesForAny t (Writes path name value reply) m n
+written_at t path name value g file m n reply is made = record {
+  steps = made.steps;
+  does = written_by t path name value g file (transition t m made.steps n) is reply made.does;
+  makes = made.makes;
 }
 
 -- what isn't one of these three files isn't written

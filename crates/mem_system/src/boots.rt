@@ -2,11 +2,11 @@
 
 ghost use Rattle.std.specs.Prelude.{◌≡◌, [], length, All, IfOk};
 ghost use Rattle.boot_words.specs.Growth.{IsRunSoFar};
-ghost use Rattle.boot_words.specs.Opening.{opening_seats};
+ghost use Rattle.boot_words.specs.Opening.{opening_seats, zone_seats};
 ghost use Rattle.boot_words.specs.Pasts.{own_past};
 ghost use Rattle.mem_machine.specs.Machines.{IsFirst};
 ghost use Rattle.cpu_part.specs.Cpus.{IsIdle};
-ghost use Rattle.mem_system.specs.Locked.{IsQuiet};
+ghost use Rattle.zone_blocks.specs.Config.{IsValidConfig};
 ghost use Rattle.mem_system.specs.Boots.{IsSizedAs, first_cpus, first_pasts};
 ghost use Rattle.mem_system.specs.Cpus.{parts_of, pasts_of};
 ghost use Rattle.mem_system.specs.declared.boots.BootFault.TheVariants.{NoMemory};
@@ -22,7 +22,7 @@ use std::marker::Model;
 use zone_blocks::config::Config;
 
 /// Why there is no boot.
-#[derive(Clone, Copy, Debug, PartialEq, Eq)]
+#[derive(Clone, Copy)]
 pub enum BootFault {
     /// A size is out of its range.
     BadConfig,
@@ -86,10 +86,14 @@ impl Boot {
             cpus,
         } = self;
         let tables = Tables::<N>::new(words);
-        let machine = Machine::<N>::new(alloc, &tables, zone)?;
-        let locked = new_locked(alloc, sizes, machine)?;
         let cpus = make_cpus(alloc, sizes.cpus, cpus)?;
-        Ok((locked, tables, cpus))
+        match new_locked(alloc, sizes, &tables, zone) {
+            Ok(locked) => Ok((locked, tables, cpus)),
+            Err(error) => {
+                take_apart(cpus);
+                Err(error)
+            }
+        }
     }
 
     /// Starts the boot under a name of its tables: returns the system, and a part for each CPU, in order. It returns
@@ -107,17 +111,23 @@ impl Boot {
     }
 }
 
-// What first lies behind the lock: the machine, the sizes, and room for the CPUs' seats at the end.
+// What first lies behind the lock: the machine, the sizes, and room for the CPUs' seats at the end. The machine is made
+// last, so that no path drops one.
 fn new_locked<N: BootName>(
     alloc: Global,
     sizes: Config,
-    machine: Machine<N>,
+    tables: &Tables<N>,
+    zone: OwnSeats,
 ) -> Result<Locked<N>, AllocError>
-    requires quiet { IsQuiet N.frames N.stocks (record { machine = machine; sizes = sizes }) }
-    ensures machine { IfOk result (λ locked. locked.machine ≡ machine) }
+    requires valid { IsValidConfig sizes }
+    requires sized { IsSizedAs sizes N.frames N.stocks }
+    requires zone { zone ≡ zone_seats N.frames.table N.frames.frames }
+    ensures machine { IfOk result (λ locked. IsFirst N.frames N.stocks locked.machine) }
     ensures sizes { IfOk result (λ locked. locked.sizes ≡ sizes) }
+    ensures past { IfOk result (λ locked. locked.machine.run.past ≡ zone.past) }
 {
     let seats = Vec::with_capacity(alloc, sizes.cpus as usize)?;
+    let machine = Machine::<N>::new(alloc, tables, zone)?;
     Ok(Locked {
         machine,
         sizes,

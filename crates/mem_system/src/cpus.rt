@@ -21,7 +21,8 @@ use std::alloc::{AllocError, Global};
 use std::marker::Model;
 use stock_word::Stock;
 
-/// What a CPU has for itself: its part of the memory controller, and its own past of the run. By the past it knows its own lists and pins, whatever others did since its last step. `into_seats` consumes it.
+/// What a CPU has for itself: its part of the memory controller, and its own past of the run. By the past it knows its
+/// own lists and pins, whatever others did since its last step. `into_seats` consumes it.
 pub struct Cpu<N: BootName> {
     pub(crate) part: CpuPart<N>,
     // Empty while the CPU holds the lock: the machine has it then.
@@ -162,7 +163,8 @@ impl<N: BootName> Cpu<N> {
 
     /// A frame that is pinned, if there is one.
     pub fn first_pin(&self) -> Option<Frame>
-        ensures { MatchOption result (self.now.part.pins ≡ []) (λ f. (1 ≤ times f self.now.part.pins) × (f < N.frames.frames)) }
+        ensures { MatchOption result (self.now.part.pins ≡ [])
+            (λ f. (1 ≤ times f self.now.part.pins) × (f < N.frames.frames)) }
     {
         self.part.first_pin()
     }

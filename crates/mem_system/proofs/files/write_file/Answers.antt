@@ -1,11 +1,13 @@
 use Rattle.std.proofs.Common.{subst}
 use Rattle.group_tree.specs.declared.fault.Fault.TheVariants.{ReadOnly}
+use Rattle.control_files.specs.declared.file.File.{File}
+use Rattle.control_files.specs.declared.file.File.TheVariants.{Max, OomGroup, Reclaim}
 use Rattle.cpu_part.specs.Cpus.{KnownCpu}
 use Rattle.group_charge.specs.Charges.{Ledger}
 use Rattle.mem_system.specs.Files.{HasNoFile, IsFileOf}
 use Rattle.mem_system.proofs.Found.{found_there}
 use Rattle.mem_system.proofs.Keeping.{visit_same}
-use Rattle.mem_system.proofs.Writing.{read_only, refused_at}
+use Rattle.mem_system.proofs.Writing.{read_only, refused_at, written_at}
 use Rattle.mem_system.proofs.Refusing.{none_written}
 use Rattle.mem_system.proofs.files.write_file.Goals as goal
 
@@ -42,3 +44,27 @@ pub returns-in-Err-clause-written : goal.returns-in-Err-clause-written
 returns-in-Err-clause-written g c =
     none_written g.N.BootName.frames c.args.path.now c.args.name.now c.args.value.now c.in-Err.fault c.args.machine.now
     (subst (λ (l : Ledger). HasNoFile l.groups c.args.path.now c.args.name.now c.in-Err.fault) c.charges.ensures c.in-Err.ensures.none)
+
+pub returns-in-Max-clause-written : goal.returns-in-Max-clause-written
+returns-in-Max-clause-written g c =
+    let is = subst (λ (l : Ledger). IsFileOf l.groups c.args.path.now c.args.name.now c.in-Ok.found.0 c.in-Ok.found.1)
+    c.charges.ensures c.in-Ok.ensures.found in
+    written_at g.N.BootName.frames c.args.path.now c.args.name.now c.args.value.now c.in-Ok.found.0 Max c.args.machine.now _ _
+    (subst (λ (f : File). IsFileOf c.args.machine.now.ledger.groups c.args.path.now c.args.name.now c.in-Ok.found.0 f) c.in-Max.is is)
+    c.write_limit.ensures.written
+
+pub returns-in-OomGroup-clause-written : goal.returns-in-OomGroup-clause-written
+returns-in-OomGroup-clause-written g c =
+    let is = subst (λ (l : Ledger). IsFileOf l.groups c.args.path.now c.args.name.now c.in-Ok.found.0 c.in-Ok.found.1)
+    c.charges.ensures c.in-Ok.ensures.found in
+    written_at g.N.BootName.frames c.args.path.now c.args.name.now c.args.value.now c.in-Ok.found.0 OomGroup c.args.machine.now _ _
+    (subst (λ (f : File). IsFileOf c.args.machine.now.ledger.groups c.args.path.now c.args.name.now c.in-Ok.found.0 f) c.in-OomGroup.is is)
+    c.write_flag.ensures.written
+
+pub returns-in-Reclaim-clause-written : goal.returns-in-Reclaim-clause-written
+returns-in-Reclaim-clause-written g c =
+    let is = subst (λ (l : Ledger). IsFileOf l.groups c.args.path.now c.args.name.now c.in-Ok.found.0 c.in-Ok.found.1)
+    c.charges.ensures c.in-Ok.ensures.found in
+    written_at g.N.BootName.frames c.args.path.now c.args.name.now c.args.value.now c.in-Ok.found.0 Reclaim c.args.machine.now _ _
+    (subst (λ (f : File). IsFileOf c.args.machine.now.ledger.groups c.args.path.now c.args.name.now c.in-Ok.found.0 f) c.in-Reclaim.is is)
+    c.write_reclaim.ensures.written
