@@ -1,9 +1,9 @@
 //! The names of the commands.
 
-ghost use Rattle.std.specs.Prelude.{◌≡◌, ◌≤◌, IfOk, MatchOption, length, take, true};
+ghost use Rattle.std.specs.Prelude.{◌≡◌, ◌≤◌, IfOk, MatchOption, length, take, true, ⊤};
 ghost use Rattle.script_lines.specs.Names.{IsWordEnd, code_of, is_word, longest_command_name};
-ghost use Rattle.script_lines.specs.Script.{BeginsWithName, IsNamed};
-ghost use Rattle.script_lines.specs.Verb.{IsNames, verb_coded};
+ghost use Rattle.script_lines.specs.Script.{BeginsWithName, IsCut, IsNamed};
+ghost use Rattle.script_lines.specs.Verb.{IsNames, name_of_verb, verb_coded};
 ghost use Rattle.script_lines.specs.declared.verb.Verb.{Verb};
 
 use indexmap::IndexMap;
@@ -12,8 +12,9 @@ use std::alloc::{AllocError, Global};
 /// How many bytes the longest name has.
 const LONGEST_NAME: usize = 7;
 
-/// Each of the first 16 names has a place of its own in the table: the upper four bits of its number times this one.
-const SPREAD: u64 = 7_351_189_111_781_068_673;
+/// Each of the first 16 names has a place of its own in the table: the upper four bits of its first four bytes (a space
+/// behind `get` and `put`), read as a number, times this one.
+const SPREAD: u32 = 4_067_837_785;
 
 /// Which command a line has.
 #[derive(Clone, Copy, PartialEq, Eq)]
@@ -74,7 +75,7 @@ impl Name {
 /// The commands by their names.
 pub type Names = IndexMap<Name, Verb>;
 
-/// A new table of all commands by their names. The first 16 are each at the place that its number gives; the others
+/// A new table of all commands by their names. The first 16 are each at the place that its first bytes give; the others
 /// follow, because their answers cost far more than a search. `AllocError` if memory runs out.
 pub fn command_names(alloc: Global) -> Result<Names, AllocError>
     ensures { IfOk result IsNames }
@@ -82,48 +83,86 @@ pub fn command_names(alloc: Global) -> Result<Names, AllocError>
     IndexMap::from_array(
         alloc,
         [
-            (Name::of(b"touch"), Verb::Touch),
-            (Name::of(b"blocks"), Verb::Blocks),
-            (Name::of(b"owner"), Verb::Owner),
-            (Name::of(b"clean"), Verb::Clean),
-            (Name::of(b"write"), Verb::Write),
-            (Name::of(b"settle"), Verb::Settle),
-            (Name::of(b"read"), Verb::Read),
-            (Name::of(b"release"), Verb::Release),
-            (Name::of(b"dirty"), Verb::Dirty),
-            (Name::of(b"rmdir"), Verb::Rmdir),
-            (Name::of(b"get"), Verb::Get),
-            (Name::of(b"alloc"), Verb::Alloc),
-            (Name::of(b"show"), Verb::Show),
-            (Name::of(b"fast"), Verb::Fast),
             (Name::of(b"mkdir"), Verb::Mkdir),
+            (Name::of(b"blocks"), Verb::Blocks),
+            (Name::of(b"touch"), Verb::Touch),
+            (Name::of(b"settle"), Verb::Settle),
+            (Name::of(b"show"), Verb::Show),
+            (Name::of(b"dirty"), Verb::Dirty),
+            (Name::of(b"read"), Verb::Read),
+            (Name::of(b"alloc"), Verb::Alloc),
+            (Name::of(b"clean"), Verb::Clean),
             (Name::of(b"put"), Verb::Put),
+            (Name::of(b"get"), Verb::Get),
+            (Name::of(b"rmdir"), Verb::Rmdir),
+            (Name::of(b"fast"), Verb::Fast),
+            (Name::of(b"release"), Verb::Release),
+            (Name::of(b"owner"), Verb::Owner),
+            (Name::of(b"write"), Verb::Write),
             (Name::of(b"stock"), Verb::Stock),
             (Name::of(b"units"), Verb::Units),
         ],
     )
 }
 
-// The command of this name. The first look is at the place that the name's number gives. The map's own search costs
-// several times as much; it is for `stock`, `units` and words that name no command, and would serve any order of the
-// table.
+/// The command that the text begins with the name of, and what follows the space behind that. The latter is None if
+/// nothing follows the name. It is inlined, because each line of a script calls it once, and its result is large.
+///
+/// The first look is at the place that the text's first bytes give. A search costs several times as much; it is for
+/// names that stand alone, `units` and words that name no command, and would serve any order of the table.
+#[inline(always)]
+pub fn first_verb<'a>(names: &Names, text: &'a [u8]) -> Option<(Verb, Option<&'a [u8]>)>
+    requires { IsNames names.now }
+    ensures { MatchOption result ((verb : Verb) → ¬ BeginsWithName verb text.entry.now)
+        (λ r. IsNamed r.0 r.1 text.entry.now) }
+{
+    if text.len() >= 4 {
+        let front = u32::from_le_bytes([text[0], text[1], text[2], text[3]]);
+        let place = (front.wrapping_mul(SPREAD) >> 28) as usize;
+        if let Some((_, verb)) = names.get_index(place) {
+            if let Some(arguments) = arguments_of(*verb, text) {
+                return Some((*verb, Some(arguments)));
+            }
+        }
+    }
+    verb_searched(names, text)
+}
+
+// What follows the name of this command and a space. None if the text begins otherwise, or if nothing may follow the
+// name. A comparison with a text that is known takes an instruction or two a byte.
+#[inline(always)]
+fn arguments_of(verb: Verb, text: &[u8]) -> Option<&[u8]>
+    ensures { MatchOption result ⊤ (λ rest. IsCut text.now (name_of_verb verb) rest.now) }
+{
+    match verb {
+        Verb::Mkdir => text.strip_prefix(b"mkdir ".as_slice()),
+        Verb::Rmdir => text.strip_prefix(b"rmdir ".as_slice()),
+        Verb::Write => text.strip_prefix(b"write ".as_slice()),
+        Verb::Read => text.strip_prefix(b"read ".as_slice()),
+        Verb::Alloc => text.strip_prefix(b"alloc ".as_slice()),
+        Verb::Fast => text.strip_prefix(b"fast ".as_slice()),
+        Verb::Release => text.strip_prefix(b"release ".as_slice()),
+        Verb::Get => text.strip_prefix(b"get ".as_slice()),
+        Verb::Put => text.strip_prefix(b"put ".as_slice()),
+        Verb::Touch => text.strip_prefix(b"touch ".as_slice()),
+        Verb::Dirty => text.strip_prefix(b"dirty ".as_slice()),
+        Verb::Clean => text.strip_prefix(b"clean ".as_slice()),
+        Verb::Owner => text.strip_prefix(b"owner ".as_slice()),
+        Verb::Settle | Verb::Blocks | Verb::Show | Verb::Stock | Verb::Units => None,
+    }
+}
+
+// The command of this name, by the map's own search.
 fn verb_named(names: &Names, name: Name) -> Option<Verb>
     requires { IsNames names.now }
     ensures { result ≡ verb_coded name.code }
 {
-    let place = (name.code.wrapping_mul(SPREAD) >> 60) as usize;
-    if let Some((found, verb)) = names.get_index(place) {
-        if found.code == name.code {
-            return Some(*verb);
-        }
-    }
     names.get(&name).copied()
 }
 
-/// The command that the text begins with the name of, and what follows the space behind that. The latter is None if
-/// nothing follows the name. It is inlined, because each line of a script calls it once, and its result is large.
-#[inline(always)]
-pub fn first_verb<'a>(names: &Names, text: &'a [u8]) -> Option<(Verb, Option<&'a [u8]>)>
+// The same as `first_verb`, by a search for the first word.
+#[inline(never)]
+fn verb_searched<'a>(names: &Names, text: &'a [u8]) -> Option<(Verb, Option<&'a [u8]>)>
     requires { IsNames names.now }
     ensures { MatchOption result ((verb : Verb) → ¬ BeginsWithName verb text.entry.now)
         (λ r. IsNamed r.0 r.1 text.entry.now) }
