@@ -12,7 +12,7 @@ use Rattle.script_lines.specs.Verb.{its_verb, name_of_verb}
 use Rattle.script_lines.specs.declared.verb.Verb.{Verb}
 use Rattle.script_lines.specs.declared.verb.Verb.TheVariants as verb
 use Rattle.script_lines.proofs.Verbs.{name_no_space, same_verb}
-use Rattle.script_lines.proofs.Cuts.{NoSpace, cut_once, digits_no_space, no_cut, path_no_space}
+use Rattle.script_lines.proofs.Cuts.{cut_once, digits_no_space, no_cut, path_no_space}
 
 -- what a `None` says
 pub on_none : {T : Type 0} (r : Option T) (P : Type 0) (Q : T → Type 0) → r ≡ None → P → MatchOption r P Q

@@ -1,9 +1,9 @@
 //! The names of the commands.
 
-ghost use Rattle.std.specs.Prelude.{◌≡◌, ◌≤◌, IfOk, MatchOption, length, take, true, ⊤};
+ghost use Rattle.std.specs.Prelude.{◌≡◌, ◌≤◌, IfOk, MatchOption, length, take, true};
 ghost use Rattle.script_lines.specs.Names.{IsWordEnd, code_of, is_word, longest_command_name};
-ghost use Rattle.script_lines.specs.Script.{BeginsWithName, IsCut, IsNamed};
-ghost use Rattle.script_lines.specs.Verb.{IsNames, name_of_verb, verb_coded};
+ghost use Rattle.script_lines.specs.Script.{BeginsWithName, IsNamed};
+ghost use Rattle.script_lines.specs.Verb.{IsNames, verb_coded};
 ghost use Rattle.script_lines.specs.declared.verb.Verb.{Verb};
 
 use indexmap::IndexMap;
@@ -105,53 +105,6 @@ pub fn command_names(alloc: Global) -> Result<Names, AllocError>
     )
 }
 
-/// The command that the text begins with the name of, and what follows the space behind that. The latter is None if
-/// nothing follows the name. It is inlined, because each line of a script calls it once, and its result is large.
-///
-/// The first look is at the place that the text's first bytes give. A search costs several times as much; it is for
-/// names that stand alone, `units` and words that name no command, and would serve any order of the table.
-#[inline(always)]
-pub fn first_verb<'a>(names: &Names, text: &'a [u8]) -> Option<(Verb, Option<&'a [u8]>)>
-    requires { IsNames names.now }
-    ensures { MatchOption result ((verb : Verb) → ¬ BeginsWithName verb text.entry.now)
-        (λ r. IsNamed r.0 r.1 text.entry.now) }
-{
-    if text.len() >= 4 {
-        let front = u32::from_le_bytes([text[0], text[1], text[2], text[3]]);
-        let place = (front.wrapping_mul(SPREAD) >> 28) as usize;
-        if let Some((_, verb)) = names.get_index(place) {
-            if let Some(arguments) = arguments_of(*verb, text) {
-                return Some((*verb, Some(arguments)));
-            }
-        }
-    }
-    verb_searched(names, text)
-}
-
-// What follows the name of this command and a space. None if the text begins otherwise, or if nothing may follow the
-// name. A comparison with a text that is known takes an instruction or two a byte.
-#[inline(always)]
-fn arguments_of(verb: Verb, text: &[u8]) -> Option<&[u8]>
-    ensures { MatchOption result ⊤ (λ rest. IsCut text.now (name_of_verb verb) rest.now) }
-{
-    match verb {
-        Verb::Mkdir => text.strip_prefix(b"mkdir ".as_slice()),
-        Verb::Rmdir => text.strip_prefix(b"rmdir ".as_slice()),
-        Verb::Write => text.strip_prefix(b"write ".as_slice()),
-        Verb::Read => text.strip_prefix(b"read ".as_slice()),
-        Verb::Alloc => text.strip_prefix(b"alloc ".as_slice()),
-        Verb::Fast => text.strip_prefix(b"fast ".as_slice()),
-        Verb::Release => text.strip_prefix(b"release ".as_slice()),
-        Verb::Get => text.strip_prefix(b"get ".as_slice()),
-        Verb::Put => text.strip_prefix(b"put ".as_slice()),
-        Verb::Touch => text.strip_prefix(b"touch ".as_slice()),
-        Verb::Dirty => text.strip_prefix(b"dirty ".as_slice()),
-        Verb::Clean => text.strip_prefix(b"clean ".as_slice()),
-        Verb::Owner => text.strip_prefix(b"owner ".as_slice()),
-        Verb::Settle | Verb::Blocks | Verb::Show | Verb::Stock | Verb::Units => None,
-    }
-}
-
 // The command of this name, by the map's own search.
 fn verb_named(names: &Names, name: Name) -> Option<Verb>
     requires { IsNames names.now }
@@ -160,9 +113,22 @@ fn verb_named(names: &Names, name: Name) -> Option<Verb>
     names.get(&name).copied()
 }
 
-// The same as `first_verb`, by a search for the first word.
-#[inline(never)]
-fn verb_searched<'a>(names: &Names, text: &'a [u8]) -> Option<(Verb, Option<&'a [u8]>)>
+/// The command whose name the text may begin with: the one at the place that the text's first four bytes give. So a
+/// caller that compares the text with one name finds most commands.
+#[inline(always)]
+pub(crate) fn likely_verb(names: &Names, text: &[u8]) -> Option<Verb> {
+    if text.len() < 4 {
+        return None;
+    }
+    let front = u32::from_le_bytes([text[0], text[1], text[2], text[3]]);
+    let place = (front.wrapping_mul(SPREAD) >> 28) as usize;
+    let (_, verb) = names.get_index(place)?;
+    Some(*verb)
+}
+
+/// The command that the text begins with the name of, and what follows the space behind that. The latter is None if
+/// nothing follows the name.
+pub fn first_verb<'a>(names: &Names, text: &'a [u8]) -> Option<(Verb, Option<&'a [u8]>)>
     requires { IsNames names.now }
     ensures { MatchOption result ((verb : Verb) → ¬ BeginsWithName verb text.entry.now)
         (λ r. IsNamed r.0 r.1 text.entry.now) }

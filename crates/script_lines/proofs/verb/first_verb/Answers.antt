@@ -5,7 +5,7 @@ use Rattle.script_lines.specs.Verb.{verb_coded}
 use Rattle.script_lines.proofs.Readings.{on_none}
 use Rattle.script_lines.proofs.Verbs.{named, verb_coded-name_of}
 use Rattle.script_lines.proofs.Words.{too_long, word_alone, word_bytes, word_cut, word_is}
-use Rattle.script_lines.proofs.verb.verb_searched.Goals as goal
+use Rattle.script_lines.proofs.verb.first_verb.Goals as goal
 
 pub returns-then-end-gt-LONGEST_NAME : goal.returns-then-end-gt-LONGEST_NAME
 returns-then-end-gt-LONGEST_NAME c verb begins =
