@@ -148,12 +148,12 @@ IsCommandText sizes other text = (arguments : List ℕ) × (text ≡ name_of_ver
 -- the numbers of the commands' names, each with its command, in the order of the table
 abbrev pub coded_commands : List (ℕ × Verb)
 coded_commands =
-    (code_of (codes "mkdir"), Mkdir) ∷ (code_of (codes "blocks"), Blocks) ∷ (code_of (codes "touch"), Touch)
-    ∷ (code_of (codes "settle"), Settle) ∷ (code_of (codes "show"), Show) ∷ (code_of (codes "dirty"), Dirty)
-    ∷ (code_of (codes "read"), Read) ∷ (code_of (codes "alloc"), Alloc) ∷ (code_of (codes "clean"), Clean)
-    ∷ (code_of (codes "put"), Put) ∷ (code_of (codes "get"), Get) ∷ (code_of (codes "rmdir"), Rmdir)
-    ∷ (code_of (codes "fast"), Fast) ∷ (code_of (codes "release"), Release) ∷ (code_of (codes "owner"), Owner)
-    ∷ (code_of (codes "write"), Write) ∷ (code_of (codes "stock"), Stock) ∷ (code_of (codes "units"), Units) ∷ []
+    (code_of (codes "touch"), Touch) ∷ (code_of (codes "blocks"), Blocks) ∷ (code_of (codes "owner"), Owner)
+    ∷ (code_of (codes "clean"), Clean) ∷ (code_of (codes "write"), Write) ∷ (code_of (codes "settle"), Settle)
+    ∷ (code_of (codes "read"), Read) ∷ (code_of (codes "release"), Release) ∷ (code_of (codes "dirty"), Dirty)
+    ∷ (code_of (codes "rmdir"), Rmdir) ∷ (code_of (codes "get"), Get) ∷ (code_of (codes "alloc"), Alloc)
+    ∷ (code_of (codes "show"), Show) ∷ (code_of (codes "fast"), Fast) ∷ (code_of (codes "mkdir"), Mkdir)
+    ∷ (code_of (codes "put"), Put) ∷ (code_of (codes "stock"), Stock) ∷ (code_of (codes "units"), Units) ∷ []
 
 -- the command whose name has this number
 abbrev pub verb_coded : ℕ → Option Verb

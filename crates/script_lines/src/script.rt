@@ -1,7 +1,7 @@
 //! A script's bytes, cut into lines.
 
 ghost use Rattle.std.specs.Prelude.{◌≡◌, ◌≢◌, ◌↔◌, ◌∷◌, ◌++◌, ℕ, ◌+◌, ◌<◌, ◌≤◌, All, IfErr, IfOk, IfSome, IsTrue, List};
-ghost use Rattle.std.specs.Prelude.{MatchOption, length, take, ⊤};
+ghost use Rattle.std.specs.Prelude.{MatchOption, length, take};
 ghost use Rattle.script_lines.specs.Script.{HasArguments, IsAllocText, IsCommandText, IsCut, IsFirstBadLine};
 ghost use Rattle.script_lines.specs.Script.{IsFrameText, IsGroupText, IsLineText, IsPathText, IsReadText};
 ghost use Rattle.script_lines.specs.Script.{IsRequestText, IsScript, IsWriteText, NamesFirstBadLine, ended_lines};
@@ -14,7 +14,7 @@ use crate::fault::ScriptFault;
 use crate::line::{Command, Line};
 use crate::number::{first_number, number};
 use crate::place::{path_end, place_by_one, place_of};
-use crate::verb::{Names, Verb, command_names, first_verb, likely_verb};
+use crate::verb::{Names, Verb, command_names, first_verb};
 use group_tree::group::MAX_GROUPS;
 use std::alloc::Global;
 use zone_blocks::config::Config;
@@ -177,89 +177,8 @@ fn parse_request<'a>(names: &Names, text: &'a [u8], sizes: &Config) -> Option<(u
     Some((cpu, command))
 }
 
-// The command. Most are found at the first look; the search is for the others, and for all that aren't in the grammar.
 #[inline(always)]
 fn parse_command<'a>(names: &Names, text: &'a [u8], sizes: &Config) -> Option<Command<'a>>
-    requires { IsNames names.now }
-    ensures { MatchOption result ((command : Command) → ¬ IsCommandText sizes.now command text.entry.now)
-        (λ command. IsCommandText sizes.now command text.entry.now) }
-{
-    if let Some(verb) = likely_verb(names, text) {
-        if let Some(command) = parse_likely(verb, text, sizes) {
-            return Some(command);
-        }
-    }
-    command_searched(names, text, sizes)
-}
-
-// The command, if the text is this one's name, a space and its arguments. A comparison with a name that is known takes
-// an instruction or two a byte.
-#[inline(always)]
-fn parse_likely<'a>(verb: Verb, text: &'a [u8], sizes: &Config) -> Option<Command<'a>>
-    ensures { MatchOption result ⊤ (λ command. IsCommandText sizes.now command text.entry.now) }
-{
-    match verb {
-        Verb::Write => {
-            let (path, file, value) = parse_write(text.strip_prefix(b"write ".as_slice())?)?;
-            Some(Command::Write { path, file, value })
-        }
-        Verb::Read => {
-            let (path, file) = parse_read(text.strip_prefix(b"read ".as_slice())?)?;
-            Some(Command::Read { path, file })
-        }
-        Verb::Alloc => {
-            let (path, order) = parse_alloc(text.strip_prefix(b"alloc ".as_slice())?)?;
-            Some(Command::Alloc { path, order })
-        }
-        Verb::Fast => {
-            let group = group_of(text.strip_prefix(b"fast ".as_slice())?)?;
-            Some(Command::Fast { group })
-        }
-        _ => likely_on_frame(verb, text, sizes),
-    }
-}
-
-// The same for the commands about a frame.
-#[inline(always)]
-fn likely_on_frame<'a>(verb: Verb, text: &'a [u8], sizes: &Config) -> Option<Command<'a>>
-    ensures { MatchOption result ⊤ (λ command. IsCommandText sizes.now command text.entry.now) }
-{
-    match verb {
-        Verb::Release => {
-            let frame = frame_of(text.strip_prefix(b"release ".as_slice())?, sizes)?;
-            Some(Command::Release { frame })
-        }
-        Verb::Get => {
-            let frame = frame_of(text.strip_prefix(b"get ".as_slice())?, sizes)?;
-            Some(Command::Get { frame })
-        }
-        Verb::Put => {
-            let frame = frame_of(text.strip_prefix(b"put ".as_slice())?, sizes)?;
-            Some(Command::Put { frame })
-        }
-        Verb::Touch => {
-            let frame = frame_of(text.strip_prefix(b"touch ".as_slice())?, sizes)?;
-            Some(Command::Touch { frame })
-        }
-        Verb::Dirty => {
-            let frame = frame_of(text.strip_prefix(b"dirty ".as_slice())?, sizes)?;
-            Some(Command::Dirty { frame })
-        }
-        Verb::Clean => {
-            let frame = frame_of(text.strip_prefix(b"clean ".as_slice())?, sizes)?;
-            Some(Command::Clean { frame })
-        }
-        Verb::Owner => {
-            let frame = frame_of(text.strip_prefix(b"owner ".as_slice())?, sizes)?;
-            Some(Command::Owner { frame })
-        }
-        _ => None,
-    }
-}
-
-// The same as `parse_command`, by a search for the first word.
-#[inline(never)]
-fn command_searched<'a>(names: &Names, text: &'a [u8], sizes: &Config) -> Option<Command<'a>>
     requires { IsNames names.now }
     ensures { MatchOption result ((command : Command) → ¬ IsCommandText sizes.now command text.entry.now)
         (λ command. IsCommandText sizes.now command text.entry.now) }

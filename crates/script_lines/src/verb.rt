@@ -12,9 +12,8 @@ use std::alloc::{AllocError, Global};
 /// How many bytes the longest name has.
 const LONGEST_NAME: usize = 7;
 
-/// Each of the first 16 names has a place of its own in the table: the upper four bits of its first four bytes (a space
-/// behind `get` and `put`), read as a number, times this one.
-const SPREAD: u32 = 4_067_837_785;
+/// Each of the first 16 names has a place of its own in the table: the upper four bits of its number times this one.
+const SPREAD: u64 = 7_351_189_111_781_068_673;
 
 /// Which command a line has.
 #[derive(Clone, Copy, PartialEq, Eq)]
@@ -75,7 +74,7 @@ impl Name {
 /// The commands by their names.
 pub type Names = IndexMap<Name, Verb>;
 
-/// A new table of all commands by their names. The first 16 are each at the place that its first bytes give; the others
+/// A new table of all commands by their names. The first 16 are each at the place that its number gives; the others
 /// follow, because their answers cost far more than a search. `AllocError` if memory runs out.
 pub fn command_names(alloc: Global) -> Result<Names, AllocError>
     ensures { IfOk result IsNames }
@@ -83,51 +82,47 @@ pub fn command_names(alloc: Global) -> Result<Names, AllocError>
     IndexMap::from_array(
         alloc,
         [
-            (Name::of(b"mkdir"), Verb::Mkdir),
-            (Name::of(b"blocks"), Verb::Blocks),
             (Name::of(b"touch"), Verb::Touch),
-            (Name::of(b"settle"), Verb::Settle),
-            (Name::of(b"show"), Verb::Show),
-            (Name::of(b"dirty"), Verb::Dirty),
-            (Name::of(b"read"), Verb::Read),
-            (Name::of(b"alloc"), Verb::Alloc),
-            (Name::of(b"clean"), Verb::Clean),
-            (Name::of(b"put"), Verb::Put),
-            (Name::of(b"get"), Verb::Get),
-            (Name::of(b"rmdir"), Verb::Rmdir),
-            (Name::of(b"fast"), Verb::Fast),
-            (Name::of(b"release"), Verb::Release),
+            (Name::of(b"blocks"), Verb::Blocks),
             (Name::of(b"owner"), Verb::Owner),
+            (Name::of(b"clean"), Verb::Clean),
             (Name::of(b"write"), Verb::Write),
+            (Name::of(b"settle"), Verb::Settle),
+            (Name::of(b"read"), Verb::Read),
+            (Name::of(b"release"), Verb::Release),
+            (Name::of(b"dirty"), Verb::Dirty),
+            (Name::of(b"rmdir"), Verb::Rmdir),
+            (Name::of(b"get"), Verb::Get),
+            (Name::of(b"alloc"), Verb::Alloc),
+            (Name::of(b"show"), Verb::Show),
+            (Name::of(b"fast"), Verb::Fast),
+            (Name::of(b"mkdir"), Verb::Mkdir),
+            (Name::of(b"put"), Verb::Put),
             (Name::of(b"stock"), Verb::Stock),
             (Name::of(b"units"), Verb::Units),
         ],
     )
 }
 
-// The command of this name, by the map's own search.
+// The command of this name. The first look is at the place that the name's number gives. The map's own search costs
+// several times as much; it is for `stock`, `units` and words that name no command, and would serve any order of the
+// table.
 fn verb_named(names: &Names, name: Name) -> Option<Verb>
     requires { IsNames names.now }
     ensures { result ≡ verb_coded name.code }
 {
+    let place = (name.code.wrapping_mul(SPREAD) >> 60) as usize;
+    if let Some((found, verb)) = names.get_index(place) {
+        if found.code == name.code {
+            return Some(*verb);
+        }
+    }
     names.get(&name).copied()
 }
 
-/// The command whose name the text may begin with: the one at the place that the text's first four bytes give. So a
-/// caller that compares the text with one name finds most commands.
-#[inline(always)]
-pub(crate) fn likely_verb(names: &Names, text: &[u8]) -> Option<Verb> {
-    if text.len() < 4 {
-        return None;
-    }
-    let front = u32::from_le_bytes([text[0], text[1], text[2], text[3]]);
-    let place = (front.wrapping_mul(SPREAD) >> 28) as usize;
-    let (_, verb) = names.get_index(place)?;
-    Some(*verb)
-}
-
 /// The command that the text begins with the name of, and what follows the space behind that. The latter is None if
-/// nothing follows the name.
+/// nothing follows the name. It is inlined, because each line of a script calls it once, and its result is large.
+#[inline(always)]
 pub fn first_verb<'a>(names: &Names, text: &'a [u8]) -> Option<(Verb, Option<&'a [u8]>)>
     requires { IsNames names.now }
     ensures { MatchOption result ((verb : Verb) → ¬ BeginsWithName verb text.entry.now)

@@ -2,7 +2,7 @@ use Rattle.std.proofs.Common.{subst}
 use Rattle.script_lines.specs.Script.{IsCut, IsNamed}
 use Rattle.script_lines.specs.Verb.{its_verb, name_of_verb}
 use Rattle.script_lines.proofs.Readings.{begins, from_arguments, on_none}
-use Rattle.script_lines.proofs.script.command_searched.Goals as goal
+use Rattle.script_lines.proofs.script.parse_command.Goals as goal
 
 pub returns-in_err-verb : goal.returns-in_err-verb
 returns-in_err-verb c = on_none _ _ _ c.from_residual.ensures
