@@ -12,7 +12,7 @@ use Rattle.script_lines.specs.Verb.{its_verb, name_of_verb}
 use Rattle.script_lines.specs.declared.verb.Verb.{Verb}
 use Rattle.script_lines.specs.declared.verb.Verb.TheVariants as verb
 use Rattle.script_lines.proofs.Verbs.{name_no_space, same_verb}
-use Rattle.script_lines.proofs.Cuts.{NoSpace, cut_once, digits_no_space, no_cut, path_no_space}
+use Rattle.script_lines.proofs.Cuts.{cut_once, digits_no_space, no_cut, path_no_space}
 
 -- what a `None` says
 pub on_none : {T : Type 0} (r : Option T) (P : Type 0) (Q : T → Type 0) → r ≡ None → P → MatchOption r P Q
@@ -24,49 +24,19 @@ pub not_asked : (sizes : Config) (n : ℕ) (text : List ℕ) → is_go text ≡ 
 not_asked sizes n text goes none Go is = let now : is_go (codes "go") ≡ false = rw is at goes in cc
 not_asked sizes n text goes none (At number cpu command) is = none cpu command is.1
 
--- the arguments of `alloc` have a space
-pub alloc_has_space : (text : List ℕ) → NoSpace text → (path : List ℕ) (order : ℕ) → ¬ IsAllocText path order text
-alloc_has_space text none path order is = no_cut text path is.digits none is.parts
+-- what follows the path of `alloc` is its order
+pub alloc_order : (text w r : List ℕ) → IsCut text w r → (path : List ℕ) (order : ℕ) → IsAllocText path order text → WritesNumber r order
+alloc_order text w r cut path order is =
+    subst (λ (x : List ℕ). WritesNumber x order) (sym (cut_once text w r path is.digits cut (path_no_space path is.path_text) is.parts).1) is.writes
 
--- the arguments of `alloc` are the parts of the cut
-pub alloc_parts : (text w r : List ℕ) → IsCut text w r → (path : List ℕ) (order : ℕ) → IsAllocText path order text → IsPathText w × WritesNumber r order
-alloc_parts text w r cut path order is =
-    let same = cut_once text w r path is.digits cut (path_no_space path is.path_text) is.parts in
-    let is_path : IsPathText w = subst IsPathText (sym same.0) is.path_text in
-    let is_number : WritesNumber r order = subst (λ (x : List ℕ). WritesNumber x order) (sym same.1) is.writes in
-    (is_path, is_number)
+-- what follows the path of `read` is its file
+pub read_file : (text w r : List ℕ) → IsCut text w r → (path file : List ℕ) → IsReadText path file text → IsPathText r
+read_file text w r cut path file is =
+    subst IsPathText (sym (cut_once text w r path file cut (path_no_space path is.path_text) is.parts).1) is.file_text
 
--- the arguments of `read` are the parts of the cut
-pub read_has_space : (text : List ℕ) → NoSpace text → (path file : List ℕ) → ¬ IsReadText path file text
-read_has_space text none path file is = no_cut text path file none is.parts
-
-pub read_parts : (text w r : List ℕ) → IsCut text w r → (path file : List ℕ) → IsReadText path file text → IsPathText w × IsPathText r
-read_parts text w r cut path file is =
-    let same = cut_once text w r path file cut (path_no_space path is.path_text) is.parts in
-    let is_path : IsPathText w = subst IsPathText (sym same.0) is.path_text in
-    let is_file : IsPathText r = subst IsPathText (sym same.1) is.file_text in
-    (is_path, is_file)
-
--- the arguments of `write` are cut twice
-pub write_has_space : (text : List ℕ) → NoSpace text → (path file value : List ℕ) → ¬ IsWriteText path file value text
-write_has_space text none path file value is = no_cut text path (file ++ 32 ∷ value) none is.parts
-
-pub write_cut : (text w r : List ℕ) → IsCut text w r → (path file value : List ℕ) → IsWriteText path file value text → IsPathText w × (r ≡ file ++ 32 ∷ value)
-write_cut text w r cut path file value is =
-    let same = cut_once text w r path (file ++ 32 ∷ value) cut (path_no_space path is.path_text) is.parts in
-    let is_path : IsPathText w = subst IsPathText (sym same.0) is.path_text in
-    (is_path, same.1)
-
-pub write_has_spaces : (text w r : List ℕ) → IsCut text w r → NoSpace r → (path file value : List ℕ) → ¬ IsWriteText path file value text
-write_has_spaces text w r cut none path file value is = no_cut r file value none (write_cut text w r cut path file value is).1
-
-pub write_parts : (text w r v s : List ℕ) → IsCut text w r → IsCut r v s → (path file value : List ℕ)
-    → IsWriteText path file value text → IsPathText w × IsPathText v
-write_parts text w r v s cut next path file value is =
-    let first = write_cut text w r cut path file value is in
-    let same = cut_once r v s file value next (path_no_space file is.file_text) first.1 in
-    let is_file : IsPathText v = subst IsPathText (sym same.0) is.file_text in
-    (first.0, is_file)
+-- what follows the path of `write` is its file and value
+pub write_rest : (text w r : List ℕ) → IsCut text w r → (path file value : List ℕ) → IsWriteText path file value text → r ≡ file ++ 32 ∷ value
+write_rest text w r cut path file value is = (cut_once text w r path (file ++ 32 ∷ value) cut (path_no_space path is.path_text) is.parts).1
 
 -- the CPU and the command are the parts of the cut
 pub request_parts : (sizes : Config) (text w r : List ℕ) → IsCut text w r → (cpu : ℕ) (command : Command)

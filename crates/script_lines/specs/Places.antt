@@ -6,3 +6,9 @@ pub record IsFirstPlace (wanted : ℕ) (text : List ℕ) (place : ℕ) : Type 0 
   pub inside : place < length text
   pub here : slice_index text place ≡ wanted
   pub before : All (λ b. b ≢ wanted) (take place text)
+
+-- the first place in the text of a byte that no path has
+pub record IsPathEnd (text : List ℕ) (place : ℕ) : Type 0 where
+  pub inside : place < length text
+  pub here : ¬ ((32 < slice_index text place) × (slice_index text place < 127))
+  pub before : All (λ b. (32 < b) × (b < 127)) (take place text)

@@ -28,8 +28,32 @@ pub fn number(word: &[u8]) -> Option<u32>
 }
 
 /// The number before the first space, as `number` reads it, and what follows that space. None if there is no space, or
-/// no number before it. It reads the digits and finds their end in one pass.
+/// no number before it. Most numbers of CPUs have a digit or two, and are read without a loop.
+#[inline(always)]
 pub(crate) fn first_number(text: &[u8]) -> Option<(u32, &[u8])>
+    ensures { MatchOption result
+        ((word : List ℕ) (rest : List ℕ) (n : ℕ) → IsCut text.now word rest → ¬ WritesNumber word n)
+        (λ r. (word : List ℕ) × IsCut text.now word r.1.now × WritesNumber word r.0) }
+{
+    if text.len() >= 3 {
+        if let Some(tens) = char::from(text[0]).to_digit(10) {
+            if text[1] == b' ' {
+                return Some((tens, &text[2..]));
+            }
+            if let Some(ones) = char::from(text[1]).to_digit(10) {
+                if text[2] == b' ' {
+                    return Some((tens * 10 + ones, &text[3..]));
+                }
+            }
+        }
+    }
+    number_in_loop(text)
+}
+
+// The same, a digit after the other. It stays a call, because its loop would keep a register for each later use of its
+// end.
+#[inline(never)]
+fn number_in_loop(text: &[u8]) -> Option<(u32, &[u8])>
     ensures { MatchOption result
         ((word : List ℕ) (rest : List ℕ) (n : ℕ) → IsCut text.now word rest → ¬ WritesNumber word n)
         (λ r. (word : List ℕ) × IsCut text.now word r.1.now × WritesNumber word r.0) }

@@ -1,7 +1,7 @@
 //! The place of a byte.
 
-ghost use Rattle.std.specs.Prelude.{◌≢◌, All, MatchOption};
-ghost use Rattle.script_lines.specs.Places.{IsFirstPlace};
+ghost use Rattle.std.specs.Prelude.{◌≢◌, ◌<◌, All, MatchOption};
+ghost use Rattle.script_lines.specs.Places.{IsFirstPlace, IsPathEnd};
 
 use std::simd::prelude::*;
 
@@ -27,4 +27,12 @@ pub fn place_by_one(wanted: u8, text: &[u8]) -> Option<usize>
     ensures { MatchOption result (All (λ b. b ≢ wanted) text.now) (λ place. IsFirstPlace wanted text.now place) }
 {
     text.iter().position(|byte| *byte == wanted)
+}
+
+/// The place of the first byte that no path has. It stays a call for the same reason.
+#[inline(never)]
+pub fn path_end(text: &[u8]) -> Option<usize>
+    ensures { MatchOption result (All (λ b. (32 < b) × (b < 127)) text.now) (λ end. IsPathEnd text.now end) }
+{
+    text.iter().position(|byte| !byte.is_ascii_graphic())
 }

@@ -1,6 +1,6 @@
 //! A script's bytes, cut into lines.
 
-ghost use Rattle.std.specs.Prelude.{◌≡◌, ◌≢◌, ◌↔◌, ◌∷◌, ℕ, ◌+◌, ◌<◌, ◌≤◌, All, IfErr, IfOk, IfSome, IsTrue, List};
+ghost use Rattle.std.specs.Prelude.{◌≡◌, ◌≢◌, ◌↔◌, ◌∷◌, ◌++◌, ℕ, ◌+◌, ◌<◌, ◌≤◌, All, IfErr, IfOk, IfSome, IsTrue, List};
 ghost use Rattle.std.specs.Prelude.{MatchOption, length, take};
 ghost use Rattle.script_lines.specs.Script.{HasArguments, IsAllocText, IsCommandText, IsCut, IsFirstBadLine};
 ghost use Rattle.script_lines.specs.Script.{IsFrameText, IsGroupText, IsLineText, IsPathText, IsReadText};
@@ -13,7 +13,7 @@ ghost use Rattle.script_lines.specs.declared.line.Line.{Line};
 use crate::fault::ScriptFault;
 use crate::line::{Command, Line};
 use crate::number::{first_number, number};
-use crate::place::{place_by_one, place_of};
+use crate::place::{path_end, place_by_one, place_of};
 use crate::verb::{Names, Verb, command_names, first_verb};
 use group_tree::group::MAX_GROUPS;
 use std::alloc::Global;
@@ -280,8 +280,8 @@ fn parse_alloc(arguments: &[u8]) -> Option<(&[u8], u32)>
         ((path : List ℕ) (order : ℕ) → ¬ IsAllocText path order arguments.now)
         (λ p. IsAllocText p.0.now p.1 arguments.now) }
 {
-    let (path, order) = first_word(arguments)?;
-    Some((path_of(path)?, number(order)?))
+    let (path, order) = first_path(arguments)?;
+    Some((path, number(order)?))
 }
 
 // The path, the file's name and the value, which is all that follows the space after the name.
@@ -290,9 +290,9 @@ fn parse_write(arguments: &[u8]) -> Option<(&[u8], &[u8], &[u8])>
         ((path : List ℕ) (file : List ℕ) (value : List ℕ) → ¬ IsWriteText path file value arguments.now)
         (λ p. IsWriteText p.0.now p.1.now p.2.now arguments.now) }
 {
-    let (path, rest) = first_word(arguments)?;
-    let (file, value) = first_word(rest)?;
-    Some((path_of(path)?, path_of(file)?, value))
+    let (path, rest) = first_path(arguments)?;
+    let (file, value) = first_path(rest)?;
+    Some((path, file, value))
 }
 
 // The path and the file's name.
@@ -301,8 +301,25 @@ fn parse_read(arguments: &[u8]) -> Option<(&[u8], &[u8])>
         ((path : List ℕ) (file : List ℕ) → ¬ IsReadText path file arguments.now)
         (λ p. IsReadText p.0.now p.1.now arguments.now) }
 {
-    let (path, file) = first_word(arguments)?;
-    Some((path_of(path)?, path_of(file)?))
+    let (path, file) = first_path(arguments)?;
+    Some((path, path_of(file)?))
+}
+
+// The path, or file name, before the first space, and what follows that space. None if there is none, or no path before
+// it.
+fn first_path(text: &[u8]) -> Option<(&[u8], &[u8])>
+    ensures { MatchOption result
+        ((path : List ℕ) (rest : List ℕ) → IsPathText path → text.now ≢ path ++ 32 ∷ rest)
+        (λ p. IsPathText p.0.now × IsCut text.now p.0.now p.1.now) }
+{
+    let end = path_end(text)?;
+    if end == 0 {
+        return None;
+    }
+    if text[end] != b' ' {
+        return None;
+    }
+    Some((&text[..end], &text[end + 1..]))
 }
 
 /// What is before the first space, and what follows it. None if there is no space.

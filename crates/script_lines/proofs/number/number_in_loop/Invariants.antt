@@ -1,6 +1,6 @@
 use Rattle.std.proofs.Common.{◌≡◌, ◌-◌, ◌^◌, ◌<◌, ◌≤◌, length, take}
 use Rattle.std.specs.Str.Parse.{AllDigits, digits_value}
-use Rattle.script_lines.proofs.number.first_number.Given as goal
+use Rattle.script_lines.proofs.number.number_in_loop.Given as goal
 
 -- the digits so far, and the number that they write
 abbrev pub invariant-loop-end : goal.invariant-loop-end
