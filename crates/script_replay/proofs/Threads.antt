@@ -23,7 +23,7 @@ Alone on w c text = (told : Run) × (own : List ℕ) × ServesOwn on w c told ow
 
 pub answers_alone : (on : KnownSystem) (w : KnownWorker) (c : CpuInRun) (text : List ℕ) → Alone on w c text
     → (told : List Run) × AreAllAnswers on (w ∷ []) (c ∷ []) told text
-answers_alone on w c text is = (is.0 ∷ [], (is.1, ([], (is.2, (refl, is.3 ∙ sym (append-nil (heading w.cpu_number ++ is.1)))))))
+answers_alone on w c text is = (is.0 ∷ [], (is.1, [], is.2, refl, is.3 ∙ sym (append-nil (heading w.cpu_number ++ is.1))))
 
 -- the texts of two slices' workers
 answers_both : (on : KnownSystem) (ws vs : List KnownWorker) (cs ds : List CpuInRun) (ts us : List Run) (a b : List ℕ) → AreAllAnswers on ws cs ts a
@@ -34,8 +34,8 @@ answers_both on [] vs (c ∷ cs) ds ts us a b none more = absurd none
 answers_both on (w ∷ ws) vs [] ds ts us a b none more = absurd none
 answers_both on (w ∷ ws) vs (c ∷ cs) ds [] us a b none more = absurd none
 answers_both on (w ∷ ws) vs (c ∷ cs) ds (t ∷ ts) us a b all more =
-    (all.0, (all.1 ++ b, (all.2, (answers_both on ws vs cs ds ts us all.1 b all.3 more,
-    ap (λ (l : List ℕ). l ++ b) all.4 ∙ append_assoc (heading w.cpu_number ++ all.0) all.1 b))))
+    (all.0, all.1 ++ b, all.2, answers_both on ws vs cs ds ts us all.1 b all.3 more,
+    ap (λ (l : List ℕ). l ++ b) all.4 ∙ append_assoc (heading w.cpu_number ++ all.0) all.1 b)
 
 -- the answers of some workers
 abbrev pub Answers : KnownSystem → List KnownWorker → List CpuInRun → List ℕ → Type 0
