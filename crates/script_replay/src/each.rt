@@ -101,7 +101,8 @@ fn run_both<N: BootName + Send + Sync, R: Threads + Wait + Sync, G: Gate + Sync>
     { run_from(job, second, back) };
     let (ours, theirs) = join_mut(job.visitor.rt, &mut run_front, &mut run_back);
     let mut text = ours?;
-    text.extend_from_slice(&theirs?)?;
+    let others = theirs?;
+    text.extend_from_slice(&others)?;
     Ok(text)
 }
 
