@@ -59,7 +59,7 @@ pub record AllocsFast (group : ℕ) (fast : Fast) (from to : CpuInRun) : Type 0 
       (own_past to.past)
 
 -- a drop of a fresh frame gave this answer, and the CPU's past grew by its steps
-pub record DropsFresh (frame : ℕ) (dropped : Dropped) (from to : CpuInRun) : Type 0 where
+pub record DropsFast (frame : ℕ) (dropped : Dropped) (from to : CpuInRun) : Type 0 where
   pub answers : DropAnswers frame dropped from.part to.part
   pub run : GrewByAll (own_past from.past)
       (steps_of_drop from.part.number frame dropped from.part.stock_seat.view.last)
@@ -88,7 +88,7 @@ pub record MissesFast (group : ℕ) (from to : CpuInRun) : Type 0 where
 
 -- the frame wasn't a fresh one of the CPU, or its stock was drained, and at most what its part knows of that has changed
 abbrev pub MissesDrop : (frame : ℕ) → (from to : CpuInRun) → Type 0
-MissesDrop frame from to = (to ≡ from) ⊎ DropsFresh frame NeedVisit from to
+MissesDrop frame from to = (to ≡ from) ⊎ DropsFast frame NeedVisit from to
 
 -- `first` leads from the CPU as it was to the CPU between, and `rest` on from there
 pub record Then (first rest : (from to : CpuInRun) → Type 0) (from to : CpuInRun) : Type 0 where
@@ -136,7 +136,7 @@ Calls frames stock_table (call.AllocBlock group order) from to (answer.Served ou
     OnCpu (IsVisited frames stock_table (ServesBlock frames group order outcome)) from to
 Calls frames stock_table (call.Release frame) from to answer.Busy = OnCpu (MissesDrop frame) from to
 Calls frames stock_table (call.Release frame) from to answer.NoFrame = (frames.frames ≤ frame) × (to ≡ from)
-Calls frames stock_table (call.Release frame) from to answer.Listed = OnCpu (DropsFresh frame Listed) from to
+Calls frames stock_table (call.Release frame) from to answer.Listed = OnCpu (DropsFast frame Listed) from to
 Calls frames stock_table (call.Release frame) from to (answer.Served outcome) =
     OnCpu (Then (MissesDrop frame) (IsVisited frames stock_table (ServesOutcome frames (cmd.Release frame) outcome)))
     from to

@@ -25,15 +25,16 @@ abbrev pub frames_put : List MadePut → List ℕ
 frames_put puts = map (λ put. put.frame) puts
 
 -- the steps of these puts by the CPU
-abbrev pub steps_of_puts : (cpu : ℕ) → List MadePut → Run
-steps_of_puts cpu [] = []
-steps_of_puts cpu (put ∷ puts) = steps_of_put cpu put.frame put.answer ++ steps_of_puts cpu puts
+abbrev pub unpin_steps : (cpu : ℕ) → List MadePut → Run
+unpin_steps cpu [] = []
+unpin_steps cpu (put ∷ puts) = steps_of_put cpu put.frame put.answer ++ unpin_steps cpu puts
 
 -- The CPU put some of its pins, and its past grew by these steps.
 pub record PutsPins (from to : CpuInRun) : Type 0 where
   pub puts : List MadePut
+  pub number : to.part.number ≡ from.part.number
   pub pins : IsPermutation from.part.pins (frames_put puts ++ to.part.pins)
-  pub run : GrewByAll (own_past from.past) (steps_of_puts (own_past from.past).number puts) (own_past to.past)
+  pub run : GrewByAll (own_past from.past) (unpin_steps from.part.number puts) (own_past to.past)
 
 -- each CPU put some of its pins
 abbrev pub EachPuts : (before after : List CpuInRun) → Type 0
@@ -49,9 +50,10 @@ pub record EndsCpu (run : Run) (cpu : CpuInRun) : Type 0 where
   pub settling : Run
   pub emptying : Run
   pub last : Past
+  pub number : (own_past cpu.past).number ≡ cpu.part.number
   pub grew : GrewByAll (own_past cpu.past)
-      (steps_of_puts (own_past cpu.past).number puts
-      ++ (between_locks (own_past cpu.past).number settling ++ between_locks (own_past cpu.past).number emptying))
+      (unpin_steps cpu.part.number puts
+      ++ (between_locks cpu.part.number settling ++ between_locks cpu.part.number emptying))
       last
   pub is_last : IsPastOf run last
 

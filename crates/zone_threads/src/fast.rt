@@ -3,7 +3,7 @@
 ghost use Rattle.std.specs.Prelude.{◌<◌, IfNone, IfSome, IsSome, MatchBool};
 ghost use Rattle.cpu_part.specs.declared.answers.Dropped.TheVariants.{Listed};
 ghost use Rattle.cpu_part.specs.declared.answers.Fast.TheVariants.{Got};
-ghost use Rattle.zone_threads.specs.Calling.{AllocsFast, Calls, DropsFresh, MissesDrop, MissesFast};
+ghost use Rattle.zone_threads.specs.Calling.{AllocsFast, Calls, DropsFast, MissesDrop, MissesFast};
 ghost use Rattle.zone_threads.specs.declared.calls.Call.TheVariants as call;
 
 use crate::calls::CallAnswer;
@@ -120,7 +120,7 @@ fn take_listed<N: BootName>(tables: &Tables<N>, cpu: &mut Cpu<N>, group: u32) ->
 // did.
 #[inline(always)]
 fn relist<N: BootName>(tables: &Tables<N>, cpu: &mut Cpu<N>, frame: Frame) -> bool
-    ensures { MatchBool result (DropsFresh frame Listed cpu.old cpu.new) (MissesDrop frame cpu.old cpu.new) }
+    ensures { MatchBool result (DropsFast frame Listed cpu.old cpu.new) (MissesDrop frame cpu.old cpu.new) }
 {
     if !cpu.has_fresh(frame) {
         return false;
