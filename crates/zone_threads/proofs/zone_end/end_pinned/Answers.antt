@@ -8,7 +8,7 @@ use Rattle.zone_threads.proofs.Putting.{each_more, each_none, ends_parts, none_a
 use Rattle.zone_threads.proofs.zone_end.end_pinned.Goals as goal
 
 pub loop-cpu-init : goal.loop-cpu-init
-loop-cpu-init g c = (search rules, refl, subst (EachPuts c.args.cpus.items) (sym c.deref_mut-cpu-items.ensures.value) (each_none c.args.cpus.items))
+loop-cpu-init g c = (search rules, refl, each_none _)
 
 pub loop-cpu-preserved : goal.loop-cpu-preserved
 loop-cpu-preserved g c =
@@ -23,7 +23,7 @@ returns-in-Ok-clause-ends g c =
     let long = c.loop-cpu.auto.cpu-items ∙ ap length first in
     let same = written_back c.args.cpus.len c.loop-cpu.cpu-items c.args.cpus.items long (sym c.deref_mut-cpu-items.ensures.len ∙ ap length first) in
     ends_parts _ _ _ _ _ _ (record { quiet = quiet.quiet; consistent = quiet.consistent; charges = quiet.charges })
-    (subst (EachPuts c.args.cpus.items) (sym same) c.loop-cpu.invariant.2) c.in-Ok.ensures.ends
+    (subst (EachPuts c.args.cpus.items) (sym same) (subst (λ (l : List CpuInRun). EachPuts l c.loop-cpu.cpu-items) first c.loop-cpu.invariant.2)) c.in-Ok.ensures.ends
 
 pub unreachable-requires : goal.unreachable-requires
 unreachable-requires g c =

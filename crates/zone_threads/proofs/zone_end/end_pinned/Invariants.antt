@@ -6,4 +6,4 @@ use Rattle.zone_threads.proofs.zone_end.end_pinned.Given as goal
 
 abbrev pub invariant-loop-cpu : goal.invariant-loop-cpu
 invariant-loop-cpu g l = (length l.cpu-items ≡ g.N.BootName.frames.cpus) × (pins_of_all (parts_of (take l.cpu-index l.cpu-items)) ≡ 0)
-    × EachPuts l.initial.cpus.items l.cpu-items
+    × EachPuts l.initial.cpu-items l.cpu-items
