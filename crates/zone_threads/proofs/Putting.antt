@@ -115,7 +115,7 @@ module _ (t : KnownTable) (run : Run) where
       let two = grown_number (own_past b.past) (between_locks b.part.number settles.visit.steps) (own_past c.past) settles.run.cpu_grew in
       let settling = subst (λ (i : ℕ). GrewByAll (own_past b.past) (between_locks i settles.visit.steps) (own_past c.past)) puts.number settles.run.cpu_grew in
       let emptying = subst (λ (i : ℕ). GrewByAll (own_past c.past) (between_locks i empties.visit.steps) (own_past d.past))
-          (sym empties.run.number ∙ two ∙ settles.run.number ∙ puts.number) empties.run.cpu_grew in
+      (sym empties.run.number ∙ two ∙ settles.run.number ∙ puts.number) empties.run.cpu_grew in
       record {
         puts = puts.puts;
         number = sym one ∙ settles.run.number ∙ puts.number;
@@ -138,9 +138,10 @@ module _ (t : KnownTable) (run : Run) where
   each_ends m n x y (a ∷ parked) (b ∷ cpus) [] emptied puts none settles empties last = absurd settles
   each_ends m n x y (a ∷ parked) (b ∷ cpus) (c ∷ settled) [] puts none settles empties last = absurd empties
   each_ends m n x y (a ∷ parked) (b ∷ cpus) (c ∷ settled) (d ∷ emptied) puts none settles empties last =
-      let all : length b.part.pins + pins_of_all (parts_of cpus) ≡ 0 = sym (sum_by-cons (λ (p : KnownCpu). length p.pins) b.part (parts_of cpus)) ∙ none in
-      (ends_cpu m settles.between x empties.between a b c d puts.0 (nil_from_length b.part.pins (omega (arith, all))) settles.first empties.first last.0,
-          each_ends settles.between n empties.between y parked cpus settled emptied puts.1 (omega (arith, all)) settles.rest empties.rest last.1)
+      let all : length b.part.pins + pins_of_all (parts_of cpus) ≡ 0 = sym (sum_by-cons (λ (p : KnownCpu). length p.pins) b.part (parts_of cpus)) ∙ none in (
+        ends_cpu m settles.between x empties.between a b c d puts.0 (nil_from_length b.part.pins (omega (arith, all))) settles.first empties.first last.0,
+        each_ends settles.between n empties.between y parked cpus settled emptied puts.1 (omega (arith, all)) settles.rest empties.rest last.1,
+      )
 
 -- an end by these parts, whose pins were put before it
 pub ends_parts : (t : KnownTable) (w : KnownStockTable) (locked : KnownLocked) (parts left : List CpuInRun) (audit : Audit) → IsSound t w locked

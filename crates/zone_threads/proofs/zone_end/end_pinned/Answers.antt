@@ -12,12 +12,14 @@ loop-cpu-init g c = (search rules, refl, each_none _)
 
 pub loop-cpu-preserved : goal.loop-cpu-preserved
 loop-cpu-preserved g c =
-    let inside : c.loop-cpu.cpu-index < length c.loop-cpu.cpu-items = search rules in
-    (length-set _ _ _ ∙ c.loop-cpu.invariant.0, none_more _ _ _ c.loop-cpu.invariant.1 inside c.put_all.ensures.none,
-        each_more _ _ _ _ _ inside c.loop-cpu.invariant.2 c.put_all.ensures.puts)
+    let inside : c.loop-cpu.cpu-index < length c.loop-cpu.cpu-items = search rules in (
+      length-set _ _ _ ∙ c.loop-cpu.invariant.0,
+      none_more _ _ _ c.loop-cpu.invariant.1 inside c.put_all.ensures.none,
+      each_more _ _ _ _ _ inside c.loop-cpu.invariant.2 c.put_all.ensures.puts,
+    )
 
-pub returns-in-Ok-clause-ends : goal.returns-in-Ok-clause-ends
-returns-in-Ok-clause-ends g c =
+pub returns-clause-ends : goal.returns-clause-ends
+returns-clause-ends g c =
     let quiet = c.prove_quiet.ensures in
     let first = c.deref_mut-cpu-items.ensures.value in
     let long = c.loop-cpu.auto.cpu-items ∙ ap length first in
