@@ -2,7 +2,8 @@
 use Rattle.std.specs.Prelude.{◌≡◌, ℕ, Option, None, Some, IsSome}
 use Rattle.frame_word.specs.Seats.{KnownTable}
 use Rattle.stock_word.specs.Stock.{KnownStockTable}
-use Rattle.zone_threads.specs.Homes.{EndsZone, HasNoCpu, IsCpu, KnownHome}
+use Rattle.zone_threads.specs.Ending.{EndsZone}
+use Rattle.zone_threads.specs.Homes.{HasNoCpu, IsCpu, KnownHome}
 use Rattle.zone_threads.specs.declared.home.NotEntered.{NotEntered}
 use Rattle.zone_threads.specs.declared.home.NotEntered.TheVariants as not_entered
 use Rattle.tempolemon_threads.specs.declared.requests.Forked.{Forked}

@@ -2,7 +2,8 @@
 use Rattle.std.specs.Prelude.{◌≡◌, Option, None, Some}
 use Rattle.frame_word.specs.Seats.{KnownTable}
 use Rattle.stock_word.specs.Stock.{KnownStockTable}
-use Rattle.zone_threads.specs.Homes.{EndsZone, GetsCpu, HasCpu, HasNoCpu, IfNotEntered, KnownHome}
+use Rattle.zone_threads.specs.Ending.{EndsZone}
+use Rattle.zone_threads.specs.Homes.{GetsCpu, HasCpu, HasNoCpu, IfNotEntered, KnownHome}
 use Rattle.zone_threads.specs.Shown.{ReadsText}
 use Rattle.zone_threads.specs.declared.home.NotLeft.TheVariants as not_left
 use Rattle.tempolemon_threads.specs.declared.requests.Request.{Request}

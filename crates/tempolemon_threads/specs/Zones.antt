@@ -5,7 +5,8 @@ use Rattle.stock_word.specs.Stock.{KnownStockTable}
 use Rattle.zone_blocks.specs.declared.config.Config.{Config}
 use Rattle.mem_system.specs.Cpus.{CpuInRun}
 use Rattle.mem_system.specs.Boots.{IsSizedAs}
-use Rattle.zone_threads.specs.Homes.{EndsZone, HasCpu, HasNoCpu, IsCpu, KnownHome}
+use Rattle.zone_threads.specs.Ending.{EndsZone}
+use Rattle.zone_threads.specs.Homes.{HasCpu, HasNoCpu, IsCpu, KnownHome}
 use Rattle.zone_threads.specs.declared.zone_end.ZoneEnd.{ZoneEnd}
 use Rattle.tempolemon_threads.specs.declared.report.Report.{Report}
 use Rattle.tempolemon_threads.specs.declared.sizes.Sizes.{Sizes}

@@ -1,15 +1,21 @@
--- What each call does to the CPU of a thread, by its answer.
-use Rattle.std.specs.Prelude.{◌≡◌, ◌≢◌, ◌≤◌, ◌⊎◌, ℕ, false, List, Option, Some}
+-- What each call does to the CPU of a thread, by its answer, and by which steps of the run.
+use Rattle.std.specs.Prelude.{◌≡◌, ◌≢◌, ◌≤◌, ◌⊎◌, ℕ, false, List, Ok, Option, Some}
 use Rattle.std.specs.Borrow.{Bor}
 use Rattle.frame_word.specs.Seats.{KnownTable}
+use Rattle.frame_word.specs.declared.answers.Get.{Get}
+use Rattle.frame_word.specs.declared.answers.Put.{Put}
 use Rattle.stock_word.specs.Stock.{KnownStockTable}
 use Rattle.group_tree.specs.Bounds.{most_groups}
 use Rattle.group_tree.specs.Groups.{has_group, path_of}
 use Rattle.group_tree.specs.declared.group.Group.{Group}
 use Rattle.group_tree.specs.declared.fault.Fault.{Fault}
 use Rattle.group_tree.specs.declared.fault.Fault.TheVariants.{NotPinned, PinsFull}
+use Rattle.boot_words.specs.Growth.{GrewByAll}
+use Rattle.boot_words.specs.Pasts.{own_past}
 use Rattle.cpu_part.specs.Calls.{DropAnswers, FastAnswers, PinAnswers, UnpinAnswers}
-use Rattle.cpu_part.specs.Cpus.{KnownCpu, times}
+use Rattle.cpu_part.specs.Cpus.{times}
+use Rattle.cpu_part.specs.Told.{steps_of_drop, steps_of_fast, steps_of_get, steps_of_put}
+use Rattle.cpu_part.specs.declared.answers.Dropped.{Dropped}
 use Rattle.cpu_part.specs.declared.answers.Dropped.TheVariants.{Listed, NeedVisit}
 use Rattle.cpu_part.specs.declared.answers.Fast.{Fast}
 use Rattle.cpu_part.specs.declared.answers.Fast.TheVariants.{Got}
@@ -45,19 +51,44 @@ abbrev pub GetsNoFrame : Fast → Type 0
 GetsNoFrame (Got frame) = ⊥
 GetsNoFrame other = Unit {0}
 
--- `does` leads from the CPU's part to its part after that
-abbrev pub OfParts : (does : (from to : KnownCpu) → Type 0) → (from to : CpuInRun) → Type 0
-OfParts does from to = does from.part to.part
+-- a fast allocation for the group gave this answer, and the CPU's past grew by its steps
+pub record AllocsFast (group : ℕ) (fast : Fast) (from to : CpuInRun) : Type 0 where
+  pub answers : FastAnswers group fast from.part to.part
+  pub run : GrewByAll (own_past from.past)
+      (steps_of_fast from.part.number group fast from.part.stock_seat.view.last)
+      (own_past to.past)
+
+-- a drop of a fresh frame gave this answer, and the CPU's past grew by its steps
+pub record DropsFast (frame : ℕ) (dropped : Dropped) (from to : CpuInRun) : Type 0 where
+  pub answers : DropAnswers frame dropped from.part to.part
+  pub run : GrewByAll (own_past from.past)
+      (steps_of_drop from.part.number frame dropped from.part.stock_seat.view.last)
+      (own_past to.past)
+
+-- the CPU asked for a pin of the frame with this answer, and its past grew by this step
+pub record Pins (frame : ℕ) (got : Get) (from to : CpuInRun) : Type 0 where
+  pub answers : PinAnswers frame got from.part to.part
+  pub run : GrewByAll (own_past from.past) (steps_of_get from.part.number frame (Ok got)) (own_past to.past)
+
+-- the CPU put a pin of the frame with this answer, and its past grew by this step
+pub record Unpins (frame : ℕ) (put : Put) (from to : CpuInRun) : Type 0 where
+  pub answers : UnpinAnswers frame put from.part to.part
+  pub run : GrewByAll (own_past from.past) (steps_of_put from.part.number frame put) (own_past to.past)
+
+-- the CPU made no step, and its part stays
+pub record MakesNone (from to : CpuInRun) : Type 0 where
+  pub part : to.part ≡ from.part
+  pub past : own_past to.past ≡ own_past from.past
 
 -- a fast allocation for the group got no frame; of the CPU's part, at most what it knows of its stock has changed
 pub record MissesFast (group : ℕ) (from to : CpuInRun) : Type 0 where
   pub fast : Fast
   pub missed : GetsNoFrame fast
-  pub answers : FastAnswers group fast from.part to.part
+  pub allocs : AllocsFast group fast from to
 
 -- the frame wasn't a fresh one of the CPU, or its stock was drained, and at most what its part knows of that has changed
 abbrev pub MissesDrop : (frame : ℕ) → (from to : CpuInRun) → Type 0
-MissesDrop frame from to = (to ≡ from) ⊎ DropAnswers frame NeedVisit from.part to.part
+MissesDrop frame from to = (to ≡ from) ⊎ DropsFast frame NeedVisit from to
 
 -- `first` leads from the CPU as it was to the CPU between, and `rest` on from there
 pub record Then (first rest : (from to : CpuInRun) → Type 0) (from to : CpuInRun) : Type 0 where
@@ -85,7 +116,8 @@ MissesGroup frames stock_table group from to =
     ((most_groups ≤ group) × (to ≡ from))
     ⊎ (NoGroupBehindLock frames stock_table group × OnCpu (MissesFast group) from to)
 
--- What each call does, by its answer.
+-- What each call does, by its answer. The CPU's past of the run grows by the steps of a fast call, then by those of a
+-- visit (`IsServed.run`), and by no others of its own.
 abbrev pub Calls : KnownTable → KnownStockTable → Call → (from to : KnownHome) → CallAnswer → Type 0
 Calls frames stock_table (call.Visit cmd) from to answer.Busy = to ≡ from
 Calls frames stock_table (call.Visit cmd) from to answer.NoFrame = (¬ IsOfZone frames cmd) × (to ≡ from)
@@ -94,7 +126,7 @@ Calls frames stock_table (call.Visit cmd) from to (answer.Served outcome) =
 Calls frames stock_table (call.AllocFrame group) from to answer.Busy = OnCpu (MissesFast group) from to
 Calls frames stock_table (call.AllocFrame group) from to answer.NoGroup = MissesGroup frames stock_table group from to
 Calls frames stock_table (call.AllocFrame group) from to (answer.Taken frame) =
-    OnCpu (OfParts (FastAnswers group (Got frame))) from to
+    OnCpu (AllocsFast group (Got frame)) from to
 Calls frames stock_table (call.AllocFrame group) from to (answer.Served outcome) =
     OnCpu (Then (MissesFast group) (IsVisited frames stock_table (ServesFrameOutcome frames group outcome))) from to
 Calls frames stock_table (call.AllocBlock group order) from to answer.Busy = to ≡ from
@@ -104,16 +136,16 @@ Calls frames stock_table (call.AllocBlock group order) from to (answer.Served ou
     OnCpu (IsVisited frames stock_table (ServesBlock frames group order outcome)) from to
 Calls frames stock_table (call.Release frame) from to answer.Busy = OnCpu (MissesDrop frame) from to
 Calls frames stock_table (call.Release frame) from to answer.NoFrame = (frames.frames ≤ frame) × (to ≡ from)
-Calls frames stock_table (call.Release frame) from to answer.Listed = OnCpu (OfParts (DropAnswers frame Listed)) from to
+Calls frames stock_table (call.Release frame) from to answer.Listed = OnCpu (DropsFast frame Listed) from to
 Calls frames stock_table (call.Release frame) from to (answer.Served outcome) =
     OnCpu (Then (MissesDrop frame) (IsVisited frames stock_table (ServesOutcome frames (cmd.Release frame) outcome)))
     from to
 Calls frames stock_table (call.Get frame) from to answer.NoFrame = (frames.frames ≤ frame) × (to ≡ from)
-Calls frames stock_table (call.Get frame) from to (answer.Got got) = OnCpu (OfParts (PinAnswers frame got)) from to
+Calls frames stock_table (call.Get frame) from to (answer.Got got) = OnCpu (Pins frame got) from to
 Calls frames stock_table (call.Get frame) from to (answer.Refused fault) =
-    (fault ≡ PinsFull) × OnCpu (OfParts (λ cpu left. left ≡ cpu)) from to
+    (fault ≡ PinsFull) × OnCpu MakesNone from to
 Calls frames stock_table (call.Put frame) from to answer.NoFrame = (frames.frames ≤ frame) × (to ≡ from)
-Calls frames stock_table (call.Put frame) from to (answer.Put put) = OnCpu (OfParts (UnpinAnswers frame put)) from to
+Calls frames stock_table (call.Put frame) from to (answer.Put put) = OnCpu (Unpins frame put) from to
 Calls frames stock_table (call.Put frame) from to (answer.Refused fault) =
     (fault ≡ NotPinned) × OnCpu (λ cpu left. (times frame cpu.part.pins ≡ 0) × (left ≡ cpu)) from to
 Calls frames stock_table call.Settle from to answer.Busy = to ≡ from

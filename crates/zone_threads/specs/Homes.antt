@@ -3,17 +3,12 @@ use Rattle.std.specs.Prelude.{◌≡◌, ◌≤◌, ◌<◌, ℕ, List, length, 
 use Rattle.std.specs.Global.{Box}
 use Rattle.std.specs.List.{HoldsAt, swap_remove}
 use Rattle.host_memory.specs.Cells.{KnownChange}
-use Rattle.frame_word.specs.Seats.{KnownTable}
-use Rattle.stock_word.specs.Stock.{KnownStockTable}
-use Rattle.mem_system.specs.declared.audit.Audit.{Audit}
-use Rattle.mem_system.specs.Cpus.{CpuInRun, parts_of}
-use Rattle.mem_system.specs.Ends.{AddsUp, Ends, pins_of_all}
-use Rattle.mem_system.specs.Locked.{BehindLock, KnownLocked}
+use Rattle.mem_system.specs.Cpus.{CpuInRun}
+use Rattle.mem_system.specs.Locked.{KnownLocked}
 use Rattle.zone_threads.specs.declared.home.NotEntered.{NotEntered}
 use Rattle.zone_threads.specs.declared.home.NotEntered.TheVariants as not_entered
 use Rattle.zone_threads.specs.declared.home.NotLeft.{NotLeft}
 use Rattle.zone_threads.specs.declared.home.NotLeft.TheVariants as not_left
-use Rattle.zone_threads.specs.declared.zone_end.ZoneEnd.{ZoneEnd}
 
 -- what a thread has of a zone: a CPU, if it took one
 pub record KnownHome : Type 0 where
@@ -102,15 +97,3 @@ pub record ParksCpu (change : LockedChange) (before after : KnownHome) : Type 0 
 abbrev pub IfNotLeft : (before : KnownHome) → NotLeft → (after : KnownHome) → Type 0
 IfNotLeft before not_left.NoCpu after = HasNoCpu before × (after ≡ before)
 IfNotLeft before not_left.Busy after = after ≡ before
-
--- some sound value was behind the lock, all CPUs were parked, and they ended so
-abbrev pub EndsSome : KnownTable → KnownStockTable → Audit → Type 0
-EndsSome frames stock_table audit =
-    (cpus : List CpuInRun) × BehindLock frames stock_table (λ found. Ends frames stock_table found cpus audit)
-
--- the parked parts had so many pins, the zone ended so, and what was counted adds up
-pub record EndsZone (frames : KnownTable) (stock_table : KnownStockTable) (ended : ZoneEnd) : Type 0 where
-  pub parked : List CpuInRun
-  pub held_is : ended.held ≡ pins_of_all (parts_of parked)
-  pub ends : EndsSome frames stock_table ended.audit
-  pub adds_up : AddsUp ended.audit

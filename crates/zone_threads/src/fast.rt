@@ -1,10 +1,9 @@
 //! The calls that take no lock, or only if the CPU's list and stock can't serve.
 
 ghost use Rattle.std.specs.Prelude.{◌<◌, IfNone, IfSome, IsSome, MatchBool};
-ghost use Rattle.cpu_part.specs.Calls.{DropAnswers, FastAnswers};
 ghost use Rattle.cpu_part.specs.declared.answers.Dropped.TheVariants.{Listed};
 ghost use Rattle.cpu_part.specs.declared.answers.Fast.TheVariants.{Got};
-ghost use Rattle.zone_threads.specs.Calling.{Calls, MissesDrop, MissesFast};
+ghost use Rattle.zone_threads.specs.Calling.{AllocsFast, Calls, DropsFast, MissesDrop, MissesFast};
 ghost use Rattle.zone_threads.specs.declared.calls.Call.TheVariants as call;
 
 use crate::calls::CallAnswer;
@@ -104,7 +103,7 @@ impl<N: BootName> Home<N> {
 #[inline(always)]
 fn take_listed<N: BootName>(tables: &Tables<N>, cpu: &mut Cpu<N>, group: u32) -> Option<Frame>
     requires group { group < 64 }
-    ensures taken { IfSome result (λ frame. FastAnswers group (Got frame) cpu.old.part cpu.new.part) }
+    ensures taken { IfSome result (λ frame. AllocsFast group (Got frame) cpu.old cpu.new) }
     ensures missed { IfNone result (MissesFast group cpu.old cpu.new) }
 {
     match cpu.alloc_fast(tables, group) {
@@ -121,8 +120,7 @@ fn take_listed<N: BootName>(tables: &Tables<N>, cpu: &mut Cpu<N>, group: u32) ->
 // did.
 #[inline(always)]
 fn relist<N: BootName>(tables: &Tables<N>, cpu: &mut Cpu<N>, frame: Frame) -> bool
-    ensures { MatchBool result (DropAnswers frame Listed cpu.old.part cpu.new.part)
-        (MissesDrop frame cpu.old cpu.new) }
+    ensures { MatchBool result (DropsFast frame Listed cpu.old cpu.new) (MissesDrop frame cpu.old cpu.new) }
 {
     if !cpu.has_fresh(frame) {
         return false;

@@ -1,7 +1,7 @@
 //! What all threads share: the tables, and what lies behind a lock that is only tried.
 
 ghost use Rattle.std.specs.Prelude.{◌≡◌, IfSome};
-ghost use Rattle.zone_threads.specs.Homes.{EndsZone};
+ghost use Rattle.zone_threads.specs.Ending.{EndsZone};
 
 use crate::behind::Behind;
 use crate::zone_end::{ZoneEnd, end_parts};

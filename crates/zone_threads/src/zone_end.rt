@@ -3,7 +3,7 @@
 ghost use Rattle.std.specs.Prelude.{◌≡◌, [], IfSome, length};
 ghost use Rattle.mem_system.specs.Cpus.{parts_of};
 ghost use Rattle.mem_system.specs.Ends.{AddsUp, pins_of_all};
-ghost use Rattle.zone_threads.specs.Homes.{EndsSome, EndsZone};
+ghost use Rattle.zone_threads.specs.Ending.{EndsParts, EndsZone, PutsPins};
 
 use crate::behind::Behind;
 use cpu_part::{BootName, Tables};
@@ -49,7 +49,7 @@ pub fn end_parts<N: BootName>(tables: Tables<N>, behind: Behind<N>) -> Option<Zo
 // Puts all pins, and ends the zone.
 fn end_pinned<N: BootName>(locked: Locked<N>, tables: Tables<N>, mut cpus: Vec<Cpu<N>>) -> Audit
     requires count { length cpus.items ≡ N.frames.cpus }
-    ensures ends { EndsSome N.frames N.stocks result }
+    ensures ends { EndsParts N.frames N.stocks cpus.items result }
     ensures adds_up { AddsUp result }
 {
     for cpu in cpus.iter_mut() {
@@ -64,7 +64,8 @@ fn end_pinned<N: BootName>(locked: Locked<N>, tables: Tables<N>, mut cpus: Vec<C
 
 // Puts every pin of the CPU.
 fn put_all<N: BootName>(tables: &Tables<N>, cpu: &mut Cpu<N>)
-    ensures { cpu.new.part.pins ≡ [] }
+    ensures none { cpu.new.part.pins ≡ [] }
+    ensures puts { PutsPins cpu.old cpu.new }
 {
     while let Some(frame) = cpu.first_pin() {
         let _put = cpu.put(tables, frame);
