@@ -88,8 +88,8 @@ pub record LeavesNothing (table : KnownTable) (stock_table : KnownStockTable) (b
   pub so_far : (earlier : Run) → HasRun earlier before
       → IsRunSoFar (earlier ++ steps) (own_past emptied.machine.run.past) (pasts_of emptied.cpus)
 
--- The boot ended, and says how many pins were held. Every pin was put, the last visits were made, and then the tables
--- were closed.
+-- The boot ended, and says how many pins were held. Every pin was put, the last visits were made, and then the table
+-- was closed.
 pub record EndsHeld (table : KnownTable) (stock_table : KnownStockTable) (before : SystemState)
     (ended : BootEnd) : Type 0 where
   pub emptied : KnownEmptiedBoot

@@ -50,7 +50,7 @@ use std::thread::Threads;
 /// whole; if the output fails, a beginning of them may have been written, and after any other fault nothing. A fault is
 /// reported in one line, those of the words in clap's text. The status is 0, or with `--strict` 3 if some answer is a
 /// refusal; 2 after a fault of the words, a bad line or a bad configuration; 1 if the script can't be read, the answers
-/// can't be written, memory runs out, a thread can't be started, or a step of a replay with `--check` isn't legal.
+/// can't be written, memory runs out, or a step of a replay with `--check` isn't legal.
 /// `drive_check` says how a log is checked.
 pub fn drive<R: Threads + Wait + Sync, S: AsStr, I: Read, O: Write, F: Write>(
     rt: &R,

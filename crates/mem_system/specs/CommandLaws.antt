@@ -50,14 +50,14 @@ pub record HasEmptyWords (stock_words : List ℕ) (cpu : ℕ) : Type 0 where
   pub empty : stock_pages_of stock ≡ 0
   pub none_reported : slice_index stock_words (report_index cpu) ≡ 0
 
--- the last words of both tables: no CPU's words hold a page, and no frame's word counts more than the zone's reference
+-- the last words: no CPU's words hold a page, and no frame's word counts more than the zone's reference
 pub record LeavesEmptyWords (table : KnownTable) : Type 0 where
   pub stock_words : List ℕ
   pub frame_words : List ℕ
   pub each : (cpu : ℕ) → 1 ≤ cpu → cpu ≤ table.cpus → HasEmptyWords stock_words cpu
   pub references : (frame : ℕ) → frame < table.frames → slice_index frame_words frame ≤ 1
 
--- when the tables are closed, no page and no CPU's reference is left in any word
+-- when the table is closed, no page and no CPU's reference is left in any word
 abbrev pub EndsLeaveEmptyWords : Type 0
 EndsLeaveEmptyWords =
     (table : KnownTable) (stock_table : KnownStockTable) (emptied : KnownEmptiedBoot) (audit : Audit)

@@ -38,7 +38,7 @@ pub fn releases_cut_lists()
     ensures { ReleasesCutLists }
 {}
 
-/// When the tables are closed, no page and no CPU's reference is left in any word.
+/// When the table is closed, no page and no CPU's reference is left in any word.
 pub fn ends_leave_empty_words()
     ensures { EndsLeaveEmptyWords }
 {}

@@ -85,8 +85,8 @@ pub record OnlyWatched (steps : Run) (before after : KnownLocked) : Type 0 where
   pub locked : after ≡ locked_with_watch before after.machine.run.watch
   pub watched : Watches before.machine.run.watch steps after.machine.run.watch
 
--- the watch of the machine takes these steps, and nothing else changes behind the lock but the zone's past, which may
--- see more of the run
+-- the watch of the machine takes these steps, and nothing else changes behind the lock except the zone's past, of which
+-- this says nothing (`Gains` does)
 pub record OnlySaw (steps : Run) (before after : KnownLocked) : Type 0 where
   pub locked : after ≡ locked_with_run before after.machine.run
   pub watched : Watches before.machine.run.watch steps after.machine.run.watch
