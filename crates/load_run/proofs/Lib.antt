@@ -3,7 +3,6 @@ pub mod Causing
 pub mod Changes
 pub mod Driving
 pub mod Ended
-pub mod Following
 pub mod Joining
 mod Pieces
 pub mod Putting
