@@ -25,7 +25,7 @@ use Rattle.mem_system.specs.Cpus.{CpuInRun, between_locks, pasts_of}
 use Rattle.mem_system.specs.Ends.{Empties, ForEachCpu, MachineAndCpu, SettlesInVisit, VisitsUnderLock, machine_and_cpu, steps_of_visits}
 use Rattle.script_replay.specs.Lines.{SystemState}
 use Rattle.load_run.specs.declared.boot_end.BootEnd.{BootEnd}
-use Rattle.load_run.specs.Ending.{EndsHeld, PutsAllPins, PutsEach, PutsHeldPin, put_steps, steps_of_all_puts, steps_of_puts}
+use Rattle.load_run.specs.Ending.{EndsHeld, PutsAllPins, PutsEach, put_steps, steps_of_all_puts, steps_of_puts}
 use Rattle.load_run.specs.Survey.{ChangesFollow, changes_by}
 use Rattle.load_run.proofs.Changes.{changes_both, follow_both, grew_follow, no_change, others_follow}
 use Rattle.load_run.proofs.Surveying.{at_index}
