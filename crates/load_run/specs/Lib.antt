@@ -10,4 +10,5 @@ pub mod Refusals
 pub mod Sessions
 pub mod Starting
 pub mod Stopping
+pub mod Threads
 pub mod Versions
