@@ -2,6 +2,7 @@
 use Rattle.std.specs.Prelude.{◌≡◌, ℕ, ◌+◌, Bool, List, [], ◌∷◌, ◌++◌, codes}
 use Rattle.std.specs.Fmt.{decimal}
 use Rattle.mem_system.specs.Cpus.{CpuInRun}
+use Rattle.step_rules.specs.After.{Run}
 use Rattle.script_lines.specs.declared.line.Line.{Line}
 use Rattle.mem_system.specs.Boots.{KnownSystem}
 use Rattle.script_replay.specs.Own.{KnownWorker, ServesOwn, worker}
@@ -16,14 +17,11 @@ workers_from cpu_number (cpu ∷ cpus) lines is_numbered =
 abbrev pub heading : ℕ → List ℕ
 heading cpu_number = codes "cpu " ++ decimal cpu_number ++ codes "\n"
 
--- the text is the answers of the worker's own lines, from its part at the start to some part that it left
-pub record AreOwnAnswers (tables : KnownSystem) (worker : KnownWorker) (text : List ℕ) : Type 0 where
-  pub after : CpuInRun
-  pub serves : ServesOwn tables worker after text
-
--- for each worker a heading, followed by the answers of its own lines
-abbrev pub AreAllAnswers : KnownSystem → List KnownWorker → (text : List ℕ) → Type 0
-AreAllAnswers tables [] text = text ≡ []
-AreAllAnswers tables (worker ∷ workers) text =
-    (own : List ℕ) × (others : List ℕ) × AreOwnAnswers tables worker own × AreAllAnswers tables workers others
-    × (text ≡ (heading worker.cpu_number ++ own) ++ others)
+-- For each worker a heading, followed by the answers of its own lines. Each left this CPU, and made these steps.
+abbrev pub AreAllAnswers : KnownSystem → List KnownWorker → (after : List CpuInRun) (told : List Run) (text : List ℕ)
+    → Type 0
+AreAllAnswers tables [] [] [] text = text ≡ []
+AreAllAnswers tables (worker ∷ workers) (cpu ∷ cpus) (steps ∷ told) text =
+    (own : List ℕ) × (others : List ℕ) × ServesOwn tables worker cpu steps own
+    × AreAllAnswers tables workers cpus told others × (text ≡ (heading worker.cpu_number ++ own) ++ others)
+AreAllAnswers tables workers cpus told text = ⊥

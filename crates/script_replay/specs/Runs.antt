@@ -1,6 +1,7 @@
 -- The lines before `go`, and those from it on.
 use Rattle.std.specs.Prelude.{◌≡◌, ℕ, ◌+◌, false, List, [], ◌∷◌, ◌++◌, take, drop}
 use Rattle.mem_system.specs.Cpus.{CpuInRun}
+use Rattle.step_rules.specs.After.{Run}
 use Rattle.script_lines.specs.declared.line.Line.{Line}
 use Rattle.script_lines.specs.declared.line.Line.TheVariants.{Go, At}
 use Rattle.mem_system.specs.Boots.{KnownSystem}
@@ -18,11 +19,13 @@ abbrev pub lines_before_go : List Line → ℕ
 lines_before_go lines = go_or 0 0 lines
 
 -- The lines before `go` are answered one after another. Then a worker for each part, as it was left, answers those
--- from `go` on. The answers of the early lines come first.
-pub record RunsLines (tables : KnownSystem) (lines : List Line) (cpus : List CpuInRun) (text : List ℕ) : Type 0 where
+-- from `go` on. The answers of the early lines come first. The workers left these CPUs, and made these steps.
+pub record RunsLines (tables : KnownSystem) (lines : List Line) (before after : List CpuInRun) (told : List Run)
+    (text : List ℕ) : Type 0 where
   pub early : List ℕ
   pub later : List ℕ
   pub parts : List CpuInRun
-  pub visits : VisitsAll tables (take (lines_before_go lines) lines) cpus parts early
-  pub are_answers : AreAllAnswers tables (workers_from 1 parts (drop (lines_before_go lines) lines) false) later
+  pub visits : VisitsAll tables (take (lines_before_go lines) lines) before parts early
+  pub are_answers : AreAllAnswers tables (workers_from 1 parts (drop (lines_before_go lines) lines) false) after told
+      later
   pub text_is : text ≡ early ++ later
