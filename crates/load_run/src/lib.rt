@@ -21,6 +21,7 @@ pub mod reading;
 mod refusals;
 pub mod replaying;
 pub mod serving;
+mod survey;
 pub mod thread_running;
 pub mod versions;
 

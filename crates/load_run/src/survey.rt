@@ -1,0 +1,30 @@
+//! A look at all pasts together. Each CPU meets the zone, and then each does so again. Behind what a CPU had seen at its
+//! first meeting it has made no step at its second. So what the zone has seen between the two rounds is a run that has
+//! each past of the first round as a beginning, and no later step of that past's seat.
+
+ghost use Rattle.std.specs.Prelude.{◌≡◌, length};
+ghost use Rattle.mem_system.specs.Ends.{ForEachCpu};
+ghost use Rattle.script_replay.specs.Lines.{system_state};
+ghost use Rattle.load_run.specs.Survey.{MeetsZone, SeesAll};
+
+use cpu_part::{BootName, Tables};
+use mem_system::{Cpu, Locked};
+
+/// Looks at the pasts of all CPUs and of the zone together. A caller does this while no other thread makes a step.
+pub(crate) fn survey<N: BootName>(locked: &mut Locked<N>, tables: &Tables<N>, cpus: &mut [Cpu<N>])
+    requires count { length cpus.old ≡ N.frames.cpus }
+    ensures sees { SeesAll N.frames (system_state locked.old cpus.old) (system_state locked.new cpus.new) }
+{
+    meet_each(locked, tables, cpus);
+    meet_each(locked, tables, cpus); // No CPU has made a step since it met.
+}
+
+// Each CPU meets the zone.
+fn meet_each<N: BootName>(locked: &mut Locked<N>, tables: &Tables<N>, cpus: &mut [Cpu<N>])
+    ensures meets { ForEachCpu (MeetsZone N.frames) locked.old.machine cpus.old locked.new.machine cpus.new }
+    ensures sizes { locked.new.sizes ≡ locked.old.sizes }
+{
+    for cpu in cpus.iter_mut() {
+        locked.meet(tables, cpu);
+    }
+}
