@@ -1,10 +1,9 @@
 -- The steps of all threads as one legal run, and what it shows of each visit.
-use Rattle.std.specs.Prelude.{◌≡◌, ℕ, ◌==◌, ◌&&◌, not, ◌++◌, filter}
+use Rattle.std.specs.Prelude.{◌≡◌, ℕ, ◌++◌}
 use Rattle.frame_word.specs.Seats.{KnownTable}
 use Rattle.stock_word.specs.Stock.{KnownStockTable}
 use Rattle.step_rules.specs.After.{Run, state_of}
 use Rattle.step_rules.specs.Reaches.{own_steps}
-use Rattle.boot_words.specs.Growth.{changes_nothing}
 use Rattle.boot_words.specs.Hidden.{hide}
 use Rattle.boot_words.specs.Pasts.{own_past}
 use Rattle.mem_machine.specs.Interleaving.{zone_of}
@@ -15,10 +14,6 @@ use Rattle.mem_system.specs.declared.command.Reply.{Reply}
 use Rattle.mem_system.specs.Cpus.{between_locks}
 use Rattle.mem_system.specs.Locked.{IsSound}
 use Rattle.mem_system.specs.Visits.{IsServed, LockedState}
-
--- the steps of this seat in the run, in order, without those whose answer changes nothing
-abbrev pub changes_by : ℕ → Run → Run
-changes_by seat run = filter (λ made. made.0.seat == seat && not (changes_nothing made.1)) run
 
 -- the run begins with these steps
 pub record IsBeginning (front run : Run) : Type 0 where
