@@ -10,5 +10,6 @@ pub mod Refusals
 pub mod Sessions
 pub mod Starting
 pub mod Stopping
+pub mod Survey
 pub mod Threads
 pub mod Versions

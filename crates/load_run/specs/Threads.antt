@@ -5,7 +5,7 @@ use Rattle.stock_word.specs.Stock.{KnownStockTable}
 use Rattle.step_rules.specs.After.{Run, state_of}
 use Rattle.step_rules.specs.Reaches.{own_steps}
 use Rattle.boot_words.specs.Hidden.{hide}
-use Rattle.boot_words.specs.Pasts.{own_past}
+use Rattle.boot_words.specs.Pasts.{KnownPasts, own_past}
 use Rattle.mem_machine.specs.Interleaving.{zone_of}
 use Rattle.mem_machine.specs.Machines.{KnownMachine}
 use Rattle.mem_machine.specs.Resting.{hidden_of}
@@ -14,6 +14,7 @@ use Rattle.mem_system.specs.declared.command.Reply.{Reply}
 use Rattle.mem_system.specs.Cpus.{between_locks}
 use Rattle.mem_system.specs.Locked.{IsSound}
 use Rattle.mem_system.specs.Visits.{IsServed, LockedState}
+use Rattle.script_replay.specs.Visits.{GrewByChanges}
 
 -- the run begins with these steps
 pub record IsBeginning (front run : Run) : Type 0 where
@@ -40,3 +41,8 @@ RunsShowVisits = (table : KnownTable) (stock_table : KnownStockTable) (cmd : Cmd
     → (served : IsServed table cmd reply before after) → IsSound table stock_table after.locked
     → IsBeginning (own_past after.cpu.past).seen run
     → ShowsVisit table run before.cpu.part.number served.steps before.locked.machine after.locked.machine
+
+-- A CPU's past is a beginning of its past after more steps.
+abbrev pub PastsBegin : Type 0
+PastsBegin = (before after : KnownPasts) (steps : Run) → GrewByChanges before steps after
+    → IsBeginning (own_past before).seen (own_past after).seen
