@@ -1,7 +1,8 @@
 pub mod Answering
 pub mod Causing
-pub mod Changes
 pub mod Driving
+pub mod Ended
+pub mod Following
 pub mod Joining
 mod Pieces
 pub mod Putting
@@ -9,6 +10,7 @@ pub mod Reporting
 pub mod SessionEnds
 pub mod Starting
 pub mod Stopped
+pub mod Surveying
 pub mod Verdicts
 pub mod Written
 pub mod Telling

@@ -37,7 +37,7 @@ pub record PutsHeldPin (frame : ℕ) (before after : MachineAndCpu) : Type 0 whe
   pub gains : GainsSteps (own_past before.machine.run.past) (own_past before.cpu.past)
       (put_steps before.cpu.part.number frame answer) (own_past after.machine.run.past) (own_past after.cpu.past)
   pub number : (own_past before.cpu.past).number ≡ before.cpu.part.number
-  pub goes_on : ChangesFollow before.cpu.part.number (own_past before.cpu.past).seen
+  pub goes_on : ChangesFollow (own_past before.cpu.past).number (own_past before.cpu.past).seen
       (put_steps before.cpu.part.number frame answer) (own_past after.cpu.past).seen
 
 -- a pin of this frame is put, and then what is to be put after it

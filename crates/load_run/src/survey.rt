@@ -16,6 +16,7 @@ pub(crate) fn survey<N: BootName>(locked: &mut Locked<N>, tables: &Tables<N>, cp
     ensures sees { SeesAll N.frames (system_state locked.old cpus.old) (system_state locked.new cpus.new) }
 {
     meet_each(locked, tables, cpus);
+    locked.prove_quiet(); // The zone's past is a legal run.
     meet_each(locked, tables, cpus); // No CPU has made a step since it met.
 }
 
