@@ -16,6 +16,7 @@ use Rattle.step_watch.specs.Watched.{cpu_makes}
 use Rattle.boot_words.specs.declared.view.Past.{Past}
 use Rattle.boot_words.specs.Pasts.{own_past}
 use Rattle.boot_words.specs.Rule.{AllOf, IsPastOf}
+use Rattle.boot_words.specs.Runs.{HasNoStepOf}
 use Rattle.boot_words.proofs.Gaining.{grown_number}
 use Rattle.mem_machine.specs.Machines.{KnownMachine}
 use Rattle.mem_system.specs.Commands.{Transition}
@@ -24,22 +25,35 @@ use Rattle.mem_system.specs.Cpus.{CpuInRun, between_locks, pasts_of}
 use Rattle.mem_system.specs.Ends.{Empties, ForEachCpu, MachineAndCpu, SettlesInVisit, VisitsUnderLock, machine_and_cpu, steps_of_visits}
 use Rattle.script_replay.specs.Lines.{SystemState}
 use Rattle.load_run.specs.declared.boot_end.BootEnd.{BootEnd}
-use Rattle.load_run.specs.Ending.{EndsHeld, PutsAllPins, PutsEach, PutsHeldPin, put_steps, steps_of_all_puts, steps_of_puts}
+use Rattle.load_run.specs.Ending.{EndsHeld, PutsAllPins, PutsEach, put_steps, steps_of_all_puts, steps_of_puts}
 use Rattle.load_run.specs.Survey.{ChangesFollow, changes_by}
-use Rattle.load_run.proofs.Following.{changes_by_both, changes_by_none, follow_as, follow_both, grown_follows, none_follow, none_of_two, others_follow}
+use Rattle.load_run.proofs.Changes.{changes_both, follow_both, grew_follow, no_change, others_follow}
 use Rattle.load_run.proofs.Surveying.{at_index}
 
--- ---- CPUs in turn
+-- ---- one CPU
 
--- the CPUs have these numbers, from the first on
-abbrev pub AreNumberedFrom : ℕ → List CpuInRun → Type 0
-AreNumberedFrom first cpus = (index : ℕ) (p : Past) → slice_get (pasts_of cpus) index ≡ Some p → p.number ≡ first + index
+-- the same changes of the seat
+follow_as : (seat : ℕ) (a one b two : Run) → ChangesFollow seat a one b → changes_by seat one ≡ changes_by seat two → ChangesFollow seat a two b
+follow_as seat a one b two follows same = record { rest = follows.rest; is = follows.is; changes = follows.changes ∙ same }
+
+-- steps of the zone and of one CPU are none of another CPU
+none_of_two : (seat number : ℕ) (run : Run) → AllOf (λ (e : Step × Answer). (e.0.seat ≡ 0) ⊎ (e.0.seat ≡ number)) run → seat ≢ 0 → number ≢ seat
+    → HasNoStepOf seat run
+none_of_two seat number [] all not_zone ne = tt
+none_of_two seat number (e ∷ run) all not_zone ne =
+    (elim all.0 [ | inl zone ↦ λ same. not_zone (sym same ∙ zone) | inr cpu ↦ λ same. ne (sym cpu ∙ same) ], none_of_two seat number run all.1 not_zone ne)
 
 -- What is done with a CPU goes on its past by steps of the zone and of the CPU.
 record GoesOn (before after : MachineAndCpu) (steps : Run) : Type 0 where
   number : (own_past after.cpu.past).number ≡ (own_past before.cpu.past).number
   follows : ChangesFollow (own_past before.cpu.past).number (own_past before.cpu.past).seen steps (own_past after.cpu.past).seen
   alone : (seat : ℕ) → seat ≢ 0 → (own_past before.cpu.past).number ≢ seat → changes_by seat steps ≡ []
+
+-- ---- CPUs in turn
+
+-- the CPUs have these numbers, from the first on
+abbrev pub AreNumberedFrom : ℕ → List CpuInRun → Type 0
+AreNumberedFrom first cpus = (index : ℕ) (p : Past) → slice_get (pasts_of cpus) index ≡ Some p → p.number ≡ first + index
 
 module _ (Visit : MachineAndCpu → MachineAndCpu → Type 0) (steps_of : (before after : MachineAndCpu) → Visit before after → Run)
     (goes_on : (before after : MachineAndCpu) (visit : Visit before after) → GoesOn before after (steps_of before after visit)) where
@@ -73,7 +87,7 @@ module _ (Visit : MachineAndCpu → MachineAndCpu → Type 0) (steps_of : (befor
           (λ same. away 0 (sym (numbers 0 (own_past c.past) refl) ∙ same)) in
       let rest = none_in_turn seat (first + 1) visits.between cpus n left visits.rest not_zone
           (λ k p there. let same = numbers (suc k) p there in omega (arith, same)) (λ k same. away (suc k) (omega (arith, same))) in
-      changes_by_both seat (steps_of (machine_and_cpu m c) (machine_and_cpu visits.between d) visits.first) (steps_in_turn visits.between cpus n left visits.rest)
+      changes_both seat (steps_of (machine_and_cpu m c) (machine_and_cpu visits.between d) visits.first) (steps_in_turn visits.between cpus n left visits.rest)
       ∙ (λ i. here i ++ rest i)
 
   -- each CPU's past goes on by its own among all steps
@@ -97,7 +111,7 @@ module _ (Visit : MachineAndCpu → MachineAndCpu → Type 0) (steps_of : (befor
         refl,
         follow_as (first + 0) p.seen steps (own_past d.past).seen (steps ++ rest)
             (subst (λ (x : Past). ChangesFollow (first + 0) x.seen steps (own_past d.past).seen) (get_or_from_slice_get (pasts_of (c ∷ cpus)) 0 p (own_past c.past) at) one)
-            (sym (changes_by_both (first + 0) steps rest ∙ ap (λ (r : Run). changes_by (first + 0) steps ++ r) none ∙ append-nil (changes_by (first + 0) steps))),
+            (sym (changes_both (first + 0) steps rest ∙ ap (λ (r : Run). changes_by (first + 0) steps ++ r) none ∙ append-nil (changes_by (first + 0) steps))),
       )
   follows_in_turn first m (c ∷ cpus) n (d ∷ left) visits not_zone numbers (suc index) p at =
       let before = machine_and_cpu m c in
@@ -115,7 +129,7 @@ module _ (Visit : MachineAndCpu → MachineAndCpu → Type 0) (steps_of : (befor
         more.1,
         follow_as seat p.seen rest (more.0).seen (steps ++ rest)
             (subst (λ (k : ℕ). ChangesFollow k p.seen rest (more.0).seen) moved more.2)
-            (sym (changes_by_both seat steps rest ∙ ap (λ (r : Run). r ++ changes_by seat rest) none)),
+            (sym (changes_both seat steps rest ∙ ap (λ (r : Run). r ++ changes_by seat rest) none)),
       )
 
 -- ---- the puts
@@ -123,7 +137,7 @@ module _ (Visit : MachineAndCpu → MachineAndCpu → Type 0) (steps_of : (befor
 puts_go_on : (frames : List ℕ) (before after : MachineAndCpu) (puts : PutsEach frames before after) → GoesOn before after (steps_of_puts frames before after puts)
 puts_go_on [] before after puts =
     subst (λ (x : MachineAndCpu). GoesOn before x []) (sym puts)
-    (record { number = refl; follows = none_follow (own_past before.cpu.past).number (own_past before.cpu.past).seen; alone = λ seat some ne. refl })
+    (record { number = refl; follows = grew_follow (own_past before.cpu.past) [] (own_past before.cpu.past) refl; alone = λ seat some ne. refl })
 puts_go_on (f ∷ frames) before after puts =
     let one = puts.first in
     let k = (own_past before.cpu.past).number in
@@ -134,8 +148,8 @@ puts_go_on (f ∷ frames) before after puts =
       number = rest.number ∙ one.gains.cpu_number;
       follows = follow_both k (own_past before.cpu.past).seen steps (own_past puts.between.cpu.past).seen more (own_past after.cpu.past).seen one.goes_on
           (subst (λ (n : ℕ). ChangesFollow n (own_past puts.between.cpu.past).seen more (own_past after.cpu.past).seen) one.gains.cpu_number rest.follows);
-      alone = λ seat some ne. changes_by_both seat steps more
-          ∙ (λ i. changes_by_none seat steps (λ same. ne (one.number ∙ same), tt) i ++ rest.alone seat some (λ same. ne (sym one.gains.cpu_number ∙ same)) i);
+      alone = λ seat some ne. changes_both seat steps more
+          ∙ (λ i. no_change seat steps (λ same. ne (one.number ∙ same), tt) i ++ rest.alone seat some (λ same. ne (sym one.gains.cpu_number ∙ same)) i);
     }
 
 all_puts_go_on : (before after : MachineAndCpu) (puts : PutsAllPins before after) → GoesOn before after (steps_of_puts puts.frames before after puts.puts)
@@ -167,8 +181,8 @@ module _ (t : KnownTable) (Does : Transition VisitState → Type 0) where
       let steps = between_locks p visit.visit.steps in
       record {
         number = grown_number (own_past before.cpu.past) steps (own_past after.cpu.past) visit.run.cpu_grew;
-        follows = grown_follows (own_past before.cpu.past) steps (own_past after.cpu.past) visit.run.cpu_grew;
-        alone = λ seat some ne. changes_by_none seat steps
+        follows = grew_follow (own_past before.cpu.past) steps (own_past after.cpu.past) visit.run.cpu_grew;
+        alone = λ seat some ne. no_change seat steps
             (none_of_two seat p steps (inr refl, locked_of_two p _ visit.visit.steps _ visit.visit.makes.leads) some (λ same. ne (visit.run.number ∙ same)));
       }
 

@@ -31,7 +31,7 @@ use Rattle.script_replay.proofs.Gaining.{met_gains, met_saw, put_made, saw_both,
 use Rattle.script_replay.specs.Lines.{SystemState, system_state}
 use Rattle.load_run.specs.Ending.{LeavesNothing, PutsAllPins, PutsEach, PutsHeldPin, put_steps, steps_of_all_puts, steps_of_puts}
 use Rattle.load_run.specs.Survey.{ChangesFollow}
-use Rattle.load_run.proofs.Following.{follow_both, grown_follows, seen_follows}
+use Rattle.load_run.proofs.Changes.{follow_both, grew_follow, others_follow}
 
 -- ---- lists
 
@@ -57,10 +57,12 @@ put_follows : (n : ℕ) (c c1 c2 c3 : Past) (f : ℕ) (answer : Put) → SeesMor
 put_follows n c c1 c2 c3 f answer first grew second =
     let k = c.number in
     let steps = steps_of_put n f answer in
-    let one = subst (λ (j : ℕ). ChangesFollow j c1.seen steps c2.seen) first.number (grown_follows c1 steps c2 grew) in
-    let two = subst (λ (j : ℕ). ChangesFollow j c2.seen [] c3.seen) (grown_number c1 steps c2 grew ∙ first.number) (seen_follows c2 c3 second) in
+    let met : (p q : Past) → SeesMore p q → p.number ≡ k → ChangesFollow k p.seen [] q.seen = λ p q more is.
+    subst (λ (j : ℕ). ChangesFollow j p.seen [] q.seen) is (others_follow p.number p.seen q.seen (record { rest = more.between; is = more.seen; others = more.others })) in
+    let one = subst (λ (j : ℕ). ChangesFollow j c1.seen steps c2.seen) first.number (grew_follow c1 steps c2 grew) in
+    let two = met c2 c3 second (grown_number c1 steps c2 grew ∙ first.number) in
     subst (λ (a : Answer). ChangesFollow k c.seen (cpu_makes n (Puts f) a ∷ []) c3.seen) (said_same answer)
-    (follow_both k c.seen [] c1.seen steps c3.seen (seen_follows c c1 first) (follow_both k c1.seen steps c2.seen [] c3.seen one two))
+    (follow_both k c.seen [] c1.seen steps c3.seen (met c c1 first refl) (follow_both k c1.seen steps c2.seen [] c3.seen one two))
 
 -- a put between two meetings, which the watch took then
 pub put_met : (t : KnownTable) (l l1 l2 m : KnownLocked) (c c1 c2 c3 : CpuInRun) (f : ℕ) (answer : Put) (made : Step × Answer)

@@ -6,7 +6,6 @@ use Rattle.std.proofs.lemmas.List.{append_cancel_left, length-map}
 use Rattle.std.proofs.lemmas.Option.{get_or_from_slice_get, slice_get-get_or}
 use Rattle.frame_word.specs.Seats.{KnownTable}
 use Rattle.step_rules.specs.declared.phase.Hold.{Hold}
-use Rattle.step_rules.specs.declared.step.Answer.TheVariants.{Illegal}
 use Rattle.step_rules.specs.State.{Zone, is_cpu, may_zone_act}
 use Rattle.step_rules.specs.After.{Run, state_of, IsLegalRun}
 use Rattle.step_rules.proofs.Answering.{only_seats_act}

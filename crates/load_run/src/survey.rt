@@ -1,6 +1,6 @@
-//! A look at all pasts together. Each CPU meets the zone, and then each does so again. Behind what a CPU had seen at its
-//! first meeting it has made no step at its second. So what the zone has seen between the two rounds is a run that has
-//! each past of the first round as a beginning, and no later step of that past's seat.
+//! Looks at the pasts of all seats together, by two rounds of meetings with the zone. When a CPU meets again, it has made
+//! no step since it met first. So what the zone has seen after the first round has each CPU's past of that round as a
+//! beginning, and no later step of that CPU.
 
 ghost use Rattle.std.specs.Prelude.{◌≡◌, length};
 ghost use Rattle.mem_system.specs.Ends.{ForEachCpu};
