@@ -1,20 +1,17 @@
 -- The answers of the early lines and those of the later, joined, and all steps as one run. Serves `run_by_threads`.
-use Rattle.std.proofs.Common.{◌≡◌, ◌∙◌, ◌≤◌, ℕ, zero, suc, ◌+◌, ◌==◌, ◌&&◌, Bool, true, false, Some, List, [], ◌∷◌, ◌++◌, All, length, take, drop, cond, refl, ap, sym, subst, arith, inl, inr}
-use Rattle.std.specs.Prelude.{not, option_map, slice_get}
+use Rattle.std.proofs.Common.{◌≡◌, ◌∙◌, ◌≤◌, ℕ, zero, suc, ◌+◌, Bool, false, Some, List, [], ◌∷◌, ◌++◌, All, length, take, drop, refl, ap, sym, subst, arith}
+use Rattle.std.specs.Prelude.{option_map, slice_get}
 use Rattle.std.proofs.lemmas.List.Elements.{All-take, All-drop}
 use Rattle.std.proofs.lemmas.Option.{get_or_from_slice_get, slice_get-map}
 use Rattle.frame_word.specs.Seats.{KnownTable}
 use Rattle.stock_word.specs.Stock.{KnownStockTable}
 use Rattle.zone_blocks.specs.declared.config.Config.{Config}
-use Rattle.step_rules.specs.declared.step.Step.{Step}
-use Rattle.step_rules.specs.declared.step.Answer.{Answer}
 use Rattle.step_rules.specs.After.{Run}
 use Rattle.step_rules.proofs.PhaseLemmas.{none_some}
 use Rattle.boot_words.specs.declared.view.Past.{Past}
-use Rattle.boot_words.specs.Growth.{AreChangesOf, IsRunSoFar, changes_nothing}
+use Rattle.boot_words.specs.Growth.{IsRunSoFar}
 use Rattle.boot_words.specs.Pasts.{own_past}
 use Rattle.boot_words.specs.Rule.{AllOf}
-use Rattle.boot_words.proofs.Gaining.{grown_number}
 use Rattle.mem_core.proofs.Keeping.{always_keeps}
 use Rattle.mem_machine.specs.Interleaving.{zone_of}
 use Rattle.mem_system.specs.Boots.{IsSizedAs, KnownSystem}
@@ -31,9 +28,9 @@ use Rattle.script_replay.proofs.Seeing.{all_lines_go_on, legal_histories_keep_it
 use Rattle.load_run.specs.declared.boot_end.BootEnd.{BootEnd}
 use Rattle.load_run.specs.Answers.{AreThreadAnswers, IsNewBootState, IsQuietSystem}
 use Rattle.load_run.specs.Ending.{EndsHeld, boot_end_text}
-use Rattle.load_run.specs.Survey.{ChangesFollow, HasSeen, SeesAll, changes_by}
+use Rattle.load_run.specs.Survey.{ChangesFollow, HasSeen, SeesAll}
+use Rattle.load_run.proofs.Changes.{follow_both, grew_follow, grew_number, others_follow, same_changes}
 use Rattle.load_run.proofs.Ended.{AreNumberedFrom, ends_follow}
-use Rattle.load_run.proofs.Following.{follow_as, follow_both, grown_follows, others_follow}
 use Rattle.load_run.proofs.Starting.{boot_agrees, boot_shown, lines_there, parts_tied}
 use Rattle.load_run.proofs.Surveying.{at_index}
 
@@ -89,22 +86,6 @@ cpu_at (c ∷ cpus) (suc index) p at = cpu_at cpus index p at
 
 -- ---- one run
 
--- a step that changes nothing is no change
-quiet_out : (seat : ℕ) (e : Step × Answer) (run : Run) → changes_nothing e.1 ≡ true → changes_by seat (e ∷ run) ≡ changes_by seat run
-quiet_out seat e run quiet =
-    ap (λ (b : Bool). cond (e.0.seat == seat && not b) (e ∷ changes_by seat run) (changes_by seat run)) quiet
-    ∙ ap (λ (b : Bool). cond b (e ∷ changes_by seat run) (changes_by seat run)) (and_false (e.0.seat == seat))
-  where
-    and_false : (b : Bool) → (b && false) ≡ false
-    and_false true = refl
-    and_false false = refl
-
-same_changes : (seat : ℕ) (run steps : Run) → AreChangesOf run steps → changes_by seat run ≡ changes_by seat steps
-same_changes seat [] steps e = ap (changes_by seat) (sym e)
-same_changes seat (e ∷ run) steps (inl out) = quiet_out seat e run out.0 ∙ same_changes seat run steps out.1
-same_changes seat (e ∷ run) steps (inr h) =
-    ap (λ (l : Run). cond (e.0.seat == seat && not (changes_nothing e.1)) (e ∷ l) l) (same_changes seat run h.0 h.2) ∙ ap (changes_by seat) (sym h.1)
-
 -- the pasts of all CPUs at `go` are this run and others' steps, and the CPUs went on as they told
 module _ (beginning : Run) (z : Past) (tables : KnownSystem) (before after : List CpuInRun) (lines : List Line) (is_numbered : Bool) (told : List Run)
     (text : List ℕ) (seen : AllOf (HasSeen beginning) (pasts_of before)) (run : Run) (so_far : IsRunSoFar run z (pasts_of before))
@@ -120,15 +101,15 @@ module _ (beginning : Run) (z : Past) (tables : KnownSystem) (before after : Lis
       let was = own_past tells.cpu.past in
       let has : HasSeen beginning was = at_index (HasSeen beginning) (pasts_of before) index was seen (past_at before index tells.cpu tells.cpu_is) in
       let made = follow_both was.number beginning [] was.seen tells.grew.made (own_past cpu.past).seen (others_follow was.number beginning was.seen has)
-      (grown_follows was tells.grew.made (own_past cpu.past) tells.grew.grew) in
+      (grew_follow was tells.grew.made (own_past cpu.past) tells.grew.grew) in
       subst (λ (n : ℕ). ChangesFollow n beginning tells.steps (own_past cpu.past).seen) (number_before index tells.cpu tells.cpu_is)
-      (follow_as was.number beginning tells.grew.made (own_past cpu.past).seen tells.steps made (same_changes was.number tells.grew.made tells.steps tells.grew.changes))
+      (record { rest = made.rest; is = made.is; changes = made.changes ∙ same_changes was.number tells.grew.made tells.steps tells.grew.changes })
 
   numbers_after : AreNumberedFrom 1 after
   numbers_after index p at =
       let cpu = cpu_at after index p at in
       let tells = tells_at tables 1 before after lines is_numbered told text all index cpu.0 cpu.1 in
-      let grown = grown_number (own_past tells.cpu.past) tells.grew.made (own_past (cpu.0).past) tells.grew.grew in
+      let grown = grew_number (own_past tells.cpu.past) tells.grew.made (own_past (cpu.0).past) tells.grew.grew in
       let was = number_before index tells.cpu tells.cpu_is in
       let same = ap (λ (q : Past). q.number) cpu.2 in omega (arith, grown, was, same)
 

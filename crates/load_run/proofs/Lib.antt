@@ -1,5 +1,6 @@
 pub mod Answering
 pub mod Causing
+pub mod Changes
 pub mod Driving
 pub mod Ended
 pub mod Joining

@@ -22,7 +22,6 @@ use Rattle.step_rules.proofs.LegalTests.{set_max_tests, set_flag_tests, make_tes
 use Rattle.step_rules.proofs.PhaseLemmas.{visited}
 use Rattle.step_rules.proofs.Runs.{after_illegal, allowed, legal_from, sound_run, state_more}
 use Rattle.step_rules.proofs.Sound.{IsSound}
-use Rattle.boot_words.specs.Allowed.{GrewBy}
 use Rattle.boot_words.specs.Growth.{GrewByAll}
 use Rattle.boot_words.specs.Hidden.{hide}
 use Rattle.boot_words.specs.Pasts.{own_past}
@@ -34,44 +33,7 @@ use Rattle.mem_machine.specs.Interleaving.{zone_of}
 use Rattle.mem_machine.specs.Steps.{cpu_makes}
 use Rattle.mem_system.specs.Cpus.{between_locks}
 use Rattle.load_run.specs.Threads.{PastsBegin, RunsShowVisits}
-
--- ---- what a past gains
-
--- the run is these steps, each behind steps of other seats
-abbrev AreBehindOthers : ℕ → (steps run : Run) → Type 0
-AreBehindOthers seat [] run = run ≡ []
-AreBehindOthers seat (e ∷ steps) run = (gap : Run) × (rest : Run) × HasNoStepOf seat gap × (run ≡ gap ++ e ∷ rest) × AreBehindOthers seat steps rest
-
--- what a past gained with these steps
-record Gained (before : Past) (steps : Run) (later : Past) : Type 0 where
-  number : later.number ≡ before.number
-  run : Run
-  seen : later.seen ≡ before.seen ++ run
-  behind : AreBehindOthers before.number steps run
-
-gained : (before : Past) (steps : Run) (later : Past) → GrewByAll before steps later → Gained before steps later
-gained before [] later same = record {
-  number = ap (λ (p : Past). p.number) same;
-  run = [];
-  seen = ap (λ (p : Past). p.seen) same ∙ sym (append_none before.seen);
-  behind = refl;
-}
-gained before (e ∷ steps) later grew =
-    let one = grew.1 in
-    let more = gained grew.0 steps later grew.2 in
-    record {
-      number = more.number ∙ one.number;
-      run = one.between ++ e ∷ more.run;
-      seen = more.seen ∙ ap (λ (l : Run). l ++ more.run) one.seen ∙ append_assoc (before.seen ++ one.between) (e ∷ []) more.run
-          ∙ append_assoc before.seen one.between (e ∷ more.run);
-      behind = (
-        one.between,
-        more.run,
-        one.others,
-        refl,
-        subst (λ (n : ℕ). AreBehindOthers n steps more.run) one.number more.behind,
-      );
-    }
+use Rattle.load_run.proofs.Changes.{AreBehindOthers, gained}
 
 -- ---- how many steps of a seat
 

@@ -1,0 +1,108 @@
+-- The changes of a seat in a run, and how they grow with its past.
+use Rattle.std.proofs.Common.{◌≡◌, ◌∙◌, ℕ, ◌==◌, ◌&&◌, Bool, true, false, List, [], ◌∷◌, ◌++◌, cond, refl, ap, sym, subst, inl, inr, append_assoc}
+use Rattle.std.specs.Prelude.{not}
+use Rattle.std.proofs.lemmas.Bool.{ne_eqb}
+use Rattle.std.proofs.lemmas.List.Elements.{filter-append}
+use Rattle.step_rules.specs.declared.step.Step.{Step}
+use Rattle.step_rules.specs.declared.step.Answer.{Answer}
+use Rattle.step_rules.specs.After.{Run}
+use Rattle.boot_words.specs.Allowed.{GrewBy}
+use Rattle.boot_words.specs.Growth.{AreChangesOf, GrewByAll, changes_nothing}
+use Rattle.boot_words.specs.Runs.{HasNoStepOf, OthersFollow}
+use Rattle.boot_words.specs.declared.view.Past.{Past}
+use Rattle.boot_words.proofs.Holding.{append_none}
+use Rattle.load_run.specs.Survey.{ChangesFollow, changes_by}
+
+-- the step is a change of the seat
+abbrev pub is_change : ℕ → Step × Answer → Bool
+is_change seat e = e.0.seat == seat && not (changes_nothing e.1)
+
+pub changes_both : (seat : ℕ) (xs ys : Run) → changes_by seat (xs ++ ys) ≡ changes_by seat xs ++ changes_by seat ys
+changes_both seat xs ys = filter-append (is_change seat) xs ys
+
+-- a step that is no change of the seat
+not_one : (seat : ℕ) (e : Step × Answer) (run : Run) → is_change seat e ≡ false → changes_by seat (e ∷ run) ≡ changes_by seat run
+not_one seat e run out = ap (λ (b : Bool). cond b (e ∷ changes_by seat run) (changes_by seat run)) out
+
+and_false : (b : Bool) → (b && false) ≡ false
+and_false true = refl
+and_false false = refl
+
+pub no_change : (seat : ℕ) (run : Run) → HasNoStepOf seat run → changes_by seat run ≡ []
+no_change seat [] none = refl
+no_change seat (e ∷ run) none =
+    not_one seat e run (ap (λ (b : Bool). b && not (changes_nothing e.1)) (ne_eqb e.0.seat seat none.0)) ∙ no_change seat run none.1
+
+-- steps that change nothing don't count
+pub same_changes : (seat : ℕ) (run steps : Run) → AreChangesOf run steps → changes_by seat run ≡ changes_by seat steps
+same_changes seat [] steps e = ap (changes_by seat) (sym e)
+same_changes seat (e ∷ run) steps (inl out) =
+    not_one seat e run (ap (λ (b : Bool). e.0.seat == seat && not b) out.0 ∙ and_false (e.0.seat == seat)) ∙ same_changes seat run steps out.1
+same_changes seat (e ∷ run) steps (inr h) =
+    ap (λ (l : Run). cond (is_change seat e) (e ∷ l) l) (same_changes seat run h.0 h.2) ∙ ap (changes_by seat) (sym h.1)
+
+-- ---- a past that grew by steps
+
+-- the run is these steps, each behind steps of other seats
+abbrev pub AreBehindOthers : ℕ → (steps run : Run) → Type 0
+AreBehindOthers seat [] run = run ≡ []
+AreBehindOthers seat (e ∷ steps) run = (gap : Run) × (rest : Run) × HasNoStepOf seat gap × (run ≡ gap ++ e ∷ rest) × AreBehindOthers seat steps rest
+
+-- what a past gained with these steps
+pub record Gained (before : Past) (steps : Run) (later : Past) : Type 0 where
+  pub number : later.number ≡ before.number
+  pub run : Run
+  pub seen : later.seen ≡ before.seen ++ run
+  pub behind : AreBehindOthers before.number steps run
+
+pub gained : (before : Past) (steps : Run) (later : Past) → GrewByAll before steps later → Gained before steps later
+gained before [] later same = record {
+  number = ap (λ (p : Past). p.number) same;
+  run = [];
+  seen = ap (λ (p : Past). p.seen) same ∙ sym (append_none before.seen);
+  behind = refl;
+}
+gained before (e ∷ steps) later grew =
+    let one = grew.1 in
+    let more = gained grew.0 steps later grew.2 in
+    record {
+      number = more.number ∙ one.number;
+      run = one.between ++ e ∷ more.run;
+      seen = more.seen ∙ ap (λ (l : Run). l ++ more.run) one.seen ∙ append_assoc (before.seen ++ one.between) (e ∷ []) more.run
+          ∙ append_assoc before.seen one.between (e ∷ more.run);
+      behind = (
+        one.between,
+        more.run,
+        one.others,
+        refl,
+        subst (λ (n : ℕ). AreBehindOthers n steps more.run) one.number more.behind,
+      );
+    }
+
+-- such a run has the changes of the steps
+changes_behind : (seat : ℕ) (steps run : Run) → AreBehindOthers seat steps run → changes_by seat run ≡ changes_by seat steps
+changes_behind seat [] run e = ap (changes_by seat) e
+changes_behind seat (e ∷ steps) run h =
+    ap (changes_by seat) h.3 ∙ changes_both seat h.0 (e ∷ h.1) ∙ ap (λ (l : Run). l ++ changes_by seat (e ∷ h.1)) (no_change seat h.0 h.2)
+    ∙ ap (λ (l : Run). cond (is_change seat e) (e ∷ l) l) (changes_behind seat steps h.1 h.4)
+
+pub grew_number : (before : Past) (steps : Run) (later : Past) → GrewByAll before steps later → later.number ≡ before.number
+grew_number before steps later grew = (gained before steps later grew).number
+
+-- what a seat changes behind a beginning, and then behind a longer one
+pub follow_both : (seat : ℕ) (a one b two c : Run) → ChangesFollow seat a one b → ChangesFollow seat b two c → ChangesFollow seat a (one ++ two) c
+follow_both seat a one b two c f g = record {
+  rest = f.rest ++ g.rest;
+  is = g.is ∙ ap (λ (l : Run). l ++ g.rest) f.is ∙ append_assoc a f.rest g.rest;
+  changes = changes_both seat f.rest g.rest ∙ ap (λ (l : Run). l ++ changes_by seat g.rest) f.changes
+      ∙ ap (λ (l : Run). changes_by seat one ++ l) g.changes ∙ sym (changes_both seat one two);
+}
+
+-- others' steps alone
+pub others_follow : (seat : ℕ) (a b : Run) → OthersFollow seat a b → ChangesFollow seat a [] b
+others_follow seat a b o = record { rest = o.rest; is = o.is; changes = no_change seat o.rest o.others }
+
+-- a past that grew by steps
+pub grew_follow : (before : Past) (steps : Run) (later : Past) → GrewByAll before steps later → ChangesFollow before.number before.seen steps later.seen
+grew_follow before steps later grew =
+    let g = gained before steps later grew in record { rest = g.run; is = g.seen; changes = changes_behind before.number steps g.run g.behind }
