@@ -1,6 +1,6 @@
 -- What the zone's past and a CPU's past gain by a command, and how the run so far goes on. Serves `try_unlocked`,
 -- `try_in_order`, `alloc_in_order`, and what is told of each line.
-use Rattle.std.proofs.Common.{◌≡◌, ◌∙◌, ℕ, Bool, true, false, Some, List, [], ◌++◌, Ok, Err, append-nil, ap, inl, inr, refl, subst, sym}
+use Rattle.std.proofs.Common.{◌≡◌, ◌≢◌, ◌∙◌, ℕ, Bool, true, false, Some, List, [], ◌++◌, Ok, Err, append-nil, ap, inl, inr, refl, subst, sym}
 use Rattle.std.specs.Prelude.{slice_set, if◌then◌else◌}
 use Rattle.std.specs.Option.{option_map}
 use Rattle.std.specs.List.{slice_get}
@@ -73,6 +73,11 @@ module _ (n : ℕ) (before after : KnownPasts) where
   fast_made g fast.ListEmpty last grew = nothing grew
   fast_made g fast.OtherGroup last grew = nothing grew
   fast_made g fast.NoStock last grew = nothing grew
+
+  pub no_fast_made : (g : ℕ) (answer : Fast) (last : Stock) → ((frame : ℕ) → answer ≢ fast.Got frame)
+      → GrewByAll (own_past before) (steps_of_fast n g answer last) (own_past after) → MakesAlone n [] before after
+  no_fast_made g (fast.Got f) last none grew = absurd (none f refl)
+  no_fast_made g answer last none grew = fast_made g answer last grew
 
   pub listed_made : (f : ℕ) (last : Stock) → GrewByAll (own_past before) (steps_of_drop n f dropped.Listed last) (own_past after)
       → MakesAlone n (steps_alone n (command.Release f) unlocked.Listed) before after

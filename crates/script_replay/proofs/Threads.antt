@@ -1,45 +1,47 @@
--- The workers that were started and joined so far. Serves `start_all`, `join`, `gather`.
-use Rattle.std.proofs.Common.{Result, Ok, Err, IfOk, ◌≡◌, ℕ, Bool, ◌+◌, ◌<◌, List, [], ◌∷◌, ◌++◌, length, take, get_or, append_assoc, append-nil, ap, refl, sym, ◌∙◌, subst, arith}
-use Rattle.std.proofs.lemmas.List.{take_more, length-take-le}
-use Rattle.script_lines.specs.declared.line.Line.{Line}
+-- The answers of the workers of two slices of CPUs, in one text. Serves `run_from`, `run_both`, `run_at_most_one`.
+use Rattle.std.proofs.Common.{Bool, ◌≡◌, ◌∙◌, ℕ, zero, suc, ◌+◌, List, [], ◌∷◌, ◌++◌, length, append_assoc, append-nil, ap, refl, subst, sym, arith}
 use Rattle.mem_system.specs.Boots.{KnownSystem}
 use Rattle.mem_system.specs.Cpus.{CpuInRun}
+use Rattle.step_rules.specs.After.{Run}
+use Rattle.script_lines.specs.declared.line.Line.{Line}
 use Rattle.script_replay.specs.Own.{KnownWorker, ServesOwn, worker}
-use Rattle.script_replay.specs.Each.{workers_from, AreAllAnswers, AreOwnAnswers}
+use Rattle.script_replay.specs.Each.{AreAllAnswers, heading, workers_from}
 
--- a worker for one part more
-workers_push : (p : ℕ) (cs : List CpuInRun) (c : CpuInRun) (lines : List Line) (numbered : Bool) →
-    workers_from p (cs ++ c ∷ []) lines numbered ≡ workers_from p cs lines numbered ++ worker (p + length cs) c lines numbered ∷ []
-workers_push p [] c lines numbered =
-    let e : p ≡ p + 0 = omega arith in
-    ap (λ (n : ℕ). worker n c lines numbered ∷ []) e
-workers_push p (x ∷ cs) c lines numbered =
-    let e : (p + 1) + length cs ≡ p + length (x ∷ cs) = omega arith in
-    ap (λ (ws : List KnownWorker). worker p x lines numbered ∷ ws)
-    (workers_push (p + 1) cs c lines numbered
-    ∙ ap (λ (n : ℕ). workers_from (p + 1) cs lines numbered ++ worker n c lines numbered ∷ []) e)
+-- the workers of two slices
+pub workers_both : (p : ℕ) (front back : List CpuInRun) (lines : List Line) (numbered : Bool)
+    → workers_from p (front ++ back) lines numbered ≡ workers_from p front lines numbered ++ workers_from (p + length front) back lines numbered
+workers_both p [] back lines numbered = ap (λ (n : ℕ). workers_from n back lines numbered) (let e : p ≡ p + 0 = omega arith in e)
+workers_both p (c ∷ front) back lines numbered =
+    let e : (p + 1) + length front ≡ p + length (c ∷ front) = omega arith in
+    ap (λ (ws : List KnownWorker). worker p c lines numbered ∷ ws)
+    (workers_both (p + 1) front back lines numbered
+    ∙ ap (λ (n : ℕ). workers_from (p + 1) front lines numbered ++ workers_from n back lines numbered) e)
 
--- the same for parts that are taken in order
-pub started_more : (cs : List CpuInRun) (i : ℕ) (default : CpuInRun) (lines : List Line) (numbered : Bool) → i < length cs →
-    workers_from 1 (take (i + 1) cs) lines numbered ≡ workers_from 1 (take i cs) lines numbered ++ worker (i + 1) (get_or cs i default) lines numbered ∷ []
-started_more cs i default lines numbered inside =
-    let long : length (take i cs) ≡ i = length-take-le i cs (omega arith) in
-    let e : 1 + length (take i cs) ≡ i + 1 = omega (arith, long) in
-    ap (λ (l : List CpuInRun). workers_from 1 l lines numbered) (take_more cs i default inside)
-    ∙ workers_push 1 (take i cs) (get_or cs i default) lines numbered
-    ∙ ap (λ (n : ℕ). workers_from 1 (take i cs) lines numbered ++ worker n (get_or cs i default) lines numbered ∷ []) e
+-- the text of one worker
+abbrev pub Alone : KnownSystem → KnownWorker → CpuInRun → List ℕ → Type 0
+Alone on w c text = (told : Run) × (own : List ℕ) × ServesOwn on w c told own × (text ≡ heading w.cpu_number ++ own)
 
--- a worker's text, behind its heading
-pub joined : {T E : Type 0} (on : KnownSystem) (p : ℕ) (c d : CpuInRun) (lines : List Line) (numbered : Bool) (before head mid own new : List ℕ) (r : Result T E) →
-    ServesOwn on (worker p c lines numbered) d own → mid ≡ before ++ head → IfOk r (λ _. new ≡ mid ++ own) →
-    IfOk r (λ _. (said : List ℕ) × AreOwnAnswers on (worker p c lines numbered) said × (new ≡ before ++ (head ++ said)))
-joined on p c d lines numbered before head mid own new (Ok x) serves first second =
-    (own, record { after = d; serves = serves }, second ∙ (ap (λ xs. xs ++ own) first ∙ append_assoc before head own))
-joined on p c d lines numbered before head mid own new (Err e) serves first second = tt
+pub answers_alone : (on : KnownSystem) (w : KnownWorker) (c : CpuInRun) (text : List ℕ) → Alone on w c text
+    → (told : List Run) × AreAllAnswers on (w ∷ []) (c ∷ []) told text
+answers_alone on w c text is = (is.0 ∷ [], (is.1, [], is.2, refl, is.3 ∙ sym (append-nil (heading w.cpu_number ++ is.1))))
 
--- no worker is left
-pub all_told : (on : KnownSystem) (ws all : List KnownWorker) (text items : List ℕ) → length ws ≡ 0 →
-    ((rest : List ℕ) → AreAllAnswers on ws rest → AreAllAnswers on all (text ++ rest)) → items ≡ text → AreAllAnswers on all items
-all_told on [] all text items none tells is =
-    subst (λ (x : List ℕ). AreAllAnswers on all x) (append-nil text ∙ sym is) (tells [] refl)
-all_told on (x ∷ ws) all text items none tells is = absurd (omega arith)
+-- the texts of two slices' workers
+answers_both : (on : KnownSystem) (ws vs : List KnownWorker) (cs ds : List CpuInRun) (ts us : List Run) (a b : List ℕ) → AreAllAnswers on ws cs ts a
+    → AreAllAnswers on vs ds us b → AreAllAnswers on (ws ++ vs) (cs ++ ds) (ts ++ us) (a ++ b)
+answers_both on [] vs [] ds [] us a b none more = subst (λ (l : List ℕ). AreAllAnswers on vs ds us (l ++ b)) (sym none) more
+answers_both on [] vs [] ds (t ∷ ts) us a b none more = absurd none
+answers_both on [] vs (c ∷ cs) ds ts us a b none more = absurd none
+answers_both on (w ∷ ws) vs [] ds ts us a b none more = absurd none
+answers_both on (w ∷ ws) vs (c ∷ cs) ds [] us a b none more = absurd none
+answers_both on (w ∷ ws) vs (c ∷ cs) ds (t ∷ ts) us a b all more =
+    (all.0, all.1 ++ b, all.2, answers_both on ws vs cs ds ts us all.1 b all.3 more,
+    ap (λ (l : List ℕ). l ++ b) all.4 ∙ append_assoc (heading w.cpu_number ++ all.0) all.1 b)
+
+-- the answers of some workers
+abbrev pub Answers : KnownSystem → List KnownWorker → List CpuInRun → List ℕ → Type 0
+Answers on ws cs text = (told : List Run) × AreAllAnswers on ws cs told text
+
+pub both_answer : (on : KnownSystem) (ws vs : List KnownWorker) (cs ds : List CpuInRun) (a b text : List ℕ) → Answers on ws cs a → Answers on vs ds b
+    → text ≡ a ++ b → Answers on (ws ++ vs) (cs ++ ds) text
+both_answer on ws vs cs ds a b text front back is =
+    (front.0 ++ back.0, subst (AreAllAnswers on (ws ++ vs) (cs ++ ds) (front.0 ++ back.0)) (sym is) (answers_both on ws vs cs ds front.0 back.0 a b front.1 back.1))

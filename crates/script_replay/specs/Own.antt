@@ -41,6 +41,14 @@ ServesOwnLine tables is_numbered own (At number cpu command) before after text =
     MatchBool (cpu == own) (SaysNumbered is_numbered number (TellsCommand tables command before after) text)
     ((text ≡ []) × (after ≡ before))
 
+-- the line is answered or skipped by these steps, whatever was told before, and the CPU's past has grown by them
+pub record ServesOwnBySteps (tables : KnownSystem) (is_numbered : Bool) (own : ℕ) (line : Line)
+    (before after : CpuInRun) (text : List ℕ) : Type 0 where
+  pub steps : Run
+  pub serves : (told : Run)
+      → ServesOwnLine tables is_numbered own line (told_cpu before told) (told_cpu after (told ++ steps)) text
+  pub grew : GrewByChanges before.past steps after.past
+
 -- a worker: the number of its CPU, its part at the start, all lines, of which it serves its own, and whether their
 -- answers have numbers
 pub record KnownWorker : Type 0 where

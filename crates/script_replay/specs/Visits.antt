@@ -46,9 +46,9 @@ pub record IsServedByVisit (tables : KnownSystem) (cmd : Cmd) (steps : Run) (bef
   pub visited : IsVisited tables.frames tables.stocks (IsServed tables.frames cmd reply) before after
   pub steps_are : steps ≡ between_locks before.part.number visited.served.steps
 
--- the command was served by a visit, and the text is that of its reply
-pub record IsReplyVisited (tables : KnownSystem) (cmd : Cmd) (steps : Run) (before after : CpuInRun) (text : List ℕ)
-    : Type 0 where
+-- the command was served by a visit, by some steps, and the text is that of its reply
+pub record IsReplyVisited (tables : KnownSystem) (cmd : Cmd) (before after : CpuInRun) (text : List ℕ) : Type 0 where
+  pub steps : Run
   pub reply : Reply
   pub visited : IsServedByVisit tables cmd steps before after reply
   pub text_is : text ≡ answer_text (answer.Served reply)
@@ -117,11 +117,15 @@ pub record VisitsBySteps (tables : KnownSystem) (command : Command) (steps : Run
   pub tells : VisitsCommand tables command steps before after text
   pub grew : GrewByChanges before.past steps after.past
 
--- the answer of a line, as text, by some steps; `go` has no answer and does nothing
+-- the answer of a command, as text, by some steps
+abbrev pub ServesByVisits : KnownSystem → Command → (before after : CpuInRun) (text : List ℕ) → Type 0
+ServesByVisits tables command before after text = (steps : Run) × VisitsBySteps tables command steps before after text
+
+-- the answer of a line, as text; `go` has no answer and does nothing
 abbrev pub VisitsLine : KnownSystem → Line → (before after : List CpuInRun) (text : List ℕ) → Type 0
 VisitsLine tables Go before after text = (text ≡ []) × (after ≡ before)
 VisitsLine tables (At number cpu command) before after text =
-    AtPart cpu (λ part left. (steps : Run) × VisitsBySteps tables command steps part left text) before after
+    AtPart cpu (λ part left. ServesByVisits tables command part left text) before after
 
 -- the answers of lines, served by visits one after the other
 abbrev pub VisitsAll : KnownSystem → List Line → (before after : List CpuInRun) (text : List ℕ) → Type 0

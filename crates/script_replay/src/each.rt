@@ -1,27 +1,29 @@
 //! A thread for each CPU.
 
-ghost use Rattle.std.specs.Prelude.{◌≡◌, ◌<◌, ◌^◌, All, IfOk, length};
+ghost use Rattle.std.specs.Prelude.{◌≡◌, ◌+◌, ◌++◌, ◌<◌, ◌≤◌, ◌^◌, ℕ, All, IfOk, List, length};
 ghost use Rattle.std.specs.Thread.{IsSend, IsSync};
+ghost use Rattle.step_rules.specs.After.{Run};
 ghost use Rattle.script_replay.specs.Ranges.{LineInRange};
 ghost use Rattle.script_replay.specs.Terms.{boot_tables};
-ghost use Rattle.script_replay.specs.Own.{LineCommandInRange};
-ghost use Rattle.script_replay.specs.Each.{AreAllAnswers, workers_from};
+ghost use Rattle.script_replay.specs.Own.{LineCommandInRange, ServesOwn, worker};
+ghost use Rattle.script_replay.specs.Each.{AreAllAnswers, heading, workers_from};
 
-use crate::workers::{Job, Worker, start};
+use crate::Visitor;
+use crate::own_lines::{Job, serve_own};
 use cpu_part::BootName;
 use mem_system::{Cpu, Gate, System};
 use script_lines::line::Line;
 use std::alloc::{AllocError, Global};
 use std::sync::Wait;
-use std::thread;
-use std::thread::{Scope, Threads};
+use std::thread::{Threads, join_mut};
 
-/// Serves the lines by one thread for each CPU: each thread serves the lines of its own CPU in their order. All
-/// threads are started before any is joined. Returns the answers CPU by CPU, each CPU's behind a line `cpu P`, even
-/// if it has no lines. Each line of an answer begins with the number of its line if `is_numbered` is true.
+/// Serves the lines by one thread for each CPU: each thread serves the lines of its own CPU in their order. Returns the
+/// answers CPU by CPU, each CPU's behind a line `cpu P`, even if it has no lines. Each line of an answer begins with the
+/// number of its line if `is_numbered` is true.
 ///
-/// The gate is called around each line, with the line's number in the script, and inside each visit of a command.
-/// `AllocError`: memory ran out, or a thread couldn't be started. The threads that were started have then ended.
+/// The gate is called around each line, with the line's number in the script, and inside each visit of a command. If a
+/// thread can't be started, a thread that runs serves the lines of its CPU, behind those of its own CPU. `AllocError`:
+/// memory ran out for the answers. All threads that were started have ended when this returns.
 pub fn run_each<N: BootName + Send + Sync, R: Threads + Wait + Sync, G: Gate + Sync>(
     rt: &R,
     alloc: Global,
@@ -33,94 +35,108 @@ pub fn run_each<N: BootName + Send + Sync, R: Threads + Wait + Sync, G: Gate + S
 ) -> Result<Vec<u8>, AllocError>
     requires count { length cpus.old < 2 ^ 31 }
     requires lines { All (LineInRange N.frames.frames (length cpus.old)) lines.now }
-    ensures { IfOk result (λ text.
-        AreAllAnswers (boot_tables N.frames N.stocks) (workers_from 1 cpus.old lines.now is_numbered) text.items) }
+    ensures { IfOk result (λ text. (told : List Run) × AreAllAnswers (boot_tables N.frames N.stocks)
+        (workers_from 1 cpus.old lines.now is_numbered) cpus.new told text.items) }
 {
-    run_in_range(rt, alloc, system, cpus, lines, is_numbered, gate)
+    let job = Job {
+        visitor: Visitor { rt, system, gate },
+        alloc,
+        lines,
+        is_numbered,
+    };
+    run_from(&job, 1, cpus)
 }
 
-// Serves the lines as `run_each` does. It requires only that the frames and groups in them are in range, not the
-// CPUs.
-fn run_in_range<N: BootName + Send + Sync, R: Threads + Wait + Sync, G: Gate + Sync>(
-    rt: &R,
-    alloc: Global,
-    system: &System<N>,
+// Serves the lines of these CPUs, the first of which has this number. Half of the CPUs go to a new thread, so the stack
+// grows as the logarithm of their count.
+#[cycle(halves)]
+fn run_from<N: BootName + Send + Sync, R: Threads + Wait + Sync, G: Gate + Sync>(
+    job: &Job<'_, N, R, G>,
+    first: u32,
     cpus: &mut [Cpu<N>],
-    lines: &[Line<'_>],
-    is_numbered: bool,
-    gate: &G,
 ) -> Result<Vec<u8>, AllocError>
-    requires count { length cpus.old < 2 ^ 31 }
-    requires lines { All (LineCommandInRange N.frames.frames) lines.now }
-    ensures { IfOk result (λ text.
-        AreAllAnswers (boot_tables N.frames N.stocks) (workers_from 1 cpus.old lines.now is_numbered) text.items) }
+    requires count { first + length cpus.old ≤ 2 ^ 31 }
+    requires lines { All (LineCommandInRange N.frames.frames) job.now.lines.now }
+    ensures { IfOk result (λ text. (told : List Run) × AreAllAnswers (boot_tables N.frames N.stocks)
+        (workers_from first cpus.old job.now.lines.now job.now.is_numbered) cpus.new told text.items) }
 {
-    // Shared borrows, which every thread can hold.
-    let rt = &*rt;
-    let system = &*system;
-    let lines = &*lines;
-    let gate = &*gate;
-    thread::scope(
-        thread::scope_env(),
-        rt,
-        |scope| -> Result<Vec<u8>, AllocError>
-            requires { IsSync R.row × IsSync G.row × IsSync N.row × IsSend N.row × (length cpus.now < 2 ^ 31)
-                × All (LineCommandInRange N.frames.frames) lines.now }
-            ensures { IfOk result (λ text. AreAllAnswers (boot_tables N.frames N.stocks)
-                (workers_from 1 cpus.entry.now lines.entry.now is_numbered) text.items) }
-        {
-            let workers = start_all(scope, rt, alloc, system, lines, is_numbered, gate, cpus)?;
-            gather(rt, alloc, workers)
-        },
-    )
+    if cpus.len() < 2 {
+        return run_at_most_one(job, first, cpus);
+    }
+    let half = cpus.len() / 2;
+    let (front, back) = cpus.split_at_mut(half);
+    run_both(job, first, front, first + half as u32, back)
 }
 
-// Starts a worker for each part, in order.
-fn start_all<'s, E, N: BootName + Send + Sync, R: Wait + Sync, G: Gate + Sync>(
-    scope: &Scope<'s, E>,
-    rt: &'s R,
-    alloc: Global,
-    system: &'s System<N>,
-    lines: &'s [Line<'s>],
-    is_numbered: bool,
-    gate: &'s G,
-    cpus: &'s mut [Cpu<N>],
-) -> Result<Vec<Worker<'s, N>>, AllocError>
-    requires count { length cpus.old < 2 ^ 31 }
-    requires lines { All (LineCommandInRange N.frames.frames) lines.now }
-    ensures { IfOk result (λ workers. workers.items ≡ workers_from 1 cpus.old lines.now is_numbered) }
+// Serves the lines of two slices of CPUs, each from this number on, in two threads if a thread can be started.
+#[cycle(halves)]
+fn run_both<N: BootName + Send + Sync, R: Threads + Wait + Sync, G: Gate + Sync>(
+    job: &Job<'_, N, R, G>,
+    first: u32,
+    front: &mut [Cpu<N>],
+    second: u32,
+    back: &mut [Cpu<N>],
+) -> Result<Vec<u8>, AllocError>
+    requires front { first + length front.old ≤ 2 ^ 31 }
+    requires back { second + length back.old ≤ 2 ^ 31 }
+    requires lines { All (LineCommandInRange N.frames.frames) job.now.lines.now }
+    ensures { IfOk result (λ text. (told : List Run) × AreAllAnswers (boot_tables N.frames N.stocks)
+        (workers_from first front.old job.now.lines.now job.now.is_numbered
+        ++ workers_from second back.old job.now.lines.now job.now.is_numbered)
+        (front.new ++ back.new) told text.items) }
 {
-    let mut workers = Vec::with_capacity(alloc, cpus.len())?;
-    let mut cpu_number = 1;
-    for cpu in cpus.iter_mut() {
-        let job = Job {
-            rt,
-            alloc,
-            system,
-            cpu,
-            cpu_number,
-            lines,
-            is_numbered,
-            gate,
-        };
-        workers.push(start(scope, job)?)?;
-        cpu_number += 1;
-    }
-    Ok(workers)
+    let mut run_front = || -> Result<Vec<u8>, AllocError>
+        requires { IsSync R.row × IsSync G.row × IsSync N.row × IsSend N.row × (first + length front.now ≤ 2 ^ 31)
+            × All (LineCommandInRange N.frames.frames) job.now.lines.now }
+        ensures { IfOk result (λ text. (told : List Run) × AreAllAnswers (boot_tables N.frames N.stocks)
+            (workers_from first front.entry.now job.entry.now.lines.now job.entry.now.is_numbered) front.exit.now told
+            text.items) }
+    { run_from(job, first, front) };
+    let mut run_back = || -> Result<Vec<u8>, AllocError>
+        requires { IsSync R.row × IsSync G.row × IsSync N.row × IsSend N.row × (second + length back.now ≤ 2 ^ 31)
+            × All (LineCommandInRange N.frames.frames) job.now.lines.now }
+        ensures { IfOk result (λ text. (told : List Run) × AreAllAnswers (boot_tables N.frames N.stocks)
+            (workers_from second back.entry.now job.entry.now.lines.now job.entry.now.is_numbered) back.exit.now told
+            text.items) }
+    { run_from(job, second, back) };
+    let (ours, theirs) = join_mut(job.visitor.rt, &mut run_front, &mut run_back);
+    let mut text = ours?;
+    let others = theirs?;
+    text.extend_from_slice(&others)?;
+    Ok(text)
 }
 
-// Joins the workers one after another, and returns their answers.
-fn gather<'s, N: BootName, R: Threads>(
-    rt: &R,
-    alloc: Global,
-    mut workers: Vec<Worker<'s, N>>,
+// Serves the lines of the CPU, if there is one.
+fn run_at_most_one<N: BootName, R: Wait, G: Gate>(
+    job: &Job<'_, N, R, G>,
+    cpu_number: u32,
+    cpus: &mut [Cpu<N>],
 ) -> Result<Vec<u8>, AllocError>
-    ensures { IfOk result (λ text. AreAllAnswers (boot_tables N.frames N.stocks) workers.entry.items text.items) }
+    requires short { length cpus.old < 2 }
+    requires lines { All (LineCommandInRange N.frames.frames) job.now.lines.now }
+    ensures { IfOk result (λ text. (told : List Run) × AreAllAnswers (boot_tables N.frames N.stocks)
+        (workers_from cpu_number cpus.old job.now.lines.now job.now.is_numbered) cpus.new told text.items) }
 {
-    let mut text = String::new(alloc);
-    while !workers.is_empty() {
-        let worker = workers.remove(0);
-        worker.join(rt, &mut text)?;
+    if cpus.is_empty() {
+        return Ok(Vec::new(job.alloc));
     }
+    run_one(job, cpu_number, &mut cpus[0])
+}
+
+// Serves the lines of the CPU of this number, and returns their answers behind the line that heads them.
+fn run_one<N: BootName, R: Wait, G: Gate>(
+    job: &Job<'_, N, R, G>,
+    cpu_number: u32,
+    cpu: &mut Cpu<N>,
+) -> Result<Vec<u8>, AllocError>
+    requires { All (LineCommandInRange N.frames.frames) job.now.lines.now }
+    ensures { IfOk result (λ text. (told : Run) × (own : List ℕ) × ServesOwn (boot_tables N.frames N.stocks)
+        (worker cpu_number cpu.old job.now.lines.now job.now.is_numbered) cpu.new told own
+        × (text.items ≡ heading cpu_number ++ own)) }
+{
+    let mut text = String::new(job.alloc);
+    writeln!(text, "cpu {cpu_number}")?;
+    let own = serve_own(job, cpu_number, cpu)?;
+    text.push_str(own.as_str())?;
     Ok(text.into_bytes())
 }

@@ -1,6 +1,7 @@
 //! The lines before `go` in order, then the rest by one thread for each CPU.
 
-ghost use Rattle.std.specs.Prelude.{◌≡◌, ◌<◌, ◌^◌, All, IfOk, length};
+ghost use Rattle.std.specs.Prelude.{◌≡◌, ◌<◌, ◌^◌, All, IfOk, List, length};
+ghost use Rattle.step_rules.specs.After.{Run};
 ghost use Rattle.script_replay.specs.Ranges.{LineInRange};
 ghost use Rattle.script_replay.specs.Terms.{boot_tables};
 ghost use Rattle.script_replay.specs.Runs.{RunsLines, lines_before_go};
@@ -29,7 +30,8 @@ pub fn run_lines<N: BootName + Send + Sync, R: Threads + Wait + Sync, G: Gate + 
 ) -> Result<Vec<u8>, AllocError>
     requires count { length cpus.old < 2 ^ 31 }
     requires lines { All (LineInRange N.frames.frames (length cpus.old)) lines.now }
-    ensures { IfOk result (λ text. RunsLines (boot_tables N.frames N.stocks) lines.now cpus.old text.items) }
+    ensures { IfOk result (λ text. (told : List Run) × RunsLines (boot_tables N.frames N.stocks) lines.now cpus.old
+        cpus.new told text.items) }
 {
     let (early, later) = lines.split_at(before_go(lines));
     let mut text = replay_by_visits(rt, alloc, system, cpus, early)?;

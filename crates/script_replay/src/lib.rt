@@ -19,7 +19,6 @@ mod unlocked_calls;
 mod value_calls;
 mod visit_answers;
 mod visit_replay;
-mod workers;
 mod writer;
 
 pub use answer_value::AnswerValue;

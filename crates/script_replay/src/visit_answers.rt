@@ -8,7 +8,7 @@ ghost use Rattle.script_replay.specs.Commands.{OnlySettles, frame_path};
 ghost use Rattle.script_replay.specs.Numbers.{SaysNumbered};
 ghost use Rattle.script_replay.specs.Ranges.{CommandInRange};
 ghost use Rattle.script_replay.specs.Terms.{boot_tables};
-ghost use Rattle.script_replay.specs.Visits.{IsReplyVisited, VisitsCommand};
+ghost use Rattle.script_replay.specs.Visits.{IsReplyVisited, ServesByVisits};
 
 use crate::commands::{cmd_of, frame_path};
 use crate::form::write_numbered;
@@ -44,7 +44,7 @@ pub fn visit_line<N: BootName, R: Wait, G: Gate>(
 ) -> Result<(), AllocError>
     requires in_range { CommandInRange N.frames.frames command.now }
     ensures answered { AddsText result text.old text.new
-        (VisitsCommand (boot_tables N.frames N.stocks) command.now cpu.old cpu.new) }
+        (ServesByVisits (boot_tables N.frames N.stocks) command.now cpu.old cpu.new) }
 {
     let cpu_number = cpu.number();
     visitor.gate.before(cpu_number, line);
@@ -65,7 +65,7 @@ pub fn visit_numbered_line<N: BootName, R: Wait, G: Gate>(
 ) -> Result<(), AllocError>
     requires in_range { CommandInRange N.frames.frames command.now }
     ensures answered { AddsText result text.old text.new (SaysNumbered true line
-        (VisitsCommand (boot_tables N.frames N.stocks) command.now cpu.old cpu.new)) }
+        (ServesByVisits (boot_tables N.frames N.stocks) command.now cpu.old cpu.new)) }
 {
     let mut plain = String::new(alloc);
     visit_line(visitor, cpu, line, command, &mut plain)?;
@@ -81,7 +81,7 @@ pub(crate) fn visit_text<N: BootName, R: Wait, G: Gate>(
 ) -> Result<(), AllocError>
     requires in_range { CommandInRange N.frames.frames command.now }
     ensures answered { AddsText result text.old text.new
-        (VisitsCommand (boot_tables N.frames N.stocks) command.now cpu.old cpu.new) }
+        (ServesByVisits (boot_tables N.frames N.stocks) command.now cpu.old cpu.new) }
 {
     match frame_path(command) {
         Some(path) => visit_frame(visitor, cpu, path, text),
@@ -100,7 +100,7 @@ fn visit_other<N: BootName, R: Wait, G: Gate>(
     requires in_range { CommandInRange N.frames.frames command.now }
     requires other { frame_path command.now ≡ None }
     ensures answered { AddsText result text.old text.new
-        (VisitsCommand (boot_tables N.frames N.stocks) command.now cpu.old cpu.new) }
+        (ServesByVisits (boot_tables N.frames N.stocks) command.now cpu.old cpu.new) }
 {
     if let Some(said) = try_unlocked(visitor.system.tables(), cpu, command) {
         return write_unlocked(&said, text);
@@ -138,7 +138,7 @@ fn visit_settling<N: BootName, R: Wait, G: Gate>(
 ) -> Result<(), AllocError>
     requires settles { OnlySettles command.now }
     ensures answered { AddsText result text.old text.new
-        (VisitsCommand (boot_tables N.frames N.stocks) command.now cpu.old cpu.new) }
+        (ServesByVisits (boot_tables N.frames N.stocks) command.now cpu.old cpu.new) }
 {
     match *command {
         Command::Blocks => visitor.system.blocks_into(visitor.rt, cpu, text),
@@ -162,7 +162,7 @@ fn visit_frame<N: BootName, R: Wait, G: Gate>(
     text: &mut String,
 ) -> Result<(), AllocError>
     ensures { AddsText result text.old text.new
-        (VisitsCommand (boot_tables N.frames N.stocks) (Alloc path.entry 0) cpu.old cpu.new) }
+        (ServesByVisits (boot_tables N.frames N.stocks) (Alloc path.entry 0) cpu.old cpu.new) }
 {
     let Some(group) = visitor.system.find(visitor.rt, path) else {
         return write_refusal(&Fault::NoGroup, text);
@@ -181,7 +181,7 @@ fn visit_units<N: BootName, R: Wait, G: Gate>(
     text: &mut String,
 ) -> Result<(), AllocError>
     ensures { AddsText result text.old text.new
-        (VisitsCommand (boot_tables N.frames N.stocks) (Units path.entry) cpu.old cpu.new) }
+        (ServesByVisits (boot_tables N.frames N.stocks) (Units path.entry) cpu.old cpu.new) }
 {
     let is_there = visitor.system.units_into(visitor.rt, cpu, path, text)?;
     if is_there {

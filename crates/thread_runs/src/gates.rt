@@ -7,7 +7,8 @@ use std::alloc::{AllocError, Global};
 use std::sync::atomic::{AtomicBool, AtomicU64, Ordering};
 use std::thread;
 
-// The longest wait of a thread, in turns: a turn is a look and a yield.
+// The longest wait of a thread, in turns: a turn is a look and a yield. If no second thread can be started, the lines of
+// the CPUs are served in turn: then a wait for the other CPU uses up its turns, and the test fails instead of hanging.
 const WAIT_TURNS: u32 = 1_000_000;
 
 /// CPU 1 stays inside its visit until CPU 2 was answered this many lines. CPU 2 begins its first line once CPU 1 is

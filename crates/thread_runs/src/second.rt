@@ -1,4 +1,5 @@
-//! If a run by threads fails because memory or a thread is refused, the next run is complete all the same.
+//! If a run by threads fails because memory is refused, the next run is complete all the same. If a thread is refused,
+//! the run itself is complete: its lines are served in turn.
 
 use crate::gates::CountedLines;
 use crate::systems::{TWO_CPUS, ThreadAnswers, expect_answers, expect_true, run_script};
@@ -11,7 +12,7 @@ use std::thread::Threads;
 const SCRIPT: &str =
     "1 mkdir /a\n2 alloc /a 0\n2 settle\ngo\n1 get 0\n1 put 0\n2 settle\n2 read /a memory.current\n";
 
-// The answers of the threads in a whole life, from boot to end; None if memory or a thread is refused.
+// The answers of the threads in a whole life, from boot to end; None if memory is refused.
 fn life_of_threads(
     rt: &(impl AllocGlobal + Threads + Wait + Abort + Sync),
     gate: &CountedLines,

@@ -63,7 +63,7 @@ fn run_and_replay<N: BootName + Send + Sync, R: Threads + Wait + Sync, G: Gate +
 }
 
 // Starts the boot under a name of its tables. Runs the lines by threads, and then the last ones by visits. Ends the
-// boot even if memory or a thread was refused; remaining pins are put then.
+// boot even if memory was refused; remaining pins are put then.
 fn live_by_threads<N: BootName + Send + Sync, R: Threads + Wait + Sync, G: Gate + Sync>(
     rt: &R,
     alloc: Global,
@@ -93,7 +93,7 @@ fn live_by_threads<N: BootName + Send + Sync, R: Threads + Wait + Sync, G: Gate 
 }
 
 /// Boots a system of these sizes, runs a script in threads and then one after it, and ends the boot. Returns None if
-/// memory or a thread was refused.
+/// memory was refused.
 pub fn run_script<R: AllocGlobal + Threads + Wait + Abort + Sync, G: Gate + Sync>(
     rt: &R,
     sizes: Config,

@@ -1,7 +1,7 @@
 use Rattle.std.proofs.Common.{◌≡◌, refl, rules}
 use Rattle.script_replay.specs.Numbers.{numbered_text}
 use Rattle.script_replay.specs.Terms.{boot_tables}
-use Rattle.script_replay.specs.Visits.{VisitsCommand}
+use Rattle.script_replay.specs.Visits.{ServesByVisits}
 use Rattle.script_replay.proofs.Telling.{with_number}
 use Rattle.script_replay.proofs.visit_answers.visit_numbered_line.Goals as goal
 
@@ -19,7 +19,7 @@ returns g c =
     let said = c.in_ok-visit_line.ensures.answered in
     let is : c.as_str.result.now ≡ said.text = search rules in
     record {
-      answered = with_number (VisitsCommand (boot_tables g.N.BootName.frames g.N.BootName.stocks) c.args.command.now c.args.cpu.now c.visit_line.new.cpu)
+      answered = with_number (ServesByVisits (boot_tables g.N.BootName.frames g.N.BootName.stocks) c.args.command.now c.args.cpu.now c.visit_line.new.cpu)
           c.args.line said.text c.as_str.result.now c.args.text.now c.write_numbered.new.text c.write_numbered.result said.so is
           c.write_numbered.ensures;
     }

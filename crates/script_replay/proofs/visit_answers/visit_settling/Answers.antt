@@ -8,7 +8,7 @@ use Rattle.reply_texts.specs.LineAnswer.{Settled}
 use Rattle.script_lines.specs.declared.line.Command.TheVariants.{Blocks, Settle, Show, Stock}
 use Rattle.script_replay.specs.Terms.{boot_tables}
 use Rattle.script_replay.proofs.Serving.{is_settle}
-use Rattle.script_replay.proofs.Visiting.{machine_read, settled_done, visits_named}
+use Rattle.script_replay.proofs.Visiting.{looks_visited, machine_read, settled_done, visits_named}
 use Rattle.script_replay.proofs.visit_answers.visit_settling.Goals as goal
 
 pub returns-in-Blocks : goal.returns-in-Blocks
@@ -16,7 +16,7 @@ returns-in-Blocks g c =
     let on = boot_tables g.N.BootName.frames g.N.BootName.stocks in
     let read = c.blocks_into in record {
       answered = visits_named on c.args.command.now Blocks c.args.cpu.now read.new.cpu read.result c.args.text.now read.new.text c.in-Blocks.is
-          (machine_read on (λ machine. blocks_text machine.blocks) c.args.cpu.now read.new.cpu read.result c.args.text.now read.new.text read.ensures.text);
+          (machine_read on Blocks (λ machine. blocks_text machine.blocks) c.args.cpu.now read.new.cpu read.result c.args.text.now read.new.text (λ text steps reads are. (reads, are)) read.ensures.text);
     }
 
 pub returns-in-Show : goal.returns-in-Show
@@ -24,17 +24,18 @@ returns-in-Show g c =
     let on = boot_tables g.N.BootName.frames g.N.BootName.stocks in
     let read = c.show_into in record {
       answered = visits_named on c.args.command.now Show c.args.cpu.now read.new.cpu read.result c.args.text.now read.new.text c.in-Show.is
-          (machine_read on show_text c.args.cpu.now read.new.cpu read.result c.args.text.now read.new.text read.ensures.text);
+          (machine_read on Show show_text c.args.cpu.now read.new.cpu read.result c.args.text.now read.new.text (λ text steps reads are. (reads, are)) read.ensures.text);
     }
 
 pub returns-in-Stock : goal.returns-in-Stock
 returns-in-Stock g c =
+    let on = boot_tables g.N.BootName.frames g.N.BootName.stocks in
     let read = c.stock_into in
     let told = read.ensures.text in record {
-      answered = visits_named (boot_tables g.N.BootName.frames g.N.BootName.stocks) c.args.command.now Stock c.args.cpu.now read.new.cpu read.result
+      answered = visits_named on c.args.command.now Stock c.args.cpu.now read.new.cpu read.result
           c.args.text.now read.new.text c.in-Stock.is (record {
             text = stock_line_text (visit_state_of (locked_state told.settled read.new.cpu));
-            so = record {
+            so = looks_visited on Stock c.args.cpu.now read.new.cpu (stock_line_text (visit_state_of (locked_state told.settled read.new.cpu))) told (record {
               found = told.found;
               settled = told.settled;
               left = told.left;
@@ -42,7 +43,7 @@ returns-in-Stock g c =
               settles = told.settles;
               sound_after = told.sound_after;
               told = record { text_is = refl; look = told.told.1 };
-            };
+            }, refl);
             added = told.told.0;
           });
     }
@@ -55,11 +56,7 @@ returns-in_default g c =
           (is_settle c.args.command.now c.requires.settles c.in_default.not-Blocks c.in_default.not-Show c.in_default.not-Stock c.in_default.not-Units)
           (record {
             text = answer_text Settled;
-            so = record {
-              answer = Settled;
-              answered = settled_done on c.args.cpu.now visited.new.cpu visited.result visited.ensures.served;
-              text_is = refl;
-            };
+            so = settled_done on c.args.cpu.now visited.new.cpu visited.result visited.ensures.served;
             added = c.write_settled.ensures;
           });
     }
