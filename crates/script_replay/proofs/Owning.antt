@@ -1,6 +1,7 @@
 -- The lines of one CPU, so far, and what the lines name, whichever their CPUs. Serves `serve_own`, `serve_own_line`,
 -- `run_each`.
-use Rattle.std.proofs.Common.{Bool, ◌≡◌, ◌∙◌, ℕ, ◌+◌, ◌<◌, ◌≤◌, List, [], ◌++◌, All, length, take, get_or, append_assoc, append-nil, ap, refl, subst, sym}
+use Rattle.std.proofs.Common.{Bool, false, ◌==◌, ◌≡◌, ℕ, ◌+◌, ◌<◌, ◌≤◌, List, [], ◌++◌, All, length, take, get_or, append-nil, refl, subst, sym}
+use Rattle.std.specs.Prelude.{MatchBool}
 use Rattle.mem_system.specs.Boots.{KnownSystem}
 use Rattle.mem_system.specs.Cpus.{CpuInRun}
 use Rattle.step_rules.specs.After.{Run}
@@ -10,7 +11,6 @@ use Rattle.script_lines.specs.declared.line.Line.TheVariants.{Go, At}
 use Rattle.script_replay.specs.Numbers.{SaysNumbered}
 use Rattle.script_replay.specs.Ranges.{LineInRange}
 use Rattle.script_replay.specs.Own.{LineCommandInRange, ServesOwn, ServesOwnBySteps, ServesOwnLine, TellsCommand, ToldCpu, told_cpu, worker}
-use Rattle.script_replay.specs.Visits.{ServesByVisits}
 use Rattle.script_replay.proofs.InOrder.{in_order_end, in_order_line}
 use Rattle.script_replay.proofs.Visiting.{all_grew, grew_both}
 
@@ -25,31 +25,25 @@ lines_name frames cpus lines there = λ k any inside. line_names frames cpus (ge
 module _ (on : KnownSystem) (is_numbered : Bool) (own : ℕ) where
   -- ---- one line
 
-  -- another CPU's line, or `go`, is skipped
-  pub skipped : (line : Line) (c : CpuInRun) (text : List ℕ) → text ≡ []
-      → ((told : ToldCpu) → (text ≡ []) × (told ≡ told) → ServesOwnLine on is_numbered own line told told text)
-      → ServesOwnBySteps on is_numbered own line c c text
-  skipped line c text none skips = record {
+  -- a line is skipped
+  skipped : (line : Line) (c : CpuInRun) → ((told : ToldCpu) → ServesOwnLine on is_numbered own line told told [])
+      → ServesOwnBySteps on is_numbered own line c c []
+  skipped line c skips = record {
     steps = [];
-    serves = λ told. subst (λ (r : Run). ServesOwnLine on is_numbered own line (told_cpu c told) (told_cpu c r) text) (sym (append-nil told))
-        (skips (told_cpu c told) (none, refl));
+    serves = λ told. subst (λ (r : Run). ServesOwnLine on is_numbered own line (told_cpu c told) (told_cpu c r) []) (sym (append-nil told))
+        (skips (told_cpu c told));
     grew = all_grew c.past [] c.past refl;
   }
 
-  -- the CPU's own line is answered
-  pub answered : (number : ℕ) (command : Command) (c d : CpuInRun) (text : List ℕ) → SaysNumbered is_numbered number (ServesByVisits on command c d) text
-      → ((before after : ToldCpu) → SaysNumbered is_numbered number (TellsCommand on command before after) text
-      → ServesOwnLine on is_numbered own (At number own command) before after text)
-      → ServesOwnBySteps on is_numbered own (At number own command) c d text
-  answered number command c d text says is_own = record {
-    steps = says.so.0;
-    serves = λ told. is_own (told_cpu c told) (told_cpu d (told ++ says.so.0)) (record {
-      plain = says.plain;
-      so = record { steps = says.so.0; visits = says.so.1; told = refl };
-      text_is = says.text_is;
-    });
-    grew = says.so.1.grew;
-  }
+  pub go_skipped : (line : Line) (c : CpuInRun) → line ≡ Go → ServesOwnBySteps on is_numbered own line c c []
+  go_skipped line c is = subst (λ (l : Line). ServesOwnBySteps on is_numbered own l c c []) (sym is) (skipped Go c (λ told. (refl, refl)))
+
+  pub other_skipped : (line : Line) (number cpu : ℕ) (command : Command) (c : CpuInRun) → line ≡ At number cpu command → (cpu == own) ≡ false
+      → ServesOwnBySteps on is_numbered own line c c []
+  other_skipped line number cpu command c is other =
+      subst (λ (l : Line). ServesOwnBySteps on is_numbered own l c c []) (sym is)
+      (skipped (At number cpu command) c (λ told. subst (λ (b : Bool). MatchBool b (SaysNumbered is_numbered number (TellsCommand on command told told) [])
+      ((◌≡◌ {A = List ℕ} [] []) × (told ≡ told))) (sym other) (refl, refl)))
 
   -- ---- the lines so far
 

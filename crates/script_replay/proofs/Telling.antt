@@ -1,5 +1,5 @@
 -- A text for an answer.
-use Rattle.std.proofs.Common.{◌≡◌, ◌∙◌, ◌++◌, true, false, List, ℕ, Result, Ok, Err, IfOk, IfErr, ap, append_assoc, refl, subst}
+use Rattle.std.proofs.Common.{◌≡◌, ◌∙◌, ◌++◌, true, false, List, [], ℕ, Result, Ok, Err, IfOk, IfErr, ap, append_assoc, append-nil, refl, subst, sym}
 use Rattle.std.specs.declared.string.String.{String}
 use Rattle.std.specs.String.{string_bytes}
 use Rattle.script_replay.specs.Answers.{AddsText}
@@ -24,6 +24,10 @@ at_error (Err e) P is = is
 pub at_ok : {T E : Type 0} (r : Result T E) {P : Type 0} → P → IfOk r (λ _. P)
 at_ok (Ok x) is = is
 at_ok (Err e) is = tt
+
+-- nothing is added
+pub nothing_added : {Z T E : Type 0} (is_said : List ℕ → Type 0) (old : String Z) (r : Result T E) → is_said [] → AddsText r old old is_said
+nothing_added is_said old r so = record { text = []; so = so; added = at_ok r (sym (append-nil (string_bytes old))) }
 
 -- ---- with the number of a line
 

@@ -1,5 +1,6 @@
 -- The answers of the workers of two slices of CPUs, in one text. Serves `run_from`, `run_both`, `run_at_most_one`.
-use Rattle.std.proofs.Common.{Bool, ◌≡◌, ◌∙◌, ℕ, zero, suc, ◌+◌, List, [], ◌∷◌, ◌++◌, length, append_assoc, append-nil, ap, refl, subst, sym, arith}
+use Rattle.std.proofs.Common.{Result, Ok, Err, IfOk, Bool, ◌≡◌, ◌∙◌, ℕ, zero, suc, ◌+◌, List, [], ◌∷◌, ◌++◌, length, get_or, append_assoc, append-nil, ap, refl, subst, sym, arith}
+use Rattle.std.specs.Prelude.{Vec, slice_set}
 use Rattle.mem_system.specs.Boots.{KnownSystem}
 use Rattle.mem_system.specs.Cpus.{CpuInRun}
 use Rattle.step_rules.specs.After.{Run}
@@ -45,3 +46,25 @@ pub both_answer : (on : KnownSystem) (ws vs : List KnownWorker) (cs ds : List Cp
     → text ≡ a ++ b → Answers on (ws ++ vs) (cs ++ ds) text
 both_answer on ws vs cs ds a b text front back is =
     (front.0 ++ back.0, subst (AreAllAnswers on (ws ++ vs) (cs ++ ds) (front.0 ++ back.0)) (sym is) (answers_both on ws vs cs ds front.0 back.0 a b front.1 back.1))
+
+-- the answers of the workers of a slice, which was cut in two
+pub halves_answer : {Z E : Type 0} (on : KnownSystem) (p second : ℕ) (cpus front back after f b : List CpuInRun) (lines : List Line) (numbered : Bool)
+    (r : Result (Vec ℕ Z) E) → cpus ≡ front ++ back → second ≡ p + length front → after ≡ f ++ b
+    → IfOk r (λ text. Answers on (workers_from p front lines numbered ++ workers_from second back lines numbered) (f ++ b) text.items)
+    → IfOk r (λ text. Answers on (workers_from p cpus lines numbered) after text.items)
+halves_answer on p second cpus front back after f b lines numbered (Ok v) cut is left both =
+    let ws : workers_from p front lines numbered ++ workers_from second back lines numbered ≡ workers_from p cpus lines numbered =
+    ap (λ (n : ℕ). workers_from p front lines numbered ++ workers_from n back lines numbered) is
+    ∙ (sym (workers_both p front back lines numbered) ∙ ap (λ (l : List CpuInRun). workers_from p l lines numbered) (sym cut)) in
+    subst (λ (x : List KnownWorker × List CpuInRun). Answers on x.0 x.1 v.items) (λ i. (ws i, sym left i)) both
+halves_answer on p second cpus front back after f b lines numbered (Err e) cut is left both = tt
+
+-- the answers of the only worker
+pub only_answers : {Z E : Type 0} (on : KnownSystem) (p : ℕ) (cpus : List CpuInRun) (c d : CpuInRun) (lines : List Line) (numbered : Bool)
+    (r : Result (Vec ℕ Z) E) → length cpus ≡ 1 → c ≡ get_or cpus 0 c → IfOk r (λ text. Alone on (worker p c lines numbered) d text.items)
+    → IfOk r (λ text. Answers on (workers_from p cpus lines numbered) (slice_set cpus 0 d) text.items)
+only_answers on p [] c d lines numbered r one read is = absurd (omega (arith, one))
+only_answers on p (x ∷ []) c d lines numbered (Ok v) one read is =
+    subst (λ (z : CpuInRun). Answers on (worker p z lines numbered ∷ []) (d ∷ []) v.items) read (answers_alone on (worker p c lines numbered) d v.items is)
+only_answers on p (x ∷ []) c d lines numbered (Err e) one read is = tt
+only_answers on p (x ∷ y ∷ cpus) c d lines numbered r one read is = absurd (omega (arith, one))

@@ -77,6 +77,8 @@ fn run_both<N: BootName + Send + Sync, R: Threads + Wait + Sync, G: Gate + Sync>
     second: u32,
     back: &mut [Cpu<N>],
 ) -> Result<Vec<u8>, AllocError>
+    requires some_front { 1 ≤ length front.old }
+    requires some_back { 1 ≤ length back.old }
     requires front { first + length front.old ≤ 2 ^ 31 }
     requires back { second + length back.old ≤ 2 ^ 31 }
     requires lines { All (LineCommandInRange N.frames.frames) job.now.lines.now }

@@ -1,11 +1,12 @@
-use Rattle.std.proofs.Common.{refl}
+use Rattle.std.proofs.Common.{rules}
 use Rattle.std.specs.String.{string_bytes}
 use Rattle.script_replay.specs.Terms.{boot_tables}
 use Rattle.script_replay.proofs.Owning.{own_begun, own_end, own_more}
 use Rattle.script_replay.proofs.own_lines.serve_own.Goals as goal
 
-pub loop-line-start : goal.loop-line-start
-loop-line-start g c = ?
+pub loop-line-init : goal.loop-line-init
+loop-line-init g c =
+    own_begun (boot_tables g.N.BootName.frames g.N.BootName.stocks) c.args.job.now.is_numbered c.args.cpu_number c.args.cpu.now _ (search rules)
 
 pub loop-line-preserved : goal.loop-line-preserved
 loop-line-preserved g c =
