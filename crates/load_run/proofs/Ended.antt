@@ -41,7 +41,7 @@ none_of_two : (seat number : ℕ) (run : Run) → AllOf (λ (e : Step × Answer)
     → HasNoStepOf seat run
 none_of_two seat number [] all not_zone ne = tt
 none_of_two seat number (e ∷ run) all not_zone ne =
-    (elim all.0 [ | inl zone ↦ λ same. not_zone (sym same ∙ zone) | inr cpu ↦ λ same. ne (sym cpu ∙ same) ], none_of_two seat number run all.1 not_zone ne)
+    (elim all.0 [ inl zone ↦ λ same. not_zone (sym same ∙ zone) | inr cpu ↦ λ same. ne (sym cpu ∙ same) ], none_of_two seat number run all.1 not_zone ne)
 
 -- What is done with a CPU goes on its past by steps of the zone and of the CPU.
 record GoesOn (before after : MachineAndCpu) (steps : Run) : Type 0 where
@@ -74,7 +74,7 @@ module _ (Visit : MachineAndCpu → MachineAndCpu → Type 0) (steps_of : (befor
       ∙ (goes_on (machine_and_cpu m c) (machine_and_cpu visits.between d) visits.first).number ∙ numbers 0 (own_past c.past) refl
   numbers_stay first m (c ∷ cpus) n (d ∷ left) visits numbers (suc index) q at =
       let rest = numbers_stay (first + 1) visits.between cpus n left visits.rest
-          (λ k p there. let same = numbers (suc k) p there in omega (arith, same)) index q at in
+      (λ k p there. let same = numbers (suc k) p there in omega (arith, same)) index q at in
       omega (arith, rest)
 
   -- a CPU that isn't among these changes nothing
@@ -84,9 +84,9 @@ module _ (Visit : MachineAndCpu → MachineAndCpu → Type 0) (steps_of : (befor
   none_in_turn seat first m (c ∷ cpus) n [] visits not_zone numbers away = refl
   none_in_turn seat first m (c ∷ cpus) n (d ∷ left) visits not_zone numbers away =
       let here = (goes_on (machine_and_cpu m c) (machine_and_cpu visits.between d) visits.first).alone seat not_zone
-          (λ same. away 0 (sym (numbers 0 (own_past c.past) refl) ∙ same)) in
+      (λ same. away 0 (sym (numbers 0 (own_past c.past) refl) ∙ same)) in
       let rest = none_in_turn seat (first + 1) visits.between cpus n left visits.rest not_zone
-          (λ k p there. let same = numbers (suc k) p there in omega (arith, same)) (λ k same. away (suc k) (omega (arith, same))) in
+      (λ k p there. let same = numbers (suc k) p there in omega (arith, same)) (λ k same. away (suc k) (omega (arith, same))) in
       changes_both seat (steps_of (machine_and_cpu m c) (machine_and_cpu visits.between d) visits.first) (steps_in_turn visits.between cpus n left visits.rest)
       ∙ (λ i. here i ++ rest i)
 
@@ -103,10 +103,9 @@ module _ (Visit : MachineAndCpu → MachineAndCpu → Type 0) (steps_of : (befor
       let rest = steps_in_turn visits.between cpus n left visits.rest in
       let its : (own_past c.past).number ≡ first + 0 = numbers 0 (own_past c.past) refl in
       let none : changes_by (first + 0) rest ≡ [] = none_in_turn (first + 0) (first + 1) visits.between cpus n left visits.rest
-          (λ is. not_zone (omega (arith, is))) (λ k q there. let same = numbers (suc k) q there in omega (arith, same)) (λ k same. absurd (omega (arith, same))) in
+      (λ is. not_zone (omega (arith, is))) (λ k q there. let same = numbers (suc k) q there in omega (arith, same)) (λ k same. absurd (omega (arith, same))) in
       let one : ChangesFollow (first + 0) (own_past c.past).seen steps (own_past d.past).seen =
-      subst (λ (k : ℕ). ChangesFollow k (own_past c.past).seen steps (own_past d.past).seen) its (goes_on before after visits.first).follows in
-      (
+      subst (λ (k : ℕ). ChangesFollow k (own_past c.past).seen steps (own_past d.past).seen) its (goes_on before after visits.first).follows in (
         own_past d.past,
         refl,
         follow_as (first + 0) p.seen steps (own_past d.past).seen (steps ++ rest)
@@ -121,10 +120,9 @@ module _ (Visit : MachineAndCpu → MachineAndCpu → Type 0) (steps_of : (befor
       let seat = first + suc index in
       let moved : first + 1 + index ≡ seat = omega arith in
       let more = follows_in_turn (first + 1) visits.between cpus n left visits.rest (λ is. absurd (omega (arith, is)))
-          (λ k q there. let same = numbers (suc k) q there in omega (arith, same)) index p at in
+      (λ k q there. let same = numbers (suc k) q there in omega (arith, same)) index p at in
       let none : changes_by seat steps ≡ [] = (goes_on before after visits.first).alone seat (λ is. not_zone (omega (arith, is)))
-          (λ same. let its = numbers 0 (own_past c.past) refl in absurd (omega (arith, its, same))) in
-      (
+      (λ same. let its = numbers 0 (own_past c.past) refl in absurd (omega (arith, its, same))) in (
         more.0,
         more.1,
         follow_as seat p.seen rest (more.0).seen (steps ++ rest)

@@ -187,8 +187,7 @@ are_answers sizes is_numbered is_audited t w lines first_lines other_lines start
       begins = record { rest = behind.rest; is = behind.is };
       changes = sees.changes run has;
       each = λ index cpu steps at steps_are.
-          let tells = told_at index cpu at in
-          (
+          let tells = told_at index cpu at in (
             subst (λ (r : Run). ChangesFollow (suc index) sees.beginning r (own_past cpu.past).seen) (same_some tells.steps steps (sym tells.steps_are ∙ steps_are))
                 (its_lines index cpu at),
             its_end index cpu at,

@@ -64,9 +64,11 @@ seats_of zone before [] so_far legal = tt
 seats_of zone before (e ∷ run) so_far legal =
     let ok = allowed_at zone before e run legal in
     let here : IsSeatOfChange zone.cpus e = λ loud. low_seat zone (state_of zone before).hold e.0.seat
-        (only_seats_act zone before so_far e.0.seat e.0.action e.1 ok (λ illegal. true≢false (sym (ap changes_nothing illegal) ∙ loud))) in
-    (here, seats_of zone (before ++ e ∷ []) run (legal_more zone before e.0 e.1 so_far ok)
-        (subst (IsLegalRun zone) (sym (append_assoc before (e ∷ []) run)) legal))
+    (only_seats_act zone before so_far e.0.seat e.0.action e.1 ok (λ illegal. true≢false (sym (ap changes_nothing illegal) ∙ loud))) in (
+      here,
+      seats_of zone (before ++ e ∷ []) run (legal_more zone before e.0 e.1 so_far ok)
+          (subst (IsLegalRun zone) (sym (append_assoc before (e ∷ []) run)) legal),
+    )
 
 -- the run so far is what the zone has seen, if that has all pasts as beginnings
 are_changes : (zone : Zone) (steps : Run) (z : Past) (cpus : List Past) → IsLegalRun zone z.seen → length cpus ≡ zone.cpus → AllOf (IsPastOf z.seen) cpus
@@ -167,8 +169,7 @@ module _ (t : KnownTable) where
       (sym (append_assoc p.seen rest later) ∙ ap (λ (r : Run). r ++ later) (sym begins) ∙ sym sees ∙ two.cpu_sees.seen) in
       let none = none_parts p.number rest later (subst (HasNoStepOf p.number) (sym same) two.cpu_sees.others) in
       let low = one.cpu_is.low in
-      let rests = two_rounds seen first.between cpus n mid second.between y last first.rest second.rest is later zone in
-      (
+      let rests = two_rounds seen first.between cpus n mid second.between y last first.rest second.rest is later zone in (
         (record { goes = record { rest = rest; is = begins; others = none.0 }; leaves_lock = λ zero. absurd (omega (arith, low, zero)) }, rests.0),
         (record { rest = later; is = sees; others = subst (λ (k : ℕ). HasNoStepOf k later) (sym two.cpu_sees.number) none.1 }, rests.1),
       )

@@ -261,19 +261,19 @@ step_leaves zone run e legal closed ne ok =
           let same = more ∙ ap (after s e.0.seat e.0.action) illegal ∙ after_illegal s e.0.seat e.0.action in
           record { closed = subst (λ (t : State). NoVisit t.hold) (sym same) closed; hidden = ap hide_all same }
       | inr made ↦ elim (only_fast s e.0.seat e.0.action (sound_run zone run legal) closed ne made.legal) [
-          | inl fast ↦
-              let same = (fast_is_hidden zone run 0 e.0 e.1 legal ne ne fast ok).hidden in
-              record {
-                closed = subst NoVisit (sym (ap (λ (t : State). t.hold) same)) closed;
-                hidden = ap (λ (t : State). record t { hold = Unheld }) same;
-              }
-          | inr locks ↦ subst (LeavesAll s) (sym more) (elim locks [
-              | inl is ↦ subst (λ (a : Action). LeavesAll s (after s e.0.seat a e.1)) (sym is)
-                  (lock_leaves s e.0.seat e.1 (subst (λ (a : Action). IsAnswer s e.0.seat a e.1) is made.answered))
-              | inr is ↦ subst (λ (a : Action). LeavesAll s (after s e.0.seat a e.1)) (sym is)
-                  (unlock_leaves s e.0.seat e.1 (subst (λ (a : Action). IsAnswer s e.0.seat a e.1) is made.answered))
-            ])
-        ]
+        | inl fast ↦
+            let same = (fast_is_hidden zone run 0 e.0 e.1 legal ne ne fast ok).hidden in
+            record {
+              closed = subst NoVisit (sym (ap (λ (t : State). t.hold) same)) closed;
+              hidden = ap (λ (t : State). record t { hold = Unheld }) same;
+            }
+        | inr locks ↦ subst (LeavesAll s) (sym more) (elim locks [
+          | inl is ↦ subst (λ (a : Action). LeavesAll s (after s e.0.seat a e.1)) (sym is)
+              (lock_leaves s e.0.seat e.1 (subst (λ (a : Action). IsAnswer s e.0.seat a e.1) is made.answered))
+          | inr is ↦ subst (λ (a : Action). LeavesAll s (after s e.0.seat a e.1)) (sym is)
+              (unlock_leaves s e.0.seat e.1 (subst (λ (a : Action). IsAnswer s e.0.seat a e.1) is made.answered))
+        ])
+      ]
     ]
 
 legal_front : (zone : Zone) (xs ys : Run) → IsLegalRun zone (xs ++ ys) → IsLegalRun zone xs
