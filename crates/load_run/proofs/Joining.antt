@@ -28,7 +28,7 @@ use Rattle.script_replay.proofs.Seeing.{all_lines_go_on, legal_histories_keep_it
 use Rattle.load_run.specs.declared.boot_end.BootEnd.{BootEnd}
 use Rattle.load_run.specs.Answers.{AreThreadAnswers, IsNewBootState, IsQuietSystem}
 use Rattle.load_run.specs.Ending.{EndsHeld, boot_end_text}
-use Rattle.load_run.specs.Survey.{ChangesFollow, HasSeen, SeesAll}
+use Rattle.load_run.specs.Survey.{ChangesFollow, HasSeen, SeesAllPasts}
 use Rattle.load_run.proofs.Changes.{follow_both, grew_follow, grew_number, others_follow, same_changes}
 use Rattle.load_run.proofs.Ended.{AreNumberedFrom, ends_follow}
 use Rattle.load_run.proofs.Starting.{boot_agrees, boot_shown, lines_there, parts_tied}
@@ -135,7 +135,7 @@ first_there (c ∷ cpus) some = (c, refl)
 pub are_answers : (sizes : Config) (is_numbered is_audited : Bool) (t : KnownTable) (w : KnownStockTable) (lines first_lines other_lines : List Line)
     (start replayed at_go end : SystemState) (early later text : List ℕ) (told : List Run) (ended : BootEnd) → IsNewBootState sizes t w start
     → first_lines ≡ take (lines_before_go lines) lines → other_lines ≡ drop (lines_before_go lines) lines
-    → Replays (numbered_terms t w false is_numbered) first_lines start replayed early → SeesAll t replayed at_go
+    → Replays (numbered_terms t w false is_numbered) first_lines start replayed early → SeesAllPasts t replayed at_go
     → AreAllAnswers (boot_tables t w) (workers_from 1 at_go.cpus other_lines is_numbered) end.cpus told later
     → IsQuietSystem t w end → EndsHeld t w end ended
     → text ≡ (early ++ later) ++ boot_end_text is_audited ended → AreThreadAnswers sizes is_numbered is_audited lines text

@@ -28,7 +28,7 @@ use Rattle.load_options.specs.declared.task.Task.{Task}
 use Rattle.load_options.specs.declared.task.Task.TheVariants.{Replay, Steps, Run}
 use Rattle.load_run.specs.Ending.{WritesEnd, last_words}
 use Rattle.load_run.specs.Logs.{AreLoggedSteps}
-use Rattle.load_run.specs.Survey.{ChangesFollow, SeesAll}
+use Rattle.load_run.specs.Survey.{ChangesFollow, SeesAllPasts}
 use Rattle.load_run.specs.Threads.{IsBeginning}
 -- the state after a boot
 pub use Rattle.load_run.specs.Starting.{IsNewBootState}
@@ -107,7 +107,7 @@ pub record AreThreadAnswers (sizes : Config) (is_numbered is_audited : Bool) (li
   pub history : KeepsHistory (numbered_terms frames stocks false is_numbered) (take (lines_before_go lines) lines)
       (past [] start) (past run replayed) early
   pub agrees : AgreesWithRun frames [] start.locked.machine.ledger
-  pub sees : SeesAll frames replayed at_go
+  pub sees : SeesAllPasts frames replayed at_go
   pub tells : AreAllAnswers (boot_tables frames stocks)
       (workers_from 1 at_go.cpus (drop (lines_before_go lines) lines) is_numbered) end.cpus told later
   pub quiet : IsQuietSystem frames stocks end

@@ -9,7 +9,7 @@ use Rattle.script_replay.specs.Terms.{boot_tables, numbered_terms}
 use Rattle.script_replay.specs.Each.{AreAllAnswers, workers_from}
 use Rattle.script_replay.proofs.Running.{go_least}
 use Rattle.load_run.specs.Ending.{EndsHeld, boot_end_text}
-use Rattle.load_run.specs.Survey.{SeesAll}
+use Rattle.load_run.specs.Survey.{SeesAllPasts}
 use Rattle.load_run.proofs.Starting.{given_back, lent_parts, lent_so_far, new_state}
 use Rattle.load_run.proofs.Joining.{are_answers, early_there, later_there}
 use Rattle.load_run.proofs.thread_running.run_by_threads.Goals as goal
@@ -84,7 +84,7 @@ returns g c =
     let replays : Replays (numbered_terms t w false is_numbered) c.split_at.result.0.now start replayed early =
     IfOk-at_ok (λ v. Replays (numbered_terms t w false is_numbered) c.split_at.result.0.now start replayed v.items) c.in_ok-answers.was
     c.replay-first.ensures.outcome.replayed in
-    let sees = subst (λ (cpus : List CpuInRun). SeesAll t (system_state c.replay-first.new.locked cpus) at_go) met c.survey.ensures.sees in
+    let sees = subst (λ (cpus : List CpuInRun). SeesAllPasts t (system_state c.replay-first.new.locked cpus) at_go) met c.survey.ensures.sees in
     let all = IfOk-at_ok _ c.in_ok-told.was c.serve_later-told.ensures.told in
     let tells : AreAllAnswers (boot_tables t w) (workers_from 1 at_go.cpus c.split_at.result.1.now is_numbered) end.cpus all.0 later =
     subst (λ (cpus : List CpuInRun). AreAllAnswers (boot_tables t w) (workers_from 1 cpus c.split_at.result.1.now is_numbered) end.cpus all.0 later) lent all.1 in
