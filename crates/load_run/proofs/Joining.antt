@@ -1,22 +1,38 @@
--- The answers of the early lines and those of the later, joined. Serves `run_by_threads`.
-use Rattle.std.proofs.Common.{◌≡◌, ℕ, Bool, false, List, [], ◌++◌, All, take, drop, refl, sym, subst}
+-- The answers of the early lines and those of the later, joined, and all steps as one run. Serves `run_by_threads`.
+use Rattle.std.proofs.Common.{◌≡◌, ◌∙◌, ◌≤◌, ℕ, zero, suc, ◌+◌, Bool, false, Some, List, [], ◌∷◌, ◌++◌, All, length, take, drop, refl, ap, sym, subst, arith}
+use Rattle.std.specs.Prelude.{option_map, slice_get}
 use Rattle.std.proofs.lemmas.List.Elements.{All-take, All-drop}
+use Rattle.std.proofs.lemmas.Option.{get_or_from_slice_get, slice_get-map}
 use Rattle.frame_word.specs.Seats.{KnownTable}
 use Rattle.stock_word.specs.Stock.{KnownStockTable}
 use Rattle.zone_blocks.specs.declared.config.Config.{Config}
-use Rattle.mem_system.specs.Boots.{IsSizedAs}
+use Rattle.step_rules.specs.After.{Run}
+use Rattle.step_rules.proofs.PhaseLemmas.{none_some}
+use Rattle.boot_words.specs.declared.view.Past.{Past}
+use Rattle.boot_words.specs.Growth.{IsRunSoFar}
+use Rattle.boot_words.specs.Pasts.{own_past}
+use Rattle.boot_words.specs.Rule.{AllOf}
+use Rattle.mem_core.proofs.Keeping.{always_keeps}
+use Rattle.mem_machine.specs.Interleaving.{zone_of}
+use Rattle.mem_system.specs.Boots.{IsSizedAs, KnownSystem}
+use Rattle.mem_system.specs.Cpus.{CpuInRun, pasts_of}
 use Rattle.script_lines.specs.declared.line.Line.{Line}
-use Rattle.script_replay.specs.History.{HasHistory, past}
-use Rattle.script_replay.specs.Lines.{ServesAll, SystemState}
+use Rattle.script_replay.specs.History.{Replays, past, steps_of}
+use Rattle.script_replay.specs.Lines.{HasRun, SystemState}
 use Rattle.script_replay.specs.Ranges.{LineInRange}
 use Rattle.script_replay.specs.Terms.{boot_tables, numbered_terms}
 use Rattle.script_replay.specs.Each.{AreAllAnswers, workers_from}
 use Rattle.script_replay.specs.Runs.{lines_before_go}
+use Rattle.script_replay.specs.Visits.{GrewByChanges}
+use Rattle.script_replay.proofs.Seeing.{all_lines_go_on, legal_histories_keep_it}
 use Rattle.load_run.specs.declared.boot_end.BootEnd.{BootEnd}
-use Rattle.load_run.specs.Answers.{IsNewBootState}
+use Rattle.load_run.specs.Answers.{AreThreadAnswers, IsNewBootState, IsQuietSystem}
 use Rattle.load_run.specs.Ending.{EndsHeld, boot_end_text}
-use Rattle.load_run.specs.Answers.{AreThreadAnswers, IsQuietSystem}
-use Rattle.load_run.proofs.Starting.{lines_there}
+use Rattle.load_run.specs.Survey.{ChangesFollow, HasSeen, SeesAllPasts}
+use Rattle.load_run.proofs.Changes.{follow_both, grew_follow, grew_number, others_follow, same_changes}
+use Rattle.load_run.proofs.Ended.{AreNumberedFrom, ends_follow}
+use Rattle.load_run.proofs.Starting.{boot_agrees, boot_shown, lines_there, parts_tied}
+use Rattle.load_run.proofs.Surveying.{at_index}
 
 -- what the first of the lines name is there
 pub early_there : (sizes : Config) (t : KnownTable) (w : KnownStockTable) (n parts : ℕ) (lines early : List Line) → IsSizedAs sizes t w
@@ -30,30 +46,151 @@ pub later_there : (sizes : Config) (t : KnownTable) (w : KnownStockTable) (n par
 later_there sizes t w n parts lines later sized long is all =
     subst (All (LineInRange t.frames parts)) (sym is) (All-drop (LineInRange t.frames parts) n lines (lines_there sizes t w parts lines sized long all))
 
--- the early lines were served from the boot on, the later ones told by CPU, and the boot ended: these are the
--- answers
+-- ---- each CPU's lines
+
+-- what a CPU told, and how it went on
+record TellsAt (before : List CpuInRun) (told : List Run) (index : ℕ) (after : CpuInRun) : Type 0 where
+  cpu : CpuInRun
+  steps : Run
+  cpu_is : slice_get before index ≡ Some cpu
+  steps_are : slice_get told index ≡ Some steps
+  grew : GrewByChanges cpu.past steps after.past
+
+tells_at : (tables : KnownSystem) (first : ℕ) (before after : List CpuInRun) (lines : List Line) (is_numbered : Bool) (told : List Run) (text : List ℕ)
+    → AreAllAnswers tables (workers_from first before lines is_numbered) after told text → (index : ℕ) (cpu : CpuInRun) → slice_get after index ≡ Some cpu
+    → TellsAt before told index cpu
+tells_at tables first [] [] lines is_numbered told text all index cpu at = absurd (none_some cpu at)
+tells_at tables first [] (d ∷ after) lines is_numbered told text all index cpu at = absurd all
+tells_at tables first (c ∷ before) [] lines is_numbered told text all index cpu at = absurd (none_some cpu at)
+tells_at tables first (c ∷ before) (d ∷ after) lines is_numbered [] text all index cpu at = absurd all
+tells_at tables first (c ∷ before) (d ∷ after) lines is_numbered (steps ∷ told) text all zero cpu at = record {
+  cpu = c;
+  steps = steps;
+  cpu_is = refl;
+  steps_are = refl;
+  grew = subst (λ (x : CpuInRun). GrewByChanges c.past steps x.past) (get_or_from_slice_get (d ∷ after) 0 cpu d at) all.2.grew;
+}
+tells_at tables first (c ∷ before) (d ∷ after) lines is_numbered (steps ∷ told) text all (suc index) cpu at =
+    let rest = tells_at tables (first + 1) before after lines is_numbered told all.1 all.3 index cpu at in
+    record { cpu = rest.cpu; steps = rest.steps; cpu_is = rest.cpu_is; steps_are = rest.steps_are; grew = rest.grew }
+
+past_at : (cpus : List CpuInRun) (index : ℕ) (cpu : CpuInRun) → slice_get cpus index ≡ Some cpu → slice_get (pasts_of cpus) index ≡ Some (own_past cpu.past)
+past_at cpus index cpu at =
+    slice_get-map (λ (x : CpuInRun). own_past x.past) cpus index ∙ ap (option_map (λ (x : CpuInRun). own_past x.past)) at
+
+cpu_at : (cpus : List CpuInRun) (index : ℕ) (p : Past) → slice_get (pasts_of cpus) index ≡ Some p
+    → (cpu : CpuInRun) × (slice_get cpus index ≡ Some cpu) × (p ≡ own_past cpu.past)
+cpu_at [] index p at = absurd (none_some p at)
+cpu_at (c ∷ cpus) zero p at = (c, refl, sym (get_or_from_slice_get (pasts_of (c ∷ cpus)) 0 p (own_past c.past) at))
+cpu_at (c ∷ cpus) (suc index) p at = cpu_at cpus index p at
+
+-- ---- one run
+
+-- the pasts of all CPUs at `go` are this run and others' steps, and the CPUs went on as they told
+module _ (beginning : Run) (z : Past) (tables : KnownSystem) (before after : List CpuInRun) (lines : List Line) (is_numbered : Bool) (told : List Run)
+    (text : List ℕ) (seen : AllOf (HasSeen beginning) (pasts_of before)) (run : Run) (so_far : IsRunSoFar run z (pasts_of before))
+    (all : AreAllAnswers tables (workers_from 1 before lines is_numbered) after told text) where
+  number_before : (index : ℕ) (cpu : CpuInRun) → slice_get before index ≡ Some cpu → (own_past cpu.past).number ≡ suc index
+  number_before index cpu at = so_far.number index (own_past cpu.past) (past_at before index cpu at)
+
+  -- each CPU's past after its lines
+  lines_follow : (index : ℕ) (cpu : CpuInRun) (at : slice_get after index ≡ Some cpu)
+      → ChangesFollow (suc index) beginning (tells_at tables 1 before after lines is_numbered told text all index cpu at).steps (own_past cpu.past).seen
+  lines_follow index cpu at =
+      let tells = tells_at tables 1 before after lines is_numbered told text all index cpu at in
+      let was = own_past tells.cpu.past in
+      let has : HasSeen beginning was = at_index (HasSeen beginning) (pasts_of before) index was seen (past_at before index tells.cpu tells.cpu_is) in
+      let made = follow_both was.number beginning [] was.seen tells.grew.made (own_past cpu.past).seen (others_follow was.number beginning was.seen has)
+      (grew_follow was tells.grew.made (own_past cpu.past) tells.grew.grew) in
+      subst (λ (n : ℕ). ChangesFollow n beginning tells.steps (own_past cpu.past).seen) (number_before index tells.cpu tells.cpu_is)
+      (record { rest = made.rest; is = made.is; changes = made.changes ∙ same_changes was.number tells.grew.made tells.steps tells.grew.changes })
+
+  numbers_after : AreNumberedFrom 1 after
+  numbers_after index p at =
+      let cpu = cpu_at after index p at in
+      let tells = tells_at tables 1 before after lines is_numbered told text all index cpu.0 cpu.1 in
+      let grown = grew_number (own_past tells.cpu.past) tells.grew.made (own_past (cpu.0).past) tells.grew.grew in
+      let was = number_before index tells.cpu tells.cpu_is in
+      let same = ap (λ (q : Past). q.number) cpu.2 in omega (arith, grown, was, same)
+
+  module _ (t : KnownTable) (w : KnownStockTable) (end : SystemState) (end_is : end.cpus ≡ after) (ended : BootEnd) (ends : EndsHeld t w end ended) where
+    end_follows : (index : ℕ) (cpu : CpuInRun) → slice_get after index ≡ Some cpu
+        → ChangesFollow (suc index) (own_past cpu.past).seen ends.leaves.steps ends.closes.run
+    end_follows index cpu at =
+        subst (λ (n : ℕ). ChangesFollow n (own_past cpu.past).seen ends.leaves.steps ends.closes.run) (omega arith)
+        (ends_follow t w end ended ends (subst (AreNumberedFrom 1) (sym end_is) numbers_after) index (own_past cpu.past)
+        (subst (λ (l : List CpuInRun). slice_get (pasts_of l) index ≡ Some (own_past cpu.past)) (sym end_is) (past_at after index cpu at)))
+
+-- ---- the answers
+
+same_some : {X : Type 0} (a b : X) → Some a ≡ Some b → a ≡ b
+same_some a b e = cc
+
+first_there : (cpus : List CpuInRun) → 1 ≤ length cpus → (cpu : CpuInRun) × (slice_get cpus 0 ≡ Some cpu)
+first_there [] some = absurd (omega (arith, some))
+first_there (c ∷ cpus) some = (c, refl)
+
+-- the early lines were served from the boot on, all pasts were looked at, the later lines were answered by CPU, and the
+-- boot ended: these are the answers
 pub are_answers : (sizes : Config) (is_numbered is_audited : Bool) (t : KnownTable) (w : KnownStockTable) (lines first_lines other_lines : List Line)
-    (start at_go end : SystemState) (early later text : List ℕ) (told : BootEnd) → IsNewBootState sizes t w start
+    (start replayed at_go end : SystemState) (early later text : List ℕ) (told : List Run) (ended : BootEnd) → IsNewBootState sizes t w start
     → first_lines ≡ take (lines_before_go lines) lines → other_lines ≡ drop (lines_before_go lines) lines
-    → ServesAll (numbered_terms t w false is_numbered) first_lines start at_go early → HasHistory (numbered_terms t w false is_numbered) first_lines (past [] start) at_go early
-    → AreAllAnswers (boot_tables t w) (workers_from 1 at_go.cpus other_lines is_numbered) later
-    → IsQuietSystem t w end → EndsHeld t w end told
-    → text ≡ (early ++ later) ++ boot_end_text is_audited told → AreThreadAnswers sizes is_numbered is_audited lines text
-are_answers sizes is_numbered is_audited t w lines first_lines other_lines start at_go end early later text told first is_first is_other served history tells
-    quiet ends is = record {
+    → Replays (numbered_terms t w false is_numbered) first_lines start replayed early → SeesAllPasts t replayed at_go
+    → AreAllAnswers (boot_tables t w) (workers_from 1 at_go.cpus other_lines is_numbered) end.cpus told later
+    → IsQuietSystem t w end → EndsHeld t w end ended
+    → text ≡ (early ++ later) ++ boot_end_text is_audited ended → AreThreadAnswers sizes is_numbered is_audited lines text
+are_answers sizes is_numbered is_audited t w lines first_lines other_lines start replayed at_go end early later text told ended new is_first is_other served
+    sees all quiet ends is =
+    let on = numbered_terms t w false is_numbered in
+    let front = take (lines_before_go lines) lines in
+    let replays = subst (λ (l : List Line). Replays on l start replayed early) is_first served in
+    let tells = subst (λ (l : List Line). AreAllAnswers (boot_tables t w) (workers_from 1 at_go.cpus l is_numbered) end.cpus told later) is_other all in
+    let history = replays.history [] (boot_shown _ _ _ _ new) (parts_tied _ _ _ _ new) in
+    let run : Run = steps_of on front (past [] start) replayed early history in
+    let has : HasRun run replayed = all_lines_go_on on front (past [] start) replayed early history [] new.so_far in
+    let rest = drop (lines_before_go lines) lines in
+    let z = own_past at_go.locked.machine.run.past in
+    let told_at = tells_at (boot_tables t w) 1 at_go.cpus end.cpus rest is_numbered told later tells in
+    let its_lines = lines_follow sees.beginning z (boot_tables t w) at_go.cpus end.cpus rest is_numbered told later sees.seen.1 run (sees.goes_on run has) tells in
+    let its_end = end_follows sees.beginning z (boot_tables t w) at_go.cpus end.cpus rest is_numbered told later sees.seen.1 run (sees.goes_on run has) tells t w end refl
+    ended ends in
+    let low = quiet.quiet.valid.cpus_low in
+    let sized = quiet.quiet.sized.cpus in
+    let count = quiet.count in
+    let first = first_there end.cpus (omega (arith, low, sized, count)) in
+    let behind = follow_both 1 sees.beginning _ (own_past (first.0).past).seen _ ends.closes.run (its_lines 0 first.0 first.1) (its_end 0 first.0 first.1) in
+    record {
       frames = t;
       stocks = w;
       start = start;
+      replayed = replayed;
       at_go = at_go;
       end = end;
+      run = run;
+      told = told;
       early = early;
       later = later;
-      ending = boot_end_text is_audited told;
-      first = first;
-      served = subst (λ (l : List Line). ServesAll (numbered_terms t w false is_numbered) l start at_go early) is_first served;
-      history = subst (λ (l : List Line). HasHistory (numbered_terms t w false is_numbered) l (past [] start) at_go early) is_first history;
-      tells = subst (λ (l : List Line). AreAllAnswers (boot_tables t w) (workers_from 1 at_go.cpus l is_numbered) later) is_other tells;
+      ending = boot_end_text is_audited ended;
+      first = new;
+      served = replays.served;
+      history = legal_histories_keep_it on front (past [] start) replayed early history (sees.steps_legal run has) (boot_agrees _ _ _ _ new);
+      agrees = boot_agrees _ _ _ _ new;
+      sees = sees;
+      tells = tells;
       quiet = quiet;
-      ends = record { ended = told; ends = ends; text_is = refl };
+      ends = record { ended = ended; ends = ends; text_is = refl };
+      whole = ends.closes.run;
+      whole_is = refl;
+      legal = ends.closes.is.legal;
+      promise = always_keeps (zone_of t) ends.closes.run ends.closes.is.legal;
+      last = ends.closes.is;
+      begins = record { rest = behind.rest; is = behind.is };
+      changes = sees.changes run has;
+      each = λ index cpu steps at steps_are.
+          let tells = told_at index cpu at in (
+            subst (λ (r : Run). ChangesFollow (suc index) sees.beginning r (own_past cpu.past).seen) (same_some tells.steps steps (sym tells.steps_are ∙ steps_are))
+                (its_lines index cpu at),
+            its_end index cpu at,
+          );
       text_is = is;
     }

@@ -15,5 +15,6 @@ pub mod Verdicts
 pub mod Written
 pub mod Telling
 pub mod Watched
+pub mod Visited
 pub mod Whole
 pub mod Logged

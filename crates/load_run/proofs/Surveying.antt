@@ -24,7 +24,7 @@ use Rattle.mem_machine.specs.Interleaving.{zone_of}
 use Rattle.mem_system.specs.Cpus.{CpuInRun, parts_of, pasts_of}
 use Rattle.mem_system.specs.Ends.{ForEachCpu}
 use Rattle.script_replay.specs.Lines.{SystemState}
-use Rattle.load_run.specs.Survey.{HasSeen, MeetsZone, SeesAll}
+use Rattle.load_run.specs.Survey.{HasSeen, MeetsZone, SeesAllPasts}
 
 -- ---- steps of others
 
@@ -177,7 +177,7 @@ module _ (t : KnownTable) where
 -- what `survey` shows
 pub sees_all : (t : KnownTable) (before mid after : SystemState) → ForEachCpu (MeetsZone t) before.locked.machine before.cpus mid.locked.machine mid.cpus
     → ForEachCpu (MeetsZone t) mid.locked.machine mid.cpus after.locked.machine after.cpus → mid.locked.sizes ≡ before.locked.sizes
-    → after.locked.sizes ≡ mid.locked.sizes → IsZonePast t mid.locked.machine.run.past → length mid.cpus ≡ t.cpus → SeesAll t before after
+    → after.locked.sizes ≡ mid.locked.sizes → IsZonePast t mid.locked.machine.run.past → length mid.cpus ≡ t.cpus → SeesAllPasts t before after
 sees_all t before mid after first second sizes still is_zone count =
     let m = before.locked.machine in
     let n = mid.locked.machine in

@@ -1,22 +1,25 @@
 -- What a script is answered.
-use Rattle.std.specs.Prelude.{◌≡◌, ℕ, ◌+◌, Bool, false, true, ⊤, Option, Some, List, [], ◌++◌}
-use Rattle.std.specs.Prelude.{codes, decimal, drop, length, take}
+use Rattle.std.specs.Prelude.{◌≡◌, ℕ, suc, ◌+◌, Bool, false, true, ⊤, Option, Some, List, [], ◌++◌}
+use Rattle.std.specs.Prelude.{codes, decimal, drop, length, slice_get, take}
 use Rattle.std.specs.Io.KnownBytes.{Appends}
 use Rattle.frame_word.specs.Seats.{KnownTable}
 use Rattle.stock_word.specs.Stock.{KnownStockTable}
 use Rattle.zone_blocks.specs.declared.config.Config.{Config}
 use Rattle.zone_blocks.specs.Config.{IsValidConfig}
 use Rattle.step_rules.specs.After.{Run as StepRun, IsLegalRun}
+use Rattle.boot_words.specs.Growth.{AreChangesOf}
+use Rattle.boot_words.specs.Pasts.{own_past}
 use Rattle.boot_words.specs.Words.{IsRunOf}
 use Rattle.mem_core.specs.Promise.{AlwaysKeepsPromise}
 use Rattle.mem_machine.specs.Interleaving.{zone_of}
 use Rattle.mem_machine.specs.Agreeing.{AgreesWithRun}
+use Rattle.mem_system.specs.Cpus.{CpuInRun}
 use Rattle.mem_system.specs.Locked.{IsQuiet}
 use Rattle.script_lines.specs.declared.line.Line.{Line}
 use Rattle.script_lines.specs.Script.{IsScript, longest_script}
 use Rattle.script_replay.specs.Lines.{ServesAll, SystemState}
 use Rattle.script_replay.specs.declared.form.Form.{Form}
-use Rattle.script_replay.specs.History.{HasHistory, KeepsHistory, past}
+use Rattle.script_replay.specs.History.{KeepsHistory, past}
 use Rattle.script_replay.specs.Terms.{boot_tables, form_of, form_terms, numbered_terms}
 use Rattle.script_replay.specs.Each.{AreAllAnswers, workers_from}
 use Rattle.script_replay.specs.Runs.{lines_before_go}
@@ -25,6 +28,8 @@ use Rattle.load_options.specs.declared.task.Task.{Task}
 use Rattle.load_options.specs.declared.task.Task.TheVariants.{Replay, Steps, Run}
 use Rattle.load_run.specs.Ending.{WritesEnd, last_words}
 use Rattle.load_run.specs.Logs.{AreLoggedSteps}
+use Rattle.load_run.specs.Survey.{ChangesFollow, SeesAllPasts}
+use Rattle.load_run.specs.Threads.{IsBeginning}
 -- the state after a boot
 pub use Rattle.load_run.specs.Starting.{IsNewBootState}
 use Rattle.load_run.specs.Refusals.{answered_status}
@@ -76,31 +81,48 @@ pub record IsQuietSystem (frames : KnownTable) (stock_table : KnownStockTable) (
   pub quiet : IsQuiet frames stock_table now.locked
   pub count : length now.cpus ≡ frames.cpus
 
--- What a boot with these sizes answers to the lines by threads. Those before `go` are served one after the other from
--- the boot on, and all their steps together are one run, which says of each line that the promise is kept after it.
--- Then each CPU is answered its own among the lines from `go` on, from its part as the lines before left it. No clause
--- says what is behind the lock and at the parts after that, except that no visit is open and that there are as many
--- parts; from there the boot ends
+-- What a boot with these sizes answers to the lines by threads. Those before `go` are served one after the other, as a
+-- replay serves them, and led to `replayed`. Then all pasts were looked at, and from `at_go` each CPU was answered its own
+-- among the lines from `go` on, up to `end`, and told its steps. Then the boot ended. All steps are one legal run, `whole`,
+-- and what is left in the words of the boot's table is what it leads to. The promise holds after each beginning of it that
+-- leaves the lock free. It begins with the steps of the lines before `go`. Behind these each CPU changes just what the
+-- steps change that its answers tell, in their order, and then what its steps at the end change. What a CPU had seen after
+-- its lines is a beginning of the run, so the run shows each of its visits.
 pub record AreThreadAnswers (sizes : Config) (is_numbered is_audited : Bool) (lines : List Line) (text : List ℕ)
     : Type 0 where
   pub frames : KnownTable
   pub stocks : KnownStockTable
   pub start : SystemState
+  pub replayed : SystemState
   pub at_go : SystemState
   pub end : SystemState
+  pub run : StepRun
+  pub told : List StepRun
   pub early : List ℕ
   pub later : List ℕ
   pub ending : List ℕ
   pub first : IsNewBootState sizes frames stocks start
   pub served : ServesAll (numbered_terms frames stocks false is_numbered) (take (lines_before_go lines) lines) start
-      at_go
-      early
-  pub history : HasHistory (numbered_terms frames stocks false is_numbered) (take (lines_before_go lines) lines)
-      (past [] start) at_go early
+      replayed early
+  pub history : KeepsHistory (numbered_terms frames stocks false is_numbered) (take (lines_before_go lines) lines)
+      (past [] start) (past run replayed) early
+  pub agrees : AgreesWithRun frames [] start.locked.machine.ledger
+  pub sees : SeesAllPasts frames replayed at_go
   pub tells : AreAllAnswers (boot_tables frames stocks)
-      (workers_from 1 at_go.cpus (drop (lines_before_go lines) lines) is_numbered) later
+      (workers_from 1 at_go.cpus (drop (lines_before_go lines) lines) is_numbered) end.cpus told later
   pub quiet : IsQuietSystem frames stocks end
   pub ends : WritesEnd frames stocks is_audited end ending
+  pub whole : StepRun
+  pub whole_is : whole ≡ ends.ends.closes.run
+  pub legal : IsLegalRun (zone_of frames) whole
+  pub promise : AlwaysKeepsPromise (zone_of frames) whole
+  pub last : IsRunOf (zone_of frames) (last_words ends.ends.closes) whole
+  pub begins : IsBeginning sees.beginning whole
+  pub changes : AreChangesOf sees.beginning run
+  pub each : (index : ℕ) (cpu : CpuInRun) (steps : StepRun) → slice_get end.cpus index ≡ Some cpu
+      → slice_get told index ≡ Some steps
+      → ChangesFollow (suc index) sees.beginning steps (own_past cpu.past).seen
+      × ChangesFollow (suc index) (own_past cpu.past).seen ends.ends.leaves.steps whole
   pub text_is : text ≡ (early ++ later) ++ ending
 
 -- the task is one that answers a script

@@ -11,4 +11,5 @@ pub mod Sessions
 pub mod Starting
 pub mod Stopping
 pub mod Survey
+pub mod Threads
 pub mod Versions

@@ -36,7 +36,7 @@ HasSeen run past = OthersFollow past.number run past.seen
 -- The pasts of all seats together are this legal run: the zone and each CPU have seen it, and behind it each of them
 -- only steps of others. Nothing but pasts has changed. Whatever the run so far was, it is this run without steps whose
 -- answer changes nothing. So it is legal, and it is the run so far still.
-pub record SeesAll (table : KnownTable) (before after : SystemState) : Type 0 where
+pub record SeesAllPasts (table : KnownTable) (before after : SystemState) : Type 0 where
   pub locked : after.locked
       ≡ record before.locked { machine = with_past before.locked.machine after.locked.machine.run.past }
   pub parts : parts_of after.cpus ≡ parts_of before.cpus

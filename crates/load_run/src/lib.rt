@@ -14,6 +14,7 @@ pub mod checked_replaying;
 pub mod checking;
 pub mod fault;
 pub mod fault_lines;
+pub mod laws;
 pub mod linting;
 pub mod logging;
 pub mod program;

@@ -5,7 +5,7 @@
 ghost use Rattle.std.specs.Prelude.{◌≡◌, length};
 ghost use Rattle.mem_system.specs.Ends.{ForEachCpu};
 ghost use Rattle.script_replay.specs.Lines.{system_state};
-ghost use Rattle.load_run.specs.Survey.{MeetsZone, SeesAll};
+ghost use Rattle.load_run.specs.Survey.{MeetsZone, SeesAllPasts};
 
 use cpu_part::{BootName, Tables};
 use mem_system::{Cpu, Locked};
@@ -13,7 +13,7 @@ use mem_system::{Cpu, Locked};
 /// Looks at the pasts of all CPUs and of the zone together. A caller does this while no other thread makes a step.
 pub(crate) fn survey<N: BootName>(locked: &mut Locked<N>, tables: &Tables<N>, cpus: &mut [Cpu<N>])
     requires count { length cpus.old ≡ N.frames.cpus }
-    ensures sees { SeesAll N.frames (system_state locked.old cpus.old) (system_state locked.new cpus.new) }
+    ensures sees { SeesAllPasts N.frames (system_state locked.old cpus.old) (system_state locked.new cpus.new) }
 {
     meet_each(locked, tables, cpus);
     locked.prove_quiet(); // The zone's past is a legal run.

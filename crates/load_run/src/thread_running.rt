@@ -1,7 +1,8 @@
 //! The life of a boot under `run`: the lines before `go` one after the other, the others by a thread for each CPU, and
 //! the end.
 
-ghost use Rattle.std.specs.Prelude.{◌≡◌, ◌<◌, ◌^◌, All, IfOk, length};
+ghost use Rattle.std.specs.Prelude.{◌≡◌, ◌<◌, ◌^◌, All, IfOk, List, length};
+ghost use Rattle.step_rules.specs.After.{Run};
 ghost use Rattle.script_replay.specs.Ranges.{LineInRange};
 ghost use Rattle.script_replay.specs.Terms.{boot_tables};
 ghost use Rattle.script_replay.specs.Each.{AreAllAnswers, workers_from};
@@ -9,6 +10,7 @@ ghost use Rattle.load_run.specs.Answers.{AreThreadAnswers};
 
 use crate::boot_end::end_boot;
 use crate::replaying::with_end;
+use crate::survey::survey;
 use cpu_part::BootName;
 use mem_system::{Boot, Cpu, NoGate, System};
 use script_lines::line::Line;
@@ -20,8 +22,7 @@ use std::thread::Threads;
 /// Runs the lines on a boot under a name of its tables, and ends it. It returns what they are answered, with the
 /// numbers of the lines or without, and the text of the end if that is asked for. The lines before `go` are served
 /// one after the other, as `replay` does, and those from it on by a thread for each CPU, as `run_each` does; if there
-/// is no `go`, all lines run in threads. `AllocError` means that memory ran out or a thread can't be started: the boot
-/// has ended then too, and each thread that was started.
+/// is no `go`, all lines run in threads. `AllocError` means that memory ran out: the boot has ended then too.
 pub fn run_by_threads<N: BootName + Send + Sync, R: Threads + Wait + Sync>(
     rt: &R,
     alloc: Global,
@@ -42,6 +43,7 @@ pub fn run_by_threads<N: BootName + Send + Sync, R: Threads + Wait + Sync>(
         is_numbered,
     };
     let first = replay(alloc, &mut locked, &tables, &mut cpus, early, form);
+    survey(&mut locked, &tables, &mut cpus);
     locked.prove_quiet(); // There are fewer than 2^31 CPUs, as `run_each` requires.
     let system = System::of(locked, tables);
     let has_memory = first.is_ok();
@@ -73,8 +75,8 @@ fn serve_later<N: BootName + Send + Sync, R: Threads + Wait + Sync>(
 ) -> Result<Vec<u8>, AllocError>
     requires count { length cpus.old < 2 ^ 31 }
     requires lines { All (LineInRange N.frames.frames (length cpus.old)) lines.now }
-    ensures told { IfOk result (λ text.
-        AreAllAnswers (boot_tables N.frames N.stocks) (workers_from 1 cpus.old lines.now is_numbered) text.items) }
+    ensures told { IfOk result (λ text. (told : List Run) × AreAllAnswers (boot_tables N.frames N.stocks)
+        (workers_from 1 cpus.old lines.now is_numbered) cpus.new told text.items) }
 {
     if has_memory {
         run_each(rt, alloc, system, cpus, lines, is_numbered, &NoGate)

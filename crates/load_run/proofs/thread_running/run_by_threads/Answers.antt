@@ -1,5 +1,5 @@
 -- Serves the contract of `run_by_threads`: what stands goes from the boot to the lines before `go`, from these to the
--- threads, and ends.
+-- look at all pasts, from that to the threads, and ends.
 use Rattle.std.proofs.Common.{◌≡◌, ◌∙◌, ◌≤◌, ℕ, false, List, [], ◌++◌, refl, arith, length, ap, subst, sym, take, drop}
 use Rattle.std.proofs.lemmas.Result.{IfOk-at_ok, IfOk-weaker}
 use Rattle.mem_system.specs.Cpus.{CpuInRun}
@@ -9,7 +9,8 @@ use Rattle.script_replay.specs.Terms.{boot_tables, numbered_terms}
 use Rattle.script_replay.specs.Each.{AreAllAnswers, workers_from}
 use Rattle.script_replay.proofs.Running.{go_least}
 use Rattle.load_run.specs.Ending.{EndsHeld, boot_end_text}
-use Rattle.load_run.proofs.Starting.{boot_shown, given_back, lent_parts, lent_so_far, new_state, parts_tied}
+use Rattle.load_run.specs.Survey.{SeesAllPasts}
+use Rattle.load_run.proofs.Starting.{given_back, lent_parts, lent_so_far, new_state}
 use Rattle.load_run.proofs.Joining.{are_answers, early_there, later_there}
 use Rattle.load_run.proofs.thread_running.run_by_threads.Goals as goal
 
@@ -22,11 +23,18 @@ replay-first-requires g c =
     let long = ap length c.deref_mut.ensures.value ∙ booted.count in
     record { there = early_there c.args.boot.sizes _ _ c.before_go.result _ c.args.lines.now _ booted.sized long c.split_at.ensures.front c.requires.lines }
 
+pub survey-requires : goal.survey-requires
+survey-requires g c =
+    let back = given_back _ _ _ _ c.deref_mut.ensures.value c.deref_mut.ensures.len c.replay-first.auto.cpus in
+    record { count = ap length (c.deref_mut-2.ensures.value ∙ back) ∙ c.replay-first.auto.cpus ∙ ap length c.deref_mut.ensures.value ∙ c.in_ok-locked.ensures.count }
+
 pub serve_later-told-requires-clause-count : goal.serve_later-told-requires-clause-count
 serve_later-told-requires-clause-count g c =
     let back = given_back _ _ _ _ c.deref_mut.ensures.value c.deref_mut.ensures.len c.replay-first.auto.cpus in
-    let long : length c.deref_mut-2.result.now ≡ g.N.BootName.frames.cpus =
-    ap length (c.deref_mut-2.ensures.value ∙ back) ∙ c.replay-first.auto.cpus ∙ ap length c.deref_mut.ensures.value ∙ c.in_ok-locked.ensures.count in
+    let looked = given_back _ _ _ _ c.deref_mut-2.ensures.value c.deref_mut-2.ensures.len c.survey.auto.cpus in
+    let long : length c.deref_mut-3.result.now ≡ g.N.BootName.frames.cpus =
+    ap length (c.deref_mut-3.ensures.value ∙ looked) ∙ c.survey.auto.cpus ∙ ap length (c.deref_mut-2.ensures.value ∙ back) ∙ c.replay-first.auto.cpus
+    ∙ ap length c.deref_mut.ensures.value ∙ c.in_ok-locked.ensures.count in
     let sized = c.prove_quiet.ensures.quiet.sized.cpus in
     let most = c.prove_quiet.ensures.quiet.valid.cpus_high in
     omega (arith, long, sized, most)
@@ -34,17 +42,20 @@ serve_later-told-requires-clause-count g c =
 pub serve_later-told-requires-clause-lines : goal.serve_later-told-requires-clause-lines
 serve_later-told-requires-clause-lines g c κs within =
     let back = given_back _ _ _ _ c.deref_mut.ensures.value c.deref_mut.ensures.len c.replay-first.auto.cpus in
+    let looked = given_back _ _ _ _ c.deref_mut-2.ensures.value c.deref_mut-2.ensures.len c.survey.auto.cpus in
     let booted = c.in_ok-locked.ensures in
-    let long = ap length (c.deref_mut-2.ensures.value ∙ back) ∙ c.replay-first.auto.cpus ∙ ap length c.deref_mut.ensures.value ∙ booted.count in
+    let long = ap length (c.deref_mut-3.ensures.value ∙ looked) ∙ c.survey.auto.cpus ∙ ap length (c.deref_mut-2.ensures.value ∙ back) ∙ c.replay-first.auto.cpus
+    ∙ ap length c.deref_mut.ensures.value ∙ booted.count in
     later_there c.args.boot.sizes _ _ c.before_go.result _ c.args.lines.now _ booted.sized long c.split_at.ensures.back c.requires.lines
 
 pub end_boot-ended-requires : goal.end_boot-ended-requires
 end_boot-ended-requires g c =
     let back = given_back _ _ _ _ c.deref_mut.ensures.value c.deref_mut.ensures.len c.replay-first.auto.cpus in
-    let same = given_back _ _ _ _ c.deref_mut-2.ensures.value c.deref_mut-2.ensures.len c.serve_later-told.auto.cpus in
+    let looked = given_back _ _ _ _ c.deref_mut-2.ensures.value c.deref_mut-2.ensures.len c.survey.auto.cpus in
+    let same = given_back _ _ _ _ c.deref_mut-3.ensures.value c.deref_mut-3.ensures.len c.serve_later-told.auto.cpus in
     record {
-      count = ap length same ∙ c.serve_later-told.auto.cpus ∙ ap length (c.deref_mut-2.ensures.value ∙ back) ∙ c.replay-first.auto.cpus
-          ∙ ap length c.deref_mut.ensures.value ∙ c.in_ok-locked.ensures.count;
+      count = ap length same ∙ c.serve_later-told.auto.cpus ∙ ap length (c.deref_mut-3.ensures.value ∙ looked) ∙ c.survey.auto.cpus
+          ∙ ap length (c.deref_mut-2.ensures.value ∙ back) ∙ c.replay-first.auto.cpus ∙ ap length c.deref_mut.ensures.value ∙ c.in_ok-locked.ensures.count;
     }
 
 pub returns : goal.returns
@@ -53,35 +64,39 @@ returns g c =
     let w = g.N.BootName.stocks in
     let sizes = c.args.boot.sizes in
     let lines = c.args.lines.now in
+    let is_numbered = c.args.is_numbered in
     let booted = c.in_ok-locked.ensures in
     let shown = c.deref_mut.ensures.value in
-    let lent = c.deref_mut-2.ensures.value in
     let back = given_back _ _ _ _ shown c.deref_mut.ensures.len c.replay-first.auto.cpus in
-    let same = given_back _ _ _ _ lent c.deref_mut-2.ensures.len c.serve_later-told.auto.cpus in
+    let met = c.deref_mut-2.ensures.value ∙ back in
+    let looked = given_back _ _ _ _ c.deref_mut-2.ensures.value c.deref_mut-2.ensures.len c.survey.auto.cpus in
+    let lent = c.deref_mut-3.ensures.value ∙ looked in
+    let same = given_back _ _ _ _ c.deref_mut-3.ensures.value c.deref_mut-3.ensures.len c.serve_later-told.auto.cpus in
     let start : SystemState = system_state c.in_ok-locked.locked c.deref_mut.result.now in
-    let at_go : SystemState = system_state c.replay-first.new.locked c.replay-first.new.cpus in
+    let replayed : SystemState = system_state c.replay-first.new.locked c.replay-first.new.cpus in
+    let at_go : SystemState = system_state c.survey.new.locked c.survey.new.cpus in
     let end : SystemState = system_state c.into_parts-locked.result.0 c.serve_later-told.new.cpus in
     let early = c.in_ok-answers.answers.items in
     let later = c.in_ok-told.field-0.items in
     let ended = c.end_boot-ended.result in
     let new = new_state _ _ t w _ c.deref_mut.result.now refl booted.sized booted.machine booted.sizes (lent_parts _ _ shown booted.cpus)
     (lent_so_far _ _ _ shown booted.so_far) in
-    let replays : Replays (numbered_terms t w false c.args.is_numbered) c.split_at.result.0.now start at_go early =
-    IfOk-at_ok (λ v. Replays (numbered_terms t w false c.args.is_numbered) c.split_at.result.0.now start at_go v.items) c.in_ok-answers.was
+    let replays : Replays (numbered_terms t w false is_numbered) c.split_at.result.0.now start replayed early =
+    IfOk-at_ok (λ v. Replays (numbered_terms t w false is_numbered) c.split_at.result.0.now start replayed v.items) c.in_ok-answers.was
     c.replay-first.ensures.outcome.replayed in
-    let tells : AreAllAnswers (boot_tables t w) (workers_from 1 at_go.cpus c.split_at.result.1.now c.args.is_numbered) later =
-    subst (λ (cpus : List CpuInRun). AreAllAnswers (boot_tables t w) (workers_from 1 cpus c.split_at.result.1.now c.args.is_numbered) later) (lent ∙ back)
-    (IfOk-at_ok _ c.in_ok-told.was c.serve_later-told.ensures.told) in
-    let long = c.serve_later-told.auto.cpus ∙ ap length (lent ∙ back) ∙ c.replay-first.auto.cpus ∙ ap length shown ∙ booted.count in
+    let sees = subst (λ (cpus : List CpuInRun). SeesAllPasts t (system_state c.replay-first.new.locked cpus) at_go) met c.survey.ensures.sees in
+    let all = IfOk-at_ok _ c.in_ok-told.was c.serve_later-told.ensures.told in
+    let tells : AreAllAnswers (boot_tables t w) (workers_from 1 at_go.cpus c.split_at.result.1.now is_numbered) end.cpus all.0 later =
+    subst (λ (cpus : List CpuInRun). AreAllAnswers (boot_tables t w) (workers_from 1 cpus c.split_at.result.1.now is_numbered) end.cpus all.0 later) lent all.1 in
+    let long = c.serve_later-told.auto.cpus ∙ ap length lent ∙ c.survey.auto.cpus ∙ ap length met ∙ c.replay-first.auto.cpus ∙ ap length shown ∙ booted.count in
     let ends = subst (λ (cpus : List CpuInRun). EndsHeld t w (system_state c.into_parts-locked.result.0 cpus) ended) same c.end_boot-ended.ensures.ends in
     let joined : c.extend_from_slice.new.self.items ≡ early ++ later =
     c.in_ok-extend_from_slice.ensures.items ∙ ap (λ (l : List ℕ). early ++ l) c.deref.ensures.value in
     record {
       answers = IfOk-weaker c.with_end.result _ _ (λ text is.
-          are_answers sizes c.args.is_numbered c.args.is_audited t w lines c.split_at.result.0.now c.split_at.result.1.now start at_go end early later text.items ended
-          new (c.split_at.ensures.front ∙ ap (λ (n : ℕ). take n lines) c.before_go.ensures)
-          (c.split_at.ensures.back ∙ ap (λ (n : ℕ). drop n lines) c.before_go.ensures) replays.served
-          (replays.history [] (boot_shown _ _ _ _ new) (parts_tied _ _ _ _ new)) tells
+          are_answers sizes is_numbered c.args.is_audited t w lines c.split_at.result.0.now c.split_at.result.1.now start replayed at_go end early later text.items
+          all.0 ended new (c.split_at.ensures.front ∙ ap (λ (n : ℕ). take n lines) c.before_go.ensures)
+          (c.split_at.ensures.back ∙ ap (λ (n : ℕ). drop n lines) c.before_go.ensures) replays sees tells
           (record { quiet = c.into_parts-locked.ensures.quiet; count = long }) ends
           (is ∙ ap (λ (l : List ℕ). l ++ boot_end_text c.args.is_audited ended) joined)) c.with_end.ensures.told;
     }

@@ -1,0 +1,369 @@
+-- A run shows a visit whose CPU's past is a beginning of it. Serves `runs_show_visits`.
+use Rattle.std.proofs.Common.{◌≡◌, ◌≢◌, ◌∙◌, ◌≤◌, ℕ, ◌+◌, ◌==◌, ◌&&◌, ◌||◌, Bool, true, false, List, [], ◌∷◌, ◌++◌, cond, refl, ap, sym, subst, arith, inl, inr, append_assoc}
+use Rattle.std.specs.Prelude.{◌⊎◌}
+use Rattle.std.proofs.lemmas.Bool.{and_parts, eq-eqb, eqb-true, false≢true, ne_eqb, true≢false}
+use Rattle.std.proofs.lemmas.List.Elements.{filter-append}
+use Rattle.step_rules.specs.declared.phase.Hold.{Hold}
+use Rattle.step_rules.specs.declared.phase.Hold.TheVariants.{HeldBy, Unheld, Visiting}
+use Rattle.step_rules.specs.declared.step.Step.{Step}
+use Rattle.step_rules.specs.declared.step.Answer.{Answer}
+use Rattle.step_rules.specs.declared.step.Answer.TheVariants.{Done}
+use Rattle.step_rules.specs.declared.step.Action.{Action}
+use Rattle.step_rules.specs.declared.step.Action.TheVariants.{Lock, Unlock, OpenVisit, ShutVisit, Get, Put, Freeze, Unfreeze, PassOut, TakeIn, PassBack, Collect}
+use Rattle.step_rules.specs.declared.step.Action.TheVariants.{Consume, Credit, Report, Absorb, Fill, DrainStock, Grant, Ungrant, PlaceBlock, Publish, Return}
+use Rattle.step_rules.specs.declared.step.Action.TheVariants.{NoteMax, NoteOom, NoteGroupKill, SetMax, SetFlag, Make, Remove, Kill}
+use Rattle.step_rules.specs.State.{Zone, State, is_unheld, may_zone_act, one_if, visits}
+use Rattle.step_rules.specs.Legal.{Allows, IsAnswer, IsMade, is_legal}
+use Rattle.step_rules.specs.After.{IsLegalRun, Run, after, state_of}
+use Rattle.step_rules.specs.Reaches.{IsLocalRun, is_own, own_steps}
+use Rattle.step_rules.proofs.LegalTests.{lock_tests, open_visit_tests, shut_visit_tests, freeze_tests, unfreeze_tests, pass_out_tests, take_in_tests, pass_back_tests, collect_tests}
+use Rattle.step_rules.proofs.LegalTests.{report_tests, absorb_tests, fill_tests, drain_stock_tests, grant_tests, ungrant_tests, place_block_tests, publish_tests, return_tests}
+use Rattle.step_rules.proofs.LegalTests.{set_max_tests, set_flag_tests, make_tests, remove_tests, kill_tests}
+use Rattle.step_rules.proofs.PhaseLemmas.{visited}
+use Rattle.step_rules.proofs.Runs.{after_illegal, allowed, legal_from, sound_run, state_more}
+use Rattle.step_rules.proofs.Sound.{IsSound}
+use Rattle.boot_words.specs.Growth.{GrewByAll}
+use Rattle.boot_words.specs.Hidden.{hide}
+use Rattle.boot_words.specs.Pasts.{own_past}
+use Rattle.boot_words.specs.Runs.{HasNoStepOf, IsFast}
+use Rattle.boot_words.specs.declared.view.Past.{Past}
+use Rattle.boot_words.proofs.Hiding.{fast_is_hidden}
+use Rattle.boot_words.proofs.Holding.{allowed_at, append_none, take_length}
+use Rattle.mem_machine.specs.Interleaving.{zone_of}
+use Rattle.mem_machine.specs.Steps.{cpu_makes}
+use Rattle.mem_system.specs.Cpus.{between_locks}
+use Rattle.load_run.specs.Threads.{PastsBegin, RunsShowVisits}
+use Rattle.load_run.proofs.Changes.{AreBehindOthers, gained}
+
+-- ---- how many steps of a seat
+
+abbrev steps_of : ℕ → Run → ℕ
+steps_of seat [] = 0
+steps_of seat (e ∷ run) = one_if (e.0.seat == seat) + steps_of seat run
+
+both : (seat : ℕ) (xs ys : Run) → steps_of seat (xs ++ ys) ≡ steps_of seat xs + steps_of seat ys
+both seat [] ys = omega arith
+both seat (e ∷ xs) ys = let more = both seat xs ys in omega (arith, more)
+
+none_of : (seat : ℕ) (run : Run) → HasNoStepOf seat run → steps_of seat run ≡ 0
+none_of seat [] none = refl
+none_of seat (e ∷ run) none =
+    let here = ap one_if (ne_eqb e.0.seat seat none.0) in
+    let more = none_of seat run none.1 in omega (arith, here, more)
+
+own_one : (seat : ℕ) (e : Step × Answer) → e.0.seat ≡ seat → one_if (e.0.seat == seat) ≡ 1
+own_one seat e same = ap one_if (eq-eqb e.0.seat seat same)
+
+has_none : (seat : ℕ) (run : Run) → steps_of seat run ≡ 0 → HasNoStepOf seat run
+has_none seat [] none = tt
+has_none seat (e ∷ run) none =
+    (λ same. absurd (let one = own_one seat e same in omega (arith, one, none)), has_none seat run (omega (arith, none)))
+
+-- steps behind those of others: no more of the seat, and no fewer of any other
+as_many : (seat : ℕ) (steps run : Run) → AreBehindOthers seat steps run → steps_of seat run ≡ steps_of seat steps
+as_many seat [] run e = ap (steps_of seat) e
+as_many seat (e ∷ steps) run h =
+    let is = ap (steps_of seat) h.3 in
+    let parts = both seat h.0 (e ∷ h.1) in
+    let none = none_of seat h.0 h.2 in
+    let more = as_many seat steps h.1 h.4 in omega (arith, is, parts, none, more)
+
+no_fewer : (seat other : ℕ) (steps run : Run) → AreBehindOthers seat steps run → steps_of other steps ≤ steps_of other run
+no_fewer seat other [] run e = let none = ap (steps_of other) e in omega (arith, none)
+no_fewer seat other (e ∷ steps) run h =
+    let is = ap (steps_of other) h.3 in
+    let parts = both other h.0 (e ∷ h.1) in
+    let more = no_fewer seat other steps h.1 h.4 in omega (arith, is, parts, more)
+
+-- ---- the steps of two seats
+
+-- these two seats are the zone's and the CPU's
+abbrev AreOwn : (cpu one other : ℕ) → Type 0
+AreOwn cpu one other = (seat : ℕ) → seat ≢ one → seat ≢ other → is_own cpu seat ≡ false
+
+none_own : (cpu one other : ℕ) → AreOwn cpu one other → (run : Run) → HasNoStepOf one run → HasNoStepOf other run → own_steps cpu run ≡ []
+none_own cpu one other own [] none also = refl
+none_own cpu one other own (e ∷ run) none also =
+    ap (λ (b : Bool). cond b (e ∷ own_steps cpu run) (own_steps cpu run)) (own e.0.seat none.0 also.0) ∙ none_own cpu one other own run none.1 also.1
+
+-- If the run has no more steps of either seat than these steps, they are all steps of both.
+just_these : (cpu one other : ℕ) → AreOwn cpu one other → (steps run : Run) → AreBehindOthers one steps run → steps_of other run ≤ steps_of other steps
+    → own_steps cpu run ≡ own_steps cpu steps
+just_these cpu one other own [] run e most = ap (own_steps cpu) e
+just_these cpu one other own (e ∷ steps) run h most =
+    let is = ap (steps_of other) h.3 in
+    let parts = both other h.0 (e ∷ h.1) in
+    let least = no_fewer one other steps h.1 h.4 in
+    let none : HasNoStepOf other h.0 = has_none other h.0 (omega (arith, is, parts, least, most)) in
+    ap (own_steps cpu) h.3 ∙ filter-append (λ d. is_own cpu d.0.seat) h.0 (e ∷ h.1)
+    ∙ ap (λ (l : Run). l ++ own_steps cpu (e ∷ h.1)) (none_own cpu one other own h.0 h.2 none)
+    ∙ ap (λ (l : Run). cond (is_own cpu e.0.seat) (e ∷ l) l) (just_these cpu one other own steps h.1 h.4 (omega (arith, is, parts, most)))
+
+zone_and_cpu : (cpu : ℕ) → AreOwn cpu 0 cpu
+zone_and_cpu cpu seat not_zone not_cpu = ap (λ (b : Bool). b || seat == cpu) (ne_eqb seat 0 not_zone) ∙ ne_eqb seat cpu not_cpu
+
+cpu_and_zone : (cpu : ℕ) → AreOwn cpu cpu 0
+cpu_and_zone cpu seat not_cpu not_zone = zone_and_cpu cpu seat not_zone not_cpu
+
+-- ---- where a visit begins
+
+-- of two beginnings of a run, one is a beginning of the other
+which_first : (xs us ys vs : Run) → xs ++ us ≡ ys ++ vs
+    → ((mid : Run) × (xs ≡ ys ++ mid) × (vs ≡ mid ++ us)) ⊎ ((mid : Run) × (ys ≡ xs ++ mid) × (us ≡ mid ++ vs))
+which_first [] us ys vs e = inr (ys, refl, e)
+which_first (x ∷ xs) us [] vs e = inl (x ∷ xs, refl, sym e)
+which_first (x ∷ xs) us (y ∷ ys) vs e =
+    let here : x ≡ y = ap (λ (l : Run). first_of x l) e in
+    elim (which_first xs us ys vs (ap (λ (l : Run). others_of l) e)) [
+      | inl h ↦ inl (h.0, ap (λ (l : Run). x ∷ l) h.1 ∙ ap (λ (z : Step × Answer). z ∷ (ys ++ h.0)) here, h.2)
+      | inr h ↦ inr (h.0, ap (λ (l : Run). y ∷ l) h.1 ∙ ap (λ (z : Step × Answer). z ∷ (xs ++ h.0)) (sym here), h.2)
+    ]
+  where
+    first_of : Step × Answer → Run → Step × Answer
+    first_of d [] = d
+    first_of d (z ∷ l) = z
+
+    others_of : Run → Run
+    others_of [] = []
+    others_of (z ∷ l) = l
+
+-- Behind the zone's past and steps of others, the CPU and the zone's seat have made just these steps.
+pub record IsBehind (cpu : ℕ) (lock : Step × Answer) (steps seen run : Run) : Type 0 where
+  pub gap : Run
+  pub rest : Run
+  pub others : HasNoStepOf 0 gap
+  pub is : run ≡ seen ++ (gap ++ lock ∷ rest)
+  pub own : own_steps cpu (lock ∷ rest) ≡ own_steps cpu (lock ∷ steps)
+
+pub behind_both : (cpu : ℕ) (lock : Step × Answer) (steps : Run) (z c z' c' : Past) → z.number ≡ 0 → c.number ≡ cpu → GrewByAll z (lock ∷ steps) z'
+    → GrewByAll c (lock ∷ steps) c' → z'.seen ≡ c'.seen → IsBehind cpu lock steps z.seen z'.seen
+behind_both cpu lock steps z c z' c' zone_is cpu_is zone_grew cpu_grew same =
+    let g = gained z (lock ∷ steps) z' zone_grew in
+    let d = gained c (lock ∷ steps) c' cpu_grew in
+    let zh : AreBehindOthers 0 (lock ∷ steps) g.run = subst (λ (n : ℕ). AreBehindOthers n (lock ∷ steps) g.run) zone_is g.behind in
+    let ch : AreBehindOthers cpu (lock ∷ steps) d.run = subst (λ (n : ℕ). AreBehindOthers n (lock ∷ steps) d.run) cpu_is d.behind in
+    let z_is : z'.seen ≡ z.seen ++ (zh.0 ++ lock ∷ zh.1) = g.seen ∙ ap (λ (l : Run). z.seen ++ l) zh.3 in
+    let c_is : c'.seen ≡ c.seen ++ (ch.0 ++ lock ∷ ch.1) = d.seen ∙ ap (λ (l : Run). c.seen ++ l) ch.3 in
+    let zone_run : AreBehindOthers 0 (lock ∷ steps) (lock ∷ zh.1) = ([], zh.1, tt, refl, zh.4) in
+    let cpu_run : AreBehindOthers cpu (lock ∷ steps) (lock ∷ ch.1) = ([], ch.1, tt, refl, ch.4) in
+    let one_run : (z.seen ++ zh.0) ++ lock ∷ zh.1 ≡ (c.seen ++ ch.0) ++ lock ∷ ch.1 =
+    append_assoc z.seen zh.0 (lock ∷ zh.1) ∙ sym z_is ∙ same ∙ c_is ∙ sym (append_assoc c.seen ch.0 (lock ∷ ch.1)) in
+    elim (which_first (z.seen ++ zh.0) (lock ∷ zh.1) (c.seen ++ ch.0) (lock ∷ ch.1) one_run) [
+      | inl h ↦
+          let all = as_many cpu (lock ∷ steps) (lock ∷ ch.1) cpu_run in
+          let is = ap (steps_of cpu) h.2 in
+          let parts = both cpu h.0 (lock ∷ zh.1) in
+          record {
+            gap = zh.0;
+            rest = zh.1;
+            others = zh.2;
+            is = z_is;
+            own = just_these cpu 0 cpu (zone_and_cpu cpu) (lock ∷ steps) (lock ∷ zh.1) zone_run (omega (arith, all, is, parts));
+          }
+      | inr h ↦
+          let all = as_many 0 (lock ∷ steps) (lock ∷ zh.1) zone_run in
+          let least = no_fewer cpu 0 (lock ∷ steps) (lock ∷ ch.1) cpu_run in
+          let is = ap (steps_of 0) h.2 in
+          let parts = both 0 h.0 (lock ∷ ch.1) in
+          let before = none_of 0 zh.0 zh.2 in
+          let joined = both 0 zh.0 h.0 in
+          record {
+            gap = zh.0 ++ h.0;
+            rest = ch.1;
+            others = has_none 0 (zh.0 ++ h.0) (omega (arith, all, least, is, parts, before, joined));
+            is = z_is ∙ ap (λ (l : Run). z.seen ++ (zh.0 ++ l)) h.2 ∙ ap (λ (l : Run). z.seen ++ l) (sym (append_assoc zh.0 h.0 (lock ∷ ch.1)));
+            own = just_these cpu cpu 0 (cpu_and_zone cpu) (lock ∷ steps) (lock ∷ ch.1) cpu_run (omega (arith, all, is, parts));
+          }
+    ]
+
+-- ---- without the zone's seat nothing changes
+
+-- no visit is open
+abbrev NoVisit : Hold → Type 0
+NoVisit hold = (q : ℕ) → hold ≡ Visiting q → ⊥
+
+-- what is left if every CPU's own part is hidden, and who holds the lock
+abbrev hide_all : State → State
+hide_all s = record (hide s) { hold = Unheld }
+
+-- no visit is open after it, and nothing has changed that isn't hidden
+record LeavesAll (s t : State) : Type 0 where
+  closed : NoVisit t.hold
+  hidden : hide_all t ≡ hide_all s
+
+no_zone : (hold : Hold) (q : ℕ) → q ≢ 0 → may_zone_act hold q ≡ true → ⊥
+no_zone hold q ne may = ne (eqb-true q 0 (and_parts (q == 0) _ may).0)
+
+no_visit : (hold : Hold) (q : ℕ) → NoVisit hold → visits q hold ≡ true → ⊥
+no_visit hold q closed visit = closed q (visited q hold visit)
+
+-- a CPU's step while no visit is open is a fast one, a Lock or an Unlock
+only_fast : (s : State) (q : ℕ) (action : Action) → IsSound s → NoVisit s.hold → q ≢ 0 → is_legal s q action ≡ true
+    → IsFast action ⊎ ((action ≡ Lock) ⊎ (action ≡ Unlock))
+only_fast s q Lock sound closed ne legal = inr (inl refl)
+only_fast s q Unlock sound closed ne legal = inr (inr refl)
+only_fast s q (Get f) sound closed ne legal = inl tt
+only_fast s q (Put f) sound closed ne legal = inl tt
+only_fast s q (Consume g) sound closed ne legal = inl tt
+only_fast s q (Credit f) sound closed ne legal = inl tt
+only_fast s q (TakeIn f) sound closed ne legal = absurd (closed q ((sound.frames f).out q (take_in_tests s q f legal).2))
+only_fast s q (PassBack f) sound closed ne legal = absurd (no_visit s.hold q closed (pass_back_tests s q f legal).2)
+only_fast s q (Report n) sound closed ne legal = absurd (no_visit s.hold q closed (report_tests s q n legal).1)
+only_fast s q (OpenVisit p) sound closed ne legal = absurd (no_zone s.hold q ne (open_visit_tests s q p legal).0)
+only_fast s q (ShutVisit p) sound closed ne legal = absurd (no_zone s.hold q ne (shut_visit_tests s q p legal).0)
+only_fast s q (Freeze f n) sound closed ne legal = absurd (no_zone s.hold q ne (freeze_tests s q f n legal).0)
+only_fast s q (Unfreeze f n) sound closed ne legal = absurd (no_zone s.hold q ne (unfreeze_tests s q f n legal).0)
+only_fast s q (PassOut f p) sound closed ne legal = absurd (no_zone s.hold q ne (pass_out_tests s q f p legal).0)
+only_fast s q (Collect f p) sound closed ne legal = absurd (no_zone s.hold q ne (collect_tests s q f p legal).0)
+only_fast s q (Absorb p) sound closed ne legal = absurd (no_zone s.hold q ne (absorb_tests s q p legal).0)
+only_fast s q (Fill p g n) sound closed ne legal = absurd (no_zone s.hold q ne (fill_tests s q p g n legal).0)
+only_fast s q (DrainStock p) sound closed ne legal = absurd (no_zone s.hold q ne (drain_stock_tests s q p legal).0)
+only_fast s q (Grant g n) sound closed ne legal = absurd (no_zone s.hold q ne (grant_tests s q g n legal).0)
+only_fast s q (Ungrant g n) sound closed ne legal = absurd (no_zone s.hold q ne (ungrant_tests s q g n legal).0)
+only_fast s q (PlaceBlock g k) sound closed ne legal = absurd (no_zone s.hold q ne (place_block_tests s q g k legal).0)
+only_fast s q (Publish f) sound closed ne legal = absurd (no_zone s.hold q ne (publish_tests s q f legal).0)
+only_fast s q (Return f) sound closed ne legal = absurd (no_zone s.hold q ne (return_tests s q f legal).0)
+only_fast s q (NoteMax g) sound closed ne legal = absurd (no_zone s.hold q ne (and_parts (may_zone_act s.hold q) _ legal).0)
+only_fast s q (NoteOom g) sound closed ne legal = absurd (no_zone s.hold q ne (and_parts (may_zone_act s.hold q) _ legal).0)
+only_fast s q (NoteGroupKill g) sound closed ne legal = absurd (no_zone s.hold q ne
+    (and_parts (may_zone_act s.hold q) _ (and_parts _ _ legal).0).0)
+only_fast s q (SetMax g limit) sound closed ne legal = absurd (no_zone s.hold q ne (set_max_tests s q g limit legal).0)
+only_fast s q (SetFlag g flag) sound closed ne legal = absurd (no_zone s.hold q ne (set_flag_tests s q g flag legal).0)
+only_fast s q (Make path) sound closed ne legal = absurd (no_zone s.hold q ne (make_tests s q path legal).0)
+only_fast s q (Remove g) sound closed ne legal = absurd (no_zone s.hold q ne (remove_tests s q g legal).0)
+only_fast s q (Kill g) sound closed ne legal = absurd (no_zone s.hold q ne (kill_tests s q g legal).0)
+
+held_closed : (q : ℕ) → NoVisit (HeldBy q)
+held_closed q p e = true≢false (ap is_held e)
+  where
+    is_held : Hold → Bool
+    is_held (HeldBy p) = true
+    is_held hold = false
+
+free_closed : (hold : Hold) → is_unheld hold ≡ true → NoVisit hold
+free_closed hold free q e = true≢false (sym free ∙ ap is_unheld e)
+
+lock_leaves : (s : State) (q : ℕ) (answer : Answer) → IsAnswer s q Lock answer → LeavesAll s (after s q Lock answer)
+lock_leaves s q Done answered = record { closed = held_closed q; hidden = refl }
+lock_leaves s q answer answered = absurd answered
+
+unlock_leaves : (s : State) (q : ℕ) (answer : Answer) → IsAnswer s q Unlock answer → LeavesAll s (after s q Unlock answer)
+unlock_leaves s q Done answered = record { closed = free_closed Unheld refl; hidden = refl }
+unlock_leaves s q answer answered = absurd answered
+
+step_leaves : (zone : Zone) (run : Run) (e : Step × Answer) → IsLegalRun zone run → NoVisit (state_of zone run).hold → e.0.seat ≢ 0
+    → Allows (state_of zone run) e.0.seat e.0.action e.1 → LeavesAll (state_of zone run) (state_of zone (run ++ e ∷ []))
+step_leaves zone run e legal closed ne ok =
+    let s = state_of zone run in
+    let more = state_more zone run e.0 e.1 in
+    elim (allowed s e.0.seat e.0.action e.1 ok) [
+      | inl illegal ↦
+          let same = more ∙ ap (after s e.0.seat e.0.action) illegal ∙ after_illegal s e.0.seat e.0.action in
+          record { closed = subst (λ (t : State). NoVisit t.hold) (sym same) closed; hidden = ap hide_all same }
+      | inr made ↦ elim (only_fast s e.0.seat e.0.action (sound_run zone run legal) closed ne made.legal) [
+        | inl fast ↦
+            let same = (fast_is_hidden zone run 0 e.0 e.1 legal ne ne fast ok).hidden in
+            record {
+              closed = subst NoVisit (sym (ap (λ (t : State). t.hold) same)) closed;
+              hidden = ap (λ (t : State). record t { hold = Unheld }) same;
+            }
+        | inr locks ↦ subst (LeavesAll s) (sym more) (elim locks [
+          | inl is ↦ subst (λ (a : Action). LeavesAll s (after s e.0.seat a e.1)) (sym is)
+              (lock_leaves s e.0.seat e.1 (subst (λ (a : Action). IsAnswer s e.0.seat a e.1) is made.answered))
+          | inr is ↦ subst (λ (a : Action). LeavesAll s (after s e.0.seat a e.1)) (sym is)
+              (unlock_leaves s e.0.seat e.1 (subst (λ (a : Action). IsAnswer s e.0.seat a e.1) is made.answered))
+        ])
+      ]
+    ]
+
+legal_front : (zone : Zone) (xs ys : Run) → IsLegalRun zone (xs ++ ys) → IsLegalRun zone xs
+legal_front zone xs ys legal = subst (IsLegalRun zone) (take_length xs ys) (legal_from zone (xs ++ ys) _ legal)
+
+run_leaves : (zone : Zone) (seen rest : Run) → IsLegalRun zone (seen ++ rest) → HasNoStepOf 0 rest → NoVisit (state_of zone seen).hold
+    → LeavesAll (state_of zone seen) (state_of zone (seen ++ rest))
+run_leaves zone seen [] legal none closed =
+    subst (λ (r : Run). LeavesAll (state_of zone seen) (state_of zone r)) (sym (append_none seen)) (record { closed = closed; hidden = refl })
+run_leaves zone seen (e ∷ rest) legal none closed =
+    let more = append_assoc seen (e ∷ []) rest in
+    let here = step_leaves zone seen e (legal_front zone seen (e ∷ rest) legal) closed none.0 (allowed_at zone seen e rest legal) in
+    let all = run_leaves zone (seen ++ e ∷ []) rest (subst (IsLegalRun zone) (sym more) legal) none.1 here.closed in
+    subst (λ (r : Run). LeavesAll (state_of zone seen) (state_of zone r)) more
+    (record { closed = all.closed; hidden = all.hidden ∙ here.hidden })
+
+free_is : (hold : Hold) → is_unheld hold ≡ true → hold ≡ Unheld
+free_is Unheld free = refl
+free_is hold free = absurd (false≢true free)
+
+-- if the lock is free again, nothing has changed that isn't hidden
+pub still_hidden : (zone : Zone) (seen rest : Run) → IsLegalRun zone (seen ++ rest) → HasNoStepOf 0 rest → is_unheld (state_of zone seen).hold ≡ true
+    → is_unheld (state_of zone (seen ++ rest)).hold ≡ true → hide (state_of zone (seen ++ rest)) ≡ hide (state_of zone seen)
+still_hidden zone seen rest legal none free again =
+    let s = state_of zone seen in
+    let t = state_of zone (seen ++ rest) in
+    let all = (run_leaves zone seen rest legal none (free_closed s.hold free)).hidden in
+    ap (λ (h : Hold). record (hide t) { hold = h }) (free_is t.hold again) ∙ all
+    ∙ ap (λ (h : Hold). record (hide s) { hold = h }) (sym (free_is s.hold free))
+
+-- what a visit of the run found, right before its Lock
+pub visit_in_run : (zone : Zone) (cpu : ℕ) (steps seen run : Run) → IsLegalRun zone run → is_unheld (state_of zone seen).hold ≡ true
+    → (b : IsBehind cpu (record { seat = cpu; action = Lock }, Done) steps seen run) → hide (state_of zone (seen ++ b.gap)) ≡ hide (state_of zone seen)
+visit_in_run zone cpu steps seen run legal free b =
+    let lock : Step × Answer = (record { seat = cpu; action = Lock }, Done) in
+    let front = seen ++ b.gap in
+    let whole : IsLegalRun zone (front ++ lock ∷ b.rest) =
+    subst (IsLegalRun zone) (b.is ∙ sym (append_assoc seen b.gap (lock ∷ b.rest))) legal in
+    let made : IsMade (state_of zone front) cpu Lock Done = allowed_at zone front lock b.rest whole in
+    still_hidden zone seen b.gap (legal_front zone front (lock ∷ b.rest) whole) b.others free (lock_tests (state_of zone front) cpu made.legal).1
+
+-- ---- the law
+
+own_is : (cpu seat : ℕ) → (seat ≡ 0) ⊎ (seat ≡ cpu) → is_own cpu seat ≡ true
+own_is cpu seat (inl is) = ap (λ (b : Bool). b || seat == cpu) (eq-eqb seat 0 is)
+own_is cpu seat (inr is) = ap (λ (b : Bool). seat == 0 || b) (eq-eqb seat cpu is) ∙ or_true (seat == 0)
+  where
+    or_true : (b : Bool) → (b || true) ≡ true
+    or_true true = refl
+    or_true false = refl
+
+-- the steps of a visit are all of its CPU and of the zone's seat
+all_own : (cpu : ℕ) (a : State) (steps : Run) (b : State) → IsLocalRun cpu a steps b → own_steps cpu steps ≡ steps
+all_own cpu a [] b leads = refl
+all_own cpu a (e ∷ steps) b leads =
+    ap (λ (t : Bool). cond t (e ∷ own_steps cpu steps) (own_steps cpu steps)) (own_is cpu e.0.seat leads.0.own)
+    ∙ ap (λ (l : Run). e ∷ l) (all_own cpu (after a e.0.seat e.0.action e.1) steps b leads.1)
+
+own_between : (cpu : ℕ) (steps : Run) → own_steps cpu steps ≡ steps → own_steps cpu (between_locks cpu steps) ≡ between_locks cpu steps
+own_between cpu steps all =
+    let lock : Step × Answer = cpu_makes cpu Lock Done in
+    let unlock : Run = cpu_makes cpu Unlock Done ∷ [] in
+    let mine : is_own cpu cpu ≡ true = own_is cpu cpu (inr refl) in
+    ap (λ (t : Bool). cond t (lock ∷ own_steps cpu (steps ++ unlock)) (own_steps cpu (steps ++ unlock))) mine
+    ∙ ap (λ (l : Run). lock ∷ l) (filter-append (λ d. is_own cpu d.0.seat) steps unlock ∙ ap (λ (l : Run). l ++ own_steps cpu unlock) all
+    ∙ ap (λ (t : Bool). steps ++ cond t unlock []) mine)
+
+pub runs_show_visits : RunsShowVisits
+runs_show_visits table stock_table cmd reply before after run sound served left begins =
+    let zone = zone_of table in
+    let cpu = before.cpu.part.number in
+    let visit = served.run in
+    let rests = sound.quiet.rests in
+    let rests_after = left.quiet.rests in
+    let z = own_past before.locked.machine.run.past in
+    let z_after = own_past after.locked.machine.run.past in
+    let b = behind_both cpu (cpu_makes cpu Lock Done) (served.steps ++ cpu_makes cpu Unlock Done ∷ []) z (own_past before.cpu.past) z_after
+    (own_past after.cpu.past) rests.past_is.zone_is visit.number visit.zone_grew visit.cpu_grew visit.same in
+    let during : Run = cpu_makes cpu Lock Done ∷ b.rest in
+    let is : z_after.seen ≡ (z.seen ++ b.gap) ++ during = b.is ∙ sym (append_assoc z.seen b.gap during) in
+    record {
+      before = z.seen ++ b.gap;
+      during = during;
+      after = begins.rest;
+      is = begins.is ∙ ap (λ (l : Run). l ++ begins.rest) (sym visit.same ∙ is) ∙ append_assoc (z.seen ++ b.gap) during begins.rest;
+      found_is = visit_in_run zone cpu _ z.seen z_after.seen rests_after.past_is.legal rests.free b ∙ rests.left;
+      own = b.own ∙ own_between cpu served.steps (all_own cpu _ served.steps _ served.makes.leads);
+      left_is = ap (λ (l : Run). hide (state_of zone l)) (sym is) ∙ rests_after.left;
+    }
+
+pub pasts_begin : PastsBegin
+pasts_begin before after steps grew =
+    let g = gained (own_past before) grew.made (own_past after) grew.grew in record { rest = g.run; is = g.seen }

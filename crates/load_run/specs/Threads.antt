@@ -1,0 +1,48 @@
+-- The steps of all threads as one legal run, and what it shows of each visit.
+use Rattle.std.specs.Prelude.{◌≡◌, ℕ, ◌++◌}
+use Rattle.frame_word.specs.Seats.{KnownTable}
+use Rattle.stock_word.specs.Stock.{KnownStockTable}
+use Rattle.step_rules.specs.After.{Run, state_of}
+use Rattle.step_rules.specs.Reaches.{own_steps}
+use Rattle.boot_words.specs.Hidden.{hide}
+use Rattle.boot_words.specs.Pasts.{KnownPasts, own_past}
+use Rattle.mem_machine.specs.Interleaving.{zone_of}
+use Rattle.mem_machine.specs.Machines.{KnownMachine}
+use Rattle.mem_machine.specs.Resting.{hidden_of}
+use Rattle.mem_system.specs.declared.command.Cmd.{Cmd}
+use Rattle.mem_system.specs.declared.command.Reply.{Reply}
+use Rattle.mem_system.specs.Cpus.{between_locks}
+use Rattle.mem_system.specs.Locked.{IsSound}
+use Rattle.mem_system.specs.Visits.{IsServed, LockedState}
+use Rattle.script_replay.specs.Visits.{GrewByChanges}
+
+-- the run begins with these steps
+pub record IsBeginning (front run : Run) : Type 0 where
+  pub rest : Run
+  pub is : run ≡ front ++ rest
+
+-- A run has a visit of this CPU. With every CPU's own part hidden, the run shows before it what was found, and after it
+-- what was left; the lock is free then. Meanwhile the CPU and the zone's seat make just the Lock, the steps of the visit
+-- and the Unlock.
+pub record ShowsVisit (table : KnownTable) (run : Run) (cpu : ℕ) (steps : Run) (found left : KnownMachine)
+    : Type 0 where
+  pub before : Run
+  pub during : Run
+  pub after : Run
+  pub is : run ≡ before ++ (during ++ after)
+  pub found_is : hide (state_of (zone_of table) before) ≡ hidden_of table found
+  pub own : own_steps cpu during ≡ between_locks cpu steps
+  pub left_is : hide (state_of (zone_of table) (before ++ during)) ≡ hidden_of table left
+
+-- If a command was served in a visit, and the CPU's past after it is a beginning of a run, then this run shows the visit.
+abbrev pub RunsShowVisits : Type 0
+RunsShowVisits = (table : KnownTable) (stock_table : KnownStockTable) (cmd : Cmd) (reply : Reply)
+    (before after : LockedState) (run : Run) → IsSound table stock_table before.locked
+    → (served : IsServed table cmd reply before after) → IsSound table stock_table after.locked
+    → IsBeginning (own_past after.cpu.past).seen run
+    → ShowsVisit table run before.cpu.part.number served.steps before.locked.machine after.locked.machine
+
+-- A CPU's past is a beginning of its past after more steps.
+abbrev pub PastsBegin : Type 0
+PastsBegin = (before after : KnownPasts) (steps : Run) → GrewByChanges before steps after
+    → IsBeginning (own_past before).seen (own_past after).seen
