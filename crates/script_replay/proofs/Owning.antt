@@ -56,14 +56,20 @@ module _ (on : KnownSystem) (is_numbered : Bool) (own : ℕ) where
   pub own_more : (s m e : CpuInRun) (lines : List Line) (i : ℕ) (default : Line) (text new : List ℕ) → i < length lines → Serves s (take i lines) m text
       → (more : List ℕ) → ServesOwnBySteps on is_numbered own (get_or lines i default) m e more → new ≡ text ++ more
       → Serves s (take (i + 1) lines) e new
-  own_more s m e lines i default text new inside all more one is = (all.0 ++ one.steps, record {
-    serves = in_order_line (ServesOwnLine on is_numbered own) (told_cpu s []) (told_cpu m all.0) (told_cpu e (all.0 ++ one.steps)) lines i default text new
-        inside all.1.serves more (one.serves all.0) is;
-    grew = grew_both s.past all.0 m.past one.steps e.past all.1.grew one.grew;
-  })
+  own_more s m e lines i default text new inside all more one is = (
+    all.0 ++ one.steps,
+    record {
+      serves = in_order_line (ServesOwnLine on is_numbered own) (told_cpu s []) (told_cpu m all.0) (told_cpu e (all.0 ++ one.steps)) lines i default text new
+          inside all.1.serves more (one.serves all.0) is;
+      grew = grew_both s.past all.0 m.past one.steps e.past all.1.grew one.grew;
+    },
+  )
 
   pub own_end : (s e : CpuInRun) (lines : List Line) (i : ℕ) (text : List ℕ) → length lines ≤ i → Serves s (take i lines) e text → Serves s lines e text
-  own_end s e lines i text past all = (all.0, record {
-    serves = in_order_end (ServesOwnLine on is_numbered own) (told_cpu s []) (told_cpu e all.0) lines i text text past all.1.serves refl;
-    grew = all.1.grew;
-  })
+  own_end s e lines i text past all = (
+    all.0,
+    record {
+      serves = in_order_end (ServesOwnLine on is_numbered own) (told_cpu s []) (told_cpu e all.0) lines i text text past all.1.serves refl;
+      grew = all.1.grew;
+    },
+  )

@@ -1,5 +1,5 @@
 -- The answers of the workers of two slices of CPUs, in one text. Serves `run_from`, `run_both`, `run_at_most_one`.
-use Rattle.std.proofs.Common.{Result, Ok, Err, IfOk, Bool, ◌≡◌, ◌∙◌, ℕ, zero, suc, ◌+◌, List, [], ◌∷◌, ◌++◌, length, get_or, append_assoc, append-nil, ap, refl, subst, sym, arith}
+use Rattle.std.proofs.Common.{Result, Ok, Err, IfOk, Bool, ◌≡◌, ◌∙◌, ℕ, ◌+◌, List, [], ◌∷◌, ◌++◌, length, get_or, append_assoc, append-nil, ap, refl, subst, sym, arith}
 use Rattle.std.specs.Prelude.{Vec, slice_set}
 use Rattle.mem_system.specs.Boots.{KnownSystem}
 use Rattle.mem_system.specs.Cpus.{CpuInRun}
@@ -34,9 +34,13 @@ answers_both on [] vs [] ds (t ∷ ts) us a b none more = absurd none
 answers_both on [] vs (c ∷ cs) ds ts us a b none more = absurd none
 answers_both on (w ∷ ws) vs [] ds ts us a b none more = absurd none
 answers_both on (w ∷ ws) vs (c ∷ cs) ds [] us a b none more = absurd none
-answers_both on (w ∷ ws) vs (c ∷ cs) ds (t ∷ ts) us a b all more =
-    (all.0, all.1 ++ b, all.2, answers_both on ws vs cs ds ts us all.1 b all.3 more,
-    ap (λ (l : List ℕ). l ++ b) all.4 ∙ append_assoc (heading w.cpu_number ++ all.0) all.1 b)
+answers_both on (w ∷ ws) vs (c ∷ cs) ds (t ∷ ts) us a b all more = (
+  all.0,
+  all.1 ++ b,
+  all.2,
+  answers_both on ws vs cs ds ts us all.1 b all.3 more,
+  ap (λ (l : List ℕ). l ++ b) all.4 ∙ append_assoc (heading w.cpu_number ++ all.0) all.1 b,
+)
 
 -- the answers of some workers
 abbrev pub Answers : KnownSystem → List KnownWorker → List CpuInRun → List ℕ → Type 0

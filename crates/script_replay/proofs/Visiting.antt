@@ -99,11 +99,13 @@ alone_is on command c d said is = (is, refl)
 pub alone_visited : (on : KnownSystem) (command : Command) (c d : CpuInRun) (said : UnlockedAnswer) → AnswersAlone command c.part d.part said
     → MakesAlone c.part.number (steps_alone c.part.number command said) c.past d.past → ServesByVisits on command c d (unlocked_text said)
 alone_visited on command c d said is makes =
-    let steps = steps_alone c.part.number command said in
-    (steps, record {
-      tells = visits_as on command steps c d (Unlocked said) (unlocked_text said) (alone_has command c.part d.part said is) (alone_is on command c d said is) refl;
-      grew = alone_grew c.part.number steps c.past d.past makes;
-    })
+    let steps = steps_alone c.part.number command said in (
+      steps,
+      record {
+        tells = visits_as on command steps c d (Unlocked said) (unlocked_text said) (alone_has command c.part d.part said is) (alone_is on command c d said is) refl;
+        grew = alone_grew c.part.number steps c.past d.past makes;
+      },
+    )
 
 served_has : (command : Command) (cmd : Cmd) → cmd_of command ≡ Some cmd → HasValueAnswer command
 served_has Blocks cmd named = absurd (let none : None ≢ Some cmd = λ e. cc in none named)
@@ -116,33 +118,38 @@ served_has command cmd named = tt
 pub reply_visited : (on : KnownSystem) (command : Command) (cmd : Cmd) (l : KnownLocked) (c seen d : CpuInRun) (text : List ℕ) → cmd_of command ≡ Some cmd
     → IsSound on.frames on.stocks l → IsTriedInVain command (locked_state l c) seen.part → MakesAlone c.part.number [] c.past seen.past
     → IsReplyVisited on cmd seen d text → ServesByVisits on command c d text
-reply_visited on command cmd l c seen d text named sound tried alone is = (is.steps, record {
-  tells = visits_as on command is.steps c d (Served is.reply) text (served_has command cmd named) (record {
-    cmd = cmd;
-    named = named;
-    seen = seen;
-    tried = record { locked = l; sound = sound; so = tried };
-    alone = alone;
-    visited = is.visited;
-  }) is.text_is;
-  grew = grew_both c.past [] seen.past is.steps d.past (alone_grew c.part.number [] c.past seen.past alone)
-      (visited_grew on cmd is.steps seen d is.reply is.visited);
-})
+reply_visited on command cmd l c seen d text named sound tried alone is = (
+  is.steps,
+  record {
+    tells = visits_as on command is.steps c d (Served is.reply) text (served_has command cmd named) (record {
+      cmd = cmd;
+      named = named;
+      seen = seen;
+      tried = record { locked = l; sound = sound; so = tried };
+      alone = alone;
+      visited = is.visited;
+    }) is.text_is;
+    grew = grew_both c.past [] seen.past is.steps d.past (alone_grew c.part.number [] c.past seen.past alone)
+        (visited_grew on cmd is.steps seen d is.reply is.visited);
+  },
+)
 
 -- a Settle is answered that it was done
 pub settled_done : (on : KnownSystem) (c d : CpuInRun) (reply : Reply) → IsVisited on.frames on.stocks (IsServed on.frames cmd.Settle reply) c d
     → ServesByVisits on Settle c d (answer_text Settled)
 settled_done on c d reply is =
     let by = by_visit on cmd.Settle c d reply is in
-    let steps = between_locks c.part.number is.served.steps in
-    (steps, record {
-      tells = record {
-        answer = Settled;
-        answered = subst (λ (r : Reply). IsServedByVisit on cmd.Settle steps c d r) is.served.serves.executes.0 by;
-        text_is = refl;
-      };
-      grew = visited_grew on cmd.Settle steps c d reply by;
-    })
+    let steps = between_locks c.part.number is.served.steps in (
+      steps,
+      record {
+        tells = record {
+          answer = Settled;
+          answered = subst (λ (r : Reply). IsServedByVisit on cmd.Settle steps c d r) is.served.serves.executes.0 by;
+          text_is = refl;
+        };
+        grew = visited_grew on cmd.Settle steps c d reply by;
+      },
+    )
 
 -- a text of the machine that a visit left, of a command that is answered so
 pub machine_read : {Z T E : Type 0} (on : KnownSystem) (command : Command) (text_of : KnownMachine → List ℕ) (c d : CpuInRun) (r : Result T E) (old new : String Z)
@@ -154,17 +161,20 @@ machine_read on command text_of c d r old new answers told =
     let text = text_of told.left.machine in
     let steps = between_locks c.part.number told.settles.steps in record {
       text = text;
-      so = (steps, record {
-        tells = answers text steps (record {
-          found = told.found;
-          left = told.left;
-          sound_before = told.sound_before;
-          settles = told.settles;
-          sound_after = told.sound_after;
-          told = refl;
-        }) refl;
-        grew = served_grew on.frames cmd.Settle Done told.found told.left c d told.settles;
-      });
+      so = (
+        steps,
+        record {
+          tells = answers text steps (record {
+            found = told.found;
+            left = told.left;
+            sound_before = told.sound_before;
+            settles = told.settles;
+            sound_after = told.sound_after;
+            told = refl;
+          }) refl;
+          grew = served_grew on.frames cmd.Settle Done told.found told.left c d told.settles;
+        },
+      );
       added = told.told;
     }
 
@@ -177,25 +187,31 @@ visits_named on command named c d r old new is adds = subst (λ (x : Command). A
 pub looks_visited : {tells : LockedState → KnownMachine → Type 0} (on : KnownSystem) (command : Command) (c d : CpuInRun) (text : List ℕ)
     → (told : ReadsAfterSettling on.frames on.stocks tells c d) → VisitsCommand on command (between_locks c.part.number told.settles.steps) c d text
     → ServesByVisits on command c d text
-looks_visited on command c d text told answers = (between_locks c.part.number told.settles.steps, record {
-  tells = answers;
-  grew = served_grew on.frames cmd.Settle Done told.found told.settled c d told.settles;
-})
+looks_visited on command c d text told answers = (
+  between_locks c.part.number told.settles.steps,
+  record {
+    tells = answers;
+    grew = served_grew on.frames cmd.Settle Done told.found told.settled c d told.settles;
+  },
+)
 
 -- a text of the units of what a visit found, or the refusal
 pub units_visited : {tells : LockedState → KnownMachine → Type 0} (on : KnownSystem) (path : Bor (List ℕ)) (c d : CpuInRun)
     → (told : ReadsAfterSettling on.frames on.stocks tells c d) → (text : List ℕ)
     → IsUnitsText (number_at told.settled.machine.ledger.groups path.now) (refusal_text NoGroup) text told.settled.machine told.left.machine
     → ServesByVisits on (Units path) c d text
-units_visited on path c d told text is = looks_visited on (Units path) c d text told (record {
-  found = told.found;
-  settled = told.settled;
-  left = told.left;
-  sound_before = told.sound_before;
-  settles = told.settles;
-  sound_after = told.sound_after;
-  told = is;
-}, refl)
+units_visited on path c d told text is = looks_visited on (Units path) c d text told (
+  record {
+    found = told.found;
+    settled = told.settled;
+    left = told.left;
+    sound_before = told.sound_before;
+    settles = told.settles;
+    sound_after = told.sound_after;
+    told = is;
+  },
+  refl,
+)
 
 -- ---- one line
 

@@ -16,18 +16,24 @@ use Rattle.script_replay.proofs.visit_answers.visit_frame.Goals as goal
 pub returns-in_default : goal.returns-in_default
 returns-in_default g c = let found = c.in_default.ensures in record {
   text = unlocked_text (unlocked.Refused NoGroup);
-  so = ([], record {
-    tells = record {
-      answer = Unlocked (unlocked.Refused NoGroup);
-      answered = (record {
-        locked = found.locked;
-        sound = found.sound;
-        so = record { none = sym found.so; same_locked = refl; same_cpu = refl };
-      }, refl);
-      text_is = refl;
-    };
-    grew = all_grew c.args.cpu.now.past [] c.args.cpu.now.past refl;
-  });
+  so = (
+    [],
+    record {
+      tells = record {
+        answer = Unlocked (unlocked.Refused NoGroup);
+        answered = (
+          record {
+            locked = found.locked;
+            sound = found.sound;
+            so = record { none = sym found.so; same_locked = refl; same_cpu = refl };
+          },
+          refl,
+        );
+        text_is = refl;
+      };
+      grew = all_grew c.args.cpu.now.past [] c.args.cpu.now.past refl;
+    },
+  );
   added = c.write_refusal.ensures;
 }
 
@@ -42,25 +48,28 @@ returns-in-Got g c =
     subst (λ (group : ℕ). MakesAlone cpu.part.number (steps_alone cpu.part.number (Fast group) said) cpu.past left.past) c.number.ensures.value
     (fast_made cpu.part.number cpu.past left.past c.number.result (Got c.in-Got.frame) cpu.part.stock_seat.view.last c.in-Got.ensures.run) in record {
       text = unlocked_text said;
-      so = (steps, record {
-        tells = record {
-          answer = Unlocked said;
-          answered = record {
-            locked = found.locked;
-            sound = found.sound;
-            so = record {
-              gets = record {
-                group = c.in-Some.group;
-                found = sym found.so;
-                got = subst (λ (group : ℕ). FastAnswers group (Got c.in-Got.frame) cpu.part left.part) c.number.ensures.value c.in-Got.ensures.answer;
+      so = (
+        steps,
+        record {
+          tells = record {
+            answer = Unlocked said;
+            answered = record {
+              locked = found.locked;
+              sound = found.sound;
+              so = record {
+                gets = record {
+                  group = c.in-Some.group;
+                  found = sym found.so;
+                  got = subst (λ (group : ℕ). FastAnswers group (Got c.in-Got.frame) cpu.part left.part) c.number.ensures.value c.in-Got.ensures.answer;
+                };
+                steps_are = refl;
               };
-              steps_are = refl;
             };
+            text_is = refl;
           };
-          text_is = refl;
-        };
-        grew = alone_grew cpu.part.number steps cpu.past left.past made;
-      });
+          grew = alone_grew cpu.part.number steps cpu.past left.past made;
+        },
+      );
       added = c.write_fast.ensures;
     }
 

@@ -35,15 +35,18 @@ returns-in-Stock g c =
       answered = visits_named on c.args.command.now Stock c.args.cpu.now read.new.cpu read.result
           c.args.text.now read.new.text c.in-Stock.is (record {
             text = stock_line_text (visit_state_of (locked_state told.settled read.new.cpu));
-            so = looks_visited on Stock c.args.cpu.now read.new.cpu (stock_line_text (visit_state_of (locked_state told.settled read.new.cpu))) told (record {
-              found = told.found;
-              settled = told.settled;
-              left = told.left;
-              sound_before = told.sound_before;
-              settles = told.settles;
-              sound_after = told.sound_after;
-              told = record { text_is = refl; look = told.told.1 };
-            }, refl);
+            so = looks_visited on Stock c.args.cpu.now read.new.cpu (stock_line_text (visit_state_of (locked_state told.settled read.new.cpu))) told (
+              record {
+                found = told.found;
+                settled = told.settled;
+                left = told.left;
+                sound_before = told.sound_before;
+                settles = told.settles;
+                sound_after = told.sound_after;
+                told = record { text_is = refl; look = told.told.1 };
+              },
+              refl,
+            );
             added = told.told.0;
           });
     }
