@@ -1,5 +1,5 @@
 -- All steps of a replay and of its end are one legal run. Serves `replay_on_boot`, `check_on_boot`.
-use Rattle.std.proofs.Common.{◌≡◌, ◌∙◌, ℕ, List, [], ◌∷◌, ◌++◌, subst, sym}
+use Rattle.std.proofs.Common.{◌∙◌, ℕ, List, [], ◌∷◌, ◌++◌, subst, sym}
 use Rattle.std.proofs.lemmas.List.{length-map}
 use Rattle.frame_word.specs.Seats.{KnownTable}
 use Rattle.stock_word.specs.Stock.{KnownStockTable}
@@ -7,7 +7,7 @@ use Rattle.boot_words.specs.Pasts.{own_past}
 use Rattle.boot_words.specs.Words.{AreFrameWords, AreStockWords, IsRunOf}
 use Rattle.boot_words.proofs.Gaining.{the_run_so_far_is_legal}
 use Rattle.step_rules.specs.State.{State}
-use Rattle.step_rules.specs.After.{IsLegalRun, Run, state_of}
+use Rattle.step_rules.specs.After.{Run}
 use Rattle.mem_machine.specs.Interleaving.{zone_of}
 use Rattle.mem_system.specs.Cpus.{CpuInRun, pasts_of}
 use Rattle.script_lines.specs.declared.line.Line.{Line}
