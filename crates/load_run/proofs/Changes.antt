@@ -1,12 +1,11 @@
 -- The changes of a seat in a run, and how they grow with its past.
-use Rattle.std.proofs.Common.{◌≡◌, ◌∙◌, ℕ, ◌==◌, ◌&&◌, Bool, true, false, List, [], ◌∷◌, ◌++◌, cond, refl, ap, sym, subst, inl, inr, append_assoc}
+use Rattle.std.proofs.Common.{◌≡◌, ◌∙◌, ℕ, ◌==◌, ◌&&◌, Bool, true, false, [], ◌∷◌, ◌++◌, cond, refl, ap, sym, subst, inl, inr, append_assoc}
 use Rattle.std.specs.Prelude.{not}
 use Rattle.std.proofs.lemmas.Bool.{ne_eqb}
 use Rattle.std.proofs.lemmas.List.Elements.{filter-append}
 use Rattle.step_rules.specs.declared.step.Step.{Step}
 use Rattle.step_rules.specs.declared.step.Answer.{Answer}
 use Rattle.step_rules.specs.After.{Run}
-use Rattle.boot_words.specs.Allowed.{GrewBy}
 use Rattle.boot_words.specs.Growth.{AreChangesOf, GrewByAll, changes_nothing}
 use Rattle.boot_words.specs.Runs.{HasNoStepOf, OthersFollow}
 use Rattle.boot_words.specs.declared.view.Past.{Past}

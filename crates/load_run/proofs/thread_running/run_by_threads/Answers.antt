@@ -1,6 +1,6 @@
 -- Serves the contract of `run_by_threads`: what stands goes from the boot to the lines before `go`, from these to the
 -- look at all pasts, from that to the threads, and ends.
-use Rattle.std.proofs.Common.{◌≡◌, ◌∙◌, ◌≤◌, ℕ, false, List, [], ◌++◌, refl, arith, length, ap, subst, sym, take, drop}
+use Rattle.std.proofs.Common.{◌≡◌, ◌∙◌, ◌≤◌, ℕ, false, List, ◌++◌, refl, arith, length, ap, subst, sym, take, drop}
 use Rattle.std.proofs.lemmas.Result.{IfOk-at_ok, IfOk-weaker}
 use Rattle.mem_system.specs.Cpus.{CpuInRun}
 use Rattle.script_replay.specs.History.{Replays}
