@@ -1,5 +1,5 @@
 -- What each call does to the CPU of a thread, by its answer, and by which steps of the run.
-use Rattle.std.specs.Prelude.{◌≡◌, ◌≢◌, ◌≤◌, ◌⊎◌, ℕ, false, List, Ok, Option, Some}
+use Rattle.std.specs.Prelude.{◌≡◌, ◌≢◌, ◌+◌, ◌≤◌, ◌⊎◌, ℕ, false, List, length, Ok, Option, Some}
 use Rattle.std.specs.Borrow.{Bor}
 use Rattle.frame_word.specs.Seats.{KnownTable}
 use Rattle.frame_word.specs.declared.answers.Get.{Get}
@@ -13,7 +13,7 @@ use Rattle.group_tree.specs.declared.fault.Fault.TheVariants.{NotPinned, PinsFul
 use Rattle.boot_words.specs.Growth.{GrewByAll}
 use Rattle.boot_words.specs.Pasts.{own_past}
 use Rattle.cpu_part.specs.Calls.{DropAnswers, FastAnswers, PinAnswers, UnpinAnswers}
-use Rattle.cpu_part.specs.Cpus.{times}
+use Rattle.cpu_part.specs.Cpus.{most_pins, times}
 use Rattle.cpu_part.specs.Told.{steps_of_drop, steps_of_fast, steps_of_get, steps_of_put}
 use Rattle.cpu_part.specs.declared.answers.Dropped.{Dropped}
 use Rattle.cpu_part.specs.declared.answers.Dropped.TheVariants.{Listed, NeedVisit}
@@ -75,8 +75,9 @@ pub record Unpins (frame : ℕ) (put : Put) (from to : CpuInRun) : Type 0 where
   pub answers : UnpinAnswers frame put from.part to.part
   pub run : GrewByAll (own_past from.past) (steps_of_put from.part.number frame put) (own_past to.past)
 
--- the CPU made no step, and its part stays
-pub record MakesNone (from to : CpuInRun) : Type 0 where
+-- The CPU had as many pins and back frames as it can have. It made no step, and its part stays.
+pub record RefusesPin (from to : CpuInRun) : Type 0 where
+  pub full : length from.part.back + length from.part.pins ≡ most_pins
   pub part : to.part ≡ from.part
   pub past : own_past to.past ≡ own_past from.past
 
@@ -143,7 +144,7 @@ Calls frames stock_table (call.Release frame) from to (answer.Served outcome) =
 Calls frames stock_table (call.Get frame) from to answer.NoFrame = (frames.frames ≤ frame) × (to ≡ from)
 Calls frames stock_table (call.Get frame) from to (answer.Got got) = OnCpu (Pins frame got) from to
 Calls frames stock_table (call.Get frame) from to (answer.Refused fault) =
-    (fault ≡ PinsFull) × OnCpu MakesNone from to
+    (fault ≡ PinsFull) × OnCpu RefusesPin from to
 Calls frames stock_table (call.Put frame) from to answer.NoFrame = (frames.frames ≤ frame) × (to ≡ from)
 Calls frames stock_table (call.Put frame) from to (answer.Put put) = OnCpu (Unpins frame put) from to
 Calls frames stock_table (call.Put frame) from to (answer.Refused fault) =

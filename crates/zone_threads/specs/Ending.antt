@@ -43,7 +43,8 @@ EachPuts (from ∷ before) (to ∷ after) = PutsPins from to × EachPuts before 
 EachPuts before after = ⊥
 
 -- All that the CPU did from now to the end of the run. Its past is a beginning of the run. Behind it the CPU put each of
--- its pins, and made two visits: it was settled, and its list and its stock were emptied. It made no other step.
+-- its pins and made two visits, and made no other step. `settling` and `emptying` are the steps of any two visits here:
+-- that the first settles the CPU, and that the second empties its list and stock, is said by `EndsParts` (`ends.visits`).
 pub record EndsCpu (run : Run) (cpu : CpuInRun) : Type 0 where
   pub puts : List MadePut
   pub pins : IsPermutation cpu.part.pins (frames_put puts)
@@ -58,7 +59,8 @@ pub record EndsCpu (run : Run) (cpu : CpuInRun) : Type 0 where
   pub is_last : IsPastOf run last
 
 -- The zone ended so, with these parts of all its CPUs. Some sound value was behind the lock, the CPUs put their pins, and
--- the boot ended. The steps of all CPUs, from the boot on, are one legal run (`ends.closes`).
+-- the boot ended. One legal run leads to the words of the table (`ends.closes`), and the past of each CPU is a beginning
+-- of it (`each`).
 pub record EndsParts (frames : KnownTable) (stock_table : KnownStockTable) (parts : List CpuInRun) (audit : Audit)
     : Type 0 where
   pub left : List CpuInRun
@@ -68,7 +70,7 @@ pub record EndsParts (frames : KnownTable) (stock_table : KnownStockTable) (part
   pub ends : Ends frames stock_table locked left audit
   pub each : AllOf (EndsCpu ends.closes.run) parts
 
--- the parked parts had so many pins, the zone ended so, and what was counted adds up
+-- these parked parts had so many pins, the zone ended so with them, and what was counted adds up
 pub record EndsZone (frames : KnownTable) (stock_table : KnownStockTable) (ended : ZoneEnd) : Type 0 where
   pub parked : List CpuInRun
   pub held_is : ended.held ≡ pins_of_all (parts_of parked)

@@ -2,8 +2,8 @@
 
 ghost use Rattle.std.specs.Prelude.{◌≡◌, [], IfSome, length};
 ghost use Rattle.mem_system.specs.Cpus.{parts_of};
-ghost use Rattle.mem_system.specs.Ends.{AddsUp, pins_of_all};
-ghost use Rattle.zone_threads.specs.Ending.{EndsParts, EndsZone, PutsPins};
+ghost use Rattle.mem_system.specs.Ends.{pins_of_all};
+ghost use Rattle.zone_threads.specs.Ending.{EndsParts, PutsPins};
 
 use crate::behind::Behind;
 use cpu_part::{BootName, Tables};
@@ -22,7 +22,7 @@ pub struct ZoneEnd {
 /// Ends a zone by its parts, once no thread has a CPU. Pins that are still held are put first. `None` if the part of a CPU
 /// isn't there, which no call leaves so: the parts stay in memory then.
 pub fn end_parts<N: BootName>(tables: Tables<N>, behind: Behind<N>) -> Option<ZoneEnd>
-    ensures ends { IfSome result (λ ended. EndsZone N.frames N.stocks ended) }
+    ensures ends { IfSome result (λ ended. EndsParts N.frames N.stocks behind.parked ended.audit) }
     ensures held { IfSome result (λ ended. ended.held ≡ pins_of_all (parts_of behind.parked)) }
 {
     let Behind { locked, parked } = behind;
@@ -49,8 +49,7 @@ pub fn end_parts<N: BootName>(tables: Tables<N>, behind: Behind<N>) -> Option<Zo
 // Puts all pins, and ends the zone.
 fn end_pinned<N: BootName>(locked: Locked<N>, tables: Tables<N>, mut cpus: Vec<Cpu<N>>) -> Audit
     requires count { length cpus.items ≡ N.frames.cpus }
-    ensures ends { EndsParts N.frames N.stocks cpus.items result }
-    ensures adds_up { AddsUp result }
+    ensures { EndsParts N.frames N.stocks cpus.items result }
 {
     for cpu in cpus.iter_mut() {
         put_all(&tables, cpu);

@@ -18,8 +18,8 @@ loop-cpu-preserved g c =
       each_more _ _ _ _ _ inside c.loop-cpu.invariant.2 c.put_all.ensures.puts,
     )
 
-pub returns-clause-ends : goal.returns-clause-ends
-returns-clause-ends g c =
+pub returns : goal.returns
+returns g c =
     let quiet = c.prove_quiet.ensures in
     let first = c.deref_mut-cpu-items.ensures.value in
     let long = c.loop-cpu.auto.cpu-items ∙ ap length first in
