@@ -84,12 +84,13 @@ pub record IsQuietSystem (frames : KnownTable) (stock_table : KnownStockTable) (
 
 -- What a boot with these sizes answers to the lines by threads. Those before `go` are served one after the other, as a
 -- replay serves them, and led to `replayed`. Then all pasts were looked at, and from `at_go` each CPU was answered its own
--- among the lines from `go` on, up to `end`, and told its steps. Then all pasts were looked at again, and from `at_end` the
--- boot ended. All steps are one legal run, `whole`: the run that all had seen when the threads had ended, and then the
--- steps of the end. What is left in the words of the boot's table is what it leads to. The promise holds after each
--- beginning of it that leaves the lock free. It begins with the steps of the lines before `go`. Behind these each CPU
--- changes, up to the steps of the end, just what the steps change that its answers tell, in their order. What a CPU had
--- seen after its lines is a beginning of the run, so the run shows each of its visits.
+-- among the lines from `go` on, and told its steps. When all threads had ended, at `end`, all pasts were looked at again,
+-- and from `at_end` the boot ended. The first look shows the run of the lines before `go`, with steps that change nothing
+-- among them. The second look shows a run that goes on from it. Behind the first run, each CPU changes in the second just
+-- what the steps change that its answers tell, in their order. All steps, `whole`, are the second run and then the steps of
+-- the end. They are one legal run, and what is left in the words of the boot's table is what it leads to. The promise holds
+-- after each beginning of it that leaves the lock free. What a CPU had seen after its lines is a beginning of the run, so
+-- the run shows each of its visits.
 pub record AreThreadAnswers (sizes : Config) (is_numbered is_audited : Bool) (lines : List Line) (text : List ℕ)
     : Type 0 where
   pub frames : KnownTable
