@@ -16,7 +16,7 @@ use Rattle.load_run.specs.Survey.{ChangesFollow, changes_by}
 abbrev pub is_change : ℕ → Step × Answer → Bool
 is_change seat e = e.0.seat == seat && not (changes_nothing e.1)
 
-pub changes_both : (seat : ℕ) (xs ys : Run) → changes_by seat (xs ++ ys) ≡ changes_by seat xs ++ changes_by seat ys
+changes_both : (seat : ℕ) (xs ys : Run) → changes_by seat (xs ++ ys) ≡ changes_by seat xs ++ changes_by seat ys
 changes_both seat xs ys = filter-append (is_change seat) xs ys
 
 -- a step that is no change of the seat
@@ -27,7 +27,7 @@ and_false : (b : Bool) → (b && false) ≡ false
 and_false true = refl
 and_false false = refl
 
-pub no_change : (seat : ℕ) (run : Run) → HasNoStepOf seat run → changes_by seat run ≡ []
+no_change : (seat : ℕ) (run : Run) → HasNoStepOf seat run → changes_by seat run ≡ []
 no_change seat [] none = refl
 no_change seat (e ∷ run) none =
     not_one seat e run (ap (λ (b : Bool). b && not (changes_nothing e.1)) (ne_eqb e.0.seat seat none.0)) ∙ no_change seat run none.1

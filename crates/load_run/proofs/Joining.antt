@@ -1,5 +1,5 @@
 -- The answers of the early lines and those of the later, joined, and all steps as one run. Serves `run_by_threads`.
-use Rattle.std.proofs.Common.{◌≡◌, ◌∙◌, ◌≤◌, ℕ, zero, suc, ◌+◌, Bool, false, Some, List, [], ◌∷◌, ◌++◌, All, length, take, drop, refl, ap, sym, subst, arith}
+use Rattle.std.proofs.Common.{◌≡◌, ◌∙◌, ◌≤◌, ℕ, zero, suc, ◌+◌, Bool, false, Some, List, [], ◌∷◌, ◌++◌, All, length, take, drop, refl, ap, sym, subst, arith, append-nil}
 use Rattle.std.specs.Prelude.{option_map, slice_get}
 use Rattle.std.proofs.lemmas.List.Elements.{All-take, All-drop}
 use Rattle.std.proofs.lemmas.Option.{get_or_from_slice_get, slice_get-map}
@@ -12,6 +12,7 @@ use Rattle.boot_words.specs.declared.view.Past.{Past}
 use Rattle.boot_words.specs.Growth.{IsRunSoFar}
 use Rattle.boot_words.specs.Pasts.{own_past}
 use Rattle.boot_words.specs.Rule.{AllOf}
+use Rattle.boot_words.specs.Runs.{OthersFollow}
 use Rattle.mem_core.proofs.Keeping.{always_keeps}
 use Rattle.mem_machine.specs.Interleaving.{zone_of}
 use Rattle.mem_system.specs.Boots.{IsSizedAs, KnownSystem}
@@ -28,11 +29,11 @@ use Rattle.script_replay.proofs.Seeing.{all_lines_go_on, legal_histories_keep_it
 use Rattle.load_run.specs.declared.boot_end.BootEnd.{BootEnd}
 use Rattle.load_run.specs.Answers.{AreThreadAnswers, IsNewBootState, IsQuietSystem}
 use Rattle.load_run.specs.Ending.{EndsHeld, boot_end_text}
-use Rattle.load_run.specs.Survey.{ChangesFollow, HasSeen, SeesAllPasts}
+use Rattle.load_run.specs.Survey.{AreNumbered, HasPast, ChangesFollow, HasSeen, SeesAllPasts}
 use Rattle.load_run.proofs.Changes.{follow_both, grew_follow, grew_number, others_follow, same_changes}
-use Rattle.load_run.proofs.Ended.{AreNumberedFrom, ends_follow}
 use Rattle.load_run.proofs.Starting.{boot_agrees, boot_shown, lines_there, parts_tied}
 use Rattle.load_run.proofs.Surveying.{at_index}
+use Rattle.load_run.proofs.Whole.{whole_run}
 
 -- what the first of the lines name is there
 pub early_there : (sizes : Config) (t : KnownTable) (w : KnownStockTable) (n parts : ℕ) (lines early : List Line) → IsSizedAs sizes t w
@@ -105,21 +106,27 @@ module _ (beginning : Run) (z : Past) (tables : KnownSystem) (before after : Lis
       subst (λ (n : ℕ). ChangesFollow n beginning tells.steps (own_past cpu.past).seen) (number_before index tells.cpu tells.cpu_is)
       (record { rest = made.rest; is = made.is; changes = made.changes ∙ same_changes was.number tells.grew.made tells.steps tells.grew.changes })
 
-  numbers_after : AreNumberedFrom 1 after
+  numbers_after : AreNumbered (pasts_of after)
   numbers_after index p at =
       let cpu = cpu_at after index p at in
       let tells = tells_at tables 1 before after lines is_numbered told text all index cpu.0 cpu.1 in
-      let grown = grew_number (own_past tells.cpu.past) tells.grew.made (own_past (cpu.0).past) tells.grew.grew in
-      let was = number_before index tells.cpu tells.cpu_is in
-      let same = ap (λ (q : Past). q.number) cpu.2 in omega (arith, grown, was, same)
+      ap (λ (q : Past). q.number) cpu.2 ∙ grew_number (own_past tells.cpu.past) tells.grew.made (own_past (cpu.0).past) tells.grew.grew
+      ∙ number_before index tells.cpu tells.cpu_is
 
-  module _ (t : KnownTable) (w : KnownStockTable) (end : SystemState) (end_is : end.cpus ≡ after) (ended : BootEnd) (ends : EndsHeld t w end ended) where
-    end_follows : (index : ℕ) (cpu : CpuInRun) → slice_get after index ≡ Some cpu
-        → ChangesFollow (suc index) (own_past cpu.past).seen ends.leaves.steps ends.closes.run
-    end_follows index cpu at =
-        subst (λ (n : ℕ). ChangesFollow n (own_past cpu.past).seen ends.leaves.steps ends.closes.run) (omega arith)
-        (ends_follow t w end ended ends (subst (AreNumberedFrom 1) (sym end_is) numbers_after) index (own_past cpu.past)
-        (subst (λ (l : List CpuInRun). slice_get (pasts_of l) index ≡ Some (own_past cpu.past)) (sym end_is) (past_at after index cpu at)))
+  -- what all have seen then begins with it
+  module _ (then : Run) (begins : AllOf (HasPast then) (pasts_of after)) where
+    others_after : (index : ℕ) (cpu : CpuInRun) → slice_get after index ≡ Some cpu → OthersFollow (suc index) (own_past cpu.past).seen then
+    others_after index cpu at =
+        subst (λ (n : ℕ). OthersFollow n (own_past cpu.past).seen then) (numbers_after index (own_past cpu.past) (past_at after index cpu at))
+        (at_index (HasPast then) (pasts_of after) index (own_past cpu.past) begins (past_at after index cpu at))
+
+    all_follow : (index : ℕ) (cpu : CpuInRun) (at : slice_get after index ≡ Some cpu)
+        → ChangesFollow (suc index) beginning (tells_at tables 1 before after lines is_numbered told text all index cpu at).steps then
+    all_follow index cpu at =
+        let steps = (tells_at tables 1 before after lines is_numbered told text all index cpu at).steps in
+        subst (λ (r : Run). ChangesFollow (suc index) beginning r then) (append-nil steps)
+        (follow_both (suc index) beginning steps (own_past cpu.past).seen [] then (lines_follow index cpu at)
+        (others_follow (suc index) (own_past cpu.past).seen then (others_after index cpu at)))
 
 -- ---- the answers
 
@@ -130,17 +137,17 @@ first_there : (cpus : List CpuInRun) → 1 ≤ length cpus → (cpu : CpuInRun) 
 first_there [] some = absurd (omega (arith, some))
 first_there (c ∷ cpus) some = (c, refl)
 
--- the early lines were served from the boot on, all pasts were looked at, the later lines were answered by CPU, and the
--- boot ended: these are the answers
+-- the early lines were served from the boot on, all pasts were looked at, the later lines were answered by CPU, all pasts
+-- were looked at again, and the boot ended: these are the answers
 pub are_answers : (sizes : Config) (is_numbered is_audited : Bool) (t : KnownTable) (w : KnownStockTable) (lines first_lines other_lines : List Line)
-    (start replayed at_go end : SystemState) (early later text : List ℕ) (told : List Run) (ended : BootEnd) → IsNewBootState sizes t w start
+    (start replayed at_go end at_end : SystemState) (early later text : List ℕ) (told : List Run) (ended : BootEnd) → IsNewBootState sizes t w start
     → first_lines ≡ take (lines_before_go lines) lines → other_lines ≡ drop (lines_before_go lines) lines
     → Replays (numbered_terms t w false is_numbered) first_lines start replayed early → SeesAllPasts t replayed at_go
     → AreAllAnswers (boot_tables t w) (workers_from 1 at_go.cpus other_lines is_numbered) end.cpus told later
-    → IsQuietSystem t w end → EndsHeld t w end ended
+    → IsQuietSystem t w end → SeesAllPasts t end at_end → EndsHeld t w at_end ended
     → text ≡ (early ++ later) ++ boot_end_text is_audited ended → AreThreadAnswers sizes is_numbered is_audited lines text
-are_answers sizes is_numbered is_audited t w lines first_lines other_lines start replayed at_go end early later text told ended new is_first is_other served
-    sees all quiet ends is =
+are_answers sizes is_numbered is_audited t w lines first_lines other_lines start replayed at_go end at_end early later text told ended new is_first is_other served
+    sees all quiet sees_end ends is =
     let on = numbered_terms t w false is_numbered in
     let front = take (lines_before_go lines) lines in
     let replays = subst (λ (l : List Line). Replays on l start replayed early) is_first served in
@@ -151,14 +158,18 @@ are_answers sizes is_numbered is_audited t w lines first_lines other_lines start
     let rest = drop (lines_before_go lines) lines in
     let z = own_past at_go.locked.machine.run.past in
     let told_at = tells_at (boot_tables t w) 1 at_go.cpus end.cpus rest is_numbered told later tells in
-    let its_lines = lines_follow sees.beginning z (boot_tables t w) at_go.cpus end.cpus rest is_numbered told later sees.seen.1 run (sees.goes_on run has) tells in
-    let its_end = end_follows sees.beginning z (boot_tables t w) at_go.cpus end.cpus rest is_numbered told later sees.seen.1 run (sees.goes_on run has) tells t w end refl
-    ended ends in
+    let goes = sees.goes_on run has in
+    let its_lines = all_follow sees.beginning z (boot_tables t w) at_go.cpus end.cpus rest is_numbered told later sees.seen.1 run goes tells sees_end.beginning
+    sees_end.begins.1 in
+    let its_past = others_after sees.beginning z (boot_tables t w) at_go.cpus end.cpus rest is_numbered told later sees.seen.1 run goes tells sees_end.beginning
+    sees_end.begins.1 in
+    let numbers = numbers_after sees.beginning z (boot_tables t w) at_go.cpus end.cpus rest is_numbered told later sees.seen.1 run goes tells in
+    let last = whole_run t w sees_end.beginning at_end ended (sees_end.is_run numbers) ends in
     let low = quiet.quiet.valid.cpus_low in
     let sized = quiet.quiet.sized.cpus in
     let count = quiet.count in
     let first = first_there end.cpus (omega (arith, low, sized, count)) in
-    let behind = follow_both 1 sees.beginning _ (own_past (first.0).past).seen _ ends.closes.run (its_lines 0 first.0 first.1) (its_end 0 first.0 first.1) in
+    let behind = its_lines 0 first.0 first.1 in
     record {
       frames = t;
       stocks = w;
@@ -166,6 +177,7 @@ are_answers sizes is_numbered is_audited t w lines first_lines other_lines start
       replayed = replayed;
       at_go = at_go;
       end = end;
+      at_end = at_end;
       run = run;
       told = told;
       early = early;
@@ -178,19 +190,20 @@ are_answers sizes is_numbered is_audited t w lines first_lines other_lines start
       sees = sees;
       tells = tells;
       quiet = quiet;
+      sees_end = sees_end;
       ends = record { ended = ended; ends = ends; text_is = refl };
-      whole = ends.closes.run;
+      whole = sees_end.beginning ++ ends.leaves.steps;
       whole_is = refl;
-      legal = ends.closes.is.legal;
-      promise = always_keeps (zone_of t) ends.closes.run ends.closes.is.legal;
-      last = ends.closes.is;
+      legal = last.legal;
+      promise = always_keeps (zone_of t) (sees_end.beginning ++ ends.leaves.steps) last.legal;
+      last = last;
       begins = record { rest = behind.rest; is = behind.is };
       changes = sees.changes run has;
       each = λ index cpu steps at steps_are.
           let tells = told_at index cpu at in (
-            subst (λ (r : Run). ChangesFollow (suc index) sees.beginning r (own_past cpu.past).seen) (same_some tells.steps steps (sym tells.steps_are ∙ steps_are))
+            subst (λ (r : Run). ChangesFollow (suc index) sees.beginning r sees_end.beginning) (same_some tells.steps steps (sym tells.steps_are ∙ steps_are))
                 (its_lines index cpu at),
-            its_end index cpu at,
+            its_past index cpu at,
           );
       text_is = is;
     }

@@ -2,7 +2,6 @@ pub mod Answering
 pub mod Causing
 pub mod Changes
 pub mod Driving
-pub mod Ended
 pub mod Joining
 mod Pieces
 pub mod Putting

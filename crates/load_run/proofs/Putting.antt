@@ -1,5 +1,5 @@
 -- Pins that are put, one after the other, and the steps that the watch takes of them.
-use Rattle.std.proofs.Common.{◌≡◌, ℕ, ◌<◌, Some, List, [], ◌∷◌, ◌++◌, ◌∙◌, length, refl, sym, ap, subst, arith, append_assoc, append-nil}
+use Rattle.std.proofs.Common.{◌≡◌, ℕ, ◌<◌, Some, List, [], ◌∷◌, ◌++◌, length, refl, sym, ap, subst, arith, append_assoc, append-nil}
 use Rattle.std.specs.Prelude.{slice_get, slice_set}
 use Rattle.std.proofs.lemmas.List.Sums.{sum_by-append}
 use Rattle.frame_word.specs.Seats.{KnownTable}
@@ -7,10 +7,9 @@ use Rattle.stock_word.specs.Stock.{KnownStockTable}
 use Rattle.frame_word.specs.declared.answers.Put.{Put}
 use Rattle.frame_word.specs.declared.answers.Put.TheVariants.{Left, Last}
 use Rattle.boot_words.specs.declared.view.Past.{Past}
-use Rattle.boot_words.specs.Pasts.{Meets, own_past, put_said}
-use Rattle.boot_words.specs.Growth.{GainsSteps, GrewByAll, IsRunSoFar, SeesMore}
-use Rattle.boot_words.proofs.Gaining.{gains_both, gains_go_on, grown_number, none_gains}
-use Rattle.step_rules.specs.declared.step.Action.TheVariants.{Put as Puts}
+use Rattle.boot_words.specs.Pasts.{Meets, own_past}
+use Rattle.boot_words.specs.Growth.{GainsSteps, GrewByAll, IsRunSoFar}
+use Rattle.boot_words.proofs.Gaining.{gains_both, gains_go_on, none_gains}
 use Rattle.step_rules.specs.declared.step.Answer.{Answer}
 use Rattle.step_rules.specs.declared.step.Step.{Step}
 use Rattle.step_rules.specs.After.{Run}
@@ -18,10 +17,9 @@ use Rattle.cpu_part.specs.Cpus.{KnownCpu}
 use Rattle.cpu_part.specs.Calls.{UnpinAnswers}
 use Rattle.cpu_part.specs.Told.{steps_of_put}
 use Rattle.cpu_part.proofs.Tied.{length_parted}
-use Rattle.step_watch.specs.Watched.{Watches, cpu_makes}
+use Rattle.step_watch.specs.Watched.{Watches}
 use Rattle.step_watch.proofs.Watching.{watches_both, watches_none}
 use Rattle.mem_machine.specs.Machines.{KnownMachine, with_past}
-use Rattle.mem_history.specs.Leading.{put_answer}
 use Rattle.mem_system.specs.Cpus.{CpuInRun, parts_of, pasts_of}
 use Rattle.mem_system.specs.Ends.{ForEachCpu, KnownEmptiedBoot, MachineAndCpu, MakesLastVisits, machine_and_cpu, pins_of_all}
 use Rattle.mem_system.specs.Locked.{KnownLocked}
@@ -30,8 +28,6 @@ use Rattle.script_replay.specs.Answers.{OnlyWatched}
 use Rattle.script_replay.proofs.Gaining.{met_gains, met_saw, put_made, saw_both, watched_gains, watched_saw}
 use Rattle.script_replay.specs.Lines.{SystemState, system_state}
 use Rattle.load_run.specs.Ending.{LeavesNothing, PutsAllPins, PutsEach, PutsHeldPin, put_steps, steps_of_all_puts, steps_of_puts}
-use Rattle.load_run.specs.Survey.{ChangesFollow}
-use Rattle.load_run.proofs.Changes.{follow_both, grew_follow, others_follow}
 
 -- ---- lists
 
@@ -46,23 +42,6 @@ set_seam [] x y ys = refl
 set_seam {X = X} (z ∷ xs) x y ys = ap (λ (l : List X). z ∷ l) (set_seam xs x y ys)
 
 -- ---- a put
-
-said_same : (answer : Put) → put_said answer ≡ put_answer answer
-said_same (Left n) = refl
-said_same Last = refl
-
--- the CPU's past goes on by the put, and by others' steps at the meetings
-put_follows : (n : ℕ) (c c1 c2 c3 : Past) (f : ℕ) (answer : Put) → SeesMore c c1 → GrewByAll c1 (steps_of_put n f answer) c2 → SeesMore c2 c3
-    → ChangesFollow c.number c.seen (put_steps n f answer) c3.seen
-put_follows n c c1 c2 c3 f answer first grew second =
-    let k = c.number in
-    let steps = steps_of_put n f answer in
-    let met : (p q : Past) → SeesMore p q → p.number ≡ k → ChangesFollow k p.seen [] q.seen = λ p q more is.
-    subst (λ (j : ℕ). ChangesFollow j p.seen [] q.seen) is (others_follow p.number p.seen q.seen (record { rest = more.between; is = more.seen; others = more.others })) in
-    let one = subst (λ (j : ℕ). ChangesFollow j c1.seen steps c2.seen) first.number (grew_follow c1 steps c2 grew) in
-    let two = met c2 c3 second (grown_number c1 steps c2 grew ∙ first.number) in
-    subst (λ (a : Answer). ChangesFollow k c.seen (cpu_makes n (Puts f) a ∷ []) c3.seen) (said_same answer)
-    (follow_both k c.seen [] c1.seen steps c3.seen (met c c1 first refl) (follow_both k c1.seen steps c2.seen [] c3.seen one two))
 
 -- a put between two meetings, which the watch took then
 pub put_met : (t : KnownTable) (l l1 l2 m : KnownLocked) (c c1 c2 c3 : CpuInRun) (f : ℕ) (answer : Put) (made : Step × Answer)
@@ -83,9 +62,6 @@ put_met t l l1 l2 m c c1 c2 c3 f answer made in_run one same first unpins grew t
       machine = ap (λ (x : KnownLocked). x.machine) saw.locked;
       watched = saw.watched;
       gains = watched_gains steps steps (locked_state l c) l2 m c3 gains took;
-      number = in_run;
-      goes_on = subst (λ (p : KnownCpu). ChangesFollow (own_past c.past).number (own_past c.past).seen (put_steps p.number f answer) (own_past c3.past).seen)
-          same (put_follows c1.part.number (own_past c.past) (own_past c1.past) (own_past c2.past) (own_past c3.past) f answer first.cpu_sees grew second.cpu_sees);
     }
 
 -- ---- the puts of a CPU

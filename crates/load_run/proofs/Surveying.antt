@@ -12,19 +12,19 @@ use Rattle.step_rules.proofs.Answering.{only_seats_act}
 use Rattle.step_rules.proofs.PhaseLemmas.{none_some}
 use Rattle.step_rules.proofs.Runs.{legal_more}
 use Rattle.boot_words.specs.declared.view.Past.{Past}
-use Rattle.boot_words.specs.Growth.{AreChangesOf, IsRunSoFar, SeesMore, changes_nothing, changes_of}
+use Rattle.boot_words.specs.Growth.{AreChangesOf, HasInOrder, IsRunSoFar, SeesMore, changes_nothing, changes_of}
 use Rattle.boot_words.specs.Pasts.{IsZonePast, own_past}
 use Rattle.boot_words.specs.Rule.{AllOf, IsPastOf}
 use Rattle.boot_words.specs.Runs.{HasNoStepOf}
 use Rattle.boot_words.proofs.Gaining.{sees_changes, sees_in_order, the_run_so_far_is_legal}
 use Rattle.boot_words.proofs.Holding.{allowed_at, append_none}
-use Rattle.boot_words.proofs.Ordered.{IsSeatOfChange, only_quiet_are_left_out, others_add_none}
+use Rattle.boot_words.proofs.Ordered.{IsSeatOfChange, has_behind, only_quiet_are_left_out, others_add_none}
 use Rattle.mem_machine.specs.Machines.{KnownMachine, with_past}
 use Rattle.mem_machine.specs.Interleaving.{zone_of}
 use Rattle.mem_system.specs.Cpus.{CpuInRun, parts_of, pasts_of}
 use Rattle.mem_system.specs.Ends.{ForEachCpu}
 use Rattle.script_replay.specs.Lines.{SystemState}
-use Rattle.load_run.specs.Survey.{HasSeen, MeetsZone, SeesAllPasts}
+use Rattle.load_run.specs.Survey.{AreNumbered, HasPast, HasSeen, MeetsZone, SeesAllPasts}
 
 -- ---- steps of others
 
@@ -42,6 +42,14 @@ sees_both a b c one two = record {
   others = none_both a.number one.between two.between one.others (subst (λ (n : ℕ). HasNoStepOf n two.between) one.number two.others);
   number = two.number ∙ one.number;
   seen = two.seen ∙ ap (λ (r : Run). r ++ two.between) one.seen ∙ append_assoc a.seen one.between two.between;
+}
+
+-- a run that begins with a past begins with the one before
+begins_before : (a b : Past) (run : Run) → SeesMore a b → HasPast run b → HasPast run a
+begins_before a b run more goes = record {
+  rest = more.between ++ goes.rest;
+  is = goes.is ∙ ap (λ (r : Run). r ++ goes.rest) more.seen ∙ append_assoc a.seen more.between goes.rest;
+  others = none_both a.number more.between goes.rest more.others (subst (λ (n : ℕ). HasNoStepOf n goes.rest) more.number goes.others);
 }
 
 -- ---- lists
@@ -86,6 +94,25 @@ are_changes zone steps z cpus legal count pasts so_far =
         ∙ others_add_none (suc index) p.seen goes.rest (subst (λ (n : ℕ). HasNoStepOf n goes.rest) (so_far.number index p at) goes.others)
         ∙ so_far.of_cpu index p at
 
+-- ---- a run that all have seen
+
+in_own_order : (run : Run) → HasInOrder run run
+in_own_order [] = refl
+in_own_order (e ∷ run) = inr (run, refl, in_own_order run)
+
+seen_changes : (run : Run) (p : Past) (seat : ℕ) → HasSeen run p → p.number ≡ seat → changes_of seat p.seen ≡ changes_of seat run
+seen_changes run p seat has is =
+    ap (changes_of seat) has.is ∙ others_add_none seat run has.rest (subst (λ (n : ℕ). HasNoStepOf n has.rest) is has.others)
+
+-- it is the run so far
+seen_run : (run : Run) (z : Past) (cpus : List Past) → AllOf (HasSeen run) (z ∷ cpus) → z.number ≡ 0 → AreNumbered cpus → IsRunSoFar run z cpus
+seen_run run z cpus seen is_zone numbers = record {
+  in_order = subst (λ (r : Run). HasInOrder r run) (sym (seen.0).is) (has_behind run run (seen.0).rest (in_own_order run));
+  of_zone = seen_changes run z 0 seen.0 is_zone;
+  number = numbers;
+  of_cpu = λ index p at. seen_changes run p (suc index) (at_index (HasSeen run) cpus index p seen.1 at) (numbers index p at);
+}
+
 -- ---- a round of meetings
 
 module _ (t : KnownTable) where
@@ -109,6 +136,11 @@ module _ (t : KnownTable) where
   cpu_sees m (c ∷ cpus) n (d ∷ left) round zero q at =
       (own_past c.past, refl, subst (SeesMore (own_past c.past)) (get_or_from_slice_get (pasts_of (d ∷ left)) 0 q (own_past d.past) at) round.first.meets.cpu_sees)
   cpu_sees m (c ∷ cpus) n (d ∷ left) round (suc index) q at = cpu_sees round.between cpus n left round.rest index q at
+
+  stays_numbered : (m : KnownMachine) (cpus : List CpuInRun) (n : KnownMachine) (left : List CpuInRun) → Round m cpus n left → AreNumbered (pasts_of cpus)
+      → AreNumbered (pasts_of left)
+  stays_numbered m cpus n left round numbers index q at =
+      let p = cpu_sees m cpus n left round index q at in p.2.number ∙ numbers index p.0 p.1
 
   -- nothing but pasts has changed
   same_machine : (m : KnownMachine) (cpus : List CpuInRun) (n : KnownMachine) (left : List CpuInRun) → Round m cpus n left → n ≡ with_past m n.run.past
@@ -134,7 +166,7 @@ module _ (t : KnownTable) where
       record {
         in_order = sees_in_order z z' steps zone so_far.in_order;
         of_zone = subst (λ (k : ℕ). changes_of k z'.seen ≡ changes_of k z.seen) is_zone (sees_changes z z' zone) ∙ so_far.of_zone;
-        number = λ index q at. let p = cpu_sees m cpus n left round index q at in p.2.number ∙ so_far.number index p.0 p.1;
+        number = stays_numbered m cpus n left round so_far.number;
         of_cpu = λ index q at.
             let p = cpu_sees m cpus n left round index q at in
             subst (λ (k : ℕ). changes_of k q.seen ≡ changes_of k (p.0).seen) (so_far.number index p.0 p.1) (sees_changes p.0 q p.2) ∙ so_far.of_cpu index p.0 p.1;
@@ -142,12 +174,12 @@ module _ (t : KnownTable) where
 
   -- ---- two rounds
 
-  -- Let the zone have seen this run after the first round. Each CPU's past of that round is a beginning of it, and at the
-  -- second round the CPU sees it, and nothing of its own behind the beginning.
+  -- Let the zone have seen this run after the first round. Each CPU's past before and after that round is a beginning of it,
+  -- and at the second round the CPU sees it, and nothing of its own behind the beginning.
   two_rounds : (seen : Run) (m : KnownMachine) (cpus : List CpuInRun) (n : KnownMachine) (mid : List CpuInRun) (x y : KnownMachine) (last : List CpuInRun)
       → Round m cpus n mid → Round x mid y last → seen ≡ (own_past n.run.past).seen → (more : Run) → (own_past x.run.past).seen ≡ seen ++ more
-      → AllOf (IsPastOf seen) (pasts_of mid) × AllOf (HasSeen seen) (pasts_of last)
-  two_rounds seen m [] n [] x y [] first second is more longer = (tt, tt)
+      → AllOf (HasPast seen) (pasts_of cpus) × AllOf (IsPastOf seen) (pasts_of mid) × AllOf (HasSeen seen) (pasts_of last)
+  two_rounds seen m [] n [] x y [] first second is more longer = (tt, tt, tt)
   two_rounds seen m [] n [] x y (e ∷ last) first second is more longer = absurd second
   two_rounds seen m [] n (d ∷ mid) x y last first second is more longer = absurd first
   two_rounds seen m (c ∷ cpus) n [] x y last first second is more longer = absurd first
@@ -169,9 +201,11 @@ module _ (t : KnownTable) where
       (sym (append_assoc p.seen rest later) ∙ ap (λ (r : Run). r ++ later) (sym begins) ∙ sym sees ∙ two.cpu_sees.seen) in
       let none = none_parts p.number rest later (subst (HasNoStepOf p.number) (sym same) two.cpu_sees.others) in
       let low = one.cpu_is.low in
+      let goes : HasPast seen p = record { rest = rest; is = begins; others = none.0 } in
       let rests = two_rounds seen first.between cpus n mid second.between y last first.rest second.rest is later zone in (
-        (record { goes = record { rest = rest; is = begins; others = none.0 }; leaves_lock = λ zero. absurd (omega (arith, low, zero)) }, rests.0),
-        (record { rest = later; is = sees; others = subst (λ (k : ℕ). HasNoStepOf k later) (sym two.cpu_sees.number) none.1 }, rests.1),
+        (begins_before (own_past c.past) p seen one.cpu_sees goes, rests.0),
+        (record { goes = goes; leaves_lock = λ zero. absurd (omega (arith, low, zero)) }, rests.1),
+        (record { rest = later; is = sees; others = subst (λ (k : ℕ). HasNoStepOf k later) (sym two.cpu_sees.number) none.1 }, rests.2),
       )
 
 -- what `survey` shows
@@ -190,6 +224,8 @@ sees_all t before mid after first second sizes still is_zone count =
     let so_far = λ (steps : Run) (has : IsRunSoFar steps (own_past m.run.past) (pasts_of before.cpus)).
     round_goes_on t steps m before.cpus n mid.cpus first (sym zone.number ∙ is_zone.zone_is) has in
     let here : IsPastOf z.seen z = record { goes = record { rest = []; is = sym (append_none z.seen); others = tt }; leaves_lock = λ zero. tt } in
+    let seen : AllOf (HasSeen z.seen) (own_past y.run.past ∷ pasts_of after.cpus) =
+    (record { rest = later.between; is = later.seen; others = subst (λ (k : ℕ). HasNoStepOf k later.between) (sym later.number) later.others }, pasts.2) in
     record {
       locked = λ i. record {
         machine = (same_machine t n mid.cpus y after.cpus second ∙ ap (λ (x : KnownMachine). with_past x y.run.past) (same_machine t m before.cpus n mid.cpus first)) i;
@@ -198,8 +234,11 @@ sees_all t before mid after first second sizes still is_zone count =
       parts = same_parts t n mid.cpus y after.cpus second ∙ same_parts t m before.cpus n mid.cpus first;
       beginning = z.seen;
       legal = is_zone.legal;
-      seen = (record { rest = later.between; is = later.seen; others = subst (λ (k : ℕ). HasNoStepOf k later.between) (sym later.number) later.others }, pasts.1);
-      changes = λ steps has. are_changes (zone_of t) steps z (pasts_of mid.cpus) is_zone.legal many pasts.0 (so_far steps has);
-      steps_legal = λ steps has. (the_run_so_far_is_legal (zone_of t) z.seen steps z (pasts_of mid.cpus) is_zone.legal is_zone.zone_is many (here, pasts.0) (so_far steps has)).0;
+      begins = (begins_before (own_past m.run.past) z z.seen zone here.goes, pasts.0);
+      seen = seen;
+      is_run = λ numbers. seen_run z.seen (own_past y.run.past) (pasts_of after.cpus) seen (later.number ∙ is_zone.zone_is) (stays_numbered t n mid.cpus y after.cpus second
+          (stays_numbered t m before.cpus n mid.cpus first numbers));
+      changes = λ steps has. are_changes (zone_of t) steps z (pasts_of mid.cpus) is_zone.legal many pasts.1 (so_far steps has);
+      steps_legal = λ steps has. (the_run_so_far_is_legal (zone_of t) z.seen steps z (pasts_of mid.cpus) is_zone.legal is_zone.zone_is many (here, pasts.1) (so_far steps has)).0;
       goes_on = λ steps has. round_goes_on t steps n mid.cpus y after.cpus second is_zone.zone_is (so_far steps has);
     }

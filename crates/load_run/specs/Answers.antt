@@ -9,6 +9,7 @@ use Rattle.zone_blocks.specs.Config.{IsValidConfig}
 use Rattle.step_rules.specs.After.{Run as StepRun, IsLegalRun}
 use Rattle.boot_words.specs.Growth.{AreChangesOf}
 use Rattle.boot_words.specs.Pasts.{own_past}
+use Rattle.boot_words.specs.Runs.{OthersFollow}
 use Rattle.boot_words.specs.Words.{IsRunOf}
 use Rattle.mem_core.specs.Promise.{AlwaysKeepsPromise}
 use Rattle.mem_machine.specs.Interleaving.{zone_of}
@@ -83,11 +84,13 @@ pub record IsQuietSystem (frames : KnownTable) (stock_table : KnownStockTable) (
 
 -- What a boot with these sizes answers to the lines by threads. Those before `go` are served one after the other, as a
 -- replay serves them, and led to `replayed`. Then all pasts were looked at, and from `at_go` each CPU was answered its own
--- among the lines from `go` on, up to `end`, and told its steps. Then the boot ended. All steps are one legal run, `whole`,
--- and what is left in the words of the boot's table is what it leads to. The promise holds after each beginning of it that
--- leaves the lock free. It begins with the steps of the lines before `go`. Behind these each CPU changes just what the
--- steps change that its answers tell, in their order, and then what its steps at the end change. What a CPU had seen after
--- its lines is a beginning of the run, so the run shows each of its visits.
+-- among the lines from `go` on, and told its steps. When all threads had ended, at `end`, all pasts were looked at again,
+-- and from `at_end` the boot ended. The first look shows the run of the lines before `go`, with steps that change nothing
+-- among them. The second look shows a run that goes on from it. Behind the first run, each CPU changes in the second just
+-- what the steps change that its answers tell, in their order. All steps, `whole`, are the second run and then the steps of
+-- the end. They are one legal run, and what is left in the words of the boot's table is what it leads to. The promise holds
+-- after each beginning of it that leaves the lock free. What a CPU had seen after its lines is a beginning of the run, so
+-- the run shows each of its visits.
 pub record AreThreadAnswers (sizes : Config) (is_numbered is_audited : Bool) (lines : List Line) (text : List ℕ)
     : Type 0 where
   pub frames : KnownTable
@@ -96,6 +99,7 @@ pub record AreThreadAnswers (sizes : Config) (is_numbered is_audited : Bool) (li
   pub replayed : SystemState
   pub at_go : SystemState
   pub end : SystemState
+  pub at_end : SystemState
   pub run : StepRun
   pub told : List StepRun
   pub early : List ℕ
@@ -111,18 +115,19 @@ pub record AreThreadAnswers (sizes : Config) (is_numbered is_audited : Bool) (li
   pub tells : AreAllAnswers (boot_tables frames stocks)
       (workers_from 1 at_go.cpus (drop (lines_before_go lines) lines) is_numbered) end.cpus told later
   pub quiet : IsQuietSystem frames stocks end
-  pub ends : WritesEnd frames stocks is_audited end ending
+  pub sees_end : SeesAllPasts frames end at_end
+  pub ends : WritesEnd frames stocks is_audited at_end ending
   pub whole : StepRun
-  pub whole_is : whole ≡ ends.ends.closes.run
+  pub whole_is : whole ≡ sees_end.beginning ++ ends.ends.leaves.steps
   pub legal : IsLegalRun (zone_of frames) whole
   pub promise : AlwaysKeepsPromise (zone_of frames) whole
   pub last : IsRunOf (zone_of frames) (last_words ends.ends.closes) whole
-  pub begins : IsBeginning sees.beginning whole
+  pub begins : IsBeginning sees.beginning sees_end.beginning
   pub changes : AreChangesOf sees.beginning run
   pub each : (index : ℕ) (cpu : CpuInRun) (steps : StepRun) → slice_get end.cpus index ≡ Some cpu
       → slice_get told index ≡ Some steps
-      → ChangesFollow (suc index) sees.beginning steps (own_past cpu.past).seen
-      × ChangesFollow (suc index) (own_past cpu.past).seen ends.ends.leaves.steps whole
+      → ChangesFollow (suc index) sees.beginning steps sees_end.beginning
+      × OthersFollow (suc index) (own_past cpu.past).seen sees_end.beginning
   pub text_is : text ≡ (early ++ later) ++ ending
 
 -- the task is one that answers a script

@@ -21,14 +21,13 @@ use Rattle.mem_system.specs.Locked.{KnownLocked}
 use Rattle.script_replay.specs.Lines.{HasRun, SystemState, system_state}
 use Rattle.load_run.specs.declared.boot_end.BootEnd.{BootEnd}
 use Rattle.load_run.specs.declared.boot_end.CheckedSteps.{CheckedSteps}
-use Rattle.load_run.specs.Survey.{ChangesFollow}
 
 -- the step of a put of this frame
 abbrev pub put_steps : (cpu frame : ℕ) → Put → Run
 put_steps cpu frame answer = cpu_makes cpu (step.Put frame) (put_answer answer) ∷ []
 
 -- A pin of this frame is put, and the machine's watch takes the step. The pasts of the zone and of the CPU gain it behind
--- all that the zone's past had. The CPU's past, which has its number, goes on by this change of its own.
+-- all that the zone's past had.
 pub record PutsHeldPin (frame : ℕ) (before after : MachineAndCpu) : Type 0 where
   pub answer : Put
   pub cpu : UnpinAnswers frame answer before.cpu.part after.cpu.part
@@ -36,9 +35,6 @@ pub record PutsHeldPin (frame : ℕ) (before after : MachineAndCpu) : Type 0 whe
   pub watched : Watches before.machine.run.watch (put_steps before.cpu.part.number frame answer) after.machine.run.watch
   pub gains : GainsSteps (own_past before.machine.run.past) (own_past before.cpu.past)
       (put_steps before.cpu.part.number frame answer) (own_past after.machine.run.past) (own_past after.cpu.past)
-  pub number : (own_past before.cpu.past).number ≡ before.cpu.part.number
-  pub goes_on : ChangesFollow (own_past before.cpu.past).number (own_past before.cpu.past).seen
-      (put_steps before.cpu.part.number frame answer) (own_past after.cpu.past).seen
 
 -- a pin of this frame is put, and then what is to be put after it
 pub record PutsFirstAndRest (frame : ℕ) (puts_rest : (before after : MachineAndCpu) → Type 0)

@@ -43,7 +43,7 @@ pub fn run_by_threads<N: BootName + Send + Sync, R: Threads + Wait + Sync>(
         is_numbered,
     };
     let first = replay(alloc, &mut locked, &tables, &mut cpus, early, form);
-    survey(&mut locked, &tables, &mut cpus);
+    survey(&mut locked, &tables, &mut cpus); // All pasts at `go`.
     locked.prove_quiet(); // There are fewer than 2^31 CPUs, as `run_each` requires.
     let system = System::of(locked, tables);
     let has_memory = first.is_ok();
@@ -56,7 +56,8 @@ pub fn run_by_threads<N: BootName + Send + Sync, R: Threads + Wait + Sync>(
         is_numbered,
         has_memory,
     );
-    let (locked, tables) = system.into_parts();
+    let (mut locked, tables) = system.into_parts();
+    survey(&mut locked, &tables, &mut cpus); // All pasts after the threads.
     let ended = end_boot(locked, tables, cpus);
     let mut answers = first?;
     answers.extend_from_slice(&told?)?;

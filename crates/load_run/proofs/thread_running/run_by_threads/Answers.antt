@@ -1,5 +1,5 @@
 -- Serves the contract of `run_by_threads`: what stands goes from the boot to the lines before `go`, from these to the
--- look at all pasts, from that to the threads, and ends.
+-- look at all pasts, from that to the threads, to the second look, and ends.
 use Rattle.std.proofs.Common.{◌≡◌, ◌∙◌, ◌≤◌, ℕ, false, List, ◌++◌, refl, arith, length, ap, subst, sym, take, drop}
 use Rattle.std.proofs.lemmas.Result.{IfOk-at_ok, IfOk-weaker}
 use Rattle.mem_system.specs.Cpus.{CpuInRun}
@@ -48,14 +48,26 @@ serve_later-told-requires-clause-lines g c κs within =
     ∙ ap length c.deref_mut.ensures.value ∙ booted.count in
     later_there c.args.boot.sizes _ _ c.before_go.result _ c.args.lines.now _ booted.sized long c.split_at.ensures.back c.requires.lines
 
+pub survey-requires-2 : goal.survey-requires-2
+survey-requires-2 g c =
+    let back = given_back _ _ _ _ c.deref_mut.ensures.value c.deref_mut.ensures.len c.replay-first.auto.cpus in
+    let looked = given_back _ _ _ _ c.deref_mut-2.ensures.value c.deref_mut-2.ensures.len c.survey.auto.cpus in
+    let same = given_back _ _ _ _ c.deref_mut-3.ensures.value c.deref_mut-3.ensures.len c.serve_later-told.auto.cpus in
+    record {
+      count = ap length (c.deref_mut-4.ensures.value ∙ same) ∙ c.serve_later-told.auto.cpus ∙ ap length (c.deref_mut-3.ensures.value ∙ looked) ∙ c.survey.auto.cpus
+          ∙ ap length (c.deref_mut-2.ensures.value ∙ back) ∙ c.replay-first.auto.cpus ∙ ap length c.deref_mut.ensures.value ∙ c.in_ok-locked.ensures.count;
+    }
+
 pub end_boot-ended-requires : goal.end_boot-ended-requires
 end_boot-ended-requires g c =
     let back = given_back _ _ _ _ c.deref_mut.ensures.value c.deref_mut.ensures.len c.replay-first.auto.cpus in
     let looked = given_back _ _ _ _ c.deref_mut-2.ensures.value c.deref_mut-2.ensures.len c.survey.auto.cpus in
     let same = given_back _ _ _ _ c.deref_mut-3.ensures.value c.deref_mut-3.ensures.len c.serve_later-told.auto.cpus in
+    let again = given_back _ _ _ _ c.deref_mut-4.ensures.value c.deref_mut-4.ensures.len c.survey-2.auto.cpus in
     record {
-      count = ap length same ∙ c.serve_later-told.auto.cpus ∙ ap length (c.deref_mut-3.ensures.value ∙ looked) ∙ c.survey.auto.cpus
-          ∙ ap length (c.deref_mut-2.ensures.value ∙ back) ∙ c.replay-first.auto.cpus ∙ ap length c.deref_mut.ensures.value ∙ c.in_ok-locked.ensures.count;
+      count = ap length again ∙ c.survey-2.auto.cpus ∙ ap length (c.deref_mut-4.ensures.value ∙ same) ∙ c.serve_later-told.auto.cpus
+          ∙ ap length (c.deref_mut-3.ensures.value ∙ looked) ∙ c.survey.auto.cpus ∙ ap length (c.deref_mut-2.ensures.value ∙ back) ∙ c.replay-first.auto.cpus
+          ∙ ap length c.deref_mut.ensures.value ∙ c.in_ok-locked.ensures.count;
     }
 
 pub returns : goal.returns
@@ -72,10 +84,13 @@ returns g c =
     let looked = given_back _ _ _ _ c.deref_mut-2.ensures.value c.deref_mut-2.ensures.len c.survey.auto.cpus in
     let lent = c.deref_mut-3.ensures.value ∙ looked in
     let same = given_back _ _ _ _ c.deref_mut-3.ensures.value c.deref_mut-3.ensures.len c.serve_later-told.auto.cpus in
+    let left = c.deref_mut-4.ensures.value ∙ same in
+    let again = given_back _ _ _ _ c.deref_mut-4.ensures.value c.deref_mut-4.ensures.len c.survey-2.auto.cpus in
     let start : SystemState = system_state c.in_ok-locked.locked c.deref_mut.result.now in
     let replayed : SystemState = system_state c.replay-first.new.locked c.replay-first.new.cpus in
     let at_go : SystemState = system_state c.survey.new.locked c.survey.new.cpus in
     let end : SystemState = system_state c.into_parts-locked.result.0 c.serve_later-told.new.cpus in
+    let at_end : SystemState = system_state c.survey-2.new.locked c.survey-2.new.cpus in
     let early = c.in_ok-answers.answers.items in
     let later = c.in_ok-told.field-0.items in
     let ended = c.end_boot-ended.result in
@@ -89,14 +104,15 @@ returns g c =
     let tells : AreAllAnswers (boot_tables t w) (workers_from 1 at_go.cpus c.split_at.result.1.now is_numbered) end.cpus all.0 later =
     subst (λ (cpus : List CpuInRun). AreAllAnswers (boot_tables t w) (workers_from 1 cpus c.split_at.result.1.now is_numbered) end.cpus all.0 later) lent all.1 in
     let long = c.serve_later-told.auto.cpus ∙ ap length lent ∙ c.survey.auto.cpus ∙ ap length met ∙ c.replay-first.auto.cpus ∙ ap length shown ∙ booted.count in
-    let ends = subst (λ (cpus : List CpuInRun). EndsHeld t w (system_state c.into_parts-locked.result.0 cpus) ended) same c.end_boot-ended.ensures.ends in
+    let sees_end = subst (λ (cpus : List CpuInRun). SeesAllPasts t (system_state c.into_parts-locked.result.0 cpus) at_end) left c.survey-2.ensures.sees in
+    let ends = subst (λ (cpus : List CpuInRun). EndsHeld t w (system_state c.survey-2.new.locked cpus) ended) again c.end_boot-ended.ensures.ends in
     let joined : c.extend_from_slice.new.self.items ≡ early ++ later =
     c.in_ok-extend_from_slice.ensures.items ∙ ap (λ (l : List ℕ). early ++ l) c.deref.ensures.value in
     record {
       answers = IfOk-weaker c.with_end.result _ _ (λ text is.
-          are_answers sizes is_numbered c.args.is_audited t w lines c.split_at.result.0.now c.split_at.result.1.now start replayed at_go end early later text.items
+          are_answers sizes is_numbered c.args.is_audited t w lines c.split_at.result.0.now c.split_at.result.1.now start replayed at_go end at_end early later text.items
           all.0 ended new (c.split_at.ensures.front ∙ ap (λ (n : ℕ). take n lines) c.before_go.ensures)
           (c.split_at.ensures.back ∙ ap (λ (n : ℕ). drop n lines) c.before_go.ensures) replays sees tells
-          (record { quiet = c.into_parts-locked.ensures.quiet; count = long }) ends
+          (record { quiet = c.into_parts-locked.ensures.quiet; count = long }) sees_end ends
           (is ∙ ap (λ (l : List ℕ). l ++ boot_end_text c.args.is_audited ended) joined)) c.with_end.ensures.told;
     }
