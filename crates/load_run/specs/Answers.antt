@@ -89,8 +89,8 @@ pub record IsQuietSystem (frames : KnownTable) (stock_table : KnownStockTable) (
 -- among them. The second look shows a run that goes on from it. Behind the first run, each CPU changes in the second just
 -- what the steps change that its answers tell, in their order. All steps, `whole`, are the second run and then the steps of
 -- the end. They are one legal run, and what is left in the words of the boot's table is what it leads to. The promise holds
--- after each beginning of it that leaves the lock free. What a CPU had seen after its lines is a beginning of the run, so
--- the run shows each of its visits.
+-- after each beginning of it that leaves the lock free. What a CPU had seen after its lines is a beginning of the run. So
+-- the run shows each visit that served a command (`RunsShowVisits`).
 pub record AreThreadAnswers (sizes : Config) (is_numbered is_audited : Bool) (lines : List Line) (text : List ℕ)
     : Type 0 where
   pub frames : KnownTable
