@@ -22,7 +22,7 @@ use std::marker::Model;
 use zone_blocks::config::Config;
 
 /// Why there is no boot.
-#[derive(Clone, Copy)]
+#[derive(Clone, Copy, Debug, PartialEq, Eq)]
 pub enum BootFault {
     /// A size is out of its range.
     BadConfig,

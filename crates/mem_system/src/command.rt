@@ -75,7 +75,7 @@ pub enum Cmd<'a> {
 }
 
 /// The reply to a CPU's command.
-#[derive(Clone, Copy, PartialEq, Eq)]
+#[derive(Clone, Copy, Debug, PartialEq, Eq)]
 pub enum Reply {
     /// The group that was made.
     Group(GroupId),

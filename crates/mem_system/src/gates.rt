@@ -15,7 +15,7 @@ pub trait Gate {
 }
 
 /// A gate that is always open: it does nothing.
-#[derive(Clone, Copy)]
+#[derive(Clone, Copy, Debug)]
 pub struct NoGate;
 
 impl Gate for NoGate {
