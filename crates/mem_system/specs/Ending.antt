@@ -1,6 +1,6 @@
 -- How a system ends whose CPUs may still have pins: each pin is put, and then the boot ends. There is one legal run of all
 -- its steps.
-use Rattle.std.specs.Prelude.{◌≡◌, ℕ, List, ◌++◌, IsPermutation}
+use Rattle.std.specs.Prelude.{◌≡◌, List, ◌++◌, IsPermutation}
 use Rattle.frame_word.specs.Seats.{KnownTable}
 use Rattle.stock_word.specs.Stock.{KnownStockTable}
 use Rattle.step_rules.specs.After.{Run}
