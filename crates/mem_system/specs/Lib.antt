@@ -3,6 +3,7 @@ pub mod Asks
 pub mod Boots
 pub mod Commands
 pub mod Cpus
+pub mod Ending
 pub mod Ends
 pub mod Files
 pub mod Groups
@@ -14,6 +15,7 @@ pub mod Locked
 pub mod Lost
 pub mod Outcomes
 pub mod Owners
+pub mod Puts
 pub mod Releases
 pub mod Shown
 pub mod Units

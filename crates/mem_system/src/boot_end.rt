@@ -23,7 +23,7 @@ pub struct Pinned<N: BootName> {
 }
 
 // The pins of the CPUs together.
-fn count_pins<N: BootName>(cpus: &[Cpu<N>]) -> u64
+pub(crate) fn count_pins<N: BootName>(cpus: &[Cpu<N>]) -> u64
     requires { length cpus.now < 2 ^ 32 }
     ensures { result ≡ pins_of_all (parts_of cpus.now) }
 {

@@ -2,13 +2,13 @@
 //! both.
 #![tactic(auto)]
 
-ghost use Rattle.std.specs.Prelude.{◌≡◌, [], IfOk, length};
+ghost use Rattle.std.specs.Prelude.{◌≡◌, IfOk};
 ghost use Rattle.mem_system.specs.Commands.{IsOfZone};
-ghost use Rattle.mem_system.specs.Ends.{AddsUp};
+ghost use Rattle.mem_system.specs.Ending.{HasEnded};
 
 use anyhow::{Context, Result, anyhow};
-use cpu_part::{BootName, Tables};
-use mem_system::{Audit, Boot, Cmd, Cpu, Reply, System, boot};
+use cpu_part::BootName;
+use mem_system::{Boot, Cmd, Cpu, Reply, System, SystemEnd, boot};
 use reply_texts::{write_fast, write_get, write_put, write_reply};
 use std::alloc::Global;
 use std::marker::Brand;
@@ -26,8 +26,8 @@ const SIZES: Config = Config {
 fn main(rt: HostRuntime) -> Result<()> {
     let boot = boot(rt.alloc(), SIZES).ok().context("no boot")?;
     let mut text = String::new(rt.alloc());
-    let audit = run_system::<Brand, _>(&rt, rt.alloc(), boot, &mut text)?;
-    let (free, charged) = (audit.free, audit.charged);
+    let ended = run_system::<Brand, _>(&rt, rt.alloc(), boot, &mut text)?;
+    let (free, charged) = (ended.audit.free, ended.audit.charged);
     println!(rt; "{text}at the end {free} frames are free and {charged} charged")?;
     Ok(())
 }
@@ -39,15 +39,15 @@ fn run_system<N: BootName, R: Wait>(
     alloc: Global,
     boot: Boot,
     text: &mut String,
-) -> Result<Audit>
+) -> Result<SystemEnd>
     requires { (boot.frames ≡ N.frames) × (boot.stocks ≡ N.stocks) }
-    ensures { IfOk result (λ audit. (audit.frames ≡ N.frames.frames) × AddsUp audit) }
+    ensures { IfOk result (HasEnded N.frames N.stocks) }
 {
     let (system, mut cpus) = boot.start::<N>(alloc)?;
     let done = run_demo(rt, &system, &mut cpus, text);
-    let audit = shut(system, cpus);
+    let ended = system.put_and_end(cpus);
     done?;
-    Ok(audit)
+    Ok(ended)
 }
 
 // CPU 1 makes a group with a limit and allocates two frames for it, the second without the lock. CPU 2 takes a
@@ -95,27 +95,4 @@ fn ask<N: BootName, R: Wait>(
     requires { IsOfZone N.frames cmd.now }
 {
     Ok(write_reply(&system.visit(rt, cpu, cmd), text)?)
-}
-
-// Puts every reference of the CPU.
-fn put_all<N: BootName>(tables: &Tables<N>, cpu: &mut Cpu<N>)
-    ensures { cpu.new.part.pins ≡ [] }
-{
-    while let Some(frame) = cpu.first_pin() {
-        let _put = cpu.put(tables, frame);
-    }
-}
-
-// Shuts the system down, once no CPU has a reference.
-fn shut<N: BootName>(system: System<N>, mut cpus: Vec<Cpu<N>>) -> Audit
-    requires { length cpus.items ≡ N.frames.cpus }
-    ensures { (result.frames ≡ N.frames.frames) × AddsUp result }
-{
-    for cpu in cpus.iter_mut() {
-        put_all(system.tables(), cpu);
-    }
-    match system.shutdown(cpus) {
-        Ok(audit) => audit,
-        Err(_) => unreachable!(),
-    }
 }

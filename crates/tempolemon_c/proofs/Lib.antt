@@ -3,3 +3,4 @@ pub mod Numbers
 pub mod Refusing
 pub mod Showing
 pub mod Finding
+pub mod Lives

@@ -8,5 +8,6 @@ pub mod Statuses
 pub mod HandleCalls
 pub mod Commands
 pub mod Known
+pub mod Lives
 pub mod Owned
 pub mod Serving

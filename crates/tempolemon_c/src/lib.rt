@@ -25,6 +25,7 @@ mod groups;
 mod handle;
 mod handle_calls;
 mod kinds;
+pub mod laws;
 pub mod live;
 pub mod live_pointer;
 pub mod raw;

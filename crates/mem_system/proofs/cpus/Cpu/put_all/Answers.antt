@@ -1,5 +1,5 @@
-use Rattle.zone_threads.proofs.Putting.{fewer_pins, put_more, put_none}
-use Rattle.zone_threads.proofs.zone_end.put_all.Goals as goal
+use Rattle.mem_system.proofs.Putting.{fewer_pins, put_more, put_none}
+use Rattle.mem_system.proofs.cpus.Cpu.put_all.Goals as goal
 
 pub loop-frame-init : goal.loop-frame-init
 loop-frame-init g c = put_none _

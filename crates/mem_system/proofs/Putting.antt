@@ -18,12 +18,15 @@ use Rattle.cpu_part.specs.Cpus.{KnownCpu}
 use Rattle.cpu_part.specs.Calls.{UnpinAnswers}
 use Rattle.cpu_part.specs.Told.{steps_of_put}
 use Rattle.cpu_part.proofs.Tied.{length_parted}
+use Rattle.mem_machine.specs.Local.{VisitState}
 use Rattle.mem_machine.specs.Machines.{KnownMachine}
 use Rattle.mem_system.specs.Cpus.{CpuInRun, between_locks, parts_of, pasts_of}
-use Rattle.mem_system.specs.declared.audit.Audit.{Audit}
+use Rattle.mem_system.specs.declared.ending.SystemEnd.{SystemEnd}
 use Rattle.mem_system.specs.Locked.{IsSound, KnownLocked}
-use Rattle.mem_system.specs.Ends.{Empties, Ends, ForEachCpu, SettlesInVisit, VisitsUnderLock, machine_and_cpu, pins_of_all}
-use Rattle.zone_threads.specs.Ending.{EachPuts, EndsCpu, EndsParts, MadePut, PutsPins, frames_put, unpin_steps}
+use Rattle.mem_system.specs.Commands.{Transition}
+use Rattle.mem_system.specs.Ends.{Empties, Ends, ForEachCpu, SettlesInVisit, VisitsUnderLock, machine_and_cpu, pins_of_all, steps_of_visits}
+use Rattle.mem_system.specs.Ending.{EndsCpu, PutsAndEnds}
+use Rattle.mem_system.specs.Puts.{EachPuts, MadePut, PutsPins, frames_put, unpin_steps}
 
 -- ---- one CPU
 
@@ -143,14 +146,35 @@ module _ (t : KnownTable) (run : Run) where
         each_ends settles.between n empties.between y parked cpus settled emptied puts.1 (omega (arith, all)) settles.rest empties.rest last.1,
       )
 
--- an end by these parts, whose pins were put before it
-pub ends_parts : (t : KnownTable) (w : KnownStockTable) (locked : KnownLocked) (parts left : List CpuInRun) (audit : Audit) → IsSound t w locked
-    → EachPuts parts left → Ends t w locked left audit → EndsParts t w parts audit
-ends_parts t w locked parts left audit sound puts ended = record {
-  left = left;
-  puts = puts;
-  locked = locked;
-  sound = sound;
-  ends = ended;
-  each = each_ends t ended.closes.run _ _ _ _ parts left _ _ puts ended.visits.no_pin ended.visits.settles ended.visits.empties ended.closes.pasts.1;
-}
+-- ---- the zone's past
+
+zone_grew : (t : KnownTable) (Does : Transition VisitState → Type 0) (m : KnownMachine) (cpus : List CpuInRun) (n : KnownMachine) (left : List CpuInRun)
+    (visits : ForEachCpu (VisitsUnderLock t Does) m cpus n left)
+    → GrewByAll (own_past m.run.past) (steps_of_visits t Does m cpus n left visits) (own_past n.run.past)
+zone_grew t Does m [] n [] visits = ap (λ (k : KnownMachine). own_past k.run.past) visits
+zone_grew t Does m [] n (d ∷ left) visits = absurd visits
+zone_grew t Does m (c ∷ cpus) n [] visits = absurd visits
+zone_grew t Does m (c ∷ cpus) n (d ∷ left) visits =
+    all_grew_both (own_past m.run.past) (between_locks c.part.number visits.first.visit.steps) (own_past visits.between.run.past)
+    (steps_of_visits t Does visits.between cpus n left visits.rest) (own_past n.run.past) visits.first.run.zone_grew
+    (zone_grew t Does visits.between cpus n left visits.rest)
+
+-- an end of this system, whose pins were put before it
+pub puts_and_ends : (t : KnownTable) (w : KnownStockTable) (locked : KnownLocked) (parts left : List CpuInRun) (ended : SystemEnd) → IsSound t w locked
+    → ended.held ≡ pins_of_all (parts_of parts) → EachPuts parts left → Ends t w locked left ended.audit → PutsAndEnds t w locked parts ended
+puts_and_ends t w locked parts left ended sound held puts ends =
+    let visits = ends.visits in
+    let settling = steps_of_visits t SettlesInVisit locked.machine left visits.settled visits.settled_cpus visits.settles in
+    let emptying = steps_of_visits t Empties visits.settled visits.settled_cpus ends.emptied.machine ends.emptied.cpus visits.empties in
+    record {
+      sound = sound;
+      held = held;
+      left = left;
+      puts = puts;
+      ends = ends;
+      each = each_ends t ends.closes.run _ _ _ _ parts left _ _ puts visits.no_pin visits.settles visits.empties ends.closes.pasts.1;
+      zone = subst (λ (r : Run). GrewByAll (own_past locked.machine.run.past) r (own_past ends.emptied.machine.run.past)) (sym visits.steps_are)
+          (all_grew_both (own_past locked.machine.run.past) settling (own_past visits.settled.run.past) emptying (own_past ends.emptied.machine.run.past)
+          (zone_grew t SettlesInVisit locked.machine left visits.settled visits.settled_cpus visits.settles)
+          (zone_grew t Empties visits.settled visits.settled_cpus ends.emptied.machine ends.emptied.cpus visits.empties));
+    }
