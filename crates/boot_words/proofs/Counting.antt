@@ -1,5 +1,5 @@
 -- The word of a frame and its number of references.
-use Rattle.std.proofs.Common.{◌≡◌, ◌≢◌, ℕ, ◌+◌, ◌<◌, ◌≤◌, ◌==◌, ◌&&◌, Bool, true, false, refl, sym, ◌∙◌, ap, arith, inl, inr, cond}
+use Rattle.std.proofs.Common.{◌≡◌, ◌≢◌, ℕ, ◌+◌, ◌<◌, ◌≤◌, ◌==◌, Bool, true, false, refl, sym, ◌∙◌, ap, arith, inl, inr, cond}
 use Rattle.std.specs.Prelude.{nat_le}
 use Rattle.std.proofs.lemmas.Bool.{cases_Bool, cond-false, le-leb, leb-true, ne_eqb}
 use Rattle.step_rules.specs.declared.phase.Way.TheVariants.{PassingOut, PassingBack}
@@ -11,7 +11,7 @@ use Rattle.step_rules.specs.Phases.{is_live_phase}
 use Rattle.step_rules.specs.State.{State, live_references, sum_to}
 use Rattle.step_rules.specs.Legal.{get_answer}
 use Rattle.step_rules.proofs.PhaseLemmas.{live_is}
-use Rattle.step_rules.proofs.Referring.{changed, changed_others, live_from_references}
+use Rattle.step_rules.proofs.Referring.{changed, changed_others}
 use Rattle.step_rules.proofs.Sound.{IsSound}
 use Rattle.step_rules.proofs.Sums.{sum_none, sum_same}
 use Rattle.boot_words.specs.Words.{word_in_phase, frame_word}
@@ -26,9 +26,6 @@ none_live s f sound dead = sum_none (s.zone.cpus + 1) (λ seat. s.references sea
 -- a frame in a live phase has its number of references as its word
 pub live_word : (s : State) (f : ℕ) → is_live_phase (s.phases f) ≡ true → (live : ℕ) → word_in_phase (s.phases f) live ≡ live
 live_word s f is live = ap (λ x. word_in_phase x live) (live_is (s.phases f) is).1
-
-pub referenced : (s : State) (f : ℕ) → IsSound s → 1 ≤ live_references s f → frame_word s f ≡ live_references s f
-referenced s f sound some = live_word s f (live_from_references s f sound some) (live_references s f)
 
 not_marked : (q : ℕ) → 256 + q < 256 → ⊥
 not_marked q low = omega arith

@@ -149,22 +149,6 @@ meet_gains t z c z1 c1 made c2 z3 c3 steps first grew second quiet own =
       of_others = λ other not_zone ne. alone other ne;
     }
 
--- a meeting alone is no step
-pub meeting_gains : (t : KnownTable) (z c z' c' : KnownPasts) → Meets t z c z' c' → GainsSteps (own_past z) (own_past c) [] (own_past z') (own_past c')
-meeting_gains t z c z' c' meets =
-    let z_number : (own_past z).number ≡ 0 = sym meets.zone_sees.number ∙ meets.zone_is.zone_is in
-    record {
-      zone_number = meets.zone_sees.number;
-      cpu_number = meets.cpu_sees.number;
-      in_order = λ earlier has. subst (HasInOrder (own_past z').seen) (sym (append_none earlier)) (sees_in_order (own_past z) (own_past z') earlier meets.zone_sees has);
-      of_zone =
-          let a : changes_of 0 (own_past z').seen ≡ changes_of 0 (own_past z).seen =
-          subst (λ (n : ℕ). changes_of n (own_past z').seen ≡ changes_of n (own_past z).seen) z_number (sees_changes (own_past z) (own_past z') meets.zone_sees) in
-          omega (arith, a);
-      of_cpu = let a = sees_changes (own_past c) (own_past c') meets.cpu_sees in omega (arith, a);
-      of_others = λ other not_zone ne. refl;
-    }
-
 pub gains_both : (z c : Past) (one : Run) (z1 c1 : Past) (two : Run) (z2 c2 : Past) → GainsSteps z c one z1 c1 → GainsSteps z1 c1 two z2 c2
     → GainsSteps z c (one ++ two) z2 c2
 gains_both z c one z1 c1 two z2 c2 first second = record {

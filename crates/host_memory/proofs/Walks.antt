@@ -87,11 +87,3 @@ module _ (S : Shape) {M : Type 1} {𝓤 : Ura M} {𝓛 : Logic 𝓤} {K : Type 0
       nothing t $ move t (2 ∷ 0 ∷ []) $ fjoin t $ feq_i t (List Val) (ptr_val p ∷ []) (ptr_val p ∷ []) refl $ fjoin t $
       feq_i t (List Val) (word p hv ∷ []) (word p hv ∷ []) refl $ fjoin t $
       fpack t (Valss parts) (within (with_parts S) (p, (a, tt)) (word p hv ∷ [])) (ptr_val p ∷ [], (hv ∷ [], tt)) $ fjoin t $ s)
-
-abbrev pub alone : (R : RattleType) → Laws R → Al
-alone R L = record { row = R; laws = L; g = record { dealloc_token = λ a σ p. ftrue }; d = impl [] tnil dnil; drops = impl [] tnil dnil }
-
-module _ (R : RattleType) (L : Laws R) {M : Type 1} {𝓤 : Ura M} {𝓛 : Logic 𝓤} {K : Type 0} {Γ : List (Item 𝓤)} {G : Goal 𝓤 𝓛.H} where
-  pub row_tells : K → (x : R.Denot) (vs : List Val) → ((v : Val) → vs ≡ v ∷ [] → Fits (alone R L) v → Seq K 𝓛 (‵ (R.own_val x (v ∷ [])) ∷ Γ) G)
-      → Seq K 𝓛 (‵ (R.own_val x vs) ∷ Γ) G
-  row_tells = handle_tells (alone R L)

@@ -1,5 +1,5 @@
 -- What a line was answered.
-use Rattle.std.proofs.Common.{◌≡◌, ◌∙◌, ℕ, true, false, List, [], ◌∷◌, ◌++◌, Option, None, Some, Result, Ok, Err, Vec, IfOk, OnErr, ap, codes, inl, inr, refl, subst, sym}
+use Rattle.std.proofs.Common.{◌≡◌, ◌∙◌, ℕ, true, false, List, [], ◌∷◌, ◌++◌, Option, None, Some, Result, Ok, Err, Vec, IfOk, ap, codes, inl, inr, refl, subst, sym}
 use Rattle.std.specs.Cmp.Lexicographic.{same_text}
 use Rattle.frame_word.specs.Seats.{KnownTable}
 use Rattle.stock_word.specs.Stock.{KnownStockTable}
@@ -15,7 +15,7 @@ use Rattle.script_replay.specs.Lines.{SystemState}
 use Rattle.line_server.specs.declared.form.SessionForm.{SessionForm}
 use Rattle.line_server.specs.Forms.{SessionTerms, bad_line_answer, session_terms}
 use Rattle.line_server.specs.Lines.{RefusesText}
-use Rattle.line_server.specs.Turns.{AnswersServed, GivesAnswer, HasAnswer, ServesAtMost, ServesInForm, WritesTurn}
+use Rattle.line_server.specs.Turns.{AnswersServed, GivesAnswer, HasAnswer, ServesInForm, WritesTurn}
 
 -- a good text that isn't skipped has a line
 pub says_line : (sizes : Config) (number : ℕ) (text : List ℕ) → IsGoodText sizes false text → is_skipped text ≡ false
@@ -62,12 +62,6 @@ module _ (on : SessionTerms) (sizes : Config) (number : ℕ) (text : List ℕ) w
     answered = (is, subst (AnswersServed on text line before after) (sym gives.given) gives.so);
   }
   served (Err e) line before after is gives = tt
-
-  -- or nothing more
-  pub served_some : {Z E : Type 0} (r : Result (Vec ℕ Z) E) (line : Line) (before after : SystemState)
-      → GivesAnswer r (AnswersServed on text line before after) → OnErr r (ServesAtMost on before after)
-  served_some (Ok x) line before after gives = tt
-  served_some (Err e) line before after gives = inr (record { text = text; line = line; answer = gives.answer; serves = gives.so })
 
 -- the answer of a turn was written, with an empty line
 pub turn_written : (on : SessionTerms) (sizes : Config) (number : ℕ) (text : Option (List ℕ)) (before after : SystemState) (plain answer : List ℕ)

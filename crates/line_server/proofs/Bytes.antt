@@ -1,11 +1,11 @@
 -- What is read of a line, byte by byte.
-use Rattle.std.proofs.Common.{◌≡◌, ◌≢◌, ◌∙◌, ℕ, zero, suc, ◌+◌, ◌≤◌, List, [], ◌∷◌, ◌++◌, Option, None, Some, Result, Ok, Err, IfOk, IfSome, OnOk, All, ap, arith, append-nil, cond, get_or, length, ne_eqb, refl, subst, sym, take}
+use Rattle.std.proofs.Common.{◌≡◌, ◌≢◌, ◌∙◌, ℕ, zero, suc, ◌+◌, ◌≤◌, List, [], ◌∷◌, ◌++◌, Option, None, Some, Result, Ok, Err, IfOk, IfSome, OnOk, All, ap, arith, append-nil, cond, length, ne_eqb, refl, subst, sym}
 use Rattle.std.proofs.lemmas.List.{length-append}
 use Rattle.std.proofs.lemmas.List.Elements.{All-append, All-head, All-tail}
 use Rattle.std.proofs.BufReadLemmas.{drop_through-append}
-use Rattle.std.proofs.KnownBytes.{Consumes-nil, Consumes-trans}
+use Rattle.std.proofs.KnownBytes.{Consumes-trans}
 use Rattle.std.specs.Io.BufRead.{DropsThrough, drop_through}
-use Rattle.std.specs.Io.KnownBytes.{Consumes, IsAtEnd, Keeps}
+use Rattle.std.specs.Io.KnownBytes.{Consumes, IsAtEnd}
 use Rattle.line_server.specs.declared.reading.Found.{Found}
 use Rattle.line_server.specs.declared.reading.Found.TheVariants.{Line, TooLong, End}
 use Rattle.line_server.specs.Streams.{EndsLine, IsFound, first_text}
@@ -15,35 +15,11 @@ NoFeed = All (λ b. b ≢ 10)
 
 -- ---- one byte
 
--- bytes that were kept are then read
-pub kept_read : (a b c : Option (List ℕ)) (bytes : List ℕ) → Keeps a b → Consumes b c bytes → Consumes a c bytes
-kept_read None b c bytes kept read = tt
-kept_read (Some x) None c bytes kept read = absurd kept
-kept_read (Some x) (Some y) None bytes kept read = absurd read
-kept_read (Some x) (Some y) (Some z) bytes kept read = sym kept ∙ read
-
--- nothing was read, and nothing is left
-pub none_left : (a c : Option (List ℕ)) → Consumes a c [] → IsAtEnd c → IsAtEnd a
-none_left None c read end = tt
-none_left (Some x) None read end = absurd read
-none_left (Some x) (Some z) read end = read ∙ end
-
--- a read into one byte gave that byte
-pub take_one : (buf : List ℕ) (n d : ℕ) → length buf ≡ 1 → n ≤ length buf → n ≢ 0 → take n buf ≡ get_or buf 0 d ∷ []
-take_one [] n d one most some = absurd (omega (arith, one))
-take_one (x ∷ []) zero d one most some = absurd (some refl)
-take_one (x ∷ []) (suc zero) d one most some = refl
-take_one (x ∷ []) (suc (suc n)) d one most some = absurd (omega (arith, most))
-take_one (x ∷ y ∷ ys) n d one most some = absurd (omega (arith, one))
-
 -- ---- bytes without a line feed
 
 no_feed_one : (b : ℕ) → b ≢ 10 → NoFeed (b ∷ [])
 no_feed_one b other zero d h = other
 no_feed_one b other (suc k) d h = absurd (omega (arith, h))
-
-pub no_feed_none : NoFeed []
-no_feed_none = λ k d h. absurd (omega (arith, h))
 
 -- the text goes on behind bytes without a line feed
 pub text_append : (xs ys : List ℕ) → NoFeed xs → first_text (xs ++ ys) ≡ xs ++ first_text ys
@@ -56,9 +32,6 @@ text_append (x ∷ xs) ys none =
 pub record HasRead (input left : Option (List ℕ)) (bytes : List ℕ) : Type 0 where
   pub read : Consumes input left bytes
   pub no_feed : NoFeed bytes
-
-pub read_none : (input : Option (List ℕ)) (bytes : List ℕ) → bytes ≡ [] → HasRead input input bytes
-read_none input bytes none = subst (HasRead input input) (sym none) (record { read = Consumes-nil input; no_feed = no_feed_none })
 
 pub read_more : (input left after : Option (List ℕ)) (bytes new : List ℕ) (b : ℕ) → HasRead input left bytes → Consumes left after (b ∷ [])
     → b ≢ 10 → new ≡ bytes ++ b ∷ [] → HasRead input after new
@@ -87,30 +60,11 @@ drops_end (Some y) (Some z) read end = ap Some (sym read ∙ end ∙ sym (ap (dr
 
 -- ---- what is left of a line
 
-pub text_feed : (left after : Option (List ℕ)) → Consumes left after (10 ∷ []) → IfSome left (λ bytes. first_text bytes ≡ [])
-text_feed None after read = tt
-text_feed (Some y) None read = absurd read
-text_feed (Some y) (Some z) read = ap first_text read
-
 pub text_end : (left : Option (List ℕ)) → IsAtEnd left → IfSome left (λ bytes. first_text bytes ≡ [])
 text_end None end = tt
 text_end (Some y) end = ap first_text end
 
-pub text_more : (left after : Option (List ℕ)) (b : ℕ) → Consumes left after (b ∷ []) → b ≢ 10 → IfSome left (λ bytes. 1 ≤ length (first_text bytes))
-text_more None after b read other = tt
-text_more (Some y) None b read other = absurd read
-text_more (Some y) (Some z) b read other =
-    let text : first_text y ≡ b ∷ first_text z = ap first_text read ∙ text_append (b ∷ []) z (no_feed_one b other) in
-    let long = ap length text in
-    omega (arith, long)
-
 -- ---- what is found
-
-pub found_end : (input left after : Option (List ℕ)) (bytes text : List ℕ) → HasRead input left bytes → IsAtEnd left → bytes ≡ []
-    → IfSome input (λ all. IsFound all End text)
-found_end None left after bytes text has end none = tt
-found_end (Some x) None after bytes text has end none = absurd has.read
-found_end (Some x) (Some y) after bytes text has end none = has.read ∙ ap (λ (l : List ℕ). l ++ y) none ∙ end
 
 pub found_line : (input left : Option (List ℕ)) (bytes : List ℕ) → HasRead input left bytes → length bytes ≤ 1024
     → IfSome left (λ rest. (first_text rest ≡ []) × (1 ≤ length bytes + length rest)) → IfSome input (λ all. IsFound all Line bytes)

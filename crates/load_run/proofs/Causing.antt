@@ -5,13 +5,12 @@ use Rattle.std.proofs.KnownBytes.{Appends-nil, Keeps-refl}
 use Rattle.script_lines.specs.declared.line.Line.{Line}
 use Rattle.script_lines.specs.declared.fault.ScriptFault.TheVariants as script
 use Rattle.script_lines.specs.Script.{IsScript}
-use Rattle.zone_blocks.specs.Config.{IsValidConfig}
 use Rattle.load_options.specs.declared.task.Options.{Options}
 use Rattle.load_run.specs.declared.fault.ProgramFault.{ProgramFault}
-use Rattle.load_run.specs.declared.fault.ProgramFault.TheVariants.{Words, Script, BadConfig, IllegalLine, IllegalEnd, Input, Output, NoMemory}
+use Rattle.load_run.specs.declared.fault.ProgramFault.TheVariants.{Words, Script, BadConfig, IllegalLine, IllegalEnd, Output, NoMemory}
 use Rattle.load_run.specs.Answers.{IsAnswered, bytes_read}
 use Rattle.load_run.specs.Causes.{FailsAtWork, HasCause, IsMisused, LeavesAnswers, written}
-use Rattle.load_run.specs.Fault.{IsBootFault, IsFailedTask, IsReadFault, IsScriptFault, IsWordsFault, fault_text, fault_status_of}
+use Rattle.load_run.specs.Fault.{IsBootFault, IsScriptFault, IsWordsFault, fault_text, fault_status_of}
 use Rattle.load_options.specs.Sizes.{HasSizesInRange}
 use Rattle.line_server.specs.Writing.{AppendsBeginning}
 
@@ -21,14 +20,6 @@ pub words_cause : (asked : Option Options) (input : Option (List ℕ)) (fault : 
 words_cause asked None fault is = tt
 words_cause asked (Some bytes) (Words fault) is = is
 words_cause asked (Some bytes) fault is = absurd is
-
--- the input wasn't read
-pub read_cause : (asked : Option Options) (options : Options) (input : Option (List ℕ)) (fault : ProgramFault)
-    → asked ≡ Some options → IsReadFault fault → IfSome input (HasCause asked fault)
-read_cause asked options None fault is_asked is = tt
-read_cause asked options (Some bytes) Input is_asked is = subst IsSome (sym is_asked) refl
-read_cause asked options (Some bytes) (NoMemory e) is_asked is = subst IsSome (sym is_asked) refl
-read_cause asked options (Some bytes) fault is_asked is = absurd is
 
 -- what was read is no script
 pub script_cause : (asked : Option Options) (options : Options) (input : Option (List ℕ)) (text : List ℕ) (fault : ProgramFault)
@@ -66,11 +57,6 @@ boot_cause asked options (Some bytes) text lines IllegalEnd is_asked read script
     record { options = options; is_asked = is_asked; lines = lines; script = whole_script options bytes text lines read script; stops = is.0 }
 boot_cause asked options (Some bytes) text lines (NoMemory e) is_asked read script is = subst IsSome (sym is_asked) refl
 boot_cause asked options (Some bytes) text lines fault is_asked read script is = absurd is.0
-
--- a boot that took its sizes and failed at its task is at fault
-pub failed_boot : (options : Options) (lines : List Line) (fault : ProgramFault) → IsValidConfig options.sizes → IsFailedTask options lines fault → IsBootFault options lines fault
-failed_boot options lines BadConfig valid is = absurd is
-failed_boot options lines fault valid is = (is, valid)
 
 -- misuse that has a cause, and was told
 pub misused : (asked : Option Options) (input before after : Option (List ℕ)) (fault : ProgramFault) → fault_status_of fault ≡ 2

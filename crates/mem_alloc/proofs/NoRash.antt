@@ -51,19 +51,11 @@ abbrev rest_of : Run → Run
 rest_of [] = []
 rest_of (x ∷ xs) = xs
 
-abbrev is_some_list : Run → Bool
-is_some_list [] = false
-is_some_list (x ∷ xs) = true
-
 first_same : (x y : Step × Answer) (xs ys : Run) → x ∷ xs ≡ y ∷ ys → x ≡ y
 first_same x y xs ys is = ap (first_or x) is
 
 rest_same : (x y : Step × Answer) (xs ys : Run) → x ∷ xs ≡ y ∷ ys → xs ≡ ys
 rest_same x y xs ys is = ap rest_of is
-
-nothing_stands : (before rest : Run) (e : Step × Answer) → [] ≡ before ++ e ∷ rest → ⊥
-nothing_stands [] rest e is = false≢true (ap is_some_list is)
-nothing_stands (x ∷ before) rest e is = false≢true (ap is_some_list is)
 
 -- a pair of two lists joined is in the first or in the second
 stands_in : (one two before rest : Run) (e : Step × Answer) → one ++ two ≡ before ++ e ∷ rest

@@ -1,13 +1,10 @@
 -- A page of the visited CPU is reported and absorbed: its book and the books of its group fall by one. Serves `settle`.
 use Rattle.std.proofs.Common.{◌≡◌, ℕ, ◌+◌, ◌-◌, ◌<◌, ◌≤◌, ◌==◌, cond, Some, refl, sym, ap, ◌∙◌, subst, arith, inl, inr, eq-eqb}
 use Rattle.std.proofs.lemmas.Bool.{cases_eq, ne_eqb, cond-true, cond-false}
-use Rattle.std.proofs.lemmas.Option.{none-some}
 use Rattle.frame_word.specs.Seats.{KnownTable}
 use Rattle.stock_word.specs.declared.view.StockAccount.{StockAccount}
-use Rattle.stock_word.specs.declared.view.Stock.{Stock}
-use Rattle.stock_word.specs.declared.view.Stock.TheVariants.{NoGroup, HeldBy, DrainedOf}
 use Rattle.stock_word.specs.declared.view.StockView.{StockView}
-use Rattle.stock_word.specs.Stock.{KnownStockSeat, account_of, group_of, HasWord}
+use Rattle.stock_word.specs.Stock.{KnownStockSeat, account_of}
 use Rattle.stock_word.specs.Kinds.{zone_after_report, zone_after_absorb}
 use Rattle.stock_word.proofs.CallerLemmas.{account_of-with_account, account_of-with_account_other}
 use Rattle.step_rules.specs.State.{sum_to, with_at}
@@ -15,15 +12,8 @@ use Rattle.step_rules.proofs.Basics.{at_same, at_other, at_each}
 use Rattle.step_rules.proofs.Sums.{sum_change}
 use Rattle.mem_machine.specs.FrameStates.{one_if_is}
 use Rattle.mem_machine.specs.Machines.{booked, pages_booked}
-use Rattle.mem_machine.specs.Local.{number_or_0}
 use Rattle.mem_machine.specs.Settling.{with_page_absorbed}
 use Rattle.mem_machine.proofs.Draining.{booked_is, counts_own, counts_other}
-
--- the group of a stock, if it has one, is one of 64
-pub group_fits : (stock : Stock) (g : ℕ) → HasWord stock → group_of stock ≡ Some g → (g ≤ 63) × (number_or_0 (group_of stock) ≡ g)
-group_fits NoGroup g is e = absurd (none-some g e)
-group_fits (HeldBy h n) g is e = let same : h ≡ g = ap number_or_0 e in let low = is.0 in (omega (arith, same, low), same)
-group_fits (DrainedOf h) g is e = let same : h ≡ g = ap number_or_0 e in (omega (arith, same, is), same)
 
 module _ (view : StockView) (p : ℕ) where
   abbrev pub absorbed_account : StockAccount

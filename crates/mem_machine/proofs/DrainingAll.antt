@@ -1,6 +1,6 @@
 -- The stocks of a subtree, or of a group, are drained, one CPU after the other. Serves `drain_if_in_subtree`, `drain_if_own`
 -- and the loops of `drain_stocks` and `drain_group_stocks`.
-use Rattle.std.proofs.Common.{◌≡◌, ℕ, ◌+◌, ◌-◌, ◌*◌, ◌≤◌, ◌==◌, ◌&&◌, Bool, true, false, cond, Option, Some, None, List, [], ◌∷◌, ◌++◌, length, suc, refl}
+use Rattle.std.proofs.Common.{◌≡◌, ℕ, ◌+◌, ◌-◌, ◌*◌, ◌≤◌, ◌==◌, Bool, true, false, cond, Option, Some, None, List, [], ◌∷◌, ◌++◌, length, suc, refl}
 use Rattle.std.proofs.Common.{sym, ap, ◌∙◌, subst, inl, inr, arith}
 use Rattle.std.specs.Prelude.{not, is_some}
 use Rattle.std.proofs.lemmas.List.{append-nil}
@@ -26,7 +26,7 @@ use Rattle.mem_machine.specs.Local.{StaysVisited, local_of, part_with, MakesAs, 
 use Rattle.mem_machine.specs.Steps.{Drain, drain_steps, drain_stocks_steps, pages_drained}
 use Rattle.mem_machine.specs.Stocks.{stock_group, steps_to_drain, with_look, DrainsBy, DrainsNoted, DrainsIf, DrainsAllIf, DrainsBySteps, AreDrainedIf}
 use Rattle.mem_machine.proofs.Draining.{drained_at, drained_else, drained_looked, groups_stay, runs_looked}
-use Rattle.mem_machine.proofs.Followed.{makes_both, makes_none, makes_stay}
+use Rattle.mem_machine.proofs.Followed.{makes_both, makes_stay}
 
 -- ---- the accounts after a look
 
@@ -170,18 +170,6 @@ pub record DrainedSoFar (t : KnownTable) (test : List Group → Option ℕ → B
   pub steps : (c : KnownCpu) → MakesAs t c.number (visit_state m c) (drain_stocks_steps drains) (visit_state n c)
   pub small : pages ≤ k * 4294967295
   pub visit : StaysVisited t m n
-
-pub drained_start : (t : KnownTable) (test : List Group → Option ℕ → Bool) (m : KnownMachine) → DrainedSoFar t test 0 0 m m
-drained_start t test m = record {
-  drains = [];
-  all = (refl, refl);
-  sum = refl;
-  groups = refl;
-  drained = λ q some few. absurd (omega (arith, some, few));
-  steps = λ c. makes_none t c.number (visit_state m c);
-  small = omega arith;
-  visit = λ c visit. visit;
-}
 
 drained_now : (test : List Group → Option ℕ → Bool) (k : ℕ) (x n : KnownMachine) (last : List Drain) → DrainsIf test (k + 1) last x n → AreDrainedIf test k x → AreDrainedIf test (k + 1) n
 drained_now test k x n last d before q some few below =

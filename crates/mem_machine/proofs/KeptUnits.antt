@@ -19,7 +19,7 @@ use Rattle.lru_lists.specs.declared.record.Link.{Link}
 use Rattle.lru_lists.specs.declared.record.Home.{Home}
 use Rattle.lru_lists.specs.declared.record.LruList.TheVariants.{Inactive}
 use Rattle.lru_lists.specs.declared.lru.Lru.{Lru}
-use Rattle.lru_lists.specs.Lists.{AreLinked, IsOnNone}
+use Rattle.lru_lists.specs.Lists.{AreLinked}
 use Rattle.step_rules.proofs.Placing.{within_cases}
 use Rattle.mem_machine.specs.declared.frame_state.FrameState.{FrameState}
 use Rattle.mem_machine.specs.declared.frame_state.FrameState.TheVariants.{Free, Lent, Head, Tail}
@@ -42,10 +42,6 @@ homeless (Some k) x none is = absurd (none-some k.owner (sym (no_head x none) �
     no_head (Lent q) e = refl
     no_head (Head unit) e = absurd (none-some unit.group (sym e))
     no_head (Tail g) e = refl
-
-pub stands_nowhere : (t : KnownTable) (w : KnownStockTable) (m : KnownMachine) → IsConsistent t w m → (f : ℕ) → f < t.frames → frame_state_group (frame_state_at m.frame_states f) ≡ None
-    → IsOnNone m.links f
-stands_nowhere t w m ok f inside none = homeless (home_of m.links f) (frame_state_at m.frame_states f) none (ok.frame_states f inside).kept
 
 -- ---- the lists of the group
 

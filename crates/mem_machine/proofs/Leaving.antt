@@ -1,5 +1,5 @@
 -- A kept unit leaves its list. Serves `leave_list`.
-use Rattle.std.proofs.Common.{◌≡◌, ◌≢◌, ℕ, ◌<◌, Option, Some, None, List, length, get_or, sym, ap, ◌∙◌, subst}
+use Rattle.std.proofs.Common.{◌≡◌, ℕ, ◌<◌, Option, Some, List, length, get_or, sym, ap, ◌∙◌, subst}
 use Rattle.std.specs.Prelude.{slice_set, IfSome}
 use Rattle.std.proofs.lemmas.Option.{none-some}
 use Rattle.std.proofs.lemmas.List.{get_or-set_same, get_or_default, length-set}
@@ -8,11 +8,10 @@ use Rattle.lru_lists.specs.declared.record.Home.{Home}
 use Rattle.lru_lists.specs.declared.lru.Lru.{Lru}
 use Rattle.lru_lists.specs.Queue.{link_at, nowhere, SameUse}
 use Rattle.lru_lists.specs.Lists.{OthersStayLinked, OneOfAllChanges, AreLinked, AllLinked, ChangesOwn, MovesOnly, inactive_of, active_of, entries_without}
-use Rattle.lru_lists.specs.Lists.{list_of, list_at}
+use Rattle.lru_lists.specs.Lists.{list_at}
 use Rattle.mem_machine.specs.Machines.{home_of, lists_at, no_lists, group_lists}
 use Rattle.mem_machine.specs.Lists.{LeavesList}
 use Rattle.mem_machine.proofs.Listed.{others_stay}
-use Rattle.mem_machine.proofs.Dirties.{on_list}
 
 -- all that `leave_list` leaves
 pub record AllLeave (links : List Link) (lists : List Lru) (f : ℕ) (after : List Link) (new : List Lru) : Type 0 where
@@ -35,13 +34,6 @@ module _ (links : List Link) (lists : List Lru) (f : ℕ) (h : Home) (home : Som
 
   own : lru.owner ≡ h.owner
   own = ap (λ (x : Lru). x.owner) read ∙ (all h.owner any bound).0
-
-  -- its lists agree with the links, and it is on one of them
-  pub own_stands : AreLinked links lru
-  own_stands = subst (AreLinked links) (sym read) (all h.owner any bound).1
-
-  pub own_on : list_of links lru.owner f ≢ None
-  own_on none = on_list links f h (sym home) (ap (λ (k : ℕ). list_of links k f) (sym own) ∙ none)
 
   its_lists : lists_at lists h.owner ≡ lru
   its_lists = sym (read ∙ get_or_default lists h.owner any no_lists bound)

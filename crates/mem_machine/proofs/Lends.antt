@@ -1,5 +1,5 @@
 -- One frame goes from the free areas to the list of the CPU that is visited. Serves `lend_one`.
-use Rattle.std.proofs.Common.{◌≡◌, ℕ, ◌<◌, ◌==◌, ◌&&◌, Bool, true, false, Option, Some, None, List, [], ◌∷◌, ◌++◌, length, refl, sym, ap, ◌∙◌, subst}
+use Rattle.std.proofs.Common.{◌≡◌, ℕ, ◌<◌, ◌==◌, Bool, true, false, Option, Some, None, List, [], ◌∷◌, ◌++◌, length, refl, sym, ap, ◌∙◌, subst}
 use Rattle.std.proofs.Common.{inl, inr, arith, cond, eq-eqb}
 use Rattle.std.specs.Prelude.{slice_set, nat_le, IfSome}
 use Rattle.lru_lists.specs.declared.record.Home.{Home}
@@ -106,12 +106,6 @@ module _ (t : KnownTable) (w : KnownStockTable) (m : KnownMachine) (c : KnownCpu
 
   within : f < length m.frame_states
   within = let s = ok.sizes.frame_states in omega (arith, s, inside)
-
-  pub free_in_hand : IsInOwnHand m.frame_seat f
-  free_in_hand = (ok.frame_states f inside).own ∙ ap (λ (x : FrameState). one_if (is_in_hand x)) free
-
-  pub lent_passes : Passes (seat_with m.frame_seat f (passed_out_to c.number)) c.frame_seat f
-  lent_passes = passed_out_passes t m.frame_seat c.frame_seat c.number tied.seats.frame_number f visit.still (seat_with m.frame_seat f (passed_out_to c.number)) refl inside
 
   pub lent_is_lent : IsLent (seat_with m.frame_seat f (passed_out_to c.number)) f c.number
   lent_is_lent = ap (λ (k : FrameNote). k.lent) (note_here m.frame_seat.view f (passed_out_to c.number))

@@ -54,10 +54,6 @@ home_of_list (Some h) lru list is = elim (cases_eq h.owner lru.owner) [
       absurd (none-some list none)
 ]
 
--- whose list it is, if there is one
-owner_of : Option Home → Option ℕ
-owner_of home = option_map (λ h. h.owner) home
-
 -- a record fits as before if the frame is on a list of the same owner
 pub fits_home : (cpus : ℕ) (note : FrameNote) (h k : Option Home) (frame_state : FrameState) → option_map (λ (x : Home). x.owner) k ≡ option_map (λ (x : Home). x.owner) h
     → FitsFrameState cpus note h frame_state → FitsFrameState cpus note k frame_state

@@ -53,14 +53,6 @@ pub record LentSoFar (t : KnownTable) (k : ℕ) (m : KnownMachine) (c : KnownCpu
   pub number : d.number ≡ c.number
   pub count : length d.list + length d.fresh ≡ length c.list + length c.fresh + k
 
-pub lent_start : (t : KnownTable) (m : KnownMachine) (c : KnownCpu) → Visits t (visit_state m c) → LentSoFar t 0 m c m c
-lent_start t m c visit = record {
-  refills = record { frames = []; all = refl; lends = visit_state_stays (visit_state m c); steps = makes_none t c.number (visit_state m c) };
-  visit = visit;
-  number = refl;
-  count = omega arith;
-}
-
 pub lent_more : (t : KnownTable) (k : ℕ) (m : KnownMachine) (c : KnownCpu) (x : KnownMachine) (y : KnownCpu) (n : KnownMachine) (d : KnownCpu)
     → LentSoFar t k m c x y → LendsByStep t (visit_state x y) (visit_state n d) → Visits t (visit_state n d) → LentSoFar t (k + 1) m c n d
 lent_more t k m c x y n d before one visit =

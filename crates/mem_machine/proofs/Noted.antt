@@ -10,7 +10,7 @@ use Rattle.step_rules.specs.State.{State}
 use Rattle.step_rules.specs.After.{Run}
 use Rattle.step_rules.specs.Laws.{IsLocalStep}
 use Rattle.step_rules.specs.Reaches.{IsLocalRun}
-use Rattle.boot_words.specs.Pasts.{KnownPasts, IsHeld, MakesStep, cpu_past, local_by_pasts, own_past}
+use Rattle.boot_words.specs.Pasts.{KnownPasts, MakesStep, cpu_past, local_by_pasts, own_past}
 use Rattle.boot_words.proofs.Growing.{all_grew_both}
 use Rattle.cpu_part.specs.Made.{MakesAll, MayMakeAll}
 use Rattle.step_watch.specs.Watched.{Watches}
@@ -80,17 +80,6 @@ pub first_made : (t : KnownTable) (past : KnownPasts) (p : ℕ) (a : State) → 
     → AreLocal p a (e ∷ rest) → MayTake t past e
 first_made t past p a who at e rest all =
     subst (λ (x : ℕ × State). IsLocalStep x.1 x.0 e.0.seat e.0.action e.1) (λ i. (sym who i, sym at i)) all.0
-
--- behind steps of the list that were made, the next may be taken
-pub next_made : (t : KnownTable) (past : KnownPasts) (p : ℕ) (a : State) → IsHeld t past → (cpu_past past).number ≡ p → local_by_pasts t past ≡ a → (steps : Run) (later : KnownPasts)
-    → PastsGrowBy t past steps later → (e : Step × Answer) (rest : Run) → AreLocal p a (steps ++ e ∷ rest) → MayTake t later e
-next_made t past p a held who at steps later grew e rest all =
-    first_made t later p (fold after_made a steps) (grew.holder held ∙ who) (grew.sees held ∙ ap (λ (s : State). fold after_made s steps) at)
-    e rest (behind p a steps (e ∷ rest) all)
-  where
-    behind : (p : ℕ) (a : State) (steps more : Run) → AreLocal p a (steps ++ more) → AreLocal p (fold after_made a steps) more
-    behind p a [] more all = all
-    behind p a (d ∷ steps) more all = behind p (after_made a d) steps more all.1
 
 -- steps that are local in what the holder sees may be taken
 pub may_all : (t : KnownTable) (past : KnownPasts) (p : ℕ) (a : State) (steps : Run) → (cpu_past past).number ≡ p → local_by_pasts t past ≡ a → AreLocal p a steps

@@ -1,8 +1,7 @@
 -- The two lists of one group are read, or change and nothing else. Serves `age`, `renew` and the walks.
-use Rattle.std.proofs.Common.{◌≡◌, ◌≢◌, ℕ, ◌<◌, false, Option, Some, None, List, [], ◌∷◌, ◌++◌, length, get_or, refl, sym, ap, ◌∙◌, subst}
+use Rattle.std.proofs.Common.{◌≡◌, ℕ, ◌<◌, false, Option, Some, None, List, [], ◌∷◌, ◌++◌, length, get_or, refl, sym, ap, ◌∙◌, subst}
 use Rattle.std.specs.Prelude.{slice_set, option_map}
 use Rattle.std.proofs.lemmas.List.{get_or-set_same, length-set}
-use Rattle.std.proofs.lemmas.Option.{none-some}
 use Rattle.frame_word.specs.Views.{note_of}
 use Rattle.frame_word.specs.Seats.{KnownTable}
 use Rattle.stock_word.specs.Stock.{KnownStockTable}
@@ -45,10 +44,6 @@ pub read_on : (now : KnownMachine) (g : ℕ) (lru : Lru) → AreRead now g lru �
 read_on now g lru is f i at list home =
     ap (λ (x : ℕ × ℕ). list_of now.links x.0 x.1) (λ j. (is.owner j, at j))
     ∙ ap (λ (h : Option Home). list_at h g) home ∙ place_here g list
-
-pub some_on : (now : KnownMachine) (g : ℕ) (lru : Lru) → AreRead now g lru → (f i : ℕ) → i ≡ f → (list : LruList)
-    → home_of now.links f ≡ Some (record { owner = g; list = list }) → list_of now.links lru.owner i ≢ None
-some_on now g lru is f i at list home none = none-some list (sym none ∙ read_on now g lru is f i at list home)
 
 -- the first unit of a list, and the one behind another, as they are read
 pub oldest_is : (m now : KnownMachine) → m ≡ now → (g : ℕ) (lru : Lru) → AreRead now g lru → (list : LruList) (unit : Option Entry)

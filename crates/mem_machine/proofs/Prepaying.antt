@@ -1,7 +1,7 @@
 -- Pages are charged and fill the CPU's stock. Serves `fill_stock` and `prepay`.
 use Rattle.std.proofs.Common.{◌≡◌, ℕ, ◌++◌, ◌+◌, ◌-◌, ◌<◌, ◌≤◌, ◌==◌, ◌||◌, Bool, true, false, ◌^◌, Option, Some, None, List, [], ◌∷◌, length}
 use Rattle.std.proofs.Common.{map, refl, sym, ap, ◌∙◌, subst, inl, inr, arith, cond, eq-eqb}
-use Rattle.std.specs.Prelude.{◌⊎◌, is_some, nat_le, not, ◌&&◌, Result, Ok, Err, OnOk, OnErr, IfErr}
+use Rattle.std.specs.Prelude.{◌⊎◌, is_some, nat_le, not, Result, Ok, Err, OnOk, OnErr, IfErr}
 use Rattle.std.proofs.lemmas.Bool.{cases_eq, ne_eqb, and_from, cond-true, cond-false, cond_both, le-leb, false≢true}
 use Rattle.std.proofs.lemmas.List.Sums.{sum_by-cons}
 use Rattle.frame_word.specs.Seats.{KnownTable}
@@ -348,9 +348,6 @@ module _ (m x : KnownMachine) (q p k : ℕ) (named : q ≡ p) (d : Drains q k m 
   pub emptied_drained : (account_of x.stock_seat.view p).filled ≡ false
   emptied_drained = ap (λ (n : ℕ). (account_of x.stock_seat.view n).filled) (sym named) ∙ ap (λ (y : KnownMachine). (account_of y.stock_seat.view q).filled) d.machine
       ∙ ap (λ (a : StockAccount). a.filled) (drained_at m.stock_seat.view q k)
-
-  pub emptied_own : Drains p k m x
-  emptied_own = subst (λ (n : ℕ). Drains n k m x) named d
 
   -- the drain took all its pages, as a look at the stock shows
   pub emptied_whole : (c : KnownCpu) (y : KnownMachine) (stock : Stock) → y ≡ x → c.number ≡ p → c.fresh ≡ [] → IsOwnStock (visit_state y c) stock

@@ -1,5 +1,5 @@
 -- What the CPU sees by the run: which steps may be taken there, and what it sees then. Serves all calls that make steps.
-use Rattle.std.proofs.Common.{◌≡◌, ℕ, ◌++◌, [], ◌∷◌, length, sym, ◌∙◌, ap, subst, arith}
+use Rattle.std.proofs.Common.{◌≡◌, ℕ, [], ◌∷◌, length, sym, ◌∙◌, ap, subst, arith}
 use Rattle.std.specs.List.{fold}
 use Rattle.frame_word.specs.Seats.{KnownTable}
 use Rattle.cpu_part.specs.Cpus.{KnownCpu}
@@ -11,8 +11,8 @@ use Rattle.boot_words.specs.Pasts.{KnownPasts, IsHeld, cpu_past, local_by_pasts,
 use Rattle.mem_machine.specs.Machines.{KnownMachine, VisitState, visit_state}
 pub use Rattle.mem_machine.specs.Machines.{with_past}
 use Rattle.mem_machine.specs.Local.{IsSeenByRun, MakesAs, local_at, local_of}
-use Rattle.mem_machine.specs.Noted.{AreLocal, PastsGrowBy, MayTake, MayTakeAll, after_made}
-use Rattle.mem_machine.proofs.Noted.{first_made, may_all, next_made, run_ends, run_steps}
+use Rattle.mem_machine.specs.Noted.{AreLocal, MayTake, MayTakeAll, after_made}
+use Rattle.mem_machine.proofs.Noted.{first_made, may_all, run_ends, run_steps}
 use Rattle.mem_machine.proofs.Followed.{LeadsAs}
 
 -- after the steps of a call the CPU sees what machine and part show then
@@ -47,11 +47,6 @@ module _ (t : KnownTable) (m now : KnownMachine) (same : m ≡ now) (c : KnownCp
   -- the first step of a list of local steps
   pub may_first : (e : Step × Answer) (rest : Run) → AreLocal c.number (local_of t now c) (e ∷ rest) → MayTake t m.run.past e
   may_first e rest all = first_made t m.run.past c.number (local_of t now c) who_here here e rest all
-
-  -- the next one, behind steps of the list that were made
-  pub may_next : (steps : Run) (later : KnownPasts) → PastsGrowBy t m.run.past steps later → (e : Step × Answer) (rest : Run)
-      → AreLocal c.number (local_of t now c) (steps ++ e ∷ rest) → MayTake t later e
-  may_next steps later grew e rest all = next_made t m.run.past c.number (local_of t now c) held_here who_here here steps later grew e rest all
 
   -- the steps of a call, once it is known where they lead
   pub may_lead : (e : Step × Answer) (rest : Run) (b : VisitState) → LeadsAs t c.number (visit_state now c) (e ∷ rest) b → MayTake t m.run.past e

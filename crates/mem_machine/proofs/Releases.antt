@@ -5,7 +5,6 @@ use Rattle.std.specs.Prelude.{IfSome, is_some, nat_le}
 use Rattle.std.proofs.lemmas.Bool.{cases_eq, ne_eqb, and_from, lt-ltb, le-leb}
 use Rattle.std.proofs.lemmas.Nat.{pow_pos}
 use Rattle.std.proofs.lemmas.List.{get_or_default}
-use Rattle.std.proofs.lemmas.Option.{none-some}
 use Rattle.zone_blocks.specs.declared.block.Block.{Block}
 use Rattle.zone_blocks.specs.Areas.{AreMaximalBlocks}
 use Rattle.frame_word.specs.declared.view.FrameNote.{FrameNote}
@@ -128,35 +127,12 @@ may_put_one t m f inside held c =
 
 -- ---- the unit
 
--- the record of a head names its unit
-head_unit : (x : FrameState) (g : ℕ) → head_group_of x ≡ Some g → (unit : ChargedUnit) × (x ≡ Head unit)
-head_unit (Head unit) g is = (unit, refl)
-head_unit x g is = absurd (none-some g is)
-
--- the owner's number of a home that is there
-kept_group : (home : Option Home) (x : FrameState) → IfSome home (λ h. (h.owner < 64) × (head_group_of x ≡ Some h.owner)) → home ≢ None
-    → (unit : ChargedUnit) × (x ≡ Head unit)
-kept_group None x kept some = absurd (some refl)
-kept_group (Some h) x kept some = head_unit x h.owner kept.1
-
 -- a home that is there counts one reference
 kept_once : (home : Option Home) (n : ℕ) → n ≡ one_if (is_some home) → home ≢ None → n ≡ 1
 kept_once None n is some = absurd (some refl)
 kept_once (Some h) n is some = is
 
--- its owner is a group number
-kept_owner : (home : Option Home) (x : FrameState) → IfSome home (λ h. (h.owner < 64) × (head_group_of x ≡ Some h.owner)) → IfSome home (λ h. h.owner < 64)
-kept_owner None x kept = tt
-kept_owner (Some h) x kept = kept.0
-
 module _ (t : KnownTable) (w : KnownStockTable) (m : KnownMachine) (ok : IsConsistent t w m) (f : ℕ) (inside : f < t.frames) (kept : home_of m.links f ≢ None) where
-  pub owner_is : IfSome (home_of m.links f) (λ h. h.owner < 64)
-  owner_is = kept_owner (home_of m.links f) (frame_state_at m.frame_states f) (ok.frame_states f inside).kept
-
-  -- a kept unit has a head, and one reference of the zone
-  pub kept_head : (unit : ChargedUnit) × (frame_state_at m.frame_states f ≡ Head unit)
-  kept_head = kept_group (home_of m.links f) (frame_state_at m.frame_states f) (ok.frame_states f inside).kept kept
-
   pub held_once : seat_references m.frame_seat f ≡ 1
   held_once = kept_once (home_of m.links f) (seat_references m.frame_seat f) (ok.frame_states f inside).references kept
 

@@ -1,16 +1,12 @@
 -- All fresh frames and then all back frames are settled. Serves `settle_one` and the loops of `settle_fresh` and
 -- `settle_back`.
-use Rattle.std.proofs.Common.{◌≡◌, ◌≢◌, ℕ, ◌<◌, Bool, true, false, None, List, [], ◌∷◌, length, refl, sym, ap, ◌∙◌, subst}
+use Rattle.std.proofs.Common.{◌≡◌, ◌≢◌, ℕ, ◌<◌, Bool, true, false, List, [], ◌∷◌, length, refl, sym, ap, ◌∙◌, subst}
 use Rattle.std.proofs.Common.{arith, inl, inr, slice_index_or}
 use Rattle.std.specs.List.{flat_map}
 use Rattle.std.proofs.lemmas.Bool.{cases_Bool, false≢true}
 use Rattle.std.proofs.lemmas.List.{get_or_default}
-use Rattle.std.proofs.lemmas.Option.{none-some}
 use Rattle.group_tree.specs.Bounds.{most_groups}
 use Rattle.frame_word.specs.Seats.{KnownTable}
-use Rattle.stock_word.specs.declared.view.Stock.{Stock}
-use Rattle.stock_word.specs.declared.view.Stock.TheVariants.{NoGroup, HeldBy, DrainedOf}
-use Rattle.stock_word.specs.Stock.{group_of}
 use Rattle.cpu_part.specs.Cpus.{KnownCpu}
 use Rattle.mem_machine.specs.Machines.{KnownMachine, is_killed}
 use Rattle.mem_machine.specs.Local.{Visits}
@@ -74,19 +70,9 @@ pub steps_of : (b : Bool) (p f g : ℕ) (m : KnownMachine) (c : KnownCpu) (t : K
     → MakesAs t p x (fresh_steps b p f) y → MakesAs t p x (fresh_steps (is_killed m.killed (group_of_fresh c)) p f) y
 steps_of b p f g m c t x y named is run = subst (λ (k : Bool). MakesAs t p x (fresh_steps k p f) y) (sym (ap (is_killed m.killed) named ∙ is)) run
 
--- a list that isn't empty
-pub some_fresh : (xs : List ℕ) (n : ℕ) → n ≡ length xs → n ≢ 0 → xs ≢ []
-some_fresh xs n count some none = some (count ∙ ap length none)
-
 pub none_fresh : (xs : List ℕ) (n : ℕ) → n ≡ length xs → n ≡ 0 → xs ≡ []
 none_fresh [] n count zero_is = refl
 none_fresh (x ∷ xs) n count zero_is = absurd (omega (arith, count, zero_is))
-
--- a stock of no group was never filled
-pub of_no_group : (stock : Stock) → group_of stock ≡ None → stock ≡ NoGroup
-of_no_group NoGroup e = refl
-of_no_group (HeldBy g n) e = absurd (none-some g (sym e))
-of_no_group (DrainedOf g) e = absurd (none-some g (sym e))
 
 -- ---- all fresh frames
 

@@ -1,17 +1,14 @@
 -- The usage by the rules of the steps is the ledger's: the caller's fresh frames count for the group of its stock
 -- there, and are in its stock's book here. Serves `take_block`, `remove` and `fill_stock`, and so `prepay`.
-use Rattle.std.proofs.Common.{◌≡◌, ℕ, ◌+◌, ◌-◌, ◌<◌, ◌≤◌, ◌==◌, ◌&&◌, Bool, true, false, cond, Option, Some, None, List, [], ◌∷◌, length}
+use Rattle.std.proofs.Common.{◌≡◌, ℕ, ◌+◌, ◌-◌, ◌<◌, ◌≤◌, ◌==◌, Bool, true, false, cond, Option, Some, None, List, [], ◌∷◌, length}
 use Rattle.std.proofs.Common.{refl, sym, ap, ◌∙◌, subst, arith, inl, inr}
 use Rattle.std.specs.Prelude.{◌⊎◌, nat_le}
 use Rattle.std.proofs.lemmas.Bool.{cases_eq, cases_lt, ne_eqb, eq-eqb, and_from, le-leb}
-use Rattle.std.proofs.lemmas.Option.{none-some}
 use Rattle.std.proofs.lemmas.List.Sums.{sum_by-cons}
 use Rattle.group_tree.specs.declared.group.Group.{Group}
 use Rattle.group_tree.specs.Groups.{in_subtree}
 use Rattle.group_charge.specs.Charges.{AreCharges, current_of}
 use Rattle.stock_word.specs.declared.view.StockAccount.{StockAccount as Book}
-use Rattle.stock_word.specs.declared.view.Stock.{Stock}
-use Rattle.stock_word.specs.declared.view.Stock.TheVariants as stock_is
 use Rattle.stock_word.specs.Stock.{KnownStockTable, account_of}
 use Rattle.stock_word.specs.Stock as stocks
 use Rattle.frame_word.specs.Views.{note_of}
@@ -197,32 +194,6 @@ module _ (t : KnownTable) (w : KnownStockTable) (m : KnownMachine) (c : KnownCpu
       let d : pages_pending groups (λ h. 0) g ≡ 0 = sum_none 64 (λ h. cond (in_subtree groups g h) 0 0) (λ h lt. cond_zero (in_subtree groups g h)) in
       let e = ledger_visit_state t w m is charges g in
       omega arith
-
--- the group of a stock is that of the stock seen last, whether it was drained since or not
-seen_group : (stock last : Stock) → (stock ≡ last) ⊎ (stock ≡ stocks.drained_of last) → stocks.group_of stock ≡ stocks.group_of last
-seen_group stock last (inl e) = ap stocks.group_of e
-seen_group stock last (inr e) = ap stocks.group_of e ∙ same last
-  where
-    same : (x : Stock) → stocks.group_of (stocks.drained_of x) ≡ stocks.group_of x
-    same stock_is.NoGroup = refl
-    same (stock_is.HeldBy h n) = refl
-    same (stock_is.DrainedOf h) = refl
-
-no_group : (x : Stock) → stocks.group_of x ≡ None → x ≡ stock_is.NoGroup
-no_group stock_is.NoGroup e = refl
-no_group (stock_is.HeldBy h n) e = absurd (none-some h (sym e))
-no_group (stock_is.DrainedOf h) e = absurd (none-some h (sym e))
-
-pub looked : (t : KnownTable) (w : KnownStockTable) (m : KnownMachine) (c : KnownCpu) (stock : Stock) → IsTied t w c
-    → (account_of m.stock_seat.view c.number).book ≡ stocks.stock_pages_of stock + c.stock_seat.view.fresh + (account_of m.stock_seat.view c.number).unabsorbed
-    → stocks.group_of stock ≡ (account_of m.stock_seat.view c.number).group
-    → (stock ≡ c.stock_seat.view.last) ⊎ (stock ≡ stocks.drained_of c.stock_seat.view.last)
-    → (c.stock_seat.view.last ≡ stock_is.NoGroup → c.fresh ≡ []) → IsBalanced m c
-looked t w m c stock tied book group last none = record {
-  group = inr (sym group ∙ seen_group stock c.stock_seat.view.last last);
-  covers = let pages = tied.within.pages_are in omega arith;
-  none_fresh = λ e. ap length (none (no_group c.stock_seat.view.last e));
-}
 
 -- without fresh frames no look is wanted
 pub balanced_alone : (m : KnownMachine) (c : KnownCpu) → c.fresh ≡ [] → IsBalanced m c

@@ -13,11 +13,11 @@ use Rattle.mem_machine.specs.Local.{IsSeenByRun, MakesAs, MakesForAny, StaysVisi
 use Rattle.mem_machine.proofs.Reached.{shown_same, shown_then}
 use Rattle.mem_machine.specs.Lending.{LendsFrame, LendsOne, UnlistsOne}
 use Rattle.mem_machine.specs.Settling.{KeepsFresh, DropsFresh, ReturnsBack}
-use Rattle.mem_machine.specs.Releasing.{LeavesReferences, ReturnsUnit}
+use Rattle.mem_machine.specs.Releasing.{ReturnsUnit}
 use Rattle.mem_machine.specs.Evicting.{MissesUnit, EvictsUnit}
 use Rattle.mem_machine.specs.Blocks.{TakesBlock, TakesNoBlock}
 use Rattle.mem_machine.specs.Paying.{PaysForFront}
-use Rattle.mem_machine.specs.Stocks.{DrainsBy, Fills}
+use Rattle.mem_machine.specs.Stocks.{DrainsBy}
 
 pub consistent_still : (t : KnownTable) (w : KnownStockTable) (n : KnownMachine) (v : KnownRun) → IsConsistent t w n → IsConsistent t w (with_run n v)
 consistent_still t w n v ok = record {
@@ -120,13 +120,7 @@ module _ (a : VisitState) (n : KnownMachine) (d : KnownCpu) (v : KnownRun) where
   pub pays_still : (g f : ℕ) → PaysForFront g f a (visit_state n d) → PaysForFront g f a (visit_state (with_run n v) d)
   pays_still g f does = record { takes = does.takes; machine = λ i. with_run (does.machine i) v }
 
-  pub fills_still : (g k : ℕ) → Fills g k a (visit_state n d) → Fills g k a (visit_state (with_run n v) d)
-  fills_still g k does = record { room = does.room; machine = λ i. with_run (does.machine i) v; cpu = does.cpu }
-
 module _ (m n : KnownMachine) (v : KnownRun) where
-  pub left_still : (f left : ℕ) → LeavesReferences f left m n → LeavesReferences f left m (with_run n v)
-  left_still f left does = record { list = does.list; some = does.some; machine = λ i. with_run (does.machine i) v }
-
   pub returned_still : (f : ℕ) → ReturnsUnit f m n → ReturnsUnit f m (with_run n v)
   returned_still f does = record {
     unit = does.unit;

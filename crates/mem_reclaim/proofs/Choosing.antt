@@ -80,7 +80,3 @@ counted_more m g k count is so told =
       sum = omega (arith, sum, one, same);
       few = omega (arith, few, low);
     })
-
--- all were counted
-pub counted_all : (m : KnownMachine) (g k count : ℕ) → CountedTo m g k count → k ≡ 64 → count ≡ sum_to 64 (λ j. one_if (is_candidate m g j))
-counted_all m g k count so all = so.sum ∙ ap (λ (x : ℕ). sum_to x (λ j. one_if (is_candidate m g j))) all

@@ -2,13 +2,11 @@
 use Rattle.std.proofs.Common.{◌≡◌, ◌≢◌, ℕ, ◌+◌, ◌≤◌, Bool, true, false, Option, Some, None, List, [], refl, sym, ap, ◌∙◌, subst, arith, cond}
 use Rattle.std.proofs.lemmas.Bool.{true≢false}
 use Rattle.std.proofs.lemmas.Option.{none-some}
-use Rattle.std.specs.Prelude.{unwrap_or}
 use Rattle.frame_word.specs.Seats.{KnownTable, misses_of}
 use Rattle.group_tree.specs.Groups.{in_subtree}
 use Rattle.group_charge.specs.Charges.{current_of}
 use Rattle.lru_lists.specs.declared.record.Link.{Link}
 use Rattle.lru_lists.specs.declared.record.Home.{Home}
-use Rattle.lru_lists.specs.declared.record.LruList.{LruList}
 use Rattle.lru_lists.specs.Queue.{link_at}
 use Rattle.lru_lists.specs.Lists.{SameOwners, owner_of}
 use Rattle.cpu_part.specs.Cpus.{KnownCpu}
@@ -139,25 +137,3 @@ keeps_try t m n f None is visit clean = keeps_missed t m n f is visit
 keeps_try t m n f (Some pages) is visit clean = keeps_evicted t m n f pages is visit clean
 
 -- ---- the usage of a group above
-
-on_path_true : (b : Bool) (n pages : ℕ) → b ≡ true → ◌≡◌ {A = ℕ} (cond b (n + pages) n) (n + pages)
-on_path_true b n pages is = rw is refl
-
-pub usage_evicted : (m n : KnownMachine) (f pages k g : ℕ) → EvictsUnit f pages m n → (list : LruList) → home_of m.links f ≡ Some (record { owner = k; list = list })
-    → in_subtree m.ledger.groups g k ≡ true → current_of n.ledger g + pages ≡ current_of m.ledger g
-usage_evicted m n f pages k g is list home below =
-    let groups : n.ledger.groups ≡ m.ledger.groups = ap (λ (x : KnownMachine). x.ledger.groups) is.machine in
-    let own : is.unit.group ≡ k = is.own ∙ same_owner (record { owner = is.list.group; list = is.list.list }) (record { owner = k; list = list })
-    (sym is.list.home ∙ home) in
-    let there : in_subtree n.ledger.groups g is.unit.group ≡ true = (λ i. in_subtree (groups i) g (own i)) ∙ below in
-    sym (is.usage g ∙ on_path_true (in_subtree n.ledger.groups g is.unit.group) (current_of n.ledger g) pages there)
-  where
-    same_owner : (a b : Home) → Some a ≡ Some b → a.owner ≡ b.owner
-    same_owner a b e = cc
-
-pub usage_try : (m n : KnownMachine) (f k g : ℕ) (answer : Option ℕ) → Evicts f answer m n → (list : LruList)
-    → home_of m.links f ≡ Some (record { owner = k; list = list })
-    → in_subtree m.ledger.groups g k ≡ true → current_of n.ledger g + unwrap_or answer 0 ≡ current_of m.ledger g
-usage_try m n f k g None is list home below =
-    let e = ap (λ (x : KnownMachine). current_of x.ledger g) is.machine in omega (arith, e)
-usage_try m n f k g (Some pages) is list home below = usage_evicted m n f pages k g is list home below

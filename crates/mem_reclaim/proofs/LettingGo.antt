@@ -192,15 +192,6 @@ first_is (e ∷ es) u is = (es, ap (λ (x : Entry). x ∷ es) (same e u (sym is)
     same : (a b : Entry) → Some a ≡ Some b → a ≡ b
     same a b e = cc
 
-none_first : (entries : List Entry) (i n : ℕ) → None ≡ first_entry entries → length entries + i ≡ n → i < n → ⊥
-none_first [] i n is left lt = omega (arith, left, lt)
-none_first (e ∷ es) i n is left lt = none-some e is
-
--- a unit is left while not all were released
-pub some_oldest : (t : KnownTable) (g : ℕ) (list : LruList) (m : KnownMachine) (i : ℕ) (now : KnownMachine) → LetGoSoFar t g list m i now
-    → i < length (entries_in m g list) → (oldest : Option Entry) → oldest ≡ first_entry (entries_in now g list) → oldest ≡ None → ⊥
-some_oldest t g list m i now s more oldest first none = none_first (entries_in now g list) i _ (sym none ∙ first) s.left more
-
 pub oldest_is : (t : KnownTable) (w : KnownStockTable) (g : ℕ) → g < 64 → (list : LruList) (now : KnownMachine) → IsConsistent t w now → (u : Entry)
     → (oldest : Option Entry) → oldest ≡ first_entry (entries_in now g list) → oldest ≡ Some u → Oldest t g list now u
 oldest_is t w g fits list now ok u oldest first some =

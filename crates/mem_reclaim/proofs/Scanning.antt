@@ -91,11 +91,6 @@ ahead_is next (e ∷ es) i n is left lt u some = (es, ap (λ (x : Entry). x ∷ 
     same : (a b : Entry) → Some a ≡ Some b → a ≡ b
     same a b e = cc
 
--- there is one, as long as not all were met
-pub some_next : (next : Option Entry) (todo : List Entry) (i n : ℕ) → IsNext next todo → length todo + i ≡ n → i < n → next ≡ None → ⊥
-some_next next [] i n is left lt none = omega (arith, left, lt)
-some_next next (e ∷ es) i n is left lt none = none-some e (sym none ∙ is)
-
 module _ (t : KnownTable) (w : KnownStockTable) (spares_marked : Bool) (g : ℕ) (fits : g < 64) (list : LruList) (want : ℕ) (m : KnownMachine) (i freed : ℕ)
     (next : Option Entry) (now : KnownMachine) (ok : IsConsistent t w now) (s : ScanSoFar t spares_marked g list want m i freed next now)
     (units : ℕ) (counted : units ≡ length (entries_in m g list)) (left : i < units) (u : Entry) (some : next ≡ Some u) where

@@ -7,7 +7,6 @@ use Rattle.machine_texts.specs.Units.{ReadsUnits}
 use Rattle.mem_machine.specs.Machines.{KnownMachine}
 use Rattle.mem_machine.specs.Resting.{Rests, hidden_of}
 use Rattle.mem_machine.specs.Showing.{ListedUnit, units_in, with_looks_at}
-use Rattle.mem_machine.specs.Stocks.{with_look}
 use Rattle.mem_machine.proofs.Looks.{looks_opened, looks_unseen}
 use Rattle.mem_system.specs.Locked.{AllShut}
 
@@ -27,7 +26,3 @@ still_hidden t units pins m i = record (hidden_of t m) {
 pub units_rest : (t : KnownTable) (g : ℕ) (tells : List ℕ → Type 0) (m n : KnownMachine) → ReadsUnits g tells m n → Rests t m → Rests t n
 units_rest t g tells m n is rests = subst (Rests t) (sym is.looks.machine)
     (record { past_is = rests.past_is; free = rests.free; left = rests.left ∙ sym (still_hidden t (units_in m g) is.pins m) })
-
--- and after a look at a stock
-pub look_rests : (t : KnownTable) (m n : KnownMachine) → n ≡ with_look m → Rests t m → Rests t n
-look_rests t m n is rests = subst (Rests t) (sym is) (record { past_is = rests.past_is; free = rests.free; left = rests.left })

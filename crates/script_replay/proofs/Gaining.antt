@@ -1,6 +1,6 @@
 -- What the zone's past and a CPU's past gain by a command, and how the run so far goes on. Serves `try_unlocked`,
 -- `try_in_order`, `alloc_in_order`, and what is told of each line.
-use Rattle.std.proofs.Common.{◌≡◌, ◌≢◌, ◌∙◌, ℕ, Bool, true, false, Some, List, [], ◌++◌, Ok, Err, append-nil, ap, inl, inr, refl, subst, sym}
+use Rattle.std.proofs.Common.{◌≡◌, ◌≢◌, ◌∙◌, ℕ, Bool, true, false, Some, List, [], ◌++◌, append-nil, ap, inl, inr, refl, subst, sym}
 use Rattle.std.specs.Prelude.{slice_set, if◌then◌else◌}
 use Rattle.std.specs.Option.{option_map}
 use Rattle.std.specs.List.{slice_get}
@@ -11,18 +11,14 @@ use Rattle.boot_words.specs.Rule.{AllOf}
 use Rattle.boot_words.specs.Pasts.{KnownPasts, Meets, own_past}
 use Rattle.boot_words.specs.Growth.{GrewByAll, IsRunSoFar, changes_nothing}
 use Rattle.boot_words.proofs.Gaining.{gains_go_on, meet_gains, none_gains}
-use Rattle.frame_word.specs.declared.answers.Get.{Get}
-use Rattle.frame_word.specs.declared.answers.Get.TheVariants as get
 use Rattle.frame_word.specs.declared.answers.Put.{Put}
 use Rattle.frame_word.specs.declared.answers.Put.TheVariants as put
 use Rattle.frame_word.specs.Seats.{KnownTable}
 use Rattle.stock_word.specs.declared.view.Stock.{Stock}
 use Rattle.stock_word.specs.Stock.{is_held}
-use Rattle.group_tree.specs.declared.fault.Fault.{Fault}
 use Rattle.cpu_part.specs.declared.answers.Fast.{Fast}
 use Rattle.cpu_part.specs.declared.answers.Fast.TheVariants as fast
-use Rattle.cpu_part.specs.declared.answers.Dropped.TheVariants as dropped
-use Rattle.cpu_part.specs.Told.{one_step, steps_of_drop, steps_of_fast, steps_of_get, steps_of_put}
+use Rattle.cpu_part.specs.Told.{one_step, steps_of_fast, steps_of_put}
 use Rattle.step_rules.specs.declared.step.Step.{Step}
 use Rattle.step_rules.specs.declared.step.Action.{Action}
 use Rattle.step_rules.specs.declared.step.Action.TheVariants as step
@@ -42,9 +38,6 @@ use Rattle.script_replay.specs.Lines.{RunGoesOn, HasRun, SystemState, system_sta
 -- ---- the steps of a call without the lock
 
 module _ (n : ℕ) (before after : KnownPasts) where
-  pub none_made : after ≡ before → MakesAlone n [] before after
-  none_made same = record { made = []; grew = ap own_past same; changes = refl; own = tt }
-
   -- no step
   nothing : GrewByAll (own_past before) [] (own_past after) → MakesAlone n [] before after
   nothing grew = record { made = []; grew = grew; changes = refl; own = tt }
@@ -78,25 +71,6 @@ module _ (n : ℕ) (before after : KnownPasts) where
       → GrewByAll (own_past before) (steps_of_fast n g answer last) (own_past after) → MakesAlone n [] before after
   no_fast_made g (fast.Got f) last none grew = absurd (none f refl)
   no_fast_made g answer last none grew = fast_made g answer last grew
-
-  pub listed_made : (f : ℕ) (last : Stock) → GrewByAll (own_past before) (steps_of_drop n f dropped.Listed last) (own_past after)
-      → MakesAlone n (steps_alone n (command.Release f) unlocked.Listed) before after
-  listed_made f last grew = told (step.Credit f) step_answer.Stocked grew
-
-  pub not_listed_made : (f : ℕ) (last : Stock) → GrewByAll (own_past before) (steps_of_drop n f dropped.NeedVisit last) (own_past after)
-      → MakesAlone n [] before after
-  not_listed_made f last grew = drained (step.Credit f) (is_held last) grew
-
-  pub get_made : (f : ℕ) (answer : Get) → GrewByAll (own_past before) (steps_of_get n f (Ok answer)) (own_past after)
-      → MakesAlone n (steps_alone n (command.Get f) (unlocked.Got answer)) before after
-  get_made f get.Held grew = told (step.Get f) step_answer.Held grew
-  get_made f get.Zero grew = quiet (step.Get f) step_answer.Zero refl grew
-  get_made f get.Full grew = quiet (step.Get f) step_answer.Full refl grew
-  get_made f (get.Raced found) grew = nothing grew
-
-  pub refused_made : (f : ℕ) (fault : Fault) → GrewByAll (own_past before) (steps_of_get n f (Err fault)) (own_past after)
-      → MakesAlone n (steps_alone n (command.Get f) (unlocked.Refused fault)) before after
-  refused_made f fault grew = nothing grew
 
   pub put_made : (f : ℕ) (answer : Put) → GrewByAll (own_past before) (steps_of_put n f answer) (own_past after)
       → MakesAlone n (steps_alone n (command.Put f) (unlocked.Put answer)) before after

@@ -1,21 +1,15 @@
 -- The lines of an answer, with their numbers so far. Serves `write_numbered`.
-use Rattle.std.proofs.Common.{◌≡◌, ℕ, ◌+◌, ◌<◌, ◌≤◌, List, ◌++◌, length, take, get_or, map, ap, sym, ◌∙◌}
+use Rattle.std.proofs.Common.{◌≡◌, ℕ, ◌+◌, ◌≤◌, List, ◌++◌, length, take, map, ap, sym, ◌∙◌}
 use Rattle.std.specs.Borrow.{Bor}
 use Rattle.std.specs.List.{flat_map}
 use Rattle.std.specs.Str.Lines.{lines}
-use Rattle.std.proofs.lemmas.List.{flat_map_more, take_more, take_all}
+use Rattle.std.proofs.lemmas.List.{take_all}
 use Rattle.std.proofs.lemmas.List.Folds.{flat_map-map}
 use Rattle.script_replay.specs.Numbers.{numbered_line, numbered_text}
 
 -- so many of the lines were added
 abbrev pub AreNumbered : (number : ℕ) → List (Bor (List ℕ)) → ℕ → (before after : List ℕ) → Type 0
 AreNumbered number found i before after = after ≡ before ++ flat_map (λ l. numbered_line number l.now) (take i found)
-
-pub line_numbered : (number : ℕ) (found : List (Bor (List ℕ))) (i : ℕ) (d : Bor (List ℕ)) (before text new : List ℕ) → i < length found
-    → AreNumbered number found i before text → new ≡ text ++ numbered_line number (get_or found i d).now → AreNumbered number found (i + 1) before new
-line_numbered number found i d before text new inside so_far is =
-    is ∙ (ap (λ t. t ++ numbered_line number (get_or found i d).now) so_far
-    ∙ rw (take_more found i d inside) (flat_map_more (λ (l : Bor (List ℕ)). numbered_line number l.now) before (take i found) (get_or found i d)))
 
 pub all_numbered : (number : ℕ) (found : List (Bor (List ℕ))) (i : ℕ) (plain before text : List ℕ) → length found ≤ i
     → map (λ l. l.now) found ≡ lines plain → AreNumbered number found i before text → text ≡ before ++ numbered_text number plain

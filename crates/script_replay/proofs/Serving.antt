@@ -1,5 +1,5 @@
 -- How one command is served, and how its answer is written. Serves `server`, `writer`, `serve_at_cpu`.
-use Rattle.std.proofs.Common.{◌≡◌, ◌≢◌, ◌∙◌, ℕ, zero, Bool, true, false, ◌&&◌, Option, Some, None, List, [], ◌++◌, Result, Ok, Err, IfOk, append_assoc, append-nil, ap, refl, subst, sym}
+use Rattle.std.proofs.Common.{◌≡◌, ◌≢◌, ◌∙◌, ℕ, zero, Bool, true, false, Option, Some, None, List, [], ◌++◌, Result, Ok, Err, IfOk, append_assoc, append-nil, ap, refl, subst, sym}
 use Rattle.std.proofs.lemmas.Option.{none-some}
 use Rattle.std.specs.Borrow.{Bor}
 use Rattle.std.specs.declared.string.String.{String}
@@ -24,7 +24,7 @@ use Rattle.reply_texts.specs.Answers.{answer_text}
 use Rattle.reply_texts.specs.declared.steps.UnlockedAnswer.{UnlockedAnswer}
 use Rattle.reply_texts.specs.declared.steps.UnlockedAnswer.TheVariants as unlocked
 use Rattle.script_lines.specs.declared.line.Command.{Command}
-use Rattle.script_lines.specs.declared.line.Command.TheVariants.{Alloc, Fast, Release, Get, Put, Settle, Blocks, Show, Stock, Units}
+use Rattle.script_lines.specs.declared.line.Command.TheVariants.{Alloc, Fast, Get, Put, Settle, Blocks, Show, Stock, Units}
 use Rattle.step_rules.specs.After.{Run}
 use Rattle.script_replay.specs.declared.answer_value.AnswerValue.{AnswerValue}
 use Rattle.script_replay.specs.declared.answer_value.AnswerValue.TheVariants as value
@@ -114,14 +114,6 @@ untried Show settles = refl
 untried Stock settles = refl
 untried (Units path) settles = refl
 untried command settles = absurd settles
-
--- a command that isn't tried needs the lock, at the part as it is
-pub untried_needs : (command : Command) (c : KnownCpu) → is_tried command ≡ false → NeedsLock command c c
-untried_needs (Fast group) c none = absurd (let not : true ≢ false = λ e. cc in not none)
-untried_needs (Get frame) c none = absurd (let not : true ≢ false = λ e. cc in not none)
-untried_needs (Put frame) c none = absurd (let not : true ≢ false = λ e. cc in not none)
-untried_needs (Release frame) c none = absurd (let not : true ≢ false = λ e. cc in not none)
-untried_needs command c none = refl
 
 -- an Alloc of a single frame, by its path
 pub frame_is : (command : Command) (path : Bor (List ℕ)) → frame_path command ≡ Some path → command ≡ Alloc path 0

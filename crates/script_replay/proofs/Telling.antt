@@ -1,20 +1,9 @@
 -- A text for an answer.
-use Rattle.std.proofs.Common.{◌≡◌, ◌∙◌, ◌++◌, true, false, List, [], ℕ, Result, Ok, Err, IfOk, IfErr, ap, append_assoc, append-nil, refl, subst, sym}
+use Rattle.std.proofs.Common.{◌≡◌, ◌++◌, true, List, [], ℕ, Result, Ok, Err, IfOk, IfErr, append-nil, refl, subst, sym}
 use Rattle.std.specs.declared.string.String.{String}
 use Rattle.std.specs.String.{string_bytes}
 use Rattle.script_replay.specs.Answers.{AddsText}
 use Rattle.script_replay.specs.Numbers.{SaysNumbered, numbered_text}
-
--- what was said for one reason is said for another
-pub added_as : {Z T E : Type 0} (is as_well : List ℕ → Type 0) (before after : String Z) (r : Result T E)
-    → ((text : List ℕ) → is text → as_well text) → AddsText r before after is → AddsText r before after as_well
-added_as is as_well before after r turn adds = record { text = adds.text; so = turn adds.text adds.so; added = adds.added }
-
--- what follows a text
-pub behind : {T E : Type 0} (r : Result T E) (before mid after said more : List ℕ) → mid ≡ before ++ said → IfOk r (λ _. after ≡ mid ++ more)
-    → IfOk r (λ _. after ≡ before ++ (said ++ more))
-behind (Ok x) before mid after said more first is = is ∙ (ap (λ (l : List ℕ). l ++ more) first ∙ append_assoc before said more)
-behind (Err e) before mid after said more first is = tt
 
 -- what holds, holds if there is an error
 pub at_error : {T E : Type 0} (r : Result T E) (P : Type 0) → P → IfErr r (λ _. P)
@@ -30,15 +19,6 @@ pub nothing_added : {Z T E : Type 0} (is_said : List ℕ → Type 0) (old : Stri
 nothing_added is_said old r so = record { text = []; so = so; added = at_ok r (sym (append-nil (string_bytes old))) }
 
 -- ---- with the number of a line
-
--- an answer without the number
-pub without_number : {Z T E : Type 0} (is_said : List ℕ → Type 0) (number : ℕ) (before after : String Z) (r : Result T E)
-    → AddsText r before after is_said → AddsText r before after (SaysNumbered false number is_said)
-without_number is_said number before after r adds = record {
-  text = adds.text;
-  so = record { plain = adds.text; so = adds.so; text_is = refl };
-  added = adds.added;
-}
 
 -- an answer that is a text of its own, which is then added with the number, as far as there is memory
 pub with_number : {Z T E : Type 0} (is_said : List ℕ → Type 0) (number : ℕ) (said plain : List ℕ) (before after : String Z) (r : Result T E)

@@ -1,22 +1,18 @@
 //! The watch, and how it takes a step.
 
 ghost use Rattle.std.specs.Prelude.{◌≡◌, ◌∷◌, [], ◌+◌, ◌++◌, IfOk, IsTrue};
-ghost use Rattle.step_rules.specs.declared.step.Action.TheVariants.{Make};
-ghost use Rattle.step_rules.specs.declared.step.Answer.TheVariants.{Number};
 ghost use Rattle.log_lines.specs.Line.{entry_text};
 ghost use Rattle.mem_core.specs.Shown.{state_shown, zone_of_config};
 ghost use Rattle.mem_core.specs.Checked.{Leads};
 ghost use Rattle.step_watch.specs.Watched.{Accepts, Adds, IsNewLog, IsNewWatch, Watches, has_legal_steps};
-ghost use Rattle.step_watch.specs.Watched.{has_whole_log, known_log, log_text, steps_seen, watch_off, zone_makes};
+ghost use Rattle.step_watch.specs.Watched.{has_whole_log, known_log, log_text, steps_seen, watch_off};
 ghost use Rattle.zone_blocks.specs.Config.{IsValidConfig};
 
-use group_tree::group::GroupId;
-use group_tree::path::PathText;
 use log_lines::write_entry;
 use mem_core::checker::Checker;
 use std::alloc::{AllocError, Global};
 use std::marker::Model;
-use step_rules::step::{Action, Answer, Step};
+use step_rules::step::{Answer, Step};
 use zone_blocks::config::Config;
 
 /// Takes steps where they are made, if it is on. It stops at the first step that the rules don't allow, or for whose
@@ -167,25 +163,5 @@ impl Watch {
             return;
         }
         self.is_on = check(&mut self.checker, step, answer) && write(&mut self.log, step, answer);
-    }
-
-    /// Takes a step of the zone's own seat with its answer.
-    pub fn zone_made(&mut self, action: Action, answer: Answer)
-        ensures { Watches self.old (zone_makes action answer ∷ []) self.new }
-    {
-        self.take(&Step { seat: 0, action }, &answer);
-    }
-
-    /// Takes the step of the zone's own seat that made a group of this path.
-    pub fn group_made(&mut self, path: &[u8], group: GroupId)
-        ensures { Watches self.old (zone_makes (Make path.now) (Number group) ∷ []) self.new }
-    {
-        if !self.is_on {
-            return;
-        }
-        match PathText::of(path) {
-            None => self.is_on = false,
-            Some(path) => self.zone_made(Action::Make { path }, Answer::Number(group)),
-        }
     }
 }

@@ -6,14 +6,14 @@ use Rattle.std.specs.Global.{Global}
 use Rattle.mem_system.specs.Cpus.{CpuInRun}
 use Rattle.frame_word.specs.Seats.{KnownTable}
 use Rattle.stock_word.specs.Stock.{KnownStockTable}
-use Rattle.zone_threads.specs.Homes.{HasCpu, HasNoCpu, KnownHome}
+use Rattle.zone_threads.specs.Homes.{HasCpu, KnownHome}
 use Rattle.zone_threads.specs.declared.home.NotLeft.{NotLeft}
 use Rattle.zone_threads.specs.declared.home.NotLeft.TheVariants as not_left
 use Rattle.tempolemon_threads.specs.Serving.{DropsHome, OnRawHome, ServesHomeRequest}
 use Rattle.tempolemon_threads.specs.declared.requests.Request.TheVariants.{Leave}
 use Rattle.tempolemon_threads.specs.declared.requests.RequestAnswer.{RequestAnswer}
 use Rattle.tempolemon_threads.specs.declared.requests.RequestAnswer.TheVariants as answer
-use Rattle.tempolemon_threads.specs.Zones.{IsCpuHandle, IsZoneHandle, OnPart, led_of}
+use Rattle.tempolemon_threads.specs.Zones.{IsCpuHandle, OnPart, led_of}
 
 -- what was done to the home that the pointer leads to was done behind the handle
 pub crossed : (does : KnownTable → KnownStockTable → (from to : KnownHome) → Type 0) (f : KnownTable) (s : KnownStockTable) (o : Option KnownHome)
@@ -33,12 +33,6 @@ pub cpu_behind : (f : KnownTable) (s : KnownStockTable) (is_live : Bool) (o : Op
     → IsSomeAnd o HasCpu
 cpu_behind f s is_live None is some = absurd (false≢true some)
 cpu_behind f s is_live (Some home) is some = is.cpu home refl
-
--- a zone's handle leads to a home without one
-pub zone_behind : (f : KnownTable) (s : KnownStockTable) (is_live : Bool) (o : Option KnownHome) → IsZoneHandle is_live o → IsSome (led_of f s o)
-    → IsSomeAnd o HasNoCpu
-zone_behind f s is_live None is some = absurd (false≢true some)
-zone_behind f s is_live (Some home) is some = is.no_cpu home refl
 
 -- a return by a CPU's handle doesn't find that there is no CPU
 pub no_cpu_left : (f : KnownTable) (s : KnownStockTable) (a : Global) (is_live : Bool) (o before after : Option KnownHome) (said : RequestAnswer)
