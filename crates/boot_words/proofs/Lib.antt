@@ -19,6 +19,8 @@ pub mod Resting
 pub mod Locking
 pub mod Meeting
 pub mod Sharing
+pub mod Composing
+pub mod Lent
 pub mod Beginning
 pub mod Parting
 pub mod Told

@@ -17,3 +17,4 @@ pub mod Sight
 pub mod Words
 pub mod Steps
 pub mod Growth
+pub mod Composed

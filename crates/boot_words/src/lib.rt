@@ -7,6 +7,7 @@ pub mod growth;
 mod hand_over;
 pub mod held;
 pub mod laws;
+mod lending;
 mod lock;
 pub mod locks;
 pub mod looks;
