@@ -21,6 +21,7 @@ pub mod Meeting
 pub mod Sharing
 pub mod Composing
 pub mod Lent
+pub mod TakenBack
 pub mod Beginning
 pub mod Parting
 pub mod Told

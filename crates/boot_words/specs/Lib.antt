@@ -18,3 +18,4 @@ pub mod Words
 pub mod Steps
 pub mod Growth
 pub mod Composed
+pub mod TakenBack

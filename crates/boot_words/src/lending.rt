@@ -17,7 +17,7 @@ use std::marker::Brand;
 impl BootWords {
     // The load of steps on a frame that together leave its word as it was.
     #[inline(always)]
-    fn load_for<M: Telling>(&self, raw: &mut RawSeat, _frame: Frame) -> u64
+    pub(crate) fn load_for<M: Telling>(&self, raw: &mut RawSeat, _frame: Frame) -> u64
         requires table { raw.old.table ≡ self.now.table }
         requires may { MayStep (zone_of_boot self.now) raw.old.views Quiet (λ n. n) M.told }
         ensures table { raw.new.table ≡ raw.old.table }

@@ -18,6 +18,7 @@ pub mod run_laws;
 mod seat;
 pub mod seating;
 mod stocks;
+mod taking_back;
 mod view;
 mod word;
 mod zone_frames;
