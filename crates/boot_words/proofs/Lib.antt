@@ -19,6 +19,9 @@ pub mod Resting
 pub mod Locking
 pub mod Meeting
 pub mod Sharing
+pub mod Composing
+pub mod Lent
+pub mod TakenBack
 pub mod Beginning
 pub mod Parting
 pub mod Told

@@ -50,7 +50,7 @@ stock_total f [] = refl
 stock_total f (views ∷ seats) = (λ i. stock_sum f views i + stock_total f seats i)
 
 -- the rule reads totals alone, and whether each past fits
-moved : (zone : Zone) (words : List ℕ) (seats later : List (List BootView)) → SameTotals seats later → (k : BootRule zone words seats)
+pub moved : (zone : Zone) (words : List ℕ) (seats later : List (List BootView)) → SameTotals seats later → (k : BootRule zone words seats)
     → AllViews (FitsRun k.run) later → BootRule zone words later
 moved zone words seats later same k fits = record {
   run = k.run;

@@ -17,3 +17,5 @@ pub mod Sight
 pub mod Words
 pub mod Steps
 pub mod Growth
+pub mod Composed
+pub mod TakenBack

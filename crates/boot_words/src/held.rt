@@ -4,6 +4,8 @@
 ghost use Rattle.boot_words.specs.Held.{CollectIsAllowed, PassBackIsAllowed, PassOutIsAllowed, TakeInIsAllowed};
 ghost use Rattle.boot_words.specs.Held.{OpenVisitIsAllowed, PlainIsAllowed, ShutVisitIsAllowed, UnfreezeIsAllowed};
 ghost use Rattle.boot_words.specs.Held.{FreezeIsAllowed, HeldPutIsAllowed};
+ghost use Rattle.boot_words.specs.Composed.{LendIsAllowed};
+ghost use Rattle.boot_words.specs.TakenBack.{TakeBackIsAllowed};
 ghost use Rattle.boot_words.specs.StockHeld.{AbsorbIsAllowed, DrainIsAllowed, FillIsAllowed, HeldConsumeIsAllowed};
 ghost use Rattle.boot_words.specs.StockHeld.{ReportIsAllowed};
 
@@ -80,4 +82,14 @@ pub fn a_report_is_allowed<S>()
 /// The CPU consumes a page that its stock has by the book.
 pub fn a_held_consume_is_allowed<S>()
     ensures { HeldConsumeIsAllowed S }
+{}
+
+/// The zone lends a frame of its hand to the CPU: two steps, made by a load of a word that nobody writes.
+pub fn a_lend_is_allowed()
+    ensures { LendIsAllowed }
+{}
+
+/// The zone takes back a fresh frame and its page: four steps, made by a load of a word that nobody writes.
+pub fn a_take_back_is_allowed()
+    ensures { TakeBackIsAllowed }
 {}

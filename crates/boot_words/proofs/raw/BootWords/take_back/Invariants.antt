@@ -1,0 +1,6 @@
+use Rattle.boot_words.specs.Seats.{zone_of_boot}
+use Rattle.boot_words.proofs.TakenBack.{takes_back_told}
+use Rattle.boot_words.proofs.raw.BootWords.take_back.Given as goal
+
+abbrev pub ghosts-load_for : goal.ghosts-load_for
+ghosts-load_for a = record { told = takes_back_told (zone_of_boot a.self.now) a.raw.now.views a._frame }
