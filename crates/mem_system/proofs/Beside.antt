@@ -96,7 +96,7 @@ counts_both s (e ∷ xs) ys x = counts_both (after s e.0.seat e.0.action e.1) xs
 
 -- Of each group that is there after the run, the ledger has the peak and the events of the run; and these are the run's
 -- counts of units.
-pub record IsCounted (t : KnownTable) (run : Run) (l : Ledger) (x : Counts) : Type 0 where
+pub record CountsRun (t : KnownTable) (run : Run) (l : Ledger) (x : Counts) : Type 0 where
   pub peak : (m : ℕ) → has_group (state_of (zone_of t) run).groups m ≡ true → IsPeak (zone_of t) run m (peak_of l m)
   pub events : (key : EventKey) (m : ℕ) → has_group (state_of (zone_of t) run).groups m ≡ true
       → count_of (events_of l m) key ≡ events_in key (zone_of t) run m
@@ -108,7 +108,7 @@ pub legal_front : (zone : Zone) (xs ys : Run) → IsLegalRun zone (xs ++ ys) →
 legal_front zone xs ys legal = subst (IsLegalRun zone) (take_length xs ys) (legal_from zone (xs ++ ys) (length xs) legal)
 
 counted_one : (t : KnownTable) (run : Run) (e : Step × Answer) (l : Ledger) (x : Counts) → IsLegalRun (zone_of t) (run ++ e ∷ []) → e.0.seat ≢ 0
-    → IsCounted t run l x → IsCounted t (run ++ e ∷ []) l x
+    → CountsRun t run l x → CountsRun t (run ++ e ∷ []) l x
 counted_one t run e l x legal ne told =
     let zone = zone_of t in
     let s = state_of zone run in
@@ -129,10 +129,10 @@ counted_one t run e l x legal ne told =
 
 -- steps that the zone's seat doesn't make leave what is counted
 pub counted_beside : (t : KnownTable) (run rest : Run) (l : Ledger) (x : Counts) → IsLegalRun (zone_of t) (run ++ rest) → HasNoStepOf 0 rest
-    → IsCounted t run l x → IsCounted t (run ++ rest) l x
-counted_beside t run [] l x legal none told = subst (λ (r : Run). IsCounted t r l x) (sym (append_none run)) told
+    → CountsRun t run l x → CountsRun t (run ++ rest) l x
+counted_beside t run [] l x legal none told = subst (λ (r : Run). CountsRun t r l x) (sym (append_none run)) told
 counted_beside t run (e ∷ rest) l x legal none told =
     let more = append_assoc run (e ∷ []) rest in
     let all = subst (IsLegalRun (zone_of t)) (sym more) legal in
-    subst (λ (r : Run). IsCounted t r l x) more
+    subst (λ (r : Run). CountsRun t r l x) more
     (counted_beside t (run ++ e ∷ []) rest l x all none.1 (counted_one t run e l x (legal_front (zone_of t) (run ++ e ∷ []) rest all) none.0 told))

@@ -29,12 +29,12 @@ use Rattle.step_rules.specs.declared.step.Action.TheVariants.{Collect, Lock, Ret
 use Rattle.step_rules.specs.declared.step.Answer.{Answer}
 use Rattle.step_rules.specs.declared.step.Answer.TheVariants.{Done, Illegal}
 use Rattle.step_rules.specs.State.{State, Zone, at_boot}
-use Rattle.step_rules.specs.Legal.{IsAnswer, IsCounted as IsDecidedStep}
+use Rattle.step_rules.specs.Legal.{IsAnswer, IsCounted}
 use Rattle.step_rules.specs.After.{IsLegalRun, Run, after, state_of}
 use Rattle.step_rules.specs.Views.{phase_seen_by, seen_by, stage_seen_by}
 use Rattle.step_rules.specs.Laws.{ShowsLocal, pushed}
 use Rattle.step_rules.specs.Reaches.{IsInterleaved, IsLocalRun, MayFollow, is_own, own_steps}
-use Rattle.step_rules.specs.Returns.{is_killed_return_phase, is_killed_return_stage}
+use Rattle.step_rules.specs.Returns.{is_killed_return_phase}
 use Rattle.step_rules.specs.Peaks.{IsPeak}
 use Rattle.step_rules.proofs.LocalLaws.{other_step_is_hidden, own_step_is_legal}
 use Rattle.step_rules.proofs.Noting.{events_are_counted}
@@ -57,8 +57,9 @@ use Rattle.mem_machine.specs.Resting.{Rests}
 use Rattle.mem_machine.proofs.Noted.{run_ends}
 use Rattle.mem_machine.proofs.Reached.{with_past}
 use Rattle.mem_machine.proofs.Tells.{ledgers_agree}
+use Rattle.mem_system.specs.Counted.{VisitsFindCounts}
 use Rattle.mem_system.specs.Locked.{CountsItsRun, counts_in}
-use Rattle.mem_system.proofs.Beside.{IsCounted, counted_beside, counts_both, other_uncounted}
+use Rattle.mem_system.proofs.Beside.{CountsRun, counted_beside, counts_both, other_uncounted}
 use Rattle.mem_system.proofs.Mixed.{AreBehindOthers, all_own, as_many, gained, just_these, zone_and_cpu}
 
 -- ---- what the lock's holder sees of a step counts as the whole does
@@ -134,7 +135,7 @@ interleaved zone p run [] legal all k = tt
 interleaved zone p run (e ∷ mixed) legal all zero =
     let s = state_of zone run in
     let ok = allowed_at zone run e mixed legal in
-    let decided : is_own p e.0.seat ≡ true → IsDecidedStep s e.0.action e.1 = λ own. elim (allowed s e.0.seat e.0.action e.1 ok) [
+    let decided : is_own p e.0.seat ≡ true → IsCounted s e.0.action e.1 = λ own. elim (allowed s e.0.seat e.0.action e.1 ok) [
       | inl illegal ↦ absurd ((subst (λ (b : Bool). Answered (cond b (e ∷ own_steps p mixed) (own_steps p mixed))) own all).0 illegal)
       | inr made ↦ made.counted
     ] in
@@ -189,7 +190,7 @@ count_mixed zone p run a (e ∷ mixed) b x shows leads mixes =
 -- ---- between the machine and the run
 
 as_counted : (t : KnownTable) (run : Run) (l : Ledger) (x : Counts) → (state_of (zone_of t) run).groups ≡ l.groups → AgreesWithRun t run l
-    → x ≡ counts_in t run → IsCounted t run l x
+    → x ≡ counts_in t run → CountsRun t run l x
 as_counted t run l x groups told counts =
     let there = λ (m : ℕ). ap (λ (gs : List Group). has_group gs m) (sym groups) in
     record {
@@ -199,7 +200,7 @@ as_counted t run l x groups told counts =
       counts = counts;
     }
 
-agreed : (t : KnownTable) (run : Run) (l : Ledger) (x : Counts) → (state_of (zone_of t) run).groups ≡ l.groups → IsCounted t run l x → AgreesWithRun t run l
+agreed : (t : KnownTable) (run : Run) (l : Ledger) (x : Counts) → (state_of (zone_of t) run).groups ≡ l.groups → CountsRun t run l x → AgreesWithRun t run l
 agreed t run l x groups told =
     let there = λ (m : ℕ). ap (λ (gs : List Group). has_group gs m) groups in
     record {
@@ -217,18 +218,18 @@ same_counted t m n ledger counts past told = record {
 
 -- the run went on by steps of others, and the machine is the same otherwise
 grown : (t : KnownTable) (run rest : Run) (l : Ledger) (x : Counts) (k : KnownMachine) → (own_past k.run.past).seen ≡ run ++ rest → Rests t k
-    → HasNoStepOf 0 rest → k.ledger ≡ l → k.counts ≡ x → IsCounted t run l x → CountsItsRun t k
+    → HasNoStepOf 0 rest → k.ledger ≡ l → k.counts ≡ x → CountsRun t run l x → CountsItsRun t k
 grown t run rest l x k is rests none ledger counts told =
     let legal = subst (IsLegalRun (zone_of t)) is rests.past_is.legal in
-    let all : IsCounted t (own_past k.run.past).seen k.ledger k.counts =
-    subst (λ (v : Run × Ledger × Counts). IsCounted t v.0 v.1 v.2) (λ i. (sym is i, sym ledger i, sym counts i))
+    let all : CountsRun t (own_past k.run.past).seen k.ledger k.counts =
+    subst (λ (v : Run × Ledger × Counts). CountsRun t v.0 v.1 v.2) (λ i. (sym is i, sym ledger i, sym counts i))
     (counted_beside t run rest l x legal none told) in
     record {
       agrees = agreed t (own_past k.run.past).seen k.ledger k.counts (ap (λ (s : State). s.groups) rests.left) all;
       counts = all.counts;
     }
 
-resting : (t : KnownTable) (m : KnownMachine) → Rests t m → CountsItsRun t m → IsCounted t (own_past m.run.past).seen m.ledger m.counts
+resting : (t : KnownTable) (m : KnownMachine) → Rests t m → CountsItsRun t m → CountsRun t (own_past m.run.past).seen m.ledger m.counts
 resting t m rests told = as_counted t (own_past m.run.past).seen m.ledger m.counts (ap (λ (s : State). s.groups) rests.left) told.agrees told.counts
 
 -- a CPU and the zone met
@@ -269,7 +270,7 @@ visit_counted t m n k c d steps past past' held rests told locks shown makes giv
     let legal_one : IsLegalRun zone z1.seen = subst (IsLegalRun zone) (sym locked.holds.same) locked.holds.shows.legal in
     let others = one_more 0 gap lock (subst (λ (q : ℕ). HasNoStepOf q gap) rests.past_is.zone_is locks.zone_grew.others)
     (λ zero_is. locked.holds.cpu_is (locks.cpu_grew.number ∙ zero_is)) in
-    let told_one : IsCounted t z1.seen m.ledger m.counts = subst (λ (r : Run). IsCounted t r m.ledger m.counts) (sym is_one)
+    let told_one : CountsRun t z1.seen m.ledger m.counts = subst (λ (r : Run). CountsRun t r m.ledger m.counts) (sym is_one)
     (counted_beside t z.seen (gap ++ lock ∷ []) m.ledger m.counts (subst (IsLegalRun zone) is_one legal_one) others (resting t m rests told)) in
     let shows : ShowsLocal zone z1.seen p a =
     subst (λ (v : Run × ℕ × State). ShowsLocal zone v.0 v.1 v.2) (λ i. (sym locked.holds.same i, shown.who i, shown.here i)) locked.holds.shows in
@@ -354,3 +355,24 @@ first_counted t w m first none = record {
   agrees = subst (λ (v : Run × Ledger). AgreesWithRun t v.0 v.1) (λ i. (sym none i, sym first.ledger i)) (first_agrees t);
   counts = first.counts ∙ ap (counts_in t) (sym none);
 }
+
+-- ---- from one visit to the next
+
+pub visits_find_counts : VisitsFindCounts
+visits_find_counts t w left found others sound sound_found is none =
+    let here = own_past found.machine.run.past in
+    let quiet = sound_found.quiet in
+    let m = found.machine in
+    let l = left.machine.ledger in
+    let x = left.machine.counts in
+    let legal = subst (IsLegalRun (zone_of t)) is quiet.rests.past_is.legal in
+    let was : CountsRun t here.seen l x = subst (λ (r : Run). CountsRun t r l x) (sym is)
+    (counted_beside t (own_past left.machine.run.past).seen others l x legal none (resting t left.machine sound.quiet.rests sound.quiet.counted)) in
+    let now = resting t m quiet.rests quiet.counted in
+    let there = λ (g : ℕ). ap (λ (s : State). has_group s.groups g) quiet.rests.left in
+    record {
+      counts = now.counts ∙ sym was.counts;
+      peak = λ g is. peaks_are_kept.one (zone_of t) here.seen g (peak_of m.ledger g) (peak_of l g) (now.peak g (there g ∙ is)) (was.peak g (there g ∙ is));
+      events = λ key g is. now.events key g (there g ∙ is) ∙ sym (was.events key g (there g ∙ is));
+      events_local = λ key g is. now.events_local key g (there g ∙ is) ∙ sym (was.events_local key g (there g ∙ is));
+    }
