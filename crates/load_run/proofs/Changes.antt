@@ -1,5 +1,5 @@
 -- The changes of a seat in a run, and how they grow with its past.
-use Rattle.std.proofs.Common.{◌≡◌, ◌∙◌, ℕ, ◌==◌, ◌&&◌, Bool, true, false, [], ◌∷◌, ◌++◌, cond, refl, ap, sym, subst, inl, inr, append_assoc}
+use Rattle.std.proofs.Common.{◌≡◌, ◌∙◌, ℕ, ◌==◌, ◌&&◌, Bool, true, false, [], ◌∷◌, ◌++◌, cond, refl, ap, sym, inl, inr, append_assoc}
 use Rattle.std.specs.Prelude.{not}
 use Rattle.std.proofs.lemmas.Bool.{ne_eqb}
 use Rattle.std.proofs.lemmas.List.Elements.{filter-append}
@@ -9,7 +9,7 @@ use Rattle.step_rules.specs.After.{Run}
 use Rattle.boot_words.specs.Growth.{AreChangesOf, GrewByAll, changes_nothing}
 use Rattle.boot_words.specs.Runs.{HasNoStepOf, OthersFollow}
 use Rattle.boot_words.specs.declared.view.Past.{Past}
-use Rattle.boot_words.proofs.Holding.{append_none}
+use Rattle.mem_system.proofs.Mixed.{AreBehindOthers, gained}
 use Rattle.load_run.specs.Survey.{ChangesFollow, changes_by}
 
 -- the step is a change of the seat
@@ -41,42 +41,6 @@ same_changes seat (e ∷ run) steps (inr h) =
     ap (λ (l : Run). cond (is_change seat e) (e ∷ l) l) (same_changes seat run h.0 h.2) ∙ ap (changes_by seat) (sym h.1)
 
 -- ---- a past that grew by steps
-
--- the run is these steps, each behind steps of other seats
-abbrev pub AreBehindOthers : ℕ → (steps run : Run) → Type 0
-AreBehindOthers seat [] run = run ≡ []
-AreBehindOthers seat (e ∷ steps) run = (gap : Run) × (rest : Run) × HasNoStepOf seat gap × (run ≡ gap ++ e ∷ rest) × AreBehindOthers seat steps rest
-
--- what a past gained with these steps
-pub record Gained (before : Past) (steps : Run) (later : Past) : Type 0 where
-  pub number : later.number ≡ before.number
-  pub run : Run
-  pub seen : later.seen ≡ before.seen ++ run
-  pub behind : AreBehindOthers before.number steps run
-
-pub gained : (before : Past) (steps : Run) (later : Past) → GrewByAll before steps later → Gained before steps later
-gained before [] later same = record {
-  number = ap (λ (p : Past). p.number) same;
-  run = [];
-  seen = ap (λ (p : Past). p.seen) same ∙ sym (append_none before.seen);
-  behind = refl;
-}
-gained before (e ∷ steps) later grew =
-    let one = grew.1 in
-    let more = gained grew.0 steps later grew.2 in
-    record {
-      number = more.number ∙ one.number;
-      run = one.between ++ e ∷ more.run;
-      seen = more.seen ∙ ap (λ (l : Run). l ++ more.run) one.seen ∙ append_assoc (before.seen ++ one.between) (e ∷ []) more.run
-          ∙ append_assoc before.seen one.between (e ∷ more.run);
-      behind = (
-        one.between,
-        more.run,
-        one.others,
-        refl,
-        subst (λ (n : ℕ). AreBehindOthers n steps more.run) one.number more.behind,
-      );
-    }
 
 -- such a run has the changes of the steps
 changes_behind : (seat : ℕ) (steps run : Run) → AreBehindOthers seat steps run → changes_by seat run ≡ changes_by seat steps

@@ -1,7 +1,7 @@
 -- A run shows a visit whose CPU's past is a beginning of it. Serves `runs_show_visits`.
-use Rattle.std.proofs.Common.{◌≡◌, ◌≢◌, ◌∙◌, ◌≤◌, ℕ, ◌+◌, ◌==◌, ◌||◌, Bool, true, false, [], ◌∷◌, ◌++◌, cond, refl, ap, sym, subst, arith, inl, inr, append_assoc}
+use Rattle.std.proofs.Common.{◌≡◌, ◌≢◌, ◌∙◌, ℕ, ◌+◌, ◌==◌, Bool, true, false, [], ◌∷◌, ◌++◌, cond, refl, ap, sym, subst, arith, inl, inr, append_assoc}
 use Rattle.std.specs.Prelude.{◌⊎◌}
-use Rattle.std.proofs.lemmas.Bool.{and_parts, eq-eqb, eqb-true, false≢true, ne_eqb, true≢false}
+use Rattle.std.proofs.lemmas.Bool.{and_parts, eqb-true, false≢true, true≢false}
 use Rattle.std.proofs.lemmas.List.Elements.{filter-append}
 use Rattle.step_rules.specs.declared.phase.Hold.{Hold}
 use Rattle.step_rules.specs.declared.phase.Hold.TheVariants.{HeldBy, Unheld, Visiting}
@@ -12,15 +12,15 @@ use Rattle.step_rules.specs.declared.step.Action.{Action}
 use Rattle.step_rules.specs.declared.step.Action.TheVariants.{Lock, Unlock, OpenVisit, ShutVisit, Get, Put, Freeze, Unfreeze, PassOut, TakeIn, PassBack, Collect}
 use Rattle.step_rules.specs.declared.step.Action.TheVariants.{Consume, Credit, Report, Absorb, Fill, DrainStock, Grant, Ungrant, PlaceBlock, Publish, Return}
 use Rattle.step_rules.specs.declared.step.Action.TheVariants.{NoteMax, NoteOom, NoteGroupKill, SetMax, SetFlag, Make, Remove, Kill}
-use Rattle.step_rules.specs.State.{Zone, State, is_unheld, may_zone_act, one_if, visits}
+use Rattle.step_rules.specs.State.{Zone, State, is_unheld, may_zone_act, visits}
 use Rattle.step_rules.specs.Legal.{Allows, IsAnswer, IsMade, is_legal}
 use Rattle.step_rules.specs.After.{IsLegalRun, Run, after, state_of}
-use Rattle.step_rules.specs.Reaches.{IsLocalRun, is_own, own_steps}
+use Rattle.step_rules.specs.Reaches.{is_own, own_steps}
 use Rattle.step_rules.proofs.LegalTests.{lock_tests, open_visit_tests, shut_visit_tests, freeze_tests, unfreeze_tests, pass_out_tests, take_in_tests, pass_back_tests, collect_tests}
 use Rattle.step_rules.proofs.LegalTests.{report_tests, absorb_tests, fill_tests, drain_stock_tests, grant_tests, ungrant_tests, place_block_tests, publish_tests, return_tests}
 use Rattle.step_rules.proofs.LegalTests.{set_max_tests, set_flag_tests, make_tests, remove_tests, kill_tests}
 use Rattle.step_rules.proofs.PhaseLemmas.{visited}
-use Rattle.step_rules.proofs.Runs.{after_illegal, allowed, legal_from, sound_run, state_more}
+use Rattle.step_rules.proofs.Runs.{after_illegal, allowed, sound_run, state_more}
 use Rattle.step_rules.proofs.Sound.{IsSound}
 use Rattle.boot_words.specs.Growth.{GrewByAll}
 use Rattle.boot_words.specs.Hidden.{hide}
@@ -28,82 +28,13 @@ use Rattle.boot_words.specs.Pasts.{own_past}
 use Rattle.boot_words.specs.Runs.{HasNoStepOf, IsFast}
 use Rattle.boot_words.specs.declared.view.Past.{Past}
 use Rattle.boot_words.proofs.Hiding.{fast_is_hidden}
-use Rattle.boot_words.proofs.Holding.{allowed_at, append_none, take_length}
+use Rattle.boot_words.proofs.Holding.{allowed_at, append_none}
 use Rattle.mem_machine.specs.Interleaving.{zone_of}
 use Rattle.mem_machine.specs.Steps.{cpu_makes}
 use Rattle.mem_system.specs.Cpus.{between_locks}
+use Rattle.mem_system.proofs.Beside.{legal_front}
+use Rattle.mem_system.proofs.Mixed.{AreBehindOthers, all_own, as_many, both, cpu_and_zone, gained, has_none, just_these, no_fewer, none_of, own_is, steps_of, zone_and_cpu}
 use Rattle.load_run.specs.Threads.{PastsBegin, RunsShowVisits}
-use Rattle.load_run.proofs.Changes.{AreBehindOthers, gained}
-
--- ---- how many steps of a seat
-
-abbrev steps_of : ℕ → Run → ℕ
-steps_of seat [] = 0
-steps_of seat (e ∷ run) = one_if (e.0.seat == seat) + steps_of seat run
-
-both : (seat : ℕ) (xs ys : Run) → steps_of seat (xs ++ ys) ≡ steps_of seat xs + steps_of seat ys
-both seat [] ys = omega arith
-both seat (e ∷ xs) ys = let more = both seat xs ys in omega (arith, more)
-
-none_of : (seat : ℕ) (run : Run) → HasNoStepOf seat run → steps_of seat run ≡ 0
-none_of seat [] none = refl
-none_of seat (e ∷ run) none =
-    let here = ap one_if (ne_eqb e.0.seat seat none.0) in
-    let more = none_of seat run none.1 in omega (arith, here, more)
-
-own_one : (seat : ℕ) (e : Step × Answer) → e.0.seat ≡ seat → one_if (e.0.seat == seat) ≡ 1
-own_one seat e same = ap one_if (eq-eqb e.0.seat seat same)
-
-has_none : (seat : ℕ) (run : Run) → steps_of seat run ≡ 0 → HasNoStepOf seat run
-has_none seat [] none = tt
-has_none seat (e ∷ run) none =
-    (λ same. absurd (let one = own_one seat e same in omega (arith, one, none)), has_none seat run (omega (arith, none)))
-
--- steps behind those of others: no more of the seat, and no fewer of any other
-as_many : (seat : ℕ) (steps run : Run) → AreBehindOthers seat steps run → steps_of seat run ≡ steps_of seat steps
-as_many seat [] run e = ap (steps_of seat) e
-as_many seat (e ∷ steps) run h =
-    let is = ap (steps_of seat) h.3 in
-    let parts = both seat h.0 (e ∷ h.1) in
-    let none = none_of seat h.0 h.2 in
-    let more = as_many seat steps h.1 h.4 in omega (arith, is, parts, none, more)
-
-no_fewer : (seat other : ℕ) (steps run : Run) → AreBehindOthers seat steps run → steps_of other steps ≤ steps_of other run
-no_fewer seat other [] run e = let none = ap (steps_of other) e in omega (arith, none)
-no_fewer seat other (e ∷ steps) run h =
-    let is = ap (steps_of other) h.3 in
-    let parts = both other h.0 (e ∷ h.1) in
-    let more = no_fewer seat other steps h.1 h.4 in omega (arith, is, parts, more)
-
--- ---- the steps of two seats
-
--- these two seats are the zone's and the CPU's
-abbrev AreOwn : (cpu one other : ℕ) → Type 0
-AreOwn cpu one other = (seat : ℕ) → seat ≢ one → seat ≢ other → is_own cpu seat ≡ false
-
-none_own : (cpu one other : ℕ) → AreOwn cpu one other → (run : Run) → HasNoStepOf one run → HasNoStepOf other run → own_steps cpu run ≡ []
-none_own cpu one other own [] none also = refl
-none_own cpu one other own (e ∷ run) none also =
-    ap (λ (b : Bool). cond b (e ∷ own_steps cpu run) (own_steps cpu run)) (own e.0.seat none.0 also.0) ∙ none_own cpu one other own run none.1 also.1
-
--- If the run has no more steps of either seat than these steps, they are all steps of both.
-just_these : (cpu one other : ℕ) → AreOwn cpu one other → (steps run : Run) → AreBehindOthers one steps run → steps_of other run ≤ steps_of other steps
-    → own_steps cpu run ≡ own_steps cpu steps
-just_these cpu one other own [] run e most = ap (own_steps cpu) e
-just_these cpu one other own (e ∷ steps) run h most =
-    let is = ap (steps_of other) h.3 in
-    let parts = both other h.0 (e ∷ h.1) in
-    let least = no_fewer one other steps h.1 h.4 in
-    let none : HasNoStepOf other h.0 = has_none other h.0 (omega (arith, is, parts, least, most)) in
-    ap (own_steps cpu) h.3 ∙ filter-append (λ d. is_own cpu d.0.seat) h.0 (e ∷ h.1)
-    ∙ ap (λ (l : Run). l ++ own_steps cpu (e ∷ h.1)) (none_own cpu one other own h.0 h.2 none)
-    ∙ ap (λ (l : Run). cond (is_own cpu e.0.seat) (e ∷ l) l) (just_these cpu one other own steps h.1 h.4 (omega (arith, is, parts, most)))
-
-zone_and_cpu : (cpu : ℕ) → AreOwn cpu 0 cpu
-zone_and_cpu cpu seat not_zone not_cpu = ap (λ (b : Bool). b || seat == cpu) (ne_eqb seat 0 not_zone) ∙ ne_eqb seat cpu not_cpu
-
-cpu_and_zone : (cpu : ℕ) → AreOwn cpu cpu 0
-cpu_and_zone cpu seat not_cpu not_zone = zone_and_cpu cpu seat not_zone not_cpu
 
 -- ---- where a visit begins
 
@@ -276,9 +207,6 @@ step_leaves zone run e legal closed ne ok =
       ]
     ]
 
-legal_front : (zone : Zone) (xs ys : Run) → IsLegalRun zone (xs ++ ys) → IsLegalRun zone xs
-legal_front zone xs ys legal = subst (IsLegalRun zone) (take_length xs ys) (legal_from zone (xs ++ ys) _ legal)
-
 run_leaves : (zone : Zone) (seen rest : Run) → IsLegalRun zone (seen ++ rest) → HasNoStepOf 0 rest → NoVisit (state_of zone seen).hold
     → LeavesAll (state_of zone seen) (state_of zone (seen ++ rest))
 run_leaves zone seen [] legal none closed =
@@ -316,21 +244,6 @@ visit_in_run zone cpu steps seen run legal free b =
     still_hidden zone seen b.gap (legal_front zone front (lock ∷ b.rest) whole) b.others free (lock_tests (state_of zone front) cpu made.legal).1
 
 -- ---- the law
-
-own_is : (cpu seat : ℕ) → (seat ≡ 0) ⊎ (seat ≡ cpu) → is_own cpu seat ≡ true
-own_is cpu seat (inl is) = ap (λ (b : Bool). b || seat == cpu) (eq-eqb seat 0 is)
-own_is cpu seat (inr is) = ap (λ (b : Bool). seat == 0 || b) (eq-eqb seat cpu is) ∙ or_true (seat == 0)
-  where
-    or_true : (b : Bool) → (b || true) ≡ true
-    or_true true = refl
-    or_true false = refl
-
--- the steps of a visit are all of its CPU and of the zone's seat
-all_own : (cpu : ℕ) (a : State) (steps : Run) (b : State) → IsLocalRun cpu a steps b → own_steps cpu steps ≡ steps
-all_own cpu a [] b leads = refl
-all_own cpu a (e ∷ steps) b leads =
-    ap (λ (t : Bool). cond t (e ∷ own_steps cpu steps) (own_steps cpu steps)) (own_is cpu e.0.seat leads.0.own)
-    ∙ ap (λ (l : Run). e ∷ l) (all_own cpu (after a e.0.seat e.0.action e.1) steps b leads.1)
 
 own_between : (cpu : ℕ) (steps : Run) → own_steps cpu steps ≡ steps → own_steps cpu (between_locks cpu steps) ≡ between_locks cpu steps
 own_between cpu steps all =

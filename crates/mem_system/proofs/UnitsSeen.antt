@@ -8,7 +8,7 @@ use Rattle.mem_machine.specs.Machines.{KnownMachine}
 use Rattle.mem_machine.specs.Resting.{Rests, hidden_of}
 use Rattle.mem_machine.specs.Showing.{ListedUnit, units_in, with_looks_at}
 use Rattle.mem_machine.proofs.Looks.{looks_opened, looks_unseen}
-use Rattle.mem_system.specs.Locked.{AllShut}
+use Rattle.mem_system.specs.Locked.{AllShut, CountsItsRun}
 
 -- no visit is open after the looks
 pub units_shut : (g : ℕ) (tells : List ℕ → Type 0) (m n : KnownMachine) → ReadsUnits g tells m n → AllShut m → AllShut n
@@ -26,3 +26,7 @@ still_hidden t units pins m i = record (hidden_of t m) {
 pub units_rest : (t : KnownTable) (g : ℕ) (tells : List ℕ → Type 0) (m n : KnownMachine) → ReadsUnits g tells m n → Rests t m → Rests t n
 units_rest t g tells m n is rests = subst (Rests t) (sym is.looks.machine)
     (record { past_is = rests.past_is; free = rests.free; left = rests.left ∙ sym (still_hidden t (units_in m g) is.pins m) })
+
+-- and it counts what it counted
+pub units_counted : (t : KnownTable) (g : ℕ) (tells : List ℕ → Type 0) (m n : KnownMachine) → ReadsUnits g tells m n → CountsItsRun t m → CountsItsRun t n
+units_counted t g tells m n is told = subst (CountsItsRun t) (sym is.looks.machine) (record { agrees = told.agrees; counts = told.counts })

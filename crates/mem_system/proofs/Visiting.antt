@@ -23,6 +23,7 @@ use Rattle.mem_machine.proofs.Followed.{makes_both}
 use Rattle.mem_machine.proofs.Reached.{makes_unheld, shown_same, with_past}
 use Rattle.mem_machine.specs.Noted.{KnownRun}
 use Rattle.boot_words.specs.Pasts.{KnownPasts, Locks, Unlocks, own_past}
+use Rattle.step_rules.specs.After.{Run}
 
 pub all_shut : (m x n : KnownMachine) (p : ℕ) (left : KnownRun) → AllShut m → x.frame_seat.view.opened ≡ put_at 0 m.frame_seat.view.opened p 1
     → n ≡ with_run (with_visit_of x p 0) left → AllShut n
@@ -75,6 +76,32 @@ opened_so m m1 m2 entered p past run lock forgot is = is ∙ ap (λ (y : KnownMa
 only_run : (k m : KnownMachine) (run : KnownRun) → k ≡ with_run m run → k ≡ with_run m k.run
 only_run k m run is = is ∙ ap (λ (z : KnownMachine). with_run m z.run) (sym is)
 
+-- All steps of a visit, from those of its four parts. The CPU took the lock first, so the machine had found this past.
+pub all_made : (t : KnownTable) (m0 : KnownMachine) (c d : KnownCpu) (entered mid x n : KnownMachine) (c1 c2 c3 : KnownCpu) (found : KnownPasts) (inner : Run)
+    → entered ≡ with_run (with_visit_of (without_notes m0) c.number 1) entered.run → c1 ≡ c → c2.number ≡ c1.number → c3.number ≡ c2.number
+    → MakesAs t c.number (visit_state (without_notes (with_past m0 found)) c) (open_steps c.number) (visit_state entered c1)
+    → MakesAs t c1.number (visit_state entered c1) (settle_steps (visit_state entered c1)) (visit_state mid c2)
+    → MakesAs t c2.number (visit_state mid c2) inner (visit_state x c3) → MakesAs t c3.number (visit_state x c3) (shut_steps c3.number) (visit_state n d)
+    → MakesAs t c.number (visit_state (with_past m0 found) c) (open_steps c.number
+    ++ (settle_steps (visit_state (with_run (with_visit_of (without_notes m0) c.number 1) entered.run) c) ++ (inner ++ shut_steps c.number))) (visit_state n d)
+all_made t m0 c d entered mid x n c1 c2 c3 found inner opened same second third first rests does last =
+    let p = c.number in
+    let m = with_past m0 found in
+    let begins = with_run (with_visit_of (without_notes m0) p 1) entered.run in
+    let two : c2.number ≡ p = second ∙ ap (λ (y : KnownCpu). y.number) same in
+    let three : c3.number ≡ p = third ∙ two in
+    let before : KnownMachine × KnownCpu → Type 0 = λ (y : KnownMachine × KnownCpu). MakesAs t p (visit_state m c) (open_steps p) (visit_state y.0 y.1) in
+    let begun : MakesAs t p (visit_state m c) (open_steps p) (visit_state begins c) =
+    subst before (λ i. (opened i, same i)) (record { leads = first.leads; follows = first.follows; counts = first.counts; noted = first.noted }) in
+    let rested : MakesAs t p (visit_state begins c) (settle_steps (visit_state begins c)) (visit_state mid c2) =
+    subst (λ (y : KnownMachine × KnownCpu). MakesAs t y.1.number (visit_state y.0 y.1) (settle_steps (visit_state y.0 y.1)) (visit_state mid c2)) (λ i. (opened i, same i)) rests in
+    let inside = subst (λ (q : ℕ). MakesAs t q (visit_state mid c2) inner (visit_state x c3)) two does in
+    let ended = subst (λ (q : ℕ). MakesAs t q (visit_state x c3) (shut_steps q) (visit_state n d)) three last in
+    makes_both t p (open_steps p) (settle_steps (visit_state begins c) ++ (inner ++ shut_steps p)) (visit_state m c) (visit_state begins c)
+    (visit_state n d) begun
+    (makes_both t p (settle_steps (visit_state begins c)) (inner ++ shut_steps p) (visit_state begins c) (visit_state mid c2) (visit_state n d) rested
+    (makes_both t p inner (shut_steps p) (visit_state mid c2) (visit_state x c3) (visit_state n d) inside ended))
+
 -- The whole command, from its four parts. The CPU took the lock first, so the machine had found this past, and released it
 -- last.
 pub served : (t : KnownTable) (cmd : Cmd) (l k : KnownLocked) (c d : KnownCpu) (reply : Reply) (entered mid x n : KnownMachine) (c1 c2 c3 : KnownCpu)
@@ -93,20 +120,10 @@ served t cmd l k c d reply entered mid x n c1 c2 c3 found alone opened same seco
     let begins = with_run (with_visit_of (without_notes l.machine) p 1) entered.run in
     let two : c2.number ≡ p = second ∙ ap (λ (y : KnownCpu). y.number) same in
     let three : c3.number ≡ p = third ∙ two in
-    let before : KnownMachine × KnownCpu → Type 0 = λ (y : KnownMachine × KnownCpu). MakesAs t p (visit_state m c) (open_steps p) (visit_state y.0 y.1) in
-    let begun : MakesAs t p (visit_state m c) (open_steps p) (visit_state begins c) =
-    subst before (λ i. (opened i, same i)) (record { leads = first.leads; follows = first.follows; counts = first.counts; noted = first.noted }) in
     let settled : Settles (visit_state begins c) (visit_state mid c2) = subst (λ (y : KnownMachine × KnownCpu). Settles (visit_state y.0 y.1) (visit_state mid c2)) (λ i. (opened i, same i)) settles in
-    let rested : MakesAs t p (visit_state begins c) (settle_steps (visit_state begins c)) (visit_state mid c2) =
-    subst (λ (y : KnownMachine × KnownCpu). MakesAs t y.1.number (visit_state y.0 y.1) (settle_steps (visit_state y.0 y.1)) (visit_state mid c2)) (λ i. (opened i, same i)) rests in
-    let inside = subst (λ (q : ℕ). MakesAs t q (visit_state mid c2) executed.steps (visit_state x c3)) two executed.makes in
-    let ended = subst (λ (q : ℕ). MakesAs t q (visit_state x c3) (shut_steps q) (visit_state n d)) three last in
     let steps = open_steps p ++ (settle_steps (visit_state begins c) ++ (executed.steps ++ shut_steps p)) in
     let all : MakesAs t p (visit_state m c) steps (visit_state n d) =
-    makes_both t p (open_steps p) (settle_steps (visit_state begins c) ++ (executed.steps ++ shut_steps p)) (visit_state m c) (visit_state begins c)
-    (visit_state n d) begun
-    (makes_both t p (settle_steps (visit_state begins c)) (executed.steps ++ shut_steps p) (visit_state begins c) (visit_state mid c2) (visit_state n d) rested
-    (makes_both t p executed.steps (shut_steps p) (visit_state mid c2) (visit_state x c3) (visit_state n d) inside ended)) in
+    all_made t l.machine c d entered mid x n c1 c2 c3 found executed.steps opened same second third first rests executed.makes last in
     record {
       steps = steps;
       serves = record {

@@ -2,6 +2,7 @@ pub mod Allocations
 pub mod Asks
 pub mod Boots
 pub mod Commands
+pub mod Counted
 pub mod Cpus
 pub mod Ending
 pub mod Ends

@@ -1,13 +1,21 @@
 -- What lies behind the zone's lock, and what always holds of it.
 use Rattle.std.specs.Prelude.{◌≡◌, ℕ, ◌≤◌}
+use Rattle.boot_words.specs.Pasts.{own_past}
 use Rattle.frame_word.specs.Seats.{KnownTable, IsShut}
 use Rattle.stock_word.specs.Stock.{KnownStockTable}
 use Rattle.zone_blocks.specs.declared.config.Config.{Config}
 use Rattle.zone_blocks.specs.Config.{IsValidConfig}
 use Rattle.group_charge.specs.Charges.{AreCharges}
+use Rattle.mem_machine.specs.Agreeing.{AgreesWithRun}
+use Rattle.mem_machine.specs.Counting.{counts_along}
+use Rattle.mem_machine.specs.Counts.{no_counts}
+use Rattle.mem_machine.specs.Interleaving.{zone_of}
 use Rattle.mem_machine.specs.Machines.{IsConsistent, KnownMachine}
 use Rattle.mem_machine.specs.Resting.{Rests}
+use Rattle.mem_machine.specs.declared.counts.Counts.{Counts}
 use Rattle.mem_system.specs.Boots.{IsSizedAs}
+use Rattle.step_rules.specs.After.{Run}
+use Rattle.step_rules.specs.State.{at_boot}
 
 -- what lies behind the lock: the machine, and the sizes of the boot
 pub record KnownLocked : Type 0 where
@@ -18,11 +26,22 @@ pub record KnownLocked : Type 0 where
 abbrev pub AllShut : KnownMachine → Type 0
 AllShut machine = (cpu : ℕ) → IsShut machine.frame_seat cpu
 
--- While the lock is free, no visit is open, and the machine is what the zone's past left. The sizes are in their ranges,
--- and the tables have these sizes.
+-- how many units ended, were freed or were missed in a run from the boot on
+abbrev pub counts_in : KnownTable → Run → Counts
+counts_in table run = counts_along (at_boot (zone_of table)) run no_counts
+
+-- What the machine counted is what the zone's past counts: each group's peak and events, and how many units ended, were
+-- freed or were missed.
+pub record CountsItsRun (table : KnownTable) (machine : KnownMachine) : Type 0 where
+  pub agrees : AgreesWithRun table (own_past machine.run.past).seen machine.ledger
+  pub counts : machine.counts ≡ counts_in table (own_past machine.run.past).seen
+
+-- While the lock is free, no visit is open, and the machine is what the zone's past left, with what that past counts. The
+-- sizes are in their ranges, and the tables have these sizes.
 pub record IsQuiet (table : KnownTable) (stock_table : KnownStockTable) (locked : KnownLocked) : Type 0 where
   pub shut : AllShut locked.machine
   pub rests : Rests table locked.machine
+  pub counted : CountsItsRun table locked.machine
   pub valid : IsValidConfig locked.sizes
   pub sized : IsSizedAs locked.sizes table stock_table
 

@@ -2,6 +2,7 @@
 
 ghost use Rattle.mem_system.specs.CommandLaws.{EndsLeaveEmptyWords, OnlyCommandsKill, OnlyReclaimFallsShort};
 ghost use Rattle.mem_system.specs.CommandLaws.{ReleasesCutLists};
+ghost use Rattle.mem_system.specs.Counted.{VisitsFindCounts};
 ghost use Rattle.mem_system.specs.KillLaws.{CommandsKillOverLimits, CommandsKillWholeSets};
 ghost use Rattle.mem_system.specs.Laws.{CommandsKillLast};
 ghost use Rattle.mem_system.specs.Lost.{ConsistentMachinesLoseNoUnit};
@@ -48,4 +49,10 @@ pub fn ends_leave_empty_words()
 /// list or fresh there.
 pub fn no_unit_is_lost()
     ensures { ConsistentMachinesLoseNoUnit }
+{}
+
+/// A visit finds all counts as the last one left them, however many steps CPUs made without the lock since: the peak and
+/// the event counts of each group, and how many units ended, were freed or were missed.
+pub fn visits_find_counts()
+    ensures { VisitsFindCounts }
 {}

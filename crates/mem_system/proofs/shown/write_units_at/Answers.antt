@@ -1,4 +1,4 @@
-use Rattle.mem_system.proofs.UnitsSeen.{units_rest, units_shut}
+use Rattle.mem_system.proofs.UnitsSeen.{units_counted, units_rest, units_shut}
 use Rattle.mem_system.proofs.shown.write_units_at.Goals as goal
 
 pub invariant_of-locked : goal.invariant_of-locked
@@ -7,6 +7,7 @@ invariant_of-locked g c =
       quiet = record {
         shut = units_shut c.in-Some.group _ c.locked.inside.machine c.write_units.new.machine c.write_units.ensures.units q.shut;
         rests = units_rest g.N.BootName.frames c.in-Some.group _ c.locked.inside.machine c.write_units.new.machine c.write_units.ensures.units q.rests;
+        counted = units_counted g.N.BootName.frames c.in-Some.group _ c.locked.inside.machine c.write_units.new.machine c.write_units.ensures.units q.counted;
         valid = q.valid;
         sized = q.sized;
       };
@@ -19,6 +20,7 @@ invariant_of-locked-2 g c =
       quiet = record {
         shut = units_shut c.in-Some.group _ c.locked.inside.machine c.write_units.new.machine c.write_units.ensures.units q.shut;
         rests = units_rest g.N.BootName.frames c.in-Some.group _ c.locked.inside.machine c.write_units.new.machine c.write_units.ensures.units q.rests;
+        counted = units_counted g.N.BootName.frames c.in-Some.group _ c.locked.inside.machine c.write_units.new.machine c.write_units.ensures.units q.counted;
         valid = q.valid;
         sized = q.sized;
       };

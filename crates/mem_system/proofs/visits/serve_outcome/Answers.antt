@@ -3,7 +3,7 @@ use Rattle.frame_word.specs.Seats.{KnownSeat, LentIsBorrowed, NothingPasses}
 use Rattle.group_charge.specs.Charges.{Ledger}
 use Rattle.cpu_part.specs.Cpus.{KnownCpu}
 use Rattle.mem_machine.specs.Machines.{KnownMachine, without_notes}
-use Rattle.mem_machine.specs.Local.{MakesAs, visit_state}
+use Rattle.mem_machine.specs.Local.{IsSeenByRun, MakesAs, visit_state}
 use Rattle.mem_machine.specs.Steps.{open_steps}
 use Rattle.mem_machine.proofs.Reached.{with_past}
 use Rattle.mem_system.specs.Cpus.{CpuInRun, cpu_in_run}
@@ -12,7 +12,8 @@ use Rattle.mem_system.specs.Outcomes.{HasItsGroups, reply_of}
 use Rattle.mem_system.specs.Commands.{FreshAfter}
 use Rattle.mem_system.specs.Visits.{locked_state, IsServed}
 use Rattle.mem_system.proofs.Lost.{no_unit_is_lost}
-use Rattle.mem_system.proofs.Visiting.{command_shuts, forgotten_shown, opened_so, served}
+use Rattle.mem_system.proofs.Counted.{visit_counted}
+use Rattle.mem_system.proofs.Visiting.{all_made, command_shuts, forgotten_shown, opened_so, served}
 use Rattle.mem_system.proofs.visits.serve_outcome.Goals as goal
 
 pub open-requires-clause-shown : goal.open-requires-clause-shown
@@ -20,16 +21,25 @@ open-requires-clause-shown g c = forgotten_shown g.N.BootName.frames _ _ _ c.for
 
 pub invariant_of-locked : goal.invariant_of-locked
 invariant_of-locked g c =
+    let t = g.N.BootName.frames in
+    let m = c.locked.inside.machine in
+    let part = c.cpu.inside.part in
     let quiet = c.locked.invariant.quiet in
     let stays = c.execute-outcome.ensures.stays in
+    let opened = opened_so m _ _ _ _ c.lock.new.self.run.past _ c.lock.ensures.machine c.forget_notes.ensures c.open.ensures.machine in
     record {
       quiet = record {
-        shut = command_shuts c.locked.inside.machine c.open.new.self c.settle.new.self c.execute-outcome.new.machine c.unlock.new.self c.cpu.inside.part
-            c.open.new.cpu c.settle.new.cpu c.execute-outcome.new.cpu _ _ quiet.shut
-            (opened_so c.locked.inside.machine _ _ _ _ c.lock.new.self.run.past _ c.lock.ensures.machine c.forget_notes.ensures c.open.ensures.machine)
-            c.open.ensures.cpu c.settle.ensures.others.number stays.number c.settle.ensures.settles stays.opened
+        shut = command_shuts m c.open.new.self c.settle.new.self c.execute-outcome.new.machine c.unlock.new.self part
+            c.open.new.cpu c.settle.new.cpu c.execute-outcome.new.cpu _ _ quiet.shut opened c.open.ensures.cpu c.settle.ensures.others.number stays.number c.settle.ensures.settles stays.opened
             (c.unlock.ensures.machine ∙ (λ i. with_past (c.shut.ensures.machine i) c.unlock.new.self.run.past));
         rests = c.unlock.ensures.rests;
+        counted = visit_counted t m c.shut.new.self c.unlock.new.self part c.shut.new.cpu _ c.cpu.inside.past c.unlock.new.past c.lock.new.self.run.past
+            quiet.rests quiet.counted c.lock.ensures.run (subst (λ (y : KnownMachine). IsSeenByRun t (visit_state y part)) c.lock.ensures.machine c.lock.ensures.shown)
+            (all_made t m part c.shut.new.cpu c.open.new.self c.settle.new.self c.execute-outcome.new.machine c.shut.new.self c.open.new.cpu c.settle.new.cpu
+            c.execute-outcome.new.cpu c.lock.new.self.run.past c.execute-outcome.ensures.executed.steps opened c.open.ensures.cpu c.settle.ensures.others.number
+            stays.number (subst (λ (y : KnownMachine). MakesAs t part.number (visit_state y part) (open_steps part.number) (visit_state c.open.new.self c.open.new.cpu))
+            (c.forget_notes.ensures ∙ ap without_notes c.lock.ensures.machine) c.open.ensures.steps) c.settle.ensures.steps
+            c.execute-outcome.ensures.executed.makes c.shut.ensures.steps) c.unlock.ensures.run c.unlock.ensures.rests c.unlock.ensures.machine;
         valid = quiet.valid;
         sized = quiet.sized;
       };

@@ -1,0 +1,378 @@
+-- The machine counts what its run counts: from the boot on, through each visit, and through steps of others. Serves the
+-- invariant of `Locked`.
+use Rattle.std.proofs.Common.{◌≡◌, ◌≢◌, ℕ, ◌==◌, ◌||◌, Bool, true, false, Option, Some, None, List, [], ◌∷◌, ◌++◌, cond, take, refl, sym, ap, ◌∙◌, subst, inl, inr, zero, suc, append_assoc}
+use Rattle.std.specs.Prelude.{IfSome}
+use Rattle.std.specs.List.{fold, slice_get}
+use Rattle.std.specs.Option.{option_map_or}
+use Rattle.std.proofs.Common.{arith, eq-eqb}
+use Rattle.std.proofs.lemmas.Bool.{cases_Bool, cases_eq, ne_eqb, or_left, or_right, true≢false}
+use Rattle.std.proofs.lemmas.List.{append_cancel_left}
+use Rattle.frame_word.specs.Seats.{KnownTable}
+use Rattle.stock_word.specs.Stock.{KnownStockTable}
+use Rattle.group_tree.specs.declared.event.EventKey.{EventKey}
+use Rattle.group_tree.specs.declared.group.Group.{Group}
+use Rattle.group_tree.specs.Events.{count_of, no_events}
+use Rattle.group_tree.specs.Groups.{has_group, initial_groups}
+use Rattle.group_tree.proofs.EventLemmas.{none_counted}
+use Rattle.group_tree.proofs.GroupLemmas.{has_group-any}
+use Rattle.group_charge.specs.declared.account.Account.{Account}
+use Rattle.group_charge.specs.Charges.{Ledger, account_at, empty_account, events_local_of, events_of, initial_ledger, peak_of}
+use Rattle.step_rules.specs.declared.phase.ChargedUnit.{ChargedUnit}
+use Rattle.step_rules.specs.declared.phase.Way.TheVariants.{OnList}
+use Rattle.step_rules.specs.declared.phase.Stage.{Stage}
+use Rattle.step_rules.specs.declared.phase.Stage.TheVariants.{BackAt, FreshAt, Live}
+use Rattle.step_rules.specs.declared.phase.Phase.{Phase}
+use Rattle.step_rules.specs.declared.phase.Phase.TheVariants.{Head, Lent}
+use Rattle.step_rules.specs.declared.step.Step.{Step}
+use Rattle.step_rules.specs.declared.step.Action.{Action}
+use Rattle.step_rules.specs.declared.step.Action.TheVariants.{Collect, Lock, Return, Unlock}
+use Rattle.step_rules.specs.declared.step.Answer.{Answer}
+use Rattle.step_rules.specs.declared.step.Answer.TheVariants.{Done, Illegal}
+use Rattle.step_rules.specs.State.{State, Zone, at_boot}
+use Rattle.step_rules.specs.Legal.{IsAnswer, IsCounted}
+use Rattle.step_rules.specs.After.{IsLegalRun, Run, after, state_of}
+use Rattle.step_rules.specs.Views.{phase_seen_by, seen_by, stage_seen_by}
+use Rattle.step_rules.specs.Laws.{ShowsLocal, pushed}
+use Rattle.step_rules.specs.Reaches.{IsInterleaved, IsLocalRun, MayFollow, is_own, own_steps}
+use Rattle.step_rules.specs.Returns.{is_killed_return_phase}
+use Rattle.step_rules.specs.Peaks.{IsPeak}
+use Rattle.step_rules.proofs.LocalLaws.{other_step_is_hidden, own_step_is_legal}
+use Rattle.step_rules.proofs.Noting.{events_are_counted}
+use Rattle.step_rules.proofs.Peaking.{peaks_are_kept}
+use Rattle.step_rules.proofs.Runs.{allowed, state_more}
+use Rattle.boot_words.specs.Pasts.{IsHeld, KnownPasts, Locks, Meets, Unlocks, cpu_past, local_by_pasts, own_past}
+use Rattle.boot_words.specs.Rule.{AllOf}
+use Rattle.boot_words.specs.Runs.{HasNoStepOf}
+use Rattle.boot_words.proofs.Holding.{allowed_at, append_none}
+use Rattle.cpu_part.specs.Cpus.{KnownCpu}
+use Rattle.mem_machine.specs.declared.counts.Counts.{Counts}
+use Rattle.mem_machine.specs.Agreeing.{AgreesWithRun}
+use Rattle.mem_machine.specs.Counting.{counts_after, counts_along, is_back_passing, one_more_last_put, one_more_return}
+use Rattle.mem_machine.specs.Counts.{no_counts, with_killed_fresh}
+use Rattle.mem_machine.specs.Interleaving.{zone_of}
+use Rattle.mem_machine.specs.Local.{IsSeenByRun, MakesAs, local_of, visit_state}
+use Rattle.mem_machine.specs.Machines.{IsFirst, KnownMachine}
+use Rattle.mem_machine.specs.Noted.{after_made}
+use Rattle.mem_machine.specs.Resting.{Rests}
+use Rattle.mem_machine.proofs.Noted.{run_ends}
+use Rattle.mem_machine.proofs.Reached.{with_past}
+use Rattle.mem_machine.proofs.Tells.{ledgers_agree}
+use Rattle.mem_system.specs.Counted.{VisitsFindCounts}
+use Rattle.mem_system.specs.Locked.{CountsItsRun, counts_in}
+use Rattle.mem_system.proofs.Beside.{CountsRun, counted_beside, counts_both, other_uncounted}
+use Rattle.mem_system.proofs.Mixed.{AreBehindOthers, all_own, as_many, gained, just_these, zone_and_cpu}
+
+-- ---- what the lock's holder sees of a step counts as the whole does
+
+back_seen : (p : ℕ) (unit : ChargedUnit) (stage : Stage) → is_back_passing (stage_seen_by p unit stage) ≡ is_back_passing (Head unit stage)
+back_seen p unit (FreshAt q) = by_cases (q == p)
+  where
+    by_cases : (b : Bool) → is_back_passing (cond b (Head unit (FreshAt q)) (Lent q OnList)) ≡ false
+    by_cases true = refl
+    by_cases false = refl
+back_seen p unit (BackAt q) = by_cases (q == p)
+  where
+    by_cases : (b : Bool) → is_back_passing (cond b (Head unit (BackAt q)) (Head unit Live)) ≡ false
+    by_cases true = refl
+    by_cases false = refl
+back_seen p unit stage = refl
+
+phase_back : (p : ℕ) (phase : Phase) → is_back_passing (phase_seen_by p phase) ≡ is_back_passing phase
+phase_back p (Head unit stage) = back_seen p unit stage
+phase_back p phase = refl
+
+killed_seen : (p : ℕ) (killed : ℕ → Bool) (unit : ChargedUnit) (stage : Stage)
+    → is_killed_return_phase killed (stage_seen_by p unit stage) ≡ is_killed_return_phase killed (Head unit stage)
+killed_seen p killed unit (FreshAt q) = by_cases (q == p)
+  where
+    by_cases : (b : Bool) → is_killed_return_phase killed (cond b (Head unit (FreshAt q)) (Lent q OnList)) ≡ false
+    by_cases true = refl
+    by_cases false = refl
+killed_seen p killed unit (BackAt q) = by_cases (q == p)
+  where
+    by_cases : (b : Bool) → is_killed_return_phase killed (cond b (Head unit (BackAt q)) (Head unit Live)) ≡ false
+    by_cases true = refl
+    by_cases false = refl
+killed_seen p killed unit stage = refl
+
+phase_killed : (p : ℕ) (killed : ℕ → Bool) (phase : Phase) → is_killed_return_phase killed (phase_seen_by p phase) ≡ is_killed_return_phase killed phase
+phase_killed p killed (Head unit stage) = killed_seen p killed unit stage
+phase_killed p killed phase = refl
+
+count_seen : (p : ℕ) (s : State) (seat : ℕ) (action : Action) (answer : Answer) (x : Counts)
+    → counts_after (seen_by p s) seat action answer x ≡ counts_after s seat action answer x
+count_seen p s seat (Collect f q) Done x = ap (λ (b : Bool). cond b (one_more_last_put x) x) (phase_back p (s.phases f))
+count_seen p s seat (Return f) Done x =
+    ap (λ (b : Bool). cond b (with_killed_fresh x) (one_more_return x)) (phase_killed p s.killed (s.phases f))
+count_seen p s seat action answer x = refl
+
+-- ---- the steps of a visit among those of others
+
+never_illegal : (s : State) (seat : ℕ) (action : Action) → IsAnswer s seat action Illegal → ⊥
+never_illegal s seat Lock answered = answered
+never_illegal s seat action answered = answered
+
+-- no step is refused
+abbrev Answered : Run → Type 0
+Answered run = AllOf (λ e. e.1 ≢ Illegal) run
+
+all_answered : (p : ℕ) (a : State) (steps : Run) (b : State) → IsLocalRun p a steps b → Answered steps
+all_answered p a [] b leads = tt
+all_answered p a (e ∷ steps) b leads = (
+  λ is. never_illegal a e.0.seat e.0.action (subst (IsAnswer a e.0.seat e.0.action) is leads.0.answered),
+  all_answered p (after a e.0.seat e.0.action e.1) steps b leads.1,
+)
+
+answered_rest : (p : ℕ) (e : Step × Answer) (mixed : Run) → Answered (own_steps p (e ∷ mixed)) → Answered (own_steps p mixed)
+answered_rest p e mixed all = by_cases (is_own p e.0.seat) all
+  where
+    by_cases : (b : Bool) → Answered (cond b (e ∷ own_steps p mixed) (own_steps p mixed)) → Answered (own_steps p mixed)
+    by_cases true all = all.1
+    by_cases false all = all
+
+interleaved : (zone : Zone) (p : ℕ) (run mixed : Run) → IsLegalRun zone (run ++ mixed) → Answered (own_steps p mixed) → IsInterleaved zone run p mixed
+interleaved zone p run [] legal all k = tt
+interleaved zone p run (e ∷ mixed) legal all zero =
+    let s = state_of zone run in
+    let ok = allowed_at zone run e mixed legal in
+    let decided : is_own p e.0.seat ≡ true → IsCounted s e.0.action e.1 = λ own. elim (allowed s e.0.seat e.0.action e.1 ok) [
+      | inl illegal ↦ absurd ((subst (λ (b : Bool). Answered (cond b (e ∷ own_steps p mixed) (own_steps p mixed))) own all).0 illegal)
+      | inr made ↦ made.counted
+    ] in
+    subst (λ (r : Run). MayFollow p (state_of zone r) e.0.seat e.0.action e.1) (sym (append_none run))
+    (record { other = λ off. ok; own = decided })
+interleaved zone p run (e ∷ mixed) legal all (suc k) =
+    subst (λ (r : Run). IfSome (slice_get mixed k) (λ d. MayFollow p (state_of zone r) d.0.seat d.0.action d.1))
+    (append_assoc run (e ∷ []) (take k mixed))
+    (interleaved zone p (run ++ e ∷ []) mixed (subst (IsLegalRun zone) (sym (append_assoc run (e ∷ []) mixed)) legal) (answered_rest p e mixed all) k)
+
+not_own : (p seat : ℕ) → is_own p seat ≡ false → (seat ≢ 0) × (seat ≢ p)
+not_own p seat other = (
+  λ e. true≢false (sym (or_left (seat == 0) (seat == p) (eq-eqb seat 0 e)) ∙ other),
+  λ e. true≢false (sym (or_right (seat == 0) (seat == p) (eq-eqb seat p e)) ∙ other),
+)
+
+-- the whole counts as the holder of the lock does along its own steps
+count_mixed : (zone : Zone) (p : ℕ) (run : Run) (a : State) (mixed : Run) (b : State) (x : Counts) → ShowsLocal zone run p a
+    → IsLocalRun p a (own_steps p mixed) b → IsInterleaved zone run p mixed
+    → counts_along (state_of zone run) mixed x ≡ counts_along a (own_steps p mixed) x
+count_mixed zone p run a [] b x shows leads mixes = refl
+count_mixed zone p run a (e ∷ mixed) b x shows leads mixes =
+    let s = state_of zone run in
+    let own = own_steps p mixed in
+    let here : MayFollow p s e.0.seat e.0.action e.1 =
+    subst (λ (r : Run). MayFollow p (state_of zone r) e.0.seat e.0.action e.1) (append_none run) (mixes zero) in
+    let later : IsInterleaved zone (pushed run e.0 e.1) p mixed = λ k.
+    subst (λ (r : Run). IfSome (slice_get mixed k) (λ d. MayFollow p (state_of zone r) d.0.seat d.0.action d.1))
+    (sym (append_assoc run (e ∷ []) (take k mixed))) (mixes (suc k)) in
+    let made = sym (state_more zone run e.0 e.1) in
+    elim (cases_Bool (is_own p e.0.seat)) [
+      | inl is ↦
+          let parts : IsLocalRun p a (e ∷ own) b = subst (λ (c : Bool). IsLocalRun p a (cond c (e ∷ own) own) b) is leads in
+          let seen = own_step_is_legal zone run p a e.0 e.1 shows parts.0 (here.own is) in
+          let y = counts_after a e.0.seat e.0.action e.1 x in
+          ap (counts_along (after s e.0.seat e.0.action e.1) mixed)
+          (sym (count_seen p s e.0.seat e.0.action e.1 x) ∙ ap (λ (k : State). counts_after k e.0.seat e.0.action e.1 x) (sym shows.sees))
+          ∙ ap (λ (k : State). counts_along k mixed y) made
+          ∙ count_mixed zone p (pushed run e.0 e.1) (after a e.0.seat e.0.action e.1) mixed b y seen parts.1 later
+          ∙ ap (λ (c : Bool). counts_along a (cond c (e ∷ own) own) x) (sym is)
+      | inr other ↦
+          let rest : IsLocalRun p a own b = subst (λ (c : Bool). IsLocalRun p a (cond c (e ∷ own) own) b) other leads in
+          let who = not_own p e.0.seat other in
+          let ok = here.other other in
+          let seen = other_step_is_hidden zone run p a e.0 e.1 shows (inl who) ok in
+          ap (counts_along (after s e.0.seat e.0.action e.1) mixed) (other_uncounted s e.0.seat e.0.action e.1 x who.0 ok)
+          ∙ ap (λ (k : State). counts_along k mixed x) made
+          ∙ count_mixed zone p (pushed run e.0 e.1) a mixed b x seen rest later
+          ∙ ap (λ (c : Bool). counts_along a (cond c (e ∷ own) own) x) (sym other)
+    ]
+
+-- ---- between the machine and the run
+
+as_counted : (t : KnownTable) (run : Run) (l : Ledger) (x : Counts) → (state_of (zone_of t) run).groups ≡ l.groups → AgreesWithRun t run l
+    → x ≡ counts_in t run → CountsRun t run l x
+as_counted t run l x groups told counts =
+    let there = λ (m : ℕ). ap (λ (gs : List Group). has_group gs m) (sym groups) in
+    record {
+      peak = λ m is. told.peak m (there m ∙ is);
+      events = λ key m is. told.events key m (there m ∙ is);
+      events_local = λ key m is. told.events_local key m (there m ∙ is);
+      counts = counts;
+    }
+
+agreed : (t : KnownTable) (run : Run) (l : Ledger) (x : Counts) → (state_of (zone_of t) run).groups ≡ l.groups → CountsRun t run l x → AgreesWithRun t run l
+agreed t run l x groups told =
+    let there = λ (m : ℕ). ap (λ (gs : List Group). has_group gs m) groups in
+    record {
+      peak = λ m is. told.peak m (there m ∙ is);
+      events = λ key m is. told.events key m (there m ∙ is);
+      events_local = λ key m is. told.events_local key m (there m ∙ is);
+    }
+
+pub same_counted : (t : KnownTable) (m n : KnownMachine) → n.ledger ≡ m.ledger → n.counts ≡ m.counts → n.run.past ≡ m.run.past → CountsItsRun t m
+    → CountsItsRun t n
+same_counted t m n ledger counts past told = record {
+  agrees = subst (λ (v : KnownPasts × Ledger). AgreesWithRun t (own_past v.0).seen v.1) (λ i. (sym past i, sym ledger i)) told.agrees;
+  counts = counts ∙ told.counts ∙ ap (λ (s : KnownPasts). counts_in t (own_past s).seen) (sym past);
+}
+
+-- the run went on by steps of others, and the machine is the same otherwise
+grown : (t : KnownTable) (run rest : Run) (l : Ledger) (x : Counts) (k : KnownMachine) → (own_past k.run.past).seen ≡ run ++ rest → Rests t k
+    → HasNoStepOf 0 rest → k.ledger ≡ l → k.counts ≡ x → CountsRun t run l x → CountsItsRun t k
+grown t run rest l x k is rests none ledger counts told =
+    let legal = subst (IsLegalRun (zone_of t)) is rests.past_is.legal in
+    let all : CountsRun t (own_past k.run.past).seen k.ledger k.counts =
+    subst (λ (v : Run × Ledger × Counts). CountsRun t v.0 v.1 v.2) (λ i. (sym is i, sym ledger i, sym counts i))
+    (counted_beside t run rest l x legal none told) in
+    record {
+      agrees = agreed t (own_past k.run.past).seen k.ledger k.counts (ap (λ (s : State). s.groups) rests.left) all;
+      counts = all.counts;
+    }
+
+resting : (t : KnownTable) (m : KnownMachine) → Rests t m → CountsItsRun t m → CountsRun t (own_past m.run.past).seen m.ledger m.counts
+resting t m rests told = as_counted t (own_past m.run.past).seen m.ledger m.counts (ap (λ (s : State). s.groups) rests.left) told.agrees told.counts
+
+-- a CPU and the zone met
+pub met_counted : (t : KnownTable) (m k : KnownMachine) (past past' : KnownPasts) → Rests t m → CountsItsRun t m → Meets t m.run.past past k.run.past past'
+    → Rests t k → k ≡ with_past m k.run.past → CountsItsRun t k
+met_counted t m k past past' rests told meets rests_after is =
+    let more = meets.zone_sees in
+    grown t (own_past m.run.past).seen more.between m.ledger m.counts k more.seen rests_after
+    (subst (λ (q : ℕ). HasNoStepOf q more.between) rests.past_is.zone_is more.others)
+    (ap (λ (y : KnownMachine). y.ledger) is) (ap (λ (y : KnownMachine). y.counts) is) (resting t m rests told)
+
+-- ---- a visit
+
+one_more : (seat : ℕ) (run : Run) (e : Step × Answer) → HasNoStepOf seat run → e.0.seat ≢ seat → HasNoStepOf seat (run ++ e ∷ [])
+one_more seat [] e none ne = (ne, tt)
+one_more seat (d ∷ run) e none ne = (none.0, one_more seat run e none.1 ne)
+
+-- A CPU took the lock, made these steps with the zone's seat, and released the lock.
+pub visit_counted : (t : KnownTable) (m n k : KnownMachine) (c d : KnownCpu) (steps : Run) (past past' held : KnownPasts) → Rests t m → CountsItsRun t m
+    → Locks t m.run.past past held → IsSeenByRun t (visit_state (with_past m held) c)
+    → MakesAs t c.number (visit_state (with_past m held) c) steps (visit_state n d) → Unlocks t n.run.past k.run.past past' → Rests t k
+    → k ≡ with_past n k.run.past → CountsItsRun t k
+visit_counted t m n k c d steps past past' held rests told locks shown makes gives rests_after is =
+    let zone = zone_of t in
+    let p = c.number in
+    let a = local_of t m c in
+    let b = local_of t n d in
+    let z = own_past m.run.past in
+    let z1 = own_past held in
+    let z2 = own_past n.run.past in
+    let locked = locks.held in
+    let grew = makes.noted.grew in
+    let still : IsHeld t n.run.past = grew.held locked in
+    -- taking the lock
+    let lock : Step × Answer = (record { seat = (own_past past).number; action = Lock }, Done) in
+    let gap = locks.zone_grew.between in
+    let is_one : z1.seen ≡ z.seen ++ (gap ++ lock ∷ []) = locks.zone_grew.seen ∙ append_assoc z.seen gap (lock ∷ []) in
+    let legal_one : IsLegalRun zone z1.seen = subst (IsLegalRun zone) (sym locked.holds.same) locked.holds.shows.legal in
+    let others = one_more 0 gap lock (subst (λ (q : ℕ). HasNoStepOf q gap) rests.past_is.zone_is locks.zone_grew.others)
+    (λ zero_is. locked.holds.cpu_is (locks.cpu_grew.number ∙ zero_is)) in
+    let told_one : CountsRun t z1.seen m.ledger m.counts = subst (λ (r : Run). CountsRun t r m.ledger m.counts) (sym is_one)
+    (counted_beside t z.seen (gap ++ lock ∷ []) m.ledger m.counts (subst (IsLegalRun zone) is_one legal_one) others (resting t m rests told)) in
+    let shows : ShowsLocal zone z1.seen p a =
+    subst (λ (v : Run × ℕ × State). ShowsLocal zone v.0 v.1 v.2) (λ i. (sym locked.holds.same i, shown.who i, shown.here i)) locked.holds.shows in
+    let agrees_one = agreed t z1.seen m.ledger m.counts (sym (ap (λ (s : State). s.groups) shows.sees)) told_one in
+    -- the steps of the visit
+    let zone_gains = gained z1 steps z2 (grew.zone_grew locked) in
+    let cpu_gains = gained (cpu_past held) steps (cpu_past n.run.past) (grew.cpu_grew locked) in
+    let mixed = zone_gains.run in
+    let same_run : cpu_gains.run ≡ mixed = append_cancel_left z1.seen cpu_gains.run mixed
+    (ap (λ (l : Run). l ++ cpu_gains.run) locked.holds.same ∙ sym cpu_gains.seen ∙ sym still.holds.same ∙ zone_gains.seen) in
+    let by_zone : AreBehindOthers 0 steps mixed = subst (λ (q : ℕ). AreBehindOthers q steps mixed) locked.holds.zone_is zone_gains.behind in
+    let by_cpu : AreBehindOthers p steps mixed =
+    subst (λ (v : ℕ × Run). AreBehindOthers v.0 steps v.1) (λ i. (shown.who i, same_run i)) cpu_gains.behind in
+    let many = as_many p steps mixed by_cpu in
+    let own : own_steps p mixed ≡ steps = just_these p 0 p (zone_and_cpu p) steps mixed by_zone (omega (arith, many)) ∙ all_own p a steps b makes.leads in
+    let legal_two : IsLegalRun zone (z1.seen ++ mixed) = subst (IsLegalRun zone) (sym still.holds.same ∙ zone_gains.seen) still.holds.shows.legal in
+    let leads : IsLocalRun p a (own_steps p mixed) b = subst (λ (r : Run). IsLocalRun p a r b) (sym own) makes.leads in
+    let follows = interleaved zone p z1.seen mixed legal_two (subst Answered (sym own) (all_answered p a steps b makes.leads)) in
+    let agrees_two = ledgers_agree t z1.seen steps mixed (visit_state (with_past m held) c) (visit_state n d) shows agrees_one makes
+    (record { own = own; follows = follows }) in
+    let counts : n.counts ≡ counts_in t (z1.seen ++ mixed) =
+    makes.counts ∙ ap (counts_along a steps) told_one.counts ∙ ap (λ (r : Run). counts_along a r (counts_in t z1.seen)) (sym own)
+    ∙ sym (count_mixed zone p z1.seen a mixed b (counts_in t z1.seen) shows leads follows) ∙ sym (counts_both (at_boot zone) z1.seen mixed no_counts) in
+    let seen : local_by_pasts t n.run.past ≡ b =
+    grew.sees locked ∙ ap (λ (s : State). fold after_made s steps) shown.here ∙ run_ends p a steps b makes.leads in
+    let groups : (state_of zone (z1.seen ++ mixed)).groups ≡ n.ledger.groups =
+    ap (λ (r : Run). (state_of zone r).groups) (sym zone_gains.seen ∙ still.holds.same) ∙ ap (λ (s : State). s.groups) seen in
+    let told_two = as_counted t (z1.seen ++ mixed) n.ledger n.counts groups agrees_two counts in
+    -- releasing the lock
+    let unlock : Step × Answer = (record { seat = (cpu_past n.run.past).number; action = Unlock }, Done) in
+    let behind = gives.zone_grew.between ++ unlock ∷ [] in
+    grown t (z1.seen ++ mixed) behind n.ledger n.counts k
+    (gives.zone_grew.seen ∙ append_assoc z2.seen gives.zone_grew.between (unlock ∷ []) ∙ ap (λ (r : Run). r ++ behind) zone_gains.seen) rests_after
+    (one_more 0 gives.zone_grew.between unlock (subst (λ (q : ℕ). HasNoStepOf q gives.zone_grew.between) still.holds.zone_is gives.zone_grew.others)
+    still.holds.cpu_is) (ap (λ (y : KnownMachine). y.ledger) is) (ap (λ (y : KnownMachine). y.counts) is) told_two
+
+-- ---- a boot
+
+-- the one account there, or none
+abbrev found : Bool → Option Account
+found b = cond b (Some (empty_account 0)) None
+
+none_below : (key : EventKey) (b : Bool) → count_of (option_map_or (λ (a : Account). a.events) (found b) no_events) key ≡ 0
+none_below key true = none_counted key
+none_below key false = none_counted key
+
+none_at : (key : EventKey) (b : Bool) → count_of (option_map_or (λ (a : Account). a.events_local) (found b) no_events) key ≡ 0
+none_at key true = none_counted key
+none_at key false = none_counted key
+
+first_events : (key : EventKey) (m : ℕ) → count_of (events_of initial_ledger m) key ≡ 0
+unfolding events_of account_at
+first_events key m = none_below key (0 == m)
+
+first_events_local : (key : EventKey) (m : ℕ) → count_of (events_local_of initial_ledger m) key ≡ 0
+unfolding events_local_of account_at
+first_events_local key m = none_at key (0 == m)
+
+first_peak : peak_of initial_ledger 0 ≡ 0
+unfolding peak_of account_at
+first_peak = refl
+
+-- there is the root alone
+root_alone : (m : ℕ) → has_group initial_groups m ≡ true → m ≡ 0
+root_alone m there = elim (cases_eq m 0) [
+  | inl e ↦ e
+  | inr ne ↦ absurd (true≢false (sym there ∙ has_group-any initial_groups m ∙ ap (λ (b : Bool). b || false) (ne_eqb 0 m (λ e. ne (sym e)))))
+]
+
+first_agrees : (t : KnownTable) → AgreesWithRun t [] initial_ledger
+first_agrees t =
+    let zone = zone_of t in
+    record {
+      peak = λ g there. subst (λ (k : ℕ). IsPeak zone [] k (peak_of initial_ledger k)) (sym (root_alone g there))
+          (subst (IsPeak zone [] 0) (sym first_peak) (peaks_are_kept.boot zone));
+      events = λ key g there. first_events key g ∙ sym (events_are_counted.boot zone key g).0;
+      events_local = λ key g there. first_events_local key g ∙ sym (events_are_counted.boot zone key g).1;
+    }
+
+pub first_counted : (t : KnownTable) (w : KnownStockTable) (m : KnownMachine) → IsFirst t w m → (own_past m.run.past).seen ≡ [] → CountsItsRun t m
+first_counted t w m first none = record {
+  agrees = subst (λ (v : Run × Ledger). AgreesWithRun t v.0 v.1) (λ i. (sym none i, sym first.ledger i)) (first_agrees t);
+  counts = first.counts ∙ ap (counts_in t) (sym none);
+}
+
+-- ---- from one visit to the next
+
+pub visits_find_counts : VisitsFindCounts
+visits_find_counts t w left found others sound sound_found is none =
+    let here = own_past found.machine.run.past in
+    let quiet = sound_found.quiet in
+    let m = found.machine in
+    let l = left.machine.ledger in
+    let x = left.machine.counts in
+    let legal = subst (IsLegalRun (zone_of t)) is quiet.rests.past_is.legal in
+    let was : CountsRun t here.seen l x = subst (λ (r : Run). CountsRun t r l x) (sym is)
+    (counted_beside t (own_past left.machine.run.past).seen others l x legal none (resting t left.machine sound.quiet.rests sound.quiet.counted)) in
+    let now = resting t m quiet.rests quiet.counted in
+    let there = λ (g : ℕ). ap (λ (s : State). has_group s.groups g) quiet.rests.left in
+    record {
+      counts = now.counts ∙ sym was.counts;
+      peak = λ g is. peaks_are_kept.one (zone_of t) here.seen g (peak_of m.ledger g) (peak_of l g) (now.peak g (there g ∙ is)) (was.peak g (there g ∙ is));
+      events = λ key g is. now.events key g (there g ∙ is) ∙ sym (was.events key g (there g ∙ is));
+      events_local = λ key g is. now.events_local key g (there g ∙ is) ∙ sym (was.events_local key g (there g ∙ is));
+    }
