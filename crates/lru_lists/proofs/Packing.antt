@@ -14,7 +14,7 @@ use Rattle.lru_lists.specs.Packed.{link_of, links_of, IsNumber}
 
 -- the packed record of a frame on no list
 abbrev pub packed_nowhere : Packed
-packed_nowhere = record { older = 4294967295; newer = 4294967295; owner = 0; list = Neither; is_marked = false; is_dirty = false }
+packed_nowhere = record { older = 0; newer = 0; owner = 0; list = Neither; is_marked = false; is_dirty = false }
 
 -- the record of a frame is the one that is packed there
 pub at_packed : (ps : List Packed) (i : ℕ) → link_at (links_of ps) i ≡ link_of (get_or ps i packed_nowhere)

@@ -1,5 +1,5 @@
 -- The records as they are stored.
-use Rattle.std.specs.Prelude.{ℕ, ◌==◌, ◌<◌, Option, Some, None, IfSome, List, map, if◌then◌else◌}
+use Rattle.std.specs.Prelude.{ℕ, ◌==◌, ◌<◌, ◌-◌, Option, Some, None, IfSome, List, map, if◌then◌else◌}
 use Rattle.lru_lists.specs.declared.record.Link.{Link}
 use Rattle.lru_lists.specs.declared.record.Home.{Home}
 use Rattle.lru_lists.specs.declared.record.LruList.{LruList}
@@ -8,9 +8,9 @@ use Rattle.lru_lists.specs.declared.packed.OnList.{OnList}
 use Rattle.lru_lists.specs.declared.packed.OnList.TheVariants as on_list
 use Rattle.lru_lists.specs.declared.packed.Packed.{Packed}
 
--- the neighbour for which a number is stored: the greatest number of 32 bits is stored for none
+-- the neighbour for which a number is stored: 0 is stored for none, else one more than the neighbour
 abbrev pub neighbour_of : ℕ → Option ℕ
-neighbour_of n = if n == 4294967295 then None else Some n
+neighbour_of n = if n == 0 then None else Some (n - 1)
 
 -- a neighbour for which a number can be stored, or none
 abbrev pub IsNumber : Option ℕ → Type 0

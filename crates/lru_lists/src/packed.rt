@@ -5,8 +5,9 @@ ghost use Rattle.lru_lists.specs.Packed.{neighbour_of, link_of, list_on, IsNumbe
 
 use crate::record::{Home, Link, LruList};
 
-/// The number that no frame has: it means that there is no neighbour.
-pub const NO_FRAME: u32 = u32::MAX;
+/// The number that is stored if there is no neighbour. It is 0, so that the records of a new table are zeros, which are
+/// written fastest.
+pub const NO_FRAME: u32 = 0;
 
 /// Which of its owner's lists holds a unit. It takes one byte; an `Option<LruList>` would take two.
 #[derive(Clone, Copy, PartialEq, Eq)]
@@ -22,9 +23,9 @@ pub enum OnList {
 /// The record of one frame, packed.
 #[derive(Clone, Copy, PartialEq, Eq)]
 pub struct Packed {
-    /// The unit just before it on the list, or `NO_FRAME`.
+    /// One more than the unit just before it on the list, or `NO_FRAME`.
     pub older: u32,
-    /// The unit just after it on the list, or `NO_FRAME`.
+    /// One more than the unit just after it on the list, or `NO_FRAME`.
     pub newer: u32,
     /// The owner of the list that holds the unit, if one does.
     pub owner: u8,
@@ -67,7 +68,10 @@ pub fn number(unit: Option<u32>) -> u32
     requires { IsNumber unit }
     ensures { neighbour_of result ≡ unit }
 {
-    unit.unwrap_or(NO_FRAME)
+    match unit {
+        None => NO_FRAME,
+        Some(frame) => frame + 1,
+    }
 }
 
 /// The neighbour for which a number is stored.
@@ -78,7 +82,7 @@ pub fn unit(number: u32) -> Option<u32>
     if number == NO_FRAME {
         None
     } else {
-        Some(number)
+        Some(number - 1)
     }
 }
 
