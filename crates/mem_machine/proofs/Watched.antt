@@ -5,7 +5,8 @@ use Rattle.step_rules.specs.After.{Run}
 use Rattle.frame_word.specs.Seats.{KnownSeat, KnownTable}
 use Rattle.stock_word.specs.Stock.{KnownStockTable}
 use Rattle.cpu_part.specs.Cpus.{KnownCpu}
-use Rattle.group_charge.specs.Notes.{KnownNotes}
+use Rattle.group_charge.specs.declared.note.Note.TheVariants.{Stock}
+use Rattle.group_charge.specs.Notes.{KnownNotes, noted}
 use Rattle.mem_machine.specs.Noted.{KnownRun}
 use Rattle.mem_machine.specs.Machines.{KnownMachine, VisitState, IsConsistent, visit_state, with_run}
 use Rattle.frame_word.specs.Seats.{IsOpen, LentIsBorrowed, NothingPasses}
@@ -17,7 +18,7 @@ use Rattle.mem_machine.specs.Releasing.{ReturnsUnit}
 use Rattle.mem_machine.specs.Evicting.{MissesUnit, EvictsUnit}
 use Rattle.mem_machine.specs.Blocks.{TakesBlock, TakesNoBlock}
 use Rattle.mem_machine.specs.Paying.{PaysForFront}
-use Rattle.mem_machine.specs.Stocks.{DrainsBy}
+use Rattle.mem_machine.specs.Stocks.{DrainsBy, DrainsNoted}
 
 pub consistent_still : (t : KnownTable) (w : KnownStockTable) (n : KnownMachine) (v : KnownRun) → IsConsistent t w n → IsConsistent t w (with_run n v)
 consistent_still t w n v ok = record {
@@ -162,3 +163,17 @@ module _ (m n : KnownMachine) (v : KnownRun) where
 
   pub drains_still : (steps q k : ℕ) → DrainsBy steps q k m n → DrainsBy steps q k m (with_run n v)
   drains_still steps q k does = record { machine = λ i. with_run (does.machine i) v; booked = does.booked; drained_before = does.drained_before }
+
+-- a drain that is noted
+pub drains_noted : (m n : KnownMachine) (q steps k : ℕ) → DrainsBy steps q k m n → (notes : KnownNotes) → notes ≡ noted n.notes (Stock q k)
+    → DrainsNoted steps q k m (record n { notes = notes })
+drains_noted m n q steps k does notes note =
+    let same : n.notes ≡ m.notes = ap (λ (x : KnownMachine). x.notes) does.machine in
+    record {
+      drains = record {
+        machine = λ i. record (does.machine i) { notes = m.notes };
+        booked = does.booked;
+        drained_before = does.drained_before;
+      };
+      noted = note ∙ ap (λ (x : KnownNotes). noted x (Stock q k)) same;
+    }

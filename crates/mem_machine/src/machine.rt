@@ -9,7 +9,7 @@ ghost use Rattle.mem_machine.specs.Machines.{IsConsistent, IsFirst};
 use crate::booked_seat::BookedSeat;
 use crate::counts::Counts;
 use crate::frame_state::FrameState;
-use crate::start::{frame_parts, group_parts};
+use crate::start::{Parts, new_parts};
 use boot_words::{FrameSeat, OwnSeats, PastSeat, StockSeat};
 use cpu_part::{BootName, Tables};
 use group_charge::charges::Charges;
@@ -79,23 +79,16 @@ impl<N: BootName> Machine<N> {
         ensures rests { IfOk result (λ machine. Rests N.frames machine) }
         ensures past { IfOk result (λ machine. machine.run.past ≡ seats.past) }
     {
-        let OwnSeats {
-            past,
-            frames: frame_seat,
-            stocks: stock_seat,
-        } = seats;
-        let (zone, frame_states, links) = frame_parts(alloc, tables.words.frames())?;
-        let (charges, lists, killed) = group_parts(alloc)?;
-        let notes = Notes::new(alloc)?;
+        let parts = new_parts(alloc, tables.words.frames())?;
         Ok(Machine {
-            zone,
-            frame_states,
-            charges,
-            links,
-            lists,
-            frame_seat,
-            stock_seat: BookedSeat::new(stock_seat),
-            killed,
+            zone: parts.zone,
+            frame_states: parts.frame_states,
+            charges: parts.charges,
+            links: parts.links,
+            lists: parts.lists,
+            frame_seat: seats.frames,
+            stock_seat: BookedSeat::new(seats.stocks),
+            killed: parts.killed,
             counts: Counts {
                 last_puts: 0,
                 freezes: 0,
@@ -103,8 +96,8 @@ impl<N: BootName> Machine<N> {
                 returns: 0,
                 misses: 0,
             },
-            notes,
-            past,
+            notes: parts.notes,
+            past: seats.past,
             watch: Watch::off(),
             of: PhantomData,
         })
@@ -118,20 +111,31 @@ impl<N: BootName> Machine<N> {
         ensures consistent { IsConsistent N.frames N.stocks self }
     {
         let Machine {
-            zone: _,
-            frame_states: _,
-            charges: _,
-            links: _,
-            lists: _,
+            zone,
+            frame_states,
+            charges,
+            links,
+            lists,
             frame_seat,
             stock_seat,
-            killed: _,
+            killed,
             counts: _,
-            notes: _,
+            notes,
             past,
-            watch: _,
+            watch,
             of: _,
         } = self;
+        // Calls, because a field that is let go here is dropped here, part by part, which is long to check.
+        drop(Parts {
+            zone,
+            frame_states,
+            charges,
+            links,
+            lists,
+            killed,
+            notes,
+        });
+        drop(watch);
         OwnSeats {
             past,
             frames: frame_seat,

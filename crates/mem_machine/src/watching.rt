@@ -7,6 +7,7 @@ ghost use Rattle.mem_machine.specs.Steps.{cpu_makes};
 
 use crate::machine::Machine;
 use cpu_part::BootName;
+use std::mem;
 use step_rules::step::{Action, Answer, Step};
 use step_watch::Watch;
 
@@ -15,7 +16,8 @@ impl<N: BootName> Machine<N> {
     pub fn set_watch(&mut self, watch: Watch)
         ensures { self.new ≡ with_watch self.old watch }
     {
-        self.watch = watch;
+        // A call, because an assignment would drop the old watch here, part by part, which is long to check.
+        drop(mem::replace(&mut self.watch, watch));
     }
 
     /// The watch, which took each step that the contracts of this machine's calls name.

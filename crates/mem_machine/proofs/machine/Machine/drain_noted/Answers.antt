@@ -2,9 +2,20 @@ use Rattle.std.proofs.Common.{sym, subst}
 use Rattle.mem_machine.specs.Machines.{KnownMachine}
 use Rattle.mem_machine.specs.Local.{MakesAs, Visits, visit_state}
 use Rattle.mem_machine.specs.Steps.{drain_steps}
-use Rattle.mem_machine.specs.Stocks.{stock_group}
-use Rattle.mem_machine.proofs.Watched.{visits_noted}
+use Rattle.mem_machine.specs.Stocks.{DrainsBy, stock_group}
+use Rattle.mem_machine.proofs.Watched.{consistent_noted, drains_noted, visits_noted}
 use Rattle.mem_machine.proofs.machine.Machine.drain_noted.Goals as goal
+
+pub invariant_of-self : goal.invariant_of-self
+invariant_of-self g c = record {
+  consistent = consistent_noted _ _ _ _ c.self.invariant.consistent;
+  free = c.self.invariant.free;
+}
+
+pub returns-clause-drains : goal.returns-clause-drains
+returns-clause-drains g c =
+    drains_noted _ _ c.args.cpu _ _ (subst (DrainsBy 2 c.args.cpu c.drain_of-pages.result c.args.self.now) (sym c.self.view_is) c.drain_of-pages.ensures.drains)
+    _ c.note.ensures
 
 -- the note is no step
 pub returns-clause-steps : goal.returns-clause-steps
