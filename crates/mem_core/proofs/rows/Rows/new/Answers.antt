@@ -1,5 +1,6 @@
 -- All is as at boot.
-use Rattle.std.proofs.Common.{false, get_or, ◌∙◌, ap}
+use Rattle.std.proofs.Common.{false, length, get_or, ◌∙◌, ap}
+use Rattle.std.proofs.lemmas.List.{length-replicate}
 use Rattle.step_rules.specs.declared.phase.Phase.TheVariants.{InZone}
 use Rattle.step_rules.specs.State.{Zone, at_boot}
 use Rattle.mem_core.proofs.Starting.{replicate_all, new_part, new_reference}
@@ -18,3 +19,14 @@ returns-clause-state c =
       parts = λ p. new_part c.args.frames seats p none i;
       pending = λ g. (ap (λ l. get_or l g 0) c.in_ok-pending.ensures.items ∙ replicate_all 64 0 g) i;
     }
+
+pub returns-clause-fits : goal.returns-clause-fits
+returns-clause-fits c = record {
+  frames = c.requires.frames;
+  cpus = c.requires.cpus;
+  phases = ap length c.in_ok-phases.ensures ∙ length-replicate c.args.frames InZone;
+  seats = c.in_ok-seats.ensures.number;
+  killed = c.in_ok-killed.ensures.number;
+  pending = c.in_ok-pending.ensures.number;
+  rooms = c.in_ok-seats.ensures.rooms;
+}
