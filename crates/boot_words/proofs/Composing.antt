@@ -1,12 +1,12 @@
 -- Several steps of the run that one atomic step makes: what a seat may make of all words, one step behind the other.
-use Rattle.std.proofs.Common.{◌≡◌, ℕ, zero, suc, ◌+◌, ◌<◌, ◌≤◌, List, [], ◌∷◌, ◌++◌, map, set, refl, ap, sym, ◌∙◌, subst, arith, inl, inr}
+use Rattle.std.proofs.Common.{◌≡◌, ℕ, zero, suc, ◌+◌, ◌<◌, List, [], ◌∷◌, ◌++◌, set, refl, ap, sym, ◌∙◌, subst, arith}
 use Rattle.std.specs.Prelude.{slice_index}
 use Rattle.std.proofs.lemmas.List.{set-get_or}
-use mathlib.Core.Option.{Option, some, some-ne-none}
+use mathlib.Core.Option.{some, some-ne-none}
 use lib.ListN.{get_elem?}
-use Rattle.atomic_table.specs.Table.{Act, Me, Allows, carried_after, keeps}
+use Rattle.atomic_table.specs.Table.{Me, Allows, carried_after, keeps}
 use Rattle.atomic_table.proofs.Lists.{at_longer}
-use Rattle.frame_word.specs.Totals.{SameTotals, split_of, sum_over, total_over}
+use Rattle.frame_word.specs.Totals.{SameTotals, split_of}
 use Rattle.frame_word.proofs.Totals.{sum_append, total_more, total_set}
 use Rattle.step_rules.specs.State.{Zone}
 use Rattle.boot_words.specs.declared.view.BootView.{BootView}

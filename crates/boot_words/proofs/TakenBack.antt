@@ -1,9 +1,7 @@
 -- A fresh frame and its page are taken back from the lock's holder by four steps that one load makes.
 use Rattle.std.proofs.Common.{◌≡◌, ℕ, zero, suc, ◌+◌, ◌-◌, ◌%◌, ◌^◌, ◌<◌, ◌≤◌, true, List, [], ◌∷◌, ◌++◌, map, set, refl, ap, sym, ◌∙◌, subst, arith, inl, inr}
 use Rattle.std.specs.Prelude.{slice_index}
-use Rattle.std.proofs.lemmas.List.{set-get_or}
-use mathlib.Core.Option.{none, some}
-use lib.ListN.{get_elem?}
+use mathlib.Core.Option.{none}
 use Rattle.atomic_table.specs.Seated.{TableId}
 use Rattle.atomic_table.specs.Table.{Me, step}
 use Rattle.atomic_table.proofs.Lists.{at_map}
@@ -20,7 +18,7 @@ use Rattle.stock_word.specs.declared.view.StockAccount.{StockAccount}
 use Rattle.stock_word.specs.declared.view.StockView.{StockView}
 use Rattle.stock_word.specs.Stock.{account_of, stock_pages_of}
 use Rattle.stock_word.specs.StockRule.{report_index}
-use Rattle.stock_word.specs.Kinds.{Absorbs, Alone, Joined, Reports, absorbing_step, after_report, reporting_step, with_steps, zone_after_absorb, zone_after_report}
+use Rattle.stock_word.specs.Kinds.{Absorbs, Alone, Joined, absorbing_step, after_report, reporting_step, with_steps, zone_after_absorb, zone_after_report}
 use Rattle.stock_word.proofs.CallerLemmas.{account_of-with_account}
 use Rattle.stock_word.proofs.Keeps.{joined_stock}
 use Rattle.step_rules.specs.declared.step.Step.{Step}
@@ -39,12 +37,12 @@ use Rattle.boot_words.specs.Composed.{AreLegal, GrewUnderLock, MakesInTurn, done
 use Rattle.boot_words.specs.Pasts.{KnownPasts, cpu_past, own_past, pasts_in}
 use Rattle.boot_words.specs.TakenBack.{TakeBackIsAllowed, TakesBack, take_back_run, taken_back_page}
 use Rattle.boot_words.specs.Held.{AreViewsOf, HoldsLock, MadeUnderLock, joined, local_seen}
-use Rattle.boot_words.specs.Rule.{BootRule, frame_base, frames_in, stocks_in, words_in}
+use Rattle.boot_words.specs.Rule.{frame_base, frames_in, stocks_in, words_in}
 use Rattle.boot_words.specs.Seating.{Deals}
 use Rattle.boot_words.specs.Seats.{MayStep, but_last, zone_of_boot}
 use Rattle.boot_words.specs.Sitting.{frame_view, second_view_of_frames, second_view_of_stocks, stock_view}
 use Rattle.boot_words.proofs.Banking.{absorb_is_allowed}
-use Rattle.boot_words.proofs.Composing.{Turns, Whenever, may_turn, set_over, turns_among, turns_both, turns_by, turns_less}
+use Rattle.boot_words.proofs.Composing.{Turns, Whenever, may_turn, turns_among, turns_both, turns_by, turns_less}
 use Rattle.boot_words.proofs.Lent.{frame_small, grew_under_lock, stored_back}
 use Rattle.boot_words.proofs.Parts.{frame_reads}
 use Rattle.boot_words.proofs.Reporting.{report_is_allowed}
