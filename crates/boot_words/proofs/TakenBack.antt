@@ -31,7 +31,7 @@ use Rattle.boot_words.specs.declared.view.Past.{Past}
 use Rattle.boot_words.specs.declared.view.BootView.{BootView}
 use Rattle.boot_words.specs.declared.view.BootView.TheVariants.{OfFrames, OfStocks, OfRun}
 use Rattle.boot_words.specs.declared.word.Word.TheVariants.{Quiet}
-use Rattle.boot_words.specs.Composed.{AreLegal, GrewUnderLock, MakesInTurn, done}
+use Rattle.boot_words.specs.Composed.{AreLegal, GrewUnderLock, MakesInTurn, answered_done}
 use Rattle.boot_words.specs.Pasts.{KnownPasts, cpu_past, own_past, pasts_in}
 use Rattle.boot_words.specs.TakenBack.{TakeBackIsAllowed, TakesBack, take_back_run, taken_back_page}
 use Rattle.boot_words.specs.Held.{AreViewsOf, HoldsLock, MadeUnderLock, joined, local_seen}
@@ -129,10 +129,10 @@ module _ (zone : Zone) (f : ℕ) (z c : Past) (m v : FrameView) (a b : StockView
   rest3 = (record { seat = 0; action = Absorb q }, Pages 1) ∷ []
 
   abbrev rest2 : Run
-  rest2 = done 0 (Collect f q) ∷ rest3
+  rest2 = answered_done 0 (Collect f q) ∷ rest3
 
   abbrev rest1 : Run
-  rest1 = done q (Report 1) ∷ rest2
+  rest1 = answered_done q (Report 1) ∷ rest2
 
   -- ---- the four steps
   abbrev Passed : List BootView → Type 0
@@ -291,7 +291,7 @@ module _ (zone : Zone) (f : ℕ) (z c : Past) (m v : FrameView) (a b : StockView
       (λ mid told. let t = told.2.1 in
       subst (λ (l : List BootView). Turns zone l F4 Told) (sym (told.1 ∙ ap (λ (l : List BootView). l ++ others) (after_collecting x y told.0 told.2)))
       (fourth t.zone_past t.cpu_past
-      (then_made zone z c (take_back_run q f) x y t.zone_past t.cpu_past (done 0 (Collect f q)) rest3 now
+      (then_made zone z c (take_back_run q f) x y t.zone_past t.cpu_past (answered_done 0 (Collect f q)) rest3 now
       (grew_as OfFrames zone x y (λ n. Collect f n) (λ n. 0) Done y.number q now.number _ _ t)) frame page))
 
   second : (x y : Past) → At x y rest1 → FoundFrame
@@ -305,7 +305,7 @@ module _ (zone : Zone) (f : ℕ) (z c : Past) (m v : FrameView) (a b : StockView
       (λ mid told. let t = told.2.1 in
       subst (λ (l : List BootView). Turns zone l (λ ws. F4 (F3 ws)) Told) (sym (told.1 ∙ ap (λ (l : List BootView). l ++ others) (after_reporting x y told.0 told.2)))
       (third t.zone_past t.cpu_past
-      (then_made zone z c (take_back_run q f) x y t.zone_past t.cpu_past (done q (Report 1)) rest2 now
+      (then_made zone z c (take_back_run q f) x y t.zone_past t.cpu_past (answered_done q (Report 1)) rest2 now
       (grew_as OfStocks zone x y (λ n. Report 1) (λ n. n) Done y.number q now.number _ _ t)) frame (t.made.3.enough, t.made.3.of_group)))
 
   abbrev all_views : List BootView
@@ -319,7 +319,7 @@ module _ (zone : Zone) (f : ℕ) (z c : Past) (m v : FrameView) (a b : StockView
       (λ mid told. let t = told.2.1 in
       subst (λ (l : List BootView). Turns zone l (λ ws. F4 (F3 (F2 ws))) Told) (sym (told.1 ∙ ap (λ (l : List BootView). l ++ others) (after_pass told.0 told.2)))
       (second t.zone_past t.cpu_past
-      (then_made zone z c (take_back_run q f) z c t.zone_past t.cpu_past (done q (PassBack f)) rest1 (at_first zone z c (take_back_run q f) holds legal)
+      (then_made zone z c (take_back_run q f) z c t.zone_past t.cpu_past (answered_done q (PassBack f)) rest1 (at_first zone z c (take_back_run q f) holds legal)
       (grew_under_lock OfFrames zone z c _ _ _ _ t)) (t.made.3.2, t.made.3.3, t.made.3.4, t.made.3.5)))
 
   -- ---- both words are 0
