@@ -1,16 +1,15 @@
 -- A frame is lent to the lock's holder by two steps that one load makes.
-use Rattle.std.proofs.Common.{◌≡◌, ℕ, ◌+◌, ◌-◌, ◌<◌, ◌≤◌, true, List, [], ◌∷◌, ◌++◌, set, refl, ap, sym, ◌∙◌, subst, arith, inl, inr}
+use Rattle.std.proofs.Common.{◌≡◌, ℕ, ◌+◌, ◌<◌, ◌≤◌, true, List, [], ◌∷◌, ◌++◌, set, refl, ap, sym, ◌∙◌, subst, arith, inl, inr}
 use Rattle.std.specs.Prelude.{slice_index}
 use Rattle.std.proofs.lemmas.List.{set-get_or}
 use mathlib.Core.Option.{none, some}
-use lib.ListN.{get_elem?}
 use Rattle.atomic_table.specs.Table.{Me, step}
 use Rattle.atomic_table.proofs.Lists.{at_map}
 use Rattle.frame_word.specs.declared.view.FrameNote.{FrameNote}
 use Rattle.frame_word.specs.declared.view.FrameView.{FrameView}
 use Rattle.frame_word.specs.Kinds.{by_one, by_two, stores_pass_out, takes_in}
-use Rattle.frame_word.specs.ReferenceRule.{hands_in, mark, mark_base}
-use Rattle.frame_word.specs.Views.{changed, hand_overs_begun, hand_overs_ended, in_hands, note_of, passed_out_to, took_in}
+use Rattle.frame_word.specs.ReferenceRule.{hands_in, mark}
+use Rattle.frame_word.specs.Views.{changed, hand_overs_begun, hand_overs_ended, in_hands, note_of, passed_out_to}
 use Rattle.frame_word.proofs.Cases.{case_handed}
 use Rattle.frame_word.proofs.Notes.{note_here, put_here}
 use Rattle.frame_word.proofs.Swap.{OneCase}
@@ -23,11 +22,11 @@ use Rattle.step_rules.specs.State.{Zone, State}
 use Rattle.step_rules.specs.Legal.{is_legal}
 use Rattle.boot_words.specs.declared.view.Past.{Past}
 use Rattle.boot_words.specs.declared.view.BootView.{BootView}
-use Rattle.boot_words.specs.declared.view.BootView.TheVariants.{OfFrames, OfRun}
-use Rattle.boot_words.specs.Composed.{AreLegal, GrewUnderLock, LendIsAllowed, Lends, done, lend_run}
+use Rattle.boot_words.specs.declared.view.BootView.TheVariants.{OfFrames}
+use Rattle.boot_words.specs.Composed.{AreLegal, GrewUnderLock, LendIsAllowed, Lends, answered_done, lend_run}
 use Rattle.boot_words.specs.Held.{AreViewsOf, HoldsLock, MadeUnderLock, joined, local_seen}
 use Rattle.boot_words.specs.declared.word.Word.TheVariants.{Quiet}
-use Rattle.boot_words.specs.Rule.{BootRule, frame_base, frames_in}
+use Rattle.boot_words.specs.Rule.{frame_base, frames_in}
 use Rattle.boot_words.specs.Seats.{MayStep}
 use Rattle.boot_words.specs.Sitting.{frame_view, second_view_of_frames}
 use Rattle.boot_words.proofs.Composing.{Turns, Whenever, may_turn, set_over, turns_among, turns_both, turns_by, turns_less}
@@ -107,7 +106,7 @@ module _ (zone : Zone) (f : ℕ) (z c : Past) (m v : FrameView) (few : zone.cpus
   Took x y w = (found : ℕ) × MadeUnderLock OfFrames (Unit {0}) zone x y (local_seen zone y) (record { seat = y.number; action = TakeIn f }) Done
       (by_two takes_in (step 0 f 0 0 none) (sent ∷ v ∷ [], []) 0) (w, [])
 
-  take_step : (x y : Past) → GrewUnderLock zone z c (done 0 (PassOut f cpu)) x y → Turns zone (joined OfFrames x y (sent ∷ v ∷ [])) (λ ws. set ws word 0) (Took x y)
+  take_step : (x y : Past) → GrewUnderLock zone z c (answered_done 0 (PassOut f cpu)) x y → Turns zone (joined OfFrames x y (sent ∷ v ∷ [])) (λ ws. set ws word 0) (Took x y)
   take_step x y grew =
       let same : y.number ≡ cpu = grew.cpu_grew.number in
       let views = joined OfFrames x y (sent ∷ v ∷ []) in
@@ -150,7 +149,7 @@ module _ (zone : Zone) (f : ℕ) (z c : Past) (m v : FrameView) (few : zone.cpus
             (
               u.1.zone_past,
               u.1.cpu_past,
-              subst (λ q. GrewUnderLock zone t.1.zone_past t.1.cpu_past (done q (TakeIn f)) u.1.zone_past u.1.cpu_past) first.cpu_grew.number second,
+              subst (λ q. GrewUnderLock zone t.1.zone_past t.1.cpu_past (answered_done q (TakeIn f)) u.1.zone_past u.1.cpu_past) first.cpu_grew.number second,
               (refl, refl),
             ),
           );

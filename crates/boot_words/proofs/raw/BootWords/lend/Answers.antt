@@ -1,4 +1,4 @@
-use Rattle.std.proofs.Common.{◌∷◌, [], ◌≤◌, ◌∙◌, ap, subst, sym}
+use Rattle.std.proofs.Common.{◌∷◌, [], ◌≤◌, ◌∙◌, ap, subst}
 use Rattle.frame_word.specs.Seats.{seat_number}
 use Rattle.boot_words.specs.declared.view.BootView.TheVariants.{OfFrames}
 use Rattle.boot_words.specs.Held.{AreViewsOf}
