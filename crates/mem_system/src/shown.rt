@@ -36,8 +36,8 @@ pub fn write_own_stock<N: BootName>(
     ensures locked { locked.new ≡ record locked.old { machine = with_look locked.old.machine } }
     ensures cpu { cpu.new ≡ cpu.old }
 {
-    let stock = locked.machine.look_at_stock(tables, &mut cpu.part);
-    write_stock(locked.machine.charges().tree(), &cpu.part, stock, text)
+    let stock = locked.look_at_stock(tables, cpu);
+    write_stock(locked.charges().tree(), &cpu.part, stock, text)
 }
 
 impl<N: BootName> Locked<N> {
