@@ -1,3 +1,4 @@
+-- Serves the contract of `empty_cpu`: the list is returned whole, and then the stock is drained.
 use Rattle.std.proofs.Common.{ℕ, ap, sym, ◌∙◌, subst}
 use Rattle.cpu_part.specs.Cpus.{KnownCpu, IsTied}
 use Rattle.stock_word.specs.Stock.{account_of}
@@ -7,6 +8,27 @@ use Rattle.mem_system.proofs.Listing.{cut_off}
 use Rattle.mem_system.proofs.Visiting.{all_shut}
 use Rattle.mem_system.proofs.Turns.{whole_list, taken_alone, emptied_alone, emptied_drained, emptied}
 use Rattle.mem_system.proofs.last_visits.empty_cpu.Goals as goal
+
+pub open-requires-clause-shut : goal.open-requires-clause-shut
+open-requires-clause-shut g c = c.requires.shut c.args.cpu.now.number
+
+pub open-requires-clause-shown : goal.open-requires-clause-shown
+open-requires-clause-shown g c = c.requires.shown
+
+pub drain_list-requires : goal.drain_list-requires
+drain_list-requires g c = c.open.ensures.visits
+
+pub drain_stock-requires-clause-shown : goal.drain_stock-requires-clause-shown
+drain_stock-requires-clause-shown g c = record { cpu = c.drain_list.new.cpu; is = c.drain_list.ensures.visit.shown }
+
+pub shut-requires : goal.shut-requires
+shut-requires g c = c.drain_stock.ensures.visit c.drain_list.new.cpu c.drain_list.ensures.visit
+
+pub prove_none_lent-requires-clause-lent : goal.prove_none_lent-requires-clause-lent
+prove_none_lent-requires-clause-lent g c = c.shut.ensures.lent
+
+pub returns-clause-shown : goal.returns-clause-shown
+returns-clause-shown g c = c.shut.ensures.shown
 
 pub prove_none_lent-requires-clause-none_listed : goal.prove_none_lent-requires-clause-none_listed
 prove_none_lent-requires-clause-none_listed g c =

@@ -1,3 +1,4 @@
+-- Serves the contract of `serve_frame_outcome`: the visit is that of an Alloc of order 0.
 use Rattle.std.proofs.Common.{◌≡◌, ◌+◌, ◌≤◌, List, length, IsTrue, Some, ap, sym, ◌∙◌, refl, subst, arith}
 use Rattle.group_tree.specs.declared.group.Group.{Group}
 use Rattle.group_tree.specs.Groups.{has_group, number_at}
@@ -21,6 +22,43 @@ use Rattle.mem_system.proofs.Visiting.{command_shuts, forgotten_shown, opened_so
 use Rattle.mem_system.proofs.Staying.{settled_groups}
 use Rattle.mem_system.proofs.Allocating.{frame_allocated, has_groups, over_is_there}
 use Rattle.mem_system.proofs.visits.serve_frame_outcome.Goals as goal
+
+pub lock-requires-clause-rests : goal.lock-requires-clause-rests
+lock-requires-clause-rests g c = c.locked.invariant.quiet.rests
+
+pub lock-requires-clause-shut : goal.lock-requires-clause-shut
+lock-requires-clause-shut g c = c.locked.invariant.quiet.shut c.cpu.inside.part.number
+
+pub lock-requires-clause-knows : goal.lock-requires-clause-knows
+lock-requires-clause-knows g c = c.cpu.invariant
+
+pub settle-requires : goal.settle-requires
+settle-requires g c = c.open.ensures.visits
+
+pub alloc_frame-answer-requires-clause-visit : goal.alloc_frame-answer-requires-clause-visit
+alloc_frame-answer-requires-clause-visit g c = c.settle.ensures.visit
+
+pub alloc_frame-answer-requires-clause-sizes : goal.alloc_frame-answer-requires-clause-sizes
+alloc_frame-answer-requires-clause-sizes g c = c.locked.invariant.quiet.valid
+
+pub shut-requires : goal.shut-requires
+shut-requires g c = c.alloc_frame-answer.ensures.stays.visit
+
+pub unlock-requires-clause-shown : goal.unlock-requires-clause-shown
+unlock-requires-clause-shown g c = c.shut.ensures.shown
+
+pub unlock-requires-clause-shut : goal.unlock-requires-clause-shut
+unlock-requires-clause-shut g c = c.shut.ensures.shut
+
+pub unlock-requires-clause-given : goal.unlock-requires-clause-given
+unlock-requires-clause-given g c = c.lock.ensures.given
+
+pub invariant_of-cpu : goal.invariant_of-cpu
+invariant_of-cpu g c = c.unlock.ensures.knows
+
+pub returns-clause-back : goal.returns-clause-back
+returns-clause-back g c =
+    ap (λ (y : KnownCpu). y.back) c.shut.ensures.cpu ∙ c.alloc_frame-answer.ensures.stays.back ∙ c.settle.ensures.none_back
 
 pub open-requires-clause-shown : goal.open-requires-clause-shown
 open-requires-clause-shown g c = forgotten_shown g.N.BootName.frames _ _ _ c.forget_notes.ensures c.lock.ensures.shown
