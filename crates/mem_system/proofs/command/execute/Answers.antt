@@ -1,11 +1,19 @@
-use Rattle.std.proofs.Common.{rules, [], refl, subst}
+-- Serves the contract of `execute`: what each command did, in the words of the command that it is.
+use Rattle.std.proofs.Common.{◌≡◌, ◌∙◌, [], ap, arith, length, refl, subst, sym}
+use Rattle.zone_blocks.specs.declared.config.Config.{Config}
 use Rattle.group_charge.specs.Charges.{Ledger}
+use Rattle.cpu_part.specs.Cpus.{KnownCpu}
 use Rattle.mem_machine.specs.Local.{visit_state}
 use Rattle.mem_machine.proofs.Followed.{makes_none}
+use Rattle.mem_system.specs.Commands.{ListAndFreshStayWithin, NamesFrameBelow}
 use Rattle.mem_system.specs.Files.{Reads}
-use Rattle.mem_system.specs.Outcomes.{reply_of}
+use Rattle.mem_system.specs.Outcomes.{HasItsGroups, reply_of}
 use Rattle.mem_system.proofs.Keeping.{visit_keeps}
 use Rattle.mem_system.proofs.command.execute.Goals as goal
+
+-- a CPU without fresh frames has at most `high` frames, if its list has
+none_fresh : (sizes : Config) (cpu : KnownCpu) → cpu.fresh ≡ [] → ListAndFreshStayWithin sizes cpu cpu
+none_fresh sizes cpu none = λ within. let no_more = ap length none in omega (arith, no_more, within)
 
 pub make_group-requires : goal.make_group-requires
 make_group-requires g c = record { shown = record { cpu = c.args.cpu.now; is = c.requires.visit.visit.shown } }
@@ -13,70 +21,152 @@ make_group-requires g c = record { shown = record { cpu = c.args.cpu.now; is = c
 pub write_file-requires : goal.write_file-requires
 write_file-requires g c = record { shown = record { cpu = c.args.cpu.now; is = c.requires.visit.visit.shown } }
 
-pub returns-in-Mkdir-clause-executed : goal.returns-in-Mkdir-clause-executed
-returns-in-Mkdir-clause-executed g c =
-    let made = c.make_group.ensures.made in rw c.in-Mkdir.is (record { steps = made.steps; does = record { does = made.does; cpu = refl }; makes = made.makes c.args.cpu.now })
+pub report_place-requires : goal.report_place-requires
+report_place-requires g c = subst (NamesFrameBelow g.N.BootName.frames.frames) c.in-Owner.is c.requires.zone
 
-pub returns-in-Write-clause-executed : goal.returns-in-Write-clause-executed
-returns-in-Write-clause-executed g c =
-    let written = c.write_file.ensures.written in rw c.in-Write.is (record { steps = written.steps; does = record { does = written.does; cpu = refl }; makes = written.makes c.args.cpu.now })
+pub touch_frame-requires : goal.touch_frame-requires
+touch_frame-requires g c = subst (NamesFrameBelow g.N.BootName.frames.frames) c.in-Touch.is c.requires.zone
 
-pub returns-in-Touch-clause-executed : goal.returns-in-Touch-clause-executed
-returns-in-Touch-clause-executed g c =
-    let touched = c.touch_frame.ensures.touched in rw c.in-Touch.is (record { steps = touched.steps; does = record { does = touched.does; cpu = refl }; makes = touched.makes c.args.cpu.now })
+pub note_dirt-requires : goal.note_dirt-requires
+note_dirt-requires g c = subst (NamesFrameBelow g.N.BootName.frames.frames) c.in-Dirty.is c.requires.zone
 
-pub returns-in-Dirty-clause-executed : goal.returns-in-Dirty-clause-executed
-returns-in-Dirty-clause-executed g c =
-    let noted = c.note_dirt.ensures.noted in rw c.in-Dirty.is (record { steps = noted.steps; does = record { does = noted.does; cpu = refl }; makes = noted.makes c.args.cpu.now })
+pub returns-in-Mkdir : goal.returns-in-Mkdir
+returns-in-Mkdir g c =
+    let told = c.make_group.ensures in
+    let does = told.made in
+    rw c.in-Mkdir.is (record {
+      executed = record { steps = does.steps; does = record { does = does.does; cpu = refl }; makes = does.makes c.args.cpu.now };
+      groups = told.groups;
+      stays = visit_keeps g.N.BootName.frames c.args.machine.now c.make_group.new.machine c.args.cpu.now told.seat does.steps does.makes c.requires.visit.visit;
+      fresh = c.requires.visit.settled.0;
+      at_most_high = none_fresh c.args.sizes c.args.cpu.now c.requires.visit.settled.0;
+    })
 
-pub returns-in-Clean-clause-executed : goal.returns-in-Clean-clause-executed
-returns-in-Clean-clause-executed g c =
-    let noted = c.note_dirt-in-Clean.ensures.noted in rw c.in-Clean.is (record { steps = noted.steps; does = record { does = noted.does; cpu = refl }; makes = noted.makes c.args.cpu.now })
+pub returns-in-Touch : goal.returns-in-Touch
+returns-in-Touch g c =
+    let told = c.touch_frame.ensures in
+    let does = told.touched in
+    rw c.in-Touch.is (record {
+      executed = record { steps = does.steps; does = record { does = does.does; cpu = refl }; makes = does.makes c.args.cpu.now };
+      groups = told.groups;
+      stays = visit_keeps g.N.BootName.frames c.args.machine.now c.touch_frame.new.machine c.args.cpu.now told.seat does.steps does.makes c.requires.visit.visit;
+      fresh = c.requires.visit.settled.0;
+      at_most_high = none_fresh c.args.sizes c.args.cpu.now c.requires.visit.settled.0;
+    })
 
-pub returns-in-Alloc-clause-executed : goal.returns-in-Alloc-clause-executed
-returns-in-Alloc-clause-executed g c = search rules
+pub returns-in-Dirty : goal.returns-in-Dirty
+returns-in-Dirty g c =
+    let told = c.note_dirt.ensures in
+    let does = told.noted in
+    rw c.in-Dirty.is (record {
+      executed = record { steps = does.steps; does = record { does = does.does; cpu = refl }; makes = does.makes c.args.cpu.now };
+      groups = told.groups;
+      stays = visit_keeps g.N.BootName.frames c.args.machine.now c.note_dirt.new.machine c.args.cpu.now told.seat does.steps does.makes c.requires.visit.visit;
+      fresh = c.requires.visit.settled.0;
+      at_most_high = none_fresh c.args.sizes c.args.cpu.now c.requires.visit.settled.0;
+    })
 
-pub returns-in-Read-clause-executed : goal.returns-in-Read-clause-executed
-returns-in-Read-clause-executed g c =
+pub returns-in-Clean : goal.returns-in-Clean
+returns-in-Clean g c =
+    let told = c.note_dirt-in-Clean.ensures in
+    let does = told.noted in
+    rw c.in-Clean.is (record {
+      executed = record { steps = does.steps; does = record { does = does.does; cpu = refl }; makes = does.makes c.args.cpu.now };
+      groups = told.groups;
+      stays = visit_keeps g.N.BootName.frames c.args.machine.now c.note_dirt-in-Clean.new.machine c.args.cpu.now told.seat does.steps does.makes c.requires.visit.visit;
+      fresh = c.requires.visit.settled.0;
+      at_most_high = none_fresh c.args.sizes c.args.cpu.now c.requires.visit.settled.0;
+    })
+
+pub returns-in-Write : goal.returns-in-Write
+returns-in-Write g c =
+    let told = c.write_file.ensures in
+    let does = told.written in
+    rw c.in-Write.is (record {
+      executed = record { steps = does.steps; does = record { does = does.does; cpu = refl }; makes = does.makes c.args.cpu.now };
+      groups = told.groups;
+      stays = told.stays c.args.cpu.now c.requires.visit.visit;
+      fresh = c.requires.visit.settled.0;
+      at_most_high = none_fresh c.args.sizes c.args.cpu.now c.requires.visit.settled.0;
+    })
+
+pub returns-in-Rmdir : goal.returns-in-Rmdir
+returns-in-Rmdir g c =
+    let told = c.remove_group.ensures in
+    let does = told.removed in
+    rw c.in-Rmdir.is (record {
+      executed = record { steps = does.steps; does = record { does = does.does; cpu = told.cpu }; makes = does.makes };
+      groups = told.groups;
+      stays = told.stays;
+      fresh = ap (λ (y : KnownCpu). y.fresh) told.cpu ∙ c.requires.visit.settled.0;
+      at_most_high = subst (ListAndFreshStayWithin c.args.sizes c.args.cpu.now) (sym told.cpu) (none_fresh c.args.sizes c.args.cpu.now c.requires.visit.settled.0);
+    })
+
+pub returns-in-Release : goal.returns-in-Release
+returns-in-Release g c =
+    let told = c.release_frame.ensures in
+    let fresh = told.fresh ∙ c.requires.visit.settled.0 in
+    rw c.in-Release.is (record {
+      executed = told.released;
+      groups = told.groups;
+      stays = told.stays;
+      fresh = fresh;
+      at_most_high = λ within.
+          let listed = told.at_most_high within in
+          let none = ap length fresh in
+          omega (arith, listed, none);
+    })
+
+pub returns-in-Alloc : goal.returns-in-Alloc
+returns-in-Alloc g c =
+    let told = c.allocate.ensures in
+    rw c.in-Alloc.is (record {
+      executed = told.allocates;
+      groups = told.groups;
+      stays = told.stays;
+      fresh = told.fresh;
+      at_most_high = told.at_most_high;
+    })
+
+pub returns-in-Read : goal.returns-in-Read
+returns-in-Read g c =
     let read = subst (λ (l : Ledger). Reads l c.in-Read.path.now c.in-Read.file.now (reply_of l c.read_file.result)) c.charges.ensures c.read_file.ensures.read in
     rw c.in-Read.is (record {
-      steps = [];
-      does = (read, record { machine = refl; cpu = refl; steps_are = refl });
-      makes = makes_none g.N.BootName.frames c.args.cpu.now.number (visit_state c.args.machine.now c.args.cpu.now);
+      executed = record {
+        steps = [];
+        does = (read, record { machine = refl; cpu = refl; steps_are = refl });
+        makes = makes_none g.N.BootName.frames c.args.cpu.now.number (visit_state c.args.machine.now c.args.cpu.now);
+      };
+      groups = subst (λ (l : Ledger). HasItsGroups l c.read_file.result) c.charges.ensures c.read_file.ensures.groups;
+      stays = record { visit = c.requires.visit.visit; opened = refl; number = refl; back = refl };
+      fresh = c.requires.visit.settled.0;
+      at_most_high = none_fresh c.args.sizes c.args.cpu.now c.requires.visit.settled.0;
     })
 
-pub returns-in-Owner-clause-executed : goal.returns-in-Owner-clause-executed
-returns-in-Owner-clause-executed g c =
+pub returns-in-Owner : goal.returns-in-Owner
+returns-in-Owner g c =
     rw c.in-Owner.is (record {
-      steps = [];
-      does = (c.report_place.ensures.place, record { machine = refl; cpu = refl; steps_are = refl });
-      makes = makes_none g.N.BootName.frames c.args.cpu.now.number (visit_state c.args.machine.now c.args.cpu.now);
+      executed = record {
+        steps = [];
+        does = (c.report_place.ensures.place, record { machine = refl; cpu = refl; steps_are = refl });
+        makes = makes_none g.N.BootName.frames c.args.cpu.now.number (visit_state c.args.machine.now c.args.cpu.now);
+      };
+      groups = c.report_place.ensures.groups;
+      stays = record { visit = c.requires.visit.visit; opened = refl; number = refl; back = refl };
+      fresh = c.requires.visit.settled.0;
+      at_most_high = none_fresh c.args.sizes c.args.cpu.now c.requires.visit.settled.0;
     })
 
-pub returns-in-Settle-clause-executed : goal.returns-in-Settle-clause-executed
-returns-in-Settle-clause-executed g c =
+pub returns-in-Settle : goal.returns-in-Settle
+returns-in-Settle g c =
     rw c.in-Settle.is (record {
-      steps = [];
-      does = (refl, record { machine = refl; cpu = refl; steps_are = refl });
-      makes = makes_none g.N.BootName.frames c.args.cpu.now.number (visit_state c.args.machine.now c.args.cpu.now);
+      executed = record {
+        steps = [];
+        does = (refl, record { machine = refl; cpu = refl; steps_are = refl });
+        makes = makes_none g.N.BootName.frames c.args.cpu.now.number (visit_state c.args.machine.now c.args.cpu.now);
+      };
+      groups = tt;
+      stays = record { visit = c.requires.visit.visit; opened = refl; number = refl; back = refl };
+      fresh = c.requires.visit.settled.0;
+      at_most_high = none_fresh c.args.sizes c.args.cpu.now c.requires.visit.settled.0;
     })
-
-pub returns-in-Mkdir-clause-stays : goal.returns-in-Mkdir-clause-stays
-returns-in-Mkdir-clause-stays g c =
-    let made = c.make_group.ensures.made in
-    visit_keeps g.N.BootName.frames c.args.machine.now c.make_group.new.machine c.args.cpu.now c.make_group.ensures.seat made.steps made.makes c.requires.visit.visit
-
-pub returns-in-Touch-clause-stays : goal.returns-in-Touch-clause-stays
-returns-in-Touch-clause-stays g c =
-    let made = c.touch_frame.ensures.touched in
-    visit_keeps g.N.BootName.frames c.args.machine.now c.touch_frame.new.machine c.args.cpu.now c.touch_frame.ensures.seat made.steps made.makes c.requires.visit.visit
-
-pub returns-in-Dirty-clause-stays : goal.returns-in-Dirty-clause-stays
-returns-in-Dirty-clause-stays g c =
-    let made = c.note_dirt.ensures.noted in
-    visit_keeps g.N.BootName.frames c.args.machine.now c.note_dirt.new.machine c.args.cpu.now c.note_dirt.ensures.seat made.steps made.makes c.requires.visit.visit
-
-pub returns-in-Clean-clause-stays : goal.returns-in-Clean-clause-stays
-returns-in-Clean-clause-stays g c =
-    let made = c.note_dirt-in-Clean.ensures.noted in
-    visit_keeps g.N.BootName.frames c.args.machine.now c.note_dirt-in-Clean.new.machine c.args.cpu.now c.note_dirt-in-Clean.ensures.seat made.steps made.makes c.requires.visit.visit
