@@ -1,5 +1,5 @@
 -- A run shows a visit whose CPU's past is a beginning of it. Serves `runs_show_visits`.
-use Rattle.std.proofs.Common.{◌≡◌, ◌≢◌, ◌∙◌, ℕ, ◌+◌, ◌==◌, Bool, true, false, [], ◌∷◌, ◌++◌, cond, refl, ap, sym, subst, arith, inl, inr, append_assoc}
+use Rattle.std.proofs.Common.{◌≡◌, ◌≢◌, ◌∙◌, ℕ, ◌==◌, Bool, true, false, [], ◌∷◌, ◌++◌, cond, refl, ap, sym, subst, arith, inl, inr, append_assoc}
 use Rattle.std.specs.Prelude.{◌⊎◌}
 use Rattle.std.proofs.lemmas.Bool.{and_parts, eqb-true, false≢true, true≢false}
 use Rattle.std.proofs.lemmas.List.Elements.{filter-append}
@@ -33,7 +33,8 @@ use Rattle.mem_machine.specs.Interleaving.{zone_of}
 use Rattle.mem_machine.specs.Steps.{cpu_makes}
 use Rattle.mem_system.specs.Cpus.{between_locks}
 use Rattle.mem_system.proofs.Beside.{legal_front}
-use Rattle.mem_system.proofs.Mixed.{AreBehindOthers, all_own, as_many, both, cpu_and_zone, gained, has_none, just_these, no_fewer, none_of, own_is, steps_of, zone_and_cpu}
+use Rattle.mem_system.proofs.Mixed.{AreBehindOthers, all_own, as_many, both, cpu_and_zone, gained, has_none, just_these}
+use Rattle.mem_system.proofs.Mixed.{no_fewer, none_of, own_is, steps_of, zone_and_cpu}
 use Rattle.load_run.specs.Threads.{PastsBegin, RunsShowVisits}
 
 -- ---- where a visit begins
