@@ -7,6 +7,7 @@ use Rattle.machine_texts.specs.Units.{ReadsUnits}
 use Rattle.mem_machine.specs.Machines.{KnownMachine}
 use Rattle.mem_machine.specs.Resting.{Rests, hidden_of}
 use Rattle.mem_machine.specs.Showing.{ListedUnit, units_in, with_looks_at}
+use Rattle.mem_machine.specs.Stocks.{with_look}
 use Rattle.mem_machine.proofs.Looks.{looks_opened, looks_unseen}
 use Rattle.mem_system.specs.Locked.{AllShut, CountsItsRun}
 
@@ -30,3 +31,11 @@ units_rest t g tells m n is rests = subst (Rests t) (sym is.looks.machine)
 -- and it counts what it counted
 pub units_counted : (t : KnownTable) (g : ℕ) (tells : List ℕ → Type 0) (m n : KnownMachine) → ReadsUnits g tells m n → CountsItsRun t m → CountsItsRun t n
 units_counted t g tells m n is told = subst (CountsItsRun t) (sym is.looks.machine) (record { agrees = told.agrees; counts = told.counts })
+
+-- and the machine rests after a look at a stock
+pub look_rests : (t : KnownTable) (m n : KnownMachine) → n ≡ with_look m → Rests t m → Rests t n
+look_rests t m n is rests = subst (Rests t) (sym is) (record { past_is = rests.past_is; free = rests.free; left = rests.left })
+
+-- and it counts what it counted
+pub look_counted : (t : KnownTable) (m n : KnownMachine) → n ≡ with_look m → CountsItsRun t m → CountsItsRun t n
+look_counted t m n is told = subst (CountsItsRun t) (sym is) (record { agrees = told.agrees; counts = told.counts })

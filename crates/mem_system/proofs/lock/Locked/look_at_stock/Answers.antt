@@ -8,7 +8,7 @@ use Rattle.mem_machine.specs.Showing.{stock_now}
 use Rattle.mem_machine.specs.Stocks.{with_look}
 use Rattle.mem_system.specs.Cpus.{CpuInRun, cpu_in_run}
 use Rattle.mem_system.specs.Locked.{KnownLocked}
-use Rattle.mem_system.proofs.UnitsSeen.{look_rests}
+use Rattle.mem_system.proofs.UnitsSeen.{look_counted, look_rests}
 use Rattle.mem_system.proofs.lock.Locked.look_at_stock.Goals as goal
 
 pub invariant_of-self : goal.invariant_of-self
@@ -18,6 +18,7 @@ invariant_of-self g c =
       quiet = record {
         shut = λ p. ap (λ (k : KnownMachine). get_or k.frame_seat.view.opened p 0) looked ∙ q.shut p;
         rests = look_rests g.N.BootName.frames _ _ looked q.rests;
+        counted = look_counted g.N.BootName.frames _ _ looked q.counted;
         valid = q.valid;
         sized = q.sized;
       };
