@@ -1,4 +1,5 @@
 use Rattle.std.proofs.Common.{◌≡◌, ◌<◌, ◌∷◌, length, rules, inl, inr, sym, ap, ◌∙◌, subst}
+use Rattle.frame_word.specs.Views.{hand_overs_begun, hand_overs_ended}
 use Rattle.cpu_part.specs.Cpus.{KnownCpu}
 use Rattle.cpu_part.proofs.Making.{are_legal_at, makes_all_at}
 use Rattle.cpu_part.proofs.Counts.{front_removed}
@@ -53,3 +54,12 @@ returns-clause-borrowed g c =
       c.take_back.ensures.borrowed (front_borrowed _ _ _ c.self.invariant.0 c.remove-frame.result c.remove-frame.new.self.items (inr front))
           ∙ c.self.invariant.0.seats.frame_number ∙ ap (λ (k : KnownCpu). k.number) c.self.view_is,
     )
+
+pub take_back-requires-clause-still : goal.take_back-requires-clause-still
+take_back-requires-clause-still g c =
+    let f = c.remove-frame.result in
+    let some : 0 < length c.self.inside.fresh.items = search rules in
+    let front = front_removed f c.self.inside.fresh.items c.remove-frame.new.self.items some c.remove-frame.ensures.value c.remove-frame.ensures.items in
+    let inside = front_inside _ _ _ c.self.invariant.0 f c.remove-frame.new.self.items (inr (inl front)) in
+    subst (λ (k : KnownCpu). hand_overs_begun c.args.zone.now.view k.frame_seat.view f ≡ hand_overs_ended c.args.zone.now.view k.frame_seat.view f)
+    (sym c.self.view_is) (c.requires.still f inside)
