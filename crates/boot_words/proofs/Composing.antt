@@ -1,5 +1,5 @@
 -- Several steps of the run that one atomic step makes: what a seat may make of all words, one step behind the other.
-use Rattle.std.proofs.Common.{◌≡◌, ℕ, zero, suc, ◌+◌, ◌<◌, List, [], ◌∷◌, ◌++◌, set, refl, ap, sym, ◌∙◌, subst, arith}
+use Rattle.std.proofs.Common.{◌≡◌, ℕ, zero, suc, ◌<◌, List, [], ◌∷◌, ◌++◌, set, refl, ap, sym, ◌∙◌, subst, arith}
 use Rattle.std.specs.Prelude.{slice_index}
 use Rattle.std.proofs.lemmas.List.{set-get_or}
 use mathlib.Core.Option.{some, some-ne-none}
@@ -8,7 +8,14 @@ use Rattle.atomic_table.specs.Table.{Me, Allows, carried_after, keeps}
 use Rattle.atomic_table.proofs.Lists.{at_longer}
 use Rattle.frame_word.specs.Totals.{SameTotals, split_of}
 use Rattle.frame_word.proofs.Totals.{sum_append, total_more, total_set}
-use Rattle.step_rules.specs.State.{Zone}
+use Rattle.step_rules.specs.declared.step.Step.{Step}
+use Rattle.step_rules.specs.declared.step.Action.{Action}
+use Rattle.step_rules.specs.declared.step.Answer.{Answer}
+use Rattle.step_rules.specs.State.{Zone, State}
+use Rattle.step_rules.specs.After.{Run}
+use Rattle.boot_words.specs.declared.view.Past.{Past}
+use Rattle.boot_words.specs.Composed.{AreLegal, GrewInTurn, GrewUnderLock}
+use Rattle.boot_words.specs.Held.{HoldsLock, MadeUnderLock, local_seen}
 use Rattle.boot_words.specs.declared.view.BootView.{BootView}
 use Rattle.boot_words.specs.declared.word.Word.TheVariants.{Quiet}
 use Rattle.boot_words.specs.Rule.{AllOf, BootRule, FitsRun, boot_rule}
@@ -91,8 +98,7 @@ turns_among zone views left right F told deals a words seats id k at =
       total_set f split id left r.0 there,
       total_set f seats id views now at,
       sum_append f r.0 right,
-    ) in
-    (
+    ) in (
       now,
       moved zone (F words) (set split id r.0) (set seats id now) same r.1
           (all_merged (AllOf (FitsRun r.1.run)) seats id views left right r.0 now at (all_both (FitsRun r.1.run) r.0 right) r.1.fits),
@@ -110,3 +116,32 @@ may_turn zone views F told a same id s k homes at small =
       subst (λ (l : List ℕ). BootRule zone l (set s.views id r.0)) (same s.words s.views id k at ∙ sym (set-get_or s.words 0 0)) r.1,
       (refl, r.2),
     )
+
+-- ---- in the midst of a list of steps
+-- Some steps of the list are made: the holder still has the lock, the rest is legal, and pasts that grow by the rest have grown by all.
+pub record Midst (zone : Zone) (z c : Past) (steps : Run) (x y : Past) (rest : Run) : Type 0 where
+  pub number : y.number ≡ c.number
+  pub holds : HoldsLock zone x y (local_seen zone y)
+  pub legal : AreLegal (local_seen zone y) rest
+  pub on : (x' y' : Past) → GrewInTurn zone x y rest x' y' → GrewInTurn zone z c steps x' y'
+
+pub at_first : (zone : Zone) (z c : Past) (steps : Run) → HoldsLock zone z c (local_seen zone c) → AreLegal (local_seen zone c) steps → Midst zone z c steps z c steps
+at_first zone z c steps holds legal = record { number = refl; holds = holds; legal = legal; on = λ x' y' grew. grew }
+
+pub then_made : (zone : Zone) (z c : Past) (steps : Run) (x y x' y' : Past) (made : Step × Answer) (rest : Run) → Midst zone z c steps x y (made ∷ rest)
+    → GrewUnderLock zone x y made x' y' → Midst zone z c steps x' y' rest
+then_made zone z c steps x y x' y' made rest at grew = record {
+  number = grew.cpu_grew.number ∙ at.number;
+  holds = grew.holds;
+  legal = subst (λ (l : State). AreLegal l rest) (sym grew.local_is) at.legal.1;
+  on = λ u w more. at.on u w (x', y', grew, more);
+}
+
+-- a step that the law makes, of a seat that it names otherwise
+pub grew_as : {V : Type 0} (wrap : V → BootView) (zone : Zone) (x y : Past) (action : ℕ → Action) (seat : ℕ → ℕ) (answer : Answer) (p q : ℕ) → p ≡ q
+    → (kind : Me (Unit {0}) (List V) → Type 0) (later : Me (Unit {0}) (List BootView))
+    → (t : MadeUnderLock wrap (Unit {0}) zone x y (local_seen zone y) (record { seat = seat p; action = action p }) answer kind later)
+    → GrewUnderLock zone x y (record { seat = seat q; action = action q }, answer) t.zone_past t.cpu_past
+grew_as wrap zone x y action seat answer p q same kind later t =
+    subst (λ n. GrewUnderLock zone x y (record { seat = seat n; action = action n }, answer) t.zone_past t.cpu_past) same
+    (record { zone_grew = t.zone_grew; cpu_grew = t.cpu_grew; holds = t.holds; local_is = t.local_is })

@@ -1,5 +1,5 @@
 -- A frame is lent to the lock's holder by two steps that one load makes.
-use Rattle.std.proofs.Common.{◌≡◌, ℕ, ◌+◌, ◌-◌, ◌<◌, ◌≤◌, true, List, [], ◌∷◌, ◌++◌, set, refl, ap, sym, ◌∙◌, subst, arith, inl, inr}
+use Rattle.std.proofs.Common.{◌≡◌, ℕ, ◌+◌, ◌<◌, ◌≤◌, true, List, [], ◌∷◌, ◌++◌, set, refl, ap, sym, ◌∙◌, subst, arith, inl, inr}
 use Rattle.std.specs.Prelude.{slice_index}
 use Rattle.std.proofs.lemmas.List.{set-get_or}
 use mathlib.Core.Option.{none, some}
@@ -23,7 +23,7 @@ use Rattle.step_rules.specs.Legal.{is_legal}
 use Rattle.boot_words.specs.declared.view.Past.{Past}
 use Rattle.boot_words.specs.declared.view.BootView.{BootView}
 use Rattle.boot_words.specs.declared.view.BootView.TheVariants.{OfFrames}
-use Rattle.boot_words.specs.Composed.{AreLegal, GrewUnderLock, LendIsAllowed, Lends, done, lend_run}
+use Rattle.boot_words.specs.Composed.{AreLegal, GrewUnderLock, LendIsAllowed, Lends, answered_done, lend_run}
 use Rattle.boot_words.specs.Held.{AreViewsOf, HoldsLock, MadeUnderLock, joined, local_seen}
 use Rattle.boot_words.specs.declared.word.Word.TheVariants.{Quiet}
 use Rattle.boot_words.specs.Rule.{frame_base, frames_in}
@@ -106,7 +106,7 @@ module _ (zone : Zone) (f : ℕ) (z c : Past) (m v : FrameView) (few : zone.cpus
   Took x y w = (found : ℕ) × MadeUnderLock OfFrames (Unit {0}) zone x y (local_seen zone y) (record { seat = y.number; action = TakeIn f }) Done
       (by_two takes_in (step 0 f 0 0 none) (sent ∷ v ∷ [], []) 0) (w, [])
 
-  take_step : (x y : Past) → GrewUnderLock zone z c (done 0 (PassOut f cpu)) x y → Turns zone (joined OfFrames x y (sent ∷ v ∷ [])) (λ ws. set ws word 0) (Took x y)
+  take_step : (x y : Past) → GrewUnderLock zone z c (answered_done 0 (PassOut f cpu)) x y → Turns zone (joined OfFrames x y (sent ∷ v ∷ [])) (λ ws. set ws word 0) (Took x y)
   take_step x y grew =
       let same : y.number ≡ cpu = grew.cpu_grew.number in
       let views = joined OfFrames x y (sent ∷ v ∷ []) in
@@ -149,7 +149,7 @@ module _ (zone : Zone) (f : ℕ) (z c : Past) (m v : FrameView) (few : zone.cpus
             (
               u.1.zone_past,
               u.1.cpu_past,
-              subst (λ q. GrewUnderLock zone t.1.zone_past t.1.cpu_past (done q (TakeIn f)) u.1.zone_past u.1.cpu_past) first.cpu_grew.number second,
+              subst (λ q. GrewUnderLock zone t.1.zone_past t.1.cpu_past (answered_done q (TakeIn f)) u.1.zone_past u.1.cpu_past) first.cpu_grew.number second,
               (refl, refl),
             ),
           );

@@ -1,5 +1,5 @@
 -- A fresh frame and its page are taken back from the lock's holder by four steps that one load makes.
-use Rattle.std.proofs.Common.{◌≡◌, ℕ, zero, suc, ◌+◌, ◌-◌, ◌%◌, ◌^◌, ◌<◌, ◌≤◌, true, List, [], ◌∷◌, ◌++◌, map, set, refl, ap, sym, ◌∙◌, subst, arith, inl, inr}
+use Rattle.std.proofs.Common.{◌≡◌, ℕ, zero, suc, ◌+◌, ◌%◌, ◌^◌, ◌<◌, ◌≤◌, true, List, [], ◌∷◌, ◌++◌, map, set, refl, ap, sym, ◌∙◌, subst, arith, inl, inr}
 use Rattle.std.specs.Prelude.{slice_index}
 use mathlib.Core.Option.{none}
 use Rattle.atomic_table.specs.Seated.{TableId}
@@ -10,30 +10,28 @@ use Rattle.frame_word.specs.declared.view.FrameView.{FrameView}
 use Rattle.frame_word.specs.Kinds.{by_two, collects, stores_pass_back}
 use Rattle.frame_word.specs.ReferenceRule.{hands_in, mark}
 use Rattle.frame_word.specs.Seats.{KnownTable}
-use Rattle.frame_word.specs.Views.{changed, collected_from, hand_overs_begun, hand_overs_ended, in_hands, note_of, passed_back_by_cpu}
+use Rattle.frame_word.specs.Views.{changed, collected_from, hand_overs_begun, hand_overs_ended, in_hands, note_of, passed_back_by_cpu, HasNone}
 use Rattle.frame_word.proofs.Cases.{case_handed}
 use Rattle.frame_word.proofs.Notes.{note_here}
 use Rattle.frame_word.proofs.Totals.{total_view}
 use Rattle.stock_word.specs.declared.view.StockAccount.{StockAccount}
 use Rattle.stock_word.specs.declared.view.StockView.{StockView}
-use Rattle.stock_word.specs.Stock.{account_of, stock_pages_of}
+use Rattle.stock_word.specs.Stock.{account_of, group_of, stock_pages_of}
 use Rattle.stock_word.specs.StockRule.{report_index}
 use Rattle.stock_word.specs.Kinds.{Absorbs, Alone, Joined, absorbing_step, after_report, reporting_step, with_steps, zone_after_absorb, zone_after_report}
 use Rattle.stock_word.proofs.CallerLemmas.{account_of-with_account}
 use Rattle.stock_word.proofs.Keeps.{joined_stock}
-use Rattle.step_rules.specs.declared.step.Step.{Step}
 use Rattle.step_rules.specs.declared.step.Action.{Action}
 use Rattle.step_rules.specs.declared.step.Action.TheVariants.{Absorb, Collect, PassBack, Report}
-use Rattle.step_rules.specs.declared.step.Answer.{Answer}
 use Rattle.step_rules.specs.declared.step.Answer.TheVariants.{Done, Pages}
-use Rattle.step_rules.specs.State.{Zone, State}
+use Rattle.step_rules.specs.State.{Zone}
 use Rattle.step_rules.specs.Legal.{is_legal}
 use Rattle.step_rules.specs.After.{Run}
 use Rattle.boot_words.specs.declared.view.Past.{Past}
 use Rattle.boot_words.specs.declared.view.BootView.{BootView}
 use Rattle.boot_words.specs.declared.view.BootView.TheVariants.{OfFrames, OfStocks, OfRun}
 use Rattle.boot_words.specs.declared.word.Word.TheVariants.{Quiet}
-use Rattle.boot_words.specs.Composed.{AreLegal, GrewUnderLock, MakesInTurn, done}
+use Rattle.boot_words.specs.Composed.{AreLegal, GrewUnderLock, MakesInTurn, answered_done}
 use Rattle.boot_words.specs.Pasts.{KnownPasts, cpu_past, own_past, pasts_in}
 use Rattle.boot_words.specs.TakenBack.{TakeBackIsAllowed, TakesBack, take_back_run, taken_back_page}
 use Rattle.boot_words.specs.Held.{AreViewsOf, HoldsLock, MadeUnderLock, joined, local_seen}
@@ -42,7 +40,7 @@ use Rattle.boot_words.specs.Seating.{Deals}
 use Rattle.boot_words.specs.Seats.{MayStep, but_last, zone_of_boot}
 use Rattle.boot_words.specs.Sitting.{frame_view, second_view_of_frames, second_view_of_stocks, stock_view}
 use Rattle.boot_words.proofs.Banking.{absorb_is_allowed}
-use Rattle.boot_words.proofs.Composing.{Turns, Whenever, may_turn, turns_among, turns_both, turns_by, turns_less}
+use Rattle.boot_words.proofs.Composing.{Midst, Turns, Whenever, at_first, grew_as, may_turn, then_made, turns_among, turns_both, turns_by, turns_less}
 use Rattle.boot_words.proofs.Lent.{frame_small, grew_under_lock, stored_back}
 use Rattle.boot_words.proofs.Parts.{frame_reads}
 use Rattle.boot_words.proofs.Reporting.{report_is_allowed}
@@ -88,15 +86,6 @@ account_here a cpu = ap (λ (x : StockAccount). x.unabsorbed) (account_of-with_a
 abbrev view_of : (y : Me (Unit {0}) (List BootView)) → List BootView
 view_of y = y.0
 
--- the same step, of the seat with the number that the past had at first
-same_seat : (zone : Zone) (z c x y : Past) (action : Action) (answer : Answer) (p q : ℕ) → p ≡ q
-    → GrewUnderLock zone z c (record { seat = p; action = action }, answer) x y → GrewUnderLock zone z c (record { seat = q; action = action }, answer) x y
-same_seat zone z c x y action answer p q e = subst (λ n. GrewUnderLock zone z c (record { seat = n; action = action }, answer) x y) e
-
-legal_then : (zone : Zone) (z c x y : Past) (made : Step × Answer) (rest : Run) → GrewUnderLock zone z c made x y → AreLegal (local_seen zone c) (made ∷ rest)
-    → AreLegal (local_seen zone y) rest
-legal_then zone z c x y made rest grew legal = subst (λ (l : State). AreLegal l rest) (sym grew.local_is) legal.1
-
 module _ (zone : Zone) (f : ℕ) (z c : Past) (m v : FrameView) (a b : StockView) (few : zone.cpus ≤ 64) (holds : HoldsLock zone z c (local_seen zone c))
     (legal : AreLegal (local_seen zone c) (take_back_run c.number f)) (inside : f < zone.frames) (are : AreViewsOf zone c m.number v.number)
     (stocks_are : AreViewsOf zone c a.number b.number) (visiting : slice_index m.opened v.number ≡ 1) (hand : in_hands (note_of v f) ≡ 1)
@@ -140,10 +129,10 @@ module _ (zone : Zone) (f : ℕ) (z c : Past) (m v : FrameView) (a b : StockView
   rest3 = (record { seat = 0; action = Absorb q }, Pages 1) ∷ []
 
   abbrev rest2 : Run
-  rest2 = done 0 (Collect f q) ∷ rest3
+  rest2 = answered_done 0 (Collect f q) ∷ rest3
 
   abbrev rest1 : Run
-  rest1 = done q (Report 1) ∷ rest2
+  rest1 = answered_done q (Report 1) ∷ rest2
 
   -- ---- the four steps
   abbrev Passed : List BootView → Type 0
@@ -227,9 +216,6 @@ module _ (zone : Zone) (f : ℕ) (z c : Past) (m v : FrameView) (a b : StockView
       omega (arith, found, here, more, absorbed)
 
   -- ---- all four
-  abbrev frames_of : FrameView → FrameView → List BootView
-  frames_of x y = OfFrames x ∷ OfFrames y ∷ []
-
   abbrev Told : List BootView → Type 0
   Told w = TakesBack zone z c f m v a b w
 
@@ -243,49 +229,6 @@ module _ (zone : Zone) (f : ℕ) (z c : Past) (m v : FrameView) (a b : StockView
   deals_third : (x y : Past) (s t u w : BootView) → Deals (OfRun x ∷ OfRun y ∷ s ∷ t ∷ u ∷ w ∷ []) (OfRun x ∷ OfRun y ∷ u ∷ []) (s ∷ t ∷ w ∷ [])
   deals_third x y s t u w = inl (OfRun y ∷ u ∷ [], refl, inl (u ∷ [], refl, inr (t ∷ w ∷ [], refl, inr (w ∷ [], refl, inl ([], refl, inr ([], refl, (refl, refl)))))))
 
-  -- the zone's and the CPU's pasts behind each step, and that they grew by it
-  abbrev Grew : Past → Past → Step × Answer → Past → Past → Type 0
-  Grew x y made x' y' = GrewUnderLock zone x y made x' y'
-
-  last_step : (w : List BootView) (passed : (l : List BootView) × Passed l) (reported : (l : List BootView) × Reported (passed.1.1).zone_past (passed.1.1).cpu_past l)
-      → (got : (l : List BootView) × Got (reported.1.1).zone_past (reported.1.1).cpu_past l)
-      → (l : List BootView) × (w ≡ l ++ OfFrames m' ∷ OfFrames v' ∷ OfStocks b' ∷ []) × Absorbed (got.1.1).zone_past (got.1.1).cpu_past l → Told w
-  last_step w passed reported got absorbed_by =
-      let t1 = passed.1.1 in
-      let t2 = reported.1.1 in
-      let t3 = got.1.1 in
-      let t4 = absorbed_by.2.1 in
-      let d1 = t1.made in
-      let d2 = t2.made.3 in
-      let g1 : Grew z c (done q (PassBack f)) t1.zone_past t1.cpu_past = grew_under_lock OfFrames zone z c _ _ _ _ t1 in
-      let n1 : t1.cpu_past.number ≡ q = g1.cpu_grew.number in
-      let g2 : Grew t1.zone_past t1.cpu_past (done q (Report 1)) t2.zone_past t2.cpu_past =
-      same_seat zone _ _ _ _ (Report 1) Done _ q n1 (grew_under_lock OfStocks zone _ _ _ _ _ _ t2) in
-      let n2 : t2.cpu_past.number ≡ q = g2.cpu_grew.number ∙ n1 in
-      let g3 : Grew t2.zone_past t2.cpu_past (done 0 (Collect f q)) t3.zone_past t3.cpu_past =
-      subst (λ n. Grew t2.zone_past t2.cpu_past (done 0 (Collect f n)) t3.zone_past t3.cpu_past) n2 (grew_under_lock OfFrames zone _ _ _ _ _ _ t3) in
-      let g4 : Grew t3.zone_past t3.cpu_past (record { seat = 0; action = Absorb q }, Pages 1) t4.zone_past t4.cpu_past =
-      subst (λ n. Grew t3.zone_past t3.cpu_past (record { seat = 0; action = Absorb q }, Pages n) t4.zone_past t4.cpu_past)
-      (one_page t3.zone_past t3.cpu_past absorbed_by.0 absorbed_by.2) (grew_under_lock OfStocks zone _ _ _ _ _ _ t4) in record {
-        nothing = d1.3.2;
-        no_reference = d1.3.3;
-        own = d1.3.4;
-        borrowed = d1.3.5;
-        booked = d2.enough;
-        group = d2.of_group;
-        zone_past = t4.zone_past;
-        cpu_past = t4.cpu_past;
-        views_are = absorbed_by.1 ∙ ap (λ (b : List BootView). b ++ OfFrames m' ∷ OfFrames v' ∷ OfStocks b' ∷ [])
-            (after_absorbing t3.zone_past t3.cpu_past absorbed_by.0 absorbed_by.2);
-        holds = t4.holds;
-        grew = (
-          t1.zone_past,
-          t1.cpu_past,
-          g1,
-          (t2.zone_past, t2.cpu_past, g2, (t3.zone_past, t3.cpu_past, g3, (t4.zone_past, t4.cpu_past, g4, (refl, refl)))),
-        );
-      }
-
   abbrev F1 : List ℕ → List ℕ
   F1 ws = set ws j (mark q)
 
@@ -298,77 +241,86 @@ module _ (zone : Zone) (f : ℕ) (z c : Past) (m v : FrameView) (a b : StockView
   abbrev F4 : List ℕ → List ℕ
   F4 ws = set ws r 0
 
-  fourth : (passed : (l : List BootView) × Passed l) (reported : (l : List BootView) × Reported (passed.1.1).zone_past (passed.1.1).cpu_past l)
-      → (mid : List BootView) → (l : List BootView) × (mid ≡ l ++ OfStocks a' ∷ OfStocks b' ∷ []) × Got (reported.1.1).zone_past (reported.1.1).cpu_past l
-      → Turns zone mid F4 Told
-  fourth passed reported mid told =
-      let t1 = passed.1.1 in
-      let t2 = reported.1.1 in
-      let t3 = told.2.1 in
-      let x = t3.zone_past in
-      let y = t3.cpu_past in
-      let g1 : Grew z c (done q (PassBack f)) t1.zone_past t1.cpu_past = grew_under_lock OfFrames zone z c _ _ _ _ t1 in
-      let n1 : t1.cpu_past.number ≡ q = g1.cpu_grew.number in
-      let g2 : Grew t1.zone_past t1.cpu_past (done q (Report 1)) t2.zone_past t2.cpu_past =
-      same_seat zone _ _ _ _ (Report 1) Done _ q n1 (grew_under_lock OfStocks zone _ _ _ _ _ _ t2) in
-      let n2 : t2.cpu_past.number ≡ q = g2.cpu_grew.number ∙ n1 in
-      let g3 : Grew t2.zone_past t2.cpu_past (done 0 (Collect f q)) x y =
-      subst (λ n. Grew t2.zone_past t2.cpu_past (done 0 (Collect f n)) x y) n2 (grew_under_lock OfFrames zone _ _ _ _ _ _ t3) in
-      let l1 = legal_then zone z c t1.zone_past t1.cpu_past (done q (PassBack f)) rest1 g1 legal in
-      let l2 = legal_then zone t1.zone_past t1.cpu_past t2.zone_past t2.cpu_past (done q (Report 1)) rest2 g2 l1 in
-      let l3 = legal_then zone t2.zone_past t2.cpu_past x y (done 0 (Collect f q)) rest3 g3 l2 in
+  -- what the first step found, and the first two
+  abbrev FoundFrame : Type 0
+  FoundFrame = HasNone m f × ((note_of v f).references ≡ 0) × ((note_of v f).own ≡ 1 → (note_of m f).lent ≡ 0)
+      × ((note_of v f).borrowed ≡ 1 → (note_of m f).lent ≡ v.number)
+
+  abbrev FoundPage : Type 0
+  FoundPage = (b.fresh + (account_of a b.number).unabsorbed ≤ (account_of a b.number).book) × (group_of b.last ≡ (account_of a b.number).group)
+
+  abbrev At : Past → Past → Run → Type 0
+  At x y rest = Midst zone z c (take_back_run q f) x y rest
+
+  fourth : (x y : Past) → At x y rest3 → FoundFrame → FoundPage
+      → Turns zone (OfRun x ∷ OfRun y ∷ OfFrames m' ∷ OfFrames v' ∷ OfStocks a' ∷ OfStocks b' ∷ []) F4 Told
+  fourth x y now frame page =
       let views : List BootView = OfRun x ∷ OfRun y ∷ OfFrames m' ∷ OfFrames v' ∷ OfStocks a' ∷ OfStocks b' ∷ [] in
-      subst (λ (b : List BootView). Turns zone b F4 Told)
-      (sym (told.1 ∙ ap (λ (b : List BootView). b ++ OfStocks a' ∷ OfStocks b' ∷ []) (after_collecting t2.zone_past t2.cpu_past told.0 told.2)))
-      (turns_less zone views F4 (λ w. (l : List BootView) × (w ≡ l ++ OfFrames m' ∷ OfFrames v' ∷ OfStocks b' ∷ []) × Absorbed x y l) Told
-      (turns_among zone views (joined OfStocks x y (a' ∷ [])) (OfFrames m' ∷ OfFrames v' ∷ OfStocks b' ∷ []) F4 (Absorbed x y)
-      (deals_third x y (OfFrames m') (OfFrames v') (OfStocks a') (OfStocks b')) (absorb x y t3.holds l3.0))
-      (λ w absorbed_by. last_step w passed reported (told.0, told.2) absorbed_by))
+      let others : List BootView = OfFrames m' ∷ OfFrames v' ∷ OfStocks b' ∷ [] in
+      turns_less zone views F4 (λ w. (l : List BootView) × (w ≡ l ++ others) × Absorbed x y l) Told
+      (turns_among zone views (joined OfStocks x y (a' ∷ [])) others F4 (Absorbed x y)
+      (deals_third x y (OfFrames m') (OfFrames v') (OfStocks a') (OfStocks b')) (absorb x y now.holds now.legal.0))
+      (λ w told. let t = told.2.1 in record {
+        nothing = frame.0;
+        no_reference = frame.1;
+        own = frame.2;
+        borrowed = frame.3;
+        booked = page.0;
+        group = page.1;
+        zone_past = t.zone_past;
+        cpu_past = t.cpu_past;
+        views_are = told.1 ∙ ap (λ (l : List BootView). l ++ others) (after_absorbing x y told.0 told.2);
+        holds = t.holds;
+        grew = now.on t.zone_past t.cpu_past (
+          t.zone_past,
+          t.cpu_past,
+          subst (λ n. GrewUnderLock zone x y (record { seat = 0; action = Absorb q }, Pages n) t.zone_past t.cpu_past) (one_page x y told.0 told.2)
+              (grew_under_lock OfStocks zone x y _ _ _ _ t),
+          (refl, refl),
+        );
+      })
 
-  third : (passed : (l : List BootView) × Passed l) (mid : List BootView)
-      → (l : List BootView) × (mid ≡ l ++ OfFrames m ∷ OfFrames v' ∷ []) × Reported (passed.1.1).zone_past (passed.1.1).cpu_past l
-      → Turns zone mid (λ ws. F4 (F3 ws)) Told
-  third passed mid told =
-      let t1 = passed.1.1 in
-      let t2 = told.2.1 in
-      let x = t2.zone_past in
-      let y = t2.cpu_past in
-      let g1 : Grew z c (done q (PassBack f)) t1.zone_past t1.cpu_past = grew_under_lock OfFrames zone z c _ _ _ _ t1 in
-      let n1 : t1.cpu_past.number ≡ q = g1.cpu_grew.number in
-      let g2 : Grew t1.zone_past t1.cpu_past (done q (Report 1)) x y = same_seat zone _ _ _ _ (Report 1) Done _ q n1 (grew_under_lock OfStocks zone _ _ _ _ _ _ t2) in
-      let n2 : y.number ≡ q = g2.cpu_grew.number ∙ n1 in
-      let l1 = legal_then zone z c t1.zone_past t1.cpu_past (done q (PassBack f)) rest1 g1 legal in
-      let l2 = legal_then zone t1.zone_past t1.cpu_past x y (done q (Report 1)) rest2 g2 l1 in
+  third : (x y : Past) → At x y rest2 → FoundFrame → FoundPage
+      → Turns zone (OfRun x ∷ OfRun y ∷ OfStocks a' ∷ OfStocks b' ∷ OfFrames m ∷ OfFrames v' ∷ []) (λ ws. F4 (F3 ws)) Told
+  third x y now frame page =
       let views : List BootView = OfRun x ∷ OfRun y ∷ OfStocks a' ∷ OfStocks b' ∷ OfFrames m ∷ OfFrames v' ∷ [] in
-      subst (λ (b : List BootView). Turns zone b (λ ws. F4 (F3 ws)) Told)
-      (sym (told.1 ∙ ap (λ (b : List BootView). b ++ OfFrames m ∷ OfFrames v' ∷ []) (after_reporting t1.zone_past t1.cpu_past told.0 told.2)))
-      (turns_both zone views F3 F4 (λ w. (l : List BootView) × (w ≡ l ++ OfStocks a' ∷ OfStocks b' ∷ []) × Got x y l) Told
-      (turns_among zone views (joined OfFrames x y (m ∷ v' ∷ [])) (OfStocks a' ∷ OfStocks b' ∷ []) F3 (Got x y)
-      (deals_back x y (OfStocks a') (OfStocks b') (OfFrames m) (OfFrames v')) (collect x y n2 t2.holds l2.0))
-      (fourth passed (told.0, told.2)))
+      let others : List BootView = OfStocks a' ∷ OfStocks b' ∷ [] in
+      turns_both zone views F3 F4 (λ w. (l : List BootView) × (w ≡ l ++ others) × Got x y l) Told
+      (turns_among zone views (joined OfFrames x y (m ∷ v' ∷ [])) others F3 (Got x y)
+      (deals_back x y (OfStocks a') (OfStocks b') (OfFrames m) (OfFrames v')) (collect x y now.number now.holds now.legal.0))
+      (λ mid told. let t = told.2.1 in
+      subst (λ (l : List BootView). Turns zone l F4 Told) (sym (told.1 ∙ ap (λ (l : List BootView). l ++ others) (after_collecting x y told.0 told.2)))
+      (fourth t.zone_past t.cpu_past
+      (then_made zone z c (take_back_run q f) x y t.zone_past t.cpu_past (answered_done 0 (Collect f q)) rest3 now
+      (grew_as OfFrames zone x y (λ n. Collect f n) (λ n. 0) Done y.number q now.number _ _ t)) frame page))
 
-  second : (mid : List BootView) → (l : List BootView) × (mid ≡ l ++ OfStocks a ∷ OfStocks b ∷ []) × Passed l → Turns zone mid (λ ws. F4 (F3 (F2 ws))) Told
-  second mid told =
-      let t1 = told.2.1 in
-      let x = t1.zone_past in
-      let y = t1.cpu_past in
-      let g1 : Grew z c (done q (PassBack f)) x y = grew_under_lock OfFrames zone z c _ _ _ _ t1 in
-      let l1 = legal_then zone z c x y (done q (PassBack f)) rest1 g1 legal in
+  second : (x y : Past) → At x y rest1 → FoundFrame
+      → Turns zone (OfRun x ∷ OfRun y ∷ OfFrames m ∷ OfFrames v' ∷ OfStocks a ∷ OfStocks b ∷ []) (λ ws. F4 (F3 (F2 ws))) Told
+  second x y now frame =
       let views : List BootView = OfRun x ∷ OfRun y ∷ OfFrames m ∷ OfFrames v' ∷ OfStocks a ∷ OfStocks b ∷ [] in
-      subst (λ (b : List BootView). Turns zone b (λ ws. F4 (F3 (F2 ws))) Told)
-      (sym (told.1 ∙ ap (λ (l : List BootView). l ++ OfStocks a ∷ OfStocks b ∷ []) (after_pass told.0 told.2)))
-      (turns_both zone views F2 (λ ws. F4 (F3 ws)) (λ w. (l : List BootView) × (w ≡ l ++ OfFrames m ∷ OfFrames v' ∷ []) × Reported x y l) Told
-      (turns_among zone views (joined OfStocks x y (a ∷ b ∷ [])) (OfFrames m ∷ OfFrames v' ∷ []) F2 (Reported x y)
-      (deals_back x y (OfFrames m) (OfFrames v') (OfStocks a) (OfStocks b)) (report x y g1.cpu_grew.number t1.holds l1.0))
-      (third (told.0, told.2)))
+      let others : List BootView = OfFrames m ∷ OfFrames v' ∷ [] in
+      turns_both zone views F2 (λ ws. F4 (F3 ws)) (λ w. (l : List BootView) × (w ≡ l ++ others) × Reported x y l) Told
+      (turns_among zone views (joined OfStocks x y (a ∷ b ∷ [])) others F2 (Reported x y)
+      (deals_back x y (OfFrames m) (OfFrames v') (OfStocks a) (OfStocks b)) (report x y now.number now.holds now.legal.0))
+      (λ mid told. let t = told.2.1 in
+      subst (λ (l : List BootView). Turns zone l (λ ws. F4 (F3 ws)) Told) (sym (told.1 ∙ ap (λ (l : List BootView). l ++ others) (after_reporting x y told.0 told.2)))
+      (third t.zone_past t.cpu_past
+      (then_made zone z c (take_back_run q f) x y t.zone_past t.cpu_past (answered_done q (Report 1)) rest2 now
+      (grew_as OfStocks zone x y (λ n. Report 1) (λ n. n) Done y.number q now.number _ _ t)) frame (t.made.3.enough, t.made.3.of_group)))
 
   abbrev all_views : List BootView
   all_views = OfRun z ∷ OfRun c ∷ OfFrames m ∷ OfFrames v ∷ OfStocks a ∷ OfStocks b ∷ []
 
   all_four : Turns zone all_views (λ ws. F4 (F3 (F2 (F1 ws)))) Told
-  all_four = turns_both zone all_views F1 (λ ws. F4 (F3 (F2 ws))) (λ w. (l : List BootView) × (w ≡ l ++ OfStocks a ∷ OfStocks b ∷ []) × Passed l) Told
-      (turns_among zone all_views (joined OfFrames z c (m ∷ v ∷ [])) (OfStocks a ∷ OfStocks b ∷ []) F1 Passed
-      (deals_front z c (OfFrames m) (OfFrames v) (OfStocks a) (OfStocks b)) pass) second
+  all_four =
+      let others : List BootView = OfStocks a ∷ OfStocks b ∷ [] in
+      turns_both zone all_views F1 (λ ws. F4 (F3 (F2 ws))) (λ w. (l : List BootView) × (w ≡ l ++ others) × Passed l) Told
+      (turns_among zone all_views (joined OfFrames z c (m ∷ v ∷ [])) others F1 Passed (deals_front z c (OfFrames m) (OfFrames v) (OfStocks a) (OfStocks b)) pass)
+      (λ mid told. let t = told.2.1 in
+      subst (λ (l : List BootView). Turns zone l (λ ws. F4 (F3 (F2 ws))) Told) (sym (told.1 ∙ ap (λ (l : List BootView). l ++ others) (after_pass told.0 told.2)))
+      (second t.zone_past t.cpu_past
+      (then_made zone z c (take_back_run q f) z c t.zone_past t.cpu_past (answered_done q (PassBack f)) rest1 (at_first zone z c (take_back_run q f) holds legal)
+      (grew_under_lock OfFrames zone z c _ _ _ _ t)) (t.made.3.2, t.made.3.3, t.made.3.4, t.made.3.5)))
 
   -- ---- both words are 0
   frame_zero : Whenever zone all_views (λ words. slice_index words j ≡ 0)

@@ -23,12 +23,12 @@ use Rattle.boot_words.specs.Seats.{MayStep, zone_of_boot}
 -- ---- the table: the steps of each list, in their order
 
 -- a step of this seat that is answered Done
-abbrev pub done : ℕ → Action → Step × Answer
-done seat action = (record { seat = seat; action = action }, Done)
+abbrev pub answered_done : ℕ → Action → Step × Answer
+answered_done seat action = (record { seat = seat; action = action }, Done)
 
 -- a frame of the zone's hand is lent to the CPU: its word is 0 before and after, so no word changes
 abbrev pub lend_run : ℕ → ℕ → Run
-lend_run cpu f = done 0 (PassOut f cpu) ∷ done cpu (TakeIn f) ∷ []
+lend_run cpu f = answered_done 0 (PassOut f cpu) ∷ answered_done cpu (TakeIn f) ∷ []
 
 -- ---- what each list requires and leaves
 

@@ -13,14 +13,14 @@ use Rattle.boot_words.specs.declared.view.Past.{Past}
 use Rattle.boot_words.specs.declared.view.BootView.{BootView}
 use Rattle.boot_words.specs.declared.view.BootView.TheVariants.{OfFrames, OfStocks, OfRun}
 use Rattle.boot_words.specs.declared.word.Word.TheVariants.{Quiet}
-use Rattle.boot_words.specs.Composed.{AreLegal, GrewInTurn, done}
+use Rattle.boot_words.specs.Composed.{AreLegal, GrewInTurn, answered_done}
 use Rattle.boot_words.specs.Held.{AreViewsOf, HoldsLock, local_seen}
 use Rattle.boot_words.specs.Seats.{MayStep}
 
 -- The CPU passes back a fresh frame and reports its page; the zone collects the frame and absorbs the page. The frame's
 -- word and the report word are 0 before and after, so no word changes.
 abbrev pub take_back_run : ℕ → ℕ → Run
-take_back_run cpu f = done cpu (PassBack f) ∷ done cpu (Report 1) ∷ done 0 (Collect f cpu)
+take_back_run cpu f = answered_done cpu (PassBack f) ∷ answered_done cpu (Report 1) ∷ answered_done 0 (Collect f cpu)
     ∷ (record { seat = 0; action = Absorb cpu }, Pages 1) ∷ []
 
 -- what the zone's seat knows of the stocks afterwards

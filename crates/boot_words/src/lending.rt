@@ -29,13 +29,7 @@ impl BootWords {
     /// Passes a frame of the zone's hand to this CPU, whose visit is open, and takes it into the CPU's hand as borrowed.
     /// The two steps are made by one load: the frame's word is 0 before the first and after the last. The frame was lent
     /// to no CPU, and isn't in transit between the two seats.
-    pub fn lend(
-        &self,
-        held: &mut PastSeat,
-        zone: &mut FrameSeat,
-        cpu: &mut FrameSeat,
-        frame: Frame,
-    )
+    pub fn lend(&self, held: &mut PastSeat, zone: &mut FrameSeat, cpu: &mut FrameSeat, frame: Frame)
         requires zone { IsZoneSeat self.now zone.old }
         requires cpu { IsCpuSeat self.now cpu.old }
         requires held { IsHeld self.now held.old }
