@@ -1,9 +1,14 @@
 -- Which steps may be made, and which were made, at a table and a number that are known by other names.
-use Rattle.std.proofs.Common.{◌≡◌, ℕ, sym, subst}
+use Rattle.std.proofs.Common.{◌≡◌, ℕ, [], ◌∷◌, ◌∙◌, refl, sym, subst}
 use Rattle.frame_word.specs.Seats.{KnownTable}
 use Rattle.step_rules.specs.declared.step.Action.{Action}
 use Rattle.step_rules.specs.declared.step.Answer.{Answer}
-use Rattle.boot_words.specs.Pasts.{KnownPasts, IsCpuPast, MakesStep, MayDo, MayMake}
+use Rattle.step_rules.specs.After.{Run}
+use Rattle.boot_words.specs.Composed.{AreLegal, GrewInTurn, MakesInTurn}
+use Rattle.boot_words.specs.Pasts.{KnownPasts, IsCpuPast, IsHeld, MakesStep, MayDo, MayMake, cpu_past, local_by_pasts, own_past}
+use Rattle.boot_words.specs.Seats.{zone_of_boot}
+use Rattle.boot_words.specs.TakenBack.{take_back_run}
+use Rattle.cpu_part.specs.Made.{MakesAll}
 
 module _ (t u : KnownTable) (same : u ≡ t) where
   pub may_do_at : (s : KnownPasts) (action : Action) → MayDo t s action → MayDo u s action
@@ -18,3 +23,24 @@ module _ (t u : KnownTable) (same : u ≡ t) where
 
     pub makes_at : (s later : KnownPasts) (action : Action) (answer : Answer) → MakesStep u s q action answer later → MakesStep t s p action answer later
     makes_at s later action answer made = subst (λ (k : KnownTable × ℕ). MakesStep k.0 s k.1 action answer later) (λ i. (same i, named i)) made
+
+-- steps that were made by one atomic step were made one after the other
+made_each : (t : KnownTable) (later : KnownPasts) (now : IsHeld t later) (steps : Run) (s : KnownPasts) → IsHeld t s
+    → GrewInTurn (zone_of_boot t) (own_past s) (cpu_past s) steps (own_past later) (cpu_past later) → MakesAll t s steps later
+made_each t later now [] s held grew = λ i. record {
+  table = (now.table_is ∙ sym held.table_is) i;
+  pasts = (now.both ∙ (λ k. grew.0 k ∷ grew.1 k ∷ []) ∙ sym held.both) i;
+}
+made_each t later now (made ∷ rest) s held grew =
+    let g = grew.2 in
+    let mid : KnownPasts = record { table = t.table; pasts = grew.0 ∷ grew.1 ∷ [] } in
+    let mid_held : IsHeld t mid = record { table_is = refl; both = refl; holds = g.holds } in
+    (mid, record { zone_grew = g.zone_grew; cpu_grew = g.cpu_grew; held = mid_held; local_is = g.local_is }, made_each t later now rest mid mid_held grew.3)
+
+pub makes_all_at : (t u : KnownTable) → u ≡ t → (p q f : ℕ) → q ≡ p → (s later : KnownPasts) → IsHeld t s → MakesInTurn u s (take_back_run q f) later → MakesAll t s (take_back_run p f) later
+makes_all_at t u same p q f named s later held made =
+    let here : MakesInTurn t s (take_back_run p f) later = subst (λ (k : KnownTable × ℕ). MakesInTurn k.0 s (take_back_run k.1 f) later) (λ i. (same i, named i)) made in
+    made_each t later here.held (take_back_run p f) s held here.grew
+
+pub are_legal_at : (t u : KnownTable) → u ≡ t → (p q f : ℕ) → q ≡ p → (s : KnownPasts) → AreLegal (local_by_pasts t s) (take_back_run p f) → AreLegal (local_by_pasts u s) (take_back_run q f)
+are_legal_at t u same p q f named s legal = subst (λ (k : KnownTable × ℕ). AreLegal (local_by_pasts k.0 s) (take_back_run k.1 f)) (λ i. (sym same i, sym named i)) legal

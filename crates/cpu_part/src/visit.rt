@@ -1,22 +1,22 @@
 //! The hand-over of frames between a CPU and the zone, inside a visit and together with the zone's seat.
 ghost use Rattle.std.specs.Prelude.{◌≡◌, ◌+◌, ◌<◌, ◌≤◌, ◌⊎◌, ℕ, List, [], ◌∷◌, ◌++◌, length, IfSome, MatchOption};
 ghost use Rattle.frame_word.specs.Views.{took_in, collected_from};
-ghost use Rattle.frame_word.specs.Seats.{HandsAreApart, HasNothingOf, IsLent, IsLentToNone, IsInNoHand, IsOpen, IsShut};
+ghost use Rattle.frame_word.specs.Seats.{HandsAreApart, HasNothingOf, IsLent, IsLentToNone, IsOpen, IsShut};
 ghost use Rattle.frame_word.specs.Seats.{IsZoneSeat, LentIsBorrowed, NothingPasses, Passes, seat_with, seat_with_visit};
-ghost use Rattle.stock_word.specs.Stock.{IsZoneView, IsCpuView, account_for, account_of, group_of};
-ghost use Rattle.stock_word.specs.Kinds.{zone_after_report, after_report};
+ghost use Rattle.stock_word.specs.Stock.{IsZoneView, account_of, group_of};
 ghost use Rattle.stock_word.specs.Calls.{with_view};
 ghost use Rattle.cpu_part.specs.Calls.{PassesFront, PassesFresh, PassesBackUnit};
-ghost use Rattle.cpu_part.specs.Cpus.{most_listed, stock_table_of};
-ghost use Rattle.cpu_part.specs.Known.{pass_fresh_steps};
-ghost use Rattle.boot_words.specs.Pasts.{IsHeld, IsHolder, MakesStep, MayMake};
-ghost use Rattle.cpu_part.specs.Made.{MakesAll, MayMakeAll};
+ghost use Rattle.cpu_part.specs.Cpus.{most_listed};
+ghost use Rattle.boot_words.specs.Composed.{AreLegal};
+ghost use Rattle.boot_words.specs.TakenBack.{take_back_run, taken_back_page};
+ghost use Rattle.boot_words.specs.Pasts.{local_by_pasts, IsHeld, IsHolder, MakesStep, MayMake};
+ghost use Rattle.cpu_part.specs.Made.{MakesAll};
 ghost use Rattle.step_rules.specs.declared.step.Action.TheVariants as step;
 ghost use Rattle.step_rules.specs.declared.step.Answer.TheVariants.{Done};
 
 use crate::boot_name::{BootName, Tables};
 use crate::cpu::Cpu;
-use boot_words::{BootWords, FrameSeat, PastSeat, StockSeat};
+use boot_words::{FrameSeat, PastSeat, StockSeat};
 use frame_word::Frame;
 
 impl<N: BootName> Cpu<N> {
@@ -115,9 +115,10 @@ impl<N: BootName> Cpu<N> {
         Some(frame)
     }
 
-    /// Passes the oldest fresh frame back to the zone and reports its page; `None` exactly if there is none. The visit
-    /// is open.
-    pub fn pass_fresh(
+    /// Gives the oldest fresh frame back to the zone, with its page; `None` exactly if there is none. The zone has the
+    /// frame in its hand, and the page is no longer booked to the CPU's stock. The visit is open, and no reported page is
+    /// unabsorbed.
+    pub fn give_back_fresh(
         &mut self,
         tables: &Tables<N>,
         held: &mut PastSeat,
@@ -127,19 +128,22 @@ impl<N: BootName> Cpu<N> {
         requires held { IsHeld N.frames held.old }
         requires holder { IsHolder held.old self.old.number }
         requires legal { (f : ℕ) (rest : List ℕ) → self.old.fresh ≡ f ∷ rest
-            → MayMakeAll N.frames held.old (pass_fresh_steps self.old.number f) }
+            → AreLegal (local_by_pasts N.frames held.old) (take_back_run self.old.number f) }
         requires zone { IsZoneSeat N.frames zone.old }
         requires zone_stock { (zone_stock.old.table ≡ N.stocks.table) × IsZoneView zone_stock.old.view }
         requires open { IsOpen zone.old self.old.number }
+        requires still { NothingPasses N.frames zone.old self.old.frame_seat }
+        requires absorbed { (account_of zone_stock.old.view self.old.number).unabsorbed ≡ 0 }
         ensures answer { MatchOption result ((self.old.fresh ≡ []) × (self.new ≡ self.old))
             (λ f. PassesFresh f self.old self.new) }
         ensures run { MatchOption result (held.new ≡ held.old)
-            (λ f. MakesAll N.frames held.old (pass_fresh_steps self.old.number f) held.new) }
+            (λ f. MakesAll N.frames held.old (take_back_run self.old.number f) held.new) }
         ensures frame { IfSome result (λ f. f < N.frames.frames) }
-        ensures zone { zone.new ≡ zone.old }
+        ensures zone { MatchOption result (zone.new ≡ zone.old)
+            (λ f. zone.new ≡ seat_with zone.old f (collected_from self.old.number)) }
         ensures borrowed { IfSome result (λ f. HasNothingOf zone.old f × IsLent zone.old f self.old.number) }
         ensures zone_stock { MatchOption result (zone_stock.new ≡ zone_stock.old)
-            (λ f. zone_stock.new ≡ with_view zone_stock.old (zone_after_report zone_stock.old.view self.old.number 1)) }
+            (λ f. zone_stock.new ≡ with_view zone_stock.old (taken_back_page zone_stock.old.view self.old.number)) }
         ensures booked { IfSome result (λ f. self.old.stock_seat.view.fresh
             + (account_of zone_stock.old.view self.old.number).unabsorbed
             ≤ (account_of zone_stock.old.view self.old.number).book) }
@@ -150,15 +154,12 @@ impl<N: BootName> Cpu<N> {
             return None;
         }
         let frame = self.fresh.remove(0);
-        tables
-            .words
-            .pass_back(held, zone, &mut self.frame_seat, frame);
-        report_passed(
-            &tables.words,
+        tables.words.take_back(
             held,
+            zone,
+            &mut self.frame_seat,
             zone_stock,
             &mut self.stock_seat,
-            &self.frame_seat,
             frame,
         );
         Some(frame)
@@ -216,33 +217,4 @@ impl<N: BootName> Cpu<N> {
             .words
             .collect(held, zone, &mut self.frame_seat, frame);
     }
-}
-
-// Reports the page of a fresh frame that has left the CPU's hand. Until then the page is the frame's, so the two atomic
-// steps come in this order. The conditions on the seat and the frame say so; nothing else reads them.
-fn report_passed(
-    words: &BootWords,
-    held: &mut PastSeat,
-    zone_stock: &mut StockSeat,
-    stock: &mut StockSeat,
-    _seat: &FrameSeat,
-    _frame: Frame,
-)
-    requires passed { IsInNoHand _seat.now _frame }
-    requires held { IsHeld words.now held.old }
-    requires holder { IsHolder held.old stock.old.view.number }
-    requires legal { MayMake words.now held.old stock.old.view.number (step.Report 1) }
-    requires tables { (zone_stock.old.table ≡ words.now.table) × (stock.old.table ≡ words.now.table) }
-    requires zone_stock { IsZoneView zone_stock.old.view }
-    requires cpu { IsCpuView (stock_table_of words.now) stock.old.view }
-    requires fresh { 1 ≤ stock.old.view.fresh }
-    ensures run { MakesStep words.now held.old stock.old.view.number (step.Report 1) Done held.new }
-    ensures booked { stock.old.view.fresh + (account_for zone_stock.old.view stock.old.view).unabsorbed
-        ≤ (account_for zone_stock.old.view stock.old.view).book }
-    ensures group { group_of stock.old.view.last ≡ (account_for zone_stock.old.view stock.old.view).group }
-    ensures zone_stock { zone_stock.new
-        ≡ with_view zone_stock.old (zone_after_report zone_stock.old.view stock.old.view.number 1) }
-    ensures cpu { stock.new ≡ with_view stock.old (after_report stock.old.view 1) }
-{
-    words.report(held, zone_stock, stock, 1);
 }

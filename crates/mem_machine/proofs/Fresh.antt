@@ -1,5 +1,5 @@
 -- A fresh frame is kept for its group, or dropped. Serves `keep_one` and `drop_one`.
-use Rattle.std.proofs.Common.{◌≡◌, ℕ, ◌+◌, ◌^◌, ◌<◌, ◌≤◌, ◌==◌, Bool, true, false, cond, Option, Some, None, List, [], ◌∷◌, length}
+use Rattle.std.proofs.Common.{◌++◌, ◌≡◌, ℕ, ◌+◌, ◌^◌, ◌<◌, ◌≤◌, ◌==◌, Bool, true, false, cond, Option, Some, None, List, [], ◌∷◌, length}
 use Rattle.std.proofs.Common.{refl, sym, ap, ◌∙◌, subst, arith, inl, inr, eq-eqb}
 use Rattle.std.specs.Prelude.{slice_set, nat_le, IfSome}
 use Rattle.std.proofs.lemmas.Bool.{cases_eq, cond-true, false≢true}
@@ -55,12 +55,13 @@ use Rattle.mem_machine.proofs.Balances.{balanced_killed_fresh}
 use Rattle.mem_machine.proofs.Followed.{follows_same, follows_still, LeadsAs}
 use Rattle.mem_machine.proofs.Counted.{collects_none, comes_back}
 use Rattle.step_rules.specs.After.{Run}
-use Rattle.boot_words.specs.Pasts.{KnownPasts, MakesStep, MayMake}
-use Rattle.cpu_part.specs.Made.{MakesAll, MayMakeAll}
+use Rattle.boot_words.specs.Pasts.{KnownPasts, MakesStep, MayMake, local_by_pasts}
+use Rattle.boot_words.specs.Composed.{AreLegal}
+use Rattle.cpu_part.specs.Made.{MakesAll}
 use Rattle.step_watch.specs.Watched.{KnownWatch, Watches}
 use Rattle.mem_machine.specs.Noted.{AreLocal, KnownRun, MayTake, MayTakeAll, Notes}
-use Rattle.mem_machine.proofs.Noted.{all_grow, are_legal, may_behind, may_front, notes_both, notes_one, run_steps}
-use Rattle.mem_machine.proofs.Reached.{may_make}
+use Rattle.mem_machine.proofs.Noted.{all_grow, may_behind, notes_both, notes_one, run_steps}
+use Rattle.mem_machine.proofs.Reached.{are_legal, may_make}
 use Rattle.mem_machine.proofs.Holder.{fresh_lent}
 use Rattle.mem_machine.proofs.Watched.{HasOpenVisit}
 
@@ -324,9 +325,11 @@ module _ (t : KnownTable) (w : KnownStockTable) (m now : KnownMachine) (same : m
   keep_may : MayTakeAll t m.run.past (keep_steps c.number f)
   keep_may = made (keep_steps c.number f) (keep_local t w m c tied ok its f rest front)
 
-  pub may_collect_kept : MayMakeAll t m.run.past (collect_steps c.number f)
-  may_collect_kept = are_legal t m.run.past (collect_steps c.number f)
-      (may_front t m.run.past (collect_steps c.number f) (zone_makes (Unfreeze f 1) Done ∷ zone_makes (Publish f) Done ∷ []) keep_may)
+  legal : (first second : Run) → AreLocal c.number (local_of t m c) (first ++ second) → AreLegal (local_by_pasts t m.run.past) first
+  legal first second all = are_legal t m now same c visit.shown first second (subst (λ (x : KnownMachine). AreLocal c.number (local_of t x c) (first ++ second)) same all)
+
+  pub may_collect_kept : AreLegal (local_by_pasts t m.run.past) (collect_steps c.number f)
+  may_collect_kept = legal (collect_steps c.number f) (zone_makes (Unfreeze f 1) Done ∷ zone_makes (Publish f) Done ∷ []) (keep_local t w m c tied ok its f rest front)
 
   keep_behind : (later : KnownPasts) → MakesAll t m.run.past (collect_steps c.number f) later
       → MayTakeAll t later (zone_makes (Unfreeze f 1) Done ∷ zone_makes (Publish f) Done ∷ [])
@@ -345,9 +348,9 @@ module _ (t : KnownTable) (w : KnownStockTable) (m now : KnownMachine) (same : m
     drop_may = made (drop_steps c.number f)
         (drop_local t w m c tied ok its f rest front (ap (λ (x : KnownMachine). is_killed x.killed (group_of_fresh c)) same ∙ killed))
 
-    pub may_collect_dropped : MayMakeAll t m.run.past (collect_steps c.number f)
-    may_collect_dropped = are_legal t m.run.past (collect_steps c.number f)
-        (may_front t m.run.past (collect_steps c.number f) (zone_makes (Return f) Done ∷ []) drop_may)
+    pub may_collect_dropped : AreLegal (local_by_pasts t m.run.past) (collect_steps c.number f)
+    may_collect_dropped = legal (collect_steps c.number f) (zone_makes (Return f) Done ∷ [])
+        (drop_local t w m c tied ok its f rest front (ap (λ (x : KnownMachine). is_killed x.killed (group_of_fresh c)) same ∙ killed))
 
     pub may_return_dropped : (i : ℕ) → i ≡ f → (later : KnownPasts) → MakesAll t m.run.past (collect_steps c.number f) later → MayTake t later (zone_makes (Return i) Done)
     may_return_dropped i index later all = subst (λ (x : ℕ). MayTake t later (zone_makes (Return x) Done)) (sym index)

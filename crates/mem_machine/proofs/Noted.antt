@@ -12,7 +12,8 @@ use Rattle.step_rules.specs.Laws.{IsLocalStep}
 use Rattle.step_rules.specs.Reaches.{IsLocalRun}
 use Rattle.boot_words.specs.Pasts.{KnownPasts, MakesStep, cpu_past, local_by_pasts, own_past}
 use Rattle.boot_words.proofs.Growing.{all_grew_both}
-use Rattle.cpu_part.specs.Made.{MakesAll, MayMakeAll}
+use Rattle.boot_words.specs.Composed.{AreLegal}
+use Rattle.cpu_part.specs.Made.{MakesAll}
 use Rattle.step_watch.specs.Watched.{Watches}
 use Rattle.step_watch.proofs.Watching.{watches_none, watches_both}
 use Rattle.mem_machine.specs.Noted.{AreLocal, PastsGrowBy, KnownRun, MayTake, MayTakeAll, Notes, after_made}
@@ -96,12 +97,7 @@ pub may_behind : (t : KnownTable) (past : KnownPasts) (first second : Run) (late
 may_behind t past [] second later all is = subst (λ (s : KnownPasts). MayTakeAll t s second) (sym is) all
 may_behind t past (e ∷ rest) second later all made = may_behind t made.0 rest second later (all.1 made.0 made.1) made.2
 
--- the first of two lists may be taken
-pub may_front : (t : KnownTable) (past : KnownPasts) (first second : Run) → MayTakeAll t past (first ++ second) → MayTakeAll t past first
-may_front t past [] second all = tt
-may_front t past (e ∷ rest) second all = (all.0, λ later made. may_front t later rest second (all.1 later made))
-
--- steps that may be taken are legal, one after the other
-pub are_legal : (t : KnownTable) (past : KnownPasts) (steps : Run) → MayTakeAll t past steps → MayMakeAll t past steps
-are_legal t past [] all = tt
-are_legal t past (e ∷ rest) all = (all.0.legal, λ later made. are_legal t later rest (all.1 later made))
+-- the first of two lists of local steps is legal
+pub local_legal : (p : ℕ) (a : State) (first second : Run) → AreLocal p a (first ++ second) → AreLegal a first
+local_legal p a [] second all = tt
+local_legal p a (e ∷ rest) second all = (all.0.legal, local_legal p (after_made a e) rest second all.1)

@@ -7,12 +7,13 @@ use Rattle.step_rules.specs.declared.step.Step.{Step}
 use Rattle.step_rules.specs.declared.step.Answer.{Answer}
 use Rattle.step_rules.specs.State.{State}
 use Rattle.step_rules.specs.After.{Run}
+use Rattle.boot_words.specs.Composed.{AreLegal}
 use Rattle.boot_words.specs.Pasts.{KnownPasts, IsHeld, cpu_past, local_by_pasts, own_past}
 use Rattle.mem_machine.specs.Machines.{KnownMachine, VisitState, visit_state}
 pub use Rattle.mem_machine.specs.Machines.{with_past}
 use Rattle.mem_machine.specs.Local.{IsSeenByRun, MakesAs, local_at, local_of}
 use Rattle.mem_machine.specs.Noted.{AreLocal, MayTake, MayTakeAll, after_made}
-use Rattle.mem_machine.proofs.Noted.{first_made, may_all, run_ends, run_steps}
+use Rattle.mem_machine.proofs.Noted.{first_made, local_legal, may_all, run_ends, run_steps}
 use Rattle.mem_machine.proofs.Followed.{LeadsAs}
 
 -- after the steps of a call the CPU sees what machine and part show then
@@ -55,6 +56,10 @@ module _ (t : KnownTable) (m now : KnownMachine) (same : m ≡ now) (c : KnownCp
   -- all steps of a list
   pub may_make : (steps : Run) → AreLocal c.number (local_of t now c) steps → MayTakeAll t m.run.past steps
   may_make steps all = may_all t m.run.past c.number (local_of t now c) steps who_here here all
+
+  -- the first of two lists of local steps is legal
+  pub are_legal : (first second : Run) → AreLocal c.number (local_of t now c) (first ++ second) → AreLegal (local_by_pasts t m.run.past) first
+  are_legal first second all = subst (λ (a : State). AreLegal a first) (sym here) (local_legal c.number (local_of t now c) first second all)
 
   -- all steps of a call, once it is known where they lead
   pub may_lead_all : (steps : Run) (b : VisitState) → LeadsAs t c.number (visit_state now c) steps b → MayTakeAll t m.run.past steps

@@ -13,8 +13,9 @@ ghost use Rattle.cpu_part.specs.Calls.{CanTake, PassesFresh, TakesFront};
 ghost use Rattle.mem_machine.specs.Machines.{IsCpuOf, pages_booked};
 ghost use Rattle.mem_machine.specs.Settling.{IsVisitedAt, KnowsFresh, with_page_absorbed};
 ghost use Rattle.mem_machine.specs.Stocks.{FitsStock};
-ghost use Rattle.boot_words.specs.Pasts.{IsHeld, IsHolder, MakesStep, MayMake};
-ghost use Rattle.cpu_part.specs.Made.{MakesAll, MayMakeAll};
+ghost use Rattle.boot_words.specs.Pasts.{local_by_pasts, IsHeld, IsHolder, MakesStep, MayMake};
+ghost use Rattle.boot_words.specs.Composed.{AreLegal};
+ghost use Rattle.cpu_part.specs.Made.{MakesAll};
 ghost use Rattle.step_rules.specs.declared.step.Action.TheVariants as step;
 ghost use Rattle.step_rules.specs.declared.step.Answer.TheVariants.{Done, Pages, Took};
 ghost use Rattle.mem_machine.specs.Settling.{collect_steps};
@@ -208,7 +209,7 @@ impl<N: BootName> BookedSeat<N> {
         requires held { IsHeld N.frames held.old }
         requires holder { IsHolder held.old cpu.old.number }
         requires legal { (f : ℕ) (rest : List ℕ) → cpu.old.fresh ≡ f ∷ rest
-            → MayMakeAll N.frames held.old (collect_steps cpu.old.number f) }
+            → AreLegal (local_by_pasts N.frames held.old) (collect_steps cpu.old.number f) }
         requires visited { IsVisitedAt N.frames zone.old cpu.old }
         requires fresh { cpu.old.fresh ≢ [] }
         requires group { group_of cpu.old.stock_seat.view.last ≡ Some group }
@@ -219,14 +220,12 @@ impl<N: BootName> BookedSeat<N> {
         ensures zone { zone.new ≡ seat_with zone.old result (collected_from cpu.old.number) }
         ensures seat { self.new ≡ with_page_absorbed self.old cpu.old.number }
     {
-        let cpu_number = cpu.number();
-        let Some(frame) = cpu.pass_fresh(tables, held, zone, &mut self.seat) else {
+        prove_tied(cpu);
+        let Some(frame) = cpu.give_back_fresh(tables, held, zone, &mut self.seat) else {
             unreachable!()
         };
-        cpu.collect(tables, held, zone, frame);
-        let pages = tables.words.absorb(held, &mut self.seat, cpu_number);
         let owner = group.number() as usize;
-        self.sums[owner] -= pages;
+        self.sums[owner] -= 1;
         frame
     }
 }

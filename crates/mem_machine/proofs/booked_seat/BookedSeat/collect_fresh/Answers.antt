@@ -1,101 +1,59 @@
-use Rattle.std.proofs.Common.{◌≡◌, ℕ, Some, arith, ◌≤◌, refl, sym, ap, ◌∙◌, subst}
-use Rattle.frame_word.specs.Seats.{KnownSeat, Passes, seat_with}
-use Rattle.frame_word.specs.Views.{collected_from}
+use Rattle.std.proofs.Common.{◌≡◌, ℕ, List, length, ◌+◌, Some, arith, ◌≤◌, refl, sym, ap, ◌∙◌, subst}
+use Rattle.stock_word.specs.declared.view.StockAccount.{StockAccount}
 use Rattle.stock_word.specs.Calls.{with_view}
-use Rattle.stock_word.specs.Kinds.{with_steps, zone_after_absorb}
+use Rattle.stock_word.specs.Kinds.{zone_after_report}
 use Rattle.stock_word.specs.Stock.{KnownStockSeat, account_of}
-use Rattle.cpu_part.proofs.CallerLemmas.{handed_passes}
-use Rattle.cpu_part.specs.Calls.{PassesFresh}
-use Rattle.cpu_part.specs.Cpus.{KnownCpu}
+use Rattle.stock_word.proofs.CallerLemmas.{account_of-with_account}
 use Rattle.mem_machine.specs.Settling.{with_page_absorbed}
-use Rattle.mem_machine.proofs.AtTable.{held_at}
-use Rattle.mem_machine.proofs.Booking.{after_absorb, after_note, noted_group, within_count}
-use Rattle.mem_machine.proofs.Collecting.{may_hand_over, may_collect_handed, may_absorb, collects_all, held_handed, holder_handed, one_absorbed}
+use Rattle.mem_machine.proofs.Booking.{after_absorb, after_note, within_count}
 use Rattle.mem_machine.proofs.booked_seat.BookedSeat.collect_fresh.Goals as goal
 
-pub collect-requires-clause-passes : goal.collect-requires-clause-passes
-collect-requires-clause-passes g c =
-    subst (λ (s : KnownSeat). Passes s c.pass_fresh.new.self.frame_seat c.in-Some.frame) (sym c.in-Some.ensures.zone)
-    (handed_passes g.N.BootName.frames c.args.zone.now c.args.cpu.now.frame_seat c.args.cpu.now.number c.number-cpu_number.ensures.tied.seats.frame_number
-    c.in-Some.frame c.requires.visited.still c.pass_fresh.new.self.frame_seat (ap (λ (x : KnownCpu). x.frame_seat) c.in-Some.ensures.answer.2) c.in-Some.ensures.frame)
+pub give_back_fresh-requires-clause-absorbed : goal.give_back_fresh-requires-clause-absorbed
+give_back_fresh-requires-clause-absorbed g c =
+    ap (λ (s : KnownStockSeat). (account_of s.view c.args.cpu.now.number).unabsorbed) c.self.view_is ∙ c.requires.absorbed
 
 pub overflow_sub-self : goal.overflow_sub-self
 overflow_sub-self g c =
-    let n = c.args.cpu.now.number in
-    let group : (account_of c.pass_fresh.new.zone_stock.view c.number-cpu_number.result).group ≡ Some c.number-owner.result =
-    ap (λ p. (account_of c.pass_fresh.new.zone_stock.view p).group) c.number-cpu_number.ensures.number
-    ∙ noted_group c.self.inside.seat _ n 1 c.in-Some.ensures.zone_stock ∙ sym c.in-Some.ensures.group ∙ c.requires.group ∙ ap Some (sym c.number-owner.ensures.value) in
-    let inside : c.number-cpu_number.result ≤ g.N.BootName.frames.cpus = omega (arith, c.number-cpu_number.ensures.number, c.number-cpu_number.ensures.tied.seats.frame_cpus) in
-    let are = after_note g.N.BootName.frames g.N.BootName.stocks _ _ c.self.invariant n 1 c.number-cpu_number.ensures.tied.seats.frame_cpus _ c.in-Some.ensures.zone_stock in
-    within_count g.N.BootName.frames g.N.BootName.stocks _ _ are _ _ _ inside c.number-owner.ensures.below group _ refl c.absorb-pages.ensures.booked
+    let q = c.args.cpu.now.number in
+    let e = c.in-Some.ensures in
+    let group : (account_of c.self.inside.seat.view q).group ≡ Some c.number-owner.result = sym e.group ∙ c.requires.group ∙ ap Some (sym c.number-owner.ensures.value) in
+    let front = e.answer.1 in
+    let some : 1 ≤ length c.args.cpu.now.fresh = subst (λ (l : List ℕ). 1 ≤ length l) (sym front) (omega arith) in
+    let enough : 1 ≤ (account_of c.self.inside.seat.view q).book = omega (arith, some, c.prove_tied.ensures.within.pages_are, e.booked) in
+    within_count g.N.BootName.frames g.N.BootName.stocks _ _ c.self.invariant q _ 1 c.prove_tied.ensures.seats.frame_cpus c.number-owner.ensures.below group _ refl enough
 
 pub invariant_of-self : goal.invariant_of-self
 invariant_of-self g c =
-    let n = c.args.cpu.now.number in
-    let group : (account_of c.pass_fresh.new.zone_stock.view c.number-cpu_number.result).group ≡ Some c.number-owner.result =
-    ap (λ p. (account_of c.pass_fresh.new.zone_stock.view p).group) c.number-cpu_number.ensures.number
-    ∙ noted_group c.self.inside.seat _ n 1 c.in-Some.ensures.zone_stock ∙ sym c.in-Some.ensures.group ∙ c.requires.group ∙ ap Some (sym c.number-owner.ensures.value) in
-    let inside : c.number-cpu_number.result ≤ g.N.BootName.frames.cpus = omega (arith, c.number-cpu_number.ensures.number, c.number-cpu_number.ensures.tied.seats.frame_cpus) in
-    let are = after_note g.N.BootName.frames g.N.BootName.stocks _ _ c.self.invariant n 1 c.number-cpu_number.ensures.tied.seats.frame_cpus _ c.in-Some.ensures.zone_stock in
-    after_absorb g.N.BootName.frames g.N.BootName.stocks _ _ are _ _ _ inside c.number-owner.ensures.below group _ refl c.absorb-pages.ensures.reported
-    c.absorb-pages.ensures.booked _ c.absorb-pages.ensures.zone
+    let t = g.N.BootName.frames in
+    let w = g.N.BootName.stocks in
+    let q = c.args.cpu.now.number in
+    let inside = c.prove_tied.ensures.seats.frame_cpus in
+    let e = c.in-Some.ensures in
+    let was = c.self.inside.seat in
+    let noted : KnownStockSeat = with_view was (zone_after_report was.view q 1) in
+    let a = account_of was.view q in
+    let here : account_of noted.view q ≡ record a { unabsorbed = a.unabsorbed + 1 } = account_of-with_account was.view q (record a { unabsorbed = a.unabsorbed + 1 }) in
+    let group : (account_of noted.view q).group ≡ Some c.number-owner.result =
+    ap (λ (x : StockAccount). x.group) here ∙ sym e.group ∙ c.requires.group ∙ ap Some (sym c.number-owner.ensures.value) in
+    let none : a.unabsorbed ≡ 0 = ap (λ (s : KnownStockSeat). (account_of s.view q).unabsorbed) c.self.view_is ∙ c.requires.absorbed in
+    let one : 1 ≡ (account_of noted.view q).unabsorbed = sym (ap (λ (x : StockAccount). x.unabsorbed) here ∙ ap (λ n. n + 1) none) in
+    let some : 1 ≤ length c.args.cpu.now.fresh = subst (λ (l : List ℕ). 1 ≤ length l) (sym e.answer.1) (omega arith) in
+    let book : (account_of noted.view q).book ≡ a.book = ap (λ (x : StockAccount). x.book) here in
+    let enough : 1 ≤ (account_of noted.view q).book = omega (arith, some, book, c.prove_tied.ensures.within.pages_are, e.booked) in
+    let are = after_note t w was _ c.self.invariant q 1 inside noted refl in
+    after_absorb t w noted _ are q c.number-owner.result 1 inside c.number-owner.ensures.below group _ refl one enough _ e.zone_stock
 
-pub pass_fresh-requires-clause-legal : goal.pass_fresh-requires-clause-legal
-pass_fresh-requires-clause-legal g c f rest front = may_hand_over g.N.BootName.frames _ _ f (c.requires.legal f rest front)
-
-pub collect-requires-clause-legal : goal.collect-requires-clause-legal
-collect-requires-clause-legal g c =
-    let hands = c.in-Some.ensures.answer in
-    let may = c.requires.legal c.in-Some.frame hands.0 hands.1 in
-    let handed = ap (λ (k : KnownCpu). k.number) hands.2 in
-    may_collect_handed g.N.BootName.frames _ c.args.tables.now.frames_are _ _ c.in-Some.frame _ _ handed c.number-cpu_number.ensures.number _ c.in-Some.ensures.run may
-
-pub absorb-pages-requires-clause-legal : goal.absorb-pages-requires-clause-legal
-absorb-pages-requires-clause-legal g c =
-    let hands = c.in-Some.ensures.answer in
-    let may = c.requires.legal c.in-Some.frame hands.0 hands.1 in
-    let handed = ap (λ (k : KnownCpu). k.number) hands.2 in
-    may_absorb g.N.BootName.frames _ c.args.tables.now.frames_are _ _ c.in-Some.frame _ _ handed c.number-cpu_number.ensures.number _ c.in-Some.ensures.run may _
-    c.collect.ensures.run
+pub give_back_fresh-requires-clause-legal : goal.give_back_fresh-requires-clause-legal
+give_back_fresh-requires-clause-legal g c = c.requires.legal
 
 pub returns-clause-run : goal.returns-clause-run
-returns-clause-run g c =
-    let handed = ap (λ (k : KnownCpu). k.number) c.in-Some.ensures.answer.2 in
-    let one = one_absorbed _ _ _ c.self.view_is _ _ c.absorb-pages.result c.number-cpu_number.ensures.number c.in-Some.ensures.zone_stock c.requires.absorbed
-    c.absorb-pages.ensures.reported in
-    collects_all g.N.BootName.frames _ c.args.tables.now.frames_are _ _ c.in-Some.frame _ _ handed c.number-cpu_number.ensures.number _ c.in-Some.ensures.run _ _ _ one
-    c.collect.ensures.run c.absorb-pages.ensures.run
-
-pub pass_fresh-requires-clause-held : goal.pass_fresh-requires-clause-held
-pass_fresh-requires-clause-held g c = c.requires.held
-
-pub pass_fresh-requires-clause-holder : goal.pass_fresh-requires-clause-holder
-pass_fresh-requires-clause-holder g c = c.requires.holder
-
-pub collect-requires-clause-held : goal.collect-requires-clause-held
-collect-requires-clause-held g c =
-    let handed = ap (λ (k : KnownCpu). k.number) c.in-Some.ensures.answer.2 in
-    held_handed g.N.BootName.frames _ c.args.tables.now.frames_are _ _ c.in-Some.frame _ _ handed c.number-cpu_number.ensures.number _ c.in-Some.ensures.run
-
-pub collect-requires-clause-holder : goal.collect-requires-clause-holder
-collect-requires-clause-holder g c =
-    let handed = ap (λ (k : KnownCpu). k.number) c.in-Some.ensures.answer.2 in
-    holder_handed g.N.BootName.frames _ c.args.tables.now.frames_are _ _ c.in-Some.frame _ _ handed c.number-cpu_number.ensures.number _ c.in-Some.ensures.run c.requires.holder
-
-pub absorb-pages-requires-clause-held : goal.absorb-pages-requires-clause-held
-absorb-pages-requires-clause-held g c = held_at _ _ c.args.tables.now.frames_are _ c.collect.ensures.run.held
+returns-clause-run g c = c.in-Some.ensures.run
 
 pub returns-clause-cpu : goal.returns-clause-cpu
-returns-clause-cpu g c = subst (PassesFresh c.in-Some.frame c.args.cpu.now) (sym c.collect.ensures.cpu) c.in-Some.ensures.answer
+returns-clause-cpu g c = c.in-Some.ensures.answer
 
 pub returns-clause-zone : goal.returns-clause-zone
-returns-clause-zone g c =
-    let handed = ap (λ (k : KnownCpu). k.number) c.in-Some.ensures.answer.2 in
-    c.collect.ensures.zone ∙ (λ i. seat_with (c.in-Some.ensures.zone i) c.in-Some.frame (collected_from (handed i)))
+returns-clause-zone g c = c.in-Some.ensures.zone
 
 pub returns-clause-seat : goal.returns-clause-seat
-returns-clause-seat g c =
-    c.absorb-pages.ensures.zone
-    ∙ ap (λ (x : KnownStockSeat × ℕ). with_view x.0 (with_steps 1 (zone_after_absorb x.0.view x.1)))
-    (λ i. (c.in-Some.ensures.zone_stock i, c.number-cpu_number.ensures.number i))
-    ∙ ap (λ (s : KnownStockSeat). with_page_absorbed s c.args.cpu.now.number) c.self.view_is
+returns-clause-seat g c = c.in-Some.ensures.zone_stock ∙ ap (λ (s : KnownStockSeat). with_page_absorbed s c.args.cpu.now.number) c.self.view_is
