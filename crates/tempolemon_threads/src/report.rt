@@ -2,7 +2,7 @@
 
 ghost use Rattle.std.specs.Prelude.{◌≡◌};
 
-use mem_system::SystemEnd;
+use zone_threads::zone_end::ZoneEnd;
 
 /// What a zone reports at its end, in the order and of the widths that the header gives.
 #[repr(C)]
@@ -30,7 +30,7 @@ impl Report {
     ghost use Rattle.tempolemon_threads.specs.Zones.{zone_end_of};
 
     /// The report of the end of a zone.
-    pub fn of(ended: SystemEnd) -> Report
+    pub fn of(ended: ZoneEnd) -> Report
         ensures { zone_end_of result ≡ ended }
     {
         Report {

@@ -1,2 +1,3 @@
+mod Putting
 mod UnitsShown
 mod Reading

@@ -1,3 +1,4 @@
 pub mod Calling
+pub mod Ending
 pub mod Homes
 pub mod Shown
