@@ -2,7 +2,7 @@
 use Rattle.std.specs.Prelude.{◌≡◌, ℕ, Option, None, Some, IsSome}
 use Rattle.frame_word.specs.Seats.{KnownTable}
 use Rattle.stock_word.specs.Stock.{KnownStockTable}
-use Rattle.zone_threads.specs.Ending.{EndsZone}
+use Rattle.mem_system.specs.Ending.{HasEnded}
 use Rattle.zone_threads.specs.Homes.{HasNoCpu, IsCpu, KnownHome}
 use Rattle.zone_threads.specs.declared.home.NotEntered.{NotEntered}
 use Rattle.zone_threads.specs.declared.home.NotEntered.TheVariants as not_entered
@@ -42,7 +42,7 @@ pub record EndsLed (before after : Option Led) (ends : KnownTable → KnownStock
 -- what an end does
 abbrev pub EndsAs : RequestAnswer → (before after : Option Led) → Type 0
 EndsAs returned.Out before after = after ≡ before
-EndsAs (returned.Ended ended) before after = EndsLed before after (λ frames stocks. EndsZone frames stocks ended)
+EndsAs (returned.Ended ended) before after = EndsLed before after (λ frames stocks. HasEnded frames stocks ended)
 EndsAs returned.NoMemory before after = after ≡ None
 EndsAs returned.Lost before after = after ≡ None
 EndsAs other before after = ⊥

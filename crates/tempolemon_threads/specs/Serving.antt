@@ -2,7 +2,7 @@
 use Rattle.std.specs.Prelude.{◌≡◌, Option, None, Some}
 use Rattle.frame_word.specs.Seats.{KnownTable}
 use Rattle.stock_word.specs.Stock.{KnownStockTable}
-use Rattle.zone_threads.specs.Ending.{EndsZone}
+use Rattle.mem_system.specs.Ending.{HasEnded}
 use Rattle.zone_threads.specs.Homes.{GetsCpu, HasCpu, HasNoCpu, IfNotEntered, KnownHome}
 use Rattle.zone_threads.specs.Shown.{ReadsText}
 use Rattle.zone_threads.specs.declared.home.NotLeft.TheVariants as not_left
@@ -96,7 +96,7 @@ ServesHomeRequest frames stock_table before (Text alloc asked) after (returned.T
 ServesHomeRequest frames stock_table before (Text alloc asked) after returned.Busy = after ≡ before
 ServesHomeRequest frames stock_table before (End alloc) after returned.Out = after ≡ before
 ServesHomeRequest frames stock_table before (End alloc) after (returned.Ended ended) =
-    EndsZone frames stock_table ended × (after ≡ None)
+    HasEnded frames stock_table ended × (after ≡ None)
 ServesHomeRequest frames stock_table before (End alloc) after returned.NoMemory = after ≡ None
 ServesHomeRequest frames stock_table before (End alloc) after returned.Lost = after ≡ None
 ServesHomeRequest frames stock_table before request after answer = ⊥

@@ -5,9 +5,9 @@ use Rattle.stock_word.specs.Stock.{KnownStockTable}
 use Rattle.zone_blocks.specs.declared.config.Config.{Config}
 use Rattle.mem_system.specs.Cpus.{CpuInRun}
 use Rattle.mem_system.specs.Boots.{IsSizedAs}
-use Rattle.zone_threads.specs.Ending.{EndsZone}
+use Rattle.mem_system.specs.Ending.{HasEnded}
 use Rattle.zone_threads.specs.Homes.{HasCpu, HasNoCpu, IsCpu, KnownHome}
-use Rattle.zone_threads.specs.declared.zone_end.ZoneEnd.{ZoneEnd}
+use Rattle.mem_system.specs.declared.ending.SystemEnd.{SystemEnd}
 use Rattle.tempolemon_threads.specs.declared.report.Report.{Report}
 use Rattle.tempolemon_threads.specs.declared.sizes.Sizes.{Sizes}
 
@@ -22,7 +22,7 @@ config_of sizes = record {
 }
 
 -- what a host reads of the end of a zone, as the zone reported it
-abbrev pub zone_end_of : Report → ZoneEnd
+abbrev pub zone_end_of : Report → SystemEnd
 zone_end_of report = record {
   held = report.held;
   audit = record {
@@ -110,5 +110,5 @@ pub record ReturnsPart (before after : Option Led) : Type 0 where
 pub record EndsWith (report : Report) (before after : Option Led) : Type 0 where
   pub zone : Led
   pub was : before ≡ Some zone
-  pub ends : EndsZone zone.frames zone.stocks (zone_end_of report)
+  pub ends : HasEnded zone.frames zone.stocks (zone_end_of report)
   pub is : after ≡ None

@@ -2,7 +2,7 @@
 
 ghost use Rattle.std.specs.Prelude.{◌≡◌};
 
-use zone_threads::zone_end::ZoneEnd;
+use mem_system::SystemEnd;
 
 /// What a zone reports at its end, in the order and of the widths that the header gives.
 #[repr(C)]
@@ -30,7 +30,7 @@ impl Report {
     ghost use Rattle.tempolemon_threads.specs.Zones.{zone_end_of};
 
     /// The report of the end of a zone.
-    pub fn of(ended: ZoneEnd) -> Report
+    pub fn of(ended: SystemEnd) -> Report
         ensures { zone_end_of result ≡ ended }
     {
         Report {

@@ -1,10 +1,9 @@
 //! What a handle is asked besides calls, and what it answers. Both cross by value.
 
-use mem_system::Boot;
+use mem_system::{Boot, SystemEnd};
 use std::alloc::Global;
 use zone_threads::home::{NotEntered, NotLeft};
 use zone_threads::texts::{TextAnswer, TextCall};
-use zone_threads::zone_end::ZoneEnd;
 
 /// What a handle is asked.
 #[derive(Drop)]
@@ -43,7 +42,7 @@ pub enum RequestAnswer {
     /// Another handle leads to the zone, and nothing was done.
     Out,
     /// The zone has ended.
-    Ended(ZoneEnd),
+    Ended(SystemEnd),
     /// A part of the zone wasn't there, which no call leaves so. The handle leads nowhere.
     Lost,
 }

@@ -1,3 +1,2 @@
-mod Putting
 mod UnitsShown
 mod Reading

@@ -1,4 +1,3 @@
 pub mod Calling
-pub mod Ending
 pub mod Homes
 pub mod Shown

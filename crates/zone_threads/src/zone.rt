@@ -1,13 +1,13 @@
 //! What all threads share: the tables, and what lies behind a lock that is only tried.
 
 ghost use Rattle.std.specs.Prelude.{◌≡◌, IfSome};
-ghost use Rattle.zone_threads.specs.Ending.{EndsZone};
+ghost use Rattle.mem_system.specs.Ending.{HasEnded};
 
 use crate::behind::Behind;
-use crate::zone_end::{ZoneEnd, end_parts};
+use crate::zone_end::end_parts;
 use cpu_part::{BootName, Tables};
 use host_memory::try_cell::TryCell;
-use mem_system::Boot;
+use mem_system::{Boot, SystemEnd};
 use std::alloc::{AllocError, Global};
 
 /// What all threads share.
@@ -41,8 +41,8 @@ impl<N: BootName> Zone<N> {
 
     /// Ends the zone. Pins that are still held are put first. `None` if the part of a CPU isn't there, which no call
     /// leaves so: the parts stay in memory then.
-    pub fn end(self) -> Option<ZoneEnd>
-        ensures { IfSome result (λ ended. EndsZone N.frames N.stocks ended) }
+    pub fn end(self) -> Option<SystemEnd>
+        ensures { IfSome result (HasEnded N.frames N.stocks) }
     {
         let Zone { tables, lock } = self;
         let behind = lock.into_inner()?;
