@@ -1,5 +1,5 @@
 -- The word of a frame and its number of references.
-use Rattle.std.proofs.Common.{◌≡◌, ◌≢◌, ℕ, ◌+◌, ◌<◌, ◌≤◌, ◌==◌, Bool, true, false, refl, sym, ◌∙◌, ap, arith, inl, inr, cond}
+use Rattle.std.proofs.Common.{◌≡◌, ◌≢◌, ℕ, ◌+◌, ◌<◌, ◌≤◌, ◌==◌, Bool, true, false, refl, sym, ◌∙◌, ap, arith, inl, inr, cond, ◌&&◌}
 use Rattle.std.specs.Prelude.{nat_le}
 use Rattle.std.proofs.lemmas.Bool.{cases_Bool, cond-false, le-leb, leb-true, ne_eqb}
 use Rattle.step_rules.specs.declared.phase.Way.TheVariants.{PassingOut, PassingBack}

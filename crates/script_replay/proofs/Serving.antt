@@ -1,5 +1,5 @@
 -- How one command is served, and how its answer is written. Serves `server`, `writer`, `serve_at_cpu`.
-use Rattle.std.proofs.Common.{◌≡◌, ◌≢◌, ◌∙◌, ℕ, zero, Bool, true, false, Option, Some, None, List, [], ◌++◌, Result, Ok, Err, IfOk, append_assoc, append-nil, ap, refl, subst, sym}
+use Rattle.std.proofs.Common.{◌≡◌, ◌≢◌, ◌∙◌, ℕ, zero, Bool, true, false, Option, Some, None, List, [], ◌++◌, Result, Ok, Err, IfOk, append_assoc, append-nil, ap, refl, subst, sym, ◌&&◌}
 use Rattle.std.proofs.lemmas.Option.{none-some}
 use Rattle.std.specs.Borrow.{Bor}
 use Rattle.std.specs.declared.string.String.{String}
