@@ -1,5 +1,5 @@
 -- One frame goes from the free areas to the list of the CPU that is visited. Serves `lend_one`.
-use Rattle.std.proofs.Common.{◌≡◌, ℕ, ◌<◌, ◌==◌, Bool, true, false, Option, Some, None, List, [], ◌∷◌, ◌++◌, length, refl, sym, ap, ◌∙◌, subst}
+use Rattle.std.proofs.Common.{◌≡◌, ℕ, ◌<◌, ◌==◌, ◌&&◌, Bool, true, false, Option, Some, None, List, [], ◌∷◌, ◌++◌, length, refl, sym, ap, ◌∙◌, subst}
 use Rattle.std.proofs.Common.{inl, inr, arith, cond, eq-eqb}
 use Rattle.std.specs.Prelude.{slice_set, nat_le, IfSome}
 use Rattle.lru_lists.specs.declared.record.Home.{Home}

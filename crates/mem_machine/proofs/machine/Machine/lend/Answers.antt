@@ -46,14 +46,14 @@ borrow-requires-clause-still g c = still_here _ _ _ c.self.view_is c.args.cpu.no
 pub invariant_of-self : goal.invariant_of-self
 invariant_of-self g c =
     let all = (given_all g.N.BootName.frames g.N.BootName.stocks _ _ c.self.view_is c.args.cpu.now _ c.number-cpu_number.ensures.tied c.self.invariant.consistent
-    c.requires.visit _ _ _ c.args.frame _ c.number-cpu_number.result _ _ c.self.invariant.free c.requires.frame c.requires.free c.take_frame.ensures.frames c.take_frame.ensures.areas
+    c.requires.visit _ _ _ c.args.frame _ c.number-cpu_number.result _ c.self.invariant.free c.requires.frame c.requires.free c.take_frame.ensures.frames c.take_frame.ensures.areas
     c.number-given.ensures c.number-cpu_number.ensures.number c.borrow.ensures.zone c.borrow.ensures.cpu c.borrow.ensures.nothing.1) in
     record { consistent = consistent_still _ _ _ _ all.consistent; free = all.free_is }
 
 pub returns : goal.returns
 returns g c =
     let all = given_all g.N.BootName.frames g.N.BootName.stocks _ _ c.self.view_is c.args.cpu.now _ c.number-cpu_number.ensures.tied c.self.invariant.consistent c.requires.visit
-    _ _ _ c.args.frame _ c.number-cpu_number.result _ _ c.self.invariant.free c.requires.frame c.requires.free c.take_frame.ensures.frames c.take_frame.ensures.areas
+    _ _ _ c.args.frame _ c.number-cpu_number.result _ c.self.invariant.free c.requires.frame c.requires.free c.take_frame.ensures.frames c.take_frame.ensures.areas
     c.number-given.ensures c.number-cpu_number.ensures.number c.borrow.ensures.zone c.borrow.ensures.cpu c.borrow.ensures.nothing.1 in
     let notes = lent_notes g.N.BootName.frames _ _ c.args.frame _ _ c.number-given.ensures c.number-cpu_number.ensures.number _ _ _ c.borrow.ensures.run
     c.passed_out.ensures c.took_in.ensures in

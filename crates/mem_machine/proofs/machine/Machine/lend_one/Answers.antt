@@ -51,7 +51,7 @@ invariant_of-self-2 g c =
     let k0 : c.single_order.result ≡ 0 = c.single_order.ensures in
     let all = (lend_all g.N.BootName.frames g.N.BootName.stocks _ _ c.self.view_is c.args.cpu.now _ c.number-cpu_number.ensures.tied c.self.invariant.consistent
     c.requires.visit _ _
-    c.single_order.result c.in-Some.block _ c.in-Some-frame.frame _ c.number-cpu_number.result _ _ c.self.invariant.free k0 c.in-Some.ensures.taken c.in-Some.ensures.frames
+    c.single_order.result c.in-Some.block _ c.in-Some-frame.frame _ c.number-cpu_number.result _ c.self.invariant.free k0 c.in-Some.ensures.taken c.in-Some.ensures.frames
     c.in-Some.ensures.areas c.in-Some-frame.ensures.0 c.number-at.ensures c.number-cpu_number.ensures.number c.borrow.ensures.zone
     c.borrow.ensures.cpu c.borrow.ensures.nothing.1) in
     record { consistent = consistent_still _ _ _ _ all.consistent; free = all.free_is }
@@ -60,7 +60,7 @@ pub returns : goal.returns
 returns g c =
     let k0 : c.single_order.result ≡ 0 = c.single_order.ensures in
     let all = lend_all g.N.BootName.frames g.N.BootName.stocks _ _ c.self.view_is c.args.cpu.now _ c.number-cpu_number.ensures.tied c.self.invariant.consistent c.requires.visit _ _
-    c.single_order.result c.in-Some.block _ c.in-Some-frame.frame _ c.number-cpu_number.result _ _ c.self.invariant.free k0 c.in-Some.ensures.taken c.in-Some.ensures.frames
+    c.single_order.result c.in-Some.block _ c.in-Some-frame.frame _ c.number-cpu_number.result _ c.self.invariant.free k0 c.in-Some.ensures.taken c.in-Some.ensures.frames
     c.in-Some.ensures.areas c.in-Some-frame.ensures.0 c.number-at.ensures c.number-cpu_number.ensures.number c.borrow.ensures.zone
     c.borrow.ensures.cpu c.borrow.ensures.nothing.1 in
     let notes = lent_notes g.N.BootName.frames _ _ c.in-Some-frame.frame _ _ c.number-at.ensures c.number-cpu_number.ensures.number _ _ _ c.borrow.ensures.run
