@@ -13,13 +13,6 @@ module _ (t : KnownTable) (zone cpu : KnownSeat) (p : ℕ) (named : seat_number 
       (let k = note_here cpu.view f passed_back_by_cpu in let a = ap (λ (n : FrameNote). n.passed_back) k in let b = ap (λ (n : FrameNote). n.taken_in) k in
       let e = still f inside in omega (arith, a, b, e))
 
-  -- a frame that the zone passed out to the CPU passes for it
-  pub passed_out_passes : (after : KnownSeat) → after ≡ seat_with zone f (passed_out_to p) → f < t.frames → Passes after cpu f
-  passed_out_passes after is inside = subst (λ (s : KnownSeat). Passes s cpu f) (sym (is ∙ ap (λ (q : ℕ). seat_with zone f (passed_out_to q)) (sym named)))
-      (let q = seat_number cpu in let z = note_of zone.view f in let k = note_here zone.view f (passed_out_to q) in
-      let a = ap (λ (n : FrameNote). get_or n.passed_out q 0) k ∙ put_here 0 z.passed_out q (get_or z.passed_out q 0 + 1) in
-      let b = ap (λ (n : FrameNote). get_or n.collected q 0) k in let e = still f inside in omega (arith, a, b, e))
-
   -- after the collecting of a frame that was handed nothing passes again
   pub collected_is_still : (handed collected : KnownSeat) → handed ≡ seat_with cpu f passed_back_by_cpu → collected ≡ seat_with zone f (collected_from p)
       → NothingPasses t collected handed

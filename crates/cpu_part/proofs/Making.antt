@@ -7,7 +7,6 @@ use Rattle.step_rules.specs.After.{Run}
 use Rattle.boot_words.specs.Composed.{AreLegal, GrewInTurn, MakesInTurn}
 use Rattle.boot_words.specs.Pasts.{KnownPasts, IsCpuPast, IsHeld, MakesStep, MayDo, MayMake, cpu_past, local_by_pasts, own_past}
 use Rattle.boot_words.specs.Seats.{zone_of_boot}
-use Rattle.boot_words.specs.TakenBack.{take_back_run}
 use Rattle.cpu_part.specs.Made.{MakesAll}
 
 module _ (t u : KnownTable) (same : u ≡ t) where
@@ -37,10 +36,12 @@ made_each t later now (made ∷ rest) s held grew =
     let mid_held : IsHeld t mid = record { table_is = refl; both = refl; holds = g.holds } in
     (mid, record { zone_grew = g.zone_grew; cpu_grew = g.cpu_grew; held = mid_held; local_is = g.local_is }, made_each t later now rest mid mid_held grew.3)
 
-pub makes_all_at : (t u : KnownTable) → u ≡ t → (p q f : ℕ) → q ≡ p → (s later : KnownPasts) → IsHeld t s → MakesInTurn u s (take_back_run q f) later → MakesAll t s (take_back_run p f) later
-makes_all_at t u same p q f named s later held made =
-    let here : MakesInTurn t s (take_back_run p f) later = subst (λ (k : KnownTable × ℕ). MakesInTurn k.0 s (take_back_run k.1 f) later) (λ i. (same i, named i)) made in
-    made_each t later here.held (take_back_run p f) s held here.grew
+pub makes_all_at : (t u : KnownTable) → u ≡ t → (p q : ℕ) (steps : ℕ → Run) → q ≡ p → (s later : KnownPasts) → IsHeld t s → MakesInTurn u s (steps q) later
+    → MakesAll t s (steps p) later
+makes_all_at t u same p q steps named s later held made =
+    let here : MakesInTurn t s (steps p) later = subst (λ (k : KnownTable × ℕ). MakesInTurn k.0 s (steps k.1) later) (λ i. (same i, named i)) made in
+    made_each t later here.held (steps p) s held here.grew
 
-pub are_legal_at : (t u : KnownTable) → u ≡ t → (p q f : ℕ) → q ≡ p → (s : KnownPasts) → AreLegal (local_by_pasts t s) (take_back_run p f) → AreLegal (local_by_pasts u s) (take_back_run q f)
-are_legal_at t u same p q f named s legal = subst (λ (k : KnownTable × ℕ). AreLegal (local_by_pasts k.0 s) (take_back_run k.1 f)) (λ i. (sym same i, sym named i)) legal
+pub are_legal_at : (t u : KnownTable) → u ≡ t → (p q : ℕ) (steps : ℕ → Run) → q ≡ p → (s : KnownPasts) → AreLegal (local_by_pasts t s) (steps p)
+    → AreLegal (local_by_pasts u s) (steps q)
+are_legal_at t u same p q steps named s legal = subst (λ (k : KnownTable × ℕ). AreLegal (local_by_pasts k.0 s) (steps k.1)) (λ i. (sym same i, sym named i)) legal

@@ -1,11 +1,9 @@
 -- What a CPU knows of its own part by its past.
-use Rattle.std.specs.Prelude.{◌≡◌, ◌≢◌, ℕ, false, [], ◌∷◌}
+use Rattle.std.specs.Prelude.{◌≡◌, ◌≢◌, ℕ, false, []}
 use Rattle.frame_word.specs.Seats.{KnownTable}
 use Rattle.stock_word.specs.Stock.{group_of}
-use Rattle.step_rules.specs.declared.step.Action.TheVariants.{PassBack, Report}
-use Rattle.step_rules.specs.declared.step.Answer.TheVariants.{Done}
 use Rattle.step_rules.specs.State.{State}
-use Rattle.step_rules.specs.After.{Run, state_of}
+use Rattle.step_rules.specs.After.{state_of}
 use Rattle.step_rules.specs.Views.{holds_lock}
 use Rattle.boot_words.specs.Pasts.{KnownPasts, own_past, IsCpuPast}
 use Rattle.boot_words.specs.Seats.{zone_of_boot}
@@ -26,8 +24,3 @@ pub record KnowsItsPart (t : KnownTable) (past : KnownPasts) (c : KnownCpu) : Ty
   pub references : (f : ℕ) → (last_state t past).references c.number f ≡ times f c.pins
   pub away : holds_lock c.number (last_state t past).hold ≡ false
   pub group : c.fresh ≢ [] → ((last_state t past).parts c.number).stock.group ≡ group_of c.stock_seat.view.last
-
--- the steps that pass a fresh frame back: the frame, and then the report of its page
-abbrev pub pass_fresh_steps : ℕ → ℕ → Run
-pass_fresh_steps cpu f = (record { seat = cpu; action = PassBack f }, Done)
-    ∷ (record { seat = cpu; action = Report 1 }, Done) ∷ []

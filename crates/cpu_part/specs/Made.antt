@@ -2,13 +2,7 @@
 use Rattle.std.specs.Prelude.{◌≡◌, [], ◌∷◌}
 use Rattle.frame_word.specs.Seats.{KnownTable}
 use Rattle.step_rules.specs.After.{Run}
-use Rattle.boot_words.specs.Pasts.{KnownPasts, MakesStep, MayMake}
-
--- the steps may be made, each when those before it were made with these answers
-abbrev pub MayMakeAll : KnownTable → KnownPasts → Run → Type 0
-MayMakeAll t s [] = Unit {0}
-MayMakeAll t s (made ∷ rest) = MayMake t s made.0.seat made.0.action
-    × ((later : KnownPasts) → MakesStep t s made.0.seat made.0.action made.1 later → MayMakeAll t later rest)
+use Rattle.boot_words.specs.Pasts.{KnownPasts, MakesStep}
 
 -- the steps were made in this order, with these answers
 abbrev pub MakesAll : KnownTable → KnownPasts → Run → KnownPasts → Type 0

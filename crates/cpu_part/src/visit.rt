@@ -1,13 +1,14 @@
 //! The hand-over of frames between a CPU and the zone, inside a visit and together with the zone's seat.
 ghost use Rattle.std.specs.Prelude.{◌≡◌, ◌+◌, ◌<◌, ◌≤◌, ◌⊎◌, ℕ, List, [], ◌∷◌, ◌++◌, length, IfSome, MatchOption};
-ghost use Rattle.frame_word.specs.Views.{took_in, collected_from};
-ghost use Rattle.frame_word.specs.Seats.{HandsAreApart, HasNothingOf, IsLent, IsLentToNone, IsOpen, IsShut};
-ghost use Rattle.frame_word.specs.Seats.{IsZoneSeat, LentIsBorrowed, NothingPasses, Passes, seat_with, seat_with_visit};
+ghost use Rattle.frame_word.specs.Views.{collected_from, passed_out_to, took_in};
+ghost use Rattle.frame_word.specs.Seats.{HandsAreApart, HasNothingOf, IsInHand, IsInOwnHand, IsLent, IsLentToNone};
+ghost use Rattle.frame_word.specs.Seats.{IsOpen, IsShut, IsZoneSeat, LentIsBorrowed, NothingPasses, Passes};
+ghost use Rattle.frame_word.specs.Seats.{seat_references, seat_with, seat_with_visit};
 ghost use Rattle.stock_word.specs.Stock.{IsZoneView, account_of, group_of};
 ghost use Rattle.stock_word.specs.Calls.{with_view};
 ghost use Rattle.cpu_part.specs.Calls.{PassesFront, PassesFresh, PassesBackUnit};
 ghost use Rattle.cpu_part.specs.Cpus.{most_listed};
-ghost use Rattle.boot_words.specs.Composed.{AreLegal};
+ghost use Rattle.boot_words.specs.Composed.{lend_run, AreLegal};
 ghost use Rattle.boot_words.specs.TakenBack.{take_back_run, taken_back_page};
 ghost use Rattle.boot_words.specs.Pasts.{local_by_pasts, IsHeld, IsHolder, MakesStep, MayMake};
 ghost use Rattle.cpu_part.specs.Made.{MakesAll};
@@ -56,9 +57,9 @@ impl<N: BootName> Cpu<N> {
         tables.words.shut_visit(held, zone, &mut self.frame_seat);
     }
 
-    /// Takes a frame that is in transit to this CPU, and lent to it, to the end of the list. Listed and fresh frames
-    /// are fewer than 256.
-    pub fn take_in(
+    /// Borrows a frame of the zone's hand, at the end of the list. The zone passes it out and the CPU takes it in: two steps
+    /// of the run, which one load makes. The visit is open. Listed and fresh frames are fewer than 256.
+    pub fn borrow(
         &mut self,
         tables: &Tables<N>,
         held: &mut PastSeat,
@@ -67,23 +68,25 @@ impl<N: BootName> Cpu<N> {
     )
         requires held { IsHeld N.frames held.old }
         requires holder { IsHolder held.old self.old.number }
-        requires legal { MayMake N.frames held.old self.old.number (step.TakeIn frame) }
+        requires legal { AreLegal (local_by_pasts N.frames held.old) (lend_run self.old.number frame) }
         requires zone { IsZoneSeat N.frames zone.old }
         requires frame { frame < N.frames.frames }
-        requires passes { Passes zone.old self.old.frame_seat frame }
-        requires lent { IsLent zone.old frame self.old.number }
+        requires open { IsOpen zone.old self.old.number }
+        requires hand { IsInOwnHand zone.old frame }
+        requires still { NothingPasses N.frames zone.old self.old.frame_seat }
         requires room { length self.old.list + length self.old.fresh < most_listed }
-        ensures run { MakesStep N.frames held.old self.old.number (step.TakeIn frame) Done held.new }
+        ensures run { MakesAll N.frames held.old (lend_run self.old.number frame) held.new }
         ensures cpu { self.new ≡ record self.old {
           list = self.old.list ++ frame ∷ [];
           frame_seat = seat_with self.old.frame_seat frame took_in;
         } }
-        ensures zone { zone.new ≡ zone.old }
-        ensures nothing { HasNothingOf zone.old frame × HasNothingOf self.old.frame_seat frame }
+        ensures zone { zone.new ≡ seat_with zone.old frame (passed_out_to self.old.number) }
+        ensures no_reference { seat_references zone.old frame ≡ 0 }
+        ensures one_hand { IsInHand zone.old frame }
+        ensures not_lent { IsLentToNone zone.old frame }
+        ensures nothing { HasNothingOf self.old.frame_seat frame }
     {
-        tables
-            .words
-            .take_in(held, zone, &mut self.frame_seat, frame);
+        tables.words.lend(held, zone, &mut self.frame_seat, frame);
         self.list.push_back_reserved(frame);
     }
 

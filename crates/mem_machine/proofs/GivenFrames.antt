@@ -29,12 +29,12 @@ pub record AllGiven (t : KnownTable) (w : KnownStockTable) (now : KnownMachine) 
   pub steps : LeadsAs t c.number (visit_state now c) (lend_steps c.number f) (visit_state n d)
 
 pub given_all : (t : KnownTable) (w : KnownStockTable) (m now : KnownMachine) → m ≡ now → (c d : KnownCpu) → IsTied t w c → IsConsistent t w m → Visits t (visit_state now c)
-    → (before free : List Bool) (blocks : List Block) (f i q : ℕ) (seat seat' : KnownSeat) → before ≡ free_of m.frame_states → f < t.frames
+    → (before free : List Bool) (blocks : List Block) (f i q : ℕ) (seat : KnownSeat) → before ≡ free_of m.frame_states → f < t.frames
     → frame_state_at now.frame_states f ≡ Free → TakesFrames before (record { at = i; order = 0 }) free → AreMaximalBlocks free blocks → i ≡ f → q ≡ c.number
-    → seat ≡ seat_with m.frame_seat f (passed_out_to q) → seat' ≡ seat → d ≡ record c { list = c.list ++ f ∷ []; frame_seat = seat_with c.frame_seat f took_in }
+    → seat ≡ seat_with m.frame_seat f (passed_out_to c.number) → d ≡ record c { list = c.list ++ f ∷ []; frame_seat = seat_with c.frame_seat f took_in }
     → in_hands (note_of c.frame_seat.view f) ≡ 0
-    → AllGiven t w now c f (record m { blocks = blocks; frame_states = slice_set m.frame_states i (Lent q); frame_seat = seat' }) d free
-given_all t w m now same c d tied ok visit_now before free blocks f i q seat seat' was inside free_now takes areas index number passed stays cpu none =
+    → AllGiven t w now c f (record m { blocks = blocks; frame_states = slice_set m.frame_states i (Lent q); frame_seat = seat }) d free
+given_all t w m now same c d tied ok visit_now before free blocks f i q seat was inside free_now takes areas index number passed cpu none =
     let visit : Visits t (visit_state m c) = subst (λ (x : KnownMachine). Visits t (visit_state x c)) (sym same) visit_now in
     let there : frame_state_at m.frame_states f ≡ Free = ap (λ (x : KnownMachine). frame_state_at x.frame_states f) same ∙ free_now in
     let takes_f : TakesFrames before (record { at = f; order = 0 }) free =
@@ -59,7 +59,7 @@ given_all t w m now same c d tied ok visit_now before free blocks f i q seat sea
       record m {
         blocks = blocks;
         frame_states = slice_set m.frame_states (sym index j) (Lent (sym number j));
-        frame_seat = sym (stays ∙ passed ∙ ap (λ (x : ℕ). seat_with m.frame_seat f (passed_out_to x)) number) j;
+        frame_seat = sym passed j;
       },
       sym cpu j,
     )) all

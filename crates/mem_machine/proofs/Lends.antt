@@ -1,5 +1,5 @@
 -- One frame goes from the free areas to the list of the CPU that is visited. Serves `lend_one`.
-use Rattle.std.proofs.Common.{◌≡◌, ℕ, ◌<◌, ◌==◌, Bool, true, false, Option, Some, None, List, [], ◌∷◌, ◌++◌, length, refl, sym, ap, ◌∙◌, subst, ◌&&◌}
+use Rattle.std.proofs.Common.{◌≡◌, ℕ, ◌<◌, ◌==◌, ◌&&◌, Bool, true, false, Option, Some, None, List, [], ◌∷◌, ◌++◌, length, refl, sym, ap, ◌∙◌, subst}
 use Rattle.std.proofs.Common.{inl, inr, arith, cond, eq-eqb}
 use Rattle.std.specs.Prelude.{slice_set, nat_le, IfSome}
 use Rattle.lru_lists.specs.declared.record.Home.{Home}
@@ -11,11 +11,11 @@ use Rattle.zone_blocks.specs.Zone.{TakesFrames}
 use Rattle.frame_word.specs.declared.view.FrameNote.{FrameNote}
 use Rattle.frame_word.specs.Views.{note_of, in_hands, passed_out_to, took_in}
 use Rattle.frame_word.specs.Seats.{KnownTable, KnownSeat, seat_number, seat_references, seat_with, IsInOwnHand, IsLent}
-use Rattle.frame_word.specs.Seats.{IsBorrowed, Passes, NothingPasses}
+use Rattle.frame_word.specs.Seats.{IsBorrowed, NothingPasses}
 use Rattle.frame_word.proofs.Notes.{note_here, note_else}
 use Rattle.stock_word.specs.Stock.{KnownStockTable, KnownStockSeat, account_of}
 use Rattle.cpu_part.specs.Cpus.{KnownCpu, IsTied, times}
-use Rattle.cpu_part.proofs.CallerLemmas.{passed_out_passes, accepted_is_still}
+use Rattle.cpu_part.proofs.CallerLemmas.{accepted_is_still}
 use Rattle.step_rules.specs.declared.phase.Way.TheVariants.{PassingOut, OnList}
 use Rattle.step_rules.specs.declared.phase.Stage.TheVariants.{FreshAt}
 use Rattle.step_rules.specs.declared.phase.Phase.{Phase}
@@ -39,11 +39,13 @@ use Rattle.mem_machine.proofs.Reaching.{zone_step, cpu_step}
 use Rattle.mem_machine.proofs.Holds.{IsSeated, zone_may_act, visits_open, seated_cpu}
 use Rattle.mem_machine.proofs.Records.{free_at, free_is, free_inside, covers_one, free_taken, some_cpu_is, frame_states_changed, holds_same, units_stay, charges_stay}
 use Rattle.mem_machine.proofs.Followed.{follows_same, LeadsAs}
-use Rattle.boot_words.specs.Pasts.{KnownPasts, MakesStep, MayMake}
+use Rattle.boot_words.specs.Composed.{AreLegal}
+use Rattle.boot_words.specs.Pasts.{KnownPasts, MakesStep, local_by_pasts}
+use Rattle.cpu_part.specs.Made.{MakesAll}
 use Rattle.step_watch.specs.Watched.{KnownWatch, Watches, zone_makes, cpu_makes}
-use Rattle.mem_machine.specs.Noted.{AreLocal, MayTakeAll, Notes}
+use Rattle.mem_machine.specs.Noted.{AreLocal, KnownRun, Notes}
 use Rattle.mem_machine.proofs.Noted.{notes_both, notes_one}
-use Rattle.mem_machine.proofs.Reached.{may_make}
+use Rattle.mem_machine.proofs.Reached.{are_legal}
 use Rattle.mem_machine.proofs.Watched.{HasOpenVisit}
 
 -- ---- parts of the local state
@@ -221,12 +223,12 @@ pub record AllLent (t : KnownTable) (w : KnownStockTable) (now : KnownMachine) (
   pub visit : HasOpenVisit t (visit_state n d)
 
 pub lend_all : (t : KnownTable) (w : KnownStockTable) (m now : KnownMachine) → m ≡ now → (c d : KnownCpu) → IsTied t w c → IsConsistent t w m → Visits t (visit_state now c)
-    → (before free : List Bool) (k : ℕ) (b : Block) (blocks : List Block) (f i q : ℕ) (seat seat' : KnownSeat)
+    → (before free : List Bool) (k : ℕ) (b : Block) (blocks : List Block) (f i q : ℕ) (seat : KnownSeat)
     → before ≡ free_of m.frame_states → k ≡ 0 → IsFrontOfSmallest m.blocks k b → TakesFrames before b free → AreMaximalBlocks free blocks
-    → f ≡ b.at → i ≡ f → q ≡ c.number → seat ≡ seat_with m.frame_seat f (passed_out_to q) → seat' ≡ seat
+    → f ≡ b.at → i ≡ f → q ≡ c.number → seat ≡ seat_with m.frame_seat f (passed_out_to c.number)
     → d ≡ record c { list = c.list ++ f ∷ []; frame_seat = seat_with c.frame_seat f took_in } → in_hands (note_of c.frame_seat.view f) ≡ 0
-    → AllLent t w now c f (record m { blocks = blocks; frame_states = slice_set m.frame_states i (Lent q); frame_seat = seat' }) d free
-lend_all t w m now same c d tied ok visit_now before free k b blocks f i q seat seat' was zero_is taken takes areas at index number passed stays cpu none =
+    → AllLent t w now c f (record m { blocks = blocks; frame_states = slice_set m.frame_states i (Lent q); frame_seat = seat }) d free
+lend_all t w m now same c d tied ok visit_now before free k b blocks f i q seat was zero_is taken takes areas at index number passed cpu none =
     let visit : Visits t (visit_state m c) = subst (λ (x : KnownMachine). Visits t (visit_state x c)) (sym same) visit_now in
     let block : b ≡ record { at = f; order = 0 } = λ j. record { at = sym at j; order = (taken.order_is ∙ zero_is) j } in
     let takes_f : TakesFrames before (record { at = f; order = 0 }) free = subst (λ (x : Block). TakesFrames before x free) block takes in
@@ -253,7 +255,7 @@ lend_all t w m now same c d tied ok visit_now before free k b blocks f i q seat 
       record m {
         blocks = blocks;
         frame_states = slice_set m.frame_states (sym index j) (Lent (sym number j));
-        frame_seat = sym (stays ∙ passed ∙ ap (λ (x : ℕ). seat_with m.frame_seat f (passed_out_to x)) number) j;
+        frame_seat = sym passed j;
       },
       sym cpu j,
     )) all
@@ -281,48 +283,29 @@ zone_hand t w m ok f g inside free is =
     let s = ok.sizes.frame_states in
     subst (λ (x : ℕ). IsInOwnHand m.frame_seat x) (sym is) ((ok.frame_states f (omega (arith, s, inside))).own ∙ ap (λ (x : FrameState). one_if (is_in_hand x)) free)
 
--- and once it passed it out, it passes for the CPU and is lent to it
-pub passes_to : (t : KnownTable) (w : KnownStockTable) (m now : KnownMachine) → m ≡ now → (c : KnownCpu) → IsTied t w c → Visits t (visit_state now c) → (f q : ℕ) (seat : KnownSeat)
-    → f < t.frames → q ≡ c.number → seat ≡ seat_with m.frame_seat f (passed_out_to q) → Passes seat c.frame_seat f
-passes_to t w m now same c tied visit f q seat inside number is =
-    passed_out_passes t m.frame_seat c.frame_seat c.number tied.seats.frame_number f (subst (λ (x : KnownMachine). NothingPasses t x.frame_seat c.frame_seat)
-    (sym same) visit.still) seat
-    (is ∙ ap (λ (x : ℕ). seat_with m.frame_seat f (passed_out_to x)) number) inside
-
-pub lent_to_it : (zone seat : KnownSeat) (f p q : ℕ) → q ≡ p → seat ≡ seat_with zone f (passed_out_to q) → IsLent seat f p
-lent_to_it zone seat f p q number is = ap (λ (s : KnownSeat). (note_of s.view f).lent) is
-    ∙ ap (λ (k : FrameNote). k.lent) (note_here zone.view f (passed_out_to q)) ∙ number
+-- nothing is in transit to or from the CPU
+pub still_here : (t : KnownTable) (m now : KnownMachine) → m ≡ now → (c : KnownCpu) → Visits t (visit_state now c) → NothingPasses t m.frame_seat c.frame_seat
+still_here t m now same c visit = subst (λ (x : KnownMachine). NothingPasses t x.frame_seat c.frame_seat) (sym same) visit.still
 
 -- ---- the run
 
-module _ (t : KnownTable) (w : KnownStockTable) (m now : KnownMachine) (same : m ≡ now) (u : KnownTable) (words : u ≡ t) (c : KnownCpu) (f q : ℕ)
-    (number : q ≡ c.number) where
-  out_made : (later : KnownPasts) → MakesStep u m.run.past 0 (PassOut f q) Done later → MakesStep t m.run.past 0 (PassOut f c.number) Done later
-  out_made later made = subst (λ (x : KnownTable × ℕ). MakesStep x.0 m.run.past 0 (PassOut f x.1) Done later) (λ j. (words j, number j)) made
+-- the steps are legal, by what was known before the call
+pub may_lend : (t : KnownTable) (w : KnownStockTable) (m now : KnownMachine) → m ≡ now → (c : KnownCpu) → IsTied t w c → IsConsistent t w m → Visits t (visit_state now c)
+    → (f : ℕ) → f < t.frames → frame_state_at m.frame_states f ≡ Free → AreLegal (local_by_pasts t m.run.past) (lend_steps c.number f)
+may_lend t w m now same c tied ok visit f inside free =
+    let its : Visits t (visit_state m c) = subst (λ (x : KnownMachine). Visits t (visit_state x c)) (sym same) visit in
+    are_legal t m now same c visit.shown (lend_steps c.number f) []
+    (subst (λ (x : KnownMachine). AreLocal c.number (local_of t x c) (lend_steps c.number f)) same (lend_local t w m c tied ok its f inside free))
 
-  -- the steps may be made, by what was known before the call
-  module _ (tied : IsTied t w c) (ok : IsConsistent t w m) (visit : Visits t (visit_state now c)) (inside : f < t.frames) (free : frame_state_at m.frame_states f ≡ Free) where
-    lend_may : MayTakeAll t m.run.past (lend_steps c.number f)
-    lend_may =
-        let its : Visits t (visit_state m c) = subst (λ (x : KnownMachine). Visits t (visit_state x c)) (sym same) visit in
-        may_make t m now same c visit.shown (lend_steps c.number f)
-        (subst (λ (x : KnownMachine). AreLocal c.number (local_of t x c) (lend_steps c.number f)) same (lend_local t w m c tied ok its f inside free))
-
-    pub may_pass_out : MayMake u m.run.past 0 (PassOut f q)
-    may_pass_out = subst (λ (x : KnownTable × ℕ). MayMake x.0 m.run.past 0 (PassOut f x.1)) (λ j. (sym words j, sym number j)) lend_may.0.legal
-
-    pub may_take_in : (later : KnownPasts) → MakesStep u m.run.past 0 (PassOut f q) Done later → MayMake t later c.number (TakeIn f)
-    may_take_in later made = (lend_may.1 later (out_made later made)).0.legal
-
-  -- they were made, and the watch took them
-  pub lent_notes : (i : ℕ) → i ≡ f → (out later : KnownPasts) (mid watch : KnownWatch) → MakesStep u m.run.past 0 (PassOut f q) Done out
-      → MakesStep t out c.number (TakeIn f) Done later → Watches m.run.watch (zone_makes (PassOut i q) Done ∷ []) mid
-      → Watches mid (cpu_makes q (TakeIn i) Done ∷ []) watch → Notes t m.run (lend_steps c.number f) (record { past = later; watch = watch })
-  lent_notes i index out later mid watch passed taken saw saw_too =
-      notes_both t m.run (zone_makes (PassOut f c.number) Done ∷ []) (record { past = out; watch = mid }) (cpu_makes c.number (TakeIn f) Done ∷ [])
-      (record { past = later; watch = watch })
-      (notes_one t m.run (zone_makes (PassOut f c.number) Done) (record { past = out; watch = mid })
-      (out_made out passed)
-      (subst (λ (x : ℕ × ℕ). Watches m.run.watch (zone_makes (PassOut x.0 x.1) Done ∷ []) mid) (λ j. (index j, number j)) saw))
-      (notes_one t (record { past = out; watch = mid }) (cpu_makes c.number (TakeIn f) Done) (record { past = later; watch = watch }) taken
-      (subst (λ (x : ℕ × ℕ). Watches mid (cpu_makes x.1 (TakeIn x.0) Done ∷ []) watch) (λ j. (index j, number j)) saw_too))
+-- they were made, and the watch took them
+pub lent_notes : (t : KnownTable) (run : KnownRun) (p f i q : ℕ) → i ≡ f → q ≡ p → (later : KnownPasts) (mid watch : KnownWatch)
+    → MakesAll t run.past (lend_steps p f) later → Watches run.watch (zone_makes (PassOut i q) Done ∷ []) mid
+    → Watches mid (cpu_makes q (TakeIn i) Done ∷ []) watch → Notes t run (lend_steps p f) (record { past = later; watch = watch })
+lent_notes t run p f i q index number later mid watch all saw saw_too =
+    notes_both t run (zone_makes (PassOut f p) Done ∷ []) (record { past = all.0; watch = mid }) (cpu_makes p (TakeIn f) Done ∷ [])
+    (record { past = later; watch = watch })
+    (notes_one t run (zone_makes (PassOut f p) Done) (record { past = all.0; watch = mid }) all.1
+    (subst (λ (x : ℕ × ℕ). Watches run.watch (zone_makes (PassOut x.0 x.1) Done ∷ []) mid) (λ j. (index j, number j)) saw))
+    (notes_one t (record { past = all.0; watch = mid }) (cpu_makes p (TakeIn f) Done) (record { past = later; watch = watch })
+    (subst (MakesStep t all.0 p (TakeIn f) Done) (sym all.2.2) all.2.1)
+    (subst (λ (x : ℕ × ℕ). Watches mid (cpu_makes x.1 (TakeIn x.0) Done ∷ []) watch) (λ j. (index j, number j)) saw_too))

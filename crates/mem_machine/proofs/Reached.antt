@@ -1,5 +1,5 @@
 -- What the CPU sees by the run: which steps may be taken there, and what it sees then. Serves all calls that make steps.
-use Rattle.std.proofs.Common.{◌≡◌, ℕ, [], ◌∷◌, length, sym, ◌∙◌, ap, subst, arith, ◌++◌}
+use Rattle.std.proofs.Common.{◌≡◌, ℕ, [], ◌∷◌, ◌++◌, length, sym, ◌∙◌, ap, subst, arith}
 use Rattle.std.specs.List.{fold}
 use Rattle.frame_word.specs.Seats.{KnownTable}
 use Rattle.cpu_part.specs.Cpus.{KnownCpu}

@@ -34,13 +34,10 @@ impl<N: BootName> Machine<N> {
             unreachable!()
         };
         let at = frame.number();
-        tables
-            .words
-            .pass_out(&mut self.past, &mut self.frame_seat, frame, cpu_number);
+        cpu.borrow(tables, &mut self.past, &mut self.frame_seat, frame);
         self.watch.passed_out(at, cpu_number);
-        self.frame_states[at as usize] = FrameState::Lent(cpu_number as u8);
-        cpu.take_in(tables, &mut self.past, &mut self.frame_seat, frame);
         self.watch.took_in(cpu_number, at);
+        self.frame_states[at as usize] = FrameState::Lent(cpu_number as u8);
         true
     }
 
@@ -78,13 +75,10 @@ impl<N: BootName> Machine<N> {
         prove_sizes(tables); // A CPU's number fits a byte.
         let given = frame.number();
         self.zone.take_frame(given);
-        tables
-            .words
-            .pass_out(&mut self.past, &mut self.frame_seat, frame, cpu_number);
+        cpu.borrow(tables, &mut self.past, &mut self.frame_seat, frame);
         self.watch.passed_out(given, cpu_number);
-        self.frame_states[given as usize] = FrameState::Lent(cpu_number as u8);
-        cpu.take_in(tables, &mut self.past, &mut self.frame_seat, frame);
         self.watch.took_in(cpu_number, given);
+        self.frame_states[given as usize] = FrameState::Lent(cpu_number as u8);
     }
 
     // Frees the front of the CPU's list, if there is one.

@@ -1,5 +1,6 @@
 use Rattle.std.proofs.Common.{◌≡◌, ◌<◌, ◌∷◌, length, rules, inl, inr, sym, ap, ◌∙◌, subst}
 use Rattle.frame_word.specs.Views.{hand_overs_begun, hand_overs_ended}
+use Rattle.boot_words.specs.TakenBack.{take_back_run}
 use Rattle.cpu_part.specs.Cpus.{KnownCpu}
 use Rattle.cpu_part.proofs.Making.{are_legal_at, makes_all_at}
 use Rattle.cpu_part.proofs.Counts.{front_removed}
@@ -20,7 +21,7 @@ take_back-requires-clause-legal g c =
     let some : 0 < length c.self.inside.fresh.items = search rules in
     let front : c.args.self.now.fresh ≡ f ∷ rest = ap (λ (k : KnownCpu). k.fresh) (sym c.self.view_is)
     ∙ front_removed f c.self.inside.fresh.items rest some c.remove-frame.ensures.value c.remove-frame.ensures.items in
-    are_legal_at _ _ c.args.tables.now.frames_are _ _ f (c.self.invariant.0.seats.frame_number ∙ ap (λ (k : KnownCpu). k.number) c.self.view_is)
+    are_legal_at _ _ c.args.tables.now.frames_are _ _ (λ p. take_back_run p f) (c.self.invariant.0.seats.frame_number ∙ ap (λ (k : KnownCpu). k.number) c.self.view_is)
     c.args.held.now (c.requires.legal f rest front)
 
 pub invariant_of-self : goal.invariant_of-self
@@ -35,7 +36,8 @@ invariant_of-self g c =
 
 pub returns-clause-run : goal.returns-clause-run
 returns-clause-run g c =
-    makes_all_at _ _ c.args.tables.now.frames_are _ _ c.remove-frame.result (c.self.invariant.0.seats.frame_number ∙ ap (λ (k : KnownCpu). k.number) c.self.view_is)
+    makes_all_at _ _ c.args.tables.now.frames_are _ _ (λ p. take_back_run p c.remove-frame.result)
+    (c.self.invariant.0.seats.frame_number ∙ ap (λ (k : KnownCpu). k.number) c.self.view_is)
     c.args.held.now _ c.requires.held c.take_back.ensures.run
 
 pub returns-clause-frame : goal.returns-clause-frame

@@ -1,11 +1,11 @@
 use Rattle.std.proofs.Common.{◌≡◌, ℕ, ◌<◌, ap, sym, subst, ◌∙◌, arith, ◌≤◌}
-use Rattle.frame_word.specs.Seats.{KnownTable, IsOpen, IsZoneSeat}
+use Rattle.frame_word.specs.Seats.{IsOpen}
 use Rattle.mem_machine.specs.declared.frame_state.FrameState.TheVariants.{Free}
 use Rattle.mem_machine.specs.FrameStates.{frame_state_at}
 use Rattle.mem_machine.specs.Machines.{KnownMachine}
-use Rattle.mem_machine.proofs.Lends.{passes_to, lent_to_it, lent_notes, may_pass_out, may_take_in}
+use Rattle.mem_machine.proofs.Lends.{lent_notes, may_lend, still_here}
 use Rattle.cpu_part.specs.Cpus.{KnownCpu}
-use Rattle.mem_machine.proofs.Holder.{held_at, held_then, holder_here, holder_then}
+use Rattle.mem_machine.proofs.Holder.{holder_here}
 use Rattle.mem_machine.proofs.Reached.{held_here}
 use Rattle.mem_machine.proofs.GivenFrames.{given_all, given_free, given_hand}
 use Rattle.mem_machine.proofs.Followed.{makes_noted}
@@ -17,81 +17,55 @@ take_frame-requires g c =
     given_free g.N.BootName.frames g.N.BootName.stocks _ _ c.self.view_is c.self.invariant.consistent _ c.args.frame _ c.self.invariant.free c.requires.frame
     c.requires.free c.number-given.ensures
 
-pub pass_out-requires-clause-hand : goal.pass_out-requires-clause-hand
-pass_out-requires-clause-hand g c =
+pub borrow-requires-clause-hand : goal.borrow-requires-clause-hand
+borrow-requires-clause-hand g c =
     given_hand g.N.BootName.frames g.N.BootName.stocks _ _ c.self.view_is c.self.invariant.consistent _ c.requires.frame c.requires.free
 
-pub pass_out-requires-clause-held : goal.pass_out-requires-clause-held
-pass_out-requires-clause-held g c = held_at _ _ c.args.tables.now.frames_are _
-    (held_here g.N.BootName.frames _ _ c.self.view_is c.args.cpu.now c.requires.visit.shown)
+pub borrow-requires-clause-held : goal.borrow-requires-clause-held
+borrow-requires-clause-held g c = held_here g.N.BootName.frames _ _ c.self.view_is c.args.cpu.now c.requires.visit.shown
 
-pub pass_out-requires-clause-legal : goal.pass_out-requires-clause-legal
-pass_out-requires-clause-legal g c =
+pub borrow-requires-clause-holder : goal.borrow-requires-clause-holder
+borrow-requires-clause-holder g c = holder_here g.N.BootName.frames _ _ c.self.view_is c.args.cpu.now c.requires.visit.shown
+
+pub borrow-requires-clause-legal : goal.borrow-requires-clause-legal
+borrow-requires-clause-legal g c =
     let free : frame_state_at c.self.inside.frame_states.items c.args.frame ≡ Free = ap (λ (x : KnownMachine). frame_state_at x.frame_states c.args.frame) c.self.view_is ∙ c.requires.free in
-    may_pass_out g.N.BootName.frames g.N.BootName.stocks _ _ c.self.view_is _ c.args.tables.now.frames_are c.args.cpu.now c.args.frame _ c.number-cpu_number.ensures.number
-    c.number-cpu_number.ensures.tied c.self.invariant.consistent c.requires.visit c.requires.frame free
+    may_lend g.N.BootName.frames g.N.BootName.stocks _ _ c.self.view_is c.args.cpu.now c.number-cpu_number.ensures.tied c.self.invariant.consistent
+    c.requires.visit c.args.frame c.requires.frame free
 
-pub take_in-requires-clause-held : goal.take_in-requires-clause-held
-take_in-requires-clause-held g c = held_then _ _ c.args.tables.now.frames_are _ _ _ _ _ c.pass_out.ensures.run
+pub borrow-requires-clause-zone : goal.borrow-requires-clause-zone
+borrow-requires-clause-zone g c = c.self.invariant.consistent.seats.frames
 
-pub take_in-requires-clause-holder : goal.take_in-requires-clause-holder
-take_in-requires-clause-holder g c = holder_then _ _ _ _ _ _ _ c.pass_out.ensures.run (holder_here g.N.BootName.frames _ _ c.self.view_is c.args.cpu.now c.requires.visit.shown)
+pub borrow-requires-clause-open : goal.borrow-requires-clause-open
+borrow-requires-clause-open g c =
+    subst (λ (x : KnownMachine). IsOpen x.frame_seat c.args.cpu.now.number) (sym c.self.view_is) c.requires.visit.is_open
 
-pub take_in-requires-clause-legal : goal.take_in-requires-clause-legal
-take_in-requires-clause-legal g c =
-    let free : frame_state_at c.self.inside.frame_states.items c.args.frame ≡ Free = ap (λ (x : KnownMachine). frame_state_at x.frame_states c.args.frame) c.self.view_is ∙ c.requires.free in
-    may_take_in g.N.BootName.frames g.N.BootName.stocks _ _ c.self.view_is _ c.args.tables.now.frames_are c.args.cpu.now c.args.frame _ c.number-cpu_number.ensures.number
-    c.number-cpu_number.ensures.tied c.self.invariant.consistent c.requires.visit c.requires.frame free _ c.pass_out.ensures.run
-
-pub take_in-requires-clause-passes : goal.take_in-requires-clause-passes
-take_in-requires-clause-passes g c =
-    passes_to _ _ _ _ c.self.view_is c.args.cpu.now c.number-cpu_number.ensures.tied c.requires.visit _ _ _ c.requires.frame c.number-cpu_number.ensures.number
-    c.pass_out.ensures.zone
-
-pub take_in-requires-clause-lent : goal.take_in-requires-clause-lent
-take_in-requires-clause-lent g c = lent_to_it _ _ _ _ _ c.number-cpu_number.ensures.number c.pass_out.ensures.zone
+pub borrow-requires-clause-still : goal.borrow-requires-clause-still
+borrow-requires-clause-still g c = still_here _ _ _ c.self.view_is c.args.cpu.now c.requires.visit
 
 pub invariant_of-self : goal.invariant_of-self
 invariant_of-self g c =
     let all = (given_all g.N.BootName.frames g.N.BootName.stocks _ _ c.self.view_is c.args.cpu.now _ c.number-cpu_number.ensures.tied c.self.invariant.consistent
-    c.requires.visit _ _ _ c.args.frame _ c.number-cpu_number.result _ _ c.self.invariant.free c.requires.frame c.requires.free c.take_frame.ensures.frames c.take_frame.ensures.areas
-    c.number-given.ensures c.number-cpu_number.ensures.number c.pass_out.ensures.zone c.take_in.ensures.zone c.take_in.ensures.cpu c.take_in.ensures.nothing.1.1) in
+    c.requires.visit _ _ _ c.args.frame _ c.number-cpu_number.result _ c.self.invariant.free c.requires.frame c.requires.free c.take_frame.ensures.frames c.take_frame.ensures.areas
+    c.number-given.ensures c.number-cpu_number.ensures.number c.borrow.ensures.zone c.borrow.ensures.cpu c.borrow.ensures.nothing.1) in
     record { consistent = consistent_still _ _ _ _ all.consistent; free = all.free_is }
 
 pub returns : goal.returns
 returns g c =
     let all = given_all g.N.BootName.frames g.N.BootName.stocks _ _ c.self.view_is c.args.cpu.now _ c.number-cpu_number.ensures.tied c.self.invariant.consistent c.requires.visit
-    _ _ _ c.args.frame _ c.number-cpu_number.result _ _ c.self.invariant.free c.requires.frame c.requires.free c.take_frame.ensures.frames c.take_frame.ensures.areas
-    c.number-given.ensures c.number-cpu_number.ensures.number c.pass_out.ensures.zone c.take_in.ensures.zone c.take_in.ensures.cpu c.take_in.ensures.nothing.1.1 in
-    let notes = lent_notes g.N.BootName.frames g.N.BootName.stocks _ _ c.self.view_is _ c.args.tables.now.frames_are c.args.cpu.now c.args.frame _ c.number-cpu_number.ensures.number _ c.number-given.ensures _ _ _ _
-    c.pass_out.ensures.run c.take_in.ensures.run c.passed_out.ensures c.took_in.ensures in
+    _ _ _ c.args.frame _ c.number-cpu_number.result _ c.self.invariant.free c.requires.frame c.requires.free c.take_frame.ensures.frames c.take_frame.ensures.areas
+    c.number-given.ensures c.number-cpu_number.ensures.number c.borrow.ensures.zone c.borrow.ensures.cpu c.borrow.ensures.nothing.1 in
+    let notes = lent_notes g.N.BootName.frames _ _ c.args.frame _ _ c.number-given.ensures c.number-cpu_number.ensures.number _ _ _ c.borrow.ensures.run
+    c.passed_out.ensures c.took_in.ensures in
     let makes = makes_noted _ _ _ _ c.self.view_is _ _ _ _ all.steps _ notes in
     record {
       lends = lends_still _ _ _ _ _ all.lends;
-      visit = visits_then _ _ _ _ c.requires.visit.shown makes (ap (λ (e : KnownCpu). e.number) c.take_in.ensures.cpu) (open_still _ _ _ _ all.visit);
+      visit = visits_then _ _ _ _ c.requires.visit.shown makes (ap (λ (e : KnownCpu). e.number) c.borrow.ensures.cpu) (open_still _ _ _ _ all.visit);
       steps = makes;
     }
 
-pub pass_out-requires-clause-zone : goal.pass_out-requires-clause-zone
-pass_out-requires-clause-zone g c =
-    subst (λ (t : KnownTable). IsZoneSeat t c.self.inside.frame_seat) (sym c.args.tables.now.frames_are) c.self.invariant.consistent.seats.frames
-
-pub pass_out-requires-clause-frame : goal.pass_out-requires-clause-frame
-pass_out-requires-clause-frame g c = subst (λ (t : KnownTable). c.args.frame < t.frames) (sym c.args.tables.now.frames_are) c.requires.frame
-
-pub pass_out-requires-clause-open : goal.pass_out-requires-clause-open
-pass_out-requires-clause-open g c =
-    subst (λ (x : KnownMachine × ℕ). IsOpen x.0.frame_seat x.1) (λ i. (sym c.self.view_is i, sym c.number-cpu_number.ensures.number i)) c.requires.visit.is_open
-
-pub take_in-requires-clause-frame : goal.take_in-requires-clause-frame
-take_in-requires-clause-frame g c = c.requires.frame
-
-pub pass_out-requires-clause-cpu : goal.pass_out-requires-clause-cpu
-pass_out-requires-clause-cpu g c =
-    let number = c.number-cpu_number.ensures.number in
-    let some = c.number-cpu_number.ensures.tied.seats.some_number in
-    let most = c.number-cpu_number.ensures.tied.seats.frame_cpus in
-    (omega (arith, number, some), subst (λ (t : KnownTable). c.number-cpu_number.result ≤ t.cpus) (sym c.args.tables.now.frames_are) (omega (arith, number, most)))
+pub borrow-requires-clause-frame : goal.borrow-requires-clause-frame
+borrow-requires-clause-frame g c = c.requires.frame
 
 pub index_mut-requires : goal.index_mut-requires
 index_mut-requires g c =
