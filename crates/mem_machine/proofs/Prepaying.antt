@@ -1,7 +1,7 @@
 -- Pages are charged and fill the CPU's stock. Serves `fill_stock` and `prepay`.
 use Rattle.std.proofs.Common.{◌≡◌, ℕ, ◌++◌, ◌+◌, ◌-◌, ◌<◌, ◌≤◌, ◌==◌, ◌||◌, Bool, true, false, ◌^◌, Option, Some, None, List, [], ◌∷◌, length}
 use Rattle.std.proofs.Common.{map, refl, sym, ap, ◌∙◌, subst, inl, inr, arith, cond, eq-eqb}
-use Rattle.std.specs.Prelude.{◌⊎◌, is_some, nat_le, not, Result, Ok, Err, OnOk, OnErr, IfErr, ◌&&◌}
+use Rattle.std.specs.Prelude.{◌⊎◌, is_some, nat_le, not, ◌&&◌, Result, Ok, Err, OnOk, OnErr, IfErr}
 use Rattle.std.proofs.lemmas.Bool.{cases_eq, ne_eqb, and_from, cond-true, cond-false, cond_both, le-leb, false≢true}
 use Rattle.std.proofs.lemmas.List.Sums.{sum_by-cons}
 use Rattle.frame_word.specs.Seats.{KnownTable}
