@@ -1,0 +1,17 @@
+-- Serves `alloc_frame`: the visit serves the group that was found.
+use Rattle.std.proofs.Common.{ℕ, subst}
+use Rattle.mem_system.specs.Visits.{ServesFrameOutcome, locked_state}
+use Rattle.zone_threads.proofs.behind.Behind.alloc_frame.Goals as goal
+
+pub returns-clause-served : goal.returns-clause-served
+returns-clause-served g c =
+    let t = g.N.BootName.frames in
+    let done = c.serve_frame_outcome-outcome in record {
+      found = c.self.inside.locked;
+      left = done.new.locked;
+      sound_before = record { quiet = c.prove_quiet.ensures.quiet; consistent = c.prove_quiet.ensures.consistent; charges = c.prove_quiet.ensures.charges };
+      served = subst (λ (k : ℕ). ServesFrameOutcome t k done.result (locked_state c.self.inside.locked c.args.cpu.now) (locked_state done.new.locked done.new.cpu))
+          c.in-Some.ensures.found.0 done.ensures.served;
+      sound_after = record { quiet = c.prove_quiet-2.ensures.quiet; consistent = c.prove_quiet-2.ensures.consistent; charges = c.prove_quiet-2.ensures.charges };
+      lent = done.ensures.ends.lent;
+    }
