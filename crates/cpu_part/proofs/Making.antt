@@ -2,10 +2,9 @@
 use Rattle.std.proofs.Common.{◌≡◌, ℕ, [], ◌∷◌, ◌∙◌, refl, sym, subst}
 use Rattle.frame_word.specs.Seats.{KnownTable}
 use Rattle.step_rules.specs.declared.step.Action.{Action}
-use Rattle.step_rules.specs.declared.step.Answer.{Answer}
 use Rattle.step_rules.specs.After.{Run}
 use Rattle.boot_words.specs.Composed.{AreLegal, GrewInTurn, MakesInTurn}
-use Rattle.boot_words.specs.Pasts.{KnownPasts, IsCpuPast, IsHeld, MakesStep, MayDo, MayMake, cpu_past, local_by_pasts, own_past}
+use Rattle.boot_words.specs.Pasts.{KnownPasts, IsCpuPast, IsHeld, MayDo, MayMake, cpu_past, local_by_pasts, own_past}
 use Rattle.boot_words.specs.Seats.{zone_of_boot}
 use Rattle.cpu_part.specs.Made.{MakesAll}
 
@@ -19,9 +18,6 @@ module _ (t u : KnownTable) (same : u ≡ t) where
   module _ (p q : ℕ) (named : q ≡ p) where
     pub may_make_at : (s : KnownPasts) (action : Action) → MayMake t s p action → MayMake u s q action
     may_make_at s action may = subst (λ (k : KnownTable × ℕ). MayMake k.0 s k.1 action) (λ i. (sym same i, sym named i)) may
-
-    pub makes_at : (s later : KnownPasts) (action : Action) (answer : Answer) → MakesStep u s q action answer later → MakesStep t s p action answer later
-    makes_at s later action answer made = subst (λ (k : KnownTable × ℕ). MakesStep k.0 s k.1 action answer later) (λ i. (same i, named i)) made
 
 -- steps that were made by one atomic step were made one after the other
 made_each : (t : KnownTable) (later : KnownPasts) (now : IsHeld t later) (steps : Run) (s : KnownPasts) → IsHeld t s

@@ -28,12 +28,7 @@ holder_here t m now same c at = sym (who_here t m now same c at)
 pub held_at : (t u : KnownTable) → u ≡ t → (s : KnownPasts) → IsHeld t s → IsHeld u s
 held_at t u same s held = subst (λ (v : KnownTable). IsHeld v s) (sym same) held
 
--- the lock is held after a step
-pub held_then : (t u : KnownTable) → u ≡ t → (s : KnownPasts) (seat : ℕ) (action : Action) (answer : Answer) (later : KnownPasts)
-    → MakesStep u s seat action answer later → IsHeld t later
-held_then t u same s seat action answer later made = subst (λ (v : KnownTable). IsHeld v later) same made.held
-
--- by the same CPU
+-- the same CPU holds the lock after a step
 pub holder_then : (t : KnownTable) (s : KnownPasts) (seat : ℕ) (action : Action) (answer : Answer) (later : KnownPasts) (p : ℕ)
     → MakesStep t s seat action answer later → IsHolder s p → IsHolder later p
 holder_then t s seat action answer later p made holder = holder ∙ sym made.cpu_grew.number

@@ -1,4 +1,4 @@
-use Rattle.std.proofs.Common.{◌≡◌, ℕ, ◌<◌, ◌≤◌, rules, ap, sym, subst, ◌∙◌, arith}
+use Rattle.std.proofs.Common.{◌≡◌, ◌<◌, ◌≤◌, rules, ap, sym, subst, ◌∙◌, arith}
 use Rattle.zone_blocks.specs.Zone.{BuddyZone}
 use Rattle.frame_word.specs.Seats.{KnownTable, IsOpen}
 use Rattle.mem_machine.specs.Machines.{KnownMachine}
