@@ -45,7 +45,8 @@ pub record PutsAndEnds (table : KnownTable) (stock_table : KnownStockTable) (loc
   pub each : AllOf (EndsCpu ends.closes.run) cpus
   pub zone : GrewByAll (own_past locked.machine.run.past) ends.visits.steps (own_past ends.emptied.machine.run.past)
 
--- a system with these tables ended so, whatever its CPUs and what lay behind its lock
+-- A system with these tables ended so, whatever its CPUs and what lay behind its lock. It says nothing of `held`: any
+-- puts may be counted as made before the end.
 abbrev pub HasEnded : KnownTable → KnownStockTable → SystemEnd → Type 0
 HasEnded table stock_table ended =
     (cpus : List CpuInRun)
