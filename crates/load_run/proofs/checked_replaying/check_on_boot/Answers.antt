@@ -30,22 +30,6 @@ end_checked_boot-requires g c =
     let same = given_back _ _ _ _ c.deref_mut.ensures.value c.deref_mut.ensures.len c.replay_checked-answers.auto.cpus in
     record { count = ap length same ∙ c.replay_checked-answers.auto.cpus ∙ ap length c.deref_mut.ensures.value ∙ c.in_ok-locked.ensures.count }
 
-pub returns-in_err-watch : goal.returns-in_err-watch
-returns-in_err-watch g c =
-    let p = err_from_is_err_and c.from_residual.result c.from_residual.ensures.1 in rw (p.1, p.2) (record { answers = tt; fault = tt })
-
-pub returns-in_err-locked : goal.returns-in_err-locked
-returns-in_err-locked g c =
-    let p = err_from_is_err_and c.from_residual-in_err-locked.result c.from_residual-in_err-locked.ensures.1 in rw (p.1, p.2) (record { answers = tt; fault = tt })
-
-pub returns-in_err-told : goal.returns-in_err-told
-returns-in_err-told g c =
-    let p = err_from_is_err_and c.from_residual-in_err-told.result c.from_residual-in_err-told.ensures.1 in rw (p.1, p.2) (record { answers = tt; fault = tt })
-
-pub returns-in_err-with_steps : goal.returns-in_err-with_steps
-returns-in_err-with_steps g c =
-    let p = err_from_is_err_and c.from_residual-in_err-with_steps.result c.from_residual-in_err-with_steps.ensures.1 in rw (p.1, p.2) (record { answers = tt; fault = tt })
-
 pub returns-in_err-answers : goal.returns-in_err-answers
 returns-in_err-answers g c =
     let booted = c.in_ok-locked.ensures in
@@ -55,9 +39,7 @@ returns-in_err-answers g c =
     let p = err_from_is_err_and c.from_residual-in_err-answers.result c.from_residual-in_err-answers.ensures.1 in
     rw (p.1, p.2) (record {
       answers = tt;
-      fault = stop_told c.args.boot.sizes c.args.form g.N.BootName.frames g.N.BootName.stocks c.args.lines.now
-          (system_state c.set_watch.new.self c.deref_mut.result.now) (system_state c.replay_checked-answers.new.locked c.replay_checked-answers.new.cpus)
-          c.in_err-answers.field-0.0 new
+      fault = stop_told c.args.boot.sizes c.args.form _ _ c.args.lines.now _ _ _ new
           (IfErr-at_err _ c.in_err-answers.was c.replay_checked-answers.ensures.outcome.stopped);
     })
 

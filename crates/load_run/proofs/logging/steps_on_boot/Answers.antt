@@ -17,21 +17,6 @@ log_end-ended-requires g c =
     let same = given_back _ _ _ _ c.deref_mut.ensures.value c.deref_mut.ensures.len c.log_each-served.auto.cpus in
     record { count = ap length same ∙ c.log_each-served.auto.cpus ∙ ap length c.deref_mut.ensures.value ∙ c.in_ok-locked.ensures.count }
 
-pub returns-in_err-log : goal.returns-in_err-log
-returns-in_err-log g c = rw c.from_residual.ensures (record { steps = tt })
-
-pub returns-in_err-texts : goal.returns-in_err-texts
-returns-in_err-texts g c = rw c.from_residual-in_err-texts.ensures (record { steps = tt })
-
-pub returns-in_err-locked : goal.returns-in_err-locked
-returns-in_err-locked g c = rw c.from_residual-in_err-locked.ensures (record { steps = tt })
-
-pub returns-in_err-served : goal.returns-in_err-served
-returns-in_err-served g c = rw c.from_residual-in_err-served.ensures (record { steps = tt })
-
-pub returns-in_err-ended : goal.returns-in_err-ended
-returns-in_err-ended g c = rw c.from_residual-in_err-ended.ensures (record { steps = tt })
-
 pub returns : goal.returns
 returns g c =
     let t = g.N.BootName.frames in

@@ -25,12 +25,6 @@ end_boot-ended-requires g c =
     let same = given_back _ _ _ _ c.deref_mut.ensures.value c.deref_mut.ensures.len c.replay-answers.auto.cpus in
     record { count = ap length same ∙ c.replay-answers.auto.cpus ∙ ap length c.deref_mut.ensures.value ∙ c.in_ok-locked.ensures.count }
 
-pub returns-in_err-locked : goal.returns-in_err-locked
-returns-in_err-locked g c = rw c.from_residual.ensures (record { answers = tt })
-
-pub returns-in_err-answers : goal.returns-in_err-answers
-returns-in_err-answers g c = rw c.from_residual-in_err-answers.ensures (record { answers = tt })
-
 pub returns : goal.returns
 returns g c =
     let t = g.N.BootName.frames in

@@ -70,18 +70,6 @@ end_boot-ended-requires g c =
           ∙ ap length c.deref_mut.ensures.value ∙ c.in_ok-locked.ensures.count;
     }
 
-pub returns-in_err-locked : goal.returns-in_err-locked
-returns-in_err-locked g c = rw c.from_residual.ensures (record { answers = tt })
-
-pub returns-in_err-answers : goal.returns-in_err-answers
-returns-in_err-answers g c = rw c.from_residual-in_err-answers.ensures (record { answers = tt })
-
-pub returns-in_err-told : goal.returns-in_err-told
-returns-in_err-told g c = rw c.from_residual-in_err-told.ensures (record { answers = tt })
-
-pub returns-in_err-extend_from_slice : goal.returns-in_err-extend_from_slice
-returns-in_err-extend_from_slice g c = rw c.from_residual-in_err-extend_from_slice.ensures (record { answers = tt })
-
 pub returns : goal.returns
 returns g c =
     let t = g.N.BootName.frames in
